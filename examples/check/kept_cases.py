@@ -19,12 +19,13 @@ from kept_devices import Device, Log, chance, lock, serve, wait_until_asked
 from kept_doubts import emptied, never_begun, told_at_once
 from kept_files import barred
 from kept_judge import in_use, no_use, wrongs
-from kept_more import said_more
+from kept_more import said_more, several
 from kept_moved import moved, moved_at_each_call, moved_at_random, moved_ways, told_later, two_of_one
 from kept_names import names
 from kept_rounds import one, rounds, said, unheard
 from kept_stopped import stopped
 from kept_terminal import terminals
+from kept_parts import parts, parts_ended, parts_refused
 from kept_told import told_among_others, told_beside
 from kept_warehouse import warehouses
 from kept_whose import other_devices
@@ -666,4 +667,4 @@ def judgements(judge, _runs):
 
 CASES = [judgements, run_after_run, beginnings, options, losses, line_by_line, step_limits, last_epoch, dead_devices, dead_at_once, other_devices, words_and_names, no_archive, barred, far_away, rounds, restarts, clocks, questions, cut_files, foreign_files, a_large_file, printed, taken_over, served,
          stopped, terminals, warehouses, names, own_words, own_rule, own_lives, first_answers, renewed, moved, moved_ways, two_of_one, told_later,
-         moved_at_each_call, moved_at_random, emptied, never_begun, told_at_once, said_more, told_beside, told_among_others]
+         moved_at_each_call, moved_at_random, emptied, never_begun, told_at_once, said_more, several, told_beside, told_among_others, parts, parts_refused, parts_ended]

@@ -39,5 +39,7 @@ def stopped(judge, _runs):
     absent = f"{judge.room}/none.db"
     judge.same("no file", judge.ran(["keep", absent, "--stop", first.address]), no_use(absent, "there is no such file"))
     judge.is_right("none is made", not os.path.exists(absent))
+    judge.same("--stop beside two", judge.ran(["keep", file, "--stop", first.address, second.address]),
+               (1, "", "bad value\n--stop: an option without a value, beside one ADDRESS\n"))
     judge.same("--stop alone", judge.ran(["keep", file, "--stop"]),
-               (1, "", "bad value\n--stop: an option without a value, beside ADDRESS\n"))
+               (1, "", "bad value\n--stop: an option without a value, beside one ADDRESS\n"))

@@ -61,6 +61,7 @@ fn started(rt: &HostRuntime) -> Result<u8, Fault> {
             StandardErrors { rt },
         ),
         &mut DiskFiles::new(rt, Unknown),
+        &mut DiskFiles::new(rt, Unknown),
         rt.alloc(),
         SteadyClock::new(rt),
         &words,

@@ -17,7 +17,7 @@ use Rattle.bac_fetch.specs.Causes.{EndsFirst, EndsSettling, FailsToEnter}
 use Rattle.bac_asked.specs.Faults.{FailsOnRows}
 use Rattle.bac_fetch.specs.Faults.{EndsChosen}
 use Rattle.bac_fetch.specs.declared.keeping.Chosen.{Chosen}
-use Rattle.bac_fetch.specs.declared.keeping.Chosen.TheVariants.{Device, Kept, Named}
+use Rattle.bac_fetch.specs.declared.keeping.Chosen.TheVariants.{Kept, Sought}
 
 -- a database answers by an error
 pub database_rows : (why : FileFault) (error : Error) → why ≡ of_error error → FailsOnRows (File why)
@@ -44,8 +44,7 @@ chosen_so rules Kept N M A B before after fault f h (inl it, same) = (inl it, sa
 chosen_so rules Kept N M A B before after fault f h (inr (inl it), same) = (inr (inl it), same)
 chosen_so rules Kept N M A B before after fault f h (inr (inr (inl it)), same) = (inr (inr (inl (it.0, f it.1))), same)
 chosen_so rules Kept N M A B before after fault f h (inr (inr (inr it)), same) = (inr (inr (inr (it.0, h it.1))), same)
-chosen_so rules (Device like) N M A B before after fault f h it = it
-chosen_so rules (Named all) N M A B before after fault f h it = absurd it
+chosen_so rules (Sought sought) N M A B before after fault f h it = it
 
 -- the first of some logs
 pub settling_of_first : {S P : Type 0} (rules : SocketRules S P) (given : Given) (known : List Log) (all : List Wanted) (first : Wanted) (before after : S) (fault : NotDone)

@@ -13,7 +13,7 @@ use Rattle.bac_fetch.specs.Faults.{EndsChosen, EndsKeeping, EndsKept, EndsRun, H
 use Rattle.bac_questions.specs.Faults.{EndsAsking}
 use Rattle.bac_asked.specs.Faults.{EndsLog}
 use Rattle.bac_fetch.specs.declared.keeping.Chosen.{Chosen}
-use Rattle.bac_fetch.specs.declared.keeping.Chosen.TheVariants.{Device, Kept, Named}
+use Rattle.bac_fetch.specs.declared.keeping.Chosen.TheVariants.{Kept, Sought}
 use Rattle.bac_absent.specs.Absent.{EndsCalling}
 use Rattle.bac_asked.specs.declared.wanted.Wanted.{Wanted}
 use Rattle.bac_questions.specs.declared.whose.Heard.{Heard}
@@ -95,8 +95,7 @@ pub kept_there : {S P T : Type 0} (rules : SocketRules S P) (which : Chosen) (N 
     → IfErr r (EndsChosen rules which N A sockets sockets)
 kept_there rules Kept N A sockets (Ok v) is it = tt
 kept_there rules Kept N A sockets (Err e) is it = (it, refl)
-kept_there rules (Device like) N A sockets r is it = absurd (cc)
-kept_there rules (Named all) N A sockets r is it = absurd (cc)
+kept_there rules (Sought sought) N A sockets r is it = absurd (cc)
 
 -- the run over logs that were chosen ends
 pub run_of : {S P T : Type 0} (rules : SocketRules S P) (which : Chosen) (N A B : Type 0) (before between after : S) (all : List Wanted) (r : Result T NotDone)

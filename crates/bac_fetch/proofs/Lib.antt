@@ -7,4 +7,5 @@ pub mod QuietLemmas
 pub mod FaultsLemmas
 pub mod CausesLemmas
 pub mod TakenLemmas
+pub mod SoughtLemmas
 pub mod CalledLemmas

@@ -1,5 +1,5 @@
 -- What ends a run over logs before each of them was told, and what can be seen of it.
-use Rattle.std.specs.Prelude.{◌≡◌, ◌⊎◌, ◌≤◌, ℕ, List, []}
+use Rattle.std.specs.Prelude.{◌≡◌, ◌⊎◌, ◌≤◌, ℕ, List, [], ◌∷◌}
 use Rattle.std.specs.List.{Contains}
 use Rattle.sqlite_trees.specs.Tree.{Trees}
 use Rattle.bac_archive.specs.Logs.{AreLogs}
@@ -12,9 +12,11 @@ use Rattle.bac_asked.specs.declared.end.NotDone.TheVariants.{Asking, File}
 use Rattle.bac_asked.specs.declared.fault.Fault.TheVariants.{BadValue}
 use Rattle.bac_asked.specs.declared.fault.FileFault.TheVariants.{Address, NoLogs}
 use Rattle.bac_asked.specs.declared.wanted.Wanted.{Wanted}
-use Rattle.bac_fetch.specs.Chosen.{AreFound, not_stopped}
+use Rattle.bac_fetch.specs.Chosen.{AreFound, AreOfDevice, not_stopped}
 use Rattle.bac_fetch.specs.declared.keeping.Chosen.{Chosen}
-use Rattle.bac_fetch.specs.declared.keeping.Chosen.TheVariants.{Device, Kept, Named}
+use Rattle.bac_fetch.specs.declared.keeping.Chosen.TheVariants as chosen
+use Rattle.bac_fetch.specs.declared.sought.Sought.{Sought}
+use Rattle.bac_fetch.specs.declared.sought.Sought.TheVariants.{Device, Named}
 use Rattle.bac_ports.specs.Sockets.{SocketRules}
 use Rattle.bac_questions.specs.Faults.{EndsFinding, IsUnopened}
 use Rattle.bac_words.specs.declared.job.Asked.{Asked}
@@ -56,12 +58,28 @@ abbrev pub EndsKept : Type 0 → Type 0 → NotDone → Type 0
 EndsKept none no_address fault = WantsMemory fault ⊎ (IsOfDatabase fault
     ⊎ (((fault ≡ File NoLogs) × none) ⊎ ((fault ≡ File Address) × no_address)))
 
--- The logs that were chosen aren't found: those of a file aren't named, for which no socket is opened; or a device
--- doesn't tell its own.
+-- the logs of one device aren't found: it doesn't tell its own
+abbrev pub EndsDevice : {S P : Type 0} → SocketRules S P → Sought → S → S → NotDone → Type 0
+EndsDevice rules (Device like) before after fault = EndsFinding rules like before after fault
+EndsDevice rules (Named all) before after fault = ⊥
+
+-- so it is of one of these devices; those before it were found
+abbrev pub EndsAt : {S P : Type 0} → SocketRules S P → List Sought → S → S → NotDone → Type 0
+EndsAt rules [] before after fault = ⊥
+EndsAt {S = S} rules (one ∷ more) before after fault = EndsDevice rules one before after fault
+    ⊎ ((found : List Wanted) × (between : S) × AreOfDevice rules one before found between
+    × EndsAt rules more between after fault)
+
+-- the logs of these devices aren't found: memory is wanting, or those of one of them aren't
+abbrev pub EndsSought : {S P : Type 0} → SocketRules S P → List Sought → S → S → NotDone → Type 0
+EndsSought rules sought before after fault = WantsMemory fault ⊎ EndsAt rules sought before after fault
+
+-- The logs that were chosen aren't found: those of a file aren't named, for which no socket is opened; or those of
+-- devices aren't found.
 abbrev pub EndsChosen : {S P : Type 0} → SocketRules S P → Chosen → Type 0 → Type 0 → S → S → NotDone → Type 0
-EndsChosen rules Kept none no_address before after fault = EndsKept none no_address fault × (after ≡ before)
-EndsChosen rules (Device like) none no_address before after fault = EndsFinding rules like before after fault
-EndsChosen rules (Named all) none no_address before after fault = ⊥
+EndsChosen rules chosen.Kept none no_address before after fault = EndsKept none no_address fault × (after ≡ before)
+EndsChosen rules (chosen.Sought sought) none no_address before after fault =
+    EndsSought rules sought.items before after fault
 
 -- The logs that were chosen aren't kept: they aren't found; or the run over those that were ends.
 abbrev pub EndsKeeping : {S P : Type 0} → SocketRules S P → Chosen → Type 0 → Type 0 → S → S → NotDone → Type 0

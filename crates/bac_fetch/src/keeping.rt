@@ -26,13 +26,14 @@ ghost use Rattle.bac_asked.specs.declared.wanted.Wanted.{Wanted as WantedOf};
 
 use crate::moving::settle;
 use crate::single::keep_next;
+use crate::sought::{Sought, sought_logs};
 use bac_absent::find_absent;
 use bac_archive::{Log, logs};
-use bac_asked::{Asking, FileFault, NotDone, Options, Wanted, add_wanted, kept_log};
+use bac_asked::{FileFault, NotDone, Options, Wanted, add_wanted, kept_log};
 use bac_desks::Clock;
 use bac_heeding::Heeds;
 use bac_ports::Sockets;
-use bac_questions::{Heard, discover};
+use bac_questions::Heard;
 use sqlite::{Alter, Connection};
 use std::alloc::Global;
 use std::io::Write;
@@ -42,10 +43,8 @@ use std::io::Write;
 pub enum Chosen {
     /// Each log of the file that isn't stopped.
     Kept,
-    /// Each trend log of a device, asked as this one is.
-    Device(Asking),
-    /// These.
-    Named(Vec<Wanted>),
+    /// Those of these devices.
+    Sought(Vec<Sought>),
 }
 
 /// Puts a log of a file behind others as it is asked for, unless it is stopped.
@@ -314,8 +313,8 @@ fn chosen_logs<S: Sockets, A: Alter>(
     ensures asks { IfOk result (λ all. All AsksItsSource all.items) }
     ensures chosen { OverArchive (state A.Store conn.old) (state A.Store conn.new)
         (IfOk result (λ all. AreChosen chosen (state A.Store conn.old).now.trees all.items)) }
-    // Those of a file are one at least, those of a device those of its Object_List, and no socket
-    // is opened for others.
+    // Those of a file are one at least, those of a device those that are named, or those of its
+    // Object_List, and no socket is opened for others.
     ensures found { IfOk result (λ all. AreFound
         (socket_rules S.opens S.closes S.Socket.sends S.Socket.receives
         S.Socket.receives_within) chosen sockets.old all.items sockets.new) }
@@ -335,8 +334,7 @@ fn chosen_logs<S: Sockets, A: Alter>(
 {
     match chosen {
         Chosen::Kept => kept_logs(alloc, conn, options),
-        Chosen::Device(like) => discover(sockets, alloc, &like),
-        Chosen::Named(all) => Ok(all),
+        Chosen::Sought(sought) => sought_logs(sockets, alloc, sought),
     }
 }
 

@@ -11,6 +11,8 @@ mod keeping;
 mod moving;
 mod passing;
 mod single;
+mod sought;
 mod telling;
 
 pub use keeping::{Chosen, keep_chosen, keep_each};
+pub use sought::{Sought, is_same_log, is_wanted};

@@ -124,7 +124,8 @@ fn len_of(rt: &HostRuntime, folder: &str, number: u32) -> Result<u64, AllocError
 }
 
 /// Which part of a folder is opened whose newest one has this number: the next one, where that has
-/// so many octets or more. One of which nothing is written yet follows on the one before it.
+/// so many octets or more. A part with nothing in it follows on the one before it, also one that
+/// was begun and isn't written.
 fn choose(rt: &HostRuntime, folder: &str, newest: u32, full: u64) -> Result<Place, AllocError>
     ensures { IfOk result (IsPlaced folder.now) }
 {
@@ -135,10 +136,10 @@ fn choose(rt: &HostRuntime, folder: &str, newest: u32, full: u64) -> Result<Plac
     if len >= full && newest < LAST {
         return Place::part(rt, folder, newest + 1, Some(newest));
     }
-    if len == 0 && newest > 1 {
-        return Place::part(rt, folder, newest, Some(newest - 1));
+    if newest == 1 {
+        return Place::part(rt, folder, newest, None);
     }
-    Place::part(rt, folder, newest, None)
+    Place::part(rt, folder, newest, Some(newest - 1))
 }
 
 /// The part of a folder that is opened.

@@ -16,6 +16,14 @@ ended named fails does (Ok v) (Ok s) did asked fault by = inl (asked, subst does
 ended named fails does (Err (done.File why)) (Ok s) did asked fault by = inr (why, by, fault)
 ended named fails does (Err (done.Asking why)) (Ok s) did asked fault by = absurd by
 
+-- a fault before anything was done, by the status of it
+pub ended_early : (fails : FileFault → Type 0) (does : ℕ → Type 0) (e : NotDone) (result : Result ℕ Fault) → MayFail fails e → IfOk result (EndsBy (Err e))
+    → IfOk result (λ status. does status ⊎ IsOfFile fails status)
+ended_early fails does (done.File why) (Ok s) fault by = inr (why, by, fault)
+ended_early fails does (done.File why) (Err e) fault by = tt
+ended_early fails does (done.Asking why) (Ok s) fault by = absurd by
+ended_early fails does (done.Asking why) (Err e) fault by = tt
+
 -- the same of one that tells nothing on the errors but that the file is at fault
 pub ended_untold : (named : Type 0) (fails : FileFault → Type 0) (does : ℕ → Type 0) (r : Result ℕ NotDone) (result : Result ℕ Fault) (old new : Held) → IfOk r does → OnOk r named
     → IfErr r (MayFail fails) → IfOk result (EndsBy r) → IsUntold r old new → IfOk result (λ status. ((named × does status) × (new ≡ old)) ⊎ IsOfFile fails status)

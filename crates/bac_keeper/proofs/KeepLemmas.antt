@@ -3,6 +3,7 @@ use Rattle.std.proofs.Common.{◌≡◌, ◌⊎◌, inl, inr}
 use Rattle.sqlite.specs.declared.error.Error.{Error}
 use Rattle.bac_asked.specs.Faults.{of_error}
 use Rattle.bac_asked.specs.declared.end.NotDone.{NotDone}
+use Rattle.bac_asked.specs.declared.fault.FileFault.{FileFault}
 use Rattle.bac_asked.specs.declared.end.NotDone.TheVariants as done
 use Rattle.bac_fetch.specs.Causes.{EndsRunOver}
 use Rattle.bac_fetch.specs.Faults.{EndsKeeping, HasNoInstance}
@@ -27,10 +28,10 @@ keeping_so rules N M A B f h which before after fault (inr (all, between, found,
     inr (all, between, found, ends_so rules (HasNoInstance all) (HasNoInstance all) A B after fault (λ n. n) h it)
 
 -- so a run ends over what two files held, which became this archive
-pub refused_so : {S P C : Type 0} (rules : SocketRules S P) (clock : StartedClock C) (which : Chosen) (given : Given) (found : Database) (archive last : State) (before after : S) (fault : NotDone)
+pub refused_so : {S P C : Type 0} (rules : SocketRules S P) (clock : StartedClock C) (bars : FileFault → Type 0) (which : Chosen) (given : Given) (found : Database) (archive last : State) (before after : S) (fault : NotDone)
     → (IsHeld last → IsArchiveOf found archive.now × (archive.now.schema ≡ archive_schema))
     → OverArchive archive last (EndsRunOver rules clock given which before after archive.now fault)
-    → MayFail (λ why. ((error : Error) × (why ≡ of_error error)) ⊎ (IsHeld last → RefusesKeep rules clock which given before after found why)) fault
-refused_so rules clock which given found archive last before after (done.Asking why) is ends = tt
-refused_so rules clock which given found archive last before after (done.File why) is ends =
+    → MayFail (λ why. ((error : Error) × (why ≡ of_error error)) ⊎ (IsHeld last → RefusesKeep rules clock bars which given before after found why)) fault
+refused_so rules clock bars which given found archive last before after (done.Asking why) is ends = tt
+refused_so rules clock bars which given found archive last before after (done.File why) is ends =
     inr (λ held. let (of, has) = is held in inr (archive.now, of, ends held.0 has))

@@ -3,5 +3,7 @@ pub mod EndLemmas
 pub mod FileLemmas
 pub mod StopLemmas
 pub mod NamesLemmas
+pub mod SeekLemmas
 pub mod KeepLemmas
 pub mod PrintLemmas
+pub mod BegunLemmas

@@ -25,12 +25,13 @@ pub record IsArchiveOf (found archive : Database) : Type 0 where
   pub is : IsArchive archive
   pub same : found.schema ≡ archive_schema → archive ≡ found
 
--- these logs, of those that were chosen, were kept in the archive, and their runs ended so
+-- these logs, of those that were chosen, were kept in the archive, which begins so, and their runs ended so
 pub record KeepsArchive {S P C : Type 0} (rules : SocketRules S P) (clock : StartedClock C) (chosen : Chosen)
-    (all : List Wanted) (before after : S)
+    (all : List Wanted) (before after : S) (begins : Database → Database → Type 0)
     (ends : List End) (found left : Database) : Type 0 where
   pub archive : Database
   pub opened : IsArchiveOf found archive
+  pub begun : begins found archive
   pub chose : AreChosen chosen archive.trees all
   pub kept : KeepsLogs rules clock all before after archive left ends
 

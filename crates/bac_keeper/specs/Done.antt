@@ -1,7 +1,6 @@
 -- What was done of the words of `bac keep`. Read from the end.
-use Rattle.std.specs.Prelude.{◌≡◌, ◌⊎◌, ℕ, List, [], ◌∷◌, codes, Option, None, Some, IfSome, IsSome, is_some}
-use Rattle.std.specs.List.{All}
-use Rattle.clap.specs.Words.{Text}
+use Rattle.std.specs.Prelude.{◌≡◌, ◌≢◌, ◌⊎◌, ℕ, Bool, List, [], ◌∷◌, codes, Option, IfSome, IsSome}
+use Rattle.std.specs.List.{All, AllZip, Contains}
 use Rattle.sqlite_disk.specs.declared.Disk as disk
 use Rattle.sqlite_disk.specs.declared.Files.{Files}
 use Rattle.sqlite_wal.specs.Recovery.{Image}
@@ -15,6 +14,8 @@ use Rattle.bac_fetch.specs.Chosen.{AreFound}
 use Rattle.bac_fetch.specs.Keeps.{AreToldBy}
 use Rattle.bac_fetch.specs.declared.keeping.Chosen.{Chosen}
 use Rattle.bac_fetch.specs.declared.keeping.Chosen.TheVariants as chosen
+use Rattle.bac_fetch.specs.declared.sought.Sought.{Sought}
+use Rattle.bac_fetch.specs.declared.sought.Sought.TheVariants.{Device, Named}
 use Rattle.sqlite.specs.Effect.{Database}
 use Rattle.sqlite_disk.specs.declared.start.Start as start
 use Rattle.bac_asked.specs.declared.end.NotDone.{NotDone}
@@ -28,6 +29,7 @@ use Rattle.bac_keeper.specs.Ends.{FailsFile, IsNoArchive, IsUnclosedBySome}
 use Rattle.bac_hearing.specs.Hearing.{StartedClock}
 use Rattle.bac_ports.specs.Sockets.{SocketRules}
 use Rattle.bac_print.specs.Output.{Held}
+use Rattle.bac_words.specs.declared.group.Group.{Group}
 use Rattle.bac_words.specs.declared.job.Keep.{Keep}
 use Rattle.bac_words.specs.declared.job.KeepOptions.{KeepOptions}
 
@@ -43,40 +45,41 @@ given_of options = record {
   dadr = options.dadr;
 }
 
--- With FILE alone those of the file; with ADDRESS those of the device, each asked for as `bac log` with these words
--- asks for log 0; with INSTANCEs the logs that they name, each once.
-abbrev pub ChoosesBy : Option Text → List Text → Given → Chosen → Type 0
-ChoosesBy None instances given chosen.Kept = Unit {0}
-ChoosesBy (Some address) [] given (chosen.Device like) = IsAskedBy (log_words address (codes "0") given) like
-ChoosesBy (Some address) (instance ∷ more) given (chosen.Named all) =
-    AddNamed address given (instance ∷ more) [] all.items
-ChoosesBy _ _ _ _ = ⊥
+-- With ADDRESS alone those of the device, each asked for as `bac log` with these words asks for log 0; with INSTANCEs the
+-- logs that they name, each once.
+abbrev pub Seeks : Given → Group → Sought → Type 0
+Seeks given group (Device like) =
+    (group.instances ≡ []) × IsAskedBy (log_words group.address (codes "0") given) like
+Seeks given group (Named all) =
+    (group.instances ≢ []) × AddNamed group.address given group.instances [] all.items
+
+-- with FILE alone those of the file; else those of each device that is named, in the order of the words
+abbrev pub ChoosesBy : List Group → Given → Chosen → Type 0
+ChoosesBy [] given chosen.Kept = Unit {0}
+ChoosesBy (group ∷ more) given (chosen.Sought sought) = AllZip (Seeks given) (group ∷ more) sought.items
+ChoosesBy _ _ _ = ⊥
 
 -- which logs the words choose
 abbrev pub Chooses : Keep → Chosen → Type 0
-Chooses keep chosen = ChoosesBy keep.address keep.instances (given_of keep.options) chosen
-
--- logs that were named are these, and no other
-abbrev pub AreThese : Chosen → List Wanted → Type 0
-AreThese (chosen.Named named) all = all ≡ named.items
-AreThese other all = Unit {0}
+Chooses keep chosen = ChoosesBy keep.groups (given_of keep.options) chosen
 
 -- A line for each log that was chosen, which was asked of the device that the line names, and the greatest status.
--- Those of a device are those of its Object_List, which came over the caller's sockets. This holds of the logs, of the
--- sockets then, and of how the runs over them ended.
+-- Those of a device are those that were named, or those of its Object_List, which came over the caller's sockets. This
+-- holds of the logs, of the sockets then, and of how the runs over them ended.
 abbrev pub TellsThese : {S P : Type 0} → SocketRules S P → Chosen → S → Held → Held
     → (List Wanted → S → List End → Type 0) → ℕ → Type 0
 TellsThese {S = S} rules chosen sockets before after kept status =
-    (all : List Wanted) × (between : S) × AreThese chosen all × All AsksItsSource all
+    (all : List Wanted) × (between : S) × All AsksItsSource all
     × AreFound rules chosen sockets all between × AreToldBy before after all (kept all between) status
 
--- The logs that the words choose were kept in the archive that two files held, which the closed files hold now.
-abbrev pub KeepsIn : {S P C D : Type 0} → SocketRules S P → StartedClock C → (g : disk.Ghosts D) → Image → Keep → S → S
-    → Held → Held → Option (Files D) → ℕ → Type 0
-KeepsIn rules clock g image keep sockets sockets_after before after closed status =
+-- The logs that the words choose were kept in the archive that two files held, which begins so, and which the closed
+-- files hold now.
+abbrev pub KeepsIn : {S P C D : Type 0} → SocketRules S P → StartedClock C → (g : disk.Ghosts D) → Image
+    → (Database → Database → Type 0) → Keep → S → S → Held → Held → Option (Files D) → ℕ → Type 0
+KeepsIn rules clock g image begins keep sockets sockets_after before after closed status =
     IsSome closed × (chosen : Chosen) × Chooses keep chosen × TellsThese rules chosen sockets before after
     (λ all between ends. IfSome closed
-    (IsDoneTo g image (KeepsArchive rules clock chosen all between sockets_after ends)))
+    (IsDoneTo g image (KeepsArchive rules clock chosen all between sockets_after begins ends)))
     status
 
 -- what two files held is an archive, or becomes one, and the run over the logs that were chosen ends so
@@ -85,29 +88,38 @@ abbrev pub EndsOver : {S P C : Type 0} → SocketRules S P → StartedClock C �
 EndsOver rules clock which given before after found fault =
     (archive : Database) × IsArchiveOf found archive × EndsRunOver rules clock given which before after archive fault
 
--- Why the logs that were chosen aren't kept in the archive that two files held: it is none; or the run over it ends so.
-abbrev pub RefusesKeep : {S P C : Type 0} → SocketRules S P → StartedClock C → Chosen → Given → S → S → Database
-    → FileFault → Type 0
-RefusesKeep rules clock which given before after found why = IsNoArchive found why
-    ⊎ EndsOver rules clock which given before after found (File why)
+-- Why the logs that were chosen aren't kept in the archive that two files held: it is none; or what it is to begin on is
+-- no use; or the run over it ends so.
+abbrev pub RefusesKeep : {S P C : Type 0} → SocketRules S P → StartedClock C → (FileFault → Type 0) → Chosen → Given → S
+    → S → Database → FileFault → Type 0
+RefusesKeep rules clock bars which given before after found why =
+    (IsNoArchive found why ⊎ bars why) ⊎ EndsOver rules clock which given before after found (File why)
 
 -- so the file is no use to `keep`
 abbrev pub FailsToKeep : {S P C F : Type 0} {s : start.Ghosts F} → SocketRules S P → StartedClock C
-    → disk.Ghosts (FileOf s) → Image → Keep → S → S → DiskFiles F s → FileFault → Type 0
-FailsToKeep rules clock g image keep before after files why = (which : Chosen) × Chooses keep which
-    × FailsFile g image keep.file (is_some keep.address)
-    (RefusesKeep rules clock which (given_of keep.options) before after)
+    → disk.Ghosts (FileOf s) → Image → (FileFault → Type 0) → Keep → List ℕ → Bool → S → S → DiskFiles F s → FileFault →
+    Type 0
+FailsToKeep rules clock g image bars keep path may before after files why = (which : Chosen) × Chooses keep which
+    × FailsFile g image path may
+    (RefusesKeep rules clock bars which (given_of keep.options) before after)
     files why
 
--- Why words name no logs: without ADDRESS this; else `bac log` with them asks for none.
-abbrev pub NamesNone : (NotDone → Type 0) → Option Text → List Text → Given → NotDone → Type 0
-NamesNone alone None instances given fault = alone fault
-NamesNone alone (Some address) [] given fault = IsUnnamed (log_words address (codes "0") given) fault
-NamesNone alone (Some address) (instance ∷ more) given fault = AreUnnamed address given (instance ∷ more) fault
+-- why words name no logs of a device: `bac log` with them asks for none
+abbrev pub SeeksNone : Given → Group → NotDone → Type 0
+SeeksNone given group fault =
+    ((group.instances ≡ []) × IsUnnamed (log_words group.address (codes "0") given) fault)
+    ⊎ AreUnnamed group.address given group.instances fault
 
--- why they choose none: without ADDRESS its options are none
+-- Why words choose no logs: without ADDRESS the options are none; else those of one device name none, or memory is
+-- wanting.
+abbrev pub ChoosesNoneBy : List Group → Given → NotDone → Type 0
+ChoosesNoneBy [] given fault = AreNoOptions given fault
+ChoosesNoneBy (group ∷ more) given fault = WantsMemory fault
+    ⊎ ((which : Group) × Contains (group ∷ more) which × SeeksNone given which fault)
+
+-- why those of `keep` choose none
 abbrev pub ChoosesNone : Keep → NotDone → Type 0
-ChoosesNone keep = NamesNone (AreNoOptions (given_of keep.options)) keep.address keep.instances (given_of keep.options)
+ChoosesNone keep = ChoosesNoneBy keep.groups (given_of keep.options)
 
 module _ {S P C F : Type 0} {s : start.Ghosts F} (rules : SocketRules S P) (clock : StartedClock C)
     (g : disk.Ghosts (FileOf s)) (image : Image) where

@@ -1,9 +1,8 @@
 -- What is done of the words of `bac keep --stop`. Read from the end.
-use Rattle.std.specs.Prelude.{◌≡◌, ◌⊎◌, ℕ, Bool, true, false, List, [], ◌∷◌, map, flat_map, codes, Option, Some, IfSome}
+use Rattle.std.specs.Prelude.{◌≡◌, ◌≢◌, ◌⊎◌, ℕ, Bool, true, false, List, [], ◌∷◌, map, flat_map, codes, Option, IfSome}
 use Rattle.std.specs.Prelude.{IsSome}
 use Rattle.std.specs.List.{filter, list_all, list_any}
 use Rattle.std.specs.Io.KnownBytes.{Appends}
-use Rattle.clap.specs.Words.{Text}
 use Rattle.sqlite.specs.Effect.{Database}
 use Rattle.sqlite_disk.specs.declared.Disk as disk
 use Rattle.sqlite_disk.specs.declared.Files.{Files}
@@ -27,11 +26,12 @@ use Rattle.bac_asked.specs.declared.fault.FileFault.TheVariants as fault
 use Rattle.bac_files.specs.Files.{FileOf, IsDoneTo}
 use Rattle.bac_files.specs.declared.disk_files.DiskFiles.{DiskFiles}
 use Rattle.bac_keeper.specs.Archives.{IsArchiveOf}
-use Rattle.bac_keeper.specs.Done.{NamesNone, given_of}
+use Rattle.bac_keeper.specs.Done.{SeeksNone, given_of}
 use Rattle.bac_keeper.specs.Ends.{FailsFile, IsNoArchive}
 use Rattle.bac_keeper.specs.declared.stopping.Meant.{Meant}
 use Rattle.bac_keeper.specs.declared.stopping.Meant.TheVariants as meant
 use Rattle.bac_print.specs.Output.{Held}
+use Rattle.bac_words.specs.declared.group.Group.{Group}
 use Rattle.bac_words.specs.declared.job.Keep.{Keep}
 
 -- a log is meant: it is of the device, or one of those that are named
@@ -46,17 +46,21 @@ are_there (meant.Logs all) known =
     list_all (λ (w : Wanted). list_any (λ (log : Log). is_same_log w.source log.source) known) all.items
 
 -- With ADDRESS alone the logs of the device that `bac log` with these words asks; with INSTANCEs those that they name.
-abbrev pub MeansBy : Option Text → List Text → Given → Meant → Type 0
-MeansBy (Some address) [] given (meant.Device source) =
-    (wanted : Wanted) × IsAskedBy (log_words address (codes "0") given) wanted.asking × AsksItsSource wanted
-    × (source ≡ wanted.source)
-MeansBy (Some address) (instance ∷ more) given (meant.Logs all) =
-    AddNamed address given (instance ∷ more) [] all.items
-MeansBy _ _ _ _ = ⊥
+abbrev pub MeansOf : Given → Group → Meant → Type 0
+MeansOf given group (meant.Device source) =
+    (group.instances ≡ []) × (wanted : Wanted) × IsAskedBy (log_words group.address (codes "0") given) wanted.asking
+    × AsksItsSource wanted × (source ≡ wanted.source)
+MeansOf given group (meant.Logs all) =
+    (group.instances ≢ []) × AddNamed group.address given group.instances [] all.items
+
+-- they are said of one device
+abbrev pub MeansBy : List Group → Given → Meant → Type 0
+MeansBy (group ∷ []) given which = MeansOf given group which
+MeansBy _ given which = ⊥
 
 -- which logs the words mean
 abbrev pub Means : Keep → Meant → Type 0
-Means words which = MeansBy words.address words.instances (given_of words.options) which
+Means words which = MeansBy words.groups (given_of words.options) which
 
 -- a log that isn't asked any more
 abbrev pub stopped : Log → Log
@@ -96,10 +100,14 @@ abbrev pub FailsToStop : {F : Type 0} {s : start.Ghosts F} → disk.Ghosts (File
 FailsToStop g image words files why =
     (which : Meant) × Means words which × FailsFile g image words.file false (RefusesStop which) files why
 
--- why words mean no logs: without ADDRESS none is stopped
+-- why words mean no logs: `bac log` with those of the one device asks for none; without it, or of more, none is stopped
+abbrev pub MeansNoneBy : List Group → Given → NotDone → Type 0
+MeansNoneBy (group ∷ []) given fault = SeeksNone given group fault
+MeansNoneBy _ given fault = fault ≡ Asking (BadValue Stop)
+
+-- why those of `keep --stop` mean none
 abbrev pub MeansNone : Keep → NotDone → Type 0
-MeansNone words = NamesNone (λ fault.
-    fault ≡ Asking (BadValue Stop)) words.address words.instances (given_of words.options)
+MeansNone words = MeansNoneBy words.groups (given_of words.options)
 
 -- why `keep --stop` isn't done, if the file isn't at fault: its words mean no logs; memory is wanting; or the output
 -- refused a line

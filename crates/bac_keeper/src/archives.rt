@@ -15,7 +15,7 @@ use bac_files::{DiskFiles, NotOpened};
 use sqlite::{Alter, Connection, Error, FileFrom, FileStore, Start};
 
 /// The fault of a file that isn't opened.
-fn fault_of(why: NotOpened) -> FileFault
+pub(crate) fn fault_of(why: NotOpened) -> FileFault
     ensures { result ≡ fault_of why }
 {
     match why {

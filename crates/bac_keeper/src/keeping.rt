@@ -1,33 +1,35 @@
 //! `bac keep`: the logs that words name are kept in a file.
 
-ghost use Rattle.std.specs.Prelude.{◌≡◌, ◌⊎◌, IfErr, IfOk, IfSome, IsTrue, OnOk, is_some};
-ghost use Rattle.std.specs.Prelude.{option_map};
+ghost use Rattle.std.specs.Prelude.{◌≡◌, ◌⊎◌, ◌++◌, ◌∷◌, [], IfErr, IfOk, IfSome, IsTrue, OnOk};
+ghost use Rattle.std.specs.Prelude.{◌||◌, is_some, option_map};
+ghost use Rattle.std.specs.List.{All, AllZip, Contains};
+ghost use Rattle.std.specs.String.{string_bytes};
 ghost use Rattle.sqlite.specs.Held.{state};
-ghost use Rattle.sqlite.specs.State.{HasCleanDisk, Survives};
+ghost use Rattle.sqlite.specs.State.{HasCleanDisk};
 ghost use Rattle.sqlite_wal.specs.Files.{image_at};
-ghost use Rattle.bac_archive.specs.Schema.{OverArchive};
 ghost use Rattle.bac_asked.specs.AsLog.{given_in};
-ghost use Rattle.bac_asked.specs.Faults.{IsOfDatabase, of_error};
-ghost use Rattle.bac_fetch.specs.Causes.{EndsRunOver};
-ghost use Rattle.bac_fetch.specs.Chosen.{AreChosen, AskTheirSources};
-ghost use Rattle.bac_fetch.specs.Faults.{EndsKeeping, HasNone, LacksAddress};
-ghost use Rattle.bac_fetch.specs.Keeps.{KeepsLogs};
-ghost use Rattle.bac_fetch.specs.Stays.{HasAllOf};
+ghost use Rattle.bac_asked.specs.Faults.{IsOfDatabase, WantsMemory, of_error};
+ghost use Rattle.bac_fetch.specs.Chosen.{AskOneSource, AskTheirSources};
+ghost use Rattle.bac_fetch.specs.Faults.{EndsKeeping};
 ghost use Rattle.bac_files.specs.Files.{IsDoneTo, IsNamed, IsUnused};
 ghost use Rattle.bac_keeper.specs.Archives.{IsHeld, KeepsArchive, LosesNothing};
+ghost use Rattle.bac_keeper.specs.Begun.{BarsPart, BeginsOn};
 ghost use Rattle.bac_keeper.specs.Done.{Chooses, ChoosesNone, EndsKeep, EndsOver, FailsToKeep};
-ghost use Rattle.bac_keeper.specs.Done.{KeepsIn, RefusesKeep, TellsThese, given_of};
+ghost use Rattle.bac_keeper.specs.Done.{KeepsIn, RefusesKeep, Seeks, SeeksNone, TellsThese};
+ghost use Rattle.bac_keeper.specs.Done.{given_of};
 ghost use Rattle.bac_keeper.specs.Ends.{MayAsk, MayFail};
 ghost use Rattle.bac_hearing.specs.Hearing.{started};
 ghost use Rattle.bac_ports.specs.Sockets.{socket_rules};
+ghost use Rattle.bac_words.specs.Groups.{are_any};
 
-use crate::archives::{close_file, open_archive, open_file};
-use bac_asked::{FileFault, NotDone, Options, check_options, named, named_all};
+use crate::archives::{close_file, open_file};
+use crate::begun::begin_archive;
+use bac_asked::{Fault, FileFault, NotDone, Options, check_options, named, named_all};
 use bac_desks::Clock;
-use bac_fetch::{Chosen, keep_chosen, keep_each};
-use bac_files::DiskFiles;
+use bac_fetch::{Chosen, Sought, keep_chosen};
+use bac_files::{DiskFiles, Place};
 use bac_heeding::Heeds;
-use bac_words::{Keep, KeepOptions, Name};
+use bac_words::{Group, Keep, KeepOptions, Name};
 use sqlite::{Alter, Connection, Error, ErrorCode, FileFrom, Start};
 use sqlite_disk::Disk;
 use std::alloc::Global;
@@ -57,6 +59,47 @@ pub(crate) fn options_of(options: &KeepOptions) -> Options<'_>
     }
 }
 
+/// The logs of one device that the words name.
+fn seek(alloc: Global, group: &Group, options: &Options<'_>) -> Result<Sought, NotDone>
+    ensures sources { IfOk result AskOneSource }
+    ensures seeks { IfOk result (Seeks (given_in options.now) group.now) }
+    ensures none { IfErr result (SeeksNone (given_in options.now) group.now) }
+{
+    let address = group.address.as_str();
+    let instances = group.instances.as_slice();
+    if instances.is_empty() {
+        return Ok(Sought::Device(named(alloc, address, "0", options)?.asking));
+    }
+    Ok(Sought::Named(named_all(alloc, address, instances, options)?))
+}
+
+/// Puts the logs of a device behind those of others.
+fn add_sought(all: &mut Vec<Sought>, sought: Sought) -> Result<(), NotDone>
+    ensures added { OnOk result (all.new.items ≡ all.old.items ++ sought ∷ []) }
+    ensures memory { IfErr result WantsMemory }
+{
+    match all.push(sought) {
+        Ok(()) => Ok(()),
+        Err(_) => Err(NotDone::Asking(Fault::Memory)),
+    }
+}
+
+/// Those of each device, in their order.
+fn seek_each(alloc: Global, groups: &[Group], options: &Options<'_>) -> Result<Vec<Sought>, NotDone>
+    ensures sources { IfOk result (λ all. All AskOneSource all.items) }
+    ensures seeks { IfOk result
+        (λ all. AllZip (Seeks (given_in options.now)) groups.now all.items) }
+    ensures none { IfErr result (λ fault. WantsMemory fault
+        ⊎ ((group : _) × Contains groups.now group × SeeksNone (given_in options.now) group fault)) }
+{
+    let mut all = Vec::new(alloc);
+    for group in groups {
+        let sought = seek(alloc, group, options)?;
+        add_sought(&mut all, sought)?;
+    }
+    Ok(all)
+}
+
 /// The logs that the words choose.
 fn choose(alloc: Global, asked: &Keep, options: &Options<'_>) -> Result<Chosen, NotDone>
     requires { given_in options.now ≡ given_of asked.now.options }
@@ -64,72 +107,21 @@ fn choose(alloc: Global, asked: &Keep, options: &Options<'_>) -> Result<Chosen, 
     ensures chosen { IfOk result (Chooses asked.now) }
     ensures none { IfErr result (ChoosesNone asked.now) }
 {
-    let Some(address) = &asked.address else {
+    let groups = asked.groups.as_slice();
+    if groups.is_empty() {
         check_options(alloc, options)?;
         return Ok(Chosen::Kept);
-    };
-    let address = address.as_str();
-    let instances = asked.instances.as_slice();
-    if instances.is_empty() {
-        return Ok(Chosen::Device(named(alloc, address, "0", options)?.asking));
     }
-    Ok(Chosen::Named(named_all(alloc, address, instances, options)?))
+    Ok(Chosen::Sought(seek_each(alloc, groups, options)?))
 }
 
-/// Keeps what is new of the logs that were chosen in an open archive.
-fn keep_these<S: Heeds, C: Clock, A: Alter, O: Write, E: Write>(
+/// Keeps what is new of the logs that were chosen in an open database, which has to be an archive,
+/// or becomes one: the part that follows on the one before it, if there is one.
+fn keep_in<S: Heeds, C: Clock, A: Alter, G: Start, O: Write, E: Write>(
     sockets: &mut S,
     conn: &mut Connection<A>,
-    alloc: Global,
-    clock: C,
-    chosen: Chosen,
-    options: &Options<'_>,
-    counts: bool,
-    output: &mut O,
-    errors: &mut E,
-) -> Result<u8, NotDone>
-where
-    C: Drop,
-    requires { AskTheirSources chosen }
-    ensures told { IfOk result (TellsThese (socket_rules S.opens S.closes S.Socket.sends
-        S.Socket.receives S.Socket.receives_within) chosen sockets.old
-        (O.contents output.old) (O.contents output.new)
-        (λ all between ends. OverArchive (state A.Store conn.old) (state A.Store conn.new)
-        (AreChosen chosen (state A.Store conn.old).now.trees all
-        × KeepsLogs (socket_rules S.opens S.closes S.Socket.sends S.Socket.receives
-        S.Socket.receives_within) (started C.reads clock) all between sockets.new
-        (state A.Store conn.old).now (state A.Store conn.new).now ends))) }
-    ensures stays { OverArchive (state A.Store conn.old) (state A.Store conn.new)
-        (Survives (state A.Store conn.old) (state A.Store conn.new)
-        (HasAllOf (state A.Store conn.old).now.trees)) }
-    ensures clean { HasCleanDisk (state A.Store conn.new) → HasCleanDisk (state A.Store conn.old) }
-    ensures fault { IfErr result (EndsKeeping
-        (socket_rules S.opens S.closes S.Socket.sends S.Socket.receives
-        S.Socket.receives_within) chosen
-        (OverArchive (state A.Store conn.old) (state A.Store conn.new)
-        (HasNone (state A.Store conn.old).now.trees))
-        (OverArchive (state A.Store conn.old) (state A.Store conn.new)
-        (LacksAddress (given_in options.now) (state A.Store conn.old).now.trees))
-        sockets.old sockets.new) }
-    ensures caused { OverArchive (state A.Store conn.old) (state A.Store conn.new)
-        (IfErr result (EndsRunOver (socket_rules S.opens S.closes S.Socket.sends S.Socket.receives
-        S.Socket.receives_within) (started C.reads clock) (given_in options.now) chosen sockets.old
-        sockets.new (state A.Store conn.old).now)) }
-{
-    match chosen {
-        Chosen::Named(all) => keep_each(
-            sockets, conn, alloc, clock, all, options, counts, output, errors,
-        ),
-        chosen => keep_chosen(
-            sockets, conn, alloc, clock, chosen, options, counts, output, errors,
-        ),
-    }
-}
-
-/// The same in an open database, which has to be an archive, or becomes one.
-fn keep_in<S: Heeds, C: Clock, A: Alter, O: Write, E: Write>(
-    sockets: &mut S,
-    conn: &mut Connection<A>,
+    parts: &mut DiskFiles<'_, G>,
+    place: &mut Place,
     alloc: Global,
     clock: C,
     chosen: Chosen,
@@ -147,7 +139,8 @@ where
         (O.contents output.old) (O.contents output.new)
         (λ all between ends. IsHeld (state A.Store conn.new)
         → KeepsArchive (socket_rules S.opens S.closes S.Socket.sends S.Socket.receives
-        S.Socket.receives_within) (started C.reads clock) chosen all between sockets.new ends
+        S.Socket.receives_within) (started C.reads clock) chosen all between sockets.new
+        (BeginsOn ⟦<FileFrom<G> as Disk>⟧ (image_at G.Start) place.old.before parts.new) ends
         (state A.Store conn.old).now (state A.Store conn.new).committed)) }
     // Whatever comes of it, no item and no log is lost.
     ensures stays { IsHeld (state A.Store conn.new)
@@ -157,8 +150,9 @@ where
     ensures fault { IfErr result (MayFail (λ why. ((error : Error) × (why ≡ of_error error))
         ⊎ (IsHeld (state A.Store conn.new) → RefusesKeep
         (socket_rules S.opens S.closes S.Socket.sends S.Socket.receives
-        S.Socket.receives_within) (started C.reads clock) chosen (given_in options.now) sockets.old
-        sockets.new (state A.Store conn.old).now why))) }
+        S.Socket.receives_within) (started C.reads clock)
+        (BarsPart ⟦<FileFrom<G> as Disk>⟧ (image_at G.Start) place.old.before parts.new) chosen
+        (given_in options.now) sockets.old sockets.new (state A.Store conn.old).now why))) }
     ensures ends { IfErr result (MayAsk (λ fault. EndsKeeping
         (socket_rules S.opens S.closes S.Socket.sends S.Socket.receives
         S.Socket.receives_within) chosen (Unit {0}) (Unit {0}) sockets.old
@@ -168,8 +162,8 @@ where
         S.Socket.receives_within) (started C.reads clock) chosen (given_in options.now) sockets.old
         sockets.new (state A.Store conn.old).now fault))) }
 {
-    open_archive(conn)?;
-    let status = keep_these(
+    begin_archive(alloc, conn, parts, place)?;
+    let status = keep_chosen(
         sockets, conn, alloc, clock, chosen, options, counts, output, errors,
     )?;
     settled(conn, status)
@@ -188,10 +182,20 @@ fn settled<A: Alter>(conn: &Connection<A>, status: u8) -> Result<u8, NotDone>
     Err(NotDone::File(FileFault::Database(Error::SqliteFailure(ErrorCode::TransactionState))))
 }
 
-/// `bac keep`: opens the archive, keeps what is new of the logs that the words name, and closes it.
-pub(crate) fn keep<S: Heeds, C: Clock, F: Start, O: Write, E: Write>(
+/// Whether the file may be made: for a device, or as the part that follows on another.
+fn may_make(asked: &Keep, place: &Place) -> bool
+    ensures { result ≡ (are_any asked.now.groups || is_some place.now.before) }
+{
+    asked.groups.are_any() || place.before.is_some()
+}
+
+/// `bac keep`: opens the archive at its place, keeps what is new of the logs that the words name,
+/// and closes it.
+pub(crate) fn keep<S: Heeds, C: Clock, F: Start, G: Start, O: Write, E: Write>(
     sockets: &mut S,
     files: &mut DiskFiles<'_, F>,
+    parts: &mut DiskFiles<'_, G>,
+    place: &mut Place,
     alloc: Global,
     clock: C,
     asked: &Keep,
@@ -203,14 +207,19 @@ where
     C: Drop,
     ensures kept { IfOk result (KeepsIn (socket_rules S.opens S.closes S.Socket.sends
         S.Socket.receives S.Socket.receives_within) (started C.reads clock) ⟦<FileFrom<F> as Disk>⟧
-        (image_at F.Start) asked.now sockets.old sockets.new (O.contents output.old)
+        (image_at F.Start) (BeginsOn ⟦<FileFrom<G> as Disk>⟧ (image_at G.Start) place.old.before
+        parts.new) asked.now sockets.old sockets.new (O.contents output.old)
         (O.contents output.new) files.new.closed) }
-    ensures named { OnOk result (IsNamed asked.now.file (is_some asked.now.address) files.new) }
+    ensures named { OnOk result (IsNamed (string_bytes place.old.path)
+        (are_any asked.now.groups || is_some place.old.before) files.new) }
     ensures fault { IfErr result (MayFail (FailsToKeep
         (socket_rules S.opens S.closes S.Socket.sends S.Socket.receives
         S.Socket.receives_within) (started C.reads clock) ⟦<FileFrom<F> as Disk>⟧
-        (image_at F.Start) asked.now
-        sockets.old sockets.new files.new)) }
+        (image_at F.Start)
+        (BarsPart ⟦<FileFrom<G> as Disk>⟧ (image_at G.Start) place.old.before parts.new)
+        asked.now (string_bytes place.old.path)
+        (are_any asked.now.groups || is_some place.old.before) sockets.old sockets.new
+        files.new)) }
     ensures stays { IsUnused files.old → IfSome files.new.closed
         (IsDoneTo ⟦<FileFrom<F> as Disk>⟧ (image_at F.Start) LosesNothing) }
     ensures ends { IfErr result (MayAsk (EndsKeep
@@ -221,10 +230,10 @@ where
 {
     let options = options_of(&asked.options);
     let chosen = choose(alloc, asked, &options)?;
-    // Without a device only an archive that has logs is of use, and none is made.
-    let mut conn = open_file(files, asked.file.as_str(), asked.address.is_some())?;
+    // Without a device only an archive that has logs is of use, and none is made but a part of it.
+    let mut conn = open_file(files, place.path.as_str(), may_make(asked, place))?;
     let done = keep_in(
-        sockets, &mut conn, alloc, clock, chosen, &options, counts, output, errors,
+        sockets, &mut conn, parts, place, alloc, clock, chosen, &options, counts, output, errors,
     );
     close_file(files, conn, done)
 }

@@ -7,6 +7,7 @@
 #![tactic(auto)]
 
 mod archives;
+mod begun;
 mod keeping;
 mod printing;
 mod program;

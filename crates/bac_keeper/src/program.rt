@@ -1,24 +1,31 @@
 //! The tools `keep` and `kept`.
 
 ghost use Rattle.std.specs.Prelude.{◌≡◌, ◌⊎◌, Err, IfErr, IfOk, IfSome, OnErr, false, is_some};
-ghost use Rattle.std.specs.Prelude.{true};
+ghost use Rattle.std.specs.Prelude.{◌||◌, true};
+ghost use Rattle.std.specs.String.{string_bytes};
 ghost use Rattle.sqlite_wal.specs.Files.{image_at};
 ghost use Rattle.bac_asked.specs.Status.{file_status};
 ghost use Rattle.bac_files.specs.Files.{IsDoneTo, IsNamed, IsUnused};
+ghost use Rattle.bac_files.specs.Parts.{IsPlaced};
 ghost use Rattle.bac_keeper.specs.Archives.{KeepsItems, LosesNothing};
+ghost use Rattle.bac_keeper.specs.Begun.{BarsPart, BeginsOn};
 ghost use Rattle.bac_keeper.specs.Done.{EndsKeep, FailsToKeep, KeepsIn};
-ghost use Rattle.bac_keeper.specs.Ends.{EndsBy, IsOfFile, IsUntold};
+ghost use Rattle.bac_keeper.specs.Places.{FailsAt, KeepsAt};
+ghost use Rattle.bac_keeper.specs.Ends.{EndsBy, IsNotOpened, IsOfFile, IsOfSomeFile, IsUntold};
+ghost use Rattle.bac_keeper.specs.Ends.{MayFail};
 ghost use Rattle.bac_keeper.specs.Shown.{EndsPrint, FailsToPrint, PrintsIn};
 ghost use Rattle.bac_keeper.specs.Stops.{EndsStop, FailsToStop, StopsIn};
 ghost use Rattle.bac_hearing.specs.Hearing.{started};
 ghost use Rattle.bac_ports.specs.Sockets.{socket_rules};
+ghost use Rattle.bac_words.specs.Groups.{are_any};
 
+use crate::archives::fault_of;
 use crate::keeping::keep;
 use crate::printing::kept;
 use crate::stopping::stop;
 use bac_asked::{Fault, FileFault, NotDone};
 use bac_desks::Clock;
-use bac_files::DiskFiles;
+use bac_files::{DiskFiles, Place};
 use bac_heeding::Heeds;
 use bac_print::write_text;
 use bac_words::{Keep, Kept};
@@ -66,16 +73,27 @@ fn tell_done<E: Write>(
     }
 }
 
-/// Does what the words of `bac keep` ask for, and answers the exit status. What was kept of each
-/// log, or with `--stop` which logs were stopped, goes to the output. The errors have a second line
-/// for a log whose walk failed (what came in place of the answer, or what a refusal means), for one
-/// that began anew, and for a device that has moved; and why a file is no use. Devices are called
-/// at once before the first log, by the clock. Any other fault is
-/// the caller's to tell. `counts` is for a terminal: the errors have a count of records while a log
-/// is fetched.
-pub fn run_keep<S: Heeds, C: Clock, F: Start, O: Write, E: Write>(
+/// Where the archive of the words is kept.
+fn place_of<F: Start>(files: &mut DiskFiles<'_, F>, asked: &Keep) -> Result<Place, NotDone>
+    ensures placed { IfOk result (IsPlaced asked.now.file) }
+    ensures fault { IfErr result (MayFail
+        (IsNotOpened asked.now.file (are_any asked.now.groups) files.new)) }
+    ensures file { IfErr result IsOfSomeFile }
+    ensures kept { files.new.closed ≡ files.old.closed }
+{
+    let full = u64::from(asked.part) * 1_048_576;
+    match files.place(asked.file.as_str(), asked.groups.are_any(), full) {
+        Ok(place) => Ok(place),
+        Err(why) => Err(NotDone::File(fault_of(why))),
+    }
+}
+
+/// The same of `keep` without `--stop`, at the place of its archive.
+fn keep_at<S: Heeds, C: Clock, F: Start, G: Start, O: Write, E: Write>(
     sockets: &mut S,
     files: &mut DiskFiles<'_, F>,
+    parts: &mut DiskFiles<'_, G>,
+    place: Place,
     alloc: Global,
     clock: C,
     asked: &Keep,
@@ -85,17 +103,67 @@ pub fn run_keep<S: Heeds, C: Clock, F: Start, O: Write, E: Write>(
 ) -> Result<u8, Fault>
 where
     C: Drop,
-    // The logs that the words choose were kept, in the archive that the files held; their lines
-    // were printed, and the status is the greatest of theirs. Or the file is no use.
-    ensures kept { asked.now.stop ≡ false
-        → IfOk result (λ status. (IsNamed asked.now.file (is_some asked.now.address) files.new
+    ensures kept { IfOk result (λ status. (IsNamed (string_bytes place.path)
+        (are_any asked.now.groups || is_some place.before) files.new
         × KeepsIn (socket_rules S.opens S.closes S.Socket.sends S.Socket.receives
         S.Socket.receives_within) (started C.reads clock) ⟦<FileFrom<F> as Disk>⟧ (image_at F.Start)
+        (BeginsOn ⟦<FileFrom<G> as Disk>⟧ (image_at G.Start) place.before parts.new)
         asked.now sockets.old sockets.new (O.contents output.old)
         (O.contents output.new) files.new.closed status)
         ⊎ IsOfFile (FailsToKeep (socket_rules S.opens S.closes S.Socket.sends
         S.Socket.receives S.Socket.receives_within) (started C.reads clock) ⟦<FileFrom<F> as Disk>⟧
-        (image_at F.Start) asked.now sockets.old sockets.new files.new) status) }
+        (image_at F.Start)
+        (BarsPart ⟦<FileFrom<G> as Disk>⟧ (image_at G.Start) place.before parts.new) asked.now
+        (string_bytes place.path) (are_any asked.now.groups || is_some place.before)
+        sockets.old sockets.new files.new) status) }
+    ensures stays { IsUnused files.old → IfSome files.new.closed
+        (IsDoneTo ⟦<FileFrom<F> as Disk>⟧ (image_at F.Start) LosesNothing) }
+    ensures ends { IfErr result (λ why. EndsKeep (socket_rules S.opens S.closes S.Socket.sends
+        S.Socket.receives S.Socket.receives_within) (started C.reads clock) ⟦<FileFrom<F> as Disk>⟧
+        (image_at F.Start) asked.now sockets.old sockets.new files.new
+        (NotDone.Asking why)) }
+{
+    let mut place = place;
+    let done = keep(
+        sockets, files, parts, &mut place, alloc, clock, asked, counts, output, errors,
+    );
+    tell_done(alloc, place.blamed(), done, errors)
+}
+
+/// Does what the words of `bac keep` ask for, and answers the exit status. What was kept of each
+/// log, or with `--stop` which logs were stopped, goes to the output. The errors have a second line
+/// for a log whose walk failed (what came in place of the answer, or what a refusal means), for one
+/// that began anew, and for a device that has moved; and why a file is no use. A folder is an
+/// archive in parts: the newest one is kept, or, where that is full, the next one, which follows on
+/// it. Devices are called at once before the first log, by the clock. Any other fault is
+/// the caller's to tell. `counts` is for a terminal: the errors have a count of records while a log
+/// is fetched.
+pub fn run_keep<S: Heeds, C: Clock, F: Start, G: Start, O: Write, E: Write>(
+    sockets: &mut S,
+    files: &mut DiskFiles<'_, F>,
+    parts: &mut DiskFiles<'_, G>,
+    alloc: Global,
+    clock: C,
+    asked: &Keep,
+    counts: bool,
+    output: &mut O,
+    errors: &mut E,
+) -> Result<u8, Fault>
+where
+    C: Drop,
+    // The logs that the words choose were kept, in the archive that the files held, of a folder
+    // those of a part; their lines were printed, and the status is the greatest of theirs. Or the
+    // file is no use.
+    ensures kept { asked.now.stop ≡ false
+        → IfOk result (λ status. KeepsAt (socket_rules S.opens S.closes S.Socket.sends
+        S.Socket.receives S.Socket.receives_within) (started C.reads clock)
+        ⟦<FileFrom<F> as Disk>⟧ ⟦<FileFrom<G> as Disk>⟧ (image_at F.Start) (image_at G.Start)
+        asked.now sockets.old sockets.new (O.contents output.old) (O.contents output.new)
+        files.new parts.new status
+        ⊎ IsOfFile (FailsAt (socket_rules S.opens S.closes S.Socket.sends S.Socket.receives
+        S.Socket.receives_within) (started C.reads clock) ⟦<FileFrom<F> as Disk>⟧
+        ⟦<FileFrom<G> as Disk>⟧ (image_at F.Start) (image_at G.Start) asked.now sockets.old
+        sockets.new files.new parts.new) status) }
     // With `--stop` they were stopped, and nothing else of the archive changed; no socket is
     // opened, and only that the file is no use is told on the errors.
     ensures stopped { asked.now.stop ≡ true
@@ -128,8 +196,13 @@ where
         let done = stop(files, alloc, asked, output);
         return tell_done(alloc, asked.file.as_str(), done, errors);
     }
-    let done = keep(sockets, files, alloc, clock, asked, counts, output, errors);
-    tell_done(alloc, asked.file.as_str(), done, errors)
+    let place = match place_of(files, asked) {
+        Ok(place) => place,
+        Err(fault) => return tell_done(alloc, asked.file.as_str(), Err(fault), errors),
+    };
+    keep_at(
+        sockets, files, parts, place, alloc, clock, asked, counts, output, errors,
+    )
 }
 
 /// Does what the words of `bac kept` ask for, and answers the exit status. What the file keeps goes

@@ -17,11 +17,11 @@ ghost use Rattle.bac_asked.specs.Faults.{IsOfDatabase, RefusesLine, WantsMemory,
 ghost use Rattle.bac_questions.specs.Silent.{is_same_device, is_same_log};
 ghost use Rattle.bac_files.specs.Files.{IsDoneTo, IsNamed, IsUnused};
 ghost use Rattle.bac_keeper.specs.Archives.{HasSameItems, IsHeld, KeepsItems, LosesNothing};
-ghost use Rattle.bac_keeper.specs.Done.{given_of};
+ghost use Rattle.bac_keeper.specs.Done.{SeeksNone, given_of};
 ghost use Rattle.bac_keeper.specs.Ends.{MayAsk, MayFail};
-ghost use Rattle.bac_keeper.specs.Stops.{EndsStop, FailsToStop, Means, MeansNone, RefusesStop};
-ghost use Rattle.bac_keeper.specs.Stops.{StopsArchive, StopsIn, are_there, is_meant, stopped_lines};
-ghost use Rattle.bac_keeper.specs.Stops.{stopped_logs};
+ghost use Rattle.bac_keeper.specs.Stops.{EndsStop, FailsToStop, Means, MeansNone, MeansOf};
+ghost use Rattle.bac_keeper.specs.Stops.{RefusesStop, StopsArchive, StopsIn, are_there, is_meant};
+ghost use Rattle.bac_keeper.specs.Stops.{stopped_lines, stopped_logs};
 
 use crate::archives::{close_file, open_archive, open_file};
 use crate::keeping::options_of;
@@ -29,10 +29,11 @@ use bac_archive::{Log, Source, change_logs, logs};
 use bac_asked::{
     Fault, FileFault, NotDone, Options, Wanted, named, named_all, of_error, push_stopped,
 };
+use bac_fetch::{is_same_log, is_wanted};
 use bac_files::DiskFiles;
 use bac_print::write_text;
 use bac_questions::is_same_device;
-use bac_words::{Keep, Word};
+use bac_words::{Group, Keep, Word};
 use sqlite::{Alter, Connection, Error, FileFrom, Start};
 use sqlite_disk::Disk;
 use std::alloc::{AllocError, Global};
@@ -54,7 +55,7 @@ impl Meant {
     {
         match self {
             Meant::Device(source) => is_same_device(source, &log.source),
-            Meant::Logs(all) => has_wanted(all.as_slice(), &log.source),
+            Meant::Logs(all) => is_wanted(all.as_slice(), &log.source),
         }
     }
 
@@ -67,23 +68,6 @@ impl Meant {
             Meant::Logs(all) => have_each(known, all.as_slice()),
         }
     }
-}
-
-/// Whether two sources are of one log.
-fn is_same_log(one: &Source, other: &Source) -> bool
-    ensures { result ≡ is_same_log one.now other.now }
-{
-    one.address == other.address
-        && one.dnet == other.dnet
-        && one.dadr == other.dadr
-        && one.instance == other.instance
-}
-
-/// Whether a log is one of these.
-fn has_wanted(all: &[Wanted], source: &Source) -> bool
-    ensures { result ≡ list_any (λ (w : WantedOf). is_same_log w.source source.now) all.now }
-{
-    all.iter().any(|wanted| is_same_log(&wanted.source, source))
 }
 
 /// Whether one of these logs is of the device.
@@ -108,21 +92,29 @@ fn have_each(known: &[Log], all: &[Wanted]) -> bool
     all.iter().all(|wanted| has_log(known, &wanted.source))
 }
 
+/// The logs of one device that the words mean.
+fn meant_of(alloc: Global, group: &Group, options: &Options<'_>) -> Result<Meant, NotDone>
+    ensures means { IfOk result (MeansOf (given_in options.now) group.now) }
+    ensures none { IfErr result (SeeksNone (given_in options.now) group.now) }
+{
+    let address = group.address.as_str();
+    let instances = group.instances.as_slice();
+    if instances.is_empty() {
+        return Ok(Meant::Device(named(alloc, address, "0", options)?.source));
+    }
+    Ok(Meant::Logs(named_all(alloc, address, instances, options)?))
+}
+
 /// The logs that the words mean.
 fn choose(alloc: Global, asked: &Keep, options: &Options<'_>) -> Result<Meant, NotDone>
     requires { given_in options.now ≡ given_of asked.now.options }
     ensures means { IfOk result (Means asked.now) }
     ensures none { IfErr result (MeansNone asked.now) }
 {
-    let Some(address) = &asked.address else {
-        return Err(NotDone::Asking(Fault::BadValue(Word::Stop)));
-    };
-    let address = address.as_str();
-    let instances = asked.instances.as_slice();
-    if instances.is_empty() {
-        return Ok(Meant::Device(named(alloc, address, "0", options)?.source));
+    match asked.groups.as_slice() {
+        [group] => meant_of(alloc, group, options),
+        _ => Err(NotDone::Asking(Fault::BadValue(Word::Stop))),
     }
-    Ok(Meant::Logs(named_all(alloc, address, instances, options)?))
 }
 
 /// Puts a log behind others, stopped, if it is meant.

@@ -1,5 +1,5 @@
 -- What the program does, by what its tools did.
-use Rattle.std.proofs.Common.{◌≡◌, ℕ, Bool, true, false, List, inl, inr, Option, None, is_some, refl, Result, Ok, Err, IfErr, IfOk, OnErr, subst, sym, ◌⊎◌}
+use Rattle.std.proofs.Common.{◌≡◌, ℕ, Bool, true, false, List, inl, inr, Option, None, refl, Result, Ok, Err, IfErr, IfOk, OnErr, subst, sym, ◌⊎◌}
 use Rattle.clap.specs.Words.{Text, IsAmong, kind_of}
 use Rattle.sqlite_disk.specs.declared.Disk as disk
 use Rattle.sqlite_disk.specs.declared.start.Start as start
@@ -13,8 +13,9 @@ use Rattle.bac_files.specs.declared.disk_files.DiskFiles.{DiskFiles}
 use Rattle.bac_hearing.specs.Hearing.{StartedClock}
 use Rattle.bac_heeding.specs.Notes.{nothing}
 use Rattle.bac_heeding.specs.declared.notes.Passed.{Passed}
-use Rattle.bac_keeper.specs.Done.{EndsKeep, FailsToKeep, KeepsIn}
+use Rattle.bac_keeper.specs.Done.{EndsKeep}
 use Rattle.bac_keeper.specs.Ends.{IsOfFile}
+use Rattle.bac_keeper.specs.Places.{FailsAt, KeepsAt}
 use Rattle.bac_keeper.specs.Shown.{EndsPrint, FailsToPrint, PrintsIn}
 use Rattle.bac_keeper.specs.Stops.{EndsStop, FailsToStop, StopsIn}
 use Rattle.bac_ports.specs.Sockets.{SocketRules}
@@ -67,10 +68,10 @@ told_alone Done fails ends passed before said errors (Err why) status ok quiet s
     inr (inr (why, so, subst (λ (h : Held). IsToldAfter passed (fault_of why) h errors status) quiet told))
 
 -- `keep`, and its fault is told
-pub keep_ran : {S P F T : Type 0} {s : start.Ghosts F} (g : disk.Ghosts (FileOf s)) (waits : StartedClock T) (rules : SocketRules S P) (passes : S → Passed) (asked : KeepWords) (sockets sockets' : S)
+pub keep_ran : {S P F G T : Type 0} {s : start.Ghosts F} {t : start.Ghosts G} (g : disk.Ghosts (FileOf s)) (h : disk.Ghosts (FileOf t)) (parts : DiskFiles G t) (waits : StartedClock T) (rules : SocketRules S P) (passes : S → Passed) (asked : KeepWords) (sockets sockets' : S)
     (out out' before said errors : Held) (left : DiskFiles F s) (done : Result ℕ KeepFault) (status : ℕ) (stops : Bool)
-    → (stops ≡ false → IfOk done (λ n. (IsNamed asked.file (is_some asked.address) left × KeepsIn rules waits g (image_at s) asked sockets sockets' out out' left.closed n)
-    ⊎ IsOfFile (FailsToKeep rules waits g (image_at s) asked sockets sockets' left) n))
+    → (stops ≡ false → IfOk done (λ n. KeepsAt rules waits g h (image_at s) (image_at t) asked sockets sockets' out out' left parts n
+    ⊎ IsOfFile (FailsAt rules waits g h (image_at s) (image_at t) asked sockets sockets' left parts) n))
     → (stops ≡ true → IfOk done (λ n. ((IsNamed asked.file false left × StopsIn g (image_at s) asked out out' left.closed n) × (said ≡ before))
     ⊎ IsOfFile (FailsToStop g (image_at s) asked left) n))
     → (stops ≡ true → OnErr done (said ≡ before))
@@ -78,11 +79,11 @@ pub keep_ran : {S P F T : Type 0} {s : start.Ghosts F} (g : disk.Ghosts (FileOf 
     → (stops ≡ false → IfErr done (λ why. EndsKeep rules waits g (image_at s) asked sockets sockets' left (Asking why)))
     → (stops ≡ true → IfErr done (λ why. EndsStop asked (Asking why)))
     → Ends (passes sockets') (ending_of done) said errors status
-    → RunsKeepBy g waits rules passes stops asked (streams None out before sockets (tt {0})) status (streams None out' errors sockets' (tt {0})) left
-keep_ran {s = s} g waits rules passes asked sockets sockets' out out' before said errors left done status false kept stopped untold silent so still told =
-    told_so (λ n. IsNamed asked.file (is_some asked.address) left × KeepsIn rules waits g (image_at s) asked sockets sockets' out out' left.closed n)
-    (FailsToKeep rules waits g (image_at s) asked sockets sockets' left) (EndsKeep rules waits g (image_at s) asked sockets sockets' left) (passes sockets') said errors done status (kept refl) (so refl) told
-keep_ran {s = s} g waits rules passes asked sockets sockets' out out' before said errors left done status true kept stopped untold silent so still told = (
+    → RunsKeepBy g h parts waits rules passes stops asked (streams None out before sockets (tt {0})) status (streams None out' errors sockets' (tt {0})) left
+keep_ran {s = s} {t = t} g h parts waits rules passes asked sockets sockets' out out' before said errors left done status false kept stopped untold silent so still told =
+    told_so (λ n. KeepsAt rules waits g h (image_at s) (image_at t) asked sockets sockets' out out' left parts n)
+    (FailsAt rules waits g h (image_at s) (image_at t) asked sockets sockets' left parts) (EndsKeep rules waits g (image_at s) asked sockets sockets' left) (passes sockets') said errors done status (kept refl) (so refl) told
+keep_ran {s = s} {t = t} g h parts waits rules passes asked sockets sockets' out out' before said errors left done status true kept stopped untold silent so still told = (
   told_alone (λ n. IsNamed asked.file false left × StopsIn g (image_at s) asked out out' left.closed n)
       (FailsToStop g (image_at s) asked left) (EndsStop asked) (passes sockets') before said errors done status (stopped refl) (untold refl) (still refl) told,
   silent refl,
@@ -99,12 +100,12 @@ kept_ran {s = s} g asked out out' before said errors left done status ok untold 
     nothing before said errors done status ok untold so told
 
 -- what was done of `keep` is the same beside an input and a clock
-pub keep_over : {S P C F T : Type 0} {s : start.Ghosts F} (g : disk.Ghosts (FileOf s)) (waits : StartedClock T) (rules : SocketRules S P) (passes : S → Passed) (asked : KeepWords) (stops : Bool) (old new : Streams S C)
+pub keep_over : {S P C F G T : Type 0} {s : start.Ghosts F} {t : start.Ghosts G} (g : disk.Ghosts (FileOf s)) (h : disk.Ghosts (FileOf t)) (parts : DiskFiles G t) (waits : StartedClock T) (rules : SocketRules S P) (passes : S → Passed) (asked : KeepWords) (stops : Bool) (old new : Streams S C)
     (status : ℕ) (left : DiskFiles F s)
-    → RunsKeepBy g waits rules passes stops asked (streams None old.output old.errors old.sockets (tt {0})) status (streams None new.output new.errors new.sockets (tt {0})) left
-    → RunsKeepBy g waits rules passes stops asked old status new left
-keep_over g waits rules passes asked false old new status left it = it
-keep_over g waits rules passes asked true old new status left it = it
+    → RunsKeepBy g h parts waits rules passes stops asked (streams None old.output old.errors old.sockets (tt {0})) status (streams None new.output new.errors new.sockets (tt {0})) left
+    → RunsKeepBy g h parts waits rules passes stops asked old status new left
+keep_over g h parts waits rules passes asked false old new status left it = it
+keep_over g h parts waits rules passes asked true old new status left it = it
 
 -- words say one thing
 one_job : (said : Result Job Word) (a b : Job) → said ≡ Ok a → said ≡ Ok b → a ≡ b
@@ -113,26 +114,26 @@ one_job said a b p q = cc
 pub never_both : {A : Type 0} (said : Result Job Word) (a : Job) (w : Word) → said ≡ Ok a → said ≡ Err w → A
 never_both said a w p q = absurd (cc)
 
-module _ {S P C F T : Type 0} {s : start.Ghosts F} (traces : S → Bool → S → Type 0) (rules : SocketRules S P) (passes : S → Passed) (tells : C → Option CivilTime → C → Type 0) (g : disk.Ghosts (FileOf s)) (waits : StartedClock T)
+module _ {S P C F G T : Type 0} {s : start.Ghosts F} {t : start.Ghosts G} (traces : S → Bool → S → Type 0) (rules : SocketRules S P) (passes : S → Passed) (tells : C → Option CivilTime → C → Type 0) (g : disk.Ghosts (FileOf s)) (h : disk.Ghosts (FileOf t)) (parts : DiskFiles G t) (waits : StartedClock T)
     (old new : Streams S C) (files left : DiskFiles F s) (status : ℕ) where
   -- what was done of the job of words
-  pub job_done : (words : List Text) (job asked : Job) → job_in words ≡ Ok job → AskFor words asked → DoesTold g waits traces rules passes tells job old files status new left
-      → RunsAll g waits traces rules passes tells asked old files status new left
-  job_done words job asked is ask does = inr (subst (λ (j : Job). DoesTold g waits traces rules passes tells j old files status new left) (one_job (job_in words) job asked is ask.1) does)
+  pub job_done : (words : List Text) (job asked : Job) → job_in words ≡ Ok job → AskFor words asked → DoesTold g h parts waits traces rules passes tells job old files status new left
+      → RunsAll g h parts waits traces rules passes tells asked old files status new left
+  job_done words job asked is ask does = inr (subst (λ (j : Job). DoesTold g h parts waits traces rules passes tells j old files status new left) (one_job (job_in words) job asked is ask.1) does)
 
   -- words that ask for a job aren't read only without memory
   pub unread : (words : List Text) (why : WordsFault) → IsRefused words why → RunsRead rules passes tells (Err why) old status new → left ≡ files
-      → (asked : Job) → AskFor words asked → RunsAll g waits traces rules passes tells asked old files status new left
+      → (asked : Job) → AskFor words asked → RunsAll g h parts waits traces rules passes tells asked old files status new left
   unread words (Usage e) refused ran same asked ask = absurd (subst (λ kinds. IsAmong (kind_of e) kinds) ask.0 refused)
   unread words (BadValue w) refused ran same asked ask = never_both (job_in words) asked w ask.1 refused.1
   unread words (LongNumber w) refused ran same asked ask = never_both (job_in words) asked w ask.1 refused.1
   unread words Memory refused ran same asked ask = inl (ran, same)
 
-module _ {S P C F T : Type 0} {s : start.Ghosts F} (rules : SocketRules S P) (passes : S → Passed) (tells : C → Option CivilTime → C → Type 0) (g : disk.Ghosts (FileOf s)) (waits : StartedClock T)
+module _ {S P C F G T : Type 0} {s : start.Ghosts F} {t : start.Ghosts G} (rules : SocketRules S P) (passes : S → Passed) (tells : C → Option CivilTime → C → Type 0) (g : disk.Ghosts (FileOf s)) (h : disk.Ghosts (FileOf t)) (parts : DiskFiles G t) (waits : StartedClock T)
     (old new : Streams S C) (files left : DiskFiles F s) (status : ℕ) where
   -- a job of another tool than `keep` and `kept` was done beside the files
   pub other_done : (asked : Job) → ((words : KeepWords) → asked ≡ job.Keep words → ⊥) → ((words : KeptWords) → asked ≡ job.Kept words → ⊥)
-      → RunsRead rules passes tells (Ok asked) old status new → left ≡ files → DoesAll g waits rules passes tells asked old files status new left
+      → RunsRead rules passes tells (Ok asked) old status new → left ≡ files → DoesAll g h parts waits rules passes tells asked old files status new left
   other_done job.Replay none never ran same = (ran, same)
   other_done (job.Wi stations min max dnet local timeout trace) none never ran same = (ran, same)
   other_done (job.Rp asked object_type instance property index numbers trace) none never ran same = (ran, same)

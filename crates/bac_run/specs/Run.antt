@@ -1,6 +1,6 @@
 -- What the program does with its words: its streams, its sockets and its clock, and the files, before and now. Read
 -- from the end.
-use Rattle.std.specs.Prelude.{◌≡◌, ◌⊎◌, ℕ, Bool, true, false, List, Option, is_some}
+use Rattle.std.specs.Prelude.{◌≡◌, ◌⊎◌, ℕ, Bool, true, false, List, Option}
 use Rattle.clap.specs.Words.{Text}
 use Rattle.sqlite_disk.specs.declared.Disk as disk
 use Rattle.sqlite_disk.specs.declared.start.Start as start
@@ -13,8 +13,9 @@ use Rattle.bac_files.specs.declared.disk_files.DiskFiles.{DiskFiles}
 use Rattle.bac_hearing.specs.Hearing.{StartedClock}
 use Rattle.bac_heeding.specs.Notes.{nothing}
 use Rattle.bac_heeding.specs.declared.notes.Passed.{Passed}
-use Rattle.bac_keeper.specs.Done.{EndsKeep, FailsToKeep, KeepsIn}
+use Rattle.bac_keeper.specs.Done.{EndsKeep}
 use Rattle.bac_keeper.specs.Ends.{IsOfFile}
+use Rattle.bac_keeper.specs.Places.{FailsAt, KeepsAt}
 use Rattle.bac_keeper.specs.Shown.{EndsPrint, FailsToPrint, PrintsIn}
 use Rattle.bac_keeper.specs.Stops.{EndsStop, FailsToStop, StopsIn}
 use Rattle.bac_ports.specs.Sockets.{SocketRules}
@@ -65,16 +66,18 @@ module _ {S C F : Type 0} {s : start.Ghosts F} (g : disk.Ghosts (FileOf s)) wher
       ⊎ (IsOfFile (FailsToPrint g (image_at s) asked left) status
       ⊎ TellsFault (EndsPrint asked) nothing old.errors new.errors status)
 
-module _ {S C F T : Type 0} {s : start.Ghosts F} (g : disk.Ghosts (FileOf s)) (waits : StartedClock T) where
-  -- `keep`: the logs that the words choose were kept in the archive that the files held; or the file is no use; or the
+module _ {S C F G T : Type 0} {s : start.Ghosts F} {t : start.Ghosts G} (g : disk.Ghosts (FileOf s))
+    (h : disk.Ghosts (FileOf t)) (parts : DiskFiles G t) (waits : StartedClock T) where
+  -- `keep`: the logs that the words choose were kept in the archive that the files held, of a folder in a part, which
+  -- follows on the one before it where it was begun; these are the files of that. Or the file is no use; or the
   -- status is a fault's. With `--stop` those that the words mean were stopped, or the file is no use, or a fault is
   -- told; and no socket is opened.
   abbrev pub RunsKeepBy : {P : Type 0} → SocketRules S P → (S → Passed) → Bool → Keep → Streams S C → ℕ → Streams S C
       → DiskFiles F s → Type 0
   RunsKeepBy rules passes false asked old status new left =
-      (IsNamed asked.file (is_some asked.address) left
-      × KeepsIn rules waits g (image_at s) asked old.sockets new.sockets old.output new.output left.closed status)
-      ⊎ (IsOfFile (FailsToKeep rules waits g (image_at s) asked old.sockets new.sockets left) status
+      KeepsAt rules waits g h (image_at s) (image_at t) asked old.sockets new.sockets old.output new.output left parts
+      status
+      ⊎ (IsOfFile (FailsAt rules waits g h (image_at s) (image_at t) asked old.sockets new.sockets left parts) status
       ⊎ HasFaultStatus (EndsKeep rules waits g (image_at s) asked old.sockets new.sockets left) status)
   RunsKeepBy rules passes true asked old status new left =
       (((IsNamed asked.file false left × StopsIn g (image_at s) asked old.output new.output left.closed status)

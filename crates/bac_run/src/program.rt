@@ -52,9 +52,10 @@ fn ended<E: Write>(alloc: Global, passed: Passed, done: Result<u8, KeepFault>, e
 }
 
 /// `keep`, and its fault is told.
-fn keep_and_tell<S: Heeds, F: Start, O: Write, E: Write, W: WaitClock>(
+fn keep_and_tell<S: Heeds, F: Start, G: Start, O: Write, E: Write, W: WaitClock>(
     sockets: &mut S,
     files: &mut DiskFiles<'_, F>,
+    parts: &mut DiskFiles<'_, G>,
     alloc: Global,
     waits: W,
     asked: &Keep,
@@ -64,7 +65,8 @@ fn keep_and_tell<S: Heeds, F: Start, O: Write, E: Write, W: WaitClock>(
 ) -> u8
 where
     W: Drop,
-    ensures ran { RunsKeep ⟦<FileFrom<F> as Disk>⟧ (started W.reads waits)
+    ensures ran { RunsKeep ⟦<FileFrom<F> as Disk>⟧ ⟦<FileFrom<G> as Disk>⟧ parts.new
+        (started W.reads waits)
         (socket_rules S.opens S.closes S.Socket.sends S.Socket.receives S.Socket.receives_within)
         S.passes asked.now
         (streams None (O.contents output.old) (E.contents errors.old) sockets.old (tt {0})) result
@@ -73,7 +75,9 @@ where
     ensures stays { IsUnused files.old → IfSome files.new.closed
         (IsDoneTo ⟦<FileFrom<F> as Disk>⟧ (image_at F.Start) LosesNothing) }
 {
-    let done = run_keep(sockets, files, alloc, waits, asked, counts, output, errors);
+    let done = run_keep(
+        sockets, files, parts, alloc, waits, asked, counts, output, errors,
+    );
     ended(alloc, sockets.passed(), done, errors)
 }
 
@@ -94,9 +98,10 @@ fn print_and_tell<F: Start, O: Write, E: Write>(
 }
 
 /// Does what a job asks for, and answers the exit status.
-fn run_job<S: Heeds, F: Start, I: Read, O: Write, E: Write, C: Clock, W: WaitClock>(
+fn run_job<S: Heeds, F: Start, G: Start, I: Read, O: Write, E: Write, C: Clock, W: WaitClock>(
     sockets: &mut S,
     files: &mut DiskFiles<'_, F>,
+    parts: &mut DiskFiles<'_, G>,
     alloc: Global,
     waits: W,
     job: Job,
@@ -108,7 +113,8 @@ fn run_job<S: Heeds, F: Start, I: Read, O: Write, E: Write, C: Clock, W: WaitClo
 ) -> u8
 where
     W: Drop,
-    ensures ran { DoesAll ⟦<FileFrom<F> as Disk>⟧ (started W.reads waits)
+    ensures ran { DoesAll ⟦<FileFrom<F> as Disk>⟧ ⟦<FileFrom<G> as Disk>⟧ parts.new
+        (started W.reads waits)
         (socket_rules S.opens S.closes S.Socket.sends S.Socket.receives S.Socket.receives_within)
         S.passes C.tells job (streams (I.remaining input.old) (O.contents output.old)
         (E.contents errors.old) sockets.old clock.old) files.old result
@@ -120,7 +126,7 @@ where
 {
     match job {
         Job::Keep(asked) => keep_and_tell(
-            sockets, files, alloc, waits, &asked, counts, output, errors,
+            sockets, files, parts, alloc, waits, &asked, counts, output, errors,
         ),
         Job::Kept(asked) => print_and_tell(files, alloc, &asked, output, errors),
         other => run_read(sockets, alloc, Ok(other), input, output, errors, clock),
@@ -128,9 +134,10 @@ where
 }
 
 /// The same over sockets that tell each datagram, if the words ask for it.
-fn run_told<S: Tracing, F: Start, I: Read, O: Write, E: Write, C: Clock, W: WaitClock>(
+fn run_told<S: Tracing, F: Start, G: Start, I: Read, O: Write, E: Write, C: Clock, W: WaitClock>(
     sockets: &mut S,
     files: &mut DiskFiles<'_, F>,
+    parts: &mut DiskFiles<'_, G>,
     alloc: Global,
     waits: W,
     job: Job,
@@ -142,7 +149,8 @@ fn run_told<S: Tracing, F: Start, I: Read, O: Write, E: Write, C: Clock, W: Wait
 ) -> u8
 where
     W: Drop,
-    ensures ran { DoesTold ⟦<FileFrom<F> as Disk>⟧ (started W.reads waits) S.traces
+    ensures ran { DoesTold ⟦<FileFrom<F> as Disk>⟧ ⟦<FileFrom<G> as Disk>⟧ parts.new
+        (started W.reads waits) S.traces
         (socket_rules S.opens S.closes S.Socket.sends S.Socket.receives S.Socket.receives_within)
         S.passes C.tells job (streams (I.remaining input.old) (O.contents output.old)
         (E.contents errors.old) sockets.old clock.old) files.old result
@@ -154,7 +162,7 @@ where
 {
     sockets.trace(job.is_traced());
     run_job(
-        sockets, files, alloc, waits, job, counts, input, output, errors, clock,
+        sockets, files, parts, alloc, waits, job, counts, input, output, errors, clock,
     )
 }
 
@@ -162,9 +170,11 @@ where
 /// exit status. Results and help go to the output; faults, and the line of a server that is up, go
 /// to the errors. `counts` is for a terminal: of `keep` the errors have a count of records while a
 /// log is fetched. `waits` is the clock by which `keep` waits for devices that it calls at once.
-pub fn run<S: Tracing, F: Start, I: Read, O: Write, E: Write, C: Clock, W: WaitClock>(
+/// `parts` are the files of the part of an archive on which another one follows.
+pub fn run<S: Tracing, F: Start, G: Start, I: Read, O: Write, E: Write, C: Clock, W: WaitClock>(
     sockets: &mut S,
     files: &mut DiskFiles<'_, F>,
+    parts: &mut DiskFiles<'_, G>,
     alloc: Global,
     waits: W,
     words: &[String],
@@ -178,7 +188,8 @@ where
     W: Drop,
     // The tool that the words name does what they say.
     ensures done { (job : AnyJob) → AskFor (map string_bytes words.now) job
-        → RunsAll ⟦<FileFrom<F> as Disk>⟧ (started W.reads waits) S.traces
+        → RunsAll ⟦<FileFrom<F> as Disk>⟧ ⟦<FileFrom<G> as Disk>⟧ parts.new
+        (started W.reads waits) S.traces
         (socket_rules S.opens S.closes S.Socket.sends S.Socket.receives
         S.Socket.receives_within) S.passes C.tells job
         (streams (I.remaining input.old) (O.contents output.old) (E.contents errors.old)
@@ -207,7 +218,7 @@ where
 {
     match read_words(alloc, words) {
         Ok(job) => run_told(
-            sockets, files, alloc, waits, job, counts, input, output, errors, clock,
+            sockets, files, parts, alloc, waits, job, counts, input, output, errors, clock,
         ),
         Err(fault) => run_read(sockets, alloc, Err(fault), input, output, errors, clock),
     }

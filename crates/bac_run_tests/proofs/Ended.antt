@@ -86,19 +86,18 @@ all_caught_up (end ∷ ends) none =
     let both = both_none (end_status end.why) (greatest_status ends) none in
     (ends_caught_up end.why both.0, all_caught_up ends both.1)
 
-module _ {S P C F T : Type 0} {s : start.Ghosts F} (traces : S → Bool → S → Type 0) (rules : SocketRules S P)
-    (passes : S → Passed) (tells : C → Option CivilTime → C → Type 0) (g : disk.Ghosts (FileOf s)) (waits : StartedClock T)
+module _ {S P C F G T : Type 0} {s : start.Ghosts F} {t : start.Ghosts G} (traces : S → Bool → S → Type 0) (rules : SocketRules S P)
+    (passes : S → Passed) (tells : C → Option CivilTime → C → Type 0) (g : disk.Ghosts (FileOf s)) (h : disk.Ghosts (FileOf t)) (parts : DiskFiles G t) (waits : StartedClock T)
     (old new : Streams S C)
     (files left : DiskFiles F s) (status : ℕ) where
   -- `keep` over these sockets
-  kept_at : (asked : KeepWords) (told : S) → RunsKeepBy g waits rules passes false asked
+  kept_at : (asked : KeepWords) (told : S) → RunsKeepBy g h parts waits rules passes false asked
       (streams old.input old.output old.errors told old.clock) status new left → status ≡ 0
-      → IsAllKept rules waits g (image_at s) asked told new.sockets old.output new.output left.closed
-  kept_at asked told (inl (named, (is, chosen, words, (all, between, these, ask, found, (ends, many, its, lines, kept))))) none = record {
+      → IsAllKept rules waits g h (image_at s) (image_at t) asked told new.sockets old.output new.output left.closed parts
+  kept_at asked told (inl (place, placed, named, (is, chosen, words, (all, between, ask, found, (ends, many, its, lines, kept))))) none = record {
     chosen = chosen;
     by_words = words;
     all = all;
-    are_these = these;
     ask_their_source = ask;
     between = between;
     found = found;
@@ -106,6 +105,8 @@ module _ {S P C F T : Type 0} {s : start.Ghosts F} (traces : S → Bool → S �
     caught_up = all_caught_up ends (sym its ∙ none);
     lines = lines;
     is_closed = is;
+    place = place;
+    placed = placed;
     kept = kept;
   }
   kept_at asked told (inr (inl (why, is, named))) none = absurd (file_is_told why (sym is ∙ none))
@@ -113,22 +114,22 @@ module _ {S P C F T : Type 0} {s : start.Ghosts F} (traces : S → Bool → S �
   kept_at asked told (inr (inr (why, so, inr is))) none = absurd (cc)
 
   -- `keep` that ended with 0
-  pub all_kept : (asked : KeepWords) → RunsAll g waits traces rules passes tells (job.Keep asked) old files status new left
+  pub all_kept : (asked : KeepWords) → RunsAll g h parts waits traces rules passes tells (job.Keep asked) old files status new left
       → asked.stop ≡ false → status ≡ 0
       → (told : S) × traces old.sockets asked.trace told
-      × IsAllKept rules waits g (image_at s) asked told new.sockets old.output new.output left.closed
+      × IsAllKept rules waits g h (image_at s) (image_at t) asked told new.sockets old.output new.output left.closed parts
   all_kept asked (inl ((inl its, keeps, untouched), same)) still none = absurd (let e = its.0 in cc)
   all_kept asked (inl ((inr its, keeps, untouched), same)) still none = absurd (let e = its.0 in cc)
   all_kept asked (inr (told, on, (ran, quiet))) still none = (
     told,
     on,
     kept_at asked told
-        (subst (λ stops. RunsKeepBy g waits rules passes stops asked (streams old.input old.output old.errors told old.clock) status new left)
+        (subst (λ stops. RunsKeepBy g h parts waits rules passes stops asked (streams old.input old.output old.errors told old.clock) status new left)
         still ran) none,
   )
 
   -- `kept` opens no socket
-  pub none_asked : (asked : KeptWords) → RunsAll g waits traces rules passes tells (job.Kept asked) old files status new left
+  pub none_asked : (asked : KeptWords) → RunsAll g h parts waits traces rules passes tells (job.Kept asked) old files status new left
       → (new.sockets ≡ old.sockets) ⊎ traces old.sockets false new.sockets
   none_asked asked (inl ((told, keeps, (input, sockets, clock)), same)) = inl sockets
   none_asked asked (inr (told, off, (ran, still, same))) = inr (subst (λ t. traces old.sockets false t) (sym same) off)

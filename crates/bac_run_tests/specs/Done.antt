@@ -4,6 +4,7 @@ use Rattle.std.specs.List.{All}
 use Rattle.std.specs.Io.KnownBytes.{Appends}
 use Rattle.sqlite_disk.specs.declared.Disk as disk
 use Rattle.sqlite_disk.specs.declared.Files.{Files}
+use Rattle.sqlite_disk.specs.declared.start.Start as start
 use Rattle.sqlite_wal.specs.Recovery.{Image}
 use Rattle.bac_asked.specs.Wanted.{AsksItsSource}
 use Rattle.bac_asked.specs.declared.end.End.{End}
@@ -12,10 +13,14 @@ use Rattle.bac_asked.specs.declared.wanted.Wanted.{Wanted}
 use Rattle.bac_fetch.specs.Chosen.{AreFound}
 use Rattle.bac_fetch.specs.Keeps.{lines_of}
 use Rattle.bac_fetch.specs.declared.keeping.Chosen.{Chosen}
-use Rattle.bac_files.specs.Files.{IsDoneTo}
+use Rattle.bac_files.specs.Files.{FileOf, IsDoneTo}
+use Rattle.bac_files.specs.Parts.{IsPlaced}
+use Rattle.bac_files.specs.declared.disk_files.DiskFiles.{DiskFiles}
+use Rattle.bac_files.specs.declared.folder.Place.{Place}
 use Rattle.bac_hearing.specs.Hearing.{StartedClock}
 use Rattle.bac_keeper.specs.Archives.{KeepsArchive}
-use Rattle.bac_keeper.specs.Done.{AreThese, Chooses}
+use Rattle.bac_keeper.specs.Begun.{BeginsOn}
+use Rattle.bac_keeper.specs.Done.{Chooses}
 use Rattle.bac_ports.specs.Sockets.{SocketRules}
 use Rattle.bac_print.specs.Output.{Held}
 use Rattle.bac_walk.specs.declared.outcome.Why.TheVariants.{CaughtUp}
@@ -28,13 +33,12 @@ AreCaughtUp (end ∷ ends) = (end.why ≡ Walk CaughtUp) × AreCaughtUp ends
 
 -- Each log that the words of `keep` choose is caught up and has its line, and two closed files hold the archive in
 -- which these runs kept them.
-pub record IsAllKept {S P C D : Type 0} (rules : SocketRules S P) (clock : StartedClock C) (g : disk.Ghosts D)
-    (image : Image) (asked : Keep)
-    (sockets sockets_after : S) (before after : Held) (closed : Option (Files D)) : Type 0 where
+pub record IsAllKept {S P C D G : Type 0} {t : start.Ghosts G} (rules : SocketRules S P) (clock : StartedClock C)
+    (g : disk.Ghosts D) (h : disk.Ghosts (FileOf t)) (image before_image : Image) (asked : Keep)
+    (sockets sockets_after : S) (before after : Held) (closed : Option (Files D)) (parts : DiskFiles G t) : Type 0 where
   pub chosen : Chosen
   pub by_words : Chooses asked chosen
   pub all : List Wanted
-  pub are_these : AreThese chosen all
   pub ask_their_source : All AsksItsSource all
   pub between : S
   pub found : AreFound rules chosen sockets all between
@@ -42,4 +46,7 @@ pub record IsAllKept {S P C D : Type 0} (rules : SocketRules S P) (clock : Start
   pub caught_up : AreCaughtUp ends
   pub lines : Appends before after (lines_of all ends)
   pub is_closed : IsSome closed
-  pub kept : IfSome closed (IsDoneTo g image (KeepsArchive rules clock chosen all between sockets_after ends))
+  pub place : Place
+  pub placed : IsPlaced asked.file place
+  pub kept : IfSome closed (IsDoneTo g image (KeepsArchive rules clock chosen all between sockets_after
+      (BeginsOn h before_image place.before parts) ends))

@@ -22,9 +22,19 @@ use std::io::{Read, Write};
 
 /// The program with the words of `keep`. Where it ends with 0, each log that the words choose is
 /// caught up and has its line, and the file holds the archive in which it is kept.
-pub fn keep_until_done<S: Tracing, F: Start, I: Read, O: Write, E: Write, C: Clock, W: WaitClock>(
+pub fn keep_until_done<
+    S: Tracing,
+    F: Start,
+    G: Start,
+    I: Read,
+    O: Write,
+    E: Write,
+    C: Clock,
+    W: WaitClock,
+>(
     sockets: &mut S,
     files: &mut DiskFiles<'_, F>,
+    parts: &mut DiskFiles<'_, G>,
     alloc: Global,
     waits: W,
     words: &[String],
@@ -39,20 +49,30 @@ where
         → asked.stop ≡ false → result ≡ 0
         → (told : S) × S.traces sockets.old asked.trace told
         × IsAllKept (socket_rules S.opens S.closes S.Socket.sends S.Socket.receives
-        S.Socket.receives_within) (started W.reads waits) ⟦<FileFrom<F> as Disk>⟧ (image_at F.Start)
-        asked told
-        sockets.new (O.contents output.old) (O.contents output.new) files.new.closed }
+        S.Socket.receives_within) (started W.reads waits) ⟦<FileFrom<F> as Disk>⟧
+        ⟦<FileFrom<G> as Disk>⟧ (image_at F.Start) (image_at G.Start) asked told
+        sockets.new (O.contents output.old) (O.contents output.new) files.new.closed parts.new }
 {
     run(
-        sockets, files, alloc, waits, words, false, input, output, errors, clock,
+        sockets, files, parts, alloc, waits, words, false, input, output, errors, clock,
     )
 }
 
 /// The program with the words of `kept`. It opens no socket: they are as they were, or as they are
 /// once they are switched not to tell datagrams.
-pub fn print_kept<S: Tracing, F: Start, I: Read, O: Write, E: Write, C: Clock, W: WaitClock>(
+pub fn print_kept<
+    S: Tracing,
+    F: Start,
+    G: Start,
+    I: Read,
+    O: Write,
+    E: Write,
+    C: Clock,
+    W: WaitClock,
+>(
     sockets: &mut S,
     files: &mut DiskFiles<'_, F>,
+    parts: &mut DiskFiles<'_, G>,
     alloc: Global,
     waits: W,
     words: &[String],
@@ -67,6 +87,6 @@ where
         → (sockets.new ≡ sockets.old) ⊎ S.traces sockets.old false sockets.new }
 {
     run(
-        sockets, files, alloc, waits, words, false, input, output, errors, clock,
+        sockets, files, parts, alloc, waits, words, false, input, output, errors, clock,
     )
 }

@@ -32,8 +32,8 @@ pub use bac_script::{
 pub use bac_serve::{Clock, SystemClock, serve, serve_one};
 pub use bac_walk::ReplyFlaw;
 pub use bac_words::{
-    Addresses, Asked, Given, Job, Keep, KeepOptions, Kept, ListFault, Name, Names, Stations, Word,
-    WordsFault, read_words,
+    Addresses, Asked, Given, Group, Groups, Job, Keep, KeepOptions, Kept, ListFault, Name, Names,
+    Stations, Word, WordsFault, read_words,
 };
 pub use fault::Fault;
 pub use program::{run, run_read};

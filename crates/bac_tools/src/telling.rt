@@ -32,7 +32,7 @@ fn range_of<'a>(word: Word) -> &'a str
         Word::Tool => "replay, wi, rp, wp, log, logs, keep, kept or serve",
         Word::File => "the name of a file",
         Word::Csv | Word::Numbers | Word::Trace => "an option without a value",
-        Word::Stop => "an option without a value, beside ADDRESS",
+        Word::Stop => "an option without a value, beside one ADDRESS",
         Word::Address =>
             "A.B.C.D or A.B.C.D:PORT, each of A to D from 0 to 255, PORT from 1 to 65535; for bac wi \
              also with /20 to /32 behind it",
@@ -48,6 +48,7 @@ fn range_of<'a>(word: Word) -> &'a str
         Word::Value => "a value of the tag: none for 0, else one; bac wp --help has the tags",
         Word::Timeout => "a number from 1 to 60000",
         Word::Records => "a number from 1 to 100",
+        Word::Part => "a number from 1 to 4096",
         Word::Retries => "a number from 0 to 10",
         Word::Dnet => "a number from 1 to 65534, beside --dadr; for bac wi from 1 to 65535",
         Word::Dadr => "2 to 30 hexadecimal digits, an even number, beside --dnet",

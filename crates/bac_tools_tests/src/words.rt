@@ -65,8 +65,8 @@ fn each_tool_with_its_defaults(rt: HostRuntime) -> Result<(), Fail> {
             ),
             (
                 "keep a.db",
-                "Keep(Keep { file: Name { text: \"a.db\" }, address: None, \
-                 instances: Names { list: [] }, stop: false, trace: false, \
+                "Keep(Keep { file: Name { text: \"a.db\" }, groups: Groups { list: [] }, \
+                 stop: false, part: 32, trace: false, \
                  options: KeepOptions { steps: None, count: None, timeout: None, local: None, \
                  retries: None, dnet: None, dadr: None } })",
             ),
@@ -172,16 +172,27 @@ fn keep_and_kept_have_their_texts(rt: HostRuntime) -> Result<(), Fail> {
         &rt,
         &[
             (
-                "keep a.db --stop --trace 10.0.0.1 1 x --steps=5 --count=20 --timeout=0 --local=b \
+                "keep a.db --stop --trace 10.0.0.1 1 2 --steps=5 --count=20 --timeout=0 --local=b \
                  --retries=c --dnet=d --dadr=e",
                 "Keep(Keep { file: Name { text: \"a.db\" }, \
-                 address: Some(Name { text: \"10.0.0.1\" }), \
-                 instances: Names { list: [Name { text: \"1\" }, Name { text: \"x\" }] }, \
-                 stop: true, trace: true, \
+                 groups: Groups { list: [Group { address: Name { text: \"10.0.0.1\" }, \
+                 instances: Names { list: [Name { text: \"1\" }, Name { text: \"2\" }] } }] }, \
+                 stop: true, part: 32, trace: true, \
                  options: KeepOptions { steps: Some(Name { text: \"5\" }), \
                  count: Some(Name { text: \"20\" }), timeout: Some(Name { text: \"0\" }), \
                  local: Some(Name { text: \"b\" }), retries: Some(Name { text: \"c\" }), \
                  dnet: Some(Name { text: \"d\" }), dadr: Some(Name { text: \"e\" }) } })",
+            ),
+            (
+                "keep a.db 10.0.0.1 1 x 7",
+                "Keep(Keep { file: Name { text: \"a.db\" }, \
+                 groups: Groups { list: [Group { address: Name { text: \"10.0.0.1\" }, \
+                 instances: Names { list: [Name { text: \"1\" }] } }, \
+                 Group { address: Name { text: \"x\" }, \
+                 instances: Names { list: [Name { text: \"7\" }] } }] }, \
+                 stop: false, part: 32, trace: false, \
+                 options: KeepOptions { steps: None, count: None, timeout: None, local: None, \
+                 retries: None, dnet: None, dadr: None } })",
             ),
             (
                 "kept a.db 10.0.0.1 1 --csv",

@@ -1,5 +1,5 @@
 -- The job that a tool's words and options say, or the first of them whose value isn't one that it can have.
-use Rattle.std.specs.Prelude.{ℕ, Bool, true, false, List, if◌then◌else◌, Option, None, Some, Result, Ok, Err, codes}
+use Rattle.std.specs.Prelude.{ℕ, Bool, true, false, List, [], ◌∷◌, if◌then◌else◌, Option, None, Some, Result, Ok, Err, codes}
 use Rattle.std.specs.Prelude.{option_and_then}
 use Rattle.std.specs.Option.{ok_or}
 use Rattle.std.specs.Str.{bytes_eq}
@@ -7,7 +7,7 @@ use Rattle.clap.specs.Words.{Row, Text}
 use Rattle.bac_words.specs.declared.word.Word.{Word}
 use Rattle.bac_words.specs.declared.word.Word.TheVariants.{Tool, Address, ObjectType, Instance, Property, Priority, Tag}
 use Rattle.bac_words.specs.declared.word.Word.TheVariants.{From, File, Index, Value, Min, Max, Steps, Count, Local}
-use Rattle.bac_words.specs.declared.word.Word.TheVariants.{Records}
+use Rattle.bac_words.specs.declared.word.Word.TheVariants.{Records, Part}
 use Rattle.bac_words.specs.declared.word.Word.TheVariants.{Timeout, Retries, Dnet, Dadr, Csv, Stop, Numbers, Trace}
 use Rattle.bac_words.specs.declared.job.Job.{Job}
 use Rattle.bac_words.specs.declared.job.Job.TheVariants.{Replay, Wi, Rp, Wp, Log, Logs, Serve}
@@ -16,7 +16,9 @@ use Rattle.bac_words.specs.declared.job.Asked.{Asked}
 use Rattle.bac_words.specs.declared.job.Given.{Given}
 use Rattle.bac_words.specs.declared.job.KeepOptions.{KeepOptions}
 use Rattle.bac_words.specs.Numbers.{number_in}
-use Rattle.bac_words.specs.Rows.{text_at, texts_at, is_said, number_at, maybe_number_at, address_at, instances_at}
+use Rattle.bac_words.specs.Groups.{groups_at}
+use Rattle.bac_words.specs.declared.group.Group.{Group}
+use Rattle.bac_words.specs.Rows.{text_at, is_said, number_at, maybe_number_at, address_at, instances_at}
 use Rattle.bac_words.specs.Rows.{local_at, stations_at, route_at}
 use Rattle.bac_words.specs.Given.{is_tag, given_in}
 use Rattle.bac_words.specs.Steps.{◌>>=◌}
@@ -125,21 +127,23 @@ keep_options_at rows = record {
   dadr = text_at Dadr rows;
 }
 
--- --stop goes with ADDRESS only
-abbrev pub stop_beside : Option Text → Bool → Result Bool Word
-stop_beside None true = Err Stop
-stop_beside address stop = Ok stop
+-- --stop goes with one ADDRESS only
+abbrev pub stop_beside : List Group → Bool → Result Bool Word
+stop_beside [] true = Err Stop
+stop_beside (group ∷ other ∷ more) true = Err Stop
+stop_beside groups stop = Ok stop
 
 -- bac keep: its texts, which are read by the rules of `log` for each log
 unfoldable pub keep_at : List Row → Result Job Word
 keep_at rows = do
   file ← file_at rows
-  stop ← stop_beside (text_at Address rows) (is_said Stop rows)
+  stop ← stop_beside (groups_at rows) (is_said Stop rows)
+  part ← number_at Part 1 4096 rows
   Ok (job.Keep (record {
     file = file;
-    address = text_at Address rows;
-    instances = texts_at Instance rows;
+    groups = groups_at rows;
     stop = stop;
+    part = part;
     trace = is_said Trace rows;
     options = keep_options_at rows;
   }))

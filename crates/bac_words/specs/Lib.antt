@@ -7,6 +7,7 @@ pub mod Networks
 pub mod Given
 pub mod Steps
 pub mod Rows
+pub mod Groups
 pub mod Jobs
 pub mod Listing
 pub mod Outcome

@@ -4,6 +4,7 @@ use Rattle.clap.specs.Words.{Text, Kinds}
 use Rattle.bac_words.specs.declared.word.Word.{Word}
 use Rattle.bac_words.specs.declared.job.Job.{Job}
 use Rattle.bac_words.specs.declared.job.Asked.{Asked}
+use Rattle.bac_words.specs.declared.group.Group.{Group}
 use Rattle.bac_words.specs.declared.job.KeepOptions.{KeepOptions}
 use Rattle.bac_words.specs.Outcome.{mistakes_of, job_in}
 
@@ -36,6 +37,10 @@ by_default = record { address = station; local = None; timeout = 3000; retries =
 -- the same with a place behind that station
 abbrev pub by_way : ℕ → List ℕ → Asked
 by_way net mac = record by_default { route = Some (record { net = net; address = mac }) }
+
+-- a device and logs of it
+abbrev pub group : Text → List Text → Group
+group address instances = record { address = address; instances = instances }
 
 -- no option of `keep`
 abbrev pub no_options : KeepOptions

@@ -4,7 +4,7 @@ use Rattle.clap.specs.Words.{Text}
 use Rattle.bac_words.specs.declared.word.Word.{Word}
 use Rattle.bac_words.specs.declared.word.Word.TheVariants.{Tool, Address, ObjectType, Instance, Property, Priority, Tag}
 use Rattle.bac_words.specs.declared.word.Word.TheVariants.{From, File, Index, Value, Min, Max, Steps, Count, Local}
-use Rattle.bac_words.specs.declared.word.Word.TheVariants.{Records}
+use Rattle.bac_words.specs.declared.word.Word.TheVariants.{Records, Part}
 use Rattle.bac_words.specs.declared.word.Word.TheVariants.{Timeout, Retries, Dnet, Dadr, Csv, Stop, Numbers, Trace}
 
 -- a word's name in the help; an option's, without its --
@@ -24,6 +24,7 @@ name_of Min = codes "min"
 name_of Max = codes "max"
 name_of Steps = codes "steps"
 name_of Records = codes "count"
+name_of Part = codes "part"
 name_of Count = codes "count"
 name_of Csv = codes "csv"
 name_of Stop = codes "stop"
@@ -43,6 +44,7 @@ is_option Min = true
 is_option Max = true
 is_option Steps = true
 is_option Records = true
+is_option Part = true
 is_option Count = true
 is_option Csv = true
 is_option Stop = true

@@ -377,7 +377,10 @@ adds trend logs 1 and 2 of that device to site.db and fetches their records:
 
 Without INSTANCE it adds each trend log of the device's Object_List, and
 bac keep site.db fetches what is new of each log in the file. sqlite3 reads it.
-With --stop the file keeps what it has of these logs, and they are left out.
+More devices may follow, each with its INSTANCEs, and are fetched in one run:
+bac keep site.db 192.168.1.20 1 2 192.168.1.21 192.168.1.22 7
+With --stop, which goes with one ADDRESS, the file keeps what it has of these
+logs, and they are left out.
 
 Status: the greatest of its logs' as bac log has them, but 8 for a step limit,
 and 4 where a log is caught up, though the last reply said that more is there;
@@ -388,15 +391,20 @@ Standard error tells why a log is lost, refused or has a bad reply. 'error' is
 printed with its class and its code:"
     );
     let command = tool(alloc, "keep", about, example);
-    let command = with(command, needed(alloc, Word::File, "The database file"))?;
+    let command = with(
+        command,
+        needed(alloc, Word::File, "The database file, or a folder of parts"),
+    )?;
     let help = "The device: A.B.C.D or A.B.C.D:PORT (port 47808)";
     let command = with(command, maybe(alloc, Word::Address, help))?;
-    let help = "The trend logs' instances: 0 to 4194303";
+    let help = "Its trend logs' instances: 0 to 4194303; or another ADDRESS";
     let command = with(command, maybe_list(alloc, Word::Instance, help))?;
     let help = "Batches of records of a log; all if left out";
     let command = with(command, option(alloc, Word::Steps, "N", help))?;
     let help = "Records a question asks for: 1 to 100; 100 if left out";
     let command = with(command, option(alloc, Word::Records, "N", help))?;
+    let help = "How large a part is when the next one is begun: 1 to 4096";
+    let command = with(command, option_or(alloc, Word::Part, "MIB", "32", help))?;
     let help = "Ask these logs no more; adding them starts them again";
     let command = with(command, flag(alloc, Word::Stop, help))?;
     with_keeping(alloc, command)

@@ -4,9 +4,9 @@ ghost use Rattle.std.specs.Prelude.{◌≡◌};
 ghost use Rattle.bac_words.specs.Jobs.{is_traced};
 
 use crate::addresses::Addresses;
+use crate::group::Groups;
 use crate::instances::Instances;
 use crate::name::Name;
-use crate::names::Names;
 use bac_apdu::Route;
 
 /// What the tools that ask one device have in common.
@@ -73,12 +73,12 @@ pub struct KeepOptions {
 pub struct Keep {
     /// The database file.
     pub file: Name,
-    /// The device; each log of the file if it is absent.
-    pub address: Option<Name>,
-    /// The logs of the device; each of its Object_List if there are none.
-    pub instances: Names,
+    /// The devices, and which of its logs of each; each log of the file if there are none.
+    pub groups: Groups,
     /// They aren't asked any more.
     pub stop: bool,
+    /// How many MiB a part of an archive has when the next one is begun: 1 to 4,096.
+    pub part: u32,
     /// Each datagram is told.
     pub trace: bool,
     pub options: KeepOptions,

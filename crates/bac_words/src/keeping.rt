@@ -4,31 +4,26 @@ ghost use Rattle.std.specs.Prelude.{◌≡◌, IfOk, map, option_map};
 ghost use Rattle.clap.specs.Words.{rows_of, found_of};
 ghost use Rattle.bac_words.specs.Steps.{Makes};
 ghost use Rattle.bac_words.specs.Rows.{text_at, texts_at};
+ghost use Rattle.bac_words.specs.Groups.{group_at, groups_at, groups_from};
+ghost use Rattle.bac_words.specs.declared.word.Word.TheVariants.{Instance};
 ghost use Rattle.bac_words.specs.Jobs.{file_at, keep_options_at, keep_at, kept_at, stop_beside};
 
 use crate::fault::WordsFault;
+use crate::group::{Group, Groups};
 use crate::job::{Job, Keep, KeepOptions, Kept};
 use crate::name::Name;
 use crate::names::Names;
-use crate::rows::{is_said, text};
+use crate::numbers::are_digits;
+use crate::rows::{is_said, number_at, text};
 use crate::word::Word;
 use clap::ArgMatches;
 use std::alloc::{AllocError, Global};
+use std::mem;
 
 fn name_of(alloc: Global, text: &str) -> Result<Name, AllocError>
     ensures { IfOk result (λ name. name ≡ text.now) }
 {
     Ok(Name::of(String::from_str(alloc, text)?))
-}
-
-fn names_of(alloc: Global, texts: &[&str]) -> Result<Names, AllocError>
-    ensures { IfOk result (λ names. names ≡ map (λ text. text.now) texts.now) }
-{
-    let mut list = Vec::new(alloc);
-    for text in texts {
-        list.push(name_of(alloc, text)?)?;
-    }
-    Ok(Names::of(list))
 }
 
 /// What a word or an option says, if it is there.
@@ -41,13 +36,53 @@ fn name_at(alloc: Global, matches: &ArgMatches, word: Word) -> Result<Option<Nam
     }
 }
 
-/// What each of several words says.
-fn names_at(alloc: Global, matches: &ArgMatches, word: Word) -> Result<Names, AllocError>
-    ensures { IfOk result (λ names. names ≡ texts_at word (rows_of (found_of matches.now))) }
+/// A device, none of whose logs is named.
+fn group_at(alloc: Global, address: &str) -> Result<Group, AllocError>
+    ensures { IfOk result (λ group. group ≡ group_at address.now) }
 {
-    match matches.get_raw(word.name()) {
-        Some(texts) => names_of(alloc, texts),
-        None => names_of(alloc, &[]),
+    Ok(Group {
+        address: name_of(alloc, address)?,
+        instances: Names::of(Vec::new(alloc)),
+    })
+}
+
+/// The groups of a first address and the words behind it.
+fn groups_of(alloc: Global, address: &str, words: &[&str]) -> Result<Groups, AllocError>
+    ensures { IfOk result (λ groups. groups
+        ≡ groups_from (group_at address.now) (map (λ word. word.now) words.now)) }
+{
+    let mut list = Vec::new(alloc);
+    let mut group = group_at(alloc, address)?;
+    for word in words {
+        if are_digits(word.as_bytes()) {
+            group.instances.push(name_of(alloc, word)?)?;
+        } else {
+            let next = group_at(alloc, word)?;
+            list.push(mem::replace(&mut group, next))?;
+        }
+    }
+    list.push(group)?;
+    Ok(Groups::of(list))
+}
+
+/// The groups of the words behind FILE, of which the first is this address.
+fn groups_behind(alloc: Global, address: &str, matches: &ArgMatches) -> Result<Groups, AllocError>
+    ensures { IfOk result (λ groups. groups ≡ groups_from (group_at address.now)
+        (texts_at Instance (rows_of (found_of matches.now)))) }
+{
+    match matches.get_raw(Word::Instance.name()) {
+        Some(words) => groups_of(alloc, address, words),
+        None => groups_of(alloc, address, &[]),
+    }
+}
+
+/// The groups of the words behind FILE.
+fn groups_at(alloc: Global, matches: &ArgMatches) -> Result<Groups, AllocError>
+    ensures { IfOk result (λ groups. groups ≡ groups_at (rows_of (found_of matches.now))) }
+{
+    match text(matches, Word::Address) {
+        Some(address) => groups_behind(alloc, address, matches),
+        None => Ok(Groups::of(Vec::new(alloc))),
     }
 }
 
@@ -74,11 +109,11 @@ fn keep_options_at(alloc: Global, matches: &ArgMatches) -> Result<KeepOptions, A
     })
 }
 
-/// That logs are stopped is said of a device.
-fn stop_beside(address: &Option<Name>, stop: bool) -> Result<bool, Word>
-    ensures { result ≡ stop_beside address.now stop }
+/// That logs are stopped is said of one device.
+fn stop_beside(groups: &[Group], stop: bool) -> Result<bool, Word>
+    ensures { result ≡ stop_beside groups.now stop }
 {
-    if stop && address.is_none() {
+    if stop && groups.len() != 1 {
         return Err(Word::Stop);
     }
     Ok(stop)
@@ -89,16 +124,16 @@ pub(crate) fn keep(alloc: Global, matches: &ArgMatches) -> Result<Job, WordsFaul
     ensures { Makes (keep_at (rows_of (found_of matches.now))) result }
 {
     let file = file_at(alloc, matches)?;
-    let address = name_at(alloc, matches, Word::Address)?;
-    let stop = stop_beside(&address, is_said(matches, Word::Stop))?;
-    let instances = names_at(alloc, matches, Word::Instance)?;
+    let groups = groups_at(alloc, matches)?;
+    let stop = stop_beside(groups.as_slice(), is_said(matches, Word::Stop))?;
+    let part = number_at(matches, Word::Part, 1, 4096)?;
     let trace = is_said(matches, Word::Trace);
     let options = keep_options_at(alloc, matches)?;
     Ok(Job::Keep(Keep {
         file,
-        address,
-        instances,
+        groups,
         stop,
+        part,
         trace,
         options,
     }))

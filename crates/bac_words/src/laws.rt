@@ -14,7 +14,8 @@ ghost use Rattle.bac_words.specs.declared.job.Job.TheVariants.{Replay, Wi, Rp, W
 ghost use Rattle.bac_words.specs.declared.job.Job.TheVariants.{Kept, Serve};
 ghost use Rattle.bac_words.specs.declared.job.Given.TheVariants.{Null, Signed};
 ghost use Rattle.bac_words.specs.declared.job.Stations.TheVariants.{Input, Listed};
-ghost use Rattle.bac_words.specs.Lines.{Says, Mistakes, station, by_default, by_way, no_options};
+ghost use Rattle.bac_words.specs.Lines.{Says, Mistakes, station, by_default, by_way, group};
+ghost use Rattle.bac_words.specs.Lines.{no_options};
 
 /// A line of each tool, and the job that it asks for.
 pub fn lines_say_jobs()
@@ -47,27 +48,48 @@ pub fn lines_say_jobs()
     ensures keep { Says (codes "bac keep a.db")
         (Ok (Keep (record {
           file = codes "a.db";
-          address = None;
-          instances = [];
+          groups = [];
           stop = false;
+          part = 32;
           trace = false;
           options = no_options;
         }))) }
     ensures named { Says (codes "bac keep a.db 10.0.0.1 1 2 --steps=5")
         (Ok (Keep (record {
           file = codes "a.db";
-          address = Some (codes "10.0.0.1");
-          instances = codes "1" ∷ codes "2" ∷ [];
+          groups = group (codes "10.0.0.1") (codes "1" ∷ codes "2" ∷ []) ∷ [];
           stop = false;
+          part = 32;
           trace = false;
           options = record no_options { steps = Some (codes "5") };
+        }))) }
+    ensures groups { Says (codes "bac keep a.db 10.0.0.1 10.0.0.2 7 08 10.0.0.3")
+        (Ok (Keep (record {
+          file = codes "a.db";
+          groups = group (codes "10.0.0.1") []
+              ∷ group (codes "10.0.0.2") (codes "7" ∷ codes "08" ∷ [])
+              ∷ group (codes "10.0.0.3") []
+              ∷ [];
+          stop = false;
+          part = 32;
+          trace = false;
+          options = no_options;
+        }))) }
+    ensures first { Says (codes "bac keep a.db 7 8x")
+        (Ok (Keep (record {
+          file = codes "a.db";
+          groups = group (codes "7") [] ∷ group (codes "8x") [] ∷ [];
+          stop = false;
+          part = 32;
+          trace = false;
+          options = no_options;
         }))) }
     ensures stop { Says (codes "bac keep a.db --stop 10.0.0.1")
         (Ok (Keep (record {
           file = codes "a.db";
-          address = Some (codes "10.0.0.1");
-          instances = [];
+          groups = group (codes "10.0.0.1") [] ∷ [];
           stop = true;
+          part = 32;
           trace = false;
           options = no_options;
         }))) }
@@ -110,6 +132,7 @@ pub fn lines_say_bad_values()
     ensures many { Says (codes "bac log 10.0.0.1 7 43 --count=101") (Err Records) }
     ensures instance { Says (codes "bac logs 10.0.0.1 7 4194304") (Err Instance) }
     ensures stop { Says (codes "bac keep a.db --stop") (Err Stop) }
+    ensures stop_two { Says (codes "bac keep a.db --stop 10.0.0.1 7 10.0.0.2") (Err Stop) }
     ensures max { Says (codes "bac wi 10.0.0.1 --max=5") (Err Max) }
     ensures dnet { Says (codes "bac log 10.0.0.1 7 43 --dnet=65535 --dadr=0a") (Err Dnet) }
     ensures dnet_alone { Says (codes "bac rp 10.0.0.1 8 123 77 --dnet=7") (Err Dadr) }

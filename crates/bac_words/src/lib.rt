@@ -7,6 +7,7 @@ mod addresses;
 mod commands;
 mod fault;
 mod given;
+mod group;
 mod instances;
 mod job;
 mod keeping;
@@ -25,6 +26,7 @@ mod word;
 
 pub use addresses::Addresses;
 pub use fault::WordsFault;
+pub use group::{Group, Groups};
 pub use instances::Instances;
 pub use job::{Asked, Given, Job, Keep, KeepOptions, Kept, Stations};
 pub use laws::{lines_are_mistakes, lines_say_bad_values, lines_say_jobs};

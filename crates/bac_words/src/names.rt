@@ -1,8 +1,9 @@
 //! Several texts that are owned.
 
-ghost use Rattle.std.specs.Prelude.{◌≡◌};
+ghost use Rattle.std.specs.Prelude.{◌≡◌, ◌++◌, ◌∷◌, [], OnOk};
 
 use crate::name::Name;
+use std::alloc::AllocError;
 use std::marker::Model;
 
 /// Texts in their order.
@@ -32,5 +33,12 @@ impl Names {
         ensures { result.now ≡ self.now }
     {
         self.list.as_slice()
+    }
+    /// Puts one behind the others.
+    pub fn push(&mut self, name: Name) -> Result<(), AllocError>
+        ensures { OnOk result (self.new ≡ self.old ++ name ∷ []) }
+    {
+        self.list.push(name)?;
+        Ok(())
     }
 }

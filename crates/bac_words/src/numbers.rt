@@ -33,7 +33,7 @@ fn digits_in(word: &[u8], most: usize) -> Option<u128>
 }
 
 /// Whether all are decimal digits.
-fn are_digits(word: &[u8]) -> bool
+pub(crate) fn are_digits(word: &[u8]) -> bool
     ensures { result ≡ list_all is_ascii_digit word.now }
 {
     for c in word {

@@ -39,6 +39,8 @@ pub enum Word {
     Steps,
     /// How many records a question asks for.
     Records,
+    /// How large a part of an archive is when the next one is begun.
+    Part,
     /// How many datagrams to serve.
     Count,
     /// Lines of CSV.
@@ -82,6 +84,7 @@ impl Word {
             Word::Max => "max",
             Word::Steps => "steps",
             Word::Records => "count",
+            Word::Part => "part",
             Word::Count => "count",
             Word::Csv => "csv",
             Word::Stop => "stop",
@@ -107,6 +110,7 @@ impl Word {
                 | Word::Max
                 | Word::Steps
                 | Word::Records
+                | Word::Part
                 | Word::Count
                 | Word::Csv
                 | Word::Stop

@@ -1,7 +1,7 @@
 use Rattle.sqlite.below.sqlite_std_file.specs.contracts.host.Host.{the_row}
 use Rattle.sqlite.below.sqlite_std_file.specs.contracts.host.HostCalls.TheImpl as host
 use Rattle.sqlite_disk.specs.contracts.modelled.ModelledDisk.TheImpl as modelled
-use Rattle.std.proofs.Common.{refl, ◌≡◌, ◌∙◌, ℕ, List, Bool, inl, inr, is_some, rules, subst₂}
+use Rattle.std.proofs.Common.{refl, ◌∙◌, ℕ, List, Bool, inl, inr, ◌||◌, is_some, rules, subst₂}
 use Rattle.sqlite.specs.Files.{file_state}
 use Rattle.sqlite_wal.specs.Files.{image_at}
 use Rattle.bac_files.specs.Files.{IsNamed}
@@ -10,50 +10,51 @@ use Rattle.bac_ports.specs.Sockets.{socket_rules}
 use Rattle.bac_asked.specs.AsLog.{given_in}
 use Rattle.bac_fetch.specs.Faults.{EndsKeeping}
 use Rattle.bac_keeper.specs.Done.{EndsChosenKeep, EndsKeep, EndsOver, RefusesKeep, given_of}
+use Rattle.std.specs.String.{string_bytes}
+use Rattle.bac_keeper.specs.Begun.{BarsPart, BeginsOn}
 use Rattle.bac_keeper.specs.Ends.{IsNotOpened}
 use Rattle.bac_asked.proofs.Results.{because}
 use Rattle.bac_keeper.proofs.FileLemmas.{all_ask_so, all_fail, asks_file, ended_by, file_asks, done_named, fails_clean, fails_file, fails_so, keeps_in, loses_none, none_closed, refused_by}
-use Rattle.bac_asked.specs.Wanted.{AreNoOptions}
-use Rattle.bac_keeper.proofs.NamesLemmas.{asks_no_options, asks_none, may_ask, never_fails}
+use Rattle.bac_words.specs.Groups.{are_any}
+use Rattle.bac_keeper.proofs.NamesLemmas.{asks_none, may_ask, never_fails}
 use Rattle.bac_keeper.proofs.keeping.keep.Goals as goal
 
 pub returns-clause-kept : goal.returns-clause-kept
 returns-clause-kept g c =
     let over = socket_rules g.S.Sockets.opens g.S.Sockets.closes g.S.Socket.Port.sends g.S.Socket.Port.receives g.S.Socket.Port.receives_within in
     let done = c.keep_in-done in
+    let part = modelled.ghosts the_row g.row.G host.ghosts host.dict g.G.Start g.G.Start-dict g.G.Destruct-dict in
     keeps_in (image_at g.F.Start) c.in_ok-conn.conn done.new.conn c.close_file.new.files.closed c.in_ok-conn.ensures.opened done.ensures.clean
-    over (started g.C.Clock.reads c.args.clock) c.args.asked.now c.in_ok-chosen.chosen c.args.sockets.now done.new.sockets (g.O.Write.contents c.args.output.now) (g.O.Write.contents done.new.output)
+    over (started g.C.Clock.reads c.args.clock) (BeginsOn part (image_at g.G.Start) c.args.place.now.before done.new.parts) c.args.asked.now c.in_ok-chosen.chosen c.args.sockets.now done.new.sockets (g.O.Write.contents c.args.output.now) (g.O.Write.contents done.new.output)
     c.close_file.result done.result c.in_ok-chosen.ensures.chosen done.ensures.told c.close_file.ensures.done c.close_file.ensures.closed
 
 pub returns-clause-named : goal.returns-clause-named
 returns-clause-named g c =
-    let file : c.as_str.result.now ≡ c.args.asked.now.file = search rules in
-    let some : c.is_some.result ≡ is_some c.args.asked.now.address = search rules in
-    let named = subst₂ (λ (p : List ℕ) (b : Bool). IsNamed p b c.close_file.new.files) file some
-    (c.close_file.ensures.named c.as_str.result.now c.is_some.result c.in_ok-conn.ensures.named) in
-    done_named (IsNamed c.args.asked.now.file (is_some c.args.asked.now.address) c.close_file.new.files) c.close_file.result named
+    let may = are_any c.args.asked.now.groups || is_some c.args.place.now.before in
+    let named = subst₂ (λ (p : List ℕ) (b : Bool). IsNamed p b c.close_file.new.files) c.as_str.ensures.value c.may_make.ensures
+    (c.close_file.ensures.named c.as_str.result.now c.may_make.result c.in_ok-conn.ensures.named) in
+    done_named (IsNamed (string_bytes c.args.place.now.path) may c.close_file.new.files) c.close_file.result named
 
 pub returns-clause-fault : goal.returns-clause-fault
 returns-clause-fault g c =
     let over = socket_rules g.S.Sockets.opens g.S.Sockets.closes g.S.Socket.Port.sends g.S.Socket.Port.receives g.S.Socket.Port.receives_within in
     let done = c.keep_in-done in
-    let file : c.as_str.result.now ≡ c.args.asked.now.file = search rules in
-    let some : c.is_some.result ≡ is_some c.args.asked.now.address = search rules in
-    let named = subst₂ (λ (p : List ℕ) (b : Bool). IsNamed p b c.close_file.new.files) file some
-    (c.close_file.ensures.named c.as_str.result.now c.is_some.result c.in_ok-conn.ensures.named) in
+    let part = modelled.ghosts the_row g.row.G host.ghosts host.dict g.G.Start g.G.Start-dict g.G.Destruct-dict in
+    let bars = BarsPart part (image_at g.G.Start) c.args.place.now.before done.new.parts in
+    let may = are_any c.args.asked.now.groups || is_some c.args.place.now.before in
+    let named = subst₂ (λ (p : List ℕ) (b : Bool). IsNamed p b c.close_file.new.files) c.as_str.ensures.value c.may_make.ensures
+    (c.close_file.ensures.named c.as_str.result.now c.may_make.result c.in_ok-conn.ensures.named) in
     let given = given_in c.options_of-options.result in
     let by = given_of c.args.asked.now.options in
     all_fail _ _ c.close_file.result (λ why it. (c.in_ok-chosen.chosen, c.in_ok-chosen.ensures.chosen, it))
-    (fails_file (image_at g.F.Start) c.in_ok-conn.conn done.new.conn c.close_file.new.files c.in_ok-conn.ensures.opened c.args.asked.now.file (is_some c.args.asked.now.address) named
-    (RefusesKeep over (started g.C.Clock.reads c.args.clock) c.in_ok-chosen.chosen by c.args.sockets.now done.new.sockets) done.result c.close_file.result (fails_clean _ _ _ done.result done.ensures.clean
-    (refused_by over (started g.C.Clock.reads c.args.clock) c.in_ok-chosen.chosen c.args.sockets.now done.new.sockets (file_state c.in_ok-conn.conn).now (file_state done.new.conn) given by done.result c.options_of-options.ensures done.ensures.fault)) c.close_file.ensures.fault c.close_file.ensures.shut)
+    (fails_file (image_at g.F.Start) c.in_ok-conn.conn done.new.conn c.close_file.new.files c.in_ok-conn.ensures.opened (string_bytes c.args.place.now.path) may named
+    (RefusesKeep over (started g.C.Clock.reads c.args.clock) bars c.in_ok-chosen.chosen by c.args.sockets.now done.new.sockets) done.result c.close_file.result (fails_clean _ _ _ done.result done.ensures.clean
+    (refused_by over (started g.C.Clock.reads c.args.clock) bars c.in_ok-chosen.chosen c.args.sockets.now done.new.sockets (file_state c.in_ok-conn.conn).now (file_state done.new.conn) given by done.result c.options_of-options.ensures done.ensures.fault)) c.close_file.ensures.fault c.close_file.ensures.shut)
 
 pub returns-in_err-conn-clause-fault : goal.returns-in_err-conn-clause-fault
 returns-in_err-conn-clause-fault g c =
-    let file : c.as_str.result.now ≡ c.args.asked.now.file = search rules in
-    let some : c.is_some.result ≡ is_some c.args.asked.now.address = search rules in
     because c.from_residual-in_err-conn.result c.in_err-conn.field-0.0 _ (search rules)
-    (fails_so _ _ c.in_err-conn.field-0.0 (λ why it. (c.in_ok-chosen.chosen, c.in_ok-chosen.ensures.chosen, inl (subst₂ (λ (p : List ℕ) (b : Bool). IsNotOpened p b c.open_file.new.files why) file some it))) c.in_err-conn.ensures.fault)
+    (fails_so _ _ c.in_err-conn.field-0.0 (λ why it. (c.in_ok-chosen.chosen, c.in_ok-chosen.ensures.chosen, inl (subst₂ (λ (p : List ℕ) (b : Bool). IsNotOpened p b c.open_file.new.files why) c.as_str.ensures.value c.may_make.ensures it))) c.in_err-conn.ensures.fault)
 
 pub returns-clause-stays : goal.returns-clause-stays
 returns-clause-stays g c unused =
@@ -66,7 +67,7 @@ returns-clause-stays g c unused =
 pub returns-in_err-chosen-clause-fault : goal.returns-in_err-chosen-clause-fault
 returns-in_err-chosen-clause-fault g c =
     because c.from_residual.result c.in_err-chosen.field-0.0 _ (search rules)
-    (never_fails _ c.in_err-chosen.field-0.0 (asks_none (AreNoOptions (given_of c.args.asked.now.options)) (asks_no_options (given_of c.args.asked.now.options)) _ _ _ c.in_err-chosen.field-0.0 c.in_err-chosen.ensures.none))
+    (never_fails _ c.in_err-chosen.field-0.0 (asks_none c.args.asked.now.groups (given_of c.args.asked.now.options) c.in_err-chosen.field-0.0 c.in_err-chosen.ensures.none))
 
 pub returns-in_err-chosen-clause-ends : goal.returns-in_err-chosen-clause-ends
 returns-in_err-chosen-clause-ends g c =

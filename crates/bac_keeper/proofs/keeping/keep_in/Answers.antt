@@ -1,8 +1,9 @@
-use Rattle.std.proofs.Common.{rules, inl, inr, ◌∙◌, ℕ, ap, subst, sym}
+use Rattle.std.proofs.Common.{rules, inl, inr, ◌≡◌, ◌∙◌, ℕ, ap, subst, sym}
 use Rattle.std.proofs.lemmas.Result.{IfOk-weaker}
 use Rattle.sqlite.specs.Effect.{Database}
 use Rattle.sqlite.specs.Held.{state}
 use Rattle.sqlite.specs.State.{HasCleanDisk}
+use Rattle.bac_fetch.specs.Chosen.{AreChosen}
 use Rattle.bac_fetch.specs.Keeps.{KeepsLogs}
 use Rattle.bac_asked.proofs.Results.{because}
 use Rattle.bac_keeper.proofs.ArchiveLemmas.{loses_nothing, tells_weaker}
@@ -16,91 +17,106 @@ use Rattle.bac_asked.specs.AsLog.{given_in}
 use Rattle.bac_keeper.proofs.FileLemmas.{all_database_ask, all_database_fail, fails_so, file_asks}
 use Rattle.bac_keeper.proofs.KeepLemmas.{keeping_so, refused_so}
 use Rattle.bac_keeper.proofs.NamesLemmas.{may_ask}
+use Rattle.sqlite.below.sqlite_std_file.specs.contracts.host.Host.{the_row}
+use Rattle.sqlite.below.sqlite_std_file.specs.contracts.host.HostCalls.TheImpl as host
+use Rattle.sqlite_disk.specs.contracts.modelled.ModelledDisk.TheImpl as modelled
+use Rattle.sqlite_wal.specs.Files.{image_at}
+use Rattle.bac_fetch.proofs.StaysLemmas.{all_itself}
+use Rattle.bac_fetch.specs.Stays.{HasAllOf}
+use Rattle.bac_keeper.specs.Begun.{BarsPart, BeginsOn}
 use Rattle.bac_keeper.proofs.keeping.keep_in.Goals as goal
 
 pub returns-clause-told : goal.returns-clause-told
 returns-clause-told g c =
     let over = socket_rules g.S.Sockets.opens g.S.Sockets.closes g.S.Socket.Port.sends g.S.Socket.Port.receives g.S.Socket.Port.receives_within in
     let out = g.O.Write.contents c.args.output.now in
-    let out' = g.O.Write.contents c.keep_these.new.output in
-    let after = c.keep_these.new.sockets in
+    let out' = g.O.Write.contents c.keep_chosen.new.output in
+    let after = c.keep_chosen.new.sockets in
     let found = state g.A.Store c.args.conn.now in
-    let archive = state g.A.Store c.open_archive.new.conn in
-    let last = state g.A.Store c.keep_these.new.conn in
+    let archive = state g.A.Store c.begin_archive.new.conn in
+    let last = state g.A.Store c.keep_chosen.new.conn in
+    let part = modelled.ghosts the_row g.row.G host.ghosts host.dict g.G.Start g.G.Start-dict g.G.Destruct-dict in
+    let begins = BeginsOn part (image_at g.G.Start) c.args.place.now.before c.begin_archive.new.parts in
+    let told = c.in_ok-status.ensures.told in
     IfOk-weaker c.settled.result _ _
     (λ done is.
-    subst (λ (n : ℕ). TellsThese over c.args.chosen c.args.sockets.now out out' (λ all between ends. IsHeld last → KeepsArchive over (started g.C.Clock.reads c.args.clock) c.args.chosen all between after ends found.now last.committed) n) (sym is.0)
-    (tells_weaker over c.args.chosen c.args.sockets.now out out' _ _ _
+    subst (λ (n : ℕ). TellsThese over c.args.chosen c.args.sockets.now out out' (λ all between ends. IsHeld last → KeepsArchive over (started g.C.Clock.reads c.args.clock) c.args.chosen all between after begins ends found.now last.committed) n) (sym is.0)
+    (tells_weaker over c.args.chosen c.args.sockets.now out out'
+    (λ all between ends. OverArchive archive last (AreChosen c.args.chosen archive.now.trees all × KeepsLogs over (started g.C.Clock.reads c.args.clock) all between after archive.now last.now ends)) _ _
     (λ all between ends kept held.
-    let early : HasCleanDisk archive = c.keep_these.ensures.clean held.0 in
-    let opened = c.in_ok-open_archive.ensures.archive early in
+    let early : HasCleanDisk archive = c.keep_chosen.ensures.clean held.0 in
+    let opened = c.in_ok-begin_archive.ensures.archive early in
     let it = kept held.0 opened.is.schema in
     record {
       archive = archive.now;
       opened = opened;
+      begun = c.in_ok-begin_archive.ensures.begun early;
       chose = it.0;
       kept = subst (λ (d : Database). KeepsLogs over (started g.C.Clock.reads c.args.clock) all between after archive.now d ends) (is.1 held.1) it.1;
-    }) c.in_ok-status.ensures.told))
+    })
+    (told.0, told.1, told.2, told.3, (told.5.0, told.5.1, told.5.2, told.5.3, λ clean schema. (told.4 clean schema, told.5.4 clean schema)))))
     c.settled.ensures.settled
 
 pub returns-clause-stays : goal.returns-clause-stays
 returns-clause-stays g c held was has =
     let found = state g.A.Store c.args.conn.now in
-    let archive = state g.A.Store c.open_archive.new.conn in
-    let last = state g.A.Store c.keep_these.new.conn in
-    let early : HasCleanDisk archive = c.keep_these.ensures.clean held.0 in
-    let opened = c.in_ok-open_archive.ensures.archive early in
+    let archive = state g.A.Store c.begin_archive.new.conn in
+    let last = state g.A.Store c.keep_chosen.new.conn in
+    let early : HasCleanDisk archive = c.keep_chosen.ensures.clean held.0 in
+    let opened = c.in_ok-begin_archive.ensures.archive early in
     let same = opened.same has in
-    loses_nothing found archive last was (c.in_ok-open_archive.ensures.committed early) same
-    (λ db may. g.met.A.Store.settled c.open_archive.new.conn.store db (c.in_ok-open_archive.ensures.same early has) may)
-    (g.met.A.Store.stays c.keep_these.new.conn.store held.1) held.0
-    (c.keep_these.ensures.stays held.0 (ap (λ (d : Database). d.schema) same ∙ has))
+    loses_nothing found archive last was (c.in_ok-begin_archive.ensures.committed early) same
+    (λ db may. g.met.A.Store.settled c.begin_archive.new.conn.store db (c.in_ok-begin_archive.ensures.same early has) may)
+    (g.met.A.Store.stays c.keep_chosen.new.conn.store held.1) held.0
+    (c.keep_chosen.ensures.stays held.0 (ap (λ (d : Database). d.schema) same ∙ has))
 
 pub returns-in_err-status-clause-stays : goal.returns-in_err-status-clause-stays
 returns-in_err-status-clause-stays g c held was has =
     let found = state g.A.Store c.args.conn.now in
-    let archive = state g.A.Store c.open_archive.new.conn in
-    let last = state g.A.Store c.keep_these.new.conn in
-    let early : HasCleanDisk archive = c.keep_these.ensures.clean held.0 in
-    let opened = c.in_ok-open_archive.ensures.archive early in
+    let archive = state g.A.Store c.begin_archive.new.conn in
+    let last = state g.A.Store c.keep_chosen.new.conn in
+    let early : HasCleanDisk archive = c.keep_chosen.ensures.clean held.0 in
+    let opened = c.in_ok-begin_archive.ensures.archive early in
     let same = opened.same has in
-    loses_nothing found archive last was (c.in_ok-open_archive.ensures.committed early) same
-    (λ db may. g.met.A.Store.settled c.open_archive.new.conn.store db (c.in_ok-open_archive.ensures.same early has) may)
-    (g.met.A.Store.stays c.keep_these.new.conn.store held.1) held.0
-    (c.keep_these.ensures.stays held.0 (ap (λ (d : Database). d.schema) same ∙ has))
+    loses_nothing found archive last was (c.in_ok-begin_archive.ensures.committed early) same
+    (λ db may. g.met.A.Store.settled c.begin_archive.new.conn.store db (c.in_ok-begin_archive.ensures.same early has) may)
+    (g.met.A.Store.stays c.keep_chosen.new.conn.store held.1) held.0
+    (c.keep_chosen.ensures.stays held.0 (ap (λ (d : Database). d.schema) same ∙ has))
 
-pub returns-in_err-open_archive-clause-fault : goal.returns-in_err-open_archive-clause-fault
-returns-in_err-open_archive-clause-fault g c =
-    because c.from_residual.result c.in_err-open_archive.field-0.0 _ (search rules)
-    (fails_so _ _ c.in_err-open_archive.field-0.0 (λ why it. elim it [ inl answered ↦ inl answered | inr refused ↦ inr (λ held. inl (refused held)) ]) c.in_err-open_archive.ensures.refused)
+pub returns-in_err-begin_archive-clause-fault : goal.returns-in_err-begin_archive-clause-fault
+returns-in_err-begin_archive-clause-fault g c =
+    because c.from_residual.result c.in_err-begin_archive.field-0.0 _ (search rules)
+    (fails_so _ _ c.in_err-begin_archive.field-0.0 (λ why it. elim it [ inl answered ↦ inl answered | inr refused ↦ inr (λ held. inl (refused held)) ]) c.in_err-begin_archive.ensures.refused)
 
-pub returns-in_err-open_archive-clause-ends : goal.returns-in_err-open_archive-clause-ends
-returns-in_err-open_archive-clause-ends g c =
+pub returns-in_err-begin_archive-clause-ends : goal.returns-in_err-begin_archive-clause-ends
+returns-in_err-begin_archive-clause-ends g c =
     let over = socket_rules g.S.Sockets.opens g.S.Sockets.closes g.S.Socket.Port.sends g.S.Socket.Port.receives g.S.Socket.Port.receives_within in
-    because c.from_residual.result c.in_err-open_archive.field-0.0 _ (search rules)
+    because c.from_residual.result c.in_err-begin_archive.field-0.0 _ (search rules)
     (file_asks (λ fault. EndsKeeping over c.args.chosen (Unit {0}) (Unit {0}) c.args.sockets.now c.args.sockets.now fault
-    × (IsHeld (state g.A.Store c.open_archive.new.conn) → EndsOver over (started g.C.Clock.reads c.args.clock) c.args.chosen (given_in c.args.options.now) c.args.sockets.now c.args.sockets.now (state g.A.Store c.args.conn.now).now fault))
-    c.in_err-open_archive.field-0.0 c.in_err-open_archive.ensures.file)
+    × (IsHeld (state g.A.Store c.begin_archive.new.conn) → EndsOver over (started g.C.Clock.reads c.args.clock) c.args.chosen (given_in c.args.options.now) c.args.sockets.now c.args.sockets.now (state g.A.Store c.args.conn.now).now fault))
+    c.in_err-begin_archive.field-0.0 c.in_err-begin_archive.ensures.file)
 
 pub returns-in_err-status-clause-fault : goal.returns-in_err-status-clause-fault
 returns-in_err-status-clause-fault g c =
     let over = socket_rules g.S.Sockets.opens g.S.Sockets.closes g.S.Socket.Port.sends g.S.Socket.Port.receives g.S.Socket.Port.receives_within in
-    let archive = state g.A.Store c.open_archive.new.conn in
+    let archive = state g.A.Store c.begin_archive.new.conn in
+    let part = modelled.ghosts the_row g.row.G host.ghosts host.dict g.G.Start g.G.Start-dict g.G.Destruct-dict in
+    let bars = BarsPart part (image_at g.G.Start) c.args.place.now.before c.begin_archive.new.parts in
     because c.from_residual-in_err-status.result c.in_err-status.field-0.0 _ (search rules)
-    (refused_so over (started g.C.Clock.reads c.args.clock) c.args.chosen (given_in c.args.options.now) (state g.A.Store c.args.conn.now).now archive (state g.A.Store c.keep_these.new.conn) c.args.sockets.now c.keep_these.new.sockets c.in_err-status.field-0.0
-    (λ held. let opened = c.in_ok-open_archive.ensures.archive (c.keep_these.ensures.clean held.0) in (opened, opened.is.schema)) c.in_err-status.ensures.caused)
+    (refused_so over (started g.C.Clock.reads c.args.clock) bars c.args.chosen (given_in c.args.options.now) (state g.A.Store c.args.conn.now).now archive (state g.A.Store c.keep_chosen.new.conn) c.args.sockets.now c.keep_chosen.new.sockets c.in_err-status.field-0.0
+    (λ held. let opened = c.in_ok-begin_archive.ensures.archive (c.keep_chosen.ensures.clean held.0) in (opened, opened.is.schema)) c.in_err-status.ensures.caused)
 
 pub returns-in_err-status-clause-ends : goal.returns-in_err-status-clause-ends
 returns-in_err-status-clause-ends g c =
     let over = socket_rules g.S.Sockets.opens g.S.Sockets.closes g.S.Socket.Port.sends g.S.Socket.Port.receives g.S.Socket.Port.receives_within in
-    let archive = state g.A.Store c.open_archive.new.conn in
-    let last = state g.A.Store c.keep_these.new.conn in
+    let archive = state g.A.Store c.begin_archive.new.conn in
+    let last = state g.A.Store c.keep_chosen.new.conn in
     because c.from_residual-in_err-status.result c.in_err-status.field-0.0 _ (search rules)
-    (may_ask (λ fault. EndsKeeping over c.args.chosen (Unit {0}) (Unit {0}) c.args.sockets.now c.keep_these.new.sockets fault
-    × (IsHeld last → EndsOver over (started g.C.Clock.reads c.args.clock) c.args.chosen (given_in c.args.options.now) c.args.sockets.now c.keep_these.new.sockets (state g.A.Store c.args.conn.now).now fault)) c.in_err-status.field-0.0 (
+    (may_ask (λ fault. EndsKeeping over c.args.chosen (Unit {0}) (Unit {0}) c.args.sockets.now c.keep_chosen.new.sockets fault
+    × (IsHeld last → EndsOver over (started g.C.Clock.reads c.args.clock) c.args.chosen (given_in c.args.options.now) c.args.sockets.now c.keep_chosen.new.sockets (state g.A.Store c.args.conn.now).now fault)) c.in_err-status.field-0.0 (
       keeping_so over (OverArchive archive last (HasNone archive.now.trees)) (Unit {0}) (OverArchive archive last (LacksAddress (given_in c.args.options.now) archive.now.trees)) (Unit {0})
-          (λ n. tt {0}) (λ n. tt {0}) c.args.chosen c.args.sockets.now c.keep_these.new.sockets c.in_err-status.field-0.0 c.in_err-status.ensures.fault,
-      λ held. let opened = c.in_ok-open_archive.ensures.archive (c.keep_these.ensures.clean held.0) in (archive.now, opened, c.in_err-status.ensures.caused held.0 opened.is.schema),
+          (λ n. tt {0}) (λ n. tt {0}) c.args.chosen c.args.sockets.now c.keep_chosen.new.sockets c.in_err-status.field-0.0 c.in_err-status.ensures.fault,
+      λ held. let opened = c.in_ok-begin_archive.ensures.archive (c.keep_chosen.ensures.clean held.0) in (archive.now, opened, c.in_err-status.ensures.caused held.0 opened.is.schema),
     ))
 
 pub returns-clause-fault : goal.returns-clause-fault
@@ -109,6 +125,13 @@ returns-clause-fault g c = all_database_fail _ c.settled.result c.settled.ensure
 pub returns-clause-ends : goal.returns-clause-ends
 returns-clause-ends g c =
     let over = socket_rules g.S.Sockets.opens g.S.Sockets.closes g.S.Socket.Port.sends g.S.Socket.Port.receives g.S.Socket.Port.receives_within in
-    all_database_ask (λ fault. EndsKeeping over c.args.chosen (Unit {0}) (Unit {0}) c.args.sockets.now c.keep_these.new.sockets fault
-    × (IsHeld (state g.A.Store c.keep_these.new.conn) → EndsOver over (started g.C.Clock.reads c.args.clock) c.args.chosen (given_in c.args.options.now) c.args.sockets.now c.keep_these.new.sockets (state g.A.Store c.args.conn.now).now fault))
+    all_database_ask (λ fault. EndsKeeping over c.args.chosen (Unit {0}) (Unit {0}) c.args.sockets.now c.keep_chosen.new.sockets fault
+    × (IsHeld (state g.A.Store c.keep_chosen.new.conn) → EndsOver over (started g.C.Clock.reads c.args.clock) c.args.chosen (given_in c.args.options.now) c.args.sockets.now c.keep_chosen.new.sockets (state g.A.Store c.args.conn.now).now fault))
     c.settled.result c.settled.ensures.fault
+
+pub returns-in_err-begin_archive-clause-stays : goal.returns-in_err-begin_archive-clause-stays
+returns-in_err-begin_archive-clause-stays g c held was has =
+    let found = state g.A.Store c.args.conn.now in
+    let last = state g.A.Store c.begin_archive.new.conn in
+    let still : last.committed ≡ found.committed = c.in_err-begin_archive.ensures.left held has in
+    subst (λ (d : Database). HasAllOf found.now.trees d.trees) (sym (still ∙ was)) (all_itself found.now.trees)

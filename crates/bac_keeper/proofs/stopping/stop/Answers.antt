@@ -8,10 +8,8 @@ use Rattle.bac_asked.proofs.Results.{because}
 use Rattle.bac_keeper.proofs.FileLemmas.{all_ask_so, all_fail, closed_asks, file_asks, done_named, fails_clean, fails_file, fails_so, none_closed}
 use Rattle.bac_keeper.proofs.StopLemmas.{items_kept, items_stay, stops_in}
 use Rattle.bac_asked.specs.declared.end.NotDone.{NotDone}
-use Rattle.bac_asked.specs.declared.end.NotDone.TheVariants.{Asking}
-use Rattle.bac_asked.specs.declared.fault.Fault.TheVariants.{BadValue}
-use Rattle.bac_words.specs.declared.word.Word.TheVariants.{Stop}
-use Rattle.bac_keeper.proofs.NamesLemmas.{asks_none, may_ask, never_fails}
+use Rattle.bac_keeper.specs.Done.{given_of}
+use Rattle.bac_keeper.proofs.NamesLemmas.{asks_unmeant, may_ask, never_fails}
 use Rattle.bac_keeper.proofs.stopping.stop.Goals as goal
 
 pub returns-clause-named : goal.returns-clause-named
@@ -61,7 +59,7 @@ returns-clause-items g c unused =
 pub returns-in_err-meant-clause-fault : goal.returns-in_err-meant-clause-fault
 returns-in_err-meant-clause-fault g c =
     because c.from_residual.result c.in_err-meant.field-0.0 _ (search rules)
-    (never_fails _ c.in_err-meant.field-0.0 (asks_none (λ (fault : NotDone). fault ≡ Asking (BadValue Stop)) (λ fault is. (_, is)) _ _ _ c.in_err-meant.field-0.0 c.in_err-meant.ensures.none))
+    (never_fails _ c.in_err-meant.field-0.0 (asks_unmeant c.args.asked.now.groups (given_of c.args.asked.now.options) c.in_err-meant.field-0.0 c.in_err-meant.ensures.none))
 
 pub returns-in_err-meant-clause-ends : goal.returns-in_err-meant-clause-ends
 returns-in_err-meant-clause-ends g c =

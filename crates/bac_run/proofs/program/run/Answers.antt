@@ -15,20 +15,22 @@ use Rattle.bac_run.proofs.program.run.Goals as goal
 pub returns-in-Ok-clause-done : goal.returns-in-Ok-clause-done
 returns-in-Ok-clause-done g c asked ask =
     let disk = modelled.ghosts the_row g.row.F host.ghosts host.dict g.F.Start g.F.Start-dict g.F.Destruct-dict in
+    let part = modelled.ghosts the_row g.row.G host.ghosts host.dict g.G.Start g.G.Start-dict g.G.Destruct-dict in
     let rules = socket_rules g.S.Sockets.opens g.S.Sockets.closes g.S.Socket.Port.sends g.S.Socket.Port.receives g.S.Socket.Port.receives_within in
     let words = map string_bytes c.args.words.now in
     let old = streams (g.I.Read.remaining c.args.input.now) (g.O.Write.contents c.args.output.now) (g.E.Write.contents c.args.errors.now) c.args.sockets.now c.args.clock.now in
     let new = streams (g.I.Read.remaining c.run_told.new.input) (g.O.Write.contents c.run_told.new.output) (g.E.Write.contents c.run_told.new.errors) c.run_told.new.sockets c.run_told.new.clock in
-    job_done g.S.Tracing.traces rules g.S.Heeds.passes g.C.Clock.tells disk (started g.W.Clock.reads c.args.waits) old new c.args.files.now c.run_told.new.files c.run_told.result words c.in-Ok.job asked c.in-Ok.ensures.ok.1 ask c.run_told.ensures.ran
+    job_done g.S.Tracing.traces rules g.S.Heeds.passes g.C.Clock.tells disk part c.run_told.new.parts (started g.W.Clock.reads c.args.waits) old new c.args.files.now c.run_told.new.files c.run_told.result words c.in-Ok.job asked c.in-Ok.ensures.ok.1 ask c.run_told.ensures.ran
 
 pub returns-in-Err-clause-done : goal.returns-in-Err-clause-done
 returns-in-Err-clause-done g c asked ask =
     let disk = modelled.ghosts the_row g.row.F host.ghosts host.dict g.F.Start g.F.Start-dict g.F.Destruct-dict in
+    let part = modelled.ghosts the_row g.row.G host.ghosts host.dict g.G.Start g.G.Start-dict g.G.Destruct-dict in
     let rules = socket_rules g.S.Sockets.opens g.S.Sockets.closes g.S.Socket.Port.sends g.S.Socket.Port.receives g.S.Socket.Port.receives_within in
     let words = map string_bytes c.args.words.now in
     let old = streams (g.I.Read.remaining c.args.input.now) (g.O.Write.contents c.args.output.now) (g.E.Write.contents c.args.errors.now) c.args.sockets.now c.args.clock.now in
     let new = streams (g.I.Read.remaining c.run_read.new.input) (g.O.Write.contents c.run_read.new.output) (g.E.Write.contents c.run_read.new.errors) c.run_read.new.sockets c.run_read.new.clock in
-    unread g.S.Tracing.traces rules g.S.Heeds.passes g.C.Clock.tells disk (started g.W.Clock.reads c.args.waits) old new c.args.files.now c.args.files.now c.run_read.result words c.in-Err.fault c.in-Err.ensures.err c.run_read.ensures refl asked ask
+    unread g.S.Tracing.traces rules g.S.Heeds.passes g.C.Clock.tells disk part c.args.parts.now (started g.W.Clock.reads c.args.waits) old new c.args.files.now c.args.files.now c.run_read.result words c.in-Err.fault c.in-Err.ensures.err c.run_read.ensures refl asked ask
 
 pub returns-in-Ok-clause-stays : goal.returns-in-Ok-clause-stays
 returns-in-Ok-clause-stays g c unused not =

@@ -12,20 +12,22 @@ use Rattle.bac_run.proofs.program.run_job.Goals as goal
 pub returns-in-Keep-clause-ran : goal.returns-in-Keep-clause-ran
 returns-in-Keep-clause-ran g c =
     let disk = modelled.ghosts the_row g.row.F host.ghosts host.dict g.F.Start g.F.Start-dict g.F.Destruct-dict in
+    let part = modelled.ghosts the_row g.row.G host.ghosts host.dict g.G.Start g.G.Start-dict g.G.Destruct-dict in
     let rules = socket_rules g.S.Sockets.opens g.S.Sockets.closes g.S.Socket.Port.sends g.S.Socket.Port.receives g.S.Socket.Port.receives_within in
     let done = c.keep_and_tell in
     let old = streams (g.I.Read.remaining c.args.input.now) (g.O.Write.contents c.args.output.now) (g.E.Write.contents c.args.errors.now) c.args.sockets.now c.args.clock.now in
     let new = streams (g.I.Read.remaining c.args.input.now) (g.O.Write.contents done.new.output) (g.E.Write.contents done.new.errors) done.new.sockets c.args.clock.now in
-    rw c.in-Keep.is (keep_over disk (started g.W.Clock.reads c.args.waits) rules g.S.Heeds.passes c.in-Keep.asked c.in-Keep.asked.stop old new done.result done.new.files done.ensures.ran, (refl, refl))
+    rw c.in-Keep.is (keep_over disk part done.new.parts (started g.W.Clock.reads c.args.waits) rules g.S.Heeds.passes c.in-Keep.asked c.in-Keep.asked.stop old new done.result done.new.files done.ensures.ran, (refl, refl))
 
 pub returns-in_default-clause-ran : goal.returns-in_default-clause-ran
 returns-in_default-clause-ran g c =
     let disk = modelled.ghosts the_row g.row.F host.ghosts host.dict g.F.Start g.F.Start-dict g.F.Destruct-dict in
+    let part = modelled.ghosts the_row g.row.G host.ghosts host.dict g.G.Start g.G.Start-dict g.G.Destruct-dict in
     let rules = socket_rules g.S.Sockets.opens g.S.Sockets.closes g.S.Socket.Port.sends g.S.Socket.Port.receives g.S.Socket.Port.receives_within in
     let done = c.run_read in
     let old = streams (g.I.Read.remaining c.args.input.now) (g.O.Write.contents c.args.output.now) (g.E.Write.contents c.args.errors.now) c.args.sockets.now c.args.clock.now in
     let new = streams (g.I.Read.remaining done.new.input) (g.O.Write.contents done.new.output) (g.E.Write.contents done.new.errors) done.new.sockets done.new.clock in
-    other_done rules g.S.Heeds.passes g.C.Clock.tells disk (started g.W.Clock.reads c.args.waits) old new c.args.files.now c.args.files.now done.result c.args.job c.in_default.not-Keep c.in_default.not-Kept done.ensures refl
+    other_done rules g.S.Heeds.passes g.C.Clock.tells disk part c.args.parts.now (started g.W.Clock.reads c.args.waits) old new c.args.files.now c.args.files.now done.result c.args.job c.in_default.not-Keep c.in_default.not-Kept done.ensures refl
 
 pub returns-in_default-clause-stays : goal.returns-in_default-clause-stays
 returns-in_default-clause-stays g c unused not = none_closed c.args.files.now.closed _ unused

@@ -1,0 +1,13 @@
+use Rattle.std.proofs.Common.{[]}
+use Rattle.std.specs.List.{All}
+use Rattle.bac_asked.specs.Wanted.{AsksItsSource}
+use Rattle.bac_fetch.specs.Chosen.{AddSought}
+use Rattle.bac_ports.specs.Sockets.{socket_rules}
+use Rattle.bac_fetch.proofs.sought.sought_logs.Given as goal
+
+-- so far they are those of the devices that were taken
+abbrev pub invariant-loop-one : goal.invariant-loop-one
+invariant-loop-one g l = record {
+  asks : All AsksItsSource l.all.items;
+  found : AddSought (socket_rules g.S.Sockets.opens g.S.Sockets.closes g.S.Socket.Port.sends g.S.Socket.Port.receives g.S.Socket.Port.receives_within) l.yielded [] l.fn.sockets l.all.items l.sockets;
+}

@@ -1,0 +1,26 @@
+use Rattle.sqlite.below.sqlite_std_file.specs.contracts.host.Host.{the_row}
+use Rattle.sqlite.below.sqlite_std_file.specs.contracts.host.HostCalls.TheImpl as host
+use Rattle.sqlite_disk.specs.contracts.modelled.ModelledDisk.TheImpl as modelled
+use Rattle.std.proofs.Common.{inl, refl, is_some, ◌||◌}
+use Rattle.std.specs.String.{string_bytes}
+use Rattle.bac_files.specs.Files.{IsNamed}
+use Rattle.sqlite_wal.specs.Files.{image_at}
+use Rattle.bac_keeper.proofs.EndLemmas.{ended, not_done}
+use Rattle.bac_hearing.specs.Hearing.{started}
+use Rattle.bac_ports.specs.Sockets.{socket_rules}
+use Rattle.bac_words.specs.Groups.{are_any}
+use Rattle.bac_keeper.specs.Done.{EndsKeep}
+use Rattle.bac_keeper.proofs.program.keep_at.Goals as goal
+
+pub returns-clause-kept : goal.returns-clause-kept
+returns-clause-kept g c =
+    let done = c.keep-done in
+    let named = IsNamed (string_bytes c.args.place.path) (are_any c.args.asked.now.groups || is_some c.args.place.before) done.new.files in
+    ended named _ _ done.result c.tell_done.result done.ensures.kept done.ensures.named done.ensures.fault c.tell_done.ensures.ends
+
+pub returns-clause-ends : goal.returns-clause-ends
+returns-clause-ends g c =
+    let disk = modelled.ghosts the_row g.row.F host.ghosts host.dict g.F.Start g.F.Start-dict g.F.Destruct-dict in
+    let over = socket_rules g.S.Sockets.opens g.S.Sockets.closes g.S.Socket.Port.sends g.S.Socket.Port.receives g.S.Socket.Port.receives_within in
+    let done = c.keep-done in
+    not_done (EndsKeep over (started g.C.Clock.reads c.args.clock) disk (image_at g.F.Start) c.args.asked.now c.args.sockets.now done.new.sockets done.new.files) done.result c.tell_done.result (inl refl) done.ensures.ends c.tell_done.ensures.why

@@ -1,0 +1,38 @@
+-- `keep` at the place of its archive: a file, or a part of a folder. Read from the end.
+use Rattle.std.specs.Prelude.{◌||◌, ◌⊎◌, ℕ, is_some}
+use Rattle.std.specs.String.{string_bytes}
+use Rattle.sqlite_disk.specs.declared.Disk as disk
+use Rattle.sqlite_disk.specs.declared.start.Start as start
+use Rattle.sqlite_wal.specs.Recovery.{Image}
+use Rattle.bac_asked.specs.declared.fault.FileFault.{FileFault}
+use Rattle.bac_files.specs.Files.{FileOf, IsNamed}
+use Rattle.bac_files.specs.Parts.{IsPlaced}
+use Rattle.bac_files.specs.declared.disk_files.DiskFiles.{DiskFiles}
+use Rattle.bac_files.specs.declared.folder.Place.{Place}
+use Rattle.bac_hearing.specs.Hearing.{StartedClock}
+use Rattle.bac_keeper.specs.Begun.{BarsPart, BeginsOn}
+use Rattle.bac_keeper.specs.Done.{FailsToKeep, KeepsIn}
+use Rattle.bac_keeper.specs.Ends.{IsNotOpened}
+use Rattle.bac_ports.specs.Sockets.{SocketRules}
+use Rattle.bac_print.specs.Output.{Held}
+use Rattle.bac_words.specs.Groups.{are_any}
+use Rattle.bac_words.specs.declared.job.Keep.{Keep}
+
+module _ {S P C F G : Type 0} {s : start.Ghosts F} {t : start.Ghosts G} (rules : SocketRules S P) (clock : StartedClock C)
+    (g : disk.Ghosts (FileOf s)) (h : disk.Ghosts (FileOf t)) (image before_image : Image) where
+  -- The logs that the words choose were kept in the archive at the place of FILE, which was opened by its name. Where a
+  -- part is begun it follows on the one before it.
+  abbrev pub KeepsAt : Keep → S → S → Held → Held → DiskFiles F s → DiskFiles G t → ℕ → Type 0
+  KeepsAt keep sockets sockets_after before after files parts status =
+      (place : Place) × IsPlaced keep.file place
+      × IsNamed (string_bytes place.path) (are_any keep.groups || is_some place.before) files
+      × KeepsIn rules clock g image (BeginsOn h before_image place.before parts) keep sockets sockets_after before after
+      files.closed status
+
+  -- its file is no use; or the place of FILE can't be told
+  abbrev pub FailsAt : Keep → S → S → DiskFiles F s → DiskFiles G t → FileFault → Type 0
+  FailsAt keep before after files parts why =
+      ((place : Place) × IsPlaced keep.file place
+      × FailsToKeep rules clock g image (BarsPart h before_image place.before parts) keep (string_bytes place.path)
+      (are_any keep.groups || is_some place.before) before after files why)
+      ⊎ IsNotOpened keep.file (are_any keep.groups) files why

@@ -1,0 +1,129 @@
+//! A part of an archive is begun: it follows on the one before it.
+
+ghost use Rattle.std.specs.Prelude.{◌≡◌, ◌⊎◌, IfErr, IsSome, IsTrue, OnErr, OnOk, false};
+ghost use Rattle.sqlite.specs.Held.{state};
+ghost use Rattle.sqlite.specs.State.{HasCleanDisk};
+ghost use Rattle.sqlite_wal.specs.Files.{image_at};
+ghost use Rattle.bac_archive.specs.Parts.{FollowsOn};
+ghost use Rattle.bac_archive.specs.Schema.{OverArchive, archive_schema, no_schema};
+ghost use Rattle.bac_asked.specs.Faults.{of_error};
+ghost use Rattle.bac_files.specs.Files.{IsNamed};
+ghost use Rattle.bac_keeper.specs.Archives.{IsArchiveOf, IsHeld};
+ghost use Rattle.bac_keeper.specs.Begun.{BarsPart, BeginsOn, FollowsFiles};
+ghost use Rattle.bac_keeper.specs.Ends.{FailsFile, IsNoArchive, IsOfSomeFile, MayFail};
+
+use crate::archives::{close_file, open_archive, open_file};
+use bac_archive::{follow_on, is_nothing};
+use bac_asked::{FileFault, NotDone};
+use bac_files::{DiskFiles, Place};
+use sqlite::{Alter, Connection, Error, FileFrom, Start};
+use sqlite_disk::Disk;
+use std::alloc::Global;
+
+/// Makes of a database that has nothing the part that follows on another, which has to be an
+/// archive.
+fn follow<A: Alter, B: Alter>(
+    alloc: Global,
+    old: &mut Connection<B>,
+    conn: &mut Connection<A>,
+) -> Result<u8, NotDone>
+    requires { (state A.Store conn.old).now.schema ≡ no_schema }
+    ensures followed { HasCleanDisk (state B.Store old.new) → HasCleanDisk (state A.Store conn.new)
+        → OnOk result ((archive : _) × IsArchiveOf (state B.Store old.old).now archive
+        × FollowsOn archive (state A.Store conn.new).now) }
+    ensures clean { HasCleanDisk (state A.Store conn.new) → HasCleanDisk (state A.Store conn.old) }
+    ensures read { HasCleanDisk (state B.Store old.new) → HasCleanDisk (state B.Store old.old) }
+    ensures file { IfErr result IsOfSomeFile }
+    ensures refused { IfErr result (MayFail (λ why. ((error : Error) × (why ≡ of_error error))
+        ⊎ (IsHeld (state B.Store old.new) → IsNoArchive (state B.Store old.old).now why))) }
+{
+    open_archive(old)?;
+    match follow_on(alloc, old, conn) {
+        Ok(()) => Ok(0),
+        Err(error) => Err(NotDone::File(FileFault::of(error))),
+    }
+}
+
+/// Makes of a database that has nothing the part that follows on the archive of this name.
+fn fill<A: Alter, G: Start>(
+    alloc: Global,
+    conn: &mut Connection<A>,
+    parts: &mut DiskFiles<'_, G>,
+    before: &str,
+) -> Result<u8, NotDone>
+    requires { (state A.Store conn.old).now.schema ≡ no_schema }
+    ensures followed { HasCleanDisk (state A.Store conn.new)
+        → OnOk result (FollowsFiles ⟦<FileFrom<G> as Disk>⟧ (image_at G.Start) parts.new
+        (state A.Store conn.new).now) }
+    ensures named { OnOk result (IsNamed before.now false parts.new) }
+    ensures clean { HasCleanDisk (state A.Store conn.new) → HasCleanDisk (state A.Store conn.old) }
+    ensures file { IfErr result IsOfSomeFile }
+    ensures fault { IfErr result (MayFail (FailsFile ⟦<FileFrom<G> as Disk>⟧ (image_at G.Start)
+        before.now false IsNoArchive parts.new)) }
+{
+    let mut base = open_file(parts, before, false)?;
+    let done = follow(alloc, &mut base, conn);
+    close_file(parts, base, done)
+}
+
+/// The same where there is a part before it, and it has nothing.
+fn begin_part<A: Alter, G: Start>(
+    alloc: Global,
+    conn: &mut Connection<A>,
+    parts: &mut DiskFiles<'_, G>,
+    before: &Option<String>,
+) -> Result<(), NotDone>
+    ensures begins { HasCleanDisk (state A.Store conn.new)
+        → OnOk result (BeginsOn ⟦<FileFrom<G> as Disk>⟧ (image_at G.Start) before.now parts.new
+        (state A.Store conn.old).now (state A.Store conn.new).now) }
+    // The database is as it was; or it had nothing, and there is a part before it.
+    ensures either { (conn.new ≡ conn.old)
+        ⊎ (((state A.Store conn.old).now.schema ≡ no_schema) × IsSome before.now) }
+    ensures clean { HasCleanDisk (state A.Store conn.new) → HasCleanDisk (state A.Store conn.old) }
+    ensures file { IfErr result IsOfSomeFile }
+    ensures barred { IfErr result (MayFail (BarsPart ⟦<FileFrom<G> as Disk>⟧ (image_at G.Start)
+        before.now parts.new)) }
+{
+    let Some(before) = before else {
+        return Ok(());
+    };
+    if !is_nothing(conn.schema()) {
+        return Ok(());
+    }
+    fill(alloc, conn, parts, before.as_str())?;
+    Ok(())
+}
+
+/// Opens a database as an archive. An empty one becomes one: the part that follows on the one
+/// before it, if there is one.
+pub(crate) fn begin_archive<A: Alter, G: Start>(
+    alloc: Global,
+    conn: &mut Connection<A>,
+    parts: &mut DiskFiles<'_, G>,
+    place: &mut Place,
+) -> Result<(), NotDone>
+    ensures archive { HasCleanDisk (state A.Store conn.new)
+        → OnOk result (IsArchiveOf (state A.Store conn.old).now (state A.Store conn.new).now) }
+    ensures begun { HasCleanDisk (state A.Store conn.new)
+        → OnOk result (BeginsOn ⟦<FileFrom<G> as Disk>⟧ (image_at G.Start) place.old.before
+        parts.new (state A.Store conn.old).now (state A.Store conn.new).now) }
+    ensures committed { HasCleanDisk (state A.Store conn.new)
+        → OnOk result ((state A.Store conn.new).committed ≡ (state A.Store conn.new).now) }
+    ensures same { OverArchive (state A.Store conn.old) (state A.Store conn.new)
+        (OnOk result (IsTrue (state A.Store conn.new).is_open)) }
+    ensures file { IfErr result IsOfSomeFile }
+    // It is refused for what it held, or the part before is no use.
+    ensures refused { IfErr result (MayFail (λ why. ((error : Error) × (why ≡ of_error error))
+        ⊎ (IsHeld (state A.Store conn.new) → IsNoArchive (state A.Store conn.old).now why
+        ⊎ BarsPart ⟦<FileFrom<G> as Disk>⟧ (image_at G.Start) place.old.before parts.new why))) }
+    ensures left { IsHeld (state A.Store conn.new)
+        → (state A.Store conn.old).now.schema ≡ archive_schema
+        → OnErr result ((state A.Store conn.new).committed ≡ (state A.Store conn.old).committed) }
+    ensures clean { HasCleanDisk (state A.Store conn.new) → HasCleanDisk (state A.Store conn.old) }
+    ensures place { place.new.path ≡ place.old.path }
+{
+    place.blames_before = true;
+    begin_part(alloc, conn, parts, &place.before)?;
+    place.blames_before = false;
+    open_archive(conn)
+}

@@ -1,0 +1,55 @@
+//! Devices, and which of its logs of each.
+
+ghost use Rattle.std.specs.Prelude.{◌≡◌};
+ghost use Rattle.bac_words.specs.Groups.{are_any};
+
+use crate::name::Name;
+use crate::names::Names;
+use std::marker::Model;
+
+/// A device and logs of it, as the words say them.
+#[derive(Debug, Drop)]
+pub struct Group {
+    /// The device.
+    pub address: Name,
+    /// The logs of the device; each of its Object_List if there are none.
+    pub instances: Names,
+}
+
+/// Groups in their order.
+#[derive(Debug, Drop)]
+pub struct Groups {
+    list: Vec<Group>,
+}
+
+impl Model for Groups {
+    ghost use Rattle.std.specs.Prelude.{List};
+    ghost use Rattle.bac_words.specs.declared.group.Group.{Group};
+
+    ghost Value = { List Group };
+
+    ghost view = { λ groups. groups.list.items };
+}
+
+impl Groups {
+    /// These groups.
+    pub fn of(list: Vec<Group>) -> Groups
+        ensures { result ≡ list.items }
+    {
+        Groups { list }
+    }
+
+    /// All of them.
+    pub fn as_slice(&self) -> &[Group]
+        ensures { result.now ≡ self.now }
+    {
+        self.list.as_slice()
+    }
+
+    /// Whether there is one.
+    pub fn are_any(&self) -> bool
+        ensures { result ≡ are_any self.now }
+    {
+        !self.list.is_empty()
+    }
+}

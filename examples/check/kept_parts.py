@@ -1,0 +1,163 @@
+"""Archives in parts, for kept.py: a folder of files, of which the newest is kept."""
+import contextlib
+import os
+import shutil
+import signal
+import sqlite3
+
+from kept_devices import Device, Log, serve
+from kept_judge import in_use, no_use
+from kept_rounds import said
+
+# Of a part what the next one has: its logs, its beginnings, and the newest item of each log.
+LOGS = "SELECT * FROM logs ORDER BY id"
+BEGINNINGS = "SELECT * FROM beginnings ORDER BY id"
+NEWEST = "SELECT * FROM items WHERE id IN (SELECT max(id) FROM items GROUP BY id >> 47) ORDER BY id"
+FULL = ("--part=1",)
+
+
+def read(file, *questions):
+    with contextlib.closing(sqlite3.connect(f"file:{file}?mode=ro&immutable=1", uri=True)) as base:
+        return [base.execute(question).fetchall() for question in questions]
+
+
+def names(folder):
+    return sorted(name for name in os.listdir(folder) if name.endswith(".db"))
+
+
+def octets(file):
+    with open(file, "rb") as opened:
+        return opened.read()
+
+
+def together(folder, merged):
+    """One file with the rows of all parts, as ARCHIVE tells to make it."""
+    parts = names(folder)
+    for end in ("", "-wal"):
+        if os.path.exists(merged + end):
+            os.remove(merged + end)
+    shutil.copyfile(f"{folder}/{parts[-1]}", merged)
+    if os.path.exists(f"{folder}/{parts[-1]}-wal"):
+        shutil.copyfile(f"{folder}/{parts[-1]}-wal", f"{merged}-wal")
+    with contextlib.closing(sqlite3.connect(merged)) as base:
+        for name in parts[:-1]:
+            base.execute("ATTACH ? AS part", (f"{folder}/{name}",))
+            base.execute("INSERT OR IGNORE INTO items SELECT * FROM part.items")
+            base.commit()
+            base.execute("DETACH part")
+    return merged
+
+
+def fill(file):
+    """A megabyte of free pages in a file: the next part is begun."""
+    with contextlib.closing(sqlite3.connect(file)) as base:
+        base.execute("CREATE TABLE full (octets BLOB)")
+        base.execute("INSERT INTO full VALUES (zeroblob(?))", (2**20,))
+        base.execute("DROP TABLE full")
+        base.commit()
+        base.execute("PRAGMA wal_checkpoint(TRUNCATE)")
+
+
+def begun(judge, name, count=12):
+    """A folder with one part, in which the logs of a device are kept."""
+    device = Device([Log(1, 40000), Log(2, 50), Log(3, 50)], name)
+    serve([device])
+    folder = f"{judge.room}/{name}"
+    os.mkdir(folder)
+    for log in (1, 2):
+        device.logs[log].log(count)
+    return device, folder
+
+
+def whole(judge, name, folder, devices):
+    judge.judge(name, together(folder, f"{judge.room}/merged.db"), devices, True)
+
+
+def parts(judge, _runs):
+    """The newest part is kept; where it is full the next one is begun, with its logs, its beginnings and its newest items."""
+    device, folder = begun(judge, "plant")
+    first, second = f"{folder}/000001.db", f"{folder}/000002.db"
+    judge.same("of no folder no part is made", judge.ran(["keep", f"{judge.room}/none/", device.address])[0], 6)
+    judge.same("of an empty folder without a device", judge.ran(["keep", folder]), no_use(first, "there is no such file"))
+    judge.same("an empty folder", judge.ran(["keep", folder, device.address, "1"]), (0, said(device, 12, 0, "caught up, next 13"), ""))
+    judge.same("has one part", names(folder), ["000001.db"])
+    judge.ran(["keep", folder, device.address])
+    device.logs[1].log(2900)
+    device.logs[2].purge()
+    device.logs[2].log(60)
+    judge.same("it goes on", judge.ran(["keep", folder])[0], 0)
+    device.logs[1].log(3)
+    judge.same("at its usual size it is one part", (judge.ran(["keep", folder, *FULL])[0], names(folder)), (0, ["000001.db"]))
+    whole(judge, "one part", folder, [device])
+    device.logs[1].log(16000)
+    judge.same("it is full behind this run", (judge.ran(["keep", folder, "--count=100", *FULL])[0], names(folder)), (0, ["000001.db"]))
+    whole(judge, "a full part", folder, [device])
+    before, old = octets(first), read(first, LOGS, BEGINNINGS, NEWEST)
+    status, out, errors = judge.ran(["keep", folder, *FULL])
+    judge.same("the next one is begun", (status, errors, names(folder)), (0, "", ["000001.db", "000002.db"]))
+    judge.same("with what it follows on", read(second, LOGS, BEGINNINGS, "SELECT * FROM items ORDER BY id"), old)
+    judge.same("its lines are those of any run", out.count(" 0 records 0 gaps caught up"), 3)
+    device.logs[1].log(7)
+    device.logs[3].log(2)
+    judge.same("it goes on in the next one", judge.ran(["keep", folder])[0], 0)
+    judge.same("the first is as it was", octets(first) == before, True)
+    whole(judge, "two parts", folder, [device])
+    # A file of before is the first part.
+    moved = f"{judge.room}/moved"
+    os.mkdir(moved)
+    shutil.copyfile(first, f"{moved}/000001.db")
+    judge.same("a file becomes a folder", judge.ran(["keep", moved])[0], 0)
+    whole(judge, "a file that became a folder", moved, [device])
+
+
+def parts_refused(judge, _runs):
+    """A part that is no archive is refused by its name, and so is the one before where the next is to follow on it."""
+    device, folder = begun(judge, "refused")
+    judge.ran(["keep", folder, device.address])
+    first, second, third = (f"{folder}/00000{n}.db" for n in (1, 2, 3))
+    open(second, "wb").close()
+    shutil.move(first, f"{first}.away")
+    judge.same("the one before is gone", judge.ran(["keep", folder]), no_use(first, "there is no such file"))
+    shutil.move(f"{first}.away", first)
+    with contextlib.closing(sqlite3.connect(first, isolation_level=None)) as base:
+        base.execute("BEGIN EXCLUSIVE")
+        judge.same("the one before is in use", judge.ran(["keep", folder]), in_use(first))
+    with contextlib.closing(sqlite3.connect(f"{folder}/other.db")) as base:
+        base.execute("CREATE TABLE other (id INTEGER PRIMARY KEY)")
+        base.commit()
+    judge.same("it follows on where one was begun", (judge.ran(["keep", folder])[0], read(second, LOGS) == read(first, LOGS)), (0, True))
+    shutil.move(f"{folder}/other.db", third)
+    status, out, errors = judge.ran(["keep", folder])
+    judge.is_right("the newest is another's", (status, out) == (6, "") and errors.startswith(f"file fault\n{third}: "), (status, out, errors))
+    open(f"{folder}/000004.db", "wb").close()
+    status, out, errors = judge.ran(["keep", folder])
+    judge.is_right("so is the one before", (status, out) == (6, "") and errors.startswith(f"file fault\n{third}: "), (status, out, errors))
+    judge.same("nothing is made of it", read(f"{folder}/000004.db", "SELECT name FROM sqlite_master"), [[]])
+    os.remove(third)
+    judge.same("nor where that is gone", judge.ran(["keep", folder]), no_use(third, "there is no such file"))
+    judge.same("nothing is made of it then", read(f"{folder}/000004.db", "SELECT name FROM sqlite_master"), [[]])
+
+
+def parts_ended(judge, _runs):
+    """Ended before each call on files while a part is begun, or a call that fails: the next run goes on, and nothing is lost or twice."""
+    device, first = begun(judge, "ended", 40)
+    judge.ran(["keep", first, device.address])
+    judge.is_right("the part is small", os.path.getsize(f"{first}/000001.db") < 2**20)
+    fill(f"{first}/000001.db")
+    judge.is_right("the part is full", os.path.getsize(f"{first}/000001.db") >= 2**20)
+    for fails in (False, True):
+        made = set()
+        for call in range(1, 120):
+            folder = f"{judge.room}/ended {fails}"
+            shutil.rmtree(folder, ignore_errors=True)
+            shutil.copytree(first, folder)
+            device.logs[2].log(1)
+            ended = {**judge.ending_at(call), **({"FAILS": "yes"} if fails else {})}
+            status, _out, errors = judge.ran(["keep", folder, *FULL], env=ended)
+            made.add(len(names(folder)))
+            if status == 0:
+                break
+            judge.is_right(f"begun, call {call}: its end", status == (6 if fails else -signal.SIGKILL), (status, errors))
+            judge.same(f"begun, behind call {call}", (judge.ran(["keep", folder, *FULL])[0], judge.ran(["keep", folder])[0]), (0, 0))
+            whole(judge, f"begun, behind call {call}", folder, [device])
+        judge.is_right("calls while a part is begun", call > 10, (call, made))
