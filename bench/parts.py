@@ -50,12 +50,12 @@ def main():
     keep = [program, "keep", folder]
     cost(f"a first run of {logs} logs", [*keep, device.address])
     first, log = f"{folder}/000001.db", device.logs[1]
-    add(first, log, 100000)
-    octets = os.path.getsize(first) / 100000
-    rows = int((2**25 - os.path.getsize(first)) / octets) - 2000
-    add(first, log, rows)
-    cost(f"nothing new, the newest part has {os.path.getsize(first) / 2**20:.1f} MiB and {rows + 100000} rows", keep)
-    add(first, log, 4000)
+    while os.path.getsize(first) < 2**25 - 2**19:
+        add(first, log, 5000)
+    rows = log.total
+    cost(f"nothing new, the newest part has {os.path.getsize(first) / 2**20:.1f} MiB and {rows} rows", keep)
+    while os.path.getsize(first) < 2**25:
+        add(first, log, 5000)
     cost(f"the next part is begun behind {os.path.getsize(first) / 2**20:.1f} MiB", keep)
     if not os.path.exists(f"{folder}/000002.db"):
         sys.exit("it isn't there")

@@ -249,8 +249,8 @@ fn settle_known<S: Sockets, A: Alter, E: Write>(
 
 /// Keeps what is new of each of these logs in an archive; answers the greatest of their statuses.
 /// Devices that no router is in front of are called at once, before the first log, if they are two
-/// or more: by the clock, which is read for how long each is waited for. A device is asked once what
-/// it says of itself; one that tells another instance than the one on record isn't asked for its
+/// or more: by the clock, which is read for how long each is waited for. A device is asked once
+/// what it says of itself; one that tells another instance than the one on record isn't asked for its
 /// logs, nor is one that gave no answer before. A device that tells at a new place the instance on
 /// record of logs at another one has moved, if nobody tells it there. The errors have a line for
 /// such a device, for a log that began anew, and for one whose walk failed: what came in place of

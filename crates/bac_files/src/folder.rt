@@ -1,4 +1,5 @@
-//! A folder of parts: files with a name of six digits and `.db`, the greatest of which is the newest.
+//! A folder of parts: files with a name of six digits and `.db`, of which the greatest is the
+//! newest.
 
 ghost use Rattle.std.specs.Prelude.{Bool, IfErr, IfOk};
 ghost use Rattle.bac_files.specs.Files.{IsReason};

@@ -45,8 +45,8 @@ given_of options = record {
   dadr = options.dadr;
 }
 
--- With ADDRESS alone those of the device, each asked for as `bac log` with these words asks for log 0; with INSTANCEs the
--- logs that they name, each once.
+-- With ADDRESS alone those of the device, each asked for as `bac log` with these words asks for log 0; with INSTANCEs
+-- the logs that they name, each once.
 abbrev pub Seeks : Given → Group → Sought → Type 0
 Seeks given group (Device like) =
     (group.instances ≡ []) × IsAskedBy (log_words group.address (codes "0") given) like
@@ -88,8 +88,8 @@ abbrev pub EndsOver : {S P C : Type 0} → SocketRules S P → StartedClock C �
 EndsOver rules clock which given before after found fault =
     (archive : Database) × IsArchiveOf found archive × EndsRunOver rules clock given which before after archive fault
 
--- Why the logs that were chosen aren't kept in the archive that two files held: it is none; or what it is to begin on is
--- no use; or the run over it ends so.
+-- Why the logs that were chosen aren't kept in the archive that two files held: it is none; or what it is to begin on
+-- is no use; or the run over it ends so.
 abbrev pub RefusesKeep : {S P C : Type 0} → SocketRules S P → StartedClock C → (FileFault → Type 0) → Chosen → Given → S
     → S → Database → FileFault → Type 0
 RefusesKeep rules clock bars which given before after found why =

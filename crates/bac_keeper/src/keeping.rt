@@ -90,7 +90,8 @@ fn seek_each(alloc: Global, groups: &[Group], options: &Options<'_>) -> Result<V
     ensures seeks { IfOk result
         (λ all. AllZip (Seeks (given_in options.now)) groups.now all.items) }
     ensures none { IfErr result (λ fault. WantsMemory fault
-        ⊎ ((group : _) × Contains groups.now group × SeeksNone (given_in options.now) group fault)) }
+        ⊎ ((group : _) × Contains groups.now group
+        × SeeksNone (given_in options.now) group fault)) }
 {
     let mut all = Vec::new(alloc);
     for group in groups {

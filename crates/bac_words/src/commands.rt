@@ -403,7 +403,7 @@ printed with its class and its code:"
     let command = with(command, option(alloc, Word::Steps, "N", help))?;
     let help = "Records a question asks for: 1 to 100; 100 if left out";
     let command = with(command, option(alloc, Word::Records, "N", help))?;
-    let help = "How large a part is when the next one is begun: 1 to 4096";
+    let help = "A part is full at so many MiB: 1 to 4096";
     let command = with(command, option_or(alloc, Word::Part, "MIB", "32", help))?;
     let help = "Ask these logs no more; adding them starts them again";
     let command = with(command, flag(alloc, Word::Stop, help))?;
