@@ -164,7 +164,7 @@ wrong 'no value' '--value: a value of the tag: none for 0, else one; bac wp --he
 bac wi 127.0.0.1 --max=5
 wrong '--max alone' '--max: a number from 0 to 4194303, beside --min'
 bac keep a.db --stop
-wrong '--stop alone' '--stop: an option without a value, beside ADDRESS'
+wrong '--stop alone' '--stop: an option without a value, beside one ADDRESS'
 bac rp 127.0.0.1 8 123 77 --dnet=7
 wrong '--dnet alone' '--dadr: 2 to 30 hexadecimal digits, an even number, beside --dnet'
 bac log 127.0.0.1 1 1 --dnet=65535 --dadr=0a

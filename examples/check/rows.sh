@@ -126,7 +126,7 @@ mended_word() {
         # An address where nobody answers, so that what is taken ends soon.
         words=("${@/#10.0.0.1/127.0.0.1}")
         at=1
-        for place in ${places[$tool]}; do
+        for place in ${places[$tool]-}; do
             [ "$place" != "$named" ] || words[at]=$end
             at=$((at + 1))
         done
@@ -134,13 +134,19 @@ mended_word() {
         [ "$tool $named" != 'wi ADDRESS' ] || words=(wi "$end")
         # So it is of several instances.
         [ "$tool $named" != 'logs INSTANCE' ] || words=(logs 127.0.0.1 "$end")
+        # And of several devices of `keep`, whose file isn't one of this folder.
+        case "$tool $named" in
+            'keep ADDRESS') words=(keep "$room/words.db" "$end") ;;
+            'keep INSTANCE') words=(keep "$room/words.db" 127.0.0.1 "$end") ;;
+            'keep '*) words[1]=$room/words.db ;;
+        esac
         case $named in
             --max) with_option --min 0 ;;
             --dadr) with_option --dnet 1 ;;
             --dnet) [ "$tool" = wi ] || with_option --dadr 01 ;;
         esac
         [ "$tool" = serve ] || with_option --timeout 1
-        case $tool in rp | wp | log | logs) with_option --retries 0 ;; esac
+        case $tool in rp | wp | log | logs | keep) with_option --retries 0 ;; esac
         case $named in --*) with_option "$named" "$end" ;; esac
         told=$(timeout 1 "$program" "${words[@]}" < /dev/null 2>&1 > "$room/out" | grep -e "^$named: " -e '^error')
         is "$* with $end as $named" "$told" ''
