@@ -1,8 +1,9 @@
 #!/usr/bin/env python3
 """kept.py PROGRAM ROOM RUNS SEED KILLS: judges `PROGRAM keep` from outside, for kept.sh.
 
-RUNS runs keep the logs of four sites, each in a file of its own, while the devices of kept_devices.py log records, lose
-datagrams, purge and overwrite their logs, set their clocks back, are started and begin anew; most of the runs are ended by SIGKILL at any moment. Others
+RUNS runs keep the logs of four sites, two in a file of their own each and two in a folder of small parts, while the
+devices of kept_devices.py log records, lose datagrams, purge and overwrite their logs, set their clocks back, are started
+and begin anew; most of the runs are ended by SIGKILL at any moment. Others
 are ended before each of their calls on files in turn, by KILLS, the library of kills.c, or have that call fail. After each
 run the file is compared with what the devices logged (kept_judge.py). The cases of kept_cases.py follow. As many of all that as there
 are cores go on at once. Prints what is wrong, and `N passed, M failed` at the end."""
@@ -17,6 +18,7 @@ import sys
 import time
 
 import kept_cases
+import kept_parts
 from kept_apart import in_file
 from kept_devices import LAST, Device, Log, chance, lock, serve
 from kept_judge import Judge
@@ -24,14 +26,13 @@ from kept_judge import Judge
 SITES = 4
 
 
+# A run that waits as long as a busy machine may need, and one that doesn't wait long for what was lost.
+LONG, SHORT = ("--timeout=5000",), ("--timeout=20", "--retries=1")
+
+
 def whole(words):
-    """A run that waits as long as a busy machine may need."""
-    return ["keep", *words, "--timeout=5000"]
-
-
-def hasty(words):
-    """A run that doesn't wait long for what was lost."""
-    return ["keep", *words, "--timeout=20", "--retries=1"]
+    """A run over a file that waits long."""
+    return ["keep", *words, *LONG]
 
 
 def started(device):
@@ -69,10 +70,56 @@ def changed(device, log):
         log.log(chance.choice((1, 5, kept + 100 if tells else min(kept + 3, log.room_for - 5))))
 
 
-def doubted(judge, name, devices, file, errors):
+class OneFile:
+    """An archive in one file."""
+
+    def __init__(self, name):
+        self.name = self.judged = name
+
+    def keep(self, *words):
+        return ["keep", self.name, *words]
+
+    def judge(self, judge, name, devices, all_of_it=False):
+        """What was logged is in `judged`, which has all of it."""
+        judge.judge(name, self.judged, devices, all_of_it)
+
+    def goes_on(self):
+        """Between two runs."""
+
+    def is_over(self, judge):
+        """Behind all runs."""
+
+
+class Parts(OneFile):
+    """An archive in the parts of a folder; now and then the next run begins one."""
+
+    def __init__(self, name):
+        super().__init__(name)
+        self.judged = f"{name}.together"
+        os.mkdir(name)
+
+    def keep(self, *words):
+        return [*super().keep(*words), *kept_parts.FULL]
+
+    def judge(self, judge, name, devices, all_of_it=False):
+        kept_parts.together(self.name, self.judged)
+        super().judge(judge, name, devices, all_of_it)
+
+    def goes_on(self):
+        newest = f"{self.name}/{kept_parts.names(self.name)[-1]}"
+        if chance.random() < 0.1 and kept_parts.is_begun(newest):
+            kept_parts.fill(newest)
+
+    def is_over(self, judge):
+        numbers = [int(name[:6]) for name in kept_parts.names(self.name)]
+        judge.is_right("parts are begun", numbers == [at + 1 for at in range(len(numbers))] and len(numbers) > 1, numbers)
+
+
+def doubted(judge, name, devices, archive, errors):
     """Nothing is in doubt of a log whose device tells both when it was started and its revision, as they were when its
     records were kept, in the file that was judged last. How many are."""
-    kept = {f"{address} {instance}": word for address, instance, *word in in_file(f"{file}.copy", "SELECT address, instance, restart, revision FROM logs")}
+    question = "SELECT address, instance, restart, revision FROM logs"
+    kept = {f"{address} {instance}": word for address, instance, *word in in_file(f"{archive.judged}.copy", question)}
     told = {device.address: list(device.word()) for device in devices}
     in_doubt = [line.split(" began")[0] for line in errors.splitlines() if line.endswith(" began anew or its clock was set back")]
     wrong = [log for log in in_doubt if None not in kept[log] and kept[log] == told[log.split()[0]]]
@@ -80,24 +127,24 @@ def doubted(judge, name, devices, file, errors):
     return len(in_doubt)
 
 
-def settle(judge, name, devices, file):
+def settle(judge, name, devices, archive):
     """A whole run, which has to catch up with all."""
     with lock:
         for device in devices:
             device.loses = 0.0
-    status, out, errors = judge.ran(whole([file]))
-    doubted(judge, name, devices, file, errors)
+    status, out, errors = judge.ran(archive.keep(*LONG))
+    doubted(judge, name, devices, archive, errors)
     judge.is_right(f"{name}: a whole run", status == 0, f"status {status}: {out} {errors}")
-    judge.judge(f"{name}: all of it", file, devices, True)
+    archive.judge(judge, f"{name}: all of it", devices, True)
     for device in devices:
         for log in device.logs.values():
             log.fresh = False
     return errors.count(" began anew\n")
 
 
-def a_run(judge, file, seconds):
+def a_run(judge, archive, seconds):
     """A run that is killed after so many seconds, if it hasn't ended; its status and what it told."""
-    process = judge.started(hasty([file]))
+    process = judge.started(archive.keep(*SHORT))
     try:
         errors = process.communicate(timeout=seconds)[1]
     except subprocess.TimeoutExpired:
@@ -123,17 +170,27 @@ def site():
     return devices
 
 
-def at_random(judge, runs):
+def in_one_file(judge, runs):
+    """Runs over a site that is kept in a file."""
+    return at_random(judge, runs, OneFile(f"{judge.room}/site.db"))
+
+
+def in_parts(judge, runs):
+    """Runs over a site that is kept in parts."""
+    return at_random(judge, runs, Parts(f"{judge.room}/site"))
+
+
+def at_random(judge, runs, archive):
     """Runs over a site, most of which are killed at a random moment."""
-    devices, file = site(), f"{judge.room}/site.db"
+    devices = site()
     # Four devices are named log by log, the others by their Object_List.
     for at, device in enumerate(devices):
         named = [str(instance) for instance in device.logs] if at < 4 else []
-        status, out, errors = judge.ran(whole([file, device.address, *named]))
+        status, out, errors = judge.ran(archive.keep(device.address, *named, *LONG))
         judge.is_right("a device is added", status == 0 and out.count("caught up") == 8, f"{status}: {out} {errors}")
-    judge.judge("all logs are added", file, devices, True)
+    archive.judge(judge, "all logs are added", devices, True)
     began = time.monotonic()
-    settle(judge, "the first run", devices, file)
+    settle(judge, "the first run", devices, archive)
     took = time.monotonic() - began
     ends, anew, doubts = collections.Counter(), 0, 0
     for at in range(runs):
@@ -145,18 +202,20 @@ def at_random(judge, runs):
                 for log in device.logs.values():
                     if chance.random() < 0.3:
                         changed(device, log)
-        status, errors = a_run(judge, file, chance.uniform(0, 1.5 * took) if chance.random() < 0.75 else 120)
+        archive.goes_on()
+        status, errors = a_run(judge, archive, chance.uniform(0, 1.5 * took) if chance.random() < 0.75 else 120)
         ends[status] += 1
         anew += errors.count(" began anew\n")
-        doubts += doubted(judge, f"run {at}", devices, file, errors)
+        doubts += doubted(judge, f"run {at}", devices, archive, errors)
         judge.is_right(f"run {at}", status in (-signal.SIGKILL, 0, 2), f"status {status}: {errors}")
-        judge.judge(f"run {at}", file, devices)
+        archive.judge(judge, f"run {at}", devices)
         if at % 10 == 9 or at == runs - 1:
-            anew += settle(judge, f"behind run {at}", devices, file)
+            anew += settle(judge, f"behind run {at}", devices, archive)
     # Were there none of them, the runs above would show nothing.
     if runs >= 20:
         judge.is_right("runs are killed", ends[-signal.SIGKILL] >= runs // 5, dict(ends))
         judge.is_right("devices begin anew", anew > 0 and doubts > 0, (anew, doubts))
+        archive.is_over(judge)
     return f"{runs} runs, {ends[-signal.SIGKILL]} of them killed, {ends[2]} lost a log; {anew} times a log began anew, {doubts} times it may have"
 
 
@@ -182,7 +241,7 @@ def at_each_call(judge, _runs):
             if status != -signal.SIGKILL:
                 break
         judge.is_right("calls are counted", status == 0 and call > 5, f"status {status} at call {call}: {errors}")
-        settle(judge, f"behind {call} calls", devices, file)
+        settle(judge, f"behind {call} calls", devices, OneFile(file))
     return f"{count} runs were ended at a call on files"
 
 
@@ -222,7 +281,7 @@ def faults_at_each_call(judge, _runs):
     judge.is_right("calls that fail are counted", status == 0 and call > 5, f"status {status} at call {call}: {errors}")
     # All lines were printed, so what failed is the close.
     judge.is_right("a close that fails is told", in_the_close > 0)
-    settle(judge, f"behind {call} faults", devices, file)
+    settle(judge, f"behind {call} faults", devices, OneFile(file))
     return f"{call} calls on files failed"
 
 
@@ -271,7 +330,7 @@ def main(program, room, runs, seed, kills):
     common = (program, room, seed, kills)
     tasks = [at_each_call, a_first_run_at_each_call, faults_at_each_call, full_disk, *kept_cases.CASES]
     share = -(-int(runs) // SITES)
-    jobs = [(at_random, f"at_random_{at}", share, common) for at in range(SITES)]
+    jobs = [((in_one_file, in_parts)[at % 2], f"at_random_{at}", share, common) for at in range(SITES)]
     jobs += [(task, task.__name__, 0, common) for task in tasks]
     passed = failed = 0
     with multiprocessing.get_context("fork").Pool(min(SITES, os.cpu_count()), maxtasksperchild=1) as pool:

@@ -30,18 +30,29 @@ def octets(file):
         return opened.read()
 
 
+def copied(file, copy):
+    """A copy of a file and of the log beside it."""
+    for end in ("", "-wal", "-shm"):
+        if os.path.exists(copy + end):
+            os.remove(copy + end)
+        if end != "-shm" and os.path.exists(file + end):
+            shutil.copyfile(file + end, copy + end)
+    return copy
+
+
+def is_begun(file):
+    """Whether a part has the tables of an archive: one that a run was making when it ended has none."""
+    with contextlib.closing(sqlite3.connect(copied(file, f"{file}.copy"))) as base:
+        return bool(base.execute("SELECT 1 FROM sqlite_master WHERE name = 'gaps'").fetchall())
+
+
 def together(folder, merged):
     """One file with the rows of all parts, as ARCHIVE tells to make it."""
-    parts = names(folder)
-    for end in ("", "-wal"):
-        if os.path.exists(merged + end):
-            os.remove(merged + end)
-    shutil.copyfile(f"{folder}/{parts[-1]}", merged)
-    if os.path.exists(f"{folder}/{parts[-1]}-wal"):
-        shutil.copyfile(f"{folder}/{parts[-1]}-wal", f"{merged}-wal")
+    parts = [name for name in names(folder) if is_begun(f"{folder}/{name}")]
+    copied(f"{folder}/{(parts or names(folder))[-1]}", merged)
     with contextlib.closing(sqlite3.connect(merged)) as base:
         for name in parts[:-1]:
-            base.execute("ATTACH ? AS part", (f"{folder}/{name}",))
+            base.execute("ATTACH ? AS part", (copied(f"{folder}/{name}", f"{merged}.part"),))
             base.execute("INSERT OR IGNORE INTO items SELECT * FROM part.items")
             base.commit()
             base.execute("DETACH part")
