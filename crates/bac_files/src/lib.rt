@@ -1,9 +1,9 @@
 //! Database files: opened by their names, and closed.
 //!
 //! [`DiskFiles`] are the files of the machine, of which a `Start` of the kit says what they hold.
-//! What is done to them is stated from that to what they hold once they are closed (specs/Files). An
-//! archive is kept in one file, or in the parts of a folder (specs/Parts); of which part there is,
-//! as of paths, nothing is stated.
+//! What is done to them is stated from that to what they hold once they are closed (specs/Files).
+//! An archive is kept in one file, or in the parts of a folder (specs/Parts); of which part there
+//! is, as of paths, nothing is stated.
 #![tactic(auto)]
 
 mod disk_files;

@@ -19,7 +19,8 @@ pub(crate) fn archive(alloc: Global) -> Result<Connection<MemStore>, Fail> {
 pub(crate) fn archive_with(alloc: Global, log: i64) -> Result<Connection<MemStore>, Fail> {
     let mut conn = archive(alloc)?;
     let _ = conn.execute(
-        "INSERT INTO logs (id, address, dnet, dadr, instance, name, stopped) VALUES (?1, '192.0.2.1', 0, '', 1, 'Zone temperature', 0)",
+        "INSERT INTO logs (id, address, dnet, dadr, instance, name, stopped) \
+         VALUES (?1, '192.0.2.1', 0, '', 1, 'Zone temperature', 0)",
         &[log.to_sql()],
     )?;
     Ok(conn)

@@ -57,14 +57,17 @@ fn two_logs(alloc: Global) -> Result<Connection<MemStore>, Fail> {
 fn changed_row(conn: &mut Connection<MemStore>) -> Result<String, Fail> {
     first(
         conn,
-        "SELECT address || ' ' || instance || ' ' || name || ' ' || device || ' ' || restart || ' ' || revision || ' ' || stopped FROM logs WHERE id = 2",
+        "SELECT address || ' ' || instance || ' ' || name || ' ' || device || ' ' || restart \
+         || ' ' || revision || ' ' || stopped FROM logs WHERE id = 2",
     )
 }
 
 fn told_rows(conn: &mut Connection<MemStore>) -> Result<i64, Fail> {
     first(
         conn,
-        "SELECT count(*) FROM logs WHERE device IS NOT NULL OR restart IS NOT NULL OR revision IS NOT NULL OR stopped <> 0 OR address <> '192.0.2.' || id OR name <> 'Zone' OR instance <> 1",
+        "SELECT count(*) FROM logs WHERE device IS NOT NULL OR restart IS NOT NULL \
+         OR revision IS NOT NULL OR stopped <> 0 OR address <> '192.0.2.' || id \
+         OR name <> 'Zone' OR instance <> 1",
     )
 }
 

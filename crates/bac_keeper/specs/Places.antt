@@ -19,7 +19,8 @@ use Rattle.bac_words.specs.Groups.{are_any}
 use Rattle.bac_words.specs.declared.job.Keep.{Keep}
 
 module _ {S P C F G : Type 0} {s : start.Ghosts F} {t : start.Ghosts G} (rules : SocketRules S P)
-    (clock : StartedClock C) (g : disk.Ghosts (FileOf s)) (h : disk.Ghosts (FileOf t)) (image before_image : Image) where
+    (clock : StartedClock C) (g : disk.Ghosts (FileOf s)) (h : disk.Ghosts (FileOf t))
+    (image before_image : Image) where
   -- The logs that the words choose were kept in the archive at the place of FILE, which was opened by its name. Where a
   -- part is begun it follows on the one before it.
   abbrev pub KeepsAt : Keep → S → S → Held → Held → DiskFiles F s → DiskFiles G t → ℕ → Type 0

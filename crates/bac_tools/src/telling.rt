@@ -34,8 +34,8 @@ fn range_of<'a>(word: Word) -> &'a str
         Word::Csv | Word::Numbers | Word::Trace => "an option without a value",
         Word::Stop => "an option without a value, beside one ADDRESS",
         Word::Address =>
-            "A.B.C.D or A.B.C.D:PORT, each of A to D from 0 to 255, PORT from 1 to 65535; for bac wi \
-             also with /20 to /32 behind it",
+            "A.B.C.D or A.B.C.D:PORT, each of A to D from 0 to 255, PORT from 1 to 65535; for bac \
+             wi also with /20 to /32 behind it",
         Word::Local =>
             "A.B.C.D or A.B.C.D:PORT, each of A to D from 0 to 255, PORT from 1 to 65535",
         Word::ObjectType => "a number from 0 to 1023",
