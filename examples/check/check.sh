@@ -174,7 +174,7 @@ wrong 'a word that is no text' "a word isn't UTF-8"
 
 # Addresses that standard input lists: none, a bad one (lines count with comments and empty ones), one more than a list
 # may have, more octets, a folder; `-` stands alone.
-address='a line is A.B.C.D or A.B.C.D:PORT, A to D from 0 to 255, PORT from 1 to 65535; /20 to /32 may stand behind it'
+address='a line is A.B.C.D or A.B.C.D:PORT, A to D from 0 to 255, PORT from 1 to 65535; for bac wi /20 to /32 may stand behind it, for bac keep it may be one of bac wi'
 bac wi - < /dev/null
 wrong 'no address in a list' 'no address'
 printf '# stations\n\n\r\n' > "$room/list"

@@ -13,6 +13,11 @@ def line(device, instance, records, end, way=""):
     return f"{device.address}{way} {instance} {records} record{'s' * (records != 1)} 0 gaps {end}\n"
 
 
+def untold(device, end, way=""):
+    """The line of a device that didn't tell its Object_List."""
+    return f"{device.address}{way} didn't tell its Object_List: {end}\n"
+
+
 def in_file(file, *statements):
     """The rows of the last of these statements."""
     base = sqlite3.connect(file)
@@ -122,7 +127,7 @@ def dead_devices(judge, _runs):
     judge.same("adds none", in_file(file, "SELECT instance FROM logs"), [])
     dead.answers = 7
     status, out, errors = judge.ran(["keep", f"{judge.room}/c.db", dead.address, *QUICK])
-    judge.is_right("dead in the midst of its list", status == 2 and out == "" and errors == f"lost\nno answer came from {dead.address}\n", (status, out, errors))
+    judge.same("dead in the midst of its list", (status, out, errors), (2, untold(dead, "lost"), f"{dead.address}: no answer came from {dead.address}\n"))
     # Two devices behind one router have one address.
     behind = Device([Log(1, 50)], "behind", (5, b"\x07"))
     behind.logs[1].log(4)

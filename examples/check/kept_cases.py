@@ -19,7 +19,7 @@ from kept_devices import Device, Log, chance, lock, serve, wait_until_asked
 from kept_doubts import emptied, never_begun, told_at_once
 from kept_files import barred
 from kept_judge import in_use, no_use, wrongs
-from kept_more import said_more, several
+from kept_more import listed, said_more, several, unlisted
 from kept_moved import moved, moved_at_each_call, moved_at_random, moved_ways, told_later, two_of_one
 from kept_names import names
 from kept_rounds import one, rounds, said, unheard
@@ -592,6 +592,9 @@ def served(judge, _runs):
                    (2, "", "no answer\naddresses asked: 1; devices that answer by broadcast are heard with --local=0.0.0.0:47808\n"))
         site = site_kept(judge, "127.77.77\n")
         judge.is_right("a line of a site that is no address", site[:2] == (1, "") and site[2].startswith("line 1: bad line\n"), site)
+        found = judge.ran(["wi", "127.77.77.77:9", address])[1]
+        listed = subprocess.run([judge.program, "keep", f"{judge.room}/site.db", "-"], input=found, text=True, capture_output=True)
+        judge.same("the lines of wi", (listed.returncode, listed.stdout.count("\n"), listed.stderr), (0, 2, ""))
         base = sqlite3.connect(f"{judge.room}/site.db")
         judge.same("with its names", base.execute("SELECT instance, name FROM logs ORDER BY instance").fetchall(), [(1, "pump-trend"), (2, "by-hand")])
         base.close()
@@ -667,4 +670,4 @@ def judgements(judge, _runs):
 
 CASES = [judgements, run_after_run, beginnings, options, losses, line_by_line, step_limits, last_epoch, dead_devices, dead_at_once, other_devices, words_and_names, no_archive, barred, far_away, rounds, restarts, clocks, questions, cut_files, foreign_files, a_large_file, printed, taken_over, served,
          stopped, terminals, warehouses, names, own_words, own_rule, own_lives, first_answers, renewed, moved, moved_ways, two_of_one, told_later,
-         moved_at_each_call, moved_at_random, emptied, never_begun, told_at_once, said_more, several, told_beside, told_among_others, parts, parts_refused, parts_ended]
+         moved_at_each_call, moved_at_random, emptied, never_begun, told_at_once, said_more, several, unlisted, listed, told_beside, told_among_others, parts, parts_refused, parts_ended]

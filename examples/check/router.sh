@@ -101,6 +101,9 @@ bac log "$at" 2 1 --steps=3 "${far[@]}"
 is 'three steps' "$(tail -n 1 "$room/out")|${said##*|}" 'step limit, next 4|0'
 bac log "$at" 2 oldest --dnet=8 --dadr=0a01 --timeout=100 --retries=0
 is 'a log on another network' "$said" "lost, next 1|no answer came from $at|2"
+"$program" wi "$at" --dnet=7 --timeout=500 > "$room/found"
+bac keep "$room/far.db" - < "$room/found"
+is 'the lines of wi are kept by their way' "$(grep -c "^$at/7/0a01 [12] .* caught up, next" "$room/out")|${said#*|}" '2||0'
 bac logs "$device"
 here=$said
 bac logs "$at" "${far[@]}"

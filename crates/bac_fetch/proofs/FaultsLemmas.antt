@@ -13,6 +13,7 @@ use Rattle.bac_fetch.specs.Faults.{EndsChosen, EndsKeeping, EndsKept, EndsRun, H
 use Rattle.bac_questions.specs.Faults.{EndsAsking}
 use Rattle.bac_asked.specs.Faults.{EndsLog}
 use Rattle.bac_fetch.specs.declared.keeping.Chosen.{Chosen}
+use Rattle.bac_fetch.specs.declared.unlisted.Unlisted.{Unlisted}
 use Rattle.bac_fetch.specs.declared.keeping.Chosen.TheVariants.{Kept, Sought}
 use Rattle.bac_absent.specs.Absent.{EndsCalling}
 use Rattle.bac_asked.specs.declared.wanted.Wanted.{Wanted}
@@ -91,14 +92,13 @@ copy_no_address given a b address dnet dadr instance (inr (asking, by, none)) = 
     behind (Some far) it = (dnet ∙ it.0, dadr ∙ it.1)
 
 -- the logs of a file aren't named, for which no socket is opened
-pub kept_there : {S P T : Type 0} (rules : SocketRules S P) (which : Chosen) (N A : Type 0) (sockets : S) (r : Result T NotDone) → which ≡ Kept → IfErr r (EndsKept N A)
-    → IfErr r (EndsChosen rules which N A sockets sockets)
-kept_there rules Kept N A sockets (Ok v) is it = tt
-kept_there rules Kept N A sockets (Err e) is it = (it, refl)
-kept_there rules (Sought sought) N A sockets r is it = absurd (cc)
+pub kept_there : {S P : Type 0} (rules : SocketRules S P) (which : Chosen) (N A : Type 0) (sockets : S) (fault : NotDone) → which ≡ Kept → EndsKept N A fault
+    → EndsChosen rules which N A sockets sockets fault
+kept_there rules Kept N A sockets fault is it = (it, refl)
+kept_there rules (Sought sought) N A sockets fault is it = absurd (cc)
 
 -- the run over logs that were chosen ends
-pub run_of : {S P T : Type 0} (rules : SocketRules S P) (which : Chosen) (N A B : Type 0) (before between after : S) (all : List Wanted) (r : Result T NotDone)
-    → AreFound rules which before all between → (A → B) → IfErr r (EndsRun rules (HasNoInstance all) A after) → IfErr r (EndsKeeping rules which N B before after)
-run_of rules which N A B before between after all (Ok v) found f it = tt
-run_of rules which N A B before between after all (Err e) found f it = inr (all, between, found, ends_so rules (HasNoInstance all) (HasNoInstance all) A B after e (λ n. n) f it)
+pub run_of : {S P : Type 0} (rules : SocketRules S P) (which : Chosen) (N A B : Type 0) (before between after : S) (all : List Wanted) (unlisted : List Unlisted) (fault : NotDone)
+    → AreFound rules which before all unlisted between → (A → B) → EndsRun rules (HasNoInstance all) A after fault → EndsKeeping rules which N B before after fault
+run_of rules which N A B before between after all unlisted fault found f it =
+    inr (all, unlisted, between, found, ends_so rules (HasNoInstance all) (HasNoInstance all) A B after fault (λ n. n) f it)

@@ -1,14 +1,23 @@
 -- Logs of one device after the other.
-use Rattle.std.proofs.Common.{◌≡◌, ◌∙◌, inl, inr, List, [], ◌∷◌, ◌++◌, ap, not, refl, subst}
+use Rattle.std.proofs.Common.{◌≡◌, ◌∙◌, inl, inr, ℕ, max, List, [], ◌∷◌, ◌++◌, Result, Ok, Err, ap, append_assoc, arith, not, refl, subst, sym}
 use Rattle.std.proofs.lemmas.List.Elements.{All-append, All-filter, All-same}
 use Rattle.std.specs.List.{All}
 use Rattle.bac_asked.specs.Wanted.{AsksItsSource}
 use Rattle.bac_asked.specs.declared.end.NotDone.{NotDone}
+use Rattle.bac_asked.specs.declared.end.NotDone.TheVariants.{Asking}
+use Rattle.bac_asked.specs.declared.fault.Fault.TheVariants.{Exchange, Memory, Unopened}
+use Rattle.bac_asked.specs.declared.log_words.Asking.{Asking as AskedFor}
 use Rattle.bac_asked.specs.declared.wanted.Wanted.{Wanted}
-use Rattle.bac_fetch.specs.Chosen.{AddSought, AreOfDevice, is_wanted, new_of, with_new}
+use Rattle.bac_fetch.specs.Chosen.{AddSought, AreOfDevice, is_wanted, new_of, told_by, unlisted_by, untold_in, with_new}
 use Rattle.bac_fetch.specs.Faults.{EndsAt, EndsDevice}
+use Rattle.bac_fetch.specs.Unlisted.{unlisted_line, unlisted_lines, unlisted_status}
+use Rattle.bac_fetch.specs.declared.sought.Listing.{Listing}
 use Rattle.bac_fetch.specs.declared.sought.Sought.{Sought}
+use Rattle.bac_fetch.specs.declared.unlisted.Unlisted.{Unlisted}
+use Rattle.bac_link.specs.declared.exchanges.ExchangeFault.{ExchangeFault}
 use Rattle.bac_ports.specs.Sockets.{SocketRules}
+use Rattle.bac_questions.specs.Faults.{EndsFinding}
+use Rattle.bac_questions.specs.Unfound.{FailsOver}
 
 -- with logs that are asked of the device that they are kept under all are
 pub all_ask : (before found all : List Wanted) → all ≡ with_new before found → All AsksItsSource before → All AsksItsSource found → All AsksItsSource all
@@ -16,19 +25,48 @@ all_ask before found all is asks more =
     All-same AsksItsSource all (with_new before found) is
     (All-append AsksItsSource before (new_of before found) asks (All-filter (λ (w : Wanted). not (is_wanted w.source before)) AsksItsSource found more))
 
-module _ {S P : Type 0} (rules : SocketRules S P) where
-  -- one device more
-  pub add_one : (seen : List Sought) (one : Sought) (first : List Wanted) (before : S) (known : List Wanted) (mid : S) (found all : List Wanted) (after : S)
-      → AddSought rules seen first before known mid → AreOfDevice rules one mid found after → all ≡ with_new known found
-      → AddSought rules (seen ++ one ∷ []) first before all after
-  add_one [] one first before known mid found all after (same, still) of is =
-      (found, after, subst (λ (s : S). AreOfDevice rules one s found after) still of, (is ∙ ap (λ (l : List Wanted). with_new l found) same, refl))
-  add_one (x ∷ seen) one first before known mid found all after (f, between, of_x, more) of is =
-      (f, between, of_x, add_one seen one (with_new first f) between known mid found all after more of is)
+-- the lines and the status of devices and of more of them
+pub lines_behind : (front back : List Unlisted) → unlisted_lines (front ++ back) ≡ unlisted_lines front ++ unlisted_lines back
+lines_behind [] back = refl
+lines_behind (device ∷ front) back =
+    ap (λ l. unlisted_line device ++ l) (lines_behind front back) ∙ sym (append_assoc (unlisted_line device) (unlisted_lines front) (unlisted_lines back))
 
-  -- the logs of the next device aren't found
-  pub ends_at : (seen : List Sought) (one : Sought) (rest : List Sought) (first : List Wanted) (before : S) (known : List Wanted) (mid after : S) (fault : NotDone)
-      → AddSought rules seen first before known mid → EndsDevice rules one mid after fault → EndsAt rules (seen ++ one ∷ rest) before after fault
-  ends_at [] one rest first before known mid after fault (same, still) it = inl (subst (λ (s : S). EndsDevice rules one s after fault) still it)
-  ends_at (x ∷ seen) one rest first before known mid after fault (f, between, of_x, more) it =
-      inr (f, between, of_x, ends_at seen one rest (with_new first f) between known mid after fault more it)
+pub status_behind : (front back : List Unlisted) → unlisted_status (front ++ back) ≡ max (unlisted_status front) (unlisted_status back)
+status_behind [] back = omega arith
+status_behind (device ∷ front) back = let rest = status_behind front back in omega (arith, rest)
+
+module _ {S P : Type 0} (rules : SocketRules S P) where
+  -- a device was asked for its list, and this came of it
+  pub finding_why : (like : AskedFor) (before after : S) (fault : NotDone) (why : ExchangeFault) → EndsFinding rules like before after fault → untold_in fault ≡ Ok why
+      → FailsOver rules like before why after
+  finding_why like before after fault why (inl (inl memory)) is =
+      let never : Err (Asking Memory) ≡ Ok why = subst (λ (f : NotDone). untold_in f ≡ Ok why) memory is in
+      absurd (cc)
+  finding_why like before after fault why (inl (inr (unopened, same, opens))) is =
+      let never : Err (Asking (Unopened unopened)) ≡ Ok why = subst (λ (f : NotDone). untold_in f ≡ Ok why) same is in
+      absurd (cc)
+  finding_why like before after fault why (inr (came, same, fails)) is =
+      let both : Ok came ≡ Ok why = subst (λ (f : NotDone). untold_in f ≡ Ok why) same is in
+      let one : came ≡ why = cc in
+      subst (λ (w : ExchangeFault). FailsOver rules like before w after) one fails
+
+  -- one device more
+  pub add_one : (seen : List Sought) (one : Sought) (first : List Wanted) (told : List Unlisted) (before : S) (known : List Wanted) (silent : List Unlisted) (mid : S)
+      (listing : Listing) (all : List Wanted) (after : S)
+      → AddSought rules seen first told before known silent mid → AreOfDevice rules one mid listing after → all ≡ with_new known (told_by listing)
+      → AddSought rules (seen ++ one ∷ []) first told before all (silent ++ unlisted_by listing) after
+  add_one [] one first told before known silent mid listing all after (same, none, still) of is = (
+    listing,
+    after,
+    subst (λ (s : S). AreOfDevice rules one s listing after) still of,
+    (is ∙ ap (λ (l : List Wanted). with_new l (told_by listing)) same, ap (λ (l : List Unlisted). l ++ unlisted_by listing) none, refl),
+  )
+  add_one (x ∷ seen) one first told before known silent mid listing all after (l, between, of_x, more) of is =
+      (l, between, of_x, add_one seen one (with_new first (told_by l)) (told ++ unlisted_by l) between known silent mid listing all after more of is)
+
+  -- the next device isn't asked
+  pub ends_at : (seen : List Sought) (one : Sought) (rest : List Sought) (first : List Wanted) (told : List Unlisted) (before : S) (known : List Wanted) (silent : List Unlisted) (mid after : S) (fault : NotDone)
+      → AddSought rules seen first told before known silent mid → EndsDevice rules one mid after fault → EndsAt rules (seen ++ one ∷ rest) before after fault
+  ends_at [] one rest first told before known silent mid after fault (same, none, still) it = inl (subst (λ (s : S). EndsDevice rules one s after fault) still it)
+  ends_at (x ∷ seen) one rest first told before known silent mid after fault (l, between, of_x, more) it =
+      inr (l, between, of_x, ends_at seen one rest (with_new first (told_by l)) (told ++ unlisted_by l) between known silent mid after fault more it)

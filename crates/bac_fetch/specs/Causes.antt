@@ -25,6 +25,7 @@ use Rattle.bac_questions.specs.Said.{Identifies}
 use Rattle.bac_questions.specs.Silent.{IsAmong, is_same_device}
 use Rattle.bac_questions.specs.Whose.{IsIdentified}
 use Rattle.bac_fetch.specs.declared.keeping.Chosen.{Chosen}
+use Rattle.bac_fetch.specs.declared.unlisted.Unlisted.{Unlisted}
 use Rattle.bac_questions.specs.declared.said.Identity.TheVariants.{Told}
 use Rattle.bac_questions.specs.declared.said.Said.{Said}
 use Rattle.bac_questions.specs.declared.whose.Heard.{Heard}
@@ -150,5 +151,6 @@ abbrev pub EndsRunOver : {S P C : Type 0} → SocketRules S P → StartedClock C
     → NotDone → Type 0
 EndsRunOver {S = S} rules clock given chosen before after old fault =
     EndsChosen rules chosen (HasNone old.trees) (LacksAddress given old.trees) before after fault
-    ⊎ ((all : List Wanted) × (between : S) × AreFound rules chosen before all between
+    ⊎ ((all : List Wanted) × (unlisted : List Unlisted) × (between : S)
+    × AreFound rules chosen before all unlisted between
     × EndsLogs rules clock given all between after old fault)

@@ -1,19 +1,30 @@
 -- Which logs are fetched.
-use Rattle.std.specs.Prelude.{◌≡◌, ◌≢◌, Bool, List, [], ◌∷◌, ◌++◌, map, not}
+use Rattle.std.specs.Prelude.{◌≡◌, ◌≢◌, ℕ, Bool, List, [], ◌∷◌, ◌++◌, map, not, Option, Result, Ok, Err}
+use Rattle.std.specs.Io.KnownBytes.{Appends}
 use Rattle.std.specs.List.{All, filter, list_any}
 use Rattle.sqlite_trees.specs.Tree.{Trees}
 use Rattle.bac_archive.specs.Logs.{AreLogs}
 use Rattle.bac_archive.specs.declared.trend_logs.Log.{Log}
 use Rattle.bac_archive.specs.declared.trend_logs.Source.{Source}
 use Rattle.bac_asked.specs.Wanted.{AsksItsSource, IsAskedAs}
+use Rattle.bac_asked.specs.declared.end.NotDone.{NotDone}
+use Rattle.bac_asked.specs.declared.end.NotDone.TheVariants.{Asking}
+use Rattle.bac_asked.specs.declared.fault.Fault.TheVariants.{Exchange}
 use Rattle.bac_asked.specs.declared.wanted.Wanted.{Wanted}
+use Rattle.bac_fetch.specs.Unlisted.{unlisted_lines, unlisted_status}
 use Rattle.bac_fetch.specs.declared.keeping.Chosen.{Chosen}
 use Rattle.bac_fetch.specs.declared.keeping.Chosen.TheVariants as chosen
+use Rattle.bac_fetch.specs.declared.sought.Found.{Found}
+use Rattle.bac_fetch.specs.declared.sought.Listing.{Listing}
+use Rattle.bac_fetch.specs.declared.sought.Listing.TheVariants.{Told, Untold}
 use Rattle.bac_fetch.specs.declared.sought.Sought.{Sought}
 use Rattle.bac_fetch.specs.declared.sought.Sought.TheVariants.{Device, Named}
+use Rattle.bac_fetch.specs.declared.unlisted.Unlisted.{Unlisted}
+use Rattle.bac_link.specs.declared.exchanges.ExchangeFault.{ExchangeFault}
 use Rattle.bac_ports.specs.Sockets.{SocketRules}
 use Rattle.bac_questions.specs.Discovered.{FindsOver}
 use Rattle.bac_questions.specs.Silent.{is_same_log}
+use Rattle.bac_questions.specs.Unfound.{FailsOver}
 
 -- these logs but those that are stopped
 abbrev pub not_stopped : List Log → List Log
@@ -25,9 +36,9 @@ AreKeptLogs trees all =
     (known : List Log) × AreLogs trees known
     × (map (λ (w : Wanted). w.source) all ≡ map (λ (l : Log). l.source) (not_stopped known))
 
--- logs of a device that are named are asked of the device that they are kept under
+-- logs of a device, or what they are asked like, are asked of the device that they are kept under
 abbrev pub AskOneSource : Sought → Type 0
-AskOneSource (Device like) = Unit {0}
+AskOneSource (Device like) = AsksItsSource like
 AskOneSource (Named all) = All AsksItsSource all.items
 
 -- so they are of each device that was chosen
@@ -52,22 +63,54 @@ new_of all = filter (λ (w : Wanted). not (is_wanted w.source all))
 abbrev pub with_new : List Wanted → List Wanted → List Wanted
 with_new all found = all ++ new_of all found
 
--- The logs of one device: those that it tells, each asked as this one is; or those that are named, for which no socket
--- is opened.
-abbrev pub AreOfDevice : {S P : Type 0} → SocketRules S P → Sought → S → List Wanted → S → Type 0
-AreOfDevice rules (Device like) before found after =
-    FindsOver rules like before found after × All (λ wanted. IsAskedAs like wanted.asking) found
-AreOfDevice rules (Named named) before found after = (found ≡ named.items) × (after ≡ before)
+-- the logs that were found of a device
+abbrev pub told_by : Listing → List Wanted
+told_by (Told all) = all.items
+told_by (Untold device) = []
 
--- the logs of these devices come to others in their order, each once, and what was asked for that
-abbrev pub AddSought : {S P : Type 0} → SocketRules S P → List Sought → List Wanted → S → List Wanted → S → Type 0
-AddSought rules [] before sockets all after = (all ≡ before) × (after ≡ sockets)
-AddSought {S = S} rules (one ∷ more) before sockets all after =
-    (found : List Wanted) × (between : S) × AreOfDevice rules one sockets found between
-    × AddSought rules more (with_new before found) between all after
+-- the device, if it didn't tell them
+abbrev pub unlisted_by : Listing → List Unlisted
+unlisted_by (Told all) = []
+unlisted_by (Untold device) = device ∷ []
+
+-- The logs of one device: those that it tells, each asked as this one is; or it was asked for its list and didn't tell
+-- it, for this reason; or those that are named, for which no socket is opened.
+abbrev pub AreOfDevice : {S P : Type 0} → SocketRules S P → Sought → S → Listing → S → Type 0
+AreOfDevice rules (Device like) before (Told found) after = FindsOver rules like.asking before found.items after
+    × All (λ wanted. IsAskedAs like.asking wanted.asking) found.items
+AreOfDevice rules (Device like) before (Untold device) after =
+    (device.like ≡ like) × FailsOver rules like.asking before device.why after
+AreOfDevice rules (Named named) before (Told found) after = (found ≡ named) × (after ≡ before)
+AreOfDevice rules (Named named) before (Untold device) after = ⊥
+
+-- the logs of these devices come to others in their order, each once, and those that didn't tell theirs to other such
+-- devices; and what was asked for that
+abbrev pub AddSought : {S P : Type 0} → SocketRules S P → List Sought → List Wanted → List Unlisted → S → List Wanted
+    → List Unlisted → S → Type 0
+AddSought rules [] before untold sockets all unlisted after =
+    (all ≡ before) × (unlisted ≡ untold) × (after ≡ sockets)
+AddSought {S = S} rules (one ∷ more) before untold sockets all unlisted after =
+    (listing : Listing) × (between : S) × AreOfDevice rules one sockets listing between
+    × AddSought rules more (with_new before (told_by listing)) (untold ++ unlisted_by listing) between all unlisted
+    after
 
 -- which logs are fetched, and what was asked for that: of a file at least one, for which no socket is opened; or those
--- of devices
-abbrev pub AreFound : {S P : Type 0} → SocketRules S P → Chosen → S → List Wanted → S → Type 0
-AreFound rules chosen.Kept before all after = (all ≢ []) × (after ≡ before)
-AreFound rules (chosen.Sought sought) before all after = AddSought rules sought.items [] before all after
+-- of devices, some of which may not have told theirs
+abbrev pub AreFound : {S P : Type 0} → SocketRules S P → Chosen → S → List Wanted → List Unlisted → S → Type 0
+AreFound rules chosen.Kept before all unlisted after = (all ≢ []) × (unlisted ≡ []) × (after ≡ before)
+AreFound rules (chosen.Sought sought) before all unlisted after =
+    AddSought rules sought.items [] [] before all unlisted after
+
+-- The same, and each device that didn't tell its logs has its line, and their greatest status is known.
+abbrev pub Finds : {S P : Type 0} → SocketRules S P → Chosen → S → Option (List ℕ) → Found → S → Option (List ℕ)
+    → Type 0
+Finds rules chosen before out found after out_after =
+    (unlisted : List Unlisted) × AreFound rules chosen before found.all.items unlisted after
+    × Appends out out_after (unlisted_lines unlisted) × (found.status ≡ unlisted_status unlisted)
+
+-- ---- what only private calls cite
+
+-- why a device didn't tell its list, if nothing else ended the question for it
+abbrev pub untold_in : NotDone → Result ExchangeFault NotDone
+untold_in (Asking (Exchange address why)) = Ok why
+untold_in fault = Err fault

@@ -5,7 +5,7 @@ use Rattle.sqlite_trees.specs.Tree.{Trees}
 use Rattle.bac_archive.specs.Logs.{AreLogs}
 use Rattle.bac_archive.specs.declared.trend_logs.Log.{Log}
 use Rattle.bac_asked.specs.AsLog.{Given}
-use Rattle.bac_asked.specs.Faults.{EndsLog, IsOfDatabase, WantsMemory}
+use Rattle.bac_asked.specs.Faults.{EndsLog, IsOfDatabase, RefusesLine, WantsMemory}
 use Rattle.bac_asked.specs.Wanted.{HasNoAddress}
 use Rattle.bac_asked.specs.declared.end.NotDone.{NotDone}
 use Rattle.bac_asked.specs.declared.end.NotDone.TheVariants.{Asking, File}
@@ -15,10 +15,12 @@ use Rattle.bac_asked.specs.declared.wanted.Wanted.{Wanted}
 use Rattle.bac_fetch.specs.Chosen.{AreFound, AreOfDevice, not_stopped}
 use Rattle.bac_fetch.specs.declared.keeping.Chosen.{Chosen}
 use Rattle.bac_fetch.specs.declared.keeping.Chosen.TheVariants as chosen
+use Rattle.bac_fetch.specs.declared.sought.Listing.{Listing}
 use Rattle.bac_fetch.specs.declared.sought.Sought.{Sought}
 use Rattle.bac_fetch.specs.declared.sought.Sought.TheVariants.{Device, Named}
+use Rattle.bac_fetch.specs.declared.unlisted.Unlisted.{Unlisted}
 use Rattle.bac_ports.specs.Sockets.{SocketRules}
-use Rattle.bac_questions.specs.Faults.{EndsFinding, IsUnopened}
+use Rattle.bac_questions.specs.Faults.{EndsAsking, IsUnopened}
 use Rattle.bac_words.specs.declared.job.Asked.{Asked}
 use Rattle.bac_words.specs.declared.word.Word.TheVariants.{Instance}
 
@@ -58,21 +60,23 @@ abbrev pub EndsKept : Type 0 → Type 0 → NotDone → Type 0
 EndsKept none no_address fault = WantsMemory fault ⊎ (IsOfDatabase fault
     ⊎ (((fault ≡ File NoLogs) × none) ⊎ ((fault ≡ File Address) × no_address)))
 
--- the logs of one device aren't found: it doesn't tell its own
+-- one device isn't asked for its logs: memory is wanting, or no socket was opened for it
 abbrev pub EndsDevice : {S P : Type 0} → SocketRules S P → Sought → S → S → NotDone → Type 0
-EndsDevice rules (Device like) before after fault = EndsFinding rules like before after fault
+EndsDevice rules (Device like) before after fault = EndsAsking rules like.asking.asked before after fault
 EndsDevice rules (Named all) before after fault = ⊥
 
--- so it is of one of these devices; those before it were found
+-- so it is of one of these devices; of those before it the logs were found, or they weren't told
 abbrev pub EndsAt : {S P : Type 0} → SocketRules S P → List Sought → S → S → NotDone → Type 0
 EndsAt rules [] before after fault = ⊥
 EndsAt {S = S} rules (one ∷ more) before after fault = EndsDevice rules one before after fault
-    ⊎ ((found : List Wanted) × (between : S) × AreOfDevice rules one before found between
+    ⊎ ((listing : Listing) × (between : S) × AreOfDevice rules one before listing between
     × EndsAt rules more between after fault)
 
--- the logs of these devices aren't found: memory is wanting, or those of one of them aren't
+-- the logs of these devices aren't found: memory is wanting; the output refused the line of one that didn't tell its
+-- own; or one of them isn't asked
 abbrev pub EndsSought : {S P : Type 0} → SocketRules S P → List Sought → S → S → NotDone → Type 0
-EndsSought rules sought before after fault = WantsMemory fault ⊎ EndsAt rules sought before after fault
+EndsSought rules sought before after fault =
+    (WantsMemory fault ⊎ RefusesLine fault) ⊎ EndsAt rules sought before after fault
 
 -- The logs that were chosen aren't found: those of a file aren't named, for which no socket is opened; or those of
 -- devices aren't found.
@@ -85,5 +89,6 @@ EndsChosen rules (chosen.Sought sought) none no_address before after fault =
 abbrev pub EndsKeeping : {S P : Type 0} → SocketRules S P → Chosen → Type 0 → Type 0 → S → S → NotDone → Type 0
 EndsKeeping {S = S} rules chosen none no_address before after fault =
     EndsChosen rules chosen none no_address before after fault
-    ⊎ ((all : List Wanted) × (between : S) × AreFound rules chosen before all between
+    ⊎ ((all : List Wanted) × (unlisted : List Unlisted) × (between : S)
+    × AreFound rules chosen before all unlisted between
     × EndsRun rules (HasNoInstance all) no_address after fault)

@@ -46,8 +46,10 @@ use Rattle.bac_fetch.specs.Entries.{Admits, IsEntry, Renews}
 use Rattle.bac_fetch.specs.Moves.{Settles}
 use Rattle.bac_questions.specs.Silent.{IsAmong}
 use Rattle.bac_fetch.specs.Stays.{HasRows}
+use Rattle.bac_fetch.specs.Unlisted.{unlisted_lines, unlisted_status}
 use Rattle.bac_questions.specs.Whose.{IsIdentified, IsOnRecord, heard_with, hindrance, is_silent}
 use Rattle.bac_fetch.specs.declared.entry.Entry.{Entry}
+use Rattle.bac_fetch.specs.declared.unlisted.Unlisted.{Unlisted}
 use Rattle.bac_questions.specs.declared.said.Said.{Said}
 use Rattle.bac_questions.specs.declared.whose.Heard.{Heard}
 use Rattle.bac_begin.specs.Stands.{IsStand, kept_last}
@@ -258,3 +260,11 @@ abbrev pub AreToldBy : Option (List ℕ) → Option (List ℕ) → List Wanted �
 AreToldBy before after all kept status =
     (ends : List End) × (length ends ≡ length all) × (status ≡ greatest_status ends)
     × Appends before after (lines_of all ends) × kept ends
+
+-- The same behind the lines of devices that didn't tell their Object_List, whose statuses count, too.
+abbrev pub AreToldBehind : Option (List ℕ) → Option (List ℕ) → List Unlisted → List Wanted → (List End → Type 0) → ℕ
+    → Type 0
+AreToldBehind before after unlisted all kept status =
+    (ends : List End) × (length ends ≡ length all)
+    × (status ≡ max (unlisted_status unlisted) (greatest_status ends))
+    × Appends before after (unlisted_lines unlisted ++ lines_of all ends) × kept ends

@@ -1,3 +1,4 @@
+pub mod Unlisted
 pub mod Chosen
 pub mod Fetched
 pub mod Heeds

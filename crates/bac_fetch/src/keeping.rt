@@ -13,12 +13,13 @@ ghost use Rattle.bac_fetch.specs.Causes.{EndsAll, EndsLogs, EndsRunOver, EndsSet
 ghost use Rattle.bac_fetch.specs.Causes.{FailsToSettle};
 ghost use Rattle.bac_fetch.specs.Faults.{EndsChosen, EndsKeeping, EndsKept, EndsRun, HasNoInstance};
 ghost use Rattle.bac_fetch.specs.Faults.{HasNone, LacksAddress};
-ghost use Rattle.bac_fetch.specs.Keeps.{AreToldBy, KeepsAll, KeepsLogs};
+ghost use Rattle.bac_fetch.specs.Keeps.{AreToldBehind, AreToldBy, KeepsAll, KeepsLogs};
 ghost use Rattle.bac_fetch.specs.Moves.{Settles};
 ghost use Rattle.bac_archive.specs.declared.trend_logs.Log.{Log as LogOf};
 ghost use Rattle.bac_questions.specs.declared.whose.Heard.{Heard as HeardOf};
 ghost use Rattle.bac_fetch.specs.Chosen.{AreFound, AreChosen, AreKeptLogs, AskTheirSources};
-ghost use Rattle.bac_fetch.specs.Chosen.{not_stopped};
+ghost use Rattle.bac_fetch.specs.Chosen.{Finds, not_stopped};
+ghost use Rattle.bac_fetch.specs.declared.unlisted.Unlisted.{Unlisted as UnlistedOf};
 ghost use Rattle.bac_asked.specs.AsLog.{given_in};
 ghost use Rattle.bac_asked.specs.Wanted.{AsksItsSource, HasNoAddress};
 ghost use Rattle.bac_fetch.specs.Stays.{HasAllOf};
@@ -26,7 +27,7 @@ ghost use Rattle.bac_asked.specs.declared.wanted.Wanted.{Wanted as WantedOf};
 
 use crate::moving::settle;
 use crate::single::keep_next;
-use crate::sought::{Sought, sought_logs};
+use crate::sought::{Found, Sought, sought_logs};
 use bac_absent::find_absent;
 use bac_archive::{Log, logs};
 use bac_asked::{FileFault, NotDone, Options, Wanted, add_wanted, kept_log};
@@ -250,9 +251,9 @@ fn settle_known<S: Sockets, A: Alter, E: Write>(
 /// Keeps what is new of each of these logs in an archive; answers the greatest of their statuses.
 /// Devices that no router is in front of are called at once, before the first log, if they are two
 /// or more: by the clock, which is read for how long each is waited for. A device is asked once
-/// what it says of itself; one that tells another instance than the one on record isn't asked for its
-/// logs, nor is one that gave no answer before. A device that tells at a new place the instance on
-/// record of logs at another one has moved, if nobody tells it there. The errors have a line for
+/// what it says of itself; one that tells another instance than the one on record isn't asked for
+/// its logs, nor is one that gave no answer before. A device that tells at a new place the instance
+/// on record of logs at another one has moved, if nobody tells it there. The errors have a line for
 /// such a device, for a log that began anew, and for one whose walk failed: what came in place of
 /// the answer, or what a refusal means. If it counts, they have the number of a log's records while
 /// it is fetched: for a terminal.
@@ -301,23 +302,28 @@ where
     )
 }
 
-/// Which logs were chosen, in the order in which they are fetched.
-fn chosen_logs<S: Sockets, A: Alter>(
+/// Which logs were chosen, in the order in which they are fetched. A device that doesn't tell its
+/// own is told.
+fn chosen_logs<S: Heeds, A: Alter, O: Write, E: Write>(
     sockets: &mut S,
     conn: &mut Connection<A>,
     alloc: Global,
     chosen: Chosen,
     options: &Options<'_>,
-) -> Result<Vec<Wanted>, NotDone>
+    output: &mut O,
+    errors: &mut E,
+) -> Result<Found, NotDone>
     requires { AskTheirSources chosen }
-    ensures asks { IfOk result (λ all. All AsksItsSource all.items) }
+    ensures asks { IfOk result (λ found. All AsksItsSource found.all.items) }
     ensures chosen { OverArchive (state A.Store conn.old) (state A.Store conn.new)
-        (IfOk result (λ all. AreChosen chosen (state A.Store conn.old).now.trees all.items)) }
+        (IfOk result (λ found. AreChosen chosen (state A.Store conn.old).now.trees
+        found.all.items)) }
     // Those of a file are one at least, those of a device those that are named, or those of its
     // Object_List, and no socket is opened for others.
-    ensures found { IfOk result (λ all. AreFound
+    ensures found { IfOk result (λ found. Finds
         (socket_rules S.opens S.closes S.Socket.sends S.Socket.receives
-        S.Socket.receives_within) chosen sockets.old all.items sockets.new) }
+        S.Socket.receives_within) chosen sockets.old (O.contents output.old) found sockets.new
+        (O.contents output.new)) }
     ensures same { OverArchive (state A.Store conn.old) (state A.Store conn.new)
         (OnOk result ((state A.Store conn.new).now ≡ (state A.Store conn.old).now)) }
     ensures crash { (state A.Store conn.old).now.schema ≡ archive_schema
@@ -333,12 +339,17 @@ fn chosen_logs<S: Sockets, A: Alter>(
         sockets.old sockets.new) }
 {
     match chosen {
-        Chosen::Kept => kept_logs(alloc, conn, options),
-        Chosen::Sought(sought) => sought_logs(sockets, alloc, sought),
+        Chosen::Kept => {
+            let all = kept_logs(alloc, conn, options)?;
+            Ok(Found { all, status: 0 })
+        }
+        Chosen::Sought(sought) => sought_logs(sockets, alloc, sought, output, errors),
     }
 }
 
-/// Keeps what is new of the logs that were chosen, as [`keep_each`] does.
+/// Keeps what is new of the logs that were chosen, as [`keep_each`] does. A device that doesn't
+/// tell its Object_List has a line before those of the logs, and the errors say why; the status is
+/// the greatest of all.
 pub fn keep_chosen<S: Heeds, C: Clock, A: Alter, O: Write, E: Write>(
     sockets: &mut S,
     conn: &mut Connection<A>,
@@ -354,12 +365,13 @@ where
     C: Drop,
     requires { AskTheirSources chosen }
     // They are asked of the devices under which they are kept.
-    ensures told { IfOk result (λ status. (all : List WantedOf) × (between : S)
+    ensures told { IfOk result (λ status. (all : List WantedOf)
+        × (unlisted : List UnlistedOf) × (between : S)
         × All AsksItsSource all × AreFound (socket_rules S.opens S.closes S.Socket.sends
-        S.Socket.receives S.Socket.receives_within) chosen sockets.old all between
+        S.Socket.receives S.Socket.receives_within) chosen sockets.old all unlisted between
         × (OverArchive (state A.Store conn.old) (state A.Store conn.new)
         (AreChosen chosen (state A.Store conn.old).now.trees all))
-        × AreToldBy (O.contents output.old) (O.contents output.new) all
+        × AreToldBehind (O.contents output.old) (O.contents output.new) unlisted all
         (λ ends. OverArchive (state A.Store conn.old) (state A.Store conn.new)
         (KeepsLogs (socket_rules S.opens S.closes S.Socket.sends S.Socket.receives
         S.Socket.receives_within) (started C.reads clock) all between sockets.new
@@ -383,8 +395,10 @@ where
         S.Socket.receives_within) (started C.reads clock) (given_in options.now) chosen sockets.old
         sockets.new (state A.Store conn.old).now)) }
 {
-    let all = chosen_logs(sockets, conn, alloc, chosen, options)?;
-    keep_each(
+    let found = chosen_logs(sockets, conn, alloc, chosen, options, output, errors)?;
+    let Found { all, status } = found;
+    let kept = keep_each(
         sockets, conn, alloc, clock, all, options, counts, output, errors,
-    )
+    )?;
+    Ok(status.max(kept))
 }

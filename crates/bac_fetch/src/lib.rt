@@ -13,6 +13,8 @@ mod passing;
 mod single;
 mod sought;
 mod telling;
+mod unlisted;
 
 pub use keeping::{Chosen, keep_chosen, keep_each};
-pub use sought::{Sought, is_same_log, is_wanted};
+pub use sought::{Found, Listing, Sought, is_same_log, is_wanted};
+pub use unlisted::Unlisted;

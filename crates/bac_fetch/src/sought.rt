@@ -1,29 +1,55 @@
 //! The logs of devices, one device after the other: those that are named, and those that a device
 //! tells itself.
 
-ghost use Rattle.std.specs.Prelude.{◌≡◌, ◌++◌, ◌∷◌, [], IfErr, IfOk, OnOk};
+ghost use Rattle.std.specs.Prelude.{◌≡◌, ◌⊎◌, ◌++◌, ◌∷◌, [], IfErr, IfOk};
+ghost use Rattle.std.specs.Prelude.{OnOk};
+ghost use Rattle.std.specs.Io.KnownBytes.{Appends};
 ghost use Rattle.std.specs.List.{All};
-ghost use Rattle.bac_asked.specs.Faults.{WantsMemory};
+ghost use Rattle.bac_asked.specs.Faults.{RefusesLine, WantsMemory};
 ghost use Rattle.bac_asked.specs.Wanted.{AsksItsSource};
-ghost use Rattle.bac_fetch.specs.Chosen.{AddSought, AreOfDevice, AskOneSource, is_wanted};
-ghost use Rattle.bac_fetch.specs.Chosen.{new_of, with_new};
+ghost use Rattle.bac_fetch.specs.Chosen.{AreOfDevice, AskOneSource, Finds, is_wanted};
+ghost use Rattle.bac_fetch.specs.Chosen.{new_of, told_by, unlisted_by, untold_in, with_new};
 ghost use Rattle.bac_fetch.specs.Faults.{EndsDevice, EndsSought};
+ghost use Rattle.bac_fetch.specs.Unlisted.{unlisted_lines, unlisted_status};
+ghost use Rattle.bac_fetch.specs.declared.keeping.Chosen.TheVariants as chosen;
 ghost use Rattle.bac_ports.specs.Sockets.{socket_rules};
 ghost use Rattle.bac_questions.specs.Silent.{is_same_log};
 
+use crate::unlisted::{Unlisted, tell_unlisted};
 use bac_archive::Source;
-use bac_asked::{Asking, Fault, NotDone, Wanted, add_wanted};
+use bac_asked::{Fault, NotDone, Wanted, add_wanted};
+use bac_heeding::{Heeds, Passed};
+use bac_link::ExchangeFault;
 use bac_ports::Sockets;
 use bac_questions::discover;
 use std::alloc::Global;
+use std::io::Write;
 
 /// Logs of one device that are to be fetched.
 #[derive(Drop)]
 pub enum Sought {
-    /// Each of its trend logs, asked as this one is.
-    Device(Asking),
+    /// Each of its trend logs, asked as this one is, whose instance is of no matter.
+    Device(Wanted),
     /// These.
     Named(Vec<Wanted>),
+}
+
+/// What came of looking for the logs of a device.
+#[derive(Drop)]
+pub enum Listing {
+    /// They are these.
+    Told(Vec<Wanted>),
+    /// It didn't tell them.
+    Untold(Unlisted),
+}
+
+/// What was found of devices.
+#[derive(Drop)]
+pub struct Found {
+    /// Their logs, in the order in which they are fetched.
+    pub all: Vec<Wanted>,
+    /// The greatest status of those that didn't tell theirs.
+    pub status: u8,
 }
 
 /// Whether two sources are of one log.
@@ -79,46 +105,106 @@ fn add_new(alloc: Global, all: &mut Vec<Wanted>, found: Vec<Wanted>) -> Result<(
     }
 }
 
+/// Why a device didn't tell its list, if nothing else ended the question for it.
+fn untold_in(fault: NotDone) -> Result<ExchangeFault, NotDone>
+    ensures { result ≡ untold_in fault }
+{
+    match fault {
+        NotDone::Asking(Fault::Exchange { fault, .. }) => Ok(fault),
+        other => Err(other),
+    }
+}
+
+/// The logs in the list of a device, each asked as this one is.
+fn listed<S: Sockets>(sockets: &mut S, alloc: Global, like: Wanted) -> Result<Listing, NotDone>
+    requires { AsksItsSource like }
+    ensures asks { IfOk result (λ listing. All AsksItsSource (told_by listing)) }
+    ensures found { IfOk result (λ listing. AreOfDevice
+        (socket_rules S.opens S.closes S.Socket.sends S.Socket.receives
+        S.Socket.receives_within) (Sought.Device like) sockets.old listing sockets.new) }
+    ensures fault { IfErr result (EndsDevice
+        (socket_rules S.opens S.closes S.Socket.sends S.Socket.receives
+        S.Socket.receives_within) (Sought.Device like) sockets.old sockets.new) }
+{
+    let fault = match discover(sockets, alloc, &like.asking) {
+        Ok(all) => return Ok(Listing::Told(all)),
+        Err(fault) => fault,
+    };
+    let why = untold_in(fault)?;
+    Ok(Listing::Untold(Unlisted { like, why }))
+}
+
 /// The logs of one device.
 fn logs_of_device<S: Sockets>(
     sockets: &mut S,
     alloc: Global,
     sought: Sought,
-) -> Result<Vec<Wanted>, NotDone>
+) -> Result<Listing, NotDone>
     requires { AskOneSource sought }
-    ensures asks { IfOk result (λ all. All AsksItsSource all.items) }
-    ensures found { IfOk result (λ all. AreOfDevice
+    ensures asks { IfOk result (λ listing. All AsksItsSource (told_by listing)) }
+    ensures found { IfOk result (λ listing. AreOfDevice
         (socket_rules S.opens S.closes S.Socket.sends S.Socket.receives
-        S.Socket.receives_within) sought sockets.old all.items sockets.new) }
+        S.Socket.receives_within) sought sockets.old listing sockets.new) }
     ensures fault { IfErr result (EndsDevice
         (socket_rules S.opens S.closes S.Socket.sends S.Socket.receives
         S.Socket.receives_within) sought sockets.old sockets.new) }
 {
     match sought {
-        Sought::Device(like) => discover(sockets, alloc, &like),
-        Sought::Named(all) => Ok(all),
+        Sought::Device(like) => listed(sockets, alloc, like),
+        Sought::Named(all) => Ok(Listing::Told(all)),
     }
 }
 
-/// The logs of these devices in their order, each once.
-pub(crate) fn sought_logs<S: Sockets>(
+/// Puts the logs of a device behind others; of one that didn't tell them that is told, where this
+/// passed since it was last asked. Answers the status of that.
+fn add_listing<O: Write, E: Write>(
+    alloc: Global,
+    all: &mut Vec<Wanted>,
+    listing: Listing,
+    passed: Passed,
+    output: &mut O,
+    errors: &mut E,
+) -> Result<u8, NotDone>
+    ensures added { OnOk result (all.new.items ≡ with_new all.old.items (told_by listing)) }
+    ensures printed { OnOk result (Appends (O.contents output.old) (O.contents output.new)
+        (unlisted_lines (unlisted_by listing))) }
+    ensures status { IfOk result (λ status. status ≡ unlisted_status (unlisted_by listing)) }
+    ensures fault { IfErr result (λ fault. WantsMemory fault ⊎ RefusesLine fault) }
+{
+    match listing {
+        Listing::Told(found) => {
+            add_new(alloc, all, found)?;
+            Ok(0)
+        }
+        Listing::Untold(device) => tell_unlisted(alloc, passed, &device, output, errors),
+    }
+}
+
+/// The logs of these devices in their order, each once. A device that doesn't tell its own has a
+/// line, and the next one is asked.
+pub(crate) fn sought_logs<S: Heeds, O: Write, E: Write>(
     sockets: &mut S,
     alloc: Global,
     sought: Vec<Sought>,
-) -> Result<Vec<Wanted>, NotDone>
+    output: &mut O,
+    errors: &mut E,
+) -> Result<Found, NotDone>
     requires { All AskOneSource sought.items }
-    ensures asks { IfOk result (λ all. All AsksItsSource all.items) }
-    ensures found { IfOk result (λ all. AddSought
+    ensures asks { IfOk result (λ found. All AsksItsSource found.all.items) }
+    ensures found { IfOk result (λ found. Finds
         (socket_rules S.opens S.closes S.Socket.sends S.Socket.receives
-        S.Socket.receives_within) sought.items [] sockets.old all.items sockets.new) }
+        S.Socket.receives_within) (chosen.Sought sought) sockets.old (O.contents output.old)
+        found sockets.new (O.contents output.new)) }
     ensures fault { IfErr result (EndsSought
         (socket_rules S.opens S.closes S.Socket.sends S.Socket.receives
         S.Socket.receives_within) sought.items sockets.old sockets.new) }
 {
     let mut all = Vec::new(alloc);
+    let mut status = 0u8;
     for one in sought {
-        let found = logs_of_device(sockets, alloc, one)?;
-        add_new(alloc, &mut all, found)?;
+        let listing = logs_of_device(sockets, alloc, one)?;
+        let told = add_listing(alloc, &mut all, listing, sockets.passed(), output, errors)?;
+        status = status.max(told);
     }
-    Ok(all)
+    Ok(Found { all, status })
 }

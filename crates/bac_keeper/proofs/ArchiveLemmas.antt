@@ -19,8 +19,8 @@ pub tells_weaker : {S P : Type 0} (rules : SocketRules S P) (chosen : Chosen) (s
     → ((all : List Wanted) (between : S) (ends : List End) → kept all between ends → told all between ends)
     → TellsThese rules chosen sockets before after kept status → TellsThese rules chosen sockets before after told status
 tells_weaker rules chosen sockets before after kept told status f it =
-    let ends = it.4 in
-    (it.0, it.1, it.2, it.3, (ends.0, ends.1, ends.2, ends.3, f it.0 it.1 ends.0 ends.4))
+    let ends = it.5 in
+    (it.0, it.1, it.2, it.3, it.4, (ends.0, ends.1, ends.2, ends.3, f it.0 it.2 ends.0 ends.4))
 
 -- the same items are there, and none is lost
 pub all_of_items : (a b : Trees) → HasSameItems a b → HasAllOf a b

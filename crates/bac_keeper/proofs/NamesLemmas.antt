@@ -7,7 +7,7 @@ use Rattle.bac_asked.specs.declared.end.NotDone.{NotDone}
 use Rattle.bac_asked.specs.declared.end.NotDone.TheVariants as done
 use Rattle.bac_asked.specs.declared.fault.Fault.{Fault}
 use Rattle.bac_asked.specs.declared.fault.FileFault.{FileFault}
-use Rattle.bac_keeper.specs.Done.{ChoosesNoneBy, SeeksNone}
+use Rattle.bac_keeper.specs.Done.{ChoosesNoneBy, SeeksNone, given_for}
 use Rattle.bac_keeper.specs.Ends.{MayAsk, MayFail}
 use Rattle.bac_keeper.specs.Shown.{ShowsNoneBy, none_given}
 use Rattle.bac_keeper.specs.Stops.{MeansNoneBy}
@@ -22,8 +22,8 @@ asks_no_options given fault (inl way) = (_, way.1)
 asks_no_options given fault (inr unnamed) = (_, unnamed.2)
 
 asks_no_logs : (given : Given) (group : Group) (fault : NotDone) → SeeksNone given group fault → (why : Fault) × (fault ≡ done.Asking why)
-asks_no_logs given group fault (inl (none, it)) = asks_unnamed (log_words group.address (codes "0") given) fault it
-asks_no_logs given group fault (inr (instance, there, it)) = asks_unnamed (log_words group.address instance given) fault it
+asks_no_logs given group fault (inl (none, it)) = asks_unnamed (log_words group.address (codes "0") (given_for given group.way)) fault it
+asks_no_logs given group fault (inr (instance, there, it)) = asks_unnamed (log_words group.address instance (given_for given group.way)) fault it
 
 pub asks_none : (groups : List Group) (given : Given) (fault : NotDone) → ChoosesNoneBy groups given fault → (why : Fault) × (fault ≡ done.Asking why)
 asks_none [] given fault it = asks_no_options given fault it

@@ -1,6 +1,7 @@
 -- What was done of the words of `bac keep`. Read from the end.
-use Rattle.std.specs.Prelude.{◌≡◌, ◌≢◌, ◌⊎◌, ℕ, Bool, List, [], ◌∷◌, codes, Option, IfSome, IsSome}
+use Rattle.std.specs.Prelude.{◌≡◌, ◌≢◌, ◌⊎◌, ℕ, Bool, List, [], ◌∷◌, codes, Option, None, Some, IfSome, IsSome}
 use Rattle.std.specs.List.{All, AllZip, Contains}
+use Rattle.clap.specs.Words.{Text}
 use Rattle.sqlite_disk.specs.declared.Disk as disk
 use Rattle.sqlite_disk.specs.declared.Files.{Files}
 use Rattle.sqlite_wal.specs.Recovery.{Image}
@@ -11,11 +12,12 @@ use Rattle.bac_asked.specs.declared.end.End.{End}
 use Rattle.bac_asked.specs.declared.wanted.Wanted.{Wanted}
 use Rattle.bac_fetch.specs.Causes.{EndsRunOver}
 use Rattle.bac_fetch.specs.Chosen.{AreFound}
-use Rattle.bac_fetch.specs.Keeps.{AreToldBy}
+use Rattle.bac_fetch.specs.Keeps.{AreToldBehind}
 use Rattle.bac_fetch.specs.declared.keeping.Chosen.{Chosen}
 use Rattle.bac_fetch.specs.declared.keeping.Chosen.TheVariants as chosen
 use Rattle.bac_fetch.specs.declared.sought.Sought.{Sought}
 use Rattle.bac_fetch.specs.declared.sought.Sought.TheVariants.{Device, Named}
+use Rattle.bac_fetch.specs.declared.unlisted.Unlisted.{Unlisted}
 use Rattle.sqlite.specs.Effect.{Database}
 use Rattle.sqlite_disk.specs.declared.start.Start as start
 use Rattle.bac_asked.specs.declared.end.NotDone.{NotDone}
@@ -30,6 +32,7 @@ use Rattle.bac_hearing.specs.Hearing.{StartedClock}
 use Rattle.bac_ports.specs.Sockets.{SocketRules}
 use Rattle.bac_print.specs.Output.{Held}
 use Rattle.bac_words.specs.declared.group.Group.{Group}
+use Rattle.bac_words.specs.declared.group.Way.{Way}
 use Rattle.bac_words.specs.declared.job.Keep.{Keep}
 use Rattle.bac_words.specs.declared.job.KeepOptions.{KeepOptions}
 
@@ -45,13 +48,21 @@ given_of options = record {
   dadr = options.dadr;
 }
 
--- With ADDRESS alone those of the device, each asked for as `bac log` with these words asks for log 0; with INSTANCEs
--- the logs that they name, each once.
+-- the options for a device: its own place behind a router, if it has one, goes before theirs
+abbrev pub given_for : Given → Option Way → Given
+given_for given None = given
+given_for given (Some way) = record given { dnet = Some way.dnet; dadr = Some way.dadr }
+
+-- With ADDRESS alone those of the device, which a line would name, each asked for as `bac log` with these words asks
+-- for log 0; with INSTANCEs the logs that they name, each once.
+abbrev pub SeeksBy : Given → Text → List Text → Sought → Type 0
+SeeksBy given address instances (Device like) =
+    (instances ≡ []) × IsAskedBy (log_words address (codes "0") given) like.asking × AsksItsSource like
+SeeksBy given address instances (Named all) = (instances ≢ []) × AddNamed address given instances [] all.items
+
+-- so it is by the words of a group
 abbrev pub Seeks : Given → Group → Sought → Type 0
-Seeks given group (Device like) =
-    (group.instances ≡ []) × IsAskedBy (log_words group.address (codes "0") given) like
-Seeks given group (Named all) =
-    (group.instances ≢ []) × AddNamed group.address given group.instances [] all.items
+Seeks given group = SeeksBy (given_for given group.way) group.address group.instances
 
 -- with FILE alone those of the file; else those of each device that is named, in the order of the words
 abbrev pub ChoosesBy : List Group → Given → Chosen → Type 0
@@ -63,14 +74,16 @@ ChoosesBy _ _ _ = ⊥
 abbrev pub Chooses : Keep → Chosen → Type 0
 Chooses keep chosen = ChoosesBy keep.groups (given_of keep.options) chosen
 
--- A line for each log that was chosen, which was asked of the device that the line names, and the greatest status.
--- Those of a device are those that were named, or those of its Object_List, which came over the caller's sockets. This
--- holds of the logs, of the sockets then, and of how the runs over them ended.
+-- A line for each device that didn't tell its Object_List, then one for each log that was chosen, which was asked of
+-- the device that the line names, and the greatest status. Those of a device are those that were named, or those of its
+-- Object_List, which came over the caller's sockets. This holds of the logs, of the sockets then, and of how the runs
+-- over them ended.
 abbrev pub TellsThese : {S P : Type 0} → SocketRules S P → Chosen → S → Held → Held
     → (List Wanted → S → List End → Type 0) → ℕ → Type 0
 TellsThese {S = S} rules chosen sockets before after kept status =
-    (all : List Wanted) × (between : S) × All AsksItsSource all
-    × AreFound rules chosen sockets all between × AreToldBy before after all (kept all between) status
+    (all : List Wanted) × (unlisted : List Unlisted) × (between : S) × All AsksItsSource all
+    × AreFound rules chosen sockets all unlisted between
+    × AreToldBehind before after unlisted all (kept all between) status
 
 -- The logs that the words choose were kept in the archive that two files held, which begins so, and which the closed
 -- files hold now.
@@ -105,10 +118,14 @@ FailsToKeep rules clock g image bars keep path may before after files why = (whi
     files why
 
 -- why words name no logs of a device: `bac log` with them asks for none
+abbrev pub SeeksNoneBy : Given → Text → List Text → NotDone → Type 0
+SeeksNoneBy given address instances fault =
+    ((instances ≡ []) × IsUnnamed (log_words address (codes "0") given) fault)
+    ⊎ AreUnnamed address given instances fault
+
+-- so it is by the words of a group
 abbrev pub SeeksNone : Given → Group → NotDone → Type 0
-SeeksNone given group fault =
-    ((group.instances ≡ []) × IsUnnamed (log_words group.address (codes "0") given) fault)
-    ⊎ AreUnnamed group.address given group.instances fault
+SeeksNone given group = SeeksNoneBy (given_for given group.way) group.address group.instances
 
 -- Why words choose no logs: without ADDRESS the options are none; else those of one device name none, or memory is
 -- wanting.

@@ -3,6 +3,7 @@ use Rattle.std.specs.Prelude.{◌≡◌, ◌≢◌, ◌⊎◌, ℕ, Bool, true, 
 use Rattle.std.specs.Prelude.{IsSome}
 use Rattle.std.specs.List.{filter, list_all, list_any}
 use Rattle.std.specs.Io.KnownBytes.{Appends}
+use Rattle.clap.specs.Words.{Text}
 use Rattle.sqlite.specs.Effect.{Database}
 use Rattle.sqlite_disk.specs.declared.Disk as disk
 use Rattle.sqlite_disk.specs.declared.Files.{Files}
@@ -26,7 +27,7 @@ use Rattle.bac_asked.specs.declared.fault.FileFault.TheVariants as fault
 use Rattle.bac_files.specs.Files.{FileOf, IsDoneTo}
 use Rattle.bac_files.specs.declared.disk_files.DiskFiles.{DiskFiles}
 use Rattle.bac_keeper.specs.Archives.{IsArchiveOf}
-use Rattle.bac_keeper.specs.Done.{SeeksNone, given_of}
+use Rattle.bac_keeper.specs.Done.{SeeksNone, given_for, given_of}
 use Rattle.bac_keeper.specs.Ends.{FailsFile, IsNoArchive}
 use Rattle.bac_keeper.specs.declared.stopping.Meant.{Meant}
 use Rattle.bac_keeper.specs.declared.stopping.Meant.TheVariants as meant
@@ -46,12 +47,16 @@ are_there (meant.Logs all) known =
     list_all (λ (w : Wanted). list_any (λ (log : Log). is_same_log w.source log.source) known) all.items
 
 -- With ADDRESS alone the logs of the device that `bac log` with these words asks; with INSTANCEs those that they name.
-abbrev pub MeansOf : Given → Group → Meant → Type 0
-MeansOf given group (meant.Device source) =
-    (group.instances ≡ []) × (wanted : Wanted) × IsAskedBy (log_words group.address (codes "0") given) wanted.asking
+abbrev pub MeansAt : Given → Text → List Text → Meant → Type 0
+MeansAt given address instances (meant.Device source) =
+    (instances ≡ []) × (wanted : Wanted) × IsAskedBy (log_words address (codes "0") given) wanted.asking
     × AsksItsSource wanted × (source ≡ wanted.source)
-MeansOf given group (meant.Logs all) =
-    (group.instances ≢ []) × AddNamed group.address given group.instances [] all.items
+MeansAt given address instances (meant.Logs all) =
+    (instances ≢ []) × AddNamed address given instances [] all.items
+
+-- so it is by the words of a group
+abbrev pub MeansOf : Given → Group → Meant → Type 0
+MeansOf given group = MeansAt (given_for given group.way) group.address group.instances
 
 -- they are said of one device
 abbrev pub MeansBy : List Group → Given → Meant → Type 0

@@ -15,8 +15,8 @@ ghost use Rattle.bac_files.specs.Files.{IsDoneTo, IsNamed, IsUnused};
 ghost use Rattle.bac_keeper.specs.Archives.{IsHeld, KeepsArchive, LosesNothing};
 ghost use Rattle.bac_keeper.specs.Begun.{BarsPart, BeginsOn};
 ghost use Rattle.bac_keeper.specs.Done.{Chooses, ChoosesNone, EndsKeep, EndsOver, FailsToKeep};
-ghost use Rattle.bac_keeper.specs.Done.{KeepsIn, RefusesKeep, Seeks, SeeksNone, TellsThese};
-ghost use Rattle.bac_keeper.specs.Done.{given_of};
+ghost use Rattle.bac_keeper.specs.Done.{KeepsIn, RefusesKeep, Seeks, SeeksBy, SeeksNone};
+ghost use Rattle.bac_keeper.specs.Done.{SeeksNoneBy, TellsThese, given_for, given_of};
 ghost use Rattle.bac_keeper.specs.Ends.{MayAsk, MayFail};
 ghost use Rattle.bac_hearing.specs.Hearing.{started};
 ghost use Rattle.bac_ports.specs.Sockets.{socket_rules};
@@ -29,7 +29,7 @@ use bac_desks::Clock;
 use bac_fetch::{Chosen, Sought, keep_chosen};
 use bac_files::{DiskFiles, Place};
 use bac_heeding::Heeds;
-use bac_words::{Group, Keep, KeepOptions, Name};
+use bac_words::{Group, Keep, KeepOptions, Name, Way};
 use sqlite::{Alter, Connection, Error, ErrorCode, FileFrom, Start};
 use sqlite_disk::Disk;
 use std::alloc::Global;
@@ -59,7 +59,43 @@ pub(crate) fn options_of(options: &KeepOptions) -> Options<'_>
     }
 }
 
-/// The logs of one device that the words name.
+/// The options for a device, which may have its own place behind a router.
+pub(crate) fn options_for<'a>(options: &Options<'a>, way: &'a Option<Way>) -> Options<'a>
+    ensures { given_in result ≡ given_for (given_in options.now) way.now }
+{
+    let (dnet, dadr) = match way {
+        Some(way) => (Some(way.dnet.as_str()), Some(way.dadr.as_str())),
+        None => (options.dnet, options.dadr),
+    };
+    Options {
+        steps: options.steps,
+        count: options.count,
+        timeout: options.timeout,
+        local: options.local,
+        retries: options.retries,
+        dnet,
+        dadr,
+    }
+}
+
+/// The logs of one device that words name.
+fn seek_by(
+    alloc: Global,
+    address: &str,
+    instances: &[Name],
+    options: &Options<'_>,
+) -> Result<Sought, NotDone>
+    ensures sources { IfOk result AskOneSource }
+    ensures seeks { IfOk result (SeeksBy (given_in options.now) address.now instances.now) }
+    ensures none { IfErr result (SeeksNoneBy (given_in options.now) address.now instances.now) }
+{
+    if instances.is_empty() {
+        return Ok(Sought::Device(named(alloc, address, "0", options)?));
+    }
+    Ok(Sought::Named(named_all(alloc, address, instances, options)?))
+}
+
+/// The logs of one device that its group names.
 fn seek(alloc: Global, group: &Group, options: &Options<'_>) -> Result<Sought, NotDone>
     ensures sources { IfOk result AskOneSource }
     ensures seeks { IfOk result (Seeks (given_in options.now) group.now) }
@@ -67,10 +103,7 @@ fn seek(alloc: Global, group: &Group, options: &Options<'_>) -> Result<Sought, N
 {
     let address = group.address.as_str();
     let instances = group.instances.as_slice();
-    if instances.is_empty() {
-        return Ok(Sought::Device(named(alloc, address, "0", options)?.asking));
-    }
-    Ok(Sought::Named(named_all(alloc, address, instances, options)?))
+    seek_by(alloc, address, instances, &options_for(options, &group.way))
 }
 
 /// Puts the logs of a device behind those of others.

@@ -17,14 +17,14 @@ ghost use Rattle.bac_asked.specs.Faults.{IsOfDatabase, RefusesLine, WantsMemory,
 ghost use Rattle.bac_questions.specs.Silent.{is_same_device, is_same_log};
 ghost use Rattle.bac_files.specs.Files.{IsDoneTo, IsNamed, IsUnused};
 ghost use Rattle.bac_keeper.specs.Archives.{HasSameItems, IsHeld, KeepsItems, LosesNothing};
-ghost use Rattle.bac_keeper.specs.Done.{SeeksNone, given_of};
+ghost use Rattle.bac_keeper.specs.Done.{SeeksNone, SeeksNoneBy, given_of};
 ghost use Rattle.bac_keeper.specs.Ends.{MayAsk, MayFail};
-ghost use Rattle.bac_keeper.specs.Stops.{EndsStop, FailsToStop, Means, MeansNone, MeansOf};
+ghost use Rattle.bac_keeper.specs.Stops.{EndsStop, FailsToStop, Means, MeansAt, MeansNone, MeansOf};
 ghost use Rattle.bac_keeper.specs.Stops.{RefusesStop, StopsArchive, StopsIn, are_there, is_meant};
 ghost use Rattle.bac_keeper.specs.Stops.{stopped_lines, stopped_logs};
 
 use crate::archives::{close_file, open_archive, open_file};
-use crate::keeping::options_of;
+use crate::keeping::{options_for, options_of};
 use bac_archive::{Log, Source, change_logs, logs};
 use bac_asked::{
     Fault, FileFault, NotDone, Options, Wanted, named, named_all, of_error, push_stopped,
@@ -33,7 +33,7 @@ use bac_fetch::{is_same_log, is_wanted};
 use bac_files::DiskFiles;
 use bac_print::write_text;
 use bac_questions::is_same_device;
-use bac_words::{Group, Keep, Word};
+use bac_words::{Group, Keep, Name, Word};
 use sqlite::{Alter, Connection, Error, FileFrom, Start};
 use sqlite_disk::Disk;
 use std::alloc::{AllocError, Global};
@@ -92,17 +92,30 @@ fn have_each(known: &[Log], all: &[Wanted]) -> bool
     all.iter().all(|wanted| has_log(known, &wanted.source))
 }
 
-/// The logs of one device that the words mean.
+/// The logs of one device that words mean.
+fn meant_by(
+    alloc: Global,
+    address: &str,
+    instances: &[Name],
+    options: &Options<'_>,
+) -> Result<Meant, NotDone>
+    ensures means { IfOk result (MeansAt (given_in options.now) address.now instances.now) }
+    ensures none { IfErr result (SeeksNoneBy (given_in options.now) address.now instances.now) }
+{
+    if instances.is_empty() {
+        return Ok(Meant::Device(named(alloc, address, "0", options)?.source));
+    }
+    Ok(Meant::Logs(named_all(alloc, address, instances, options)?))
+}
+
+/// The logs of one device that its group means.
 fn meant_of(alloc: Global, group: &Group, options: &Options<'_>) -> Result<Meant, NotDone>
     ensures means { IfOk result (MeansOf (given_in options.now) group.now) }
     ensures none { IfErr result (SeeksNone (given_in options.now) group.now) }
 {
     let address = group.address.as_str();
     let instances = group.instances.as_slice();
-    if instances.is_empty() {
-        return Ok(Meant::Device(named(alloc, address, "0", options)?.source));
-    }
-    Ok(Meant::Logs(named_all(alloc, address, instances, options)?))
+    meant_by(alloc, address, instances, &options_for(options, &group.way))
 }
 
 /// The logs that the words mean.

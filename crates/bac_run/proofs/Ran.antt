@@ -21,11 +21,12 @@ use Rattle.bac_keeper.specs.Stops.{EndsStop, FailsToStop, StopsIn}
 use Rattle.bac_ports.specs.Sockets.{SocketRules}
 use Rattle.bac_print.specs.Output.{Held}
 use Rattle.bac_run.specs.Faults.{ending_of, fault_of}
-use Rattle.bac_run.specs.Run.{DoesAll, DoesTold, HasFaultStatus, RunsAll, RunsKeepBy, RunsKept, TellsFault}
+use Rattle.bac_run.specs.Run.{DoesAll, DoesTold, HasFaultStatus, RunsAll, RunsGroups, RunsKeepBy, RunsKept, TellsFault}
 use Rattle.std.specs.Io.KnownBytes.{Keeps}
 use Rattle.bac_tools.specs.Run.{AskFor, Ends, IsToldAfter, RunsRead}
 use Rattle.bac_tools.specs.Streams.{Streams, streams}
 use Rattle.bac_wire.specs.Stamp.{CivilTime}
+use Rattle.bac_words.specs.Jobs.{with_groups}
 use Rattle.bac_words.specs.Outcome.{IsRefused, job_in}
 use Rattle.bac_words.specs.declared.fault.WordsFault.{WordsFault}
 use Rattle.bac_words.specs.declared.fault.WordsFault.TheVariants.{Usage, BadValue, LongNumber, Memory}
@@ -101,11 +102,25 @@ kept_ran {s = s} g asked out out' before said errors left done status ok untold 
 
 -- what was done of `keep` is the same beside an input and a clock
 pub keep_over : {S P C F G T : Type 0} {s : start.Ghosts F} {t : start.Ghosts G} (g : disk.Ghosts (FileOf s)) (h : disk.Ghosts (FileOf t)) (parts : DiskFiles G t) (waits : StartedClock T) (rules : SocketRules S P) (passes : S → Passed) (asked : KeepWords) (stops : Bool) (old new : Streams S C)
-    (status : ℕ) (left : DiskFiles F s)
-    → RunsKeepBy g h parts waits rules passes stops asked (streams None old.output old.errors old.sockets (tt {0})) status (streams None new.output new.errors new.sockets (tt {0})) left
+    (input left_input : Held) (status : ℕ) (left : DiskFiles F s)
+    → RunsKeepBy g h parts waits rules passes stops asked (streams input old.output old.errors old.sockets (tt {0})) status (streams left_input new.output new.errors new.sockets (tt {0})) left
     → RunsKeepBy g h parts waits rules passes stops asked old status new left
-keep_over g h parts waits rules passes asked false old new status left it = it
-keep_over g h parts waits rules passes asked true old new status left it = it
+keep_over g h parts waits rules passes asked false old new input left_input status left it = it
+keep_over g h parts waits rules passes asked true old new input left_input status left it = it
+
+-- so is what was done of it by its devices, for which the input isn't read, or is
+pub groups_over : {S P C F G T : Type 0} {s : start.Ghosts F} {t : start.Ghosts G} (g : disk.Ghosts (FileOf s)) (h : disk.Ghosts (FileOf t)) (parts : DiskFiles G t) (waits : StartedClock T) (rules : SocketRules S P) (passes : S → Passed) (asked : KeepWords) (reads : Bool) (old new : Streams S C)
+    (files left : DiskFiles F s) (status : ℕ)
+    → RunsGroups g h parts waits rules passes reads asked (streams old.input old.output old.errors old.sockets (tt {0})) files status (streams new.input new.output new.errors new.sockets (tt {0})) left
+    → RunsGroups g h parts waits rules passes reads asked old files status new left
+groups_over g h parts waits rules passes asked false old new files left status it =
+    (keep_over g h parts waits rules passes asked asked.stop old new old.input new.input status left it.0, it.1)
+groups_over g h parts waits rules passes asked true old new files left status (Ok groups, list, it) = (
+  Ok groups,
+  list,
+  keep_over g h parts waits rules passes (with_groups asked groups) asked.stop old new old.input new.input status left it,
+)
+groups_over g h parts waits rules passes asked true old new files left status (Err fault, list, it) = (Err fault, list, it)
 
 -- words say one thing
 one_job : (said : Result Job Word) (a b : Job) → said ≡ Ok a → said ≡ Ok b → a ≡ b

@@ -1,6 +1,6 @@
 -- What the program does with its words: its streams, its sockets and its clock, and the files, before and now. Read
 -- from the end.
-use Rattle.std.specs.Prelude.{◌≡◌, ◌⊎◌, ℕ, Bool, true, false, List, Option}
+use Rattle.std.specs.Prelude.{◌≡◌, ◌⊎◌, ℕ, Bool, true, false, List, Option, Result, Ok, Err}
 use Rattle.clap.specs.Words.{Text}
 use Rattle.sqlite_disk.specs.declared.Disk as disk
 use Rattle.sqlite_disk.specs.declared.start.Start as start
@@ -22,16 +22,21 @@ use Rattle.bac_ports.specs.Sockets.{SocketRules}
 use Rattle.std.specs.Io.KnownBytes.{Keeps}
 use Rattle.bac_print.specs.Output.{Held}
 use Rattle.bac_run.specs.Faults.{fault_of}
+use Rattle.bac_tools.specs.Finding.{IsListWithin}
 use Rattle.bac_tools.specs.Run.{AskFor, IsToldAfter, OnlyTells, Runs}
 use Rattle.bac_tools.specs.Status.{exit_status}
 use Rattle.bac_tools.specs.Streams.{Streams, streams}
 use Rattle.bac_tools.specs.declared.fault.Fault.TheVariants.{Memory}
+use Rattle.bac_tools.specs.declared.fault.Fault.TheVariants.{List as ListOf}
 use Rattle.bac_wire.specs.Stamp.{CivilTime}
-use Rattle.bac_words.specs.Jobs.{is_traced}
+use Rattle.bac_words.specs.Devices.{devices_of}
+use Rattle.bac_words.specs.Jobs.{is_traced, reads_input, with_groups}
+use Rattle.bac_words.specs.declared.group.Group.{Group}
 use Rattle.bac_words.specs.declared.job.Job.{Job}
 use Rattle.bac_words.specs.declared.job.Job.TheVariants as job
 use Rattle.bac_words.specs.declared.job.Keep.{Keep}
 use Rattle.bac_words.specs.declared.job.Kept.{Kept}
+use Rattle.bac_words.specs.declared.listing.ListFault.{ListFault}
 
 -- a job of `kept`
 abbrev pub IsOfKept : Job → Type 0
@@ -41,9 +46,13 @@ IsOfKept asked = (kept : Kept) × (asked ≡ job.Kept kept)
 abbrev pub AskForKept : List Text → Type 0
 AskForKept words = (kept : Kept) × AskFor words (job.Kept kept)
 
--- the input isn't read, and the clock isn't looked at
+-- the input isn't read
+abbrev pub IsUnread : {S C : Type 0} → Streams S C → Streams S C → Type 0
+IsUnread old new = new.input ≡ old.input
+
+-- nor is the clock looked at
 abbrev pub IsStill : {S C : Type 0} → Streams S C → Streams S C → Type 0
-IsStill old new = (new.input ≡ old.input) × (new.clock ≡ old.clock)
+IsStill old new = IsUnread old new × (new.clock ≡ old.clock)
 
 -- `keep` or `kept` ends so, and its fault is told with its status, after a last question since which this passed
 abbrev pub TellsFault : (NotDone → Type 0) → Passed → Held → Held → ℕ → Type 0
@@ -91,11 +100,35 @@ module _ {S C F G T : Type 0} {s : start.Ghosts F} {t : start.Ghosts G} (g : dis
       → DiskFiles F s → Type 0
   RunsKeep rules passes asked old status new left = RunsKeepBy rules passes asked.stop asked old status new left
 
+  -- `keep` of devices that were listed; without a list it is told why, and nothing else is done
+  abbrev pub RunsDevices : {P : Type 0} → SocketRules S P → (S → Passed) → Keep → Result (List Group) ListFault
+      → Streams S C → DiskFiles F s → ℕ → Streams S C → DiskFiles F s → Type 0
+  RunsDevices rules passes asked (Ok groups) old files status new left =
+      RunsKeep rules passes (with_groups asked groups) old status new left
+  RunsDevices rules passes asked (Err fault) old files status new left =
+      IsToldAfter nothing (ListOf fault) old.errors new.errors status
+      × (new.output ≡ old.output) × (new.sockets ≡ old.sockets) × (left ≡ files)
+
+  -- of those that the input lists, which is read to its end first
+  abbrev pub RunsListed : {P : Type 0} → SocketRules S P → (S → Passed) → Keep → Streams S C → DiskFiles F s → ℕ
+      → Streams S C → DiskFiles F s → Type 0
+  RunsListed rules passes asked old files status new left =
+      (list : Result (List Group) ListFault) × IsListWithin devices_of 1048576 old.input new.input list
+      × RunsDevices rules passes asked list old files status new left
+
+  -- `keep` of the devices of the words, for which the input isn't read, or of those that the input lists
+  abbrev pub RunsGroups : {P : Type 0} → SocketRules S P → (S → Passed) → Bool → Keep → Streams S C → DiskFiles F s → ℕ
+      → Streams S C → DiskFiles F s → Type 0
+  RunsGroups rules passes false asked old files status new left =
+      RunsKeep rules passes asked old status new left × IsUnread old new
+  RunsGroups rules passes true asked old files status new left =
+      RunsListed rules passes asked old files status new left
+
   -- The tool of a job. Each other one than `keep` and `kept` leaves the files alone; `kept` opens no socket.
   abbrev pub DoesAll : {P : Type 0} → SocketRules S P → (S → Passed) → (C → Option CivilTime → C → Type 0) → Job →
       Streams S C → DiskFiles F s → ℕ → Streams S C → DiskFiles F s → Type 0
   DoesAll rules passes tells (job.Keep asked) old files status new left =
-      RunsKeep rules passes asked old status new left × IsStill old new
+      RunsGroups rules passes (reads_input asked) asked old files status new left × (new.clock ≡ old.clock)
   DoesAll rules passes tells (job.Kept asked) old files status new left =
       RunsKept g asked old status new left × IsStill old new × (new.sockets ≡ old.sockets)
   DoesAll rules passes tells other old files status new left = Runs rules passes tells other old status new

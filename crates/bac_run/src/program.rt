@@ -9,17 +9,18 @@ ghost use Rattle.bac_hearing.specs.Hearing.{started};
 ghost use Rattle.bac_ports.specs.Sockets.{socket_rules};
 ghost use Rattle.bac_tools.specs.Run.{AnswersWords, AreWrong, AskFor, Ends, OnlyTells, wrong_fault};
 ghost use Rattle.bac_tools.specs.Streams.{streams};
+ghost use Rattle.bac_words.specs.Jobs.{reads_input};
 ghost use Rattle.bac_words.specs.Outcome.{mistakes_of};
 ghost use Rattle.bac_words.specs.declared.job.Job.{Job as AnyJob};
 ghost use Rattle.bac_words.specs.declared.word.Word.{Word as AnyWord};
 ghost use Rattle.bac_run.specs.Faults.{ending_of, fault_of};
-ghost use Rattle.bac_run.specs.Run.{AskForKept, DoesAll, DoesTold, IsOfKept, RunsAll, RunsKeep};
-ghost use Rattle.bac_run.specs.Run.{RunsKept};
+ghost use Rattle.bac_run.specs.Run.{AskForKept, DoesAll, DoesTold, IsOfKept, RunsAll, RunsGroups};
+ghost use Rattle.bac_run.specs.Run.{RunsKeep, RunsKept, RunsListed};
 
 use bac_desks::Clock as WaitClock;
 use bac_heeding::{Heeds, Passed};
 use bac_keeper::{DiskFiles, Fault as KeepFault, run_keep, run_kept};
-use bac_tools::{Clock, Fault, run_read, tell_after};
+use bac_tools::{Clock, Fault, listed_devices, run_read, tell_after};
 use bac_trace::Tracing;
 use bac_words::{Job, Keep, Kept, read_words};
 use sqlite::{FileFrom, Start};
@@ -81,6 +82,80 @@ where
     ended(alloc, sockets.passed(), done, errors)
 }
 
+/// `keep` of the devices that the input lists; without a list it is told why, and nothing else is
+/// done.
+fn keep_listed<S: Heeds, F: Start, G: Start, I: Read, O: Write, E: Write, W: WaitClock>(
+    sockets: &mut S,
+    files: &mut DiskFiles<'_, F>,
+    parts: &mut DiskFiles<'_, G>,
+    alloc: Global,
+    waits: W,
+    asked: Keep,
+    counts: bool,
+    input: &mut I,
+    output: &mut O,
+    errors: &mut E,
+) -> u8
+where
+    W: Drop,
+    ensures ran { RunsListed ⟦<FileFrom<F> as Disk>⟧ ⟦<FileFrom<G> as Disk>⟧ parts.new
+        (started W.reads waits)
+        (socket_rules S.opens S.closes S.Socket.sends S.Socket.receives S.Socket.receives_within)
+        S.passes asked
+        (streams (I.remaining input.old) (O.contents output.old) (E.contents errors.old)
+        sockets.old (tt {0})) files.old result
+        (streams (I.remaining input.new) (O.contents output.new) (E.contents errors.new)
+        sockets.new (tt {0})) files.new }
+    ensures stays { IsUnused files.old → IfSome files.new.closed
+        (IsDoneTo ⟦<FileFrom<F> as Disk>⟧ (image_at F.Start) LosesNothing) }
+{
+    match listed_devices(alloc, input) {
+        Ok(groups) => {
+            let asked = asked.with_groups(groups);
+            keep_and_tell(
+                sockets, files, parts, alloc, waits, &asked, counts, output, errors,
+            )
+        }
+        Err(fault) => tell_after(alloc, Passed::nothing(), Fault::List(fault), errors),
+    }
+}
+
+/// `keep` of the devices of its words, or of those that the input lists.
+fn keep_job<S: Heeds, F: Start, G: Start, I: Read, O: Write, E: Write, W: WaitClock>(
+    sockets: &mut S,
+    files: &mut DiskFiles<'_, F>,
+    parts: &mut DiskFiles<'_, G>,
+    alloc: Global,
+    waits: W,
+    asked: Keep,
+    counts: bool,
+    input: &mut I,
+    output: &mut O,
+    errors: &mut E,
+) -> u8
+where
+    W: Drop,
+    ensures ran { RunsGroups ⟦<FileFrom<F> as Disk>⟧ ⟦<FileFrom<G> as Disk>⟧ parts.new
+        (started W.reads waits)
+        (socket_rules S.opens S.closes S.Socket.sends S.Socket.receives S.Socket.receives_within)
+        S.passes (reads_input asked) asked
+        (streams (I.remaining input.old) (O.contents output.old) (E.contents errors.old)
+        sockets.old (tt {0})) files.old result
+        (streams (I.remaining input.new) (O.contents output.new) (E.contents errors.new)
+        sockets.new (tt {0})) files.new }
+    ensures stays { IsUnused files.old → IfSome files.new.closed
+        (IsDoneTo ⟦<FileFrom<F> as Disk>⟧ (image_at F.Start) LosesNothing) }
+{
+    if asked.reads_input() {
+        return keep_listed(
+            sockets, files, parts, alloc, waits, asked, counts, input, output, errors,
+        );
+    }
+    keep_and_tell(
+        sockets, files, parts, alloc, waits, &asked, counts, output, errors,
+    )
+}
+
 /// `kept`, and its fault is told.
 fn print_and_tell<F: Start, O: Write, E: Write>(
     files: &mut DiskFiles<'_, F>,
@@ -125,8 +200,8 @@ where
         (IsDoneTo ⟦<FileFrom<F> as Disk>⟧ (image_at F.Start) LosesNothing) }
 {
     match job {
-        Job::Keep(asked) => keep_and_tell(
-            sockets, files, parts, alloc, waits, &asked, counts, output, errors,
+        Job::Keep(asked) => keep_job(
+            sockets, files, parts, alloc, waits, asked, counts, input, output, errors,
         ),
         Job::Kept(asked) => print_and_tell(files, alloc, &asked, output, errors),
         other => run_read(sockets, alloc, Ok(other), input, output, errors, clock),

@@ -9,7 +9,8 @@ ghost use Rattle.bac_tools.specs.Run.{AskFor};
 ghost use Rattle.bac_words.specs.declared.job.Job.TheVariants as job;
 ghost use Rattle.bac_words.specs.declared.job.Keep.{Keep as KeepWords};
 ghost use Rattle.bac_words.specs.declared.job.Kept.{Kept as KeptWords};
-ghost use Rattle.bac_run_tests.specs.Done.{IsAllKept};
+ghost use Rattle.bac_words.specs.Jobs.{reads_input};
+ghost use Rattle.bac_run_tests.specs.Done.{HasDevices, IsAllKept};
 
 use bac_desks::Clock as WaitClock;
 use bac_run::{DiskFiles, run};
@@ -20,8 +21,9 @@ use sqlite_disk::Disk;
 use std::alloc::Global;
 use std::io::{Read, Write};
 
-/// The program with the words of `keep`. Where it ends with 0, each log that the words choose is
-/// caught up and has its line, and the file holds the archive in which it is kept.
+/// The program with the words of `keep`. Where it ends with 0, each log that the words choose, of
+/// their devices or of those that the input lists, is caught up and has its line, and the file
+/// holds the archive in which it is kept.
 pub fn keep_until_done<
     S: Tracing,
     F: Start,
@@ -48,9 +50,11 @@ where
     ensures { (asked : KeepWords) → AskFor (map string_bytes words.now) (job.Keep asked)
         → asked.stop ≡ false → result ≡ 0
         → (told : S) × S.traces sockets.old asked.trace told
+        × (which : KeepWords) × HasDevices (reads_input asked) asked
+        (I.remaining input.old) (I.remaining input.new) which
         × IsAllKept (socket_rules S.opens S.closes S.Socket.sends S.Socket.receives
         S.Socket.receives_within) (started W.reads waits) ⟦<FileFrom<F> as Disk>⟧
-        ⟦<FileFrom<G> as Disk>⟧ (image_at F.Start) (image_at G.Start) asked told
+        ⟦<FileFrom<G> as Disk>⟧ (image_at F.Start) (image_at G.Start) which told
         sockets.new (O.contents output.old) (O.contents output.new) files.new.closed parts.new }
 {
     run(

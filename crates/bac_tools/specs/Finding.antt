@@ -1,7 +1,7 @@
 -- What finding devices leaves on the output.
-use Rattle.std.specs.Prelude.{◌≡◌, ◌<◌, ◌≤◌, ◌==◌, ℕ, List, [], length, Option, None, Some, Result, Ok, Err}
+use Rattle.std.specs.Prelude.{◌≡◌, ◌<◌, ◌≤◌, ℕ, List, length, Option, None, Some, Result, Ok, Err, Vec}
+use Rattle.std.specs.declared.alloc.Global.{Global}
 use Rattle.std.specs.Io.KnownBytes.{Consumes, IsAtEnd}
-use Rattle.std.specs.List.{slice_split}
 use Rattle.std.specs.Option.{unwrap_or}
 use Rattle.bac_query.specs.Finding.{Finds as FindsDevices, console}
 use Rattle.bac_query.specs.Hearing.{Found}
@@ -12,7 +12,7 @@ use Rattle.bac_tools.specs.Ending.{Ending}
 use Rattle.bac_tools.specs.Faults.{of_find}
 use Rattle.bac_tools.specs.Sockets.{Opens, Outside}
 use Rattle.bac_tools.specs.declared.fault.Fault.TheVariants.{List as ListOf}
-use Rattle.bac_words.specs.Listing.{Lists, listed}
+use Rattle.bac_words.specs.Listing.{Lists, addresses_of}
 use Rattle.bac_words.specs.declared.job.Stations.{Stations}
 use Rattle.bac_words.specs.declared.job.Stations.TheVariants.{Listed, Input}
 use Rattle.bac_words.specs.declared.listing.ListFault.{ListFault}
@@ -52,16 +52,19 @@ Searches rules search addresses local timeout old result new =
 -- ---- stations that standard input lists
 
 -- What was read, up to one octet more than a list may have: it is too long, or it couldn't be read to its end, or all
--- of it is the list (10 ends a line).
-abbrev pub IsListIn : ℕ → List ℕ → Held → Result (List (List ℕ)) ListFault → Type 0
-IsListIn limit read left (Err TooLong) = limit < length read
-IsListIn limit read left (Err Read) = length read ≤ limit
-IsListIn limit read left (Err Memory) = Unit {0}
-IsListIn limit read left list = IsAtEnd left × Lists (listed [] 1 (slice_split (λ c. c == 10) read)) list
+-- of it is the list, which lists this.
+abbrev pub IsListIn : {A : Type 0} → (List ℕ → Result (List A) ListFault) → ℕ → List ℕ → Held
+    → Result (List A) ListFault → Type 0
+IsListIn lists limit read left (Err TooLong) = limit < length read
+IsListIn lists limit read left (Err Read) = length read ≤ limit
+IsListIn lists limit read left (Err Memory) = Unit {0}
+IsListIn lists limit read left list = IsAtEnd left × Lists (lists read) list
 
--- the addresses that the input lists in at most so many octets; `left` is what it has left
-abbrev pub IsListWithin : ℕ → Held → Held → Result (List (List ℕ)) ListFault → Type 0
-IsListWithin limit input left list = (read : List ℕ) × Consumes input left read × IsListIn limit read left list
+-- what the input lists in at most so many octets; `left` is what it has left
+abbrev pub IsListWithin : {A : Type 0} → (List ℕ → Result (List A) ListFault) → ℕ → Held → Held
+    → Result (List A) ListFault → Type 0
+IsListWithin lists limit input left list =
+    (read : List ℕ) × Consumes input left read × IsListIn lists limit read left list
 
 -- over one socket these are asked; without a list nothing is done
 abbrev pub SearchesListed : {S P : Type 0} → SocketRules S P → Search → Result (List (List ℕ)) ListFault →
@@ -76,5 +79,19 @@ abbrev pub Finds : {S P : Type 0} → SocketRules S P → Search → Stations �
 Finds rules search (Listed addresses) local timeout input left old result new =
     (left ≡ input) × Searches rules search addresses local timeout old result new
 Finds rules search Input local timeout input left old result new =
-    (list : Result (List (List ℕ)) ListFault) × IsListWithin 1048576 input left list
+    (list : Result (List (List ℕ)) ListFault) × IsListWithin addresses_of 1048576 input left list
     × SearchesListed rules search list local timeout old result new
+
+-- ---- what only private calls cite
+
+-- what was read is the text, or it is no list
+abbrev pub IsTextIn : ℕ → List ℕ → Held → Result (Vec ℕ Global) ListFault → Type 0
+IsTextIn limit read left (Ok text) = IsAtEnd left × (text.items ≡ read)
+IsTextIn limit read left (Err TooLong) = limit < length read
+IsTextIn limit read left (Err Read) = length read ≤ limit
+IsTextIn limit read left (Err Memory) = Unit {0}
+IsTextIn limit read left (Err fault) = ⊥
+
+-- the text that the input has in at most so many octets
+abbrev pub IsTextWithin : ℕ → Held → Held → Result (Vec ℕ Global) ListFault → Type 0
+IsTextWithin limit input left text = (read : List ℕ) × Consumes input left read × IsTextIn limit read left text

@@ -174,7 +174,7 @@ listed_badly number said = codes "line " ++ (decimal number ++ ((codes ": bad li
 unfoldable pub list_text : ListFault → List ℕ
 list_text (list.BadLine number) =
     listed_badly number (codes "a line is A.B.C.D or A.B.C.D:PORT, A to D from 0 to 255, PORT from 1 to 65535"
-    ++ codes "; /20 to /32 may stand behind it")
+    ++ codes "; for bac wi /20 to /32 may stand behind it, for bac keep it may be one of bac wi")
 list_text (list.TooMany number) = listed_badly number (codes "a list has at most 4096 addresses")
 list_text list.Empty = (codes "bad value" ++ 10 ∷ []) ++ codes "no address"
 list_text list.TooLong = (codes "bad value" ++ 10 ∷ []) ++ codes "a list has at most 1048576 octets"

@@ -1,17 +1,17 @@
 //! The tool that finds devices.
 
-ghost use Rattle.std.specs.Prelude.{◌≡◌, ◌+◌, ◌≤◌, length};
+ghost use Rattle.std.specs.Prelude.{◌≡◌};
 ghost use Rattle.bac_tools.specs.Faults.{of_find};
-ghost use Rattle.bac_tools.specs.Finding.{Finds, IsListWithin, Searches, limits_of};
+ghost use Rattle.bac_tools.specs.Finding.{Finds, Searches, limits_of};
 ghost use Rattle.bac_ports.specs.Sockets.{socket_rules};
 ghost use Rattle.bac_tools.specs.Sockets.{outside};
 
 use crate::asking::ANY;
 use crate::fault::Fault;
+use crate::listing::listed_addresses;
 use bac_ports::Sockets;
 use bac_query::{FindFault, Search, find_devices};
-use bac_script::{Ending, LIMIT, fill};
-use bac_words::{Addresses, ListFault, Stations, read_addresses};
+use bac_words::{Addresses, Stations};
 use std::alloc::Global;
 use std::io::{Read, Write};
 
@@ -64,47 +64,6 @@ fn search_for<S: Sockets, O: Write>(
     }
 }
 
-/// The addresses that the input lists, which is read into the buffer.
-#[tactic(auto, using(crate::proofs::Listing::whole_list))]
-fn listed_in<I: Read>(
-    alloc: Global,
-    limit: usize,
-    buffer: &mut [u8],
-    input: &mut I,
-) -> Result<Addresses, ListFault>
-    requires { length buffer.old ≡ limit + 1 }
-    ensures { IsListWithin limit (I.remaining input.old) (I.remaining input.new) result }
-{
-    let (filled, ending) = fill(input, buffer);
-    match ending {
-        Ending::End => read_addresses(alloc, &buffer[..filled]),
-        Ending::Full => Err(ListFault::TooLong),
-        Ending::Refused => Err(ListFault::Read),
-    }
-}
-
-/// The same, with a buffer of its own.
-fn listed_within<I: Read>(
-    alloc: Global,
-    limit: usize,
-    input: &mut I,
-) -> Result<Addresses, ListFault>
-    requires { limit ≤ LIMIT }
-    ensures { IsListWithin limit (I.remaining input.old) (I.remaining input.new) result }
-{
-    match vec![in alloc; 0u8; limit + 1] {
-        Ok(mut buffer) => listed_in(alloc, limit, &mut buffer, input),
-        Err(_) => Err(ListFault::Memory),
-    }
-}
-
-/// Reads the addresses that the input lists, to its end.
-fn listed<I: Read>(alloc: Global, input: &mut I) -> Result<Addresses, ListFault>
-    ensures { IsListWithin LIMIT (I.remaining input.old) (I.remaining input.new) result }
-{
-    listed_within(alloc, LIMIT, input)
-}
-
 /// Asks each station that the words name, or that the input lists, who is there, and prints each
 /// device that announces itself. The input is read to its end before a socket is opened.
 pub(crate) fn wi<S: Sockets, I: Read, O: Write>(
@@ -127,7 +86,7 @@ pub(crate) fn wi<S: Sockets, I: Read, O: Write>(
         Stations::Listed(addresses) => {
             search_for(sockets, alloc, addresses, search, local, timeout, output)
         }
-        Stations::Input => match listed(alloc, input) {
+        Stations::Input => match listed_addresses(alloc, input) {
             Ok(addresses) => {
                 search_for(sockets, alloc, &addresses, search, local, timeout, output)
             }

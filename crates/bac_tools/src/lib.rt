@@ -13,6 +13,7 @@ mod asking;
 mod fault;
 mod finding;
 mod flaw;
+mod listing;
 mod log_end;
 mod playing;
 mod program;
@@ -36,6 +37,7 @@ pub use bac_words::{
     Stations, Word, WordsFault, read_words,
 };
 pub use fault::Fault;
+pub use listing::listed_devices;
 pub use program::{run, run_read};
 pub use telling::{tell, tell_after};
 pub use until_refused::UntilRefused;

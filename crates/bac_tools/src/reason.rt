@@ -333,7 +333,7 @@ pub(crate) fn push_list(text: &mut Vec<u8>, fault: ListFault) -> Result<(), Allo
             text,
             number,
             "a line is A.B.C.D or A.B.C.D:PORT, A to D from 0 to 255, PORT from 1 to 65535; \
-             /20 to /32 may stand behind it",
+             for bac wi /20 to /32 may stand behind it, for bac keep it may be one of bac wi",
         ),
         ListFault::TooMany(number) => {
             push_listed_badly(text, number, "a list has at most 4096 addresses")

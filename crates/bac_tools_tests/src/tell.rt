@@ -136,7 +136,8 @@ fn addresses_that_nobody_answers_are_counted(rt: HostRuntime) -> Result<(), Fail
                 Fault::List(ListFault::BadLine(3)),
                 1,
                 "line 3: bad line\na line is A.B.C.D or A.B.C.D:PORT, A to D from 0 to 255, PORT \
-                 from 1 to 65535; /20 to /32 may stand behind it\n",
+                 from 1 to 65535; for bac wi /20 to /32 may stand behind it, for bac keep it may \
+                 be one of bac wi\n",
             ),
             (Fault::List(ListFault::Empty), 1, "bad value\nno address\n"),
             (Fault::List(ListFault::Read), 2, "read fault\n"),

@@ -1,7 +1,9 @@
 //! Jobs that words come to: each tool with its defaults, and with the ends of each range. What no
 //! tool takes is in examples/check/words.rows.
 
-use bac_words::{Given, Job, ListFault, Stations, Word, WordsFault, read_addresses, read_words};
+use bac_words::{
+    Given, Job, ListFault, Stations, Word, WordsFault, read_addresses, read_devices, read_words,
+};
 use std::alloc::Global;
 use std::process::Abort;
 use std::test::Fail;
@@ -176,7 +178,8 @@ fn keep_and_kept_have_their_texts(rt: HostRuntime) -> Result<(), Fail> {
                  --retries=c --dnet=d --dadr=e",
                 "Keep(Keep { file: Name { text: \"a.db\" }, \
                  groups: Groups { list: [Group { address: Name { text: \"10.0.0.1\" }, \
-                 instances: Names { list: [Name { text: \"1\" }, Name { text: \"2\" }] } }] }, \
+                 instances: Names { list: [Name { text: \"1\" }, Name { text: \"2\" }] }, \
+                 way: None }] }, \
                  stop: true, part: 32, trace: true, \
                  options: KeepOptions { steps: Some(Name { text: \"5\" }), \
                  count: Some(Name { text: \"20\" }), timeout: Some(Name { text: \"0\" }), \
@@ -187,9 +190,9 @@ fn keep_and_kept_have_their_texts(rt: HostRuntime) -> Result<(), Fail> {
                 "keep a.db 10.0.0.1 1 x 7",
                 "Keep(Keep { file: Name { text: \"a.db\" }, \
                  groups: Groups { list: [Group { address: Name { text: \"10.0.0.1\" }, \
-                 instances: Names { list: [Name { text: \"1\" }] } }, \
+                 instances: Names { list: [Name { text: \"1\" }] }, way: None }, \
                  Group { address: Name { text: \"x\" }, \
-                 instances: Names { list: [Name { text: \"7\" }] } }] }, \
+                 instances: Names { list: [Name { text: \"7\" }] }, way: None }] }, \
                  stop: false, part: 32, trace: false, \
                  options: KeepOptions { steps: None, count: None, timeout: None, local: None, \
                  retries: None, dnet: None, dadr: None } })",
@@ -262,6 +265,29 @@ fn addresses_of_standard_input(rt: HostRuntime) -> Result<(), Fail> {
     let bad = read_addresses(rt.alloc(), b"10.0.0.2\n\n10.0.0\n").err();
     assert_eq!(rt; bad, Some(ListFault::BadLine(3)));
     let none = read_addresses(rt.alloc(), b"\n").err();
+    assert_eq!(rt; none, Some(ListFault::Empty));
+    Ok(())
+}
+
+#[test]
+fn devices_of_standard_input(rt: HostRuntime) -> Result<(), Fail> {
+    let list = read_devices(
+        rt.alloc(),
+        b"# two\r\n10.0.0.2:1\r\n\nI-Am 7 10.0.0.1:258 net 5 mac 0a01 max-apdu 480 segmentation 3",
+    )
+    .ok();
+    let (list, alloc) = (list.ok_or("a list")?, rt.alloc());
+    let shown = format!(in alloc; "{list:?}")?;
+    assert_eq!(rt;
+        shown.as_str(),
+        "Groups { list: [Group { address: Name { text: \"10.0.0.2:1\" }, \
+         instances: Names { list: [] }, way: None }, \
+         Group { address: Name { text: \"10.0.0.1:258\" }, instances: Names { list: [] }, \
+         way: Some(Way { dnet: Name { text: \"5\" }, dadr: Name { text: \"0a01\" } }) }] }"
+    );
+    let bad = read_devices(rt.alloc(), b"10.0.0.2\nI-Am 7 10.0.0.1:258 net 5 mac 0a").err();
+    assert_eq!(rt; bad, Some(ListFault::BadLine(2)));
+    let none = read_devices(rt.alloc(), b"\n").err();
     assert_eq!(rt; none, Some(ListFault::Empty));
     Ok(())
 }

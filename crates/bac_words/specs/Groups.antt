@@ -1,7 +1,8 @@
 -- Devices, and which of its logs of each: ADDRESS [INSTANCE].., once or more.
-use Rattle.std.specs.Prelude.{Bool, true, false, if◌then◌else◌, List, [], ◌∷◌, ◌++◌, Option, None, Some}
+use Rattle.std.specs.Prelude.{Bool, true, false, ◌&&◌, if◌then◌else◌, List, [], ◌∷◌, ◌++◌, Option, None, Some, codes}
 use Rattle.std.specs.Char.{is_ascii_digit}
 use Rattle.std.specs.List.{list_all}
+use Rattle.std.specs.Str.{bytes_eq}
 use Rattle.clap.specs.Words.{Row, Text}
 use Rattle.bac_words.specs.Rows.{text_at, texts_at}
 use Rattle.bac_words.specs.declared.group.Group.{Group}
@@ -9,11 +10,11 @@ use Rattle.bac_words.specs.declared.word.Word.TheVariants.{Address, Instance}
 
 -- a device, none of whose logs is named
 abbrev pub group_at : Text → Group
-group_at address = record { address = address; instances = [] }
+group_at address = record { address = address; instances = []; way = None }
 
 -- the same group with one more instance
 abbrev pub with_instance : Group → Text → Group
-with_instance group instance = record { address = group.address; instances = group.instances ++ instance ∷ [] }
+with_instance group instance = record group { instances = group.instances ++ instance ∷ [] }
 
 -- This group with the words behind it: digits alone are an instance of it, and any other word begins the next one.
 abbrev pub groups_from : Group → List Text → List Group
@@ -35,3 +36,14 @@ groups_at rows = groups_of (text_at Address rows) (texts_at Instance rows)
 abbrev pub are_any : List Group → Bool
 are_any [] = false
 are_any (group ∷ more) = true
+
+-- there is no text
+abbrev pub are_none : List Text → Bool
+are_none [] = true
+are_none (text ∷ more) = false
+
+-- they are the one word -, which stands for the lines of standard input
+abbrev pub are_input : List Group → Bool
+are_input [] = false
+are_input (group ∷ []) = bytes_eq group.address (codes "-") && are_none group.instances
+are_input (group ∷ other ∷ more) = false

@@ -1,5 +1,6 @@
 -- The job that a tool's words and options say, or the first of them whose value isn't one that it can have.
-use Rattle.std.specs.Prelude.{ℕ, Bool, true, false, List, [], ◌∷◌, Option, None, Some, Result, Ok, Err, codes}
+use Rattle.std.specs.Prelude.{ℕ, Bool, true, false, ◌&&◌, not, List, [], ◌∷◌, Option, None, Some, Result, Ok, Err}
+use Rattle.std.specs.Prelude.{codes}
 use Rattle.std.specs.Prelude.{if◌then◌else◌, option_and_then}
 use Rattle.std.specs.Option.{ok_or}
 use Rattle.std.specs.Str.{bytes_eq}
@@ -14,9 +15,10 @@ use Rattle.bac_words.specs.declared.job.Job.TheVariants.{Replay, Wi, Rp, Wp, Log
 use Rattle.bac_words.specs.declared.job.Job.TheVariants as job
 use Rattle.bac_words.specs.declared.job.Asked.{Asked}
 use Rattle.bac_words.specs.declared.job.Given.{Given}
+use Rattle.bac_words.specs.declared.job.Keep.{Keep}
 use Rattle.bac_words.specs.declared.job.KeepOptions.{KeepOptions}
 use Rattle.bac_words.specs.Numbers.{number_in}
-use Rattle.bac_words.specs.Groups.{groups_at}
+use Rattle.bac_words.specs.Groups.{are_input, groups_at}
 use Rattle.bac_words.specs.declared.group.Group.{Group}
 use Rattle.bac_words.specs.Rows.{text_at, is_said, number_at, maybe_number_at, address_at, instances_at}
 use Rattle.bac_words.specs.Rows.{local_at, stations_at, route_at}
@@ -147,6 +149,14 @@ keep_at rows = do
     trace = is_said Trace rows;
     options = keep_options_at rows;
   }))
+
+-- the devices of `bac keep` are those of the lines of standard input: - alone, without --stop
+abbrev pub reads_input : Keep → Bool
+reads_input keep = not keep.stop && are_input keep.groups
+
+-- the same of these devices
+abbrev pub with_groups : Keep → List Group → Keep
+with_groups keep groups = record keep { groups = groups }
 
 -- bac kept
 unfoldable pub kept_at : List Row → Result Job Word

@@ -12,3 +12,4 @@ pub mod Jobs
 pub mod Listing
 pub mod Outcome
 pub mod Lines
+pub mod Devices

@@ -40,7 +40,12 @@ by_way net mac = record by_default { route = Some (record { net = net; address =
 
 -- a device and logs of it
 abbrev pub group : Text → List Text → Group
-group address instances = record { address = address; instances = instances }
+group address instances = record { address = address; instances = instances; way = None }
+
+-- a device behind a router, none of whose logs is named
+abbrev pub group_behind : Text → Text → Text → Group
+group_behind address net mac =
+    record { address = address; instances = []; way = Some (record { dnet = net; dadr = mac }) }
 
 -- no option of `keep`
 abbrev pub no_options : KeepOptions

@@ -379,11 +379,14 @@ Without INSTANCE it adds each trend log of the device's Object_List, and
 bac keep site.db fetches what is new of each log in the file. sqlite3 reads it.
 More devices may follow, each with its INSTANCEs, and are fetched in one run:
 bac keep site.db 192.168.1.20 1 2 192.168.1.21 192.168.1.22 7
+ADDRESS - is the devices of standard input, which takes the lines of bac wi:
+bac wi 192.168.1.0/24 | bac keep site.db -
 With --stop, which goes with one ADDRESS, the file keeps what it has of these
 logs, and they are left out.
 
 Status: the greatest of its logs' as bac log has them, but 8 for a step limit,
 and 4 where a log is caught up, though the last reply said that more is there;
+of a device that didn't tell its Object_List 2 lost, 3 refused, 4 bad reply;
 6 the file isn't an archive, can't be read or written, or is full; 7 another
 program has it open.
 
@@ -395,7 +398,7 @@ printed with its class and its code:"
         command,
         needed(alloc, Word::File, "The database file, or a folder of parts"),
     )?;
-    let help = "The device: A.B.C.D or A.B.C.D:PORT (port 47808)";
+    let help = "The device: A.B.C.D or A.B.C.D:PORT (port 47808), or -";
     let command = with(command, maybe(alloc, Word::Address, help))?;
     let help = "Its trend logs' instances: 0 to 4194303; or another ADDRESS";
     let command = with(command, maybe_list(alloc, Word::Instance, help))?;

@@ -1,7 +1,7 @@
 //! What the words ask for.
 
 ghost use Rattle.std.specs.Prelude.{◌≡◌};
-ghost use Rattle.bac_words.specs.Jobs.{is_traced};
+ghost use Rattle.bac_words.specs.Jobs.{is_traced, reads_input, with_groups};
 
 use crate::addresses::Addresses;
 use crate::group::Groups;
@@ -73,7 +73,8 @@ pub struct KeepOptions {
 pub struct Keep {
     /// The database file.
     pub file: Name,
-    /// The devices, and which of its logs of each; each log of the file if there are none.
+    /// The devices, and which of its logs of each; each log of the file if there are none. The one
+    /// word `-` stands for the devices of standard input.
     pub groups: Groups,
     /// They aren't asked any more.
     pub stop: bool,
@@ -82,6 +83,37 @@ pub struct Keep {
     /// Each datagram is told.
     pub trace: bool,
     pub options: KeepOptions,
+}
+
+impl Keep {
+    /// Whether the devices are those of the lines of standard input.
+    pub fn reads_input(&self) -> bool
+        ensures { result ≡ reads_input self.now }
+    {
+        !self.stop && self.groups.are_input()
+    }
+
+    /// The same of these devices.
+    pub fn with_groups(self, groups: Groups) -> Keep
+        ensures { result ≡ with_groups self groups }
+    {
+        let Keep {
+            file,
+            stop,
+            part,
+            trace,
+            options,
+            groups: _groups,
+        } = self;
+        Keep {
+            file,
+            groups,
+            stop,
+            part,
+            trace,
+            options,
+        }
+    }
 }
 
 /// Which trend logs of a file are to be printed, as the words say them.

@@ -43,6 +43,7 @@ fn group_at(alloc: Global, address: &str) -> Result<Group, AllocError>
     Ok(Group {
         address: name_of(alloc, address)?,
         instances: Names::of(Vec::new(alloc)),
+        way: None,
     })
 }
 

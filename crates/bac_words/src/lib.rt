@@ -5,6 +5,8 @@
 mod address;
 mod addresses;
 mod commands;
+mod device_laws;
+mod devices;
 mod fault;
 mod given;
 mod group;
@@ -25,8 +27,10 @@ mod tools;
 mod word;
 
 pub use addresses::Addresses;
+pub use device_laws::{texts_list_devices, texts_list_none};
+pub use devices::read_devices;
 pub use fault::WordsFault;
-pub use group::{Group, Groups};
+pub use group::{Group, Groups, Way};
 pub use instances::Instances;
 pub use job::{Asked, Given, Job, Keep, KeepOptions, Kept, Stations};
 pub use laws::{lines_are_mistakes, lines_say_bad_values, lines_say_jobs};

@@ -4,7 +4,8 @@ ghost use Rattle.std.specs.Prelude.{◌≡◌, ◌==◌, [], map, option_map, If
 ghost use Rattle.std.specs.List.{slice_split};
 ghost use Rattle.std.specs.Str.Lines.{strip_carriage_return};
 ghost use Rattle.bac_words.specs.Networks.{said_stations};
-ghost use Rattle.bac_words.specs.Listing.{IsListed, Lists, listed as listed_in, said_in, with_said};
+ghost use Rattle.bac_words.specs.Listing.{IsListed, Lists, addresses_of, listed as listed_in};
+ghost use Rattle.bac_words.specs.Listing.{said_in, with_said};
 
 use crate::addresses::Addresses;
 use crate::network::stations;
@@ -32,7 +33,7 @@ pub enum ListFault {
 }
 
 /// The parts of a text between its line feeds.
-fn parts(alloc: Global, text: &[u8]) -> Result<Vec<&[u8]>, AllocError>
+pub(crate) fn parts(alloc: Global, text: &[u8]) -> Result<Vec<&[u8]>, AllocError>
     ensures { IfOk result
         (λ parts. map (λ part. part.now) parts.items ≡ slice_split (λ c. c == 10) text.now) }
 {
@@ -40,7 +41,7 @@ fn parts(alloc: Global, text: &[u8]) -> Result<Vec<&[u8]>, AllocError>
 }
 
 /// The line less one carriage return at its end.
-fn without_return(line: &[u8]) -> &[u8]
+pub(crate) fn without_return(line: &[u8]) -> &[u8]
     ensures { result.now ≡ strip_carriage_return line.now }
 {
     match line {
@@ -95,7 +96,7 @@ fn listed(alloc: Global, lines: &[&[u8]]) -> Result<Addresses, ListFault>
 /// before which a carriage return may stand; empty lines and those that begin with `#` are passed
 /// over. It is the first line that is neither, or that goes beyond 4,096 addresses, which is told.
 pub fn read_addresses(alloc: Global, text: &[u8]) -> Result<Addresses, ListFault>
-    ensures { Lists (listed_in [] 1 (slice_split (λ c. c == 10) text.now)) result }
+    ensures { Lists (addresses_of text.now) result }
 {
     let Ok(lines) = parts(alloc, text) else {
         return Err(ListFault::Memory);

@@ -1,6 +1,7 @@
 //! Several texts that are owned.
 
 ghost use Rattle.std.specs.Prelude.{◌≡◌, ◌++◌, ◌∷◌, [], OnOk};
+ghost use Rattle.bac_words.specs.Groups.{are_none};
 
 use crate::name::Name;
 use std::alloc::AllocError;
@@ -34,6 +35,14 @@ impl Names {
     {
         self.list.as_slice()
     }
+
+    /// Whether there is none.
+    pub fn are_none(&self) -> bool
+        ensures { result ≡ are_none self.now }
+    {
+        self.list.is_empty()
+    }
+
     /// Puts one behind the others.
     pub fn push(&mut self, name: Name) -> Result<(), AllocError>
         ensures { OnOk result (self.new ≡ self.old ++ name ∷ []) }

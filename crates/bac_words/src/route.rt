@@ -32,7 +32,7 @@ fn place(net: u16, digits: &[u8]) -> Option<Route>
 
 /// What the two options say if both are there.
 #[tactic(auto, unfolding(crate::specs::Rows::route_in, crate::specs::Numbers::number_in))]
-fn route(net: &[u8], digits: &[u8]) -> Result<Option<Route>, Word>
+pub(crate) fn route(net: &[u8], digits: &[u8]) -> Result<Option<Route>, Word>
     ensures { result ≡ route_in (Some net.now) (Some digits.now) }
 {
     let Some(net) = short(net, 1, 65534) else {

@@ -1,86 +1,117 @@
-use Rattle.std.proofs.Common.{◌≡◌, ap, inl, inr, rules, subst, ◌∙◌}
-use Rattle.std.proofs.lemmas.Result.{IfErr-weaker, IfOk-weaker}
+use Rattle.std.proofs.Common.{◌≡◌, ap, ap₂, inl, inr, max, rules, subst, ◌∙◌}
+use Rattle.std.proofs.KnownBytes.{Appends-trans}
 use Rattle.sqlite.specs.Effect.{Database}
 use Rattle.sqlite.specs.State.{HasCleanDisk}
 use Rattle.sqlite.specs.Held.{state}
 use Rattle.bac_hearing.specs.Hearing.{started}
 use Rattle.bac_ports.specs.Sockets.{socket_rules}
-use Rattle.bac_fetch.specs.Causes.{EndsLogs}
-use Rattle.bac_fetch.specs.Keeps.{KeepsLogs}
+use Rattle.bac_fetch.specs.Causes.{EndsLogs, EndsRunOver}
+use Rattle.bac_fetch.specs.Keeps.{KeepsLogs, lines_of}
+use Rattle.bac_fetch.specs.Unlisted.{unlisted_lines}
 use Rattle.bac_asked.specs.AsLog.{given_in}
-use Rattle.bac_archive.specs.Schema.{archive_schema}
-use Rattle.bac_fetch.specs.Faults.{HasNone, LacksAddress}
+use Rattle.bac_archive.specs.Schema.{OverArchive, archive_schema}
+use Rattle.bac_fetch.specs.Faults.{EndsKeeping, HasNone, LacksAddress}
 use Rattle.bac_fetch.proofs.CausesLemmas.{chosen_so}
 use Rattle.bac_fetch.proofs.FaultsLemmas.{run_of}
 use Rattle.bac_asked.proofs.Results.{because}
 use Rattle.bac_fetch.proofs.StaysLemmas.{quiet_first, quiet_stays}
 use Rattle.bac_fetch.proofs.keeping.keep_chosen.Goals as goal
 
-pub returns : goal.returns
-returns g c =
+pub returns-clause-told : goal.returns-clause-told
+returns-clause-told g c =
     let over = socket_rules g.S.Sockets.opens g.S.Sockets.closes g.S.Socket.Port.sends g.S.Socket.Port.receives g.S.Socket.Port.receives_within in
-    let all = c.in_ok-all.all.items in
-    let between = c.chosen_logs.new.sockets in
-    let after = c.keep_each.new.sockets in
+    let found = c.in_ok-found.ensures.found in
+    let told = c.in_ok-kept.ensures.told in
+    let all = c.in_ok-found.found.all.items in
+    let mid = state g.A.Store c.chosen_logs.new.conn in
+    let new = state g.A.Store c.keep_each.new.conn in (
+      all,
+      found.0,
+      c.chosen_logs.new.sockets,
+      c.in_ok-found.ensures.asks,
+      found.1,
+      (λ clean has. c.in_ok-found.ensures.chosen (c.keep_each.ensures.clean clean) has),
+      (
+        told.0,
+        told.1,
+        c.max.ensures ∙ ap₂ max found.3 told.2,
+        Appends-trans _ (g.O.Write.contents c.chosen_logs.new.output) _ (unlisted_lines found.0) (lines_of all told.0) found.2 told.3,
+        λ clean has.
+            let early : HasCleanDisk mid = c.keep_each.ensures.clean clean in
+            let same = c.in_ok-found.ensures.same early has in
+            subst (λ (d : Database). KeepsLogs over (started g.C.Clock.reads c.args.clock) all c.chosen_logs.new.sockets c.keep_each.new.sockets d new.now told.0) same (told.4 clean (ap (λ (d : Database). d.schema) same ∙ has)),
+      ),
+    )
+
+pub returns-clause-stays : goal.returns-clause-stays
+returns-clause-stays g c clean has =
     let mid = state g.A.Store c.chosen_logs.new.conn in
     let new = state g.A.Store c.keep_each.new.conn in
-    record {
-      told = IfOk-weaker c.keep_each.result _ _
-          (λ status told. (
-            all,
-            between,
-            c.in_ok-all.ensures.asks,
-            c.in_ok-all.ensures.found,
-            (λ clean has. c.in_ok-all.ensures.chosen (c.keep_each.ensures.clean clean) has),
-            (
-              told.0,
-              told.1,
-              told.2,
-              told.3,
-              λ clean has.
-                  let early : HasCleanDisk mid = c.keep_each.ensures.clean clean in
-                  let same = c.in_ok-all.ensures.same early has in
-                  subst (λ (d : Database). KeepsLogs over (started g.C.Clock.reads c.args.clock) all between after d new.now told.0) same (told.4 clean (ap (λ (d : Database). d.schema) same ∙ has)),
-            ),
-          ))
-          c.keep_each.ensures.told;
-      fault = run_of over c.args.chosen _ _ _ c.args.sockets.now between after all c.keep_each.result c.in_ok-all.ensures.found
-          (λ wrong clean has.
-          let early : HasCleanDisk mid = c.keep_each.ensures.clean clean in
-          let same = c.in_ok-all.ensures.same early has in
-          subst (λ (d : Database). LacksAddress (given_in c.args.options.now) d.trees) same (wrong clean (ap (λ (d : Database). d.schema) same ∙ has)))
-          c.keep_each.ensures.fault;
-      caused = λ clean has.
-          let early : HasCleanDisk mid = c.keep_each.ensures.clean clean in
-          let same = c.in_ok-all.ensures.same early has in
-          IfErr-weaker c.keep_each.result _ _
-          (λ fault it. inr (
-            all,
-            between,
-            c.in_ok-all.ensures.found,
-            subst (λ (d : Database). EndsLogs over (started g.C.Clock.reads c.args.clock) (given_in c.args.options.now) all between after d fault) same it,
-          ))
-          (c.keep_each.ensures.caused clean (ap (λ (d : Database). d.schema) same ∙ has));
-      stays = λ clean has.
-          let early : HasCleanDisk mid = c.keep_each.ensures.clean clean in
-          let same = c.in_ok-all.ensures.same early has in
-          quiet_first (state g.A.Store c.args.conn.now) mid new same (c.chosen_logs.ensures.crash has)
-          (c.keep_each.ensures.stays clean (ap (λ (d : Database). d.schema) same ∙ has));
-      clean = λ clean. c.chosen_logs.ensures.clean (c.keep_each.ensures.clean clean);
-    }
+    let early : HasCleanDisk mid = c.keep_each.ensures.clean clean in
+    let same = c.in_ok-found.ensures.same early has in
+    quiet_first (state g.A.Store c.args.conn.now) mid new same (c.chosen_logs.ensures.crash has)
+    (c.keep_each.ensures.stays clean (ap (λ (d : Database). d.schema) same ∙ has))
 
-pub returns-in_err-all-clause-stays : goal.returns-in_err-all-clause-stays
-returns-in_err-all-clause-stays g c clean has =
+pub returns-in_err-kept-clause-stays : goal.returns-in_err-kept-clause-stays
+returns-in_err-kept-clause-stays g c clean has =
+    let mid = state g.A.Store c.chosen_logs.new.conn in
+    let new = state g.A.Store c.keep_each.new.conn in
+    let early : HasCleanDisk mid = c.keep_each.ensures.clean clean in
+    let same = c.in_ok-found.ensures.same early has in
+    quiet_first (state g.A.Store c.args.conn.now) mid new same (c.chosen_logs.ensures.crash has)
+    (c.keep_each.ensures.stays clean (ap (λ (d : Database). d.schema) same ∙ has))
+
+pub returns-in_err-kept-clause-fault : goal.returns-in_err-kept-clause-fault
+returns-in_err-kept-clause-fault g c =
+    let over = socket_rules g.S.Sockets.opens g.S.Sockets.closes g.S.Socket.Port.sends g.S.Socket.Port.receives g.S.Socket.Port.receives_within in
+    let fault = c.in_err-kept.field-0.0 in
+    let found = c.in_ok-found.ensures.found in
+    let given = given_in c.args.options.now in
+    let old = state g.A.Store c.args.conn.now in
+    let mid = state g.A.Store c.chosen_logs.new.conn in
+    let new = state g.A.Store c.keep_each.new.conn in
+    let none = OverArchive old new (HasNone old.now.trees) in
+    let early_lacks = OverArchive mid new (LacksAddress given mid.now.trees) in
+    let lacks = OverArchive old new (LacksAddress given old.now.trees) in
+    because c.from_residual-in_err-kept.result fault (EndsKeeping over c.args.chosen none lacks c.args.sockets.now c.keep_each.new.sockets) (search rules)
+    (run_of over c.args.chosen none early_lacks lacks c.args.sockets.now c.chosen_logs.new.sockets c.keep_each.new.sockets c.in_ok-found.found.all.items found.0 fault found.1
+    (λ wrong clean has.
+    let early : HasCleanDisk mid = c.keep_each.ensures.clean clean in
+    let same = c.in_ok-found.ensures.same early has in
+    subst (λ (d : Database). LacksAddress given d.trees) same (wrong clean (ap (λ (d : Database). d.schema) same ∙ has)))
+    c.in_err-kept.ensures.fault)
+
+pub returns-in_err-kept-clause-caused : goal.returns-in_err-kept-clause-caused
+returns-in_err-kept-clause-caused g c clean has =
+    let over = socket_rules g.S.Sockets.opens g.S.Sockets.closes g.S.Socket.Port.sends g.S.Socket.Port.receives g.S.Socket.Port.receives_within in
+    let fault = c.in_err-kept.field-0.0 in
+    let found = c.in_ok-found.ensures.found in
+    let all = c.in_ok-found.found.all.items in
+    let mid = state g.A.Store c.chosen_logs.new.conn in
+    let early : HasCleanDisk mid = c.keep_each.ensures.clean clean in
+    let same = c.in_ok-found.ensures.same early has in
+    because c.from_residual-in_err-kept.result fault (EndsRunOver over (started g.C.Clock.reads c.args.clock) (given_in c.args.options.now) c.args.chosen c.args.sockets.now c.keep_each.new.sockets (state g.A.Store c.args.conn.now).now) (search rules)
+    (inr (
+      all,
+      found.0,
+      c.chosen_logs.new.sockets,
+      found.1,
+      subst (λ (d : Database). EndsLogs over (started g.C.Clock.reads c.args.clock) (given_in c.args.options.now) all c.chosen_logs.new.sockets c.keep_each.new.sockets d fault) same
+          (c.in_err-kept.ensures.caused clean (ap (λ (d : Database). d.schema) same ∙ has)),
+    ))
+
+pub returns-in_err-found-clause-stays : goal.returns-in_err-found-clause-stays
+returns-in_err-found-clause-stays g c clean has =
     quiet_stays (state g.A.Store c.args.conn.now) (state g.A.Store c.chosen_logs.new.conn) (c.chosen_logs.ensures.crash has)
 
-pub returns-in_err-all-clause-caused : goal.returns-in_err-all-clause-caused
-returns-in_err-all-clause-caused g c clean has =
+pub returns-in_err-found-clause-caused : goal.returns-in_err-found-clause-caused
+returns-in_err-found-clause-caused g c clean has =
     let over = socket_rules g.S.Sockets.opens g.S.Sockets.closes g.S.Socket.Port.sends g.S.Socket.Port.receives g.S.Socket.Port.receives_within in
-    let fault = c.in_err-all.field-0.0 in
+    let fault = c.in_err-found.field-0.0 in
     let given = given_in c.args.options.now in
     let old = state g.A.Store c.args.conn.now in
     let new = state g.A.Store c.chosen_logs.new.conn in
-    because c.from_residual.result fault _ (search rules)
+    because c.from_residual.result fault (EndsRunOver over (started g.C.Clock.reads c.args.clock) given c.args.chosen c.args.sockets.now c.chosen_logs.new.sockets old.now) (search rules)
     (inl (chosen_so over c.args.chosen (HasCleanDisk new → old.now.schema ≡ archive_schema → HasNone old.now.trees) (HasNone old.now.trees)
     (HasCleanDisk new → old.now.schema ≡ archive_schema → LacksAddress given old.now.trees) (LacksAddress given old.now.trees)
-    c.args.sockets.now c.chosen_logs.new.sockets fault (λ none. none clean has) (λ wrong. wrong clean has) c.in_err-all.ensures.fault))
+    c.args.sockets.now c.chosen_logs.new.sockets fault (λ none. none clean has) (λ wrong. wrong clean has) c.in_err-found.ensures.fault))

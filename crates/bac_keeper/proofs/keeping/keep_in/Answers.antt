@@ -54,7 +54,7 @@ returns-clause-told g c =
       chose = it.0;
       kept = subst (λ (d : Database). KeepsLogs over (started g.C.Clock.reads c.args.clock) all between after archive.now d ends) (is.1 held.1) it.1;
     })
-    (told.0, told.1, told.2, told.3, (told.5.0, told.5.1, told.5.2, told.5.3, λ clean schema. (told.4 clean schema, told.5.4 clean schema)))))
+    (told.0, told.1, told.2, told.3, told.4, (told.6.0, told.6.1, told.6.2, told.6.3, λ clean schema. (told.5 clean schema, told.6.4 clean schema)))))
     c.settled.ensures.settled
 
 pub returns-clause-stays : goal.returns-clause-stays

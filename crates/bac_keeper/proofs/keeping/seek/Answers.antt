@@ -1,39 +1,15 @@
-use Rattle.std.proofs.Common.{◌≡◌, ◌∙◌, [], inl, inr, codes, length, sym, arith, rules, subst, subst₂, List}
-use Rattle.std.proofs.lemmas.Bool.Decides.{nat_tests}
-use Rattle.std.proofs.lemmas.List.{nil_from_length}
+use Rattle.std.proofs.Common.{IfErr, IfOk, List, subst, subst₂}
 use Rattle.clap.specs.Words.{Text}
-use Rattle.bac_asked.specs.AsLog.{IsAskedBy, given_in, log_words}
-use Rattle.bac_asked.specs.Wanted.{AddNamed, AreUnnamed, IsUnnamed}
-use Rattle.bac_asked.proofs.Results.{because}
+use Rattle.bac_asked.specs.AsLog.{Given, given_in}
+use Rattle.bac_keeper.specs.Done.{SeeksBy, SeeksNoneBy}
 use Rattle.bac_keeper.proofs.keeping.seek.Goals as goal
-
-pub returns-then-is_empty-clause-seeks : goal.returns-then-is_empty-clause-seeks
-returns-then-is_empty-clause-seeks c =
-    let zero : length c.as_slice-instances.result.now ≡ 0 = first_of (omega arith, grind (arith, nat_tests)) in
-    let none : c.as_slice-instances.result.now ≡ [] = nil_from_length _ zero in (
-      sym c.as_slice-instances.ensures ∙ none,
-      subst (λ (a : Text). IsAskedBy (log_words a (codes "0") (given_in c.args.options.now)) c.in_ok-named.field-0.asking) c.as_str-address.ensures c.in_ok-named.ensures.asked,
-    )
 
 pub returns-clause-seeks : goal.returns-clause-seeks
 returns-clause-seeks c =
-    let some : c.as_slice-instances.result.now ≡ [] → ⊥ = λ e. first_of (search (rules, e), grind (arith, e)) in (
-      λ e. some (c.as_slice-instances.ensures ∙ e),
-      subst₂ (λ (a : Text) (ws : List Text). AddNamed a (given_in c.args.options.now) ws [] c.in_ok-named_all.field-0.items) c.as_str-address.ensures c.as_slice-instances.ensures c.in_ok-named_all.ensures.named,
-    )
+    subst (λ (given : Given). IfOk c.seek_by.result (SeeksBy given c.args.group.now.address c.args.group.now.instances)) c.options_for.ensures
+    (subst₂ (λ (a : Text) (ws : List Text). IfOk c.seek_by.result (SeeksBy (given_in c.options_for.result) a ws)) c.as_str-address.ensures c.as_slice-instances.ensures c.seek_by.ensures.seeks)
 
-pub returns-in_err-named-clause-none : goal.returns-in_err-named-clause-none
-returns-in_err-named-clause-none c =
-    let zero : length c.as_slice-instances.result.now ≡ 0 = first_of (omega arith, grind (arith, nat_tests)) in
-    let none : c.as_slice-instances.result.now ≡ [] = nil_from_length _ zero in
-    let fault = c.in_err-named.field-0.0 in
-    because c.from_residual.result fault _ (search rules) (inl (
-      sym c.as_slice-instances.ensures ∙ none,
-      subst (λ (a : Text). IsUnnamed (log_words a (codes "0") (given_in c.args.options.now)) fault) c.as_str-address.ensures c.in_err-named.ensures.unnamed,
-    ))
-
-pub returns-in_err-named_all-clause-none : goal.returns-in_err-named_all-clause-none
-returns-in_err-named_all-clause-none c =
-    let fault = c.in_err-named_all.field-0.0 in
-    because c.from_residual-in_err-named_all.result fault _ (search rules)
-    (inr (subst₂ (λ (a : Text) (ws : List Text). AreUnnamed a (given_in c.args.options.now) ws fault) c.as_str-address.ensures c.as_slice-instances.ensures c.in_err-named_all.ensures.unnamed))
+pub returns-clause-none : goal.returns-clause-none
+returns-clause-none c =
+    subst (λ (given : Given). IfErr c.seek_by.result (SeeksNoneBy given c.args.group.now.address c.args.group.now.instances)) c.options_for.ensures
+    (subst₂ (λ (a : Text) (ws : List Text). IfErr c.seek_by.result (SeeksNoneBy (given_in c.options_for.result) a ws)) c.as_str-address.ensures c.as_slice-instances.ensures c.seek_by.ensures.none)

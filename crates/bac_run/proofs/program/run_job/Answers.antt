@@ -5,8 +5,9 @@ use Rattle.sqlite_disk.specs.contracts.modelled.ModelledDisk.TheImpl as modelled
 use Rattle.bac_keeper.proofs.FileLemmas.{none_closed}
 use Rattle.bac_hearing.specs.Hearing.{started}
 use Rattle.bac_ports.specs.Sockets.{socket_rules}
-use Rattle.bac_run.proofs.Ran.{keep_over, other_done}
+use Rattle.bac_run.proofs.Ran.{groups_over, other_done}
 use Rattle.bac_tools.specs.Streams.{streams}
+use Rattle.bac_words.specs.Jobs.{reads_input}
 use Rattle.bac_run.proofs.program.run_job.Goals as goal
 
 pub returns-in-Keep-clause-ran : goal.returns-in-Keep-clause-ran
@@ -14,10 +15,10 @@ returns-in-Keep-clause-ran g c =
     let disk = modelled.ghosts the_row g.row.F host.ghosts host.dict g.F.Start g.F.Start-dict g.F.Destruct-dict in
     let part = modelled.ghosts the_row g.row.G host.ghosts host.dict g.G.Start g.G.Start-dict g.G.Destruct-dict in
     let rules = socket_rules g.S.Sockets.opens g.S.Sockets.closes g.S.Socket.Port.sends g.S.Socket.Port.receives g.S.Socket.Port.receives_within in
-    let done = c.keep_and_tell in
+    let done = c.keep_job in
     let old = streams (g.I.Read.remaining c.args.input.now) (g.O.Write.contents c.args.output.now) (g.E.Write.contents c.args.errors.now) c.args.sockets.now c.args.clock.now in
-    let new = streams (g.I.Read.remaining c.args.input.now) (g.O.Write.contents done.new.output) (g.E.Write.contents done.new.errors) done.new.sockets c.args.clock.now in
-    rw c.in-Keep.is (keep_over disk part done.new.parts (started g.W.Clock.reads c.args.waits) rules g.S.Heeds.passes c.in-Keep.asked c.in-Keep.asked.stop old new done.result done.new.files done.ensures.ran, (refl, refl))
+    let new = streams (g.I.Read.remaining done.new.input) (g.O.Write.contents done.new.output) (g.E.Write.contents done.new.errors) done.new.sockets c.args.clock.now in
+    rw c.in-Keep.is (groups_over disk part done.new.parts (started g.W.Clock.reads c.args.waits) rules g.S.Heeds.passes c.in-Keep.asked (reads_input c.in-Keep.asked) old new c.args.files.now done.new.files done.result done.ensures.ran, refl)
 
 pub returns-in_default-clause-ran : goal.returns-in_default-clause-ran
 returns-in_default-clause-ran g c =
