@@ -1,0 +1,4 @@
+pub mod HoleLemmas
+pub mod TallyLemmas
+pub mod EpochLemmas
+pub mod CourseLemmas

@@ -1,0 +1,4 @@
+pub mod Holes
+pub mod Tallies
+pub mod Epochs
+pub mod Lines

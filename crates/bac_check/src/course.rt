@@ -1,0 +1,137 @@
+//! The epochs of logs, and what is counted of each.
+
+ghost use Rattle.std.specs.Prelude.{◌≡◌, ◌∷◌, ◌++◌, [], List, OnOk, map, option_map};
+ghost use Rattle.std.specs.List.{filter};
+ghost use Rattle.sqlite.specs.State.{HasCleanDisk, IsUnchanged};
+ghost use Rattle.sqlite.specs.Held.{state};
+ghost use Rattle.bac_archive.specs.Rows.{kept};
+ghost use Rattle.bac_archive.specs.Schema.{OverArchive};
+ghost use Rattle.bac_check.specs.Epochs.{AreItemsIn, CountsCourse, CountsEach, CountsOn, is_new};
+ghost use Rattle.bac_check.specs.Epochs.{last_of, span_of};
+ghost use Rattle.bac_check.specs.Tallies.{IsTallied};
+ghost use Rattle.bac_check.specs.declared.tally.Span.{Span as SpanOf};
+
+use crate::rows::{read_span, spans_in};
+use crate::tally::{Span, Tally, Uncounted, take};
+use sqlite::{Alter, Connection, Error, ErrorCode, Row};
+use std::alloc::Global;
+
+/// An epoch of a log.
+#[derive(Debug, Drop)]
+pub struct Course {
+    /// The id of the log's row.
+    pub log: u16,
+    pub epoch: u16,
+    /// The number at which it began, if the rows from there on are told.
+    pub from: Option<u32>,
+    /// What was counted of its rows, if there are any.
+    pub tally: Option<Tally>,
+}
+
+/// Whether a row lies behind a number, if there is one.
+fn is_new(behind: Option<u32>, span: Span) -> bool
+    ensures { result ≡ is_new behind span }
+{
+    match behind {
+        None => true,
+        Some(last) => last < span.number,
+    }
+}
+
+/// Counts a row, if it lies behind a number: others were read in the part before.
+fn count_row(
+    alloc: Global,
+    row: &Row,
+    behind: Option<u32>,
+    tally: &mut Option<Tally>,
+) -> Result<(), Uncounted>
+    ensures { (before : List SpanOf) → IsTallied before tally.old → OnOk result
+        (IsTallied (before ++ filter (is_new behind) (span_of row.now ∷ [])) tally.new) }
+{
+    let span = match read_span(row) {
+        Ok(span) => span,
+        Err(error) => return Err(Uncounted::Database(error)),
+    };
+    if !is_new(behind, span) {
+        return Ok(());
+    }
+    take(alloc, tally, span)
+}
+
+/// Counts the rows of an epoch that lie behind a number.
+fn count_rows<A: Alter>(
+    alloc: Global,
+    conn: &mut Connection<A>,
+    log: u16,
+    epoch: u16,
+    behind: Option<u32>,
+    tally: &mut Option<Tally>,
+) -> Result<(), Uncounted>
+    ensures counted { OverArchive (state A.Store conn.old) (state A.Store conn.new)
+        (OnOk result ((rows : List _)
+        × AreItemsIn log epoch (kept (state A.Store conn.old).now.trees) rows
+        × ((before : List SpanOf) → IsTallied before tally.old
+        → IsTallied (before ++ filter (is_new behind) (map span_of rows)) tally.new))) }
+    ensures same { OverArchive (state A.Store conn.old) (state A.Store conn.new)
+        (OnOk result (IsUnchanged (state A.Store conn.old) (state A.Store conn.new))) }
+    ensures clean { OnOk result
+        (HasCleanDisk (state A.Store conn.new) → HasCleanDisk (state A.Store conn.old)) }
+{
+    let mut rows = match spans_in(conn, log, epoch) {
+        Ok(rows) => rows,
+        Err(error) => return Err(Uncounted::Database(error)),
+    };
+    'rows: for _ in 0..u64::MAX {
+        let row = match rows.next() {
+            Ok(Some(row)) => row,
+            Ok(None) => return Ok(()),
+            Err(error) => return Err(Uncounted::Database(error)),
+        };
+        count_row(alloc, row, behind, tally)?;
+    }
+    Err(Uncounted::Database(Error::SqliteFailure(ErrorCode::OperationInterrupted)))
+}
+
+/// The last number of what was counted.
+fn last_of(tally: &Option<Tally>) -> Option<u32>
+    ensures { result ≡ last_of tally.now }
+{
+    match tally {
+        Some(tally) => Some(tally.last),
+        None => None,
+    }
+}
+
+impl Course {
+    /// Counts its rows of one more part, but for those that were counted.
+    fn count<A: Alter>(&mut self, alloc: Global, conn: &mut Connection<A>) -> Result<(), Uncounted>
+        ensures counted { OverArchive (state A.Store conn.old) (state A.Store conn.new)
+            (OnOk result (CountsCourse (state A.Store conn.old).now.trees self.old self.new)) }
+        ensures same { OverArchive (state A.Store conn.old) (state A.Store conn.new)
+            (OnOk result (IsUnchanged (state A.Store conn.old) (state A.Store conn.new))) }
+        ensures clean { OnOk result
+            (HasCleanDisk (state A.Store conn.new) → HasCleanDisk (state A.Store conn.old)) }
+    {
+        let behind = last_of(&self.tally);
+        count_rows(alloc, conn, self.log, self.epoch, behind, &mut self.tally)
+    }
+}
+
+/// Counts the rows of one more part, of each epoch.
+pub fn count_each<A: Alter>(
+    alloc: Global,
+    conn: &mut Connection<A>,
+    courses: &mut [Course],
+) -> Result<(), Uncounted>
+    ensures counted { OverArchive (state A.Store conn.old) (state A.Store conn.new)
+        (OnOk result (CountsEach (state A.Store conn.old).now.trees courses.old courses.new)) }
+    ensures same { OverArchive (state A.Store conn.old) (state A.Store conn.new)
+        (OnOk result ((state A.Store conn.new).now ≡ (state A.Store conn.old).now)) }
+    ensures clean { OnOk result
+        (HasCleanDisk (state A.Store conn.new) → HasCleanDisk (state A.Store conn.old)) }
+{
+    for course in courses.iter_mut() {
+        course.count(alloc, conn)?;
+    }
+    Ok(())
+}
