@@ -165,8 +165,8 @@ module _ {S P C F G T : Type 0} {s : start.Ghosts F} {t : start.Ghosts G} (trace
         (subst (λ stops. RunsKeepBy g h parts waits rules passes stops (with_groups asked groups) (streams old.input old.output old.errors told old.clock) status new left)
         still ran) none,
   )
-  groups_kept true asked told still (Err fault, list, (inl its, untouched)) none = absurd (list_is_told fault (sym its.0 ∙ none))
-  groups_kept true asked told still (Err fault, list, (inr its, untouched)) none = absurd (let e = its.0 in cc)
+  groups_kept true asked told still (Err fault, list, (inl its, output, sockets, same)) none = absurd (list_is_told fault (sym its.0 ∙ none))
+  groups_kept true asked told still (Err fault, list, (inr its, output, sockets, same)) none = absurd (let e = its.0 in cc)
 
   -- `keep` that ended with 0
   pub all_kept : (asked : KeepWords) → RunsAll g h parts waits traces rules passes tells (job.Keep asked) old files status new left
@@ -175,7 +175,9 @@ module _ {S P C F G T : Type 0} {s : start.Ghosts F} {t : start.Ghosts G} (trace
       × IsAllKept rules waits g h (image_at s) (image_at t) which told new.sockets old.output new.output left.closed parts
   all_kept asked (inl ((inl its, keeps, untouched), same)) still none = absurd (let e = its.0 in cc)
   all_kept asked (inl ((inr its, keeps, untouched), same)) still none = absurd (let e = its.0 in cc)
-  all_kept asked (inr (told, on, (ran, quiet))) still none = (told, on, groups_kept (reads_input asked) asked told still ran none)
+  all_kept asked (inr (told, on, (ran, quiet))) still none =
+      let it = groups_kept (reads_input asked) asked told still ran none in
+      (told, on, it.0, it.1, it.2)
 
   -- `kept` opens no socket
   pub none_asked : (asked : KeptWords) → RunsAll g h parts waits traces rules passes tells (job.Kept asked) old files status new left
