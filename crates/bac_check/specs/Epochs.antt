@@ -69,12 +69,6 @@ abbrev pub CountsOn : ℕ → ℕ → List Span → Trees → List Span → Type
 CountsOn log epoch before part spans = (rows : List Values) × AreItemsIn log epoch (kept part) rows
     × (spans ≡ before ++ filter (is_behind before) (map span_of rows))
 
--- The rows of an epoch in these parts, of which the one that was read last is the first.
-abbrev pub AreRowsOf : ℕ → ℕ → List Trees → List Span → Type 0
-AreRowsOf log epoch [] spans = spans ≡ []
-AreRowsOf log epoch (part ∷ parts) spans =
-    (before : List Span) × AreRowsOf log epoch parts before × CountsOn log epoch before part spans
-
 -- a row lies behind a number, if there is one
 abbrev pub is_new : Option ℕ → Span → Bool
 is_new None span = true

@@ -1,5 +1,6 @@
 -- What is printed of an archive that is checked.
-use Rattle.std.specs.Prelude.{Bool, true, false, ◌==◌, ℕ, if◌then◌else◌, List, [], ◌∷◌, ◌++◌, flat_map, codes, decimal, Option, None, Some}
+use Rattle.std.specs.Prelude.{Bool, true, false, ◌==◌, ℕ, if◌then◌else◌, List, [], ◌∷◌, ◌++◌, flat_map}
+use Rattle.std.specs.Prelude.{codes, decimal, Option, None, Some}
 use Rattle.std.specs.List.{list_all}
 use Rattle.bac_check.specs.Holes.{front_of}
 use Rattle.bac_check.specs.declared.course.Course.{Course}

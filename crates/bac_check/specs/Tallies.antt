@@ -10,8 +10,8 @@ use Rattle.bac_check.specs.declared.tally.Tally.{Tally}
 abbrev pub gap_numbers : Span → ℕ
 gap_numbers span = if is_some span.last then end_of span + 1 - span.number else 0
 
--- What is told of these rows, of which there is at least one: the least and the greatest number that is in one, how many
--- records and how many gaps there are, how many numbers the gaps have, and the holes between the numbers.
+-- What is told of these rows, of which there is at least one: the least and the greatest number that is in one, how
+-- many records and how many gaps there are, how many numbers the gaps have, and the holes between the numbers.
 pub record IsTally (spans : List Span) (t : Tally) : Type 0 where
   pub rise : Rise 0 spans
   pub first : Have spans t.first

@@ -82,7 +82,8 @@ fn push_holes(text: &mut Vec<u8>, holes: &[Hole]) -> Result<(), AllocError>
     Ok(())
 }
 
-/// Appends the line of an epoch of the log with this name, and its holes; tells whether it has none.
+/// Appends the line of an epoch of the log with this name, and its holes; tells whether it has
+/// none.
 fn push_course(text: &mut Vec<u8>, name: &[u8], course: &Course) -> Result<bool, AllocError>
     ensures text { OnOk result
         (text.new.items ≡ text.old.items ++ course_text name.now course.now) }

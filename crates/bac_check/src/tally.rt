@@ -1,7 +1,8 @@
 //! The rows of an epoch, counted in the order of their numbers, and the numbers that are in none.
 
-ghost use Rattle.std.specs.Prelude.{◌≡◌, ◌<◌, ◌≤◌, ◌+◌, ◌∷◌, ◌++◌, ◌↔◌, [], Err, List, OnOk};
-ghost use Rattle.std.specs.Prelude.{IsTrue, if◌then◌else◌, is_none, is_some};
+ghost use Rattle.std.specs.Prelude.{◌≡◌, ◌<◌, ◌≤◌, ◌+◌, ◌∷◌};
+ghost use Rattle.std.specs.Prelude.{◌++◌, ◌↔◌, []};
+ghost use Rattle.std.specs.Prelude.{Err, IsTrue, List, OnOk, if◌then◌else◌, is_none, is_some};
 ghost use Rattle.bac_check.specs.Holes.{NoneIsMissing, end_of, front_of, if_any, stretch};
 ghost use Rattle.bac_check.specs.Tallies.{GoesOn, IsTally, IsTallied, gap_numbers};
 ghost use Rattle.bac_check.specs.declared.tally.Span.{Span as SpanOf};
@@ -120,7 +121,8 @@ impl Tally {
     /// One row more.
     fn extend(&mut self, span: Span) -> Result<(), AllocError>
         ensures { (spans : List SpanOf) → IsTally spans self.old → self.old.last < span.number
-            → span.number ≤ end_of span → OnOk result (IsTally (spans ++ span ∷ []) self.new) }
+            → span.number ≤ end_of span
+            → OnOk result (IsTally (spans ++ span ∷ []) self.new) }
     {
         self.leave(span.number)?;
         self.count(span);
@@ -142,11 +144,13 @@ fn goes_on(tally: &Option<Tally>, span: Span) -> bool
     }
 }
 
-/// Counts a row, which has to lie behind those that were counted.
+/// Counts a row, which has to lie behind those that were counted: one that doesn't is refused, and
+/// nothing is counted.
 pub fn take(alloc: Global, tally: &mut Option<Tally>, span: Span) -> Result<(), Uncounted>
     ensures counted { (spans : List SpanOf) → IsTallied spans tally.old
         → OnOk result (IsTallied (spans ++ span ∷ []) tally.new) }
-    ensures over { result ≡ Err Uncounted.Overlap → ¬ GoesOn tally.old span }
+    ensures over { result ≡ Err Uncounted.Overlap
+        → (tally.new ≡ tally.old) × ¬ GoesOn tally.old span }
 {
     if !goes_on(tally, span) {
         return Err(Uncounted::Overlap);
