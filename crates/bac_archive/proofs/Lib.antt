@@ -1,4 +1,6 @@
 mod SchemaLemmas
+pub mod AroundLemmas
+mod BesideLemmas
 pub mod RowsLemmas
 pub mod BeginLemmas
 mod QueryLemmas

@@ -1,4 +1,5 @@
 pub mod Schema
+pub mod Beside
 pub mod Rows
 pub mod Beginnings
 pub mod Archive

@@ -3,7 +3,8 @@
 //! An archive is a database of SQLite with four tables (specs/Schema): `archive` has the version
 //! of the format, `logs` a row for each trend log with what its device told, `items` one for each
 //! record or gap, whose key tells the log, the epoch and the number, and `beginnings` one for each
-//! epoch of a log.
+//! epoch of a log. Tables, indexes and views of others may stand beside them, if none of these can
+//! keep a row out or change one (specs/Beside).
 #![tactic(auto)]
 
 mod changes;
@@ -32,6 +33,6 @@ pub use parts::{
 };
 pub use row::Row;
 pub use rows::{adds_join, append, leaves_the_last_commit};
-pub use shape::{is_archive, is_nothing};
+pub use shape::{is_archive, is_nothing, others_may_stand};
 pub use standing::{Standing, part_stands, standing_of};
 pub use trend_logs::{Log, NotAdded, Source, Told, add_log, add_log_as, fresh_id, logs};

@@ -1,11 +1,14 @@
 //! Whether a schema is an archive's.
 
 ghost use Rattle.std.specs.Prelude.{◌≡◌, ◌↔◌, List, [], ◌∷◌, IsTrue, IsNone, IfSome, None, codes};
-ghost use Rattle.std.specs.Prelude.{false, true};
+ghost use Rattle.std.specs.Prelude.{false, true, All};
 ghost use Rattle.sqlite_schema.specs.declared.schema.Column.{Column as ColumnOf};
+ghost use Rattle.bac_archive.specs.Beside.{StandBeside};
 ghost use Rattle.bac_archive.specs.Schema.{archive_schema, no_schema, archive, logs, items};
+ghost use Rattle.bac_archive.specs.Schema.{HasArchive, HasTables, HasIndexes, HasView, HasViews};
+ghost use Rattle.bac_archive.specs.Schema.{RefersNowhere, lets_in};
 ghost use Rattle.bac_archive.specs.Schema.{beginnings, column as column_of, plain_table};
-ghost use Rattle.bac_archive.specs.Schema.{plain_view, log_index, archive_tables, archive_views};
+ghost use Rattle.bac_archive.specs.Schema.{plain_view, log_index};
 ghost use Rattle.bac_archive.specs.Schema.{first_logs, first_tables, records_text, gaps_text};
 ghost use Rattle.bac_archive.specs.Schema.{epochs_text};
 ghost use Rattle.sqlite_value.specs.Keys.{plain};
@@ -282,74 +285,137 @@ fn is_log_index(index: &Index) -> bool
         && index.is_unique
 }
 
-fn is_view(view: &View, name: &[u8], tree: u32, sql: &[u8]) -> bool
-    ensures { IsTrue result ↔ (view.now ≡ plain_view name.now tree sql.now) }
+fn is_view(view: &View, name: &[u8], sql: &[u8]) -> bool
+    ensures { IsTrue result ↔ (view.now ≡ plain_view name.now view.now.tree sql.now) }
 {
     view.name.as_slice() == name
-        && view.tree == tree
         && view.sql.as_slice() == sql
         && view.foreign.is_none()
         && !view.binds
         && !view.is_bound
 }
 
-fn is_records_view(view: &View) -> bool
-    ensures { IsTrue result ↔ (view.now ≡ plain_view (codes "records") 5 records_text) }
+fn has_view(views: &[View], name: &[u8], sql: &[u8]) -> bool
+    ensures { IsTrue result ↔ HasView name.now sql.now views.now }
 {
-    is_view(view, b"records", 5, RECORDS.as_bytes())
+    for view in views {
+        if is_view(view, name, sql) {
+            return true;
+        }
+    }
+    false
 }
 
-fn is_gaps_view(view: &View) -> bool
-    ensures { IsTrue result ↔ (view.now ≡ plain_view (codes "gaps") 6 gaps_text) }
+fn has_records(views: &[View]) -> bool
+    ensures { IsTrue result ↔ HasView (codes "records") records_text views.now }
 {
-    is_view(view, b"gaps", 6, GAPS.as_bytes())
+    has_view(views, b"records", RECORDS.as_bytes())
 }
 
-fn is_epochs_view(view: &View) -> bool
-    ensures { IsTrue result ↔ (view.now ≡ plain_view (codes "epochs") 7 epochs_text) }
+fn has_gaps(views: &[View]) -> bool
+    ensures { IsTrue result ↔ HasView (codes "gaps") gaps_text views.now }
 {
-    is_view(view, b"epochs", 7, EPOCHS.as_bytes())
+    has_view(views, b"gaps", GAPS.as_bytes())
 }
 
+fn has_epochs(views: &[View]) -> bool
+    ensures { IsTrue result ↔ HasView (codes "epochs") epochs_text views.now }
+{
+    has_view(views, b"epochs", EPOCHS.as_bytes())
+}
+
+// Whether none is a trigger, or an index whose text isn't understood.
+fn have_no_trigger(views: &[View]) -> bool
+    ensures { IsTrue result ↔ All (λ view. view.binds ≡ false) views.now }
+{
+    for view in views {
+        if view.binds {
+            return false;
+        }
+    }
+    true
+}
+
+// Whether none has a foreign key.
+fn refer_nowhere(tables: &[Table]) -> bool
+    ensures { IsTrue result ↔ All RefersNowhere tables.now }
+{
+    for table in tables {
+        if !table.references.is_empty() {
+            return false;
+        }
+    }
+    true
+}
+
+fn is_let_in(index: &Index) -> bool
+    ensures { IsTrue result ↔ (lets_in index.now ≡ true) }
+{
+    let tree = index.table;
+    !(index.is_unique && (tree == 0 || tree == 1 || tree == 3 || tree == 4))
+}
+
+// Whether none is UNIQUE on a table of an archive.
+fn are_let_in(indexes: &[Index]) -> bool
+    ensures { IsTrue result ↔ All (λ i. lets_in i ≡ true) indexes.now }
+{
+    for index in indexes {
+        if !is_let_in(index) {
+            return false;
+        }
+    }
+    true
+}
+
+// The tables of an archive, and others that refer nowhere.
 fn are_tables(tables: &[Table]) -> bool
-    ensures { IsTrue result ↔ (tables.now ≡ archive_tables) }
+    ensures { IsTrue result ↔ HasTables tables.now }
 {
-    let [versions, known, kept, begun] = tables else {
+    let [versions, known, kept, begun, others @ ..] = tables else {
         return false;
     };
     is_archive_table(versions)
         && is_log_table(known)
         && is_item_table(kept)
         && is_beginning_table(begun)
+        && refer_nowhere(others)
 }
 
+// The index of an archive, and others that let its rows in.
 fn are_indexes(indexes: &[Index]) -> bool
-    ensures { IsTrue result ↔ (indexes.now ≡ log_index ∷ []) }
+    ensures { IsTrue result ↔ HasIndexes indexes.now }
 {
-    let [only] = indexes else {
+    let [first, others @ ..] = indexes else {
         return false;
     };
-    is_log_index(only)
+    is_log_index(first) && are_let_in(others)
 }
 
+// The views of an archive are among these, by name and text, and no trigger.
 fn are_views(views: &[View]) -> bool
-    ensures { IsTrue result ↔ (views.now ≡ archive_views) }
+    ensures { IsTrue result ↔ HasViews views.now }
 {
-    let [records, gaps, epochs] = views else {
-        return false;
-    };
-    is_records_view(records) && is_gaps_view(gaps) && is_epochs_view(epochs)
+    has_records(views) && has_gaps(views) && has_epochs(views) && have_no_trigger(views)
 }
 
-/// Whether a schema is an archive's: its tables, its index and its views, and no more.
-#[tactic(auto, using(crate::proofs::SchemaLemmas::parts_are))]
+/// Whether a schema is an archive's: its tables, its index and its views as they are. Behind them
+/// may stand other tables, indexes and views, as whoever reads the archive makes them; but no
+/// foreign key, no UNIQUE index on a table of the archive, and no trigger.
 pub fn is_archive(schema: &Schema) -> bool
-    ensures { IsTrue result ↔ (schema.now ≡ archive_schema) }
+    ensures { IsTrue result ↔ HasArchive schema.now }
 {
     are_tables(schema.tables.as_slice())
         && are_indexes(schema.indexes.as_slice())
         && are_views(schema.views.as_slice())
 }
+
+/// A new archive has what an archive has to have, and so has one with a table more exactly if that
+/// has no foreign key; with an index more exactly if it isn't UNIQUE on a table of the archive; and
+/// with a view more exactly if it is no trigger.
+pub fn others_may_stand()
+    ensures beside { StandBeside }
+    ensures made { HasArchive archive_schema }
+{}
 
 fn are_first_tables(tables: &[Table]) -> bool
     ensures { IsTrue result ↔ (tables.now ≡ first_tables) }

@@ -6,7 +6,7 @@ ghost use Rattle.bac_archive.specs.declared.epochs.Beginning.{Beginning as Begin
 ghost use Rattle.bac_archive.specs.Rows.{kept};
 ghost use Rattle.sqlite.specs.State.{HasCleanDisk, Survives};
 ghost use Rattle.sqlite.specs.Held.{state};
-ghost use Rattle.bac_archive.specs.Schema.{OverArchive, archive_schema};
+ghost use Rattle.bac_archive.specs.Schema.{OverArchive, HasArchive};
 ghost use Rattle.bac_link.specs.Ordinals.{number_after};
 ghost use Rattle.bac_asked.specs.Faults.{FailsOnRows, EndsLog};
 ghost use Rattle.bac_begin.specs.Stands.{AreFlagsOf, BeganLast, IsItemOf, IsLastOf, IsStand};
@@ -75,7 +75,7 @@ fn began_last<A: Alter>(
     ensures same { OverArchive (state A.Store conn.old) (state A.Store conn.new)
         (OnOk result ((state A.Store conn.new).now ≡ (state A.Store conn.old).now)) }
     ensures crash { (HasCleanDisk (state A.Store conn.old)
-        → (state A.Store conn.old).now.schema ≡ archive_schema)
+        → HasArchive (state A.Store conn.old).now.schema)
         → Survives (state A.Store conn.old) (state A.Store conn.new) (λ _. ⊥) }
     ensures clean { HasCleanDisk (state A.Store conn.new) → HasCleanDisk (state A.Store conn.old) }
     ensures fault { IfErr result EndsLog }
@@ -116,7 +116,7 @@ fn last_flags<A: Alter>(
     ensures crash { Survives (state A.Store conn.old) (state A.Store conn.new) (λ _. ⊥) }
     ensures clean { HasCleanDisk (state A.Store conn.new) → HasCleanDisk (state A.Store conn.old) }
     ensures fault { IfErr result EndsLog }
-    ensures caused { (state A.Store conn.old).now.schema ≡ archive_schema
+    ensures caused { HasArchive (state A.Store conn.old).now.schema
         → IfErr result FailsOnRows }
 {
     if !is_archive(conn.schema()) {
@@ -138,7 +138,7 @@ fn last_item<A: Alter>(
         (IfOk result (IsItemOf id (kept (state A.Store conn.old).now.trees))) }
     ensures same { OverArchive (state A.Store conn.old) (state A.Store conn.new)
         (OnOk result ((state A.Store conn.new).now ≡ (state A.Store conn.old).now)) }
-    ensures crash { (state A.Store conn.old).now.schema ≡ archive_schema
+    ensures crash { HasArchive (state A.Store conn.old).now.schema
         → Survives (state A.Store conn.old) (state A.Store conn.new) (λ _. ⊥) }
     ensures clean { HasCleanDisk (state A.Store conn.new) → HasCleanDisk (state A.Store conn.old) }
     ensures fault { IfErr result EndsLog }
@@ -184,7 +184,7 @@ pub fn stand_of<A: Alter>(
     ensures same { OverArchive (state A.Store conn.old) (state A.Store conn.new)
         (OnOk result ((state A.Store conn.new).now ≡ (state A.Store conn.old).now)) }
     // Whatever comes of it, nothing is committed.
-    ensures crash { (state A.Store conn.old).now.schema ≡ archive_schema
+    ensures crash { HasArchive (state A.Store conn.old).now.schema
         → Survives (state A.Store conn.old) (state A.Store conn.new) (λ _. ⊥) }
     ensures clean { HasCleanDisk (state A.Store conn.new) → HasCleanDisk (state A.Store conn.old) }
     ensures fault { IfErr result EndsLog }

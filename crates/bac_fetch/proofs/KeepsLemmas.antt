@@ -2,7 +2,6 @@
 use Rattle.std.proofs.Common.{◌≡◌, ◌-◌, ℕ, max, Bool, true, false, List, [], ◌∷◌, ◌++◌, length, Option, None, Some, Result, Ok, Err, refl, sym, ap, subst, ◌∙◌, append_assoc, append-nil, length-append, arith}
 use Rattle.sqlite.specs.Effect.{Database}
 use Rattle.bac_wire.specs.Primitive.{Id}
-use Rattle.bac_archive.specs.Schema.{archive_schema}
 use Rattle.bac_archive.specs.declared.trend_logs.Log.{Log}
 use Rattle.bac_archive.specs.declared.trend_logs.Told.{Told}
 use Rattle.bac_walk.specs.Outcomes.{why_of}
@@ -33,6 +32,8 @@ use Rattle.bac_asked.specs.declared.end.Ending.TheVariants.{NotAsked}
 use Rattle.bac_begin.specs.Starts.{IsBegun}
 use Rattle.bac_asked.specs.Status.{end_status}
 use Rattle.bac_questions.proofs.SilentLemmas.{either_holds}
+use Rattle.bac_archive.specs.Schema.{HasArchive}
+use Rattle.bac_archive.proofs.AroundLemmas.{has_still}
 
 -- what is kept of a log whose beginning changed nothing, over a link
 pub keeps_begun : {L : Type 0} (asks : L → List ℕ → Result (List ℕ) Loss → L → Type 0) (way route : Option Place) (tries retries : ℕ) (link mid left : L)
@@ -67,73 +68,73 @@ keeps_log rules asking before middle after entry object given old new kept end p
     (port, middle, last, opens, (left, kept, it₅, told, is_last), closes)
 
 on_schema : {L : Type 0} (asks : L → List ℕ → Result (List ℕ) Loss → L → Type 0) (path : Path) (retries : ℕ) (link left : L) (start : Start) (why : Option Why) (steps : ℕ)
-    (old new : Database) (end : End) → KeepsOn asks path retries link left start why steps old new end → old.schema ≡ archive_schema → new.schema ≡ archive_schema
-on_schema asks path retries link left start (Some why) steps old new end h has = ap (λ (d : Database). d.schema) h.0 ∙ has
-on_schema asks path retries link left start None steps old new end h has = h.0.rows.schema
+    (old new : Database) (end : End) → KeepsOn asks path retries link left start why steps old new end → HasArchive old.schema → HasArchive new.schema
+on_schema asks path retries link left start (Some why) steps old new end h has = subst (λ (d : Database). HasArchive d.schema) (sym h.0) has
+on_schema asks path retries link left start None steps old new end h has = has_still _ _ has h.0.rows.schema
 
 pub log_schema : {L : Type 0} (asks : L → List ℕ → Result (List ℕ) Loss → L → Type 0) (path : Path) (retries : ℕ) (link left : L) (begun : Result Start End) (steps : ℕ)
-    (old new : Database) (end : End) → KeepsBegun asks path retries link left begun steps old new end → old.schema ≡ archive_schema → new.schema ≡ archive_schema
+    (old new : Database) (end : End) → KeepsBegun asks path retries link left begun steps old new end → HasArchive old.schema → HasArchive new.schema
 log_schema asks path retries link left (Ok start) steps old new end (mid, rows, on) has =
-    on_schema asks path retries link left start (why_of start.hand.gathered.step.ended) (steps - start.hand.took) mid new end on rows.schema
-log_schema asks path retries link left (Err none) steps old new end h has = ap (λ (d : Database). d.schema) h.0 ∙ has
+    on_schema asks path retries link left start (why_of start.hand.gathered.step.ended) (steps - start.hand.took) mid new end on (has_still _ _ has rows.schema)
+log_schema asks path retries link left (Err none) steps old new end h has = subst (λ (d : Database). HasArchive d.schema) (sym h.0) has
 
-mark_schema : (begins_at : Option Beginning) (end : End) (old new : Database) → Marks begins_at end old new → old.schema ≡ archive_schema → new.schema ≡ archive_schema
-mark_schema None end old new it has = ap (λ (d : Database). d.schema) it ∙ has
+mark_schema : (begins_at : Option Beginning) (end : End) (old new : Database) → Marks begins_at end old new → HasArchive old.schema → HasArchive new.schema
+mark_schema None end old new it has = subst (λ (d : Database). HasArchive d.schema) (sym it) has
 mark_schema (Some beginning) end old new it has = go (is_idle end) refl
   where
-    go : (idle : Bool) → is_idle end ≡ idle → new.schema ≡ archive_schema
-    go true is = (it.0 is).schema
-    go false is = ap (λ (d : Database). d.schema) (it.1 is) ∙ has
+    go : (idle : Bool) → is_idle end ≡ idle → HasArchive new.schema
+    go true is = has_still _ _ has (it.0 is).schema
+    go false is = subst (λ (d : Database). HasArchive d.schema) (sym (it.1 is)) has
 
-admit_row_schema : (recorded : Recorded) (row : Log) (old new : Database) → AdmitsRow recorded row old new → old.schema ≡ archive_schema → new.schema ≡ archive_schema
-admit_row_schema So row old new it has = ap (λ (d : Database). d.schema) it ∙ has
-admit_row_schema OldWord row old new it has = ap (λ (d : Database). d.schema) it ∙ has
-admit_row_schema Otherwise row old new it has = ap (λ (d : Database). d.schema) it ∙ has
-admit_row_schema Not row old new it has = it.schema
+admit_row_schema : (recorded : Recorded) (row : Log) (old new : Database) → AdmitsRow recorded row old new → HasArchive old.schema → HasArchive new.schema
+admit_row_schema So row old new it has = subst (λ (d : Database). HasArchive d.schema) (sym it) has
+admit_row_schema OldWord row old new it has = subst (λ (d : Database). HasArchive d.schema) (sym it) has
+admit_row_schema Otherwise row old new it has = subst (λ (d : Database). HasArchive d.schema) (sym it) has
+admit_row_schema Not row old new it has = has_still _ _ has it.schema
 
-pub admit_schema : (entry : Entry) (old new : Database) → Admits entry old new → old.schema ≡ archive_schema → new.schema ≡ archive_schema
+pub admit_schema : (entry : Entry) (old new : Database) → Admits entry old new → HasArchive old.schema → HasArchive new.schema
 admit_schema entry old new it has = admit_row_schema entry.recorded entry.row old new it has
 
-renew_schema : (entry : Entry) (end : End) (old new : Database) → Renews entry end old new → old.schema ≡ archive_schema → new.schema ≡ archive_schema
+renew_schema : (entry : Entry) (end : End) (old new : Database) → Renews entry end old new → HasArchive old.schema → HasArchive new.schema
 renew_schema entry end old new it has =
-    either_holds (is_due entry.recorded end) _ (new ≡ old) (new.schema ≡ archive_schema) (λ made. made.schema) (λ same. ap (λ (d : Database). d.schema) same ∙ has) it
+    either_holds (is_due entry.recorded end) _ (new ≡ old) (HasArchive new.schema) (λ made. has_still _ _ has made.schema) (λ same. subst (λ (d : Database). HasArchive d.schema) (sym same) has) it
 
 -- what was kept from a start on, and marked
 pub marked_schema : {L : Type 0} (asks : L → List ℕ → Result (List ℕ) Loss → L → Type 0) (path : Path) (retries : ℕ) (link left : L) (start : Start) (steps : ℕ)
     (old last new : Database) (end : End) → KeepsBegun asks path retries link left (Ok start) steps old last end → Marks start.begins_at end last new
-    → old.schema ≡ archive_schema → new.schema ≡ archive_schema
+    → HasArchive old.schema → HasArchive new.schema
 marked_schema asks path retries link left start steps old last new end keeps marks has =
     mark_schema start.begins_at end last new marks (log_schema asks path retries link left (Ok start) steps old last end keeps has)
 
 entered_schema : {L : Type 0} (asks : L → List ℕ → Result (List ℕ) Loss → L → Type 0) (path : Path) (retries : ℕ) (link left : L) (begun : Result Start End) (steps : ℕ)
-    (entry : Entry) (old new : Database) (end : End) → KeepsEntered asks path retries link left begun steps entry old new end → old.schema ≡ archive_schema → new.schema ≡ archive_schema
+    (entry : Entry) (old new : Database) (end : End) → KeepsEntered asks path retries link left begun steps entry old new end → HasArchive old.schema → HasArchive new.schema
 entered_schema asks path retries link left (Ok start) steps entry old new end (known, admits, last, keeps, marked, marks, renews) has =
     renew_schema entry end marked new renews (marked_schema asks path retries link left start steps known last marked end keeps marks (admit_schema entry old known admits has))
-entered_schema asks path retries link left (Err none) steps entry old new end it has = ap (λ (d : Database). d.schema) it.0 ∙ has
+entered_schema asks path retries link left (Err none) steps entry old new end it has = subst (λ (d : Database). HasArchive d.schema) (sym it.0) has
 
 source_schema : {S P : Type 0} (rules : SocketRules S P) (known : List Log) (wanted : Wanted) (told : Told) (before after : S) (old new : Database) (end : End)
-    → KeepsSource rules known wanted told before after old new end → old.schema ≡ archive_schema → new.schema ≡ archive_schema
+    → KeepsSource rules known wanted told before after old new end → HasArchive old.schema → HasArchive new.schema
 source_schema rules known wanted told before after old new end h has =
     let (begun, mid, at_begin, keeps) = h.kept.4.2 in
     entered_schema _ _ _ mid _ begun _ h.entry old new h.kept.4.1 keeps has
 
 unless_schema : {S P : Type 0} (rules : SocketRules S P) (known : List Log) (wanted : Wanted) (told : Told) (why : Option Ending) (before after : S) (old new : Database) (end : End)
-    → KeepsUnless rules known wanted told why before after old new end → old.schema ≡ archive_schema → new.schema ≡ archive_schema
-unless_schema rules known wanted told (Some why) before after old new end h has = ap (λ (d : Database). d.schema) h.0 ∙ has
+    → KeepsUnless rules known wanted told why before after old new end → HasArchive old.schema → HasArchive new.schema
+unless_schema rules known wanted told (Some why) before after old new end h has = subst (λ (d : Database). HasArchive d.schema) (sym h.0) has
 unless_schema rules known wanted told None before after old new end h has = source_schema rules known wanted told before after old new end h has
 
 next_schema : {S P : Type 0} (rules : SocketRules S P) (known : List Log) (heard more : List Heard) (wanted : Wanted) (before after : S) (old new : Database) (end : End)
-    → KeepsNext rules known heard more wanted before after old new end → old.schema ≡ archive_schema → new.schema ≡ archive_schema
+    → KeepsNext rules known heard more wanted before after old new end → HasArchive old.schema → HasArchive new.schema
 next_schema rules known heard more wanted before after old new end h has =
     either_holds (is_silent heard wanted.source) (PassesOver known wanted NotAsked before after old new end × (more ≡ heard))
-    (KeepsHeard rules known heard more wanted before after old new end) (new.schema ≡ archive_schema)
-    (λ same. ap (λ (d : Database). d.schema) same.0.0 ∙ has)
+    (KeepsHeard rules known heard more wanted before after old new end) (HasArchive new.schema)
+    (λ same. subst (λ (d : Database). HasArchive d.schema) (sym same.0.0) has)
     (λ kept. unless_schema rules known wanted kept.said.told (hindrance known heard wanted.source kept.on_record kept.said.identity) kept.half after old new end kept.kept has) h
 
 -- runs over an archive leave one
 pub all_schema : {S P : Type 0} (rules : SocketRules S P) (known : List Log) (heard last : List Heard) (all : List Wanted) (before after : S) (old new : Database) (ends : List End)
-    → KeepsAll rules known heard last all before after old new ends → old.schema ≡ archive_schema → new.schema ≡ archive_schema
-all_schema rules known heard last [] before after old new [] h has = ap (λ (d : Database). d.schema) h.0 ∙ has
+    → KeepsAll rules known heard last all before after old new ends → HasArchive old.schema → HasArchive new.schema
+all_schema rules known heard last [] before after old new [] h has = subst (λ (d : Database). HasArchive d.schema) (sym h.0) has
 all_schema rules known heard last [] before after old new (end ∷ ends) h has = absurd h
 all_schema rules known heard last (wanted ∷ all) before after old new [] h has = absurd h
 all_schema rules known heard last (wanted ∷ all) before after old new (end ∷ ends) h has =

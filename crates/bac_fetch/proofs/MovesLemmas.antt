@@ -5,7 +5,6 @@ use Rattle.std.proofs.lemmas.List.{map-append, take_all, take_more}
 use Rattle.std.proofs.lemmas.List.Elements.{filter-append}
 use Rattle.sqlite_value.specs.Order.{Row as Values}
 use Rattle.sqlite.specs.Effect.{Database}
-use Rattle.bac_archive.specs.Schema.{archive_schema}
 use Rattle.bac_archive.specs.declared.trend_logs.Log.{Log}
 use Rattle.bac_archive.specs.declared.trend_logs.Source.{Source}
 use Rattle.bac_asked.specs.declared.wanted.Wanted.{Wanted}
@@ -18,22 +17,24 @@ use Rattle.bac_questions.specs.declared.said.Identity.TheVariants.{Told, Untold,
 use Rattle.bac_questions.specs.declared.whose.Heard.{Heard}
 use Rattle.bac_questions.proofs.SilentLemmas.{either_holds}
 use Rattle.bac_fetch.proofs.StaysLemmas.{all_itself, changes_all}
+use Rattle.bac_archive.specs.Schema.{HasArchive}
+use Rattle.bac_archive.proofs.AroundLemmas.{has_still}
 
 -- an archive is one still, and has all that another had
 record Goes (old new : Database) : Type 0 where
-  pub schema : old.schema ≡ archive_schema → new.schema ≡ archive_schema
+  pub schema : HasArchive old.schema → HasArchive new.schema
   pub all : HasAllOf old.trees new.trees
 
 stands_still : (old new : Database) → new ≡ old → Goes old new
 stands_still old new same = record {
-  schema = λ has. ap (λ (d : Database). d.schema) same ∙ has;
+  schema = λ has. subst (λ (d : Database). HasArchive d.schema) (sym same) has;
   all = subst (λ (d : Database). HasAllOf old.trees d.trees) (sym same) (all_itself old.trees);
 }
 
 moves : (device : ℕ) (from to : Source) (known : List Log) (there : Identity) (old new : Database) → MovesUnless device from to known there old new → Goes old new
 moves device from to known there old new =
     either_holds (is_told device there) (new ≡ old) _ (Goes old new) (stands_still old new)
-    (λ it. record { schema = λ has. it.2.schema; all = changes_all old.trees new.trees it.0 it.2.rows })
+    (λ it. record { schema = λ has. has_still _ _ has it.2.schema; all = changes_all old.trees new.trees it.0 it.2.rows })
 
 asks_if : {S P : Type 0} (rules : SocketRules S P) (device : ℕ) (log : Option Log) (to : Source) (known : List Log) (before after : S) (old new : Database)
     → AsksIf rules device log to known before after old new → Goes old new
@@ -55,7 +56,7 @@ settled {S = S} rules known (first ∷ more) before heard after old new it =
     (λ one. by_identity rules known first.source one.0.said.identity one.2.0 after old new one.2.4) it
 
 pub settles_schema : {S P : Type 0} (rules : SocketRules S P) (known : List Log) (all : List Wanted) (before : S) (heard : List Heard) (after : S) (old new : Database)
-    → Settles rules known all before heard after old new → old.schema ≡ archive_schema → new.schema ≡ archive_schema
+    → Settles rules known all before heard after old new → HasArchive old.schema → HasArchive new.schema
 settles_schema rules known all before heard after old new it = (settled rules known all before heard after old new it).schema
 
 pub settles_stay : {S P : Type 0} (rules : SocketRules S P) (known : List Log) (all : List Wanted) (before : S) (heard : List Heard) (after : S) (old new : Database)

@@ -9,7 +9,6 @@ use Rattle.sqlite.specs.Effect.{Database}
 use Rattle.sqlite.specs.State.{State, HasCleanDisk, Survives}
 use Rattle.sqlite.proofs.StateLemmas.{survives_then}
 use Rattle.bac_archive.specs.Rows.{kept, Adds}
-use Rattle.bac_archive.specs.Schema.{archive_schema}
 use Rattle.bac_archive.specs.Beginnings.{AddsBeginnings}
 use Rattle.bac_archive.specs.Standing.{HasNewBeginning}
 use Rattle.bac_archive.specs.declared.epochs.Beginning.{Beginning}
@@ -21,6 +20,7 @@ use Rattle.bac_asked.specs.declared.end.End.{End}
 use Rattle.bac_fetch.specs.Keeps.{KeepsBegun, KeepsOn, Marks, is_idle}
 use Rattle.bac_fetch.specs.Stays.{HasSameLogs}
 use Rattle.bac_begin.specs.declared.starting.Start.{Start}
+use Rattle.bac_archive.specs.Schema.{HasArchive}
 
 -- what a call may leave in one sense it leaves in a wider one
 pub survives_as : (old new : State) (P Q : Trees → Type 0) → (HasCleanDisk new → (db : Trees) → P db → Q db) → Survives old new P → Survives old new Q
@@ -60,8 +60,8 @@ marks_same (Some beginning) end old new it = go (is_idle end) refl
     go false is = subst (λ (d : Database). HasSameLogs old.trees d.trees) (sym (it.1 is)) (same_itself old.trees)
 
 -- with what may be left of a beginning
-pub begin_stays : (old new : State) (row : Values) → old.now.schema ≡ archive_schema
-    → Survives old new (λ trees. old.now.schema ≡ archive_schema → (db : Database) × HasNewBeginning old.now db row × (trees ≡ db.trees))
+pub begin_stays : (old new : State) (row : Values) → HasArchive old.now.schema
+    → Survives old new (λ trees. HasArchive old.now.schema → (db : Database) × HasNewBeginning old.now db row × (trees ≡ db.trees))
     → Survives old new (HasSameLogs old.now.trees)
 begin_stays old new row has it = survives_as old new _ (HasSameLogs old.now.trees)
     (λ _ db left. let made = left has in subst (HasSameLogs old.now.trees) (sym made.2) (begin_same old.now.trees made.0.trees _ made.1.rows)) it

@@ -10,7 +10,6 @@ use Rattle.sqlite.specs.Effect.{Database}
 use Rattle.sqlite.specs.State.{State, HasCleanDisk, IsUnchanged, Survives}
 use Rattle.sqlite.proofs.StateLemmas.{survives_then}
 use Rattle.bac_archive.specs.Rows.{kept, known}
-use Rattle.bac_archive.specs.Schema.{archive_schema}
 use Rattle.bac_archive.specs.declared.epochs.Beginning.{Beginning}
 use Rattle.bac_link.specs.Path.{Path}
 use Rattle.bac_link.specs.declared.link.Lost.{Lost as Loss}
@@ -35,6 +34,7 @@ use Rattle.bac_asked.specs.declared.end.End.{End}
 use Rattle.bac_begin.specs.declared.starting.Start.{Start}
 use Rattle.bac_asked.specs.declared.wanted.Wanted.{Wanted}
 use Rattle.bac_questions.proofs.SilentLemmas.{either_holds}
+use Rattle.bac_archive.specs.Schema.{HasArchive}
 
 -- a row is still there under its id
 still : (row : Values) (id : ℕ) → rowid row ≡ Int (pos id) → IsStill row row id
@@ -80,15 +80,15 @@ stays_then old mid new all one two = survives_then old mid new _ _ (HasAllOf old
     (λ _ db it. all_then old.now.trees mid.now.trees db all it) one two
 
 -- what may be left of a log whose row comes
-pub added_stays : (old new : State) (row : Values) → old.now.schema ≡ archive_schema
-    → Survives old new (λ trees. old.now.schema ≡ archive_schema → (db : Database) × HasNewLog old.now db row × (trees ≡ db.trees))
+pub added_stays : (old new : State) (row : Values) → HasArchive old.now.schema
+    → Survives old new (λ trees. HasArchive old.now.schema → (db : Database) × HasNewLog old.now db row × (trees ≡ db.trees))
     → Survives old new (HasAllOf old.now.trees)
 added_stays old new row has it = survives_as old new _ (HasAllOf old.now.trees)
     (λ _ db left. let made = left has in subst (HasAllOf old.now.trees) (sym made.2) (log_all old.now.trees made.0.trees row made.1.rows)) it
 
 -- and of changes of rows of logs
-pub changed_stays : (old new : State) (logs : List Log) → old.now.schema ≡ archive_schema
-    → Survives old new (λ trees. old.now.schema ≡ archive_schema → (db : Database) × HasChangedLogs old.now db logs × (trees ≡ db.trees))
+pub changed_stays : (old new : State) (logs : List Log) → HasArchive old.now.schema
+    → Survives old new (λ trees. HasArchive old.now.schema → (db : Database) × HasChangedLogs old.now db logs × (trees ≡ db.trees))
     → Survives old new (HasAllOf old.now.trees)
 changed_stays old new logs has it = survives_as old new _ (HasAllOf old.now.trees)
     (λ _ db left. let made = left has in subst (HasAllOf old.now.trees) (sym made.2) (changes_all old.now.trees made.0.trees logs made.1.rows)) it
@@ -98,10 +98,10 @@ pub marks_stay : (begins_at : Option Beginning) (end : End) (old new : Database)
 marks_stay begins_at end old new it = all_of_same old.trees new.trees (marks_same begins_at end old new it)
 
 -- two calls that commit nothing
-pub none_then : (old mid new : State) → (HasCleanDisk mid → IsUnchanged old mid) → old.now.schema ≡ archive_schema
-    → Survives old mid (λ _. ⊥) → ((HasCleanDisk mid → mid.now.schema ≡ archive_schema) → Survives mid new (λ _. ⊥)) → Survives old new (λ _. ⊥)
+pub none_then : (old mid new : State) → (HasCleanDisk mid → IsUnchanged old mid) → HasArchive old.now.schema
+    → Survives old mid (λ _. ⊥) → ((HasCleanDisk mid → HasArchive mid.now.schema) → Survives mid new (λ _. ⊥)) → Survives old new (λ _. ⊥)
 none_then old mid new same has one two = survives_then old mid new _ _ (λ _. ⊥) (λ _ _ none. none) (λ _ _ none. none) one
-    (two (λ clean. ap (λ (d : Database). d.schema) (same clean).0.now_is ∙ has))
+    (two (λ clean. subst (λ (d : Database). HasArchive d.schema) (sym (same clean).0.now_is) has))
 
 pub begun_stays : {L : Type 0} (asks : L → List ℕ → Result (List ℕ) Loss → L → Type 0) (path : Path) (retries : ℕ) (link left : L) (begun : Result Start End) (steps : ℕ)
     (old new : Database) (end : End) → KeepsBegun asks path retries link left begun steps old new end → HasAllOf old.trees new.trees
@@ -198,8 +198,8 @@ pub rows_itself : (a : Trees) → HasRows a a
 rows_itself a = λ row at. at
 
 -- what may be left of a log whose row comes
-pub added_rows : (old new : State) (row : Values) → old.now.schema ≡ archive_schema
-    → Survives old new (λ trees. old.now.schema ≡ archive_schema → (db : Database) × HasNewLog old.now db row × (trees ≡ db.trees))
+pub added_rows : (old new : State) (row : Values) → HasArchive old.now.schema
+    → Survives old new (λ trees. HasArchive old.now.schema → (db : Database) × HasNewLog old.now db row × (trees ≡ db.trees))
     → Survives old new (HasRows old.now.trees)
 added_rows old new row has it = survives_as old new _ (HasRows old.now.trees)
     (λ _ db left. let made = left has in subst (HasRows old.now.trees) (sym made.2) (rows_of_new old.now.trees made.0.trees row made.1.rows)) it
@@ -211,8 +211,8 @@ admitted_rows Otherwise row old new it = subst (λ (d : Database). HasRows old.t
 admitted_rows Not row old new it = rows_of_new old.trees new.trees _ it.rows
 
 -- what may be left of a row that is changed
-pub renews_crash : (entry : Entry) (end : End) (old new : State) → is_due entry.recorded end ≡ true → old.now.schema ≡ archive_schema
-    → Survives old new (λ trees. old.now.schema ≡ archive_schema → (db : Database) × HasChangedLogs old.now db (entry.row ∷ []) × (trees ≡ db.trees))
+pub renews_crash : (entry : Entry) (end : End) (old new : State) → is_due entry.recorded end ≡ true → HasArchive old.now.schema
+    → Survives old new (λ trees. HasArchive old.now.schema → (db : Database) × HasChangedLogs old.now db (entry.row ∷ []) × (trees ≡ db.trees))
     → Survives old new (λ trees. (db : Database) × Renews entry end old.now db × (trees ≡ db.trees))
 renews_crash entry end old new is has it = survives_as old new _ _
     (λ _ db left. let made = left has in

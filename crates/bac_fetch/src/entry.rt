@@ -4,7 +4,7 @@ ghost use Rattle.std.specs.Prelude.{◌≡◌, false, option_map, None, IfOk, On
 ghost use Rattle.std.specs.String.{string_bytes};
 ghost use Rattle.sqlite.specs.State.{HasCleanDisk, Survives};
 ghost use Rattle.sqlite.specs.Held.{state};
-ghost use Rattle.bac_archive.specs.Schema.{OverArchive, archive_schema};
+ghost use Rattle.bac_archive.specs.Schema.{OverArchive, HasArchive};
 ghost use Rattle.bac_archive.specs.Beginnings.{IsFreshId};
 ghost use Rattle.bac_fetch.specs.Causes.{FailsToEnter};
 ghost use Rattle.bac_asked.specs.Faults.{FailsOnRows, EndsLog};
@@ -158,7 +158,7 @@ fn free_id<A: Alter>(conn: &mut Connection<A>, alloc: Global) -> Result<u16, Not
         (IfOk result (IsFreshId (state A.Store conn.old).now.trees)) }
     ensures same { OverArchive (state A.Store conn.old) (state A.Store conn.new)
         (OnOk result ((state A.Store conn.new).now ≡ (state A.Store conn.old).now)) }
-    ensures crash { (state A.Store conn.old).now.schema ≡ archive_schema
+    ensures crash { HasArchive (state A.Store conn.old).now.schema
         → Survives (state A.Store conn.old) (state A.Store conn.new) (λ _. ⊥) }
     ensures clean { HasCleanDisk (state A.Store conn.new) → HasCleanDisk (state A.Store conn.old) }
     ensures fault { IfErr result EndsLog }
@@ -187,7 +187,7 @@ pub(crate) fn enter<A: Alter>(
         × (entry.row.told ≡ told) × (entry.row.stopped ≡ false)) }
     ensures same { OverArchive (state A.Store conn.old) (state A.Store conn.new)
         (OnOk result ((state A.Store conn.new).now ≡ (state A.Store conn.old).now)) }
-    ensures crash { (state A.Store conn.old).now.schema ≡ archive_schema
+    ensures crash { HasArchive (state A.Store conn.old).now.schema
         → Survives (state A.Store conn.old) (state A.Store conn.new) (λ _. ⊥) }
     ensures clean { HasCleanDisk (state A.Store conn.new) → HasCleanDisk (state A.Store conn.old) }
     ensures fault { IfErr result EndsLog }
@@ -226,10 +226,10 @@ fn name_of(text: &Option<String>) -> Option<&str>
 pub(crate) fn admit<A: Alter>(conn: &mut Connection<A>, entry: &Entry) -> Result<(), NotDone>
     ensures admits { OverArchive (state A.Store conn.old) (state A.Store conn.new)
         (OnOk result (Admits entry.now (state A.Store conn.old).now (state A.Store conn.new).now)) }
-    ensures stays { (state A.Store conn.old).now.schema ≡ archive_schema
+    ensures stays { HasArchive (state A.Store conn.old).now.schema
         → Survives (state A.Store conn.old) (state A.Store conn.new)
         (HasAllOf (state A.Store conn.old).now.trees) }
-    ensures rows { (state A.Store conn.old).now.schema ≡ archive_schema
+    ensures rows { HasArchive (state A.Store conn.old).now.schema
         → Survives (state A.Store conn.old) (state A.Store conn.new)
         (HasRows (state A.Store conn.old).now.trees) }
     ensures clean { HasCleanDisk (state A.Store conn.new) → HasCleanDisk (state A.Store conn.old) }
@@ -262,11 +262,11 @@ pub(crate) fn renew<A: Alter>(
     ensures renews { OverArchive (state A.Store conn.old) (state A.Store conn.new)
         (OnOk result
         (Renews entry.now end.now (state A.Store conn.old).now (state A.Store conn.new).now)) }
-    ensures stays { (state A.Store conn.old).now.schema ≡ archive_schema
+    ensures stays { HasArchive (state A.Store conn.old).now.schema
         → Survives (state A.Store conn.old) (state A.Store conn.new)
         (HasAllOf (state A.Store conn.old).now.trees) }
     // A crash leaves the row as it was, or as it is to be.
-    ensures crash { (state A.Store conn.old).now.schema ≡ archive_schema
+    ensures crash { HasArchive (state A.Store conn.old).now.schema
         → Survives (state A.Store conn.old) (state A.Store conn.new)
         (λ trees. (db : _) × Renews entry.now end.now (state A.Store conn.old).now db
         × (trees ≡ db.trees)) }

@@ -5,7 +5,7 @@ ghost use Rattle.sqlite.specs.State.{HasCleanDisk, Survives};
 ghost use Rattle.sqlite.specs.Effect.{Database};
 ghost use Rattle.sqlite.specs.Held.{state};
 ghost use Rattle.bac_archive.specs.Rows.{IsAppended, stored};
-ghost use Rattle.bac_archive.specs.Schema.{OverArchive, archive_schema};
+ghost use Rattle.bac_archive.specs.Schema.{OverArchive, HasArchive};
 ghost use Rattle.bac_link.specs.Path.{towards};
 ghost use Rattle.bac_ports.specs.Sockets.{socket_rules};
 ghost use Rattle.bac_fetch.specs.Causes.{EndsFetch};
@@ -62,7 +62,7 @@ fn where_to_start<L: LogLink, A: Alter>(
     ensures same { OverArchive (state A.Store conn.old) (state A.Store conn.new)
         (OnOk result ((state A.Store conn.new).now ≡ (state A.Store conn.old).now)) }
     // Whatever comes of it, nothing is committed.
-    ensures crash { (state A.Store conn.old).now.schema ≡ archive_schema
+    ensures crash { HasArchive (state A.Store conn.old).now.schema
         → Survives (state A.Store conn.old) (state A.Store conn.new) (λ _. ⊥) }
     ensures clean { HasCleanDisk (state A.Store conn.new) → HasCleanDisk (state A.Store conn.old) }
     ensures fault { IfErr result EndsLog }
@@ -90,7 +90,7 @@ fn keep_hand<A: Alter>(conn: &mut Connection<A>, gathered: Gathered) -> Result<(
     ensures kept { HasCleanDisk (state A.Store conn.new)
         → OnOk result (IsAppended (state A.Store conn.old).now (state A.Store conn.new).now
         (map stored gathered.rows.items)) }
-    ensures stays { (state A.Store conn.old).now.schema ≡ archive_schema
+    ensures stays { HasArchive (state A.Store conn.old).now.schema
         → Survives (state A.Store conn.old) (state A.Store conn.new)
         (HasSameLogs (state A.Store conn.old).now.trees) }
     ensures clean { HasCleanDisk (state A.Store conn.new) → HasCleanDisk (state A.Store conn.old) }

@@ -4,7 +4,7 @@ ghost use Rattle.std.specs.Prelude.{◌≡◌, ◌≢◌, ◌⊎◌, ◌∷◌, 
 ghost use Rattle.std.specs.List.{All};
 ghost use Rattle.sqlite.specs.State.{HasCleanDisk, Survives};
 ghost use Rattle.sqlite.specs.Held.{state};
-ghost use Rattle.bac_archive.specs.Schema.{OverArchive, archive_schema};
+ghost use Rattle.bac_archive.specs.Schema.{OverArchive, HasArchive};
 ghost use Rattle.bac_archive.specs.Logs.{AreLogs};
 ghost use Rattle.bac_hearing.specs.Hearing.{started};
 ghost use Rattle.bac_ports.specs.Sockets.{socket_rules};
@@ -83,7 +83,7 @@ fn kept_logs<A: Alter>(
         (IfOk result (λ all. AreKeptLogs (state A.Store conn.old).now.trees all.items)) }
     ensures same { OverArchive (state A.Store conn.old) (state A.Store conn.new)
         (OnOk result ((state A.Store conn.new).now ≡ (state A.Store conn.old).now)) }
-    ensures crash { (state A.Store conn.old).now.schema ≡ archive_schema
+    ensures crash { HasArchive (state A.Store conn.old).now.schema
         → Survives (state A.Store conn.old) (state A.Store conn.new) (λ _. ⊥) }
     ensures clean { HasCleanDisk (state A.Store conn.new) → HasCleanDisk (state A.Store conn.old) }
     ensures fault { IfErr result (EndsKept (OverArchive (state A.Store conn.old)
@@ -157,7 +157,7 @@ fn logs_of<A: Alter>(conn: &mut Connection<A>, alloc: Global) -> Result<Vec<Log>
         (IfOk result (λ all. AreLogs (state A.Store conn.old).now.trees all.items)) }
     ensures same { OverArchive (state A.Store conn.old) (state A.Store conn.new)
         (OnOk result ((state A.Store conn.new).now ≡ (state A.Store conn.old).now)) }
-    ensures crash { (state A.Store conn.old).now.schema ≡ archive_schema
+    ensures crash { HasArchive (state A.Store conn.old).now.schema
         → Survives (state A.Store conn.old) (state A.Store conn.new) (λ _. ⊥) }
     ensures clean { HasCleanDisk (state A.Store conn.new) → HasCleanDisk (state A.Store conn.old) }
     ensures fault { IfErr result EndsLog }
@@ -326,7 +326,7 @@ fn chosen_logs<S: Heeds, A: Alter, O: Write, E: Write>(
         (O.contents output.new)) }
     ensures same { OverArchive (state A.Store conn.old) (state A.Store conn.new)
         (OnOk result ((state A.Store conn.new).now ≡ (state A.Store conn.old).now)) }
-    ensures crash { (state A.Store conn.old).now.schema ≡ archive_schema
+    ensures crash { HasArchive (state A.Store conn.old).now.schema
         → Survives (state A.Store conn.old) (state A.Store conn.new) (λ _. ⊥) }
     ensures clean { HasCleanDisk (state A.Store conn.new) → HasCleanDisk (state A.Store conn.old) }
     ensures fault { IfErr result (EndsChosen

@@ -6,7 +6,7 @@ ghost use Rattle.sqlite.specs.State.{HasCleanDisk, Survives};
 ghost use Rattle.sqlite.specs.Held.{state};
 ghost use Rattle.bac_archive.specs.Changes.{HasChangedLogs};
 ghost use Rattle.bac_archive.specs.Logs.{log_columns};
-ghost use Rattle.bac_archive.specs.Schema.{OverArchive, archive_schema};
+ghost use Rattle.bac_archive.specs.Schema.{OverArchive, HasArchive};
 ghost use Rattle.bac_ports.specs.Sockets.{socket_rules};
 ghost use Rattle.bac_asked.specs.Wanted.{AsksItsSource, HasNoAddress};
 ghost use Rattle.bac_asked.specs.AsLog.{given_in};
@@ -125,7 +125,7 @@ fn move_logs<A: Alter>(
     ensures moved { OverArchive (state A.Store conn.old) (state A.Store conn.new)
         (OnOk result ((moved : _) × AreMoved device from.now to.now known.now moved
         × HasChangedLogs (state A.Store conn.old).now (state A.Store conn.new).now moved)) }
-    ensures stays { (state A.Store conn.old).now.schema ≡ archive_schema
+    ensures stays { HasArchive (state A.Store conn.old).now.schema
         → Survives (state A.Store conn.old) (state A.Store conn.new)
         (HasAllOf (state A.Store conn.old).now.trees) }
     ensures clean { HasCleanDisk (state A.Store conn.new) → HasCleanDisk (state A.Store conn.old) }
@@ -203,7 +203,7 @@ fn settle_from<S: Sockets, A: Alter, E: Write>(
         (OnOk result (AsksThere (socket_rules S.opens S.closes S.Socket.sends S.Socket.receives
         S.Socket.receives_within) device from.now to.now known.now sockets.old
         sockets.new (state A.Store conn.old).now (state A.Store conn.new).now)) }
-    ensures stays { (state A.Store conn.old).now.schema ≡ archive_schema
+    ensures stays { HasArchive (state A.Store conn.old).now.schema
         → Survives (state A.Store conn.old) (state A.Store conn.new)
         (HasAllOf (state A.Store conn.old).now.trees) }
     ensures clean { HasCleanDisk (state A.Store conn.new) → HasCleanDisk (state A.Store conn.old) }
@@ -237,7 +237,7 @@ fn settle_by<S: Sockets, A: Alter, E: Write>(
         (OnOk result (SettlesBy (socket_rules S.opens S.closes S.Socket.sends S.Socket.receives
         S.Socket.receives_within) known.now to.now identity sockets.old sockets.new
         (state A.Store conn.old).now (state A.Store conn.new).now)) }
-    ensures stays { (state A.Store conn.old).now.schema ≡ archive_schema
+    ensures stays { HasArchive (state A.Store conn.old).now.schema
         → Survives (state A.Store conn.old) (state A.Store conn.new)
         (HasAllOf (state A.Store conn.old).now.trees) }
     ensures clean { HasCleanDisk (state A.Store conn.new) → HasCleanDisk (state A.Store conn.old) }
@@ -282,7 +282,7 @@ fn settle_first<S: Sockets, A: Alter, E: Write>(
         (IfOk result (λ one. SettlesFirst (socket_rules S.opens S.closes S.Socket.sends
         S.Socket.receives S.Socket.receives_within) known.now first.now sockets.old one
         sockets.new (state A.Store conn.old).now (state A.Store conn.new).now)) }
-    ensures stays { (state A.Store conn.old).now.schema ≡ archive_schema
+    ensures stays { HasArchive (state A.Store conn.old).now.schema
         → Survives (state A.Store conn.old) (state A.Store conn.new)
         (HasAllOf (state A.Store conn.old).now.trees) }
     ensures clean { HasCleanDisk (state A.Store conn.new) → HasCleanDisk (state A.Store conn.old) }
@@ -328,7 +328,7 @@ fn settle_unless<S: Sockets, A: Alter, E: Write>(
         (IfOk result (λ heard. SettlesUnless (socket_rules S.opens S.closes S.Socket.sends
         S.Socket.receives S.Socket.receives_within) known.now first.now sockets.old
         heard.items sockets.new (state A.Store conn.old).now (state A.Store conn.new).now)) }
-    ensures stays { (state A.Store conn.old).now.schema ≡ archive_schema
+    ensures stays { HasArchive (state A.Store conn.old).now.schema
         → Survives (state A.Store conn.old) (state A.Store conn.new)
         (HasAllOf (state A.Store conn.old).now.trees) }
     ensures clean { HasCleanDisk (state A.Store conn.new) → HasCleanDisk (state A.Store conn.old) }
@@ -367,7 +367,7 @@ pub(crate) fn settle<S: Sockets, A: Alter, E: Write>(
         (IfOk result (λ heard. Settles (socket_rules S.opens S.closes S.Socket.sends
         S.Socket.receives S.Socket.receives_within) known.now all.now sockets.old
         heard.items sockets.new (state A.Store conn.old).now (state A.Store conn.new).now)) }
-    ensures stays { (state A.Store conn.old).now.schema ≡ archive_schema
+    ensures stays { HasArchive (state A.Store conn.old).now.schema
         → Survives (state A.Store conn.old) (state A.Store conn.new)
         (HasAllOf (state A.Store conn.old).now.trees) }
     ensures clean { HasCleanDisk (state A.Store conn.new) → HasCleanDisk (state A.Store conn.old) }

@@ -4,7 +4,7 @@ ghost use Rattle.std.specs.Prelude.{◌≡◌, option_map, OnOk, IfOk, IfErr};
 ghost use Rattle.std.specs.Io.KnownBytes.{Appends};
 ghost use Rattle.sqlite.specs.State.{HasCleanDisk, Survives};
 ghost use Rattle.sqlite.specs.Held.{state};
-ghost use Rattle.bac_archive.specs.Schema.{OverArchive, archive_schema};
+ghost use Rattle.bac_archive.specs.Schema.{OverArchive, HasArchive};
 ghost use Rattle.bac_asked.specs.Lines.{summary_line};
 ghost use Rattle.bac_asked.specs.Faults.{FailsOnRows, EndsLog};
 ghost use Rattle.bac_fetch.specs.Keeps.{IsNextOf, IsToldBy, next_behind};
@@ -63,7 +63,7 @@ fn next_of<A: Alter>(
         (IfOk result (IsNextOf (state A.Store conn.old).now.trees id)) }
     ensures same { OverArchive (state A.Store conn.old) (state A.Store conn.new)
         (OnOk result ((state A.Store conn.new).now ≡ (state A.Store conn.old).now)) }
-    ensures crash { (state A.Store conn.old).now.schema ≡ archive_schema
+    ensures crash { HasArchive (state A.Store conn.old).now.schema
         → Survives (state A.Store conn.old) (state A.Store conn.new) (λ _. ⊥) }
     ensures clean { HasCleanDisk (state A.Store conn.new) → HasCleanDisk (state A.Store conn.old) }
     ensures fault { IfErr result EndsLog }
@@ -103,7 +103,7 @@ pub(crate) fn pass_over<A: Alter, O: Write>(
         × IsNextOf (state A.Store conn.old).now.trees
         (option_map (λ l. l.id) (option_map (λ it. it.now) log.entry))
         end.next)))) }
-    ensures crash { (state A.Store conn.old).now.schema ≡ archive_schema
+    ensures crash { HasArchive (state A.Store conn.old).now.schema
         → Survives (state A.Store conn.old) (state A.Store conn.new) (λ _. ⊥) }
     ensures clean { HasCleanDisk (state A.Store conn.new) → HasCleanDisk (state A.Store conn.old) }
     ensures fault { IfErr result EndsLog }
@@ -143,7 +143,7 @@ pub(crate) fn pass_by<A: Alter, O: Write, E: Write>(
         × IsNextOf (state A.Store conn.old).now.trees
         (option_map (λ l. l.id) (option_map (λ it. it.now) log.entry))
         end.next)))) }
-    ensures crash { (state A.Store conn.old).now.schema ≡ archive_schema
+    ensures crash { HasArchive (state A.Store conn.old).now.schema
         → Survives (state A.Store conn.old) (state A.Store conn.new) (λ _. ⊥) }
     ensures clean { HasCleanDisk (state A.Store conn.new) → HasCleanDisk (state A.Store conn.old) }
     ensures fault { IfErr result EndsLog }

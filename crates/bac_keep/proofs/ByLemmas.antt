@@ -12,7 +12,6 @@ use Rattle.bac_walk.specs.Transacted.{BroughtBy}
 use Rattle.bac_walk.proofs.Came.{Asking}
 use Rattle.bac_walk.proofs.Transacted.{brought_plain}
 use Rattle.bac_walk.proofs.TransactedRuns.{brought_early, brought_joins, no_brought}
-use Rattle.bac_archive.specs.Schema.{archive_schema}
 use Rattle.bac_archive.specs.Rows.{IsAppended}
 use Rattle.bac_archive.proofs.BeginLemmas.{adds_nothing}
 use Rattle.bac_keep.specs.declared.place.Place.{Place}
@@ -45,10 +44,10 @@ module _ {S : Type 0} (asks : Asking S) where
   }
 
   -- without a step nothing is kept
-  pub by_nothing : (t : Transactions) (place : Place) (db : Database) (link : S) (w : WalkPlace) → db.schema ≡ archive_schema → KeepsBy asks t place place db db link link w w 0 StepLimit 0 0 t
-  by_nothing t place db link w has =
+  pub by_nothing : (t : Transactions) (place : Place) (db : Database) (link : S) (w : WalkPlace) → KeepsBy asks t place place db db link link w w 0 StepLimit 0 0 t
+  by_nothing t place db link w =
       let none = no_brought asks t link w in
-      kept_by t t place place db db link link w w 0 StepLimit 0 0 [] none.0 (record { schema = has; rows = adds_nothing db.trees }) none.1 refl refl refl refl refl
+      kept_by t t place place db db link link w w 0 StepLimit 0 0 [] none.0 (record { schema = refl; rows = adds_nothing db.trees }) none.1 refl refl refl refl refl
 
   -- what a run keeps, and one that goes on from there
   pub by_then : (t u z : Transactions) (place halfway reached : Place) (a b c : Database) (link half left : S) (before middle after : WalkPlace) (steps more : ℕ) (ended : Ended) (records gaps records_then gaps_then : ℕ) →
@@ -114,9 +113,9 @@ module _ {S : Type 0} (asks : Asking S) where
   KeepsUpTo first place reached old new link left before after steps ended records gaps last free now =
       (kept : KeepsBy asks first place reached old new link left before after steps ended records gaps last) × (now ≡ free_after free kept.over.items)
 
-  pub up_to_nothing : (t : Transactions) (place : Place) (db : Database) (link : S) (w : WalkPlace) (free : ℕ) → db.schema ≡ archive_schema → KeepsUpTo t place place db db link link w w 0 StepLimit 0 0 t free free
+  pub up_to_nothing : (t : Transactions) (place : Place) (db : Database) (link : S) (w : WalkPlace) (free : ℕ) → KeepsUpTo t place place db db link link w w 0 StepLimit 0 0 t free free
   unfolding by_nothing kept_by
-  up_to_nothing t place db link w free has = (by_nothing t place db link w has, refl)
+  up_to_nothing t place db link w free = (by_nothing t place db link w, refl)
 
   free_after-append : (free : ℕ) (xs ys : List Item) → free_after free (xs ++ ys) ≡ free_after (free_after free xs) ys
   free_after-append free [] ys = refl

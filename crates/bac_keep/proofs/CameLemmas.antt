@@ -22,7 +22,6 @@ use Rattle.bac_walk.proofs.Honest.{honest_delivers}
 use Rattle.bac_walk.proofs.Joined.{no_brought, brought_joins}
 use Rattle.bac_walk.proofs.Joins.{after_answers-add}
 use Rattle.bac_walk.proofs.Window.{stays_in_window}
-use Rattle.bac_archive.specs.Schema.{archive_schema}
 use Rattle.bac_archive.specs.Rows.{Adds, IsAppended, kept as kept_in}
 use Rattle.bac_archive.proofs.BeginLemmas.{adds_nothing}
 use Rattle.bac_keep.specs.declared.place.Place.{Place}
@@ -38,13 +37,13 @@ use Rattle.bac_keep.proofs.RunLemmas.{appended_then, gaps-append, records-append
 
 module _ {S : Type 0} (asks : Asking S) where
   -- without a step nothing is kept
-  pub over_nothing : (path : Path) (retries : ℕ) (place : Place) (db : Database) (link : S) (w : WalkPlace) → db.schema ≡ archive_schema → KeepsOver asks path retries place place db db link link w w 0 StepLimit 0 0
-  over_nothing path retries place db link w has =
+  pub over_nothing : (path : Path) (retries : ℕ) (place : Place) (db : Database) (link : S) (w : WalkPlace) → KeepsOver asks path retries place place db db link link w w 0 StepLimit 0 0
+  over_nothing path retries place db link w =
       let none = no_brought asks path retries link w in
       record {
         items = [];
         came = none.0;
-        rows = record { schema = has; rows = adds_nothing db.trees };
+        rows = record { schema = refl; rows = adds_nothing db.trees };
         brought = none.1;
         log = refl;
         records_are = refl;

@@ -15,7 +15,6 @@ use Rattle.bac_walk.specs.Place.{WalkPlace, walk_at}
 use Rattle.bac_walk.proofs.Window.{stays_in_window}
 use Rattle.bac_archive.specs.Latest.{TellsNewest}
 use Rattle.bac_archive.specs.Rows.{kept, Adds}
-use Rattle.bac_archive.specs.Schema.{archive_schema}
 use Rattle.bac_archive.specs.declared.latest.NewestItem.{NewestItem}
 use Rattle.bac_keep.specs.declared.place.Place.{Place}
 use Rattle.bac_keep.specs.Came.{LeavesOver}
@@ -28,10 +27,10 @@ use Rattle.bac_keep_tests.proofs.CallerLemmas.{both_kept}
 use Rattle.bac_keep_tests.proofs.OverLemmas.{AnyEnd, Asking, from_any}
 
 -- a crash left what was there before, as after no step, or the rows of some steps
-pub cut_early : {S : Type 0} (asks : Asking S) (path : Path) (retries : ℕ) (place : Place) (old : Database) (link : S) (w : WalkPlace) (steps : ℕ) (left : Trees) → old.schema ≡ archive_schema →
+pub cut_early : {S : Type 0} (asks : Asking S) (path : Path) (retries : ℕ) (place : Place) (old : Database) (link : S) (w : WalkPlace) (steps : ℕ) (left : Trees) →
     (left ≡ old.trees) ⊎ LeavesOver asks path retries place old link w steps left → LeavesOver asks path retries place old link w steps left
-cut_early asks path retries place old link w steps left has (inl same) = (old, link, w, 0, StepLimit, 0, 0, omega arith, same, place, over_nothing asks path retries place old link w has)
-cut_early asks path retries place old link w steps left has (inr it) = it
+cut_early asks path retries place old link w steps left (inl same) = (old, link, w, 0, StepLimit, 0, 0, omega arith, same, place, over_nothing asks path retries place old link w)
+cut_early asks path retries place old link w steps left (inr it) = it
 
 -- where a log has no row behind an epoch, it has none from there up to one that was reached
 pub none_up_to : (place reached : Place) (trees : Trees) → reached.log ≡ place.log → HasNoneLater place (kept trees) → HasNoneBehind (era place) (era reached) (kept trees)

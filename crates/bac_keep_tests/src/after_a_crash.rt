@@ -12,11 +12,11 @@ ghost use Rattle.bac_link.specs.Moments.{AreInWindow, NeverGoesBack};
 ghost use Rattle.bac_link.specs.Ordinals.{number_after};
 ghost use Rattle.bac_link.specs.Path.{towards};
 ghost use Rattle.bac_archive.specs.Rows.{kept};
-ghost use Rattle.bac_archive.specs.Schema.{archive_schema};
 ghost use Rattle.bac_keep.specs.declared.place.Place.{Place as PlaceOf};
 ghost use Rattle.bac_keep.specs.Items.{era};
 ghost use Rattle.bac_keep.specs.Kept.{IsKept, rows_at};
 ghost use Rattle.bac_keep.specs.Newest.{HasNoneLater, epoch_behind, next_epoch, next_number};
+ghost use Rattle.bac_archive.specs.Schema.{HasArchive};
 
 use bac_archive::{NewestItem, leaves_the_last_commit, newest};
 use bac_keep::{
@@ -79,11 +79,11 @@ pub fn kept_after_a_crash<L: LogLink, K: LogLink, S: Alter, T: Alter>(
 ) -> Option<KeptRun>
     ensures { HasCleanDisk (state S.Store conn.new) → IsTrue (state S.Store conn.old).is_open
         → (state S.Store conn.old).committed ≡ (state S.Store conn.old).now
-        → (state S.Store conn.old).now.schema ≡ archive_schema
+        → HasArchive (state S.Store conn.old).now.schema
         → rows_at place (kept (state S.Store conn.old).now.trees) ≡ []
         → HasNoneLater place (kept (state S.Store conn.old).now.trees)
         → (state S.Store conn.new).may_leave (state T.Store again.old).now.trees
-        → (state T.Store again.old).now.schema ≡ archive_schema
+        → HasArchive (state T.Store again.old).now.schema
         → IsTrue (state T.Store again.old).is_open
         → (state T.Store again.old).committed ≡ (state T.Store again.old).now
         → HasCleanDisk (state T.Store again.new)

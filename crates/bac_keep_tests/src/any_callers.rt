@@ -8,11 +8,11 @@ ghost use Rattle.bac_link.specs.Delivery.{History, Moment};
 ghost use Rattle.bac_link.specs.Laws.{after_answers};
 ghost use Rattle.bac_link.specs.Path.{towards};
 ghost use Rattle.bac_archive.specs.Rows.{kept};
-ghost use Rattle.bac_archive.specs.Schema.{archive_schema};
 ghost use Rattle.bac_link.specs.Honest.{IsHonest};
 ghost use Rattle.bac_link.specs.Moments.{AreInWindow, NeverGoesBack};
 ghost use Rattle.bac_keep.specs.Items.{era};
 ghost use Rattle.bac_keep.specs.Kept.{HasNoneBehind, IsKept, rows_at};
+ghost use Rattle.bac_archive.specs.Schema.{HasArchive};
 
 use bac_archive::{is_archive, newest};
 use bac_keep::{KeptRun, Place, Untold, all_runs_are_kept, begins_empty, honest_is_kept, keep_log};
@@ -38,7 +38,7 @@ pub fn kept_of_any_device<L: LogLink, K: LogLink, S: Alter>(
     steps: u32,
 ) -> Option<(KeptRun, KeptRun)>
     ensures { HasCleanDisk (state S.Store conn.new) → IsTrue (state S.Store conn.new).is_open
-        → (state S.Store conn.old).now.schema ≡ archive_schema
+        → HasArchive (state S.Store conn.old).now.schema
         → rows_at place (kept (state S.Store conn.old).now.trees) ≡ []
         → IfSome result (λ runs. HasNoneBehind (era place) (era runs.1.place)
         (kept (state S.Store conn.old).now.trees)

@@ -84,6 +84,8 @@ fn other_databases_are_refused(rt: HostRuntime) -> Result<(), Fail> {
     assert!(rt; open(&mut conn) == Err(Refused::Foreign));
     let mut more = archive(rt.alloc())?;
     let _ = more.execute_batch("CREATE TABLE note (id INTEGER PRIMARY KEY) STRICT")?;
+    assert!(rt; open(&mut more) == Ok(()));
+    let _ = more.execute_batch("CREATE UNIQUE INDEX one ON items (stamp)")?;
     assert!(rt; open(&mut more) == Err(Refused::Foreign));
     let mut later = archive(rt.alloc())?;
     let _ = later.execute_batch("UPDATE archive SET version = 1")?;

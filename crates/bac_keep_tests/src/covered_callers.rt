@@ -4,9 +4,9 @@ ghost use Rattle.std.specs.Prelude.{ℕ, ◌≡◌, IsTrue, IfSome};
 ghost use Rattle.sqlite.specs.State.{HasCleanDisk};
 ghost use Rattle.sqlite.specs.Held.{state};
 ghost use Rattle.bac_log.specs.TrendLog.{sequence_number};
-ghost use Rattle.bac_archive.specs.Schema.{archive_schema};
 ghost use Rattle.bac_keep.specs.Covered.{IsCovered};
 ghost use Rattle.bac_keep.specs.Items.{era};
+ghost use Rattle.bac_archive.specs.Schema.{HasArchive};
 
 use crate::after_a_crash::next_of;
 use bac_archive::{is_archive, newest};
@@ -35,7 +35,7 @@ pub fn covered_whoever_answers<L: LogLink, K: LogLink, S: Alter>(
     steps: u32,
 ) -> Option<KeptRun>
     ensures { HasCleanDisk (state S.Store conn.new) → IsTrue (state S.Store conn.new).is_open
-        → (state S.Store conn.old).now.schema ≡ archive_schema
+        → HasArchive (state S.Store conn.old).now.schema
         → IfSome result (λ run. (k : ℕ) → s ≡ sequence_number k
         → (u : ℕ) × (run.next ≡ sequence_number u)
         × IsCovered (era place) (era run.place) (state S.Store conn.new).now.trees k

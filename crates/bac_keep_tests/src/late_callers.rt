@@ -3,9 +3,9 @@
 ghost use Rattle.std.specs.Prelude.{◌≡◌, IsTrue, IfSome};
 ghost use Rattle.sqlite.specs.State.{HasCleanDisk};
 ghost use Rattle.sqlite.specs.Held.{state};
-ghost use Rattle.bac_archive.specs.Schema.{archive_schema};
 ghost use Rattle.bac_walk.specs.Place.{walk_at};
 ghost use Rattle.bac_keep_tests.specs.Late.{KeepsInTurn, TakesInTurn};
+ghost use Rattle.bac_archive.specs.Schema.{HasArchive};
 
 use bac_keep::{KeptRun, Place, Untold, keep_log};
 use bac_link::{LogLink, Transactions};
@@ -28,7 +28,7 @@ pub fn none_late_is_kept<L: LogLink, S: Alter>(
     steps: u32,
 ) -> Option<KeptRun>
     ensures kept { HasCleanDisk (state S.Store conn.new) → IsTrue (state S.Store conn.new).is_open
-        → (state S.Store conn.old).now.schema ≡ archive_schema
+        → HasArchive (state S.Store conn.old).now.schema
         → IfSome result (KeepsInTurn L.asks transactions.old place (state S.Store conn.old).now
         (state S.Store conn.new).now link.old (walk_at log s)) }
     ensures taken { IfSome result (λ run. TakesInTurn L.asks transactions.old link.old

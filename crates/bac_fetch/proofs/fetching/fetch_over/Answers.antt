@@ -1,13 +1,13 @@
-use Rattle.std.proofs.Common.{◌≡◌, Ok, Err, refl, ap, ◌∙◌}
+use Rattle.std.proofs.Common.{◌≡◌, Ok, Err, refl, ap, ◌∙◌, subst, sym}
 use Rattle.std.proofs.lemmas.Result.{IfOk-weaker}
 use Rattle.sqlite.specs.Effect.{Database}
 use Rattle.sqlite.specs.State.{HasCleanDisk}
 use Rattle.sqlite.specs.Held.{state}
 use Rattle.bac_link.specs.Path.{towards}
-use Rattle.bac_archive.specs.Schema.{archive_schema}
 use Rattle.bac_begin.specs.Starts.{IsBegun}
 use Rattle.bac_fetch.proofs.KeepsLemmas.{keeps_begun}
 use Rattle.bac_fetch.proofs.StaysLemmas.{quiet_rows, quiet_word}
+use Rattle.bac_archive.specs.Schema.{HasArchive}
 use Rattle.bac_fetch.proofs.fetching.fetch_over.Goals as goal
 
 pub returns-in-Ok-clause-kept : goal.returns-in-Ok-clause-kept
@@ -18,7 +18,7 @@ returns-in-Ok-clause-kept g c clean has =
     let new = state g.A.Store c.keep_entered.new.conn in
     let early : HasCleanDisk mid = c.keep_entered.ensures.clean clean in
     let same = c.in_ok-start.ensures.same early has in
-    let schema : mid.now.schema ≡ archive_schema = ap (λ (d : Database). d.schema) same ∙ has in
+    let schema : HasArchive mid.now.schema = subst (λ (d : Database). HasArchive d.schema) (sym same) has in
     let begun : IsBegun g.L.LogLink.asks (towards c.args.transactions.now.route) c.args.transactions.now.retries c.args.link.now c.where_to_start.new.link entry.row.id c.args.log c.args.many entry.word c.args.steps old.now.trees (Ok c.in-Ok.start) = rw c.in-Ok.is at c.in_ok-start.ensures.begun early has in
     IfOk-weaker c.keep_entered.result _ _
     (λ end it. keeps_begun g.L.LogLink.asks c.args.transactions.now.route c.where_to_start.new.transactions.route
@@ -43,7 +43,7 @@ returns-in-Ok-clause-word g c clean has =
     let new = state g.A.Store c.keep_entered.new.conn in
     let early : HasCleanDisk mid = c.keep_entered.ensures.clean clean in
     let same = c.in_ok-start.ensures.same early has in
-    let schema : mid.now.schema ≡ archive_schema = ap (λ (d : Database). d.schema) same ∙ has in
+    let schema : HasArchive mid.now.schema = subst (λ (d : Database). HasArchive d.schema) (sym same) has in
     let begun : IsBegun g.L.LogLink.asks (towards c.args.transactions.now.route) c.args.transactions.now.retries c.args.link.now c.where_to_start.new.link entry.row.id c.args.log c.args.many entry.word c.args.steps old.now.trees (Ok c.in-Ok.start) = rw c.in-Ok.is at c.in_ok-start.ensures.begun early has in
     quiet_word old mid new _ _ same (c.where_to_start.ensures.crash has)
     (λ db it. (
@@ -65,4 +65,4 @@ returns-in_err-start-clause-word g c clean has = quiet_rows (state g.A.Store c.a
 pub returns-in-Ok-clause-caused : goal.returns-in-Ok-clause-caused
 returns-in-Ok-clause-caused g c clean has =
     let same = c.in_ok-start.ensures.same (c.keep_entered.ensures.clean clean) has in
-    c.keep_entered.ensures.caused clean (ap (λ (d : Database). d.schema) same ∙ has)
+    c.keep_entered.ensures.caused clean (subst (λ (d : Database). HasArchive d.schema) (sym same) has)

@@ -1,9 +1,9 @@
 use Rattle.std.proofs.Common.{◌≡◌, Ok}
 use Rattle.sqlite.specs.State.{HasCleanDisk}
 use Rattle.sqlite.specs.Held.{state}
-use Rattle.bac_archive.specs.Schema.{archive_schema}
 use Rattle.bac_fetch.proofs.KeepsLemmas.{log_schema}
 use Rattle.bac_fetch.proofs.SameLemmas.{begun_same, same_stays_then}
+use Rattle.bac_archive.specs.Schema.{HasArchive}
 use Rattle.bac_fetch.proofs.fetching.keep_and_mark.Goals as goal
 
 pub returns-in_err-mark-clause-stays : goal.returns-in_err-mark-clause-stays
@@ -13,7 +13,7 @@ returns-in_err-mark-clause-stays g c clean has =
     let new = state g.A.Store c.mark.new.conn in
     let early : HasCleanDisk mid = c.mark.ensures.clean clean in
     let kept = c.in_ok-end.ensures.kept early has in
-    let schema : mid.now.schema ≡ archive_schema = log_schema _ _ _ _ _ (Ok c.args.start) _ old.now mid.now c.in_ok-end.end kept has in
+    let schema : HasArchive mid.now.schema = log_schema _ _ _ _ _ (Ok c.args.start) _ old.now mid.now c.in_ok-end.end kept has in
     same_stays_then old mid new (begun_same _ _ _ _ _ (Ok c.args.start) _ old.now mid.now c.in_ok-end.end kept) (c.keep_from.ensures.stays early has) (c.mark.ensures.stays clean schema)
 
 pub returns-clause-stays : goal.returns-clause-stays
@@ -23,5 +23,5 @@ returns-clause-stays g c clean has =
     let new = state g.A.Store c.mark.new.conn in
     let early : HasCleanDisk mid = c.mark.ensures.clean clean in
     let kept = c.in_ok-end.ensures.kept early has in
-    let schema : mid.now.schema ≡ archive_schema = log_schema _ _ _ _ _ (Ok c.args.start) _ old.now mid.now c.in_ok-end.end kept has in
+    let schema : HasArchive mid.now.schema = log_schema _ _ _ _ _ (Ok c.args.start) _ old.now mid.now c.in_ok-end.end kept has in
     same_stays_then old mid new (begun_same _ _ _ _ _ (Ok c.args.start) _ old.now mid.now c.in_ok-end.end kept) (c.keep_from.ensures.stays early has) (c.mark.ensures.stays clean schema)

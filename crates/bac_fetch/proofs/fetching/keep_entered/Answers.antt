@@ -1,10 +1,10 @@
 use Rattle.std.proofs.Common.{◌≡◌, Ok, rules}
 use Rattle.sqlite.specs.State.{HasCleanDisk}
 use Rattle.sqlite.specs.Held.{state}
-use Rattle.bac_archive.specs.Schema.{archive_schema}
 use Rattle.bac_asked.proofs.Results.{because}
 use Rattle.bac_fetch.proofs.KeepsLemmas.{admit_schema, marked_schema}
 use Rattle.bac_fetch.proofs.StaysLemmas.{admitted_keeps, admitted_stays, all_then, begun_stays, leaves_rows, marks_stay, leaves_word, rows_then, same_after, stays_then}
+use Rattle.bac_archive.specs.Schema.{HasArchive}
 use Rattle.bac_fetch.proofs.fetching.keep_entered.Goals as goal
 
 pub returns-clause-kept : goal.returns-clause-kept
@@ -14,9 +14,9 @@ returns-clause-kept g c clean has =
     let late : HasCleanDisk marked = c.renew.ensures.clean clean in
     let early : HasCleanDisk known = c.keep_and_mark.ensures.clean late in
     let admits = c.in_ok-admit.ensures.admits early has in
-    let schema : known.now.schema ≡ archive_schema = admit_schema c.args.entry.now (state g.A.Store c.args.conn.now).now known.now admits has in
+    let schema : HasArchive known.now.schema = admit_schema c.args.entry.now (state g.A.Store c.args.conn.now).now known.now admits has in
     let (last, keeps, marks) = c.in_ok-end.ensures.kept late schema in
-    let is : marked.now.schema ≡ archive_schema = marked_schema _ _ _ _ _ c.args.start _ known.now last marked.now c.in_ok-end.end keeps marks schema in
+    let is : HasArchive marked.now.schema = marked_schema _ _ _ _ _ c.args.start _ known.now last marked.now c.in_ok-end.end keeps marks schema in
     (known.now, admits, last, keeps, marked.now, marks, c.in_ok-renew.ensures.renews clean is)
 
 pub returns-in_err-end-clause-stays : goal.returns-in_err-end-clause-stays
@@ -25,7 +25,7 @@ returns-in_err-end-clause-stays g c clean has =
     let known = state g.A.Store c.admit.new.conn in
     let early : HasCleanDisk known = c.keep_and_mark.ensures.clean clean in
     let admits = c.in_ok-admit.ensures.admits early has in
-    let schema : known.now.schema ≡ archive_schema = admit_schema c.args.entry.now old.now known.now admits has in
+    let schema : HasArchive known.now.schema = admit_schema c.args.entry.now old.now known.now admits has in
     stays_then old known (state g.A.Store c.keep_and_mark.new.conn) (admitted_stays c.args.entry.now old.now known.now admits) (c.admit.ensures.stays has) (same_after known (state g.A.Store c.keep_and_mark.new.conn) (c.keep_and_mark.ensures.stays clean schema))
 
 pub returns-in_err-renew-clause-stays : goal.returns-in_err-renew-clause-stays
@@ -37,9 +37,9 @@ returns-in_err-renew-clause-stays g c clean has =
     let late : HasCleanDisk marked = c.renew.ensures.clean clean in
     let early : HasCleanDisk known = c.keep_and_mark.ensures.clean late in
     let admits = c.in_ok-admit.ensures.admits early has in
-    let schema : known.now.schema ≡ archive_schema = admit_schema c.args.entry.now old.now known.now admits has in
+    let schema : HasArchive known.now.schema = admit_schema c.args.entry.now old.now known.now admits has in
     let (last, keeps, marks) = c.in_ok-end.ensures.kept late schema in
-    let is : marked.now.schema ≡ archive_schema = marked_schema _ _ _ _ _ c.args.start _ known.now last marked.now c.in_ok-end.end keeps marks schema in
+    let is : HasArchive marked.now.schema = marked_schema _ _ _ _ _ c.args.start _ known.now last marked.now c.in_ok-end.end keeps marks schema in
     let first = admitted_stays c.args.entry.now old.now known.now admits in
     let second = all_then known.now.trees last.trees marked.now.trees (begun_stays _ _ _ _ _ (Ok c.args.start) _ known.now last c.in_ok-end.end keeps)
     (marks_stay c.args.start.begins_at c.in_ok-end.end last marked.now marks) in
@@ -55,9 +55,9 @@ returns-clause-stays g c clean has =
     let late : HasCleanDisk marked = c.renew.ensures.clean clean in
     let early : HasCleanDisk known = c.keep_and_mark.ensures.clean late in
     let admits = c.in_ok-admit.ensures.admits early has in
-    let schema : known.now.schema ≡ archive_schema = admit_schema c.args.entry.now old.now known.now admits has in
+    let schema : HasArchive known.now.schema = admit_schema c.args.entry.now old.now known.now admits has in
     let (last, keeps, marks) = c.in_ok-end.ensures.kept late schema in
-    let is : marked.now.schema ≡ archive_schema = marked_schema _ _ _ _ _ c.args.start _ known.now last marked.now c.in_ok-end.end keeps marks schema in
+    let is : HasArchive marked.now.schema = marked_schema _ _ _ _ _ c.args.start _ known.now last marked.now c.in_ok-end.end keeps marks schema in
     let first = admitted_stays c.args.entry.now old.now known.now admits in
     let second = all_then known.now.trees last.trees marked.now.trees (begun_stays _ _ _ _ _ (Ok c.args.start) _ known.now last c.in_ok-end.end keeps)
     (marks_stay c.args.start.begins_at c.in_ok-end.end last marked.now marks) in
@@ -73,7 +73,7 @@ returns-in_err-end-clause-word g c clean has =
     let known = state g.A.Store c.admit.new.conn in
     let early : HasCleanDisk known = c.keep_and_mark.ensures.clean clean in
     let admits = c.in_ok-admit.ensures.admits early has in
-    let schema : known.now.schema ≡ archive_schema = admit_schema c.args.entry.now old.now known.now admits has in
+    let schema : HasArchive known.now.schema = admit_schema c.args.entry.now old.now known.now admits has in
     leaves_rows old (state g.A.Store c.keep_and_mark.new.conn) _
     (rows_then old known (state g.A.Store c.keep_and_mark.new.conn) (admitted_keeps c.args.entry.now old.now known.now admits) (c.admit.ensures.rows has) (c.keep_and_mark.ensures.stays clean schema))
 
@@ -86,9 +86,9 @@ returns-in_err-renew-clause-word g c clean has =
     let late : HasCleanDisk marked = c.renew.ensures.clean clean in
     let early : HasCleanDisk known = c.keep_and_mark.ensures.clean late in
     let admits = c.in_ok-admit.ensures.admits early has in
-    let schema : known.now.schema ≡ archive_schema = admit_schema c.args.entry.now old.now known.now admits has in
+    let schema : HasArchive known.now.schema = admit_schema c.args.entry.now old.now known.now admits has in
     let (last, keeps, marks) = c.in_ok-end.ensures.kept late schema in
-    let is : marked.now.schema ≡ archive_schema = marked_schema _ _ _ _ _ c.args.start _ known.now last marked.now c.in_ok-end.end keeps marks schema in
+    let is : HasArchive marked.now.schema = marked_schema _ _ _ _ _ c.args.start _ known.now last marked.now c.in_ok-end.end keeps marks schema in
     leaves_word old marked new _ _
     (rows_then old known marked (admitted_keeps c.args.entry.now old.now known.now admits) (c.admit.ensures.rows has) (c.keep_and_mark.ensures.stays late schema))
     (λ _ db left. (left.0, (c.keep_and_mark.new.link, c.in_ok-end.end, (known.now, admits, last, keeps, marked.now, marks, left.1)), left.2))
@@ -103,9 +103,9 @@ returns-clause-word g c clean has =
     let late : HasCleanDisk marked = c.renew.ensures.clean clean in
     let early : HasCleanDisk known = c.keep_and_mark.ensures.clean late in
     let admits = c.in_ok-admit.ensures.admits early has in
-    let schema : known.now.schema ≡ archive_schema = admit_schema c.args.entry.now old.now known.now admits has in
+    let schema : HasArchive known.now.schema = admit_schema c.args.entry.now old.now known.now admits has in
     let (last, keeps, marks) = c.in_ok-end.ensures.kept late schema in
-    let is : marked.now.schema ≡ archive_schema = marked_schema _ _ _ _ _ c.args.start _ known.now last marked.now c.in_ok-end.end keeps marks schema in
+    let is : HasArchive marked.now.schema = marked_schema _ _ _ _ _ c.args.start _ known.now last marked.now c.in_ok-end.end keeps marks schema in
     leaves_word old marked new _ _
     (rows_then old known marked (admitted_keeps c.args.entry.now old.now known.now admits) (c.admit.ensures.rows has) (c.keep_and_mark.ensures.stays late schema))
     (λ _ db left. (left.0, (c.keep_and_mark.new.link, c.in_ok-end.end, (known.now, admits, last, keeps, marked.now, marks, left.1)), left.2))
@@ -116,5 +116,5 @@ returns-in_err-end-clause-caused g c clean has =
     let old = state g.A.Store c.args.conn.now in
     let known = state g.A.Store c.admit.new.conn in
     let early : HasCleanDisk known = c.keep_and_mark.ensures.clean clean in
-    let schema : known.now.schema ≡ archive_schema = admit_schema c.args.entry.now old.now known.now (c.in_ok-admit.ensures.admits early has) has in
+    let schema : HasArchive known.now.schema = admit_schema c.args.entry.now old.now known.now (c.in_ok-admit.ensures.admits early has) has in
     because c.from_residual-in_err-end.result c.in_err-end.field-0.0 _ (search rules) (c.in_err-end.ensures.caused clean schema)

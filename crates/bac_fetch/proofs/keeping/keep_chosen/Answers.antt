@@ -1,4 +1,4 @@
-use Rattle.std.proofs.Common.{◌≡◌, ap, ap₂, inl, inr, max, rules, subst, ◌∙◌}
+use Rattle.std.proofs.Common.{◌≡◌, ap, ap₂, inl, inr, max, rules, subst, ◌∙◌, sym}
 use Rattle.std.proofs.KnownBytes.{Appends-trans}
 use Rattle.sqlite.specs.Effect.{Database}
 use Rattle.sqlite.specs.State.{HasCleanDisk}
@@ -9,7 +9,7 @@ use Rattle.bac_fetch.specs.Causes.{EndsLogs, EndsRunOver}
 use Rattle.bac_fetch.specs.Keeps.{KeepsLogs, lines_of}
 use Rattle.bac_fetch.specs.Unlisted.{unlisted_lines}
 use Rattle.bac_asked.specs.AsLog.{given_in}
-use Rattle.bac_archive.specs.Schema.{OverArchive, archive_schema}
+use Rattle.bac_archive.specs.Schema.{OverArchive, HasArchive}
 use Rattle.bac_fetch.specs.Faults.{EndsKeeping, HasNone, LacksAddress}
 use Rattle.bac_fetch.proofs.CausesLemmas.{chosen_so}
 use Rattle.bac_fetch.proofs.FaultsLemmas.{run_of}
@@ -39,7 +39,7 @@ returns-clause-told g c =
         λ clean has.
             let early : HasCleanDisk mid = c.keep_each.ensures.clean clean in
             let same = c.in_ok-found.ensures.same early has in
-            subst (λ (d : Database). KeepsLogs over (started g.C.Clock.reads c.args.clock) all c.chosen_logs.new.sockets c.keep_each.new.sockets d new.now told.0) same (told.4 clean (ap (λ (d : Database). d.schema) same ∙ has)),
+            subst (λ (d : Database). KeepsLogs over (started g.C.Clock.reads c.args.clock) all c.chosen_logs.new.sockets c.keep_each.new.sockets d new.now told.0) same (told.4 clean (subst (λ (d : Database). HasArchive d.schema) (sym same) has)),
       ),
     )
 
@@ -50,7 +50,7 @@ returns-clause-stays g c clean has =
     let early : HasCleanDisk mid = c.keep_each.ensures.clean clean in
     let same = c.in_ok-found.ensures.same early has in
     quiet_first (state g.A.Store c.args.conn.now) mid new same (c.chosen_logs.ensures.crash has)
-    (c.keep_each.ensures.stays clean (ap (λ (d : Database). d.schema) same ∙ has))
+    (c.keep_each.ensures.stays clean (subst (λ (d : Database). HasArchive d.schema) (sym same) has))
 
 pub returns-in_err-kept-clause-stays : goal.returns-in_err-kept-clause-stays
 returns-in_err-kept-clause-stays g c clean has =
@@ -59,7 +59,7 @@ returns-in_err-kept-clause-stays g c clean has =
     let early : HasCleanDisk mid = c.keep_each.ensures.clean clean in
     let same = c.in_ok-found.ensures.same early has in
     quiet_first (state g.A.Store c.args.conn.now) mid new same (c.chosen_logs.ensures.crash has)
-    (c.keep_each.ensures.stays clean (ap (λ (d : Database). d.schema) same ∙ has))
+    (c.keep_each.ensures.stays clean (subst (λ (d : Database). HasArchive d.schema) (sym same) has))
 
 pub returns-in_err-kept-clause-fault : goal.returns-in_err-kept-clause-fault
 returns-in_err-kept-clause-fault g c =
@@ -78,7 +78,7 @@ returns-in_err-kept-clause-fault g c =
     (λ wrong clean has.
     let early : HasCleanDisk mid = c.keep_each.ensures.clean clean in
     let same = c.in_ok-found.ensures.same early has in
-    subst (λ (d : Database). LacksAddress given d.trees) same (wrong clean (ap (λ (d : Database). d.schema) same ∙ has)))
+    subst (λ (d : Database). LacksAddress given d.trees) same (wrong clean (subst (λ (d : Database). HasArchive d.schema) (sym same) has)))
     c.in_err-kept.ensures.fault)
 
 pub returns-in_err-kept-clause-caused : goal.returns-in_err-kept-clause-caused
@@ -97,7 +97,7 @@ returns-in_err-kept-clause-caused g c clean has =
       c.chosen_logs.new.sockets,
       found.1,
       subst (λ (d : Database). EndsLogs over (started g.C.Clock.reads c.args.clock) (given_in c.args.options.now) all c.chosen_logs.new.sockets c.keep_each.new.sockets d fault) same
-          (c.in_err-kept.ensures.caused clean (ap (λ (d : Database). d.schema) same ∙ has)),
+          (c.in_err-kept.ensures.caused clean (subst (λ (d : Database). HasArchive d.schema) (sym same) has)),
     ))
 
 pub returns-in_err-found-clause-stays : goal.returns-in_err-found-clause-stays
@@ -112,6 +112,6 @@ returns-in_err-found-clause-caused g c clean has =
     let old = state g.A.Store c.args.conn.now in
     let new = state g.A.Store c.chosen_logs.new.conn in
     because c.from_residual.result fault (EndsRunOver over (started g.C.Clock.reads c.args.clock) given c.args.chosen c.args.sockets.now c.chosen_logs.new.sockets old.now) (search rules)
-    (inl (chosen_so over c.args.chosen (HasCleanDisk new → old.now.schema ≡ archive_schema → HasNone old.now.trees) (HasNone old.now.trees)
-    (HasCleanDisk new → old.now.schema ≡ archive_schema → LacksAddress given old.now.trees) (LacksAddress given old.now.trees)
+    (inl (chosen_so over c.args.chosen (HasCleanDisk new → HasArchive old.now.schema → HasNone old.now.trees) (HasNone old.now.trees)
+    (HasCleanDisk new → HasArchive old.now.schema → LacksAddress given old.now.trees) (LacksAddress given old.now.trees)
     c.args.sockets.now c.chosen_logs.new.sockets fault (λ none. none clean has) (λ wrong. wrong clean has) c.in_err-found.ensures.fault))

@@ -7,13 +7,13 @@ use Rattle.bac_asked.specs.declared.wanted.Wanted.{Wanted}
 use Rattle.bac_hearing.specs.Hearing.{started}
 use Rattle.bac_ports.specs.Sockets.{socket_rules}
 use Rattle.bac_asked.proofs.Results.{because}
-use Rattle.bac_archive.specs.Schema.{archive_schema}
 use Rattle.bac_fetch.specs.Faults.{HasNoInstance, LacksAddress}
 use Rattle.bac_fetch.proofs.FaultsLemmas.{all_end_so, calling_ends_run}
 use Rattle.bac_asked.specs.AsLog.{given_in}
 use Rattle.bac_fetch.proofs.CalledLemmas.{logs_end, logs_kept}
 use Rattle.bac_fetch.proofs.MovesLemmas.{settles_schema, settles_stay}
 use Rattle.bac_fetch.proofs.StaysLemmas.{stays_then}
+use Rattle.bac_archive.specs.Schema.{HasArchive}
 use Rattle.bac_fetch.proofs.keeping.keep_each.Goals as goal
 
 pub returns-clause-told : goal.returns-clause-told
@@ -106,5 +106,5 @@ returns-clause-fault g c =
     let all = c.args.all.items in
     let old = state g.A.Store c.args.conn.now in
     let new = state g.A.Store c.keep_settled.new.conn in
-    all_end_so over (HasNoInstance all) (HasNoInstance all) ⊥ (HasCleanDisk new → old.now.schema ≡ archive_schema → LacksAddress (given_in c.args.options.now) old.now.trees)
+    all_end_so over (HasNoInstance all) (HasNoInstance all) ⊥ (HasCleanDisk new → HasArchive old.now.schema → LacksAddress (given_in c.args.options.now) old.now.trees)
     c.keep_settled.new.sockets c.keep_settled.result (λ none. none) (λ never. absurd never) c.keep_settled.ensures.fault

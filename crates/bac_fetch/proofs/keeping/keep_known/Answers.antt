@@ -4,7 +4,6 @@ use Rattle.std.proofs.KnownBytes.{Appends-trans}
 use Rattle.std.specs.Io.KnownBytes.{Appends}
 use Rattle.sqlite.specs.State.{HasCleanDisk}
 use Rattle.sqlite.specs.Held.{state}
-use Rattle.bac_archive.specs.Schema.{archive_schema}
 use Rattle.bac_questions.specs.declared.whose.Heard.{Heard}
 use Rattle.bac_ports.specs.Sockets.{socket_rules}
 use Rattle.bac_fetch.specs.Keeps.{AreToldBy, KeepsAll, lines_of}
@@ -16,6 +15,7 @@ use Rattle.bac_fetch.specs.Faults.{HasNoInstance, IsNoInstance}
 use Rattle.bac_fetch.proofs.FaultsLemmas.{ends_so}
 use Rattle.bac_asked.proofs.Results.{because}
 use Rattle.bac_fetch.proofs.TakenLemmas.{has_taken, taken_apart}
+use Rattle.bac_archive.specs.Schema.{HasArchive}
 use Rattle.bac_fetch.proofs.keeping.keep_known.Goals as goal
 
 pub loop-wanted-preserved : goal.loop-wanted-preserved
@@ -75,7 +75,7 @@ returns-clause-told g c =
     ∙ c.into_iter-wanted-iterator.ensures.into_iter_gives.0 in
     let told = c.loop-wanted.invariant.told in
     subst (λ l. AreToldBy (g.O.Write.contents c.args.output.now) (g.O.Write.contents c.loop-wanted.output) l
-    (λ ends. HasCleanDisk (state g.A.Store c.loop-wanted.conn) → (state g.A.Store c.args.conn.now).now.schema ≡ archive_schema →
+    (λ ends. HasCleanDisk (state g.A.Store c.loop-wanted.conn) → HasArchive (state g.A.Store c.args.conn.now).now.schema →
     (last : List Heard) × KeepsAll (socket_rules g.S.Sockets.opens g.S.Sockets.closes g.S.Socket.Port.sends g.S.Socket.Port.receives g.S.Socket.Port.receives_within) c.args.known.now c.args.heard.items last l c.args.sockets.now c.loop-wanted.sockets (state g.A.Store c.args.conn.now).now (state g.A.Store c.loop-wanted.conn).now ends) c.loop-wanted.greatest) all
     (told.0, told.1, told.2, told.3, λ clean has. (c.loop-wanted.heard.items, told.4 clean has))
 

@@ -1,15 +1,16 @@
-use Rattle.std.proofs.Common.{◌≡◌, List, ap, inr, subst, sym, ◌∙◌}
+use Rattle.bac_asked.proofs.Results.{because}
+use Rattle.std.proofs.Common.{◌≡◌, List, ap, inr, subst, sym, ◌∙◌, rules, inl}
 use Rattle.std.proofs.lemmas.Result.{IfErr-weaker, IfOk-weaker}
 use Rattle.sqlite.specs.Effect.{Database}
 use Rattle.sqlite.specs.State.{HasCleanDisk}
 use Rattle.sqlite.specs.Held.{state}
 use Rattle.bac_archive.specs.Logs.{AreLogs}
-use Rattle.bac_archive.specs.Schema.{archive_schema}
 use Rattle.bac_archive.specs.declared.trend_logs.Log.{Log}
 use Rattle.bac_ports.specs.Sockets.{socket_rules}
 use Rattle.bac_fetch.specs.Causes.{EndsAll}
 use Rattle.bac_fetch.specs.Keeps.{KeepsAll}
 use Rattle.bac_fetch.proofs.StaysLemmas.{quiet_first, quiet_stays}
+use Rattle.bac_archive.specs.Schema.{HasArchive}
 use Rattle.bac_fetch.proofs.keeping.keep_settled.Goals as goal
 
 pub returns-clause-told : goal.returns-clause-told
@@ -33,7 +34,7 @@ returns-clause-told g c =
           let early : HasCleanDisk mid = c.keep_known.ensures.clean clean in
           let same : mid.now ≡ old.now = c.in_ok-known.ensures.same early has in
           let are : AreLogs old.now.trees known = subst (λ (l : List Log). AreLogs old.now.trees l) (sym c.as_slice.ensures.value) (c.in_ok-known.ensures.logs early has) in
-          let schema : mid.now.schema ≡ archive_schema = ap (λ (d : Database). d.schema) same ∙ has in
+          let schema : HasArchive mid.now.schema = subst (λ (d : Database). HasArchive d.schema) (sym same) has in
           let it = told.4 clean schema in
           (known, are, it.0, subst (λ (d : Database). KeepsAll over known heard it.0 all before after d new.now told.0) same it.1),
     ))
@@ -46,7 +47,7 @@ returns-clause-stays g c clean has =
     let new = state g.A.Store c.keep_known.new.conn in
     let early : HasCleanDisk mid = c.keep_known.ensures.clean clean in
     let same : mid.now ≡ old.now = c.in_ok-known.ensures.same early has in
-    let schema : mid.now.schema ≡ archive_schema = ap (λ (d : Database). d.schema) same ∙ has in
+    let schema : HasArchive mid.now.schema = subst (λ (d : Database). HasArchive d.schema) (sym same) has in
     quiet_first old mid new same (c.logs_of.ensures.crash has) (c.keep_known.ensures.stays clean schema)
 
 pub returns-in_err-known-clause-stays : goal.returns-in_err-known-clause-stays
@@ -63,7 +64,11 @@ returns-clause-caused g c clean has =
     let early : HasCleanDisk mid = c.keep_known.ensures.clean clean in
     let same : mid.now ≡ old.now = c.in_ok-known.ensures.same early has in
     let are : AreLogs old.now.trees known = subst (λ (l : List Log). AreLogs old.now.trees l) (sym c.as_slice.ensures.value) (c.in_ok-known.ensures.logs early has) in
-    let schema : mid.now.schema ≡ archive_schema = ap (λ (d : Database). d.schema) same ∙ has in
+    let schema : HasArchive mid.now.schema = subst (λ (d : Database). HasArchive d.schema) (sym same) has in
     IfErr-weaker c.keep_known.result _ _
     (λ fault it. inr (known, are, subst (λ (d : Database). EndsAll over known c.args.heard.items c.args.all.items before after d fault) same it))
     (c.keep_known.ensures.caused clean schema)
+
+pub returns-in_err-known-clause-fault : goal.returns-in_err-known-clause-fault
+returns-in_err-known-clause-fault g c =
+    because c.from_residual.result c.in_err-known.field-0.0 _ (search rules) (inl c.in_err-known.ensures.fault)

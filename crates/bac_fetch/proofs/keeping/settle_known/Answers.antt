@@ -1,10 +1,10 @@
-use Rattle.std.proofs.Common.{◌≡◌, List, ap, inr, subst, sym, ◌∙◌}
+use Rattle.bac_asked.proofs.Results.{because}
+use Rattle.std.proofs.Common.{◌≡◌, List, ap, inr, subst, sym, ◌∙◌, rules, inl}
 use Rattle.std.proofs.lemmas.Result.{IfErr-weaker, IfOk-weaker}
 use Rattle.sqlite.specs.Effect.{Database}
 use Rattle.sqlite.specs.State.{HasCleanDisk}
 use Rattle.sqlite.specs.Held.{state}
 use Rattle.bac_archive.specs.Logs.{AreLogs}
-use Rattle.bac_archive.specs.Schema.{archive_schema}
 use Rattle.bac_archive.specs.declared.trend_logs.Log.{Log}
 use Rattle.bac_ports.specs.Sockets.{socket_rules}
 use Rattle.bac_fetch.specs.Moves.{Settles}
@@ -12,6 +12,7 @@ use Rattle.bac_fetch.proofs.StaysLemmas.{quiet_first, quiet_stays}
 use Rattle.bac_asked.specs.AsLog.{given_in}
 use Rattle.bac_fetch.specs.Faults.{HaveNoAddress}
 use Rattle.bac_fetch.proofs.FaultsLemmas.{all_end_so}
+use Rattle.bac_archive.specs.Schema.{HasArchive}
 use Rattle.bac_fetch.proofs.keeping.settle_known.Goals as goal
 
 pub returns-clause-settled : goal.returns-clause-settled
@@ -24,7 +25,7 @@ returns-clause-settled g c clean has =
     let early : HasCleanDisk mid = c.settle.ensures.clean clean in
     let same : mid.now ≡ old.now = c.in_ok-known.ensures.same early has in
     let are : AreLogs old.now.trees known = subst (λ (l : List Log). AreLogs old.now.trees l) (sym c.as_slice.ensures.value) (c.in_ok-known.ensures.logs early has) in
-    let schema : mid.now.schema ≡ archive_schema = ap (λ (d : Database). d.schema) same ∙ has in
+    let schema : HasArchive mid.now.schema = subst (λ (d : Database). HasArchive d.schema) (sym same) has in
     IfOk-weaker c.settle.result _ _
     (λ heard it. (known, are, subst (λ (d : Database). Settles over known c.args.all.now c.args.sockets.now heard.items c.settle.new.sockets d new.now) same it))
     (c.settle.ensures.settled clean schema)
@@ -36,7 +37,7 @@ returns-clause-stays g c clean has =
     let new = state g.A.Store c.settle.new.conn in
     let early : HasCleanDisk mid = c.settle.ensures.clean clean in
     let same : mid.now ≡ old.now = c.in_ok-known.ensures.same early has in
-    let schema : mid.now.schema ≡ archive_schema = ap (λ (d : Database). d.schema) same ∙ has in
+    let schema : HasArchive mid.now.schema = subst (λ (d : Database). HasArchive d.schema) (sym same) has in
     quiet_first old mid new same (c.logs_of.ensures.crash has) (c.settle.ensures.stays schema)
 
 pub returns-in_err-known-clause-stays : goal.returns-in_err-known-clause-stays
@@ -58,3 +59,7 @@ returns-clause-caused g c clean has =
     let early = c.settle.ensures.clean clean in
     let are = subst (λ (l : List Log). AreLogs old.now.trees l) (sym c.as_slice.ensures.value) (c.in_ok-known.ensures.logs early has) in
     IfErr-weaker c.settle.result _ _ (λ fault it. inr (c.as_slice.result.now, are, it)) c.settle.ensures.caused
+
+pub returns-in_err-known-clause-fault : goal.returns-in_err-known-clause-fault
+returns-in_err-known-clause-fault g c =
+    because c.from_residual.result c.in_err-known.field-0.0 _ (search rules) (inl c.in_err-known.ensures.fault)

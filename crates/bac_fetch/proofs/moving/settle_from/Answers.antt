@@ -1,4 +1,5 @@
-use Rattle.std.proofs.Common.{◌≡◌, ◌∙◌, MatchBool, List, refl, subst, sym}
+use Rattle.bac_asked.proofs.Results.{because}
+use Rattle.std.proofs.Common.{◌≡◌, ◌∙◌, MatchBool, List, refl, subst, sym, rules, inl}
 use Rattle.sqlite.specs.Held.{state}
 use Rattle.bac_archive.specs.Changes.{HasChangedLogs}
 use Rattle.bac_archive.specs.declared.trend_logs.Log.{Log}
@@ -39,3 +40,11 @@ returns-clause-settled g c clean has =
           (sym (sym c.is_told.ensures ∙ c.if-is_told.false)) (c.in_ok-move_logs.ensures.moved clean has),
     ) in
     on_ok _ _ asked
+
+pub returns-in_err-move_logs-clause-fault : goal.returns-in_err-move_logs-clause-fault
+returns-in_err-move_logs-clause-fault g c =
+    because c.from_residual-in_err-move_logs.result c.in_err-move_logs.field-0.0 _ (search rules) (inl c.in_err-move_logs.ensures.fault)
+
+pub returns-in_err-move_logs-clause-caused : goal.returns-in_err-move_logs-clause-caused
+returns-in_err-move_logs-clause-caused g c =
+    because c.from_residual-in_err-move_logs.result c.in_err-move_logs.field-0.0 _ (search rules) (inl c.in_err-move_logs.ensures.caused)

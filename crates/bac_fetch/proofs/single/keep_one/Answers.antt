@@ -1,14 +1,14 @@
-use Rattle.std.proofs.Common.{◌≡◌, ap, inl, inr, refl, rules, subst, ◌∙◌}
+use Rattle.std.proofs.Common.{◌≡◌, ap, inl, inr, refl, rules, subst, ◌∙◌, sym}
 use Rattle.sqlite.specs.Effect.{Database}
 use Rattle.sqlite.specs.State.{HasCleanDisk}
 use Rattle.sqlite.specs.Held.{state}
-use Rattle.bac_archive.specs.Schema.{archive_schema}
 use Rattle.bac_archive.specs.declared.trend_logs.Source.{Source}
 use Rattle.bac_ports.specs.Sockets.{socket_rules}
 use Rattle.bac_fetch.specs.Causes.{EndsFetch}
 use Rattle.bac_fetch.specs.Keeps.{KeepsLog, trend_log}
 use Rattle.bac_asked.proofs.Results.{because}
 use Rattle.bac_fetch.proofs.StaysLemmas.{quiet_first, quiet_stays}
+use Rattle.bac_archive.specs.Schema.{HasArchive}
 use Rattle.bac_fetch.proofs.single.keep_one.Goals as goal
 
 pub returns-clause-told : goal.returns-clause-told
@@ -26,7 +26,7 @@ returns-clause-told g c =
             let new = state g.A.Store c.fetch_counted.new.conn in
             let early : HasCleanDisk mid = c.fetch_counted.ensures.clean clean in
             let same : mid.now ≡ old.now = c.in_ok-entry.ensures.same early has in
-            let schema : mid.now.schema ≡ archive_schema = ap (λ (d : Database). d.schema) same ∙ has in
+            let schema : HasArchive mid.now.schema = subst (λ (d : Database). HasArchive d.schema) (sym same) has in
             let kept = c.in_ok-end.ensures.kept clean schema in
             let kept₁ = subst (λ (s : Source). KeepsLog over c.args.wanted.asking c.args.sockets.now c.fetch_counted.new.sockets c.in_ok-entry.entry (trend_log s.instance) mid.now new.now c.in_ok-end.end) row.0 kept in (
               c.in_ok-entry.entry,
@@ -46,7 +46,7 @@ returns-in_err-end-clause-stays g c clean has =
     let mid = state g.A.Store c.enter.new.conn in
     let early : HasCleanDisk mid = c.fetch_counted.ensures.clean clean in
     let same : mid.now ≡ old.now = c.in_ok-entry.ensures.same early has in
-    let schema : mid.now.schema ≡ archive_schema = ap (λ (d : Database). d.schema) same ∙ has in
+    let schema : HasArchive mid.now.schema = subst (λ (d : Database). HasArchive d.schema) (sym same) has in
     quiet_first old mid (state g.A.Store c.fetch_counted.new.conn) same (c.enter.ensures.crash has) (c.fetch_counted.ensures.stays clean schema)
 
 pub returns-in_err-tell_anew-clause-stays : goal.returns-in_err-tell_anew-clause-stays
@@ -55,7 +55,7 @@ returns-in_err-tell_anew-clause-stays g c clean has =
     let mid = state g.A.Store c.enter.new.conn in
     let early : HasCleanDisk mid = c.fetch_counted.ensures.clean clean in
     let same : mid.now ≡ old.now = c.in_ok-entry.ensures.same early has in
-    let schema : mid.now.schema ≡ archive_schema = ap (λ (d : Database). d.schema) same ∙ has in
+    let schema : HasArchive mid.now.schema = subst (λ (d : Database). HasArchive d.schema) (sym same) has in
     quiet_first old mid (state g.A.Store c.fetch_counted.new.conn) same (c.enter.ensures.crash has) (c.fetch_counted.ensures.stays clean schema)
 
 pub returns-in_err-print_end-clause-stays : goal.returns-in_err-print_end-clause-stays
@@ -64,7 +64,7 @@ returns-in_err-print_end-clause-stays g c clean has =
     let mid = state g.A.Store c.enter.new.conn in
     let early : HasCleanDisk mid = c.fetch_counted.ensures.clean clean in
     let same : mid.now ≡ old.now = c.in_ok-entry.ensures.same early has in
-    let schema : mid.now.schema ≡ archive_schema = ap (λ (d : Database). d.schema) same ∙ has in
+    let schema : HasArchive mid.now.schema = subst (λ (d : Database). HasArchive d.schema) (sym same) has in
     quiet_first old mid (state g.A.Store c.fetch_counted.new.conn) same (c.enter.ensures.crash has) (c.fetch_counted.ensures.stays clean schema)
 
 pub returns-in_err-tell_why-clause-stays : goal.returns-in_err-tell_why-clause-stays
@@ -73,7 +73,7 @@ returns-in_err-tell_why-clause-stays g c clean has =
     let mid = state g.A.Store c.enter.new.conn in
     let early : HasCleanDisk mid = c.fetch_counted.ensures.clean clean in
     let same : mid.now ≡ old.now = c.in_ok-entry.ensures.same early has in
-    let schema : mid.now.schema ≡ archive_schema = ap (λ (d : Database). d.schema) same ∙ has in
+    let schema : HasArchive mid.now.schema = subst (λ (d : Database). HasArchive d.schema) (sym same) has in
     quiet_first old mid (state g.A.Store c.fetch_counted.new.conn) same (c.enter.ensures.crash has) (c.fetch_counted.ensures.stays clean schema)
 
 pub returns-in_err-add_heard-clause-stays : goal.returns-in_err-add_heard-clause-stays
@@ -82,7 +82,7 @@ returns-in_err-add_heard-clause-stays g c clean has =
     let mid = state g.A.Store c.enter.new.conn in
     let early : HasCleanDisk mid = c.fetch_counted.ensures.clean clean in
     let same : mid.now ≡ old.now = c.in_ok-entry.ensures.same early has in
-    let schema : mid.now.schema ≡ archive_schema = ap (λ (d : Database). d.schema) same ∙ has in
+    let schema : HasArchive mid.now.schema = subst (λ (d : Database). HasArchive d.schema) (sym same) has in
     quiet_first old mid (state g.A.Store c.fetch_counted.new.conn) same (c.enter.ensures.crash has) (c.fetch_counted.ensures.stays clean schema)
 
 pub returns-clause-stays : goal.returns-clause-stays
@@ -91,7 +91,7 @@ returns-clause-stays g c clean has =
     let mid = state g.A.Store c.enter.new.conn in
     let early : HasCleanDisk mid = c.fetch_counted.ensures.clean clean in
     let same : mid.now ≡ old.now = c.in_ok-entry.ensures.same early has in
-    let schema : mid.now.schema ≡ archive_schema = ap (λ (d : Database). d.schema) same ∙ has in
+    let schema : HasArchive mid.now.schema = subst (λ (d : Database). HasArchive d.schema) (sym same) has in
     quiet_first old mid (state g.A.Store c.fetch_counted.new.conn) same (c.enter.ensures.crash has) (c.fetch_counted.ensures.stays clean schema)
 
 pub returns-in_err-entry-clause-caused : goal.returns-in_err-entry-clause-caused
@@ -108,7 +108,7 @@ returns-in_err-end-clause-caused g c clean has =
     let mid = state g.A.Store c.enter.new.conn in
     let early : HasCleanDisk mid = c.fetch_counted.ensures.clean clean in
     let same : mid.now ≡ old.now = c.in_ok-entry.ensures.same early has in
-    let schema : mid.now.schema ≡ archive_schema = ap (λ (d : Database). d.schema) same ∙ has in
+    let schema : HasArchive mid.now.schema = subst (λ (d : Database). HasArchive d.schema) (sym same) has in
     let fault = c.in_err-end.field-0.0 in
     let it = c.in_err-end.ensures.caused clean schema in
     because c.from_residual-in_err-end.result fault _ (search rules)
@@ -117,3 +117,11 @@ returns-in_err-end-clause-caused g c clean has =
 pub returns-in_err-print_end-clause-caused : goal.returns-in_err-print_end-clause-caused
 returns-in_err-print_end-clause-caused g c clean has =
     because c.from_residual-in_err-print_end.result c.in_err-print_end.field-0.0 _ (search rules) (inl (inl c.in_err-print_end.ensures.caused))
+
+pub returns-in_err-entry-clause-fault : goal.returns-in_err-entry-clause-fault
+returns-in_err-entry-clause-fault g c =
+    because c.from_residual.result c.in_err-entry.field-0.0 _ (search rules) (inl c.in_err-entry.ensures.fault)
+
+pub returns-in_err-print_end-clause-fault : goal.returns-in_err-print_end-clause-fault
+returns-in_err-print_end-clause-fault g c =
+    because c.from_residual-in_err-print_end.result c.in_err-print_end.field-0.0 _ (search rules) (inl c.in_err-print_end.ensures.fault)

@@ -1,4 +1,5 @@
-use Rattle.std.proofs.Common.{◌≡◌, ◌+◌, List, refl, sym, ap, subst, ◌∙◌, arith}
+use Rattle.std.proofs.Common.{◌≡◌, ◌+◌, inl, inr, Err, List, refl, sym, ap, subst, ◌∙◌, arith}
+use Rattle.std.proofs.Math.Nat.{eq-zero-or-pos}
 use Rattle.sqlite.specs.Effect.{Database}
 use Rattle.sqlite.specs.State.{HasCleanDisk}
 use Rattle.sqlite.specs.Held.{Held, state}
@@ -9,7 +10,6 @@ use Rattle.bac_walk.specs.Transacted.{BroughtBy}
 use Rattle.bac_walk.specs.declared.outcome.Ended.{Ended}
 use Rattle.bac_walk.specs.declared.outcome.Ended.TheVariants.{StepLimit}
 use Rattle.bac_walk.proofs.Runs.{ends_run, not_limit, goes_on as limit_reached}
-use Rattle.bac_archive.specs.Schema.{archive_schema}
 use Rattle.bac_archive.proofs.RowsLemmas.{stays}
 use Rattle.bac_keep.specs.declared.place.Place.{Place}
 use Rattle.bac_link.specs.Path.{towards}
@@ -20,6 +20,8 @@ use Rattle.bac_keep.proofs.CauseLemmas.{still_archive, unkept_at}
 use Rattle.bac_keep.proofs.CameLemmas.{leaves_over_more, leaves_over_then}
 use Rattle.bac_keep.proofs.RunLemmas.{keeps_nothing, keeps_then, keeps_early, leaves_more, leaves_then, tested_first}
 use Rattle.bac_keep.proofs.Taken.{goes_on}
+use Rattle.bac_archive.specs.Schema.{HasArchive}
+use Rattle.bac_keep.specs.declared.keep.NotKept.TheVariants.{NoArchive}
 use Rattle.bac_keep.proofs.run.keep_log.Goals as goal
 
 pub loop-done-init : goal.loop-done-init
@@ -35,9 +37,9 @@ loop-done-init g c = record {
   tested = λ h. absurd (omega (arith, h));
   ended = λ h. absurd (omega (arith, h));
   none = λ h. (refl, refl, refl);
-  kept = λ clean has. keeps_nothing (λ link id r M H. g.L.LogLink.is_ours link id r M H) (λ link. g.L.LogLink.failures link) c.args.place c.args.transactions.now.retries (state g.S.Store c.args.conn.now).now c.args.link.now c.args.walk has;
-  transacted = λ clean has. by_nothing g.L.LogLink.asks c.args.transactions.now c.args.place (state g.S.Store c.args.conn.now).now c.args.link.now c.args.walk has;
-  behind = λ clean has. up_to_nothing g.L.LogLink.asks c.args.transactions.now c.args.place (state g.S.Store c.args.conn.now).now c.args.link.now c.args.walk c.args.free has;
+  kept = λ clean has. keeps_nothing (λ link id r M H. g.L.LogLink.is_ours link id r M H) (λ link. g.L.LogLink.failures link) c.args.place c.args.transactions.now.retries (state g.S.Store c.args.conn.now).now c.args.link.now c.args.walk;
+  transacted = λ clean has. by_nothing g.L.LogLink.asks c.args.transactions.now c.args.place (state g.S.Store c.args.conn.now).now c.args.link.now c.args.walk;
+  behind = λ clean has. up_to_nothing g.L.LogLink.asks c.args.transactions.now c.args.place (state g.S.Store c.args.conn.now).now c.args.link.now c.args.walk c.args.free;
   asked = none_came g.L.LogLink.asks c.args.transactions.now c.args.link.now c.args.walk;
   committed = λ clean same. same;
   crash_over = survives_weaker (state g.S.Store c.args.conn.now) (state g.S.Store c.args.conn.now) _ _ (λ clean db none. absurd none) (stays (state g.S.Store c.args.conn.now));
@@ -64,7 +66,7 @@ returns-in-Err-clause-crash g c = survives_then (state g.S.Store c.args.conn.now
     (λ clean db it. leaves_more (λ link id r M H. g.L.LogLink.is_ours link id r M H) (λ link. g.L.LogLink.failures link)
     c.args.place c.args.transactions.now.retries (state g.S.Store c.args.conn.now).now c.args.link.now c.args.walk c.loop-done.done (c.args.steps) db (omega arith) it)
     (λ clean db it.
-    let X : Held g.row.S.Denot → Type 0 = λ h. (state g.S.Store h).now.schema ≡ archive_schema in
+    let X : Held g.row.S.Denot → Type 0 = λ h. HasArchive (state g.S.Store h).now.schema in
     let has = tested_first X c.args.conn.now c.loop-done.conn c.loop-done.done c.loop-done.invariant.tested (λ e. (c.loop-done.invariant.none e).0) it.0 in
     let early : HasCleanDisk (state g.S.Store c.loop-done.conn) = omega (arith, clean, c.keep_next.ensures.crash.clean) in
     leaves_more (λ link id r M H. g.L.LogLink.is_ours link id r M H) (λ link. g.L.LogLink.failures link)
@@ -98,7 +100,7 @@ returns-in-Some-clause-crash g c = survives_then (state g.S.Store c.args.conn.no
     (λ clean db it. leaves_more (λ link id r M H. g.L.LogLink.is_ours link id r M H) (λ link. g.L.LogLink.failures link)
     c.args.place c.args.transactions.now.retries (state g.S.Store c.args.conn.now).now c.args.link.now c.args.walk c.loop-done.done (c.args.steps) db (omega arith) it)
     (λ clean db it.
-    let X : Held g.row.S.Denot → Type 0 = λ h. (state g.S.Store h).now.schema ≡ archive_schema in
+    let X : Held g.row.S.Denot → Type 0 = λ h. HasArchive (state g.S.Store h).now.schema in
     let has = tested_first X c.args.conn.now c.loop-done.conn c.loop-done.done c.loop-done.invariant.tested (λ e. (c.loop-done.invariant.none e).0) it.0 in
     let early : HasCleanDisk (state g.S.Store c.loop-done.conn) = omega (arith, clean, c.keep_next.ensures.crash.clean) in
     leaves_more (λ link id r M H. g.L.LogLink.is_ours link id r M H) (λ link. g.L.LogLink.failures link)
@@ -120,7 +122,7 @@ loop-done-preserved g c = record {
   few_records = omega (arith, c.loop-done.invariant.few_records, c.in-Ok.ensures.few.0);
   few_gaps = omega (arith, c.loop-done.invariant.few_gaps, c.in-Ok.ensures.few.1);
   tested = λ more.
-      let X : Held g.row.S.Denot → Type 0 = λ h. (state g.S.Store h).now.schema ≡ archive_schema in
+      let X : Held g.row.S.Denot → Type 0 = λ h. HasArchive (state g.S.Store h).now.schema in
       tested_first X c.args.conn.now c.loop-done.conn c.loop-done.done c.loop-done.invariant.tested (λ e. (c.loop-done.invariant.none e).0) c.in-Ok.ensures.tested;
   ended = λ h. c.in-Ok.ensures.ended;
   none = λ h. absurd (omega (arith, h));
@@ -163,7 +165,7 @@ loop-done-preserved g c = record {
   crash_over = survives_then (state g.S.Store c.args.conn.now) (state g.S.Store c.loop-done.conn) (state g.S.Store c.keep_next.new.conn) _ _ _
       (λ clean db it. leaves_over_more g.L.LogLink.asks (towards c.args.transactions.now.route) c.args.transactions.now.retries c.args.place (state g.S.Store c.args.conn.now).now c.args.link.now c.args.walk c.loop-done.done (c.loop-done.done + 1) db (omega arith) it)
       (λ clean db it.
-      let X : Held g.row.S.Denot → Type 0 = λ h. (state g.S.Store h).now.schema ≡ archive_schema in
+      let X : Held g.row.S.Denot → Type 0 = λ h. HasArchive (state g.S.Store h).now.schema in
       let has = tested_first X c.args.conn.now c.loop-done.conn c.loop-done.done c.loop-done.invariant.tested (λ e. (c.loop-done.invariant.none e).0) it.0 in
       let early : HasCleanDisk (state g.S.Store c.loop-done.conn) = omega (arith, clean, c.keep_next.ensures.crash.clean) in
       leaves_over_more g.L.LogLink.asks (towards c.args.transactions.now.route) c.args.transactions.now.retries c.args.place (state g.S.Store c.args.conn.now).now c.args.link.now c.args.walk (c.loop-done.done + 1) (c.loop-done.done + 1) db (omega arith)
@@ -177,7 +179,7 @@ loop-done-preserved g c = record {
       (λ clean db it. leaves_more (λ link id r M H. g.L.LogLink.is_ours link id r M H) (λ link. g.L.LogLink.failures link)
       c.args.place c.args.transactions.now.retries (state g.S.Store c.args.conn.now).now c.args.link.now c.args.walk c.loop-done.done (c.loop-done.done + 1) db (omega arith) it)
       (λ clean db it.
-      let X : Held g.row.S.Denot → Type 0 = λ h. (state g.S.Store h).now.schema ≡ archive_schema in
+      let X : Held g.row.S.Denot → Type 0 = λ h. HasArchive (state g.S.Store h).now.schema in
       let has = tested_first X c.args.conn.now c.loop-done.conn c.loop-done.done c.loop-done.invariant.tested (λ e. (c.loop-done.invariant.none e).0) it.0 in
       let early : HasCleanDisk (state g.S.Store c.loop-done.conn) = omega (arith, clean, c.keep_next.ensures.crash.clean) in
       leaves_more (λ link id r M H. g.L.LogLink.is_ours link id r M H) (λ link. g.L.LogLink.failures link)
@@ -233,7 +235,7 @@ pub returns-in-Err-clause-crash_over : goal.returns-in-Err-clause-crash_over
 returns-in-Err-clause-crash_over g c = survives_then (state g.S.Store c.args.conn.now) (state g.S.Store c.loop-done.conn) (state g.S.Store c.keep_next.new.conn) _ _ _
     (λ clean db it. leaves_over_more g.L.LogLink.asks (towards c.args.transactions.now.route) c.args.transactions.now.retries c.args.place (state g.S.Store c.args.conn.now).now c.args.link.now c.args.walk c.loop-done.done (c.args.steps) db (omega arith) it)
     (λ clean db it.
-    let X : Held g.row.S.Denot → Type 0 = λ h. (state g.S.Store h).now.schema ≡ archive_schema in
+    let X : Held g.row.S.Denot → Type 0 = λ h. HasArchive (state g.S.Store h).now.schema in
     let has = tested_first X c.args.conn.now c.loop-done.conn c.loop-done.done c.loop-done.invariant.tested (λ e. (c.loop-done.invariant.none e).0) it.0 in
     let early : HasCleanDisk (state g.S.Store c.loop-done.conn) = omega (arith, clean, c.keep_next.ensures.crash.clean) in
     leaves_over_more g.L.LogLink.asks (towards c.args.transactions.now.route) c.args.transactions.now.retries c.args.place (state g.S.Store c.args.conn.now).now c.args.link.now c.args.walk (c.loop-done.done + 1) (c.args.steps) db (omega arith)
@@ -247,7 +249,7 @@ pub returns-in-Some-clause-crash_over : goal.returns-in-Some-clause-crash_over
 returns-in-Some-clause-crash_over g c = survives_then (state g.S.Store c.args.conn.now) (state g.S.Store c.loop-done.conn) (state g.S.Store c.keep_next.new.conn) _ _ _
     (λ clean db it. leaves_over_more g.L.LogLink.asks (towards c.args.transactions.now.route) c.args.transactions.now.retries c.args.place (state g.S.Store c.args.conn.now).now c.args.link.now c.args.walk c.loop-done.done (c.args.steps) db (omega arith) it)
     (λ clean db it.
-    let X : Held g.row.S.Denot → Type 0 = λ h. (state g.S.Store h).now.schema ≡ archive_schema in
+    let X : Held g.row.S.Denot → Type 0 = λ h. HasArchive (state g.S.Store h).now.schema in
     let has = tested_first X c.args.conn.now c.loop-done.conn c.loop-done.done c.loop-done.invariant.tested (λ e. (c.loop-done.invariant.none e).0) it.0 in
     let early : HasCleanDisk (state g.S.Store c.loop-done.conn) = omega (arith, clean, c.keep_next.ensures.crash.clean) in
     leaves_over_more g.L.LogLink.asks (towards c.args.transactions.now.route) c.args.transactions.now.retries c.args.place (state g.S.Store c.args.conn.now).now c.args.link.now c.args.walk (c.loop-done.done + 1) (c.args.steps) db (omega arith)
@@ -310,9 +312,19 @@ returns-clause-crash_over g c =
 pub returns-in-Err-clause-cause : goal.returns-in-Err-clause-cause
 returns-in-Err-clause-cause g c clean has =
     let early : HasCleanDisk (state g.S.Store c.loop-done.conn) = omega (arith, clean, c.keep_next.ensures.crash.clean) in
-    let there = still_archive (c.loop-done.invariant.transacted early has) in
+    let there = still_archive (c.loop-done.invariant.transacted early has) has in
     let up_to = c.loop-done.invariant.behind early has in
     let why = c.in-Err.ensures.cause clean there in
     unkept_at g.L.LogLink.asks c.args.transactions.now c.loop-done.transactions c.args.place c.loop-done.place c.keep_next.new.place c.args.free c.loop-done.free g.S.Store c.args.conn.now c.loop-done.conn
     c.args.link.now c.loop-done.link c.keep_next.new.link c.args.walk c.loop-done.walk c.keep_next.new.walk c.args.steps c.loop-done.done _ c.loop-done.records c.loop-done.gaps c.in-Err.error
     (omega (arith, c.loop-done-test.true)) (λ e. (c.loop-done.invariant.none e).0) c.loop-done.invariant.ended (sym c.next_number-next.ensures.next) c.in-Err.ensures.stays c.loop-done.invariant.route c.loop-done.invariant.retries up_to why
+
+pub returns-in-Err-clause-foreign : goal.returns-in-Err-clause-foreign
+returns-in-Err-clause-foreign g c foreign some = elim (eq-zero-or-pos c.loop-done.done) [
+  | inl zero ↦
+      let same = c.loop-done.invariant.none zero in
+      let it = c.in-Err.ensures.foreign (λ has. foreign (subst (λ (h : Held g.row.S.Denot). HasArchive (state g.S.Store h).now.schema) same.0 has)) in
+      let is : c.in-Err.error ≡ NoArchive = let e = it.0 in cc in
+      (ap Err is, same.2, it.1 ∙ same.0, it.2 ∙ same.1)
+  | inr done ↦ absurd (foreign (c.loop-done.invariant.tested done))
+]

@@ -1,7 +1,6 @@
 use Rattle.std.proofs.Common.{◌≡◌, false, ◌*◌, ◌<◌, ◌≤◌, List}
 use Rattle.sqlite.specs.State.{HasCleanDisk, Survives}
 use Rattle.sqlite.specs.Held.{state}
-use Rattle.bac_archive.specs.Schema.{archive_schema}
 use Rattle.bac_link.specs.declared.item.Item.{Item}
 use Rattle.bac_walk.specs.Came.{Came}
 use Rattle.bac_walk.specs.Transacted.{BroughtBy}
@@ -10,6 +9,7 @@ use Rattle.bac_link.specs.Path.{towards}
 use Rattle.bac_keep.specs.Came.{KeepsBy, LeavesOver}
 use Rattle.bac_keep.specs.Runs.{KeepsRun, LeavesRun}
 use Rattle.bac_keep.proofs.ByLemmas.{KeepsUpTo}
+use Rattle.bac_archive.specs.Schema.{HasArchive}
 use Rattle.bac_keep.proofs.run.keep_log.Given as goal
 
 -- so far so many steps are kept
@@ -23,16 +23,16 @@ invariant-loop-done g l = record {
   never_falls : g.L.LogLink.failures l.fn.link ≤ g.L.LogLink.failures l.link;
   few_records : l.records ≤ 100 * l.done;
   few_gaps : l.gaps ≤ l.done;
-  tested : 0 < l.done → (state g.S.Store l.fn.conn).now.schema ≡ archive_schema;
+  tested : 0 < l.done → HasArchive (state g.S.Store l.fn.conn).now.schema;
   ended : 0 < l.done → l.conn.in_transaction ≡ false;
   none : l.done ≡ 0 → (l.conn ≡ l.fn.conn) × (l.link ≡ l.fn.link) × (l.records ≡ 0);
-  kept : HasCleanDisk (state g.S.Store l.conn) → (state g.S.Store l.fn.conn).now.schema ≡ archive_schema →
+  kept : HasCleanDisk (state g.S.Store l.conn) → HasArchive (state g.S.Store l.fn.conn).now.schema →
       KeepsRun (λ link id r M H. g.L.LogLink.is_ours link id r M H) (λ link. g.L.LogLink.failures link) l.fn.place l.place l.fn.transactions.retries
       (state g.S.Store l.fn.conn).now (state g.S.Store l.conn).now l.fn.link l.link l.fn.walk l.walk l.done StepLimit l.records l.gaps;
-  transacted : HasCleanDisk (state g.S.Store l.conn) → (state g.S.Store l.fn.conn).now.schema ≡ archive_schema →
+  transacted : HasCleanDisk (state g.S.Store l.conn) → HasArchive (state g.S.Store l.fn.conn).now.schema →
       KeepsBy g.L.LogLink.asks l.fn.transactions l.fn.place l.place
       (state g.S.Store l.fn.conn).now (state g.S.Store l.conn).now l.fn.link l.link l.fn.walk l.walk l.done StepLimit l.records l.gaps l.transactions;
-  behind : HasCleanDisk (state g.S.Store l.conn) → (state g.S.Store l.fn.conn).now.schema ≡ archive_schema →
+  behind : HasCleanDisk (state g.S.Store l.conn) → HasArchive (state g.S.Store l.fn.conn).now.schema →
       KeepsUpTo g.L.LogLink.asks l.fn.transactions l.fn.place l.place
       (state g.S.Store l.fn.conn).now (state g.S.Store l.conn).now l.fn.link l.link l.fn.walk l.walk l.done StepLimit l.records l.gaps l.transactions l.fn.free l.free;
   asked : (came : List Came) × (items : List Item) × BroughtBy g.L.LogLink.asks l.fn.transactions l.fn.link l.fn.walk l.done came items StepLimit l.walk l.transactions l.link;

@@ -6,13 +6,13 @@ use Rattle.sqlite_trees.specs.Tree.{Trees}
 use Rattle.bac_link.specs.Honest.{IsHonest}
 use Rattle.bac_link.specs.Laws.{after_answers}
 use Rattle.bac_link.specs.Path.{Path, towards}
-use Rattle.bac_archive.specs.Schema.{archive_schema}
 use Rattle.bac_keep.specs.declared.place.Place.{Place}
 use Rattle.bac_keep.specs.Came.{LeavesOver}
 use Rattle.bac_keep.specs.Items.{era}
 use Rattle.bac_keep.specs.Kept.{IsKept}
 use Rattle.bac_keep_tests.proofs.CrashLemmas.{any_cut, behind_crash, cut_early}
 use Rattle.bac_keep_tests.proofs.OverLemmas.{AnyEnd, any_end}
+use Rattle.bac_archive.specs.Schema.{HasArchive}
 use Rattle.bac_keep_tests.proofs.after_a_crash.kept_after_a_crash.Goals as goal
 
 pub returns : goal.returns
@@ -27,7 +27,7 @@ returns g c clean was_open committed has none later may has_then was_open_then c
     let before : HasCleanDisk (state g.T.Store c.newest.new.conn) = omega (arith, clean_then, c.keep_log.ensures.crash.clean) in
     let same : IsUnchanged (state g.T.Store c.args.again.now) (state g.T.Store c.newest.new.conn) = c.in-Ok.ensures.same before has_then in
     let as_it_was : mid ≡ opened = same.0.now_is in
-    let archive_still : mid.schema ≡ archive_schema = ap (λ (d : Database). d.schema) as_it_was ∙ has_then in
+    let archive_still : HasArchive mid.schema = subst (λ (d : Database). HasArchive d.schema) (sym as_it_was) has_then in
     let route = c.new-transactions.result.route in
     let straight : route ≡ None = search rules in
     let route_then = c.new-others.result.route in
@@ -37,7 +37,7 @@ returns g c clean was_open committed has none later may has_then was_open_then c
       | inl m ↦ inl (c.leaves_the_last_commit.ensures was_open opened.trees m ∙ ap (λ (d : Database). d.trees) committed)
       | inr it ↦ inr it
     ] in
-    let leaves = cut_early g.L.LogLink.asks (towards route) c.new-transactions.result.retries c.args.place old c.args.link.now c.in_ok-walk.walk c.args.steps opened.trees has left in
+    let leaves = cut_early g.L.LogLink.asks (towards route) c.new-transactions.result.retries c.args.place old c.args.link.now c.in_ok-walk.walk c.args.steps opened.trees left in
     let Ends : Place → Database → Database → ℕ → Type 0 = λ reached d after next. AnyEnd g.K.LogLink.asks (towards route_then) c.new-others.result.retries c.in_ok-from.from reached d after c.args.later.now c.in_ok-rest.rest next in
     let done : IsTrue (state g.T.Store two.conn).is_open → (state g.T.Store two.conn).committed ≡ new = λ shut. c.keep_log.ensures.committed clean_then shut (same.0.committed_is ∙ committed_then ∙ sym as_it_was) in
     let ended : IsTrue (state g.T.Store two.conn).is_open → Ends second.place mid new second.next = λ shut.
@@ -53,7 +53,7 @@ returns g c clean was_open committed has none later may has_then was_open_then c
       ])
       | inr it ↦ inr it
     ] in
-    cut_early g.K.LogLink.asks (towards route_then) c.new-others.result.retries c.in_ok-from.from mid c.args.later.now c.in_ok-rest.rest c.args.steps trees archive_still cut in
+    cut_early g.K.LogLink.asks (towards route_then) c.new-others.result.retries c.in_ok-from.from mid c.args.later.now c.in_ok-rest.rest c.args.steps trees cut in
     λ H M k low honest here some back window above below.
     let I : Path → Type 0 = λ p. IsHonest g.L.LogLink.asks p c.args.log 100 H low c.args.link.now M in
     let both = behind_crash g.L.LogLink.asks g.K.LogLink.asks c.honest_is_kept.ensures c.honest_is_kept-2.ensures c.begins_empty.ensures c.all_runs_are_kept.ensures

@@ -5,8 +5,8 @@ use Rattle.sqlite.specs.Held.{state}
 use Rattle.bac_link.specs.Honest.{IsHonest}
 use Rattle.bac_link.specs.Laws.{after_answers}
 use Rattle.bac_link.specs.Path.{Path, towards}
-use Rattle.bac_archive.specs.Schema.{archive_schema}
 use Rattle.bac_keep_tests.proofs.OverLemmas.{AnyEnd, again_over, any_end}
+use Rattle.bac_archive.specs.Schema.{HasArchive}
 use Rattle.bac_keep_tests.proofs.any_callers.kept_of_any_device.Goals as goal
 
 pub returns : goal.returns
@@ -21,10 +21,10 @@ returns g c clean shut has none free =
     let new : Database = (state g.S.Store two.conn).now in
     let before : HasCleanDisk (state g.S.Store c.newest.new.conn) = omega (arith, clean, c.keep_log-second.ensures.crash.clean) in
     let early : HasCleanDisk (state g.S.Store one.conn) = c.in-Ok.ensures.clean before in
-    let archive : half.schema ≡ archive_schema = search rules in
+    let archive : HasArchive half.schema = search rules in
     let same : IsUnchanged (state g.S.Store one.conn) (state g.S.Store c.newest.new.conn) = c.in-Ok.ensures.same before archive in
     let as_it_was : mid ≡ half = same.0.now_is in
-    let archive_still : mid.schema ≡ archive_schema = ap (λ (d : Database). d.schema) as_it_was ∙ archive in
+    let archive_still : HasArchive mid.schema = subst (λ (d : Database). HasArchive d.schema) (sym as_it_was) archive in
     let route = c.new-transactions.result.route in
     let straight : route ≡ None = search rules in
     let straight_then : one.transactions.route ≡ None = c.keep_log-first.ensures.route ∙ straight in

@@ -4,6 +4,7 @@ use Rattle.sqlite.specs.State.{HasCleanDisk}
 use Rattle.sqlite.specs.Held.{state}
 use Rattle.bac_walk.proofs.Growing.{few_steps}
 use Rattle.bac_keep_tests.proofs.CallerLemmas.{kept_again}
+use Rattle.bac_archive.proofs.AroundLemmas.{has_still}
 use Rattle.bac_keep_tests.proofs.callers.keep_again.Goals as goal
 
 pub returns : goal.returns
@@ -19,4 +20,4 @@ returns g c clean has none free =
     c.in_ok-walk.walk first.2 c.in_ok-again.again second.2 first.0 second.0 c.args.steps c.keep_log-first.result.records c.keep_log-first.result.gaps c.keep_log-second.result.records c.keep_log-second.result.gaps
     first.1 second.1 c.args.log c.args.s c.keep_log-first.result.next c.keep_log-second.result.next c.in_ok-walk.ensures.some c.in_ok-again.ensures.some first.4 second.4
     (few_steps _ c.args.steps first.0 first.1 first.3) (few_steps _ c.args.steps second.0 second.1 second.3) none free first.5 second.5)
-    (c.keep_log-second.ensures.kept clean first.5.rows.schema)
+    (c.keep_log-second.ensures.kept clean (has_still _ _ has first.5.rows.schema))

@@ -4,9 +4,9 @@ use Rattle.sqlite.specs.State.{HasCleanDisk, IsUnchanged}
 use Rattle.sqlite.specs.Held.{state}
 use Rattle.bac_archive.specs.Latest.{TellsNewest}
 use Rattle.bac_archive.specs.Rows.{kept}
-use Rattle.bac_archive.specs.Schema.{archive_schema}
 use Rattle.bac_archive.specs.declared.latest.NewestItem.{NewestItem}
 use Rattle.bac_keep_tests.proofs.CoveredRuns.{AnyRun, any_run, covered_on}
+use Rattle.bac_archive.specs.Schema.{HasArchive}
 use Rattle.bac_keep_tests.proofs.covered_callers.covered_whoever_answers.Goals as goal
 
 pub returns : goal.returns
@@ -25,14 +25,14 @@ returns g c clean shut has =
     let at_first : HasCleanDisk (state g.S.Store c.newest.new.conn) = omega (arith, early, c.keep_log-first.ensures.crash.clean) in
     let unchanged : IsUnchanged (state g.S.Store c.args.conn.now) (state g.S.Store c.newest.new.conn) = c.in-Ok-None.ensures.same at_first has in
     let stays : begun ≡ old = sym unchanged.0.now_is in
-    let has_then : old.schema ≡ archive_schema = ap (λ (d : Database). d.schema) unchanged.0.now_is ∙ has in
+    let has_then : HasArchive old.schema = subst (λ (d : Database). HasArchive d.schema) (sym unchanged.0.now_is) has in
     let O : Option NewestItem → Type 0 = λ o. TellsNewest c.args.place.log (kept begun.trees) o in
     let D : Database → Type 0 = λ d. TellsNewest c.args.place.log (kept d.trees) None in
     let last = c.newest_is_last.ensures c.args.place (kept old.trees) None (subst D stays (subst O c.in-Ok-None.field-0-is (c.in-Ok-None.ensures.told at_first has))) in
-    let archive : half.schema ≡ archive_schema = search rules in
+    let archive : HasArchive half.schema = search rules in
     let same : IsUnchanged (state g.S.Store one.conn) (state g.S.Store c.newest-2.new.conn) = c.in-Ok.ensures.same before archive in
     let as_it_was : mid ≡ half = same.0.now_is in
-    let archive_still : mid.schema ≡ archive_schema = ap (λ (d : Database). d.schema) as_it_was ∙ archive in
+    let archive_still : HasArchive mid.schema = subst (λ (d : Database). HasArchive d.schema) (sym as_it_was) archive in
     let ran = any_run (λ link id r M H. g.L.LogLink.is_ours link id r M H) (λ link. g.L.LogLink.failures link) c.new-transactions.result.retries c.args.place first.place old half c.args.link.now one.link
     c.in_ok-walk.walk c.args.steps first.next first.records first.gaps first.end (c.keep_log-first.ensures.kept early has_then) (c.keep_log-first.ensures.stands early same.0.was_open has_then) in
     let ran_then = any_run (λ link id r M H. g.K.LogLink.is_ours link id r M H) (λ link. g.K.LogLink.failures link) one.transactions.retries c.in_ok-from.from second.place mid new c.args.later.now two.link

@@ -1,0 +1,65 @@
+use Rattle.std.proofs.Common.{arith}
+use Rattle.sqlite.specs.State.{HasCleanDisk}
+use Rattle.sqlite.specs.Held.{state}
+use Rattle.sqlite.proofs.InsideLemmas.{keeps_then}
+use Rattle.bac_archive.proofs.AroundLemmas.{has_still, made_is}
+use Rattle.bac_archive.proofs.PartsLemmas.{filled, on_ok_then}
+use Rattle.bac_archive.proofs.parts.fill.Goals as goal
+
+pub returns-in_err-put_logs-clause-kept : goal.returns-in_err-put_logs-clause-kept
+returns-in_err-put_logs-clause-kept g c clean inside none =
+    let one = state g.S.Store c.lay_all.new.tx.conn.now in
+    let early : HasCleanDisk one = omega (arith, clean, c.put_logs.ensures.crash.clean) in
+    let made = c.in_ok-lay_all.ensures.makes early inside none in
+    keeps_then (state g.S.Store c.args.tx.now.conn.now) one (state g.S.Store c.put_logs.new.tx.conn.now) (c.lay_all.ensures.kept early inside none)
+    (c.put_logs.ensures.kept clean made.mode (made_is _ made.made.schema))
+
+pub returns-in_err-put_beginnings-clause-kept : goal.returns-in_err-put_beginnings-clause-kept
+returns-in_err-put_beginnings-clause-kept g c clean inside none =
+    let old = state g.S.Store c.args.tx.now.conn.now in
+    let one = state g.S.Store c.lay_all.new.tx.conn.now in
+    let two = state g.S.Store c.put_logs.new.tx.conn.now in
+    let three = state g.S.Store c.put_beginnings.new.tx.conn.now in
+    let second : HasCleanDisk two = omega (arith, clean, c.put_beginnings.ensures.crash.clean) in
+    let first : HasCleanDisk one = omega (arith, second, c.put_logs.ensures.crash.clean) in
+    let made = c.in_ok-lay_all.ensures.makes first inside none in
+    let has = made_is _ made.made.schema in
+    let known = c.in_ok-put_logs.ensures.put second made.mode has in
+    keeps_then old two three (keeps_then old one two (c.lay_all.ensures.kept first inside none) (c.put_logs.ensures.kept second made.mode has))
+    (c.put_beginnings.ensures.kept clean known.mode (has_still _ _ has known.schema))
+
+pub returns-clause-fills : goal.returns-clause-fills
+returns-clause-fills g c clean inside none =
+    let old = state g.S.Store c.args.tx.now.conn.now in
+    let one = state g.S.Store c.lay_all.new.tx.conn.now in
+    let two = state g.S.Store c.put_logs.new.tx.conn.now in
+    let three = state g.S.Store c.put_beginnings.new.tx.conn.now in
+    let third : HasCleanDisk three = omega (arith, clean, c.put_each.ensures.crash.clean) in
+    let second : HasCleanDisk two = omega (arith, third, c.put_beginnings.ensures.crash.clean) in
+    let first : HasCleanDisk one = omega (arith, second, c.put_logs.ensures.crash.clean) in
+    let made = c.in_ok-lay_all.ensures.makes first inside none in
+    let has = made_is _ made.made.schema in
+    let known = c.in_ok-put_logs.ensures.put second made.mode has in
+    let has_then = has_still _ _ has known.schema in
+    let begun = c.in_ok-put_beginnings.ensures.put third known.mode has_then in
+    on_ok_then c.put_each.result _ _ (filled old one two three (state g.S.Store c.put_each.new.tx.conn.now) c.args.all.now c.args.begun.now c.args.heads.now made known begun)
+    (c.put_each.ensures.put clean begun.mode (has_still _ _ has_then begun.schema))
+
+pub returns-clause-kept : goal.returns-clause-kept
+returns-clause-kept g c clean inside none =
+    let old = state g.S.Store c.args.tx.now.conn.now in
+    let one = state g.S.Store c.lay_all.new.tx.conn.now in
+    let two = state g.S.Store c.put_logs.new.tx.conn.now in
+    let three = state g.S.Store c.put_beginnings.new.tx.conn.now in
+    let four = state g.S.Store c.put_each.new.tx.conn.now in
+    let third : HasCleanDisk three = omega (arith, clean, c.put_each.ensures.crash.clean) in
+    let second : HasCleanDisk two = omega (arith, third, c.put_beginnings.ensures.crash.clean) in
+    let first : HasCleanDisk one = omega (arith, second, c.put_logs.ensures.crash.clean) in
+    let made = c.in_ok-lay_all.ensures.makes first inside none in
+    let has = made_is _ made.made.schema in
+    let known = c.in_ok-put_logs.ensures.put second made.mode has in
+    let has_then = has_still _ _ has known.schema in
+    let begun = c.in_ok-put_beginnings.ensures.put third known.mode has_then in
+    let laid = keeps_then old one two (c.lay_all.ensures.kept first inside none) (c.put_logs.ensures.kept second made.mode has) in
+    keeps_then old three four (keeps_then old two three laid (c.put_beginnings.ensures.kept third known.mode has_then))
+    (c.put_each.ensures.kept clean begun.mode (has_still _ _ has_then begun.schema))
