@@ -13,7 +13,9 @@ use Rattle.bac_asked.specs.declared.fault.Fault.{Fault}
 use Rattle.bac_asked.specs.declared.fault.Fault.TheVariants as asking
 use Rattle.bac_asked.specs.declared.fault.FileFault.{FileFault}
 use Rattle.bac_asked.specs.declared.fault.FileFault.TheVariants.{Database, First, Foreign, Full, InUse, Orphan, Overlap}
-use Rattle.bac_asked.specs.declared.fault.FileFault.TheVariants.{Version}
+use Rattle.bac_asked.specs.declared.fault.FileFault.TheVariants.{Absent, Barred, Memory, NoLogs, Version}
+use Rattle.bac_files.specs.declared.not_opened.NotOpened.{NotOpened}
+use Rattle.bac_files.specs.declared.not_opened.NotOpened.TheVariants as unopened
 use Rattle.bac_words.specs.declared.fault.WordsFault.{WordsFault}
 use Rattle.bac_words.specs.declared.fault.WordsFault.TheVariants as words
 use Rattle.bac_words.specs.declared.word.Word.TheVariants.{Tool}
@@ -36,6 +38,15 @@ of_refusal (refused.Database error) = of_error error
 abbrev pub of_not_added : NotAdded → FileFault
 of_not_added unadded.Full = Full
 of_not_added (unadded.Database error) = of_error error
+
+-- of a file that isn't opened
+abbrev pub of_unopened : NotOpened → FileFault
+of_unopened unopened.InUse = InUse
+of_unopened unopened.Absent = Absent
+of_unopened unopened.Empty = NoLogs
+of_unopened (unopened.Barred obstacle) = Barred obstacle
+of_unopened unopened.Memory = Memory
+of_unopened (unopened.Database error) = Database error
 
 -- of words that aren't read
 abbrev pub of_words : WordsFault → Fault

@@ -15,7 +15,7 @@ obstacle_text barred.TooManyOpen = codes "too many files are open"
 -- the reason, in the words that tell it
 abbrev pub file_reason : FileFault → List ℕ
 file_reason (file.Barred obstacle) = obstacle_text obstacle
-file_reason file.Foreign = codes "it is a database with other tables, and no archive of trend logs"
+file_reason file.Foreign = codes "it is no archive of trend logs, or a trigger, foreign key or UNIQUE index was added"
 file_reason file.First = codes "it is an archive of version 1, and version 2 is read"
 file_reason file.Version = codes "it is an archive of another version"
 file_reason file.Memory = codes "out of memory"
@@ -26,6 +26,8 @@ file_reason file.Overlap = codes "its items lie over one another"
 file_reason file.Orphan = codes "it has items of no trend log, or of an epoch without a beginning"
 file_reason file.Full = codes "it has 65535 trend logs"
 file_reason file.Address = codes "a trend log in it has an address that is none"
+file_reason file.Apart = codes "it doesn't go on where the part before ends"
+file_reason file.Holes = codes "numbers are missing in it"
 file_reason other = codes "the database failed"
 
 -- a first line, and one with the file's name and the reason

@@ -1,19 +1,21 @@
 //! Why logs aren't kept.
 
-ghost use Rattle.std.specs.Prelude.{◌≡◌, IfOk};
+ghost use Rattle.std.specs.Prelude.{◌≡◌, IfErr, IfOk, OnErr};
 ghost use Rattle.std.specs.String.{string_bytes};
-ghost use Rattle.bac_asked.specs.Faults.{of_error, of_not_added, of_refusal};
+ghost use Rattle.bac_asked.specs.Faults.{of_error, of_not_added, of_refusal, of_unopened};
 ghost use Rattle.bac_asked.specs.Reasons.{AreLinesOf, file_lines, file_reason, obstacle_text};
 ghost use Rattle.bac_asked.specs.Status.{file_status};
 
 use bac_archive::{NotAdded, Refused};
-use bac_files::Obstacle;
+use bac_files::{NotOpened, Obstacle};
 use bac_link::ExchangeFault;
 use bac_ports::OpenFault;
+use bac_print::write_text;
 use bac_words::Word;
 use sqlite::{Error, ErrorCode};
 use std::alloc::{AllocError, Global};
 use std::fmt::Write;
+use std::io;
 
 /// Why a tool ends without what it was asked for, beside a file that is no use.
 #[derive(Clone, Copy, Debug, PartialEq, Eq)]
@@ -62,6 +64,10 @@ pub enum FileFault {
     Full,
     /// One of its logs has an address that is none.
     Address,
+    /// Its rows don't go on where those of the part before it end.
+    Apart,
+    /// Numbers of an epoch are in none of its rows.
+    Holes,
     /// Out of memory.
     Memory,
     /// What the database says.
@@ -103,6 +109,20 @@ impl FileFault {
         }
     }
 
+    /// The fault of a file that isn't opened.
+    pub fn of_unopened(why: NotOpened) -> FileFault
+        ensures { result ≡ of_unopened why }
+    {
+        match why {
+            NotOpened::InUse => FileFault::InUse,
+            NotOpened::Absent => FileFault::Absent,
+            NotOpened::Empty => FileFault::NoLogs,
+            NotOpened::Barred(obstacle) => FileFault::Barred(obstacle),
+            NotOpened::Memory => FileFault::Memory,
+            NotOpened::Database(error) => FileFault::Database(error),
+        }
+    }
+
     /// The program's exit status.
     pub fn status(self) -> u8
         ensures { result ≡ file_status self }
@@ -126,13 +146,28 @@ impl FileFault {
         }
     }
 
+    /// Tells why the file with this name is no use, and answers the exit status.
+    pub fn tell<E: io::Write>(self, alloc: Global, path: &str, errors: &mut E) -> Result<u8, Fault>
+        ensures status { IfOk result (λ status. status ≡ file_status self) }
+        ensures untold { OnErr result (E.contents errors.new ≡ E.contents errors.old) }
+        ensures memory { IfErr result (λ why. why ≡ Fault.Memory) }
+    {
+        match self.lines(alloc, path) {
+            Ok(text) => {
+                let _ = write_text(errors, text.as_bytes());
+                Ok(self.status())
+            }
+            Err(_) => Err(Fault::Memory),
+        }
+    }
+
     fn why<'a>(self) -> &'a str
         ensures { result.now ≡ file_reason self }
     {
         match self {
             FileFault::Barred(obstacle) => obstacle_text(obstacle),
             FileFault::Foreign =>
-                "it is a database with other tables, and no archive of trend logs",
+                "it is no archive of trend logs, or a trigger, foreign key or UNIQUE index was added",
             FileFault::First => "it is an archive of version 1, and version 2 is read",
             FileFault::Version => "it is an archive of another version",
             FileFault::Memory => "out of memory",
@@ -143,6 +178,8 @@ impl FileFault {
             FileFault::Orphan => "it has items of no trend log, or of an epoch without a beginning",
             FileFault::Full => "it has 65535 trend logs",
             FileFault::Address => "a trend log in it has an address that is none",
+            FileFault::Apart => "it doesn't go on where the part before ends",
+            FileFault::Holes => "numbers are missing in it",
             _ => "the database failed",
         }
     }

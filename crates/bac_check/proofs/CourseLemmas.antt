@@ -11,7 +11,6 @@ use Rattle.sqlite_trees.specs.Tree.{Trees}
 use Rattle.sqlite_trees.specs.declared.store.Store.{Ghosts}
 use Rattle.sqlite_value.specs.Order.{Row as Values}
 use Rattle.bac_archive.specs.Rows.{kept}
-use Rattle.bac_archive.specs.Schema.{archive_schema}
 use Rattle.bac_check.specs.declared.course.Course.{Course}
 use Rattle.bac_check.specs.declared.tally.Span.{Span}
 use Rattle.bac_check.specs.declared.tally.Tally.{Tally}
@@ -20,6 +19,7 @@ use Rattle.bac_check.specs.Holes.{Have, Rise, end_of}
 use Rattle.bac_check.specs.Tallies.{IsTallied}
 use Rattle.bac_check.proofs.EpochLemmas.{shows_spans}
 use Rattle.bac_check.proofs.HoleLemmas.{in_cases, in_head, in_none, in_tail}
+use Rattle.bac_archive.specs.Schema.{HasArchive}
 
 -- one row more
 pub filter_one_more : (p : Span → Bool) (rows : List Values) (row : Values) (before : List Span)
@@ -33,11 +33,11 @@ filter_one_more p rows row before =
     mapped (x ∷ xs) = ap (λ l. span_of x ∷ l) (mapped xs)
 
 -- when no row is left, those that were given are the epoch's, in the archive as it was
-pub all_given : {S : Type 0} (g : Ghosts S) (log epoch : ℕ) (old : State) (mid new : Connected S) (rows : List Values) → old.now.schema ≡ archive_schema
+pub all_given : {S : Type 0} (g : Ghosts S) (log epoch : ℕ) (old : State) (mid new : Connected S) (rows : List Values) → HasArchive old.now.schema
     → IsUnchanged old (state g mid) → Shown spans_text (asked log epoch) (state g mid) (state g new) rows → AreItemsIn log epoch (kept old.now.trees) rows
 all_given g log epoch old mid new rows has same shown =
     subst (λ (d : Database). AreItemsIn log epoch (kept d.trees) rows) same.0.now_is
-    (shows_spans log epoch (state g mid) (state g new) rows (ap (λ (d : Database). d.schema) same.0.now_is ∙ has) shown)
+    (shows_spans log epoch (state g mid) (state g new) rows (subst (λ (d : Database). HasArchive d.schema) (sym same.0.now_is) has) shown)
 
 -- ---- behind all of these rows is behind the last number
 

@@ -2,3 +2,6 @@ pub mod HoleLemmas
 pub mod TallyLemmas
 pub mod EpochLemmas
 pub mod CourseLemmas
+pub mod JoinLemmas
+pub mod CheckedLemmas
+pub mod WholeLemmas

@@ -2,3 +2,8 @@ pub mod Holes
 pub mod Tallies
 pub mod Epochs
 pub mod Lines
+pub mod Joins
+pub mod Counted
+pub mod Taken
+pub mod Checked
+pub mod Whole

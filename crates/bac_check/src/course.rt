@@ -94,7 +94,7 @@ fn count_rows<A: Alter>(
 }
 
 /// The last number of what was counted.
-fn last_of(tally: &Option<Tally>) -> Option<u32>
+pub(crate) fn last_of(tally: &Option<Tally>) -> Option<u32>
     ensures { result ≡ last_of tally.now }
 {
     match tally {

@@ -51,6 +51,18 @@ pub enum Uncounted {
     Database(Error),
 }
 
+impl From<Error> for Uncounted {
+    fn from(error: Error) -> Uncounted {
+        Uncounted::Database(error)
+    }
+}
+
+impl From<AllocError> for Uncounted {
+    fn from(_error: AllocError) -> Uncounted {
+        Uncounted::Memory
+    }
+}
+
 impl Span {
     /// Its last number.
     fn end(self) -> u32

@@ -1,8 +1,12 @@
 -- Where an archive is kept: in a file, or in parts.
-use Rattle.std.specs.Prelude.{◌≡◌, ◌⊎◌, ◌++◌, ℕ, List, None, String, IfSome, codes}
+use Rattle.std.specs.Prelude.{◌≡◌, ◌⊎◌, ◌++◌, ℕ, Bool, List, map, Option, None, option_map, Result, Ok, Err}
+use Rattle.std.specs.Prelude.{String, Vec, IfSome, codes}
 use Rattle.std.specs.declared.alloc.Global.{Global}
 use Rattle.std.specs.String.{string_bytes}
+use Rattle.sqlite.specs.Effect.{Database}
+use Rattle.sqlite.specs.State.{State}
 use Rattle.bac_files.specs.declared.folder.Place.{Place}
+use Rattle.bac_files.specs.declared.not_opened.NotOpened.{NotOpened}
 
 -- a path is that of a file in a folder
 abbrev pub IsPartOf : List ℕ → String Global → Type 0
@@ -13,3 +17,37 @@ abbrev pub IsPlaced : List ℕ → Place → Type 0
 IsPlaced name place =
     ((string_bytes place.path ≡ name) × (place.before ≡ None))
     ⊎ (IsPartOf name place.path × IfSome place.before (IsPartOf name))
+
+-- ---- the parts of an archive, read one after the other
+
+-- the paths of the parts of a folder, or nothing where there is no folder; or why they can't be told
+abbrev pub Listing : Type 0
+Listing = Result (Option (List (List ℕ))) NotOpened
+
+-- the paths that a listing answers
+abbrev pub paths_of : Result (Option (Vec (String Global) Global)) NotOpened → Listing
+paths_of (Ok listed) = Ok (option_map (λ paths. map string_bytes paths.items) listed)
+paths_of (Err why) = Err why
+
+-- A database that was read: as it was opened and as it is left, whether the connection is still open, and whether the
+-- disk has given back what was written.
+pub record Reading : Type 0 where
+  pub found : Database
+  pub left : Database
+  pub is_open : Bool
+  pub is_clean : Bool
+
+-- from the one to the other state of its connection
+abbrev pub reading : State → State → Reading
+reading old new = record { found = old.now; left = new.now; is_open = new.is_open; is_clean = new.is_clean }
+
+-- what a listing of parts is, what is found in one, and why one isn't opened
+pub record PartRules (P : Type 0) : Type 1 where
+  pub lists : P → List ℕ → Listing → P → Type 0
+  pub holds : P → List ℕ → Reading → P → Type 0
+  pub bars : P → List ℕ → NotOpened → P → Type 0
+
+-- the rules that are these
+abbrev pub part_rules : {P : Type 0} → (P → List ℕ → Listing → P → Type 0) → (P → List ℕ → Reading → P → Type 0)
+    → (P → List ℕ → NotOpened → P → Type 0) → PartRules P
+part_rules lists holds bars = record { lists = lists; holds = holds; bars = bars }

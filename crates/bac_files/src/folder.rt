@@ -1,11 +1,12 @@
 //! A folder of parts: files with a name of six digits and `.db`, of which the greatest is the
 //! newest.
 
-ghost use Rattle.std.specs.Prelude.{Bool, IfErr, IfOk};
+ghost use Rattle.std.specs.Prelude.{Bool, IfErr, IfOk, false};
 ghost use Rattle.bac_files.specs.Files.{IsReason};
 ghost use Rattle.bac_files.specs.Parts.{IsPartOf, IsPlaced};
 
 use crate::not_opened::{NotOpened, Obstacle};
+use crate::obstacles::is_folder;
 use std::alloc::AllocError;
 use std::fmt::Write;
 use std::fs::{metadata, read_dir};
@@ -96,23 +97,49 @@ fn number_of(name: &str) -> Option<u32> {
     }
 }
 
-/// The greatest number of the parts in a folder; 0 if it has none.
-fn newest_part(rt: &HostRuntime, folder: &str) -> Result<u32, NotOpened>
+/// The least and the greatest number of the parts in a folder; both 0 if it has none.
+#[derive(Clone, Copy, Debug, PartialEq, Eq)]
+struct Numbers {
+    least: u32,
+    greatest: u32,
+}
+
+impl Numbers {
+    /// The same with one more part.
+    fn with(self, number: u32) -> Numbers {
+        if self.greatest == 0 {
+            return Numbers {
+                least: number,
+                greatest: number,
+            };
+        }
+        Numbers {
+            least: self.least.min(number),
+            greatest: self.greatest.max(number),
+        }
+    }
+}
+
+/// Which parts there are in a folder.
+fn numbers_in(rt: &HostRuntime, folder: &str) -> Result<Numbers, NotOpened>
     ensures { (may : Bool) → IfErr result (IsReason may) }
 {
     let Ok(entries) = read_dir(rt, folder) else {
         return Err(NotOpened::Barred(Obstacle::NotPermitted));
     };
-    let mut newest = 0u32;
+    let mut numbers = Numbers {
+        least: 0,
+        greatest: 0,
+    };
     for entry in entries {
         let Ok(entry) = entry else {
             return Err(NotOpened::Barred(Obstacle::NotPermitted));
         };
         if let Some(number) = number_of(entry.file_name()) {
-            newest = newest.max(number);
+            numbers = numbers.with(number);
         }
     }
-    Ok(newest)
+    Ok(numbers)
 }
 
 /// How many octets the file of a part has; 0 if it isn't there.
@@ -148,8 +175,8 @@ fn place_in(rt: &HostRuntime, folder: &str, full: u64) -> Result<Place, NotOpene
     ensures placed { IfOk result (IsPlaced folder.now) }
     ensures why { (may : Bool) → IfErr result (IsReason may) }
 {
-    match newest_part(rt, folder) {
-        Ok(newest) => match choose(rt, folder, newest, full) {
+    match numbers_in(rt, folder) {
+        Ok(numbers) => match choose(rt, folder, numbers.greatest, full) {
             Ok(place) => Ok(place),
             Err(_) => Err(NotOpened::Memory),
         },
@@ -157,12 +184,46 @@ fn place_in(rt: &HostRuntime, folder: &str, full: u64) -> Result<Place, NotOpene
     }
 }
 
+/// The paths of the parts of a folder, the oldest first; where one between two others is gone, it is
+/// among them. A folder without parts has nothing.
+fn paths_in(rt: &HostRuntime, folder: &str) -> Result<Vec<String>, NotOpened>
+    ensures { IfErr result (IsReason false) }
+{
+    let numbers = match numbers_in(rt, folder) {
+        Ok(numbers) => numbers,
+        Err(why) => return Err(why),
+    };
+    if numbers.greatest == 0 {
+        return Err(NotOpened::Empty);
+    }
+    let mut paths = Vec::new(rt.alloc());
+    for number in numbers.least..=numbers.greatest {
+        let Ok(path) = part_path(rt, folder, number) else {
+            return Err(NotOpened::Memory);
+        };
+        if paths.push(path).is_err() {
+            return Err(NotOpened::Memory);
+        }
+    }
+    Ok(paths)
+}
+
+/// The parts of the archive of this name, if it is a folder.
+pub(crate) fn parts_of(rt: &HostRuntime, name: &str) -> Result<Option<Vec<String>>, NotOpened>
+    ensures { IfErr result (IsReason false) }
+{
+    if !is_folder(rt, name) {
+        return Ok(None);
+    }
+    Ok(Some(paths_in(rt, name)?))
+}
+
 /// Where the archive of this name is kept: in the file, or in a part of the folder.
 pub(crate) fn place_of(rt: &HostRuntime, name: &str, full: u64) -> Result<Place, NotOpened>
     ensures placed { IfOk result (IsPlaced name.now) }
     ensures why { (may : Bool) → IfErr result (IsReason may) }
 {
-    if matches!(metadata(rt, name), Ok(found) if found.is_dir()) {
+    if is_folder(rt, name) {
         return place_in(rt, name, full);
     }
     match Place::alone(rt, name) {

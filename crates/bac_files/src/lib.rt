@@ -3,14 +3,17 @@
 //! [`DiskFiles`] are the files of the machine, of which a `Start` of the kit says what they hold.
 //! What is done to them is stated from that to what they hold once they are closed (specs/Files).
 //! An archive is kept in one file, or in the parts of a folder (specs/Parts); of which part there
-//! is, as of paths, nothing is stated.
+//! is, as of paths, nothing is stated. [`Parts`] are read one after the other, each by a
+//! [`Reader`].
 #![tactic(auto)]
 
 mod disk_files;
 mod folder;
 mod not_opened;
 mod obstacles;
+mod parts;
 
 pub use disk_files::DiskFiles;
 pub use folder::Place;
 pub use not_opened::{NotOpened, Obstacle};
+pub use parts::{FolderFiles, Parts, Reader};

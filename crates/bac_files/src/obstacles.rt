@@ -8,7 +8,7 @@ use std::io::{Error, ErrorKind};
 const TOO_MANY: i32 = 24;
 
 /// Whether there is a folder of this name.
-fn is_folder(rt: &HostRuntime, path: &str) -> bool {
+pub(crate) fn is_folder(rt: &HostRuntime, path: &str) -> bool {
     matches!(metadata(rt, path), Ok(found) if found.is_dir())
 }
 

@@ -151,6 +151,7 @@ Works rules tells (job.Wi stations min max dnet local timeout trace) old result 
     × IsQuiet old new
 Works rules tells (job.Keep asked) old result new = IsElsewhere old result new
 Works rules tells (job.Kept asked) old result new = IsElsewhere old result new
+Works rules tells (job.Check asked) old result new = IsElsewhere old result new
 
 -- ---- the status
 

@@ -211,6 +211,7 @@ fn work<S: Sockets, I: Read, O: Write, E: Write, C: Clock>(
         }
         Job::Keep(_keep) => Err(Fault::OtherTool),
         Job::Kept(_kept) => Err(Fault::OtherTool),
+        Job::Check(_check) => Err(Fault::OtherTool),
         Job::Serve { address, count } => serve(
             sockets, alloc, address, count, input, errors, clock,
         ),

@@ -7,8 +7,8 @@ use Rattle.bac_words.specs.Addresses.{host_in, address_in}
 use Rattle.bac_words.specs.Devices.{announced, device_at, way_behind, way_of}
 use Rattle.bac_words.specs.Networks.{size_of, stations_of}
 use Rattle.bac_words.specs.Rows.{mac_in, route_in}
-use Rattle.bac_words.specs.Jobs.{asked_at, wi_at, rp_at, given_at, wp_at, from_in, log_at, logs_at, keep_at, kept_at, serve_at}
+use Rattle.bac_words.specs.Jobs.{asked_at, wi_at, rp_at, given_at, wp_at, from_in, log_at, logs_at, keep_at, kept_at, check_at, serve_at}
 
 unfoldable pub line_on_literals : ⊤
-unfolding clap_on_literals decode_pairs number_in host_in address_in announced device_at way_behind way_of size_of stations_of mac_in route_in asked_at wi_at rp_at given_at wp_at from_in log_at logs_at keep_at kept_at serve_at
+unfolding clap_on_literals decode_pairs number_in host_in address_in announced device_at way_behind way_of size_of stations_of mac_in route_in asked_at wi_at rp_at given_at wp_at from_in log_at logs_at keep_at kept_at check_at serve_at
 line_on_literals = tt

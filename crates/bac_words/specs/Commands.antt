@@ -104,6 +104,10 @@ keep_app = with_rules (new_app (codes "keep"))
 abbrev pub kept_app : App
 kept_app = with_rules (new_app (codes "kept")) (needed File ∷ maybe Address ∷ maybe Instance ∷ flag Csv ∷ [])
 
+-- bac check FILE
+abbrev pub check_app : App
+check_app = with_rules (new_app (codes "check")) (needed File ∷ [])
+
 -- bac serve ADDRESS [--count=N]
 abbrev pub serve_app : App
 serve_app = with_rules (new_app (codes "serve")) (needed Address ∷ option_or Count (codes "4294967295") ∷ [])
@@ -117,8 +121,8 @@ top_app = record (new_app (codes "bac")) {
 -- bac with its tools
 abbrev pub bac_app : App
 bac_app = with_subcommand (with_subcommand (with_subcommand (with_subcommand (with_subcommand (with_subcommand
-    (with_subcommand (with_subcommand (with_subcommand top_app replay_app.top) wi_app.top) rp_app.top) wp_app.top)
-    log_app.top) logs_app.top) keep_app.top) kept_app.top) serve_app.top
+    (with_subcommand (with_subcommand (with_subcommand (with_subcommand top_app replay_app.top) wi_app.top) rp_app.top)
+    wp_app.top) log_app.top) logs_app.top) keep_app.top) kept_app.top) check_app.top) serve_app.top
 
 -- the command is the one that is written down
 pub record IsCommand (a : App) (c : Command) : Type 0 where

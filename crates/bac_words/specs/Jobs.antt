@@ -113,7 +113,7 @@ logs_at rows = do
   instances ← instances_at rows
   Ok (Logs asked instances (is_said Trace rows))
 
--- the file of `keep` and `kept`
+-- the file of `keep`, `kept` and `check`
 abbrev pub file_at : List Row → Result Text Word
 file_at rows = ok_or (text_at File rows) File
 
@@ -169,6 +169,12 @@ kept_at rows = do
     csv = is_said Csv rows;
   }))
 
+-- bac check
+unfoldable pub check_at : List Row → Result Job Word
+check_at rows = do
+  file ← file_at rows
+  Ok (job.Check (record { file = file }))
+
 -- bac serve
 unfoldable pub serve_at : List Row → Result Job Word
 serve_at rows = do
@@ -187,6 +193,7 @@ job_of_tool tool rows =
     if bytes_eq tool (codes "logs") then logs_at rows else
     if bytes_eq tool (codes "keep") then keep_at rows else
     if bytes_eq tool (codes "kept") then kept_at rows else
+    if bytes_eq tool (codes "check") then check_at rows else
     if bytes_eq tool (codes "serve") then serve_at rows else Err Tool
 
 -- of the tool that the words name, and of its rows: an id and its values each
@@ -205,5 +212,6 @@ is_traced (Log asked instance from steps count csv trace) = trace
 is_traced (Logs asked instances trace) = trace
 is_traced (job.Keep asked) = asked.trace
 is_traced (job.Kept asked) = false
+is_traced (job.Check asked) = false
 is_traced (Serve address count) = false
 is_traced Replay = false

@@ -6,10 +6,11 @@ ghost use Rattle.clap.specs.Words.{rule_of, new_app};
 ghost use Rattle.bac_words.specs.Commands.{needed, needed_list, maybe, maybe_list, option};
 ghost use Rattle.bac_words.specs.Commands.{option_or, flag, timeout_rules, route_rules};
 ghost use Rattle.bac_words.specs.Commands.{asking_rules, keeping_rules, property_rules, wi_app};
-ghost use Rattle.bac_words.specs.Commands.{rp_app, wp_app, log_app, logs_app, keep_app, kept_app};
+ghost use Rattle.bac_words.specs.Commands.{rp_app, wp_app, log_app, logs_app, keep_app};
 ghost use Rattle.bac_words.specs.Commands.{serve_app, bac_app, top_app, IsCommand, Extends};
 ghost use Rattle.bac_words.specs.Commands.{AddsTool};
 
+use crate::archive_commands::{check, kept};
 use crate::word::Word;
 use clap::{Arg, ArgAction, Command};
 use std::alloc::{AllocError, Global};
@@ -65,7 +66,7 @@ The numbers that are typed and printed, 'error' with its class and its code:
 }
 
 /// A word that has to be there.
-fn needed<'a>(alloc: Global, word: Word, help: &'a str) -> Arg<'a>
+pub(crate) fn needed<'a>(alloc: Global, word: Word, help: &'a str) -> Arg<'a>
     ensures rule { rule_of result ≡ needed word }
     ensures local { result.global ≡ false }
 {
@@ -84,7 +85,7 @@ fn needed_list<'a>(alloc: Global, word: Word, help: &'a str) -> Arg<'a>
 }
 
 /// A word that may be there.
-fn maybe<'a>(alloc: Global, word: Word, help: &'a str) -> Arg<'a>
+pub(crate) fn maybe<'a>(alloc: Global, word: Word, help: &'a str) -> Arg<'a>
     ensures rule { rule_of result ≡ maybe word }
     ensures local { result.global ≡ false }
 {
@@ -100,7 +101,7 @@ fn maybe_list<'a>(alloc: Global, word: Word, help: &'a str) -> Arg<'a>
 }
 
 /// An option `--NAME`.
-fn flag<'a>(alloc: Global, word: Word, help: &'a str) -> Arg<'a>
+pub(crate) fn flag<'a>(alloc: Global, word: Word, help: &'a str) -> Arg<'a>
     ensures rule { rule_of result ≡ flag word }
     ensures local { result.global ≡ false }
 {
@@ -136,7 +137,7 @@ fn option_or<'a>(
 }
 
 /// The command with one more word.
-fn with<'a>(command: Command<'a>, arg: Arg<'a>) -> Result<Command<'a>, AllocError>
+pub(crate) fn with<'a>(command: Command<'a>, arg: Arg<'a>) -> Result<Command<'a>, AllocError>
     requires { arg.global ≡ false }
     ensures { IfOk result (Extends command.entry (rule_of arg.entry ∷ [])) }
 {
@@ -144,7 +145,12 @@ fn with<'a>(command: Command<'a>, arg: Arg<'a>) -> Result<Command<'a>, AllocErro
 }
 
 /// A tool without words.
-fn tool<'a>(alloc: Global, name: &'a str, about: &'a str, example: &'a str) -> Command<'a>
+pub(crate) fn tool<'a>(
+    alloc: Global,
+    name: &'a str,
+    about: &'a str,
+    example: &'a str,
+) -> Command<'a>
     ensures { IsCommand (new_app name.entry.now) result }
 {
     Command::new(alloc, name).about(about).after_help(example)
@@ -413,25 +419,6 @@ printed with its class and its code:"
     with_keeping(alloc, command)
 }
 
-fn kept<'a>(alloc: Global) -> Result<Command<'a>, AllocError>
-    ensures { IfOk result (IsCommand kept_app) }
-{
-    let about = "Print what a database file keeps of trend logs";
-    let example = "Example: bac kept site.db 192.168.1.20 1
-prints each record and each gap of trend log 1, in the lines of bac log.
-
-bac kept site.db --csv prints all logs as CSV: address, trend_log, name, epoch,
-number, stamp, value, datum, flags; in the row of a gap datum is gap FIRST LAST.";
-    let command = tool(alloc, "kept", about, example);
-    let command = with(command, needed(alloc, Word::File, "The database file"))?;
-    let help = "The device: A.B.C.D or A.B.C.D:PORT (port 47808)";
-    let command = with(command, maybe(alloc, Word::Address, help))?;
-    let help = "The trend log's instance: 0 to 4194303";
-    let command = with(command, maybe(alloc, Word::Instance, help))?;
-    let help = "As CSV, with a first row of names";
-    with(command, flag(alloc, Word::Csv, help))
-}
-
 fn serve<'a>(alloc: Global) -> Result<Command<'a>, AllocError>
     ensures { IfOk result (IsCommand serve_app) }
 {
@@ -464,8 +451,8 @@ bac help log, or bac log --help, tells what a tool takes, with an example.
 
 Status: 0 done, 1 usage, a bad value or a bad script, 2 no answer, or a read,
 write or socket fault, 3 refused by the device, 4 bad reply, 5 out of memory;
-of bac keep and bac kept also 6 the file isn't an archive, can't be read or
-written, or is full, 7 another program has it open, 8 a step limit.",
+of bac keep, bac kept and bac check also 6 the file isn't an archive, can't be
+read or written, or is full, 7 another program has it open, 8 a step limit.",
         )
 }
 
@@ -489,5 +476,6 @@ pub(crate) fn command<'a>(alloc: Global) -> Result<Command<'a>, AllocError>
     let command = with_tool(command, logs(alloc)?)?;
     let command = with_tool(command, keep(alloc)?)?;
     let command = with_tool(command, kept(alloc)?)?;
+    let command = with_tool(command, check(alloc)?)?;
     with_tool(command, serve(alloc)?)
 }

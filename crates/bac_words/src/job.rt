@@ -71,7 +71,7 @@ pub struct KeepOptions {
 /// Which trend logs a file is to keep, as the words say them.
 #[derive(Debug, Drop)]
 pub struct Keep {
-    /// The database file.
+    /// The database file, or a folder of parts.
     pub file: Name,
     /// The devices, and which of its logs of each; each log of the file if there are none. The one
     /// word `-` stands for the devices of standard input.
@@ -119,7 +119,7 @@ impl Keep {
 /// Which trend logs of a file are to be printed, as the words say them.
 #[derive(Debug, Drop)]
 pub struct Kept {
-    /// The database file.
+    /// The database file, or a folder of parts.
     pub file: Name,
     /// The device; each log of the file if it is absent.
     pub address: Option<Name>,
@@ -127,6 +127,13 @@ pub struct Kept {
     pub instance: Option<Name>,
     /// As CSV.
     pub csv: bool,
+}
+
+/// Which archive is to be tested.
+#[derive(Debug, Drop)]
+pub struct Check {
+    /// The database file, or a folder of parts.
+    pub file: Name,
 }
 
 /// A tool with its words and options; an option that wasn't given has its default, or is absent.
@@ -191,6 +198,8 @@ pub enum Job {
     Keep(Keep),
     /// `bac kept`
     Kept(Kept),
+    /// `bac check`
+    Check(Check),
     /// `bac serve`
     Serve {
         address: [u8; 6],
@@ -210,7 +219,7 @@ impl Job {
             Job::Log { trace, .. } => *trace,
             Job::Logs { trace, .. } => *trace,
             Job::Keep(keep) => keep.trace,
-            Job::Kept(_) | Job::Serve { .. } | Job::Replay => false,
+            Job::Kept(_) | Job::Check(_) | Job::Serve { .. } | Job::Replay => false,
         }
     }
 }

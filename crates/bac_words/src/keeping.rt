@@ -1,4 +1,4 @@
-//! The jobs of `keep` and `kept`, from their matches.
+//! The jobs of `keep`, `kept` and `check`, from their matches.
 
 ghost use Rattle.std.specs.Prelude.{◌≡◌, IfOk, map, option_map};
 ghost use Rattle.clap.specs.Words.{rows_of, found_of};
@@ -6,11 +6,12 @@ ghost use Rattle.bac_words.specs.Steps.{Makes};
 ghost use Rattle.bac_words.specs.Rows.{text_at, texts_at};
 ghost use Rattle.bac_words.specs.Groups.{group_at, groups_at, groups_from};
 ghost use Rattle.bac_words.specs.declared.word.Word.TheVariants.{Instance};
-ghost use Rattle.bac_words.specs.Jobs.{file_at, keep_options_at, keep_at, kept_at, stop_beside};
+ghost use Rattle.bac_words.specs.Jobs.{file_at, keep_options_at, keep_at, kept_at, check_at};
+ghost use Rattle.bac_words.specs.Jobs.{stop_beside};
 
 use crate::fault::WordsFault;
 use crate::group::{Group, Groups};
-use crate::job::{Job, Keep, KeepOptions, Kept};
+use crate::job::{Check, Job, Keep, KeepOptions, Kept};
 use crate::name::Name;
 use crate::names::Names;
 use crate::numbers::are_digits;
@@ -154,4 +155,12 @@ pub(crate) fn kept(alloc: Global, matches: &ArgMatches) -> Result<Job, WordsFaul
         instance,
         csv,
     }))
+}
+
+#[tactic(auto, unfolding(crate::specs::Jobs::check_at))]
+pub(crate) fn check(alloc: Global, matches: &ArgMatches) -> Result<Job, WordsFault>
+    ensures { Makes (check_at (rows_of (found_of matches.now))) result }
+{
+    let file = file_at(alloc, matches)?;
+    Ok(Job::Check(Check { file }))
 }

@@ -11,7 +11,7 @@ ghost use Rattle.bac_words.specs.declared.word.Word.TheVariants.{Address, From, 
 ghost use Rattle.bac_words.specs.declared.word.Word.TheVariants.{Records, Retries, Dnet, Dadr};
 ghost use Rattle.bac_words.specs.declared.word.Word.TheVariants.{Stop};
 ghost use Rattle.bac_words.specs.declared.job.Job.TheVariants.{Replay, Wi, Rp, Wp, Log, Logs, Keep};
-ghost use Rattle.bac_words.specs.declared.job.Job.TheVariants.{Kept, Serve};
+ghost use Rattle.bac_words.specs.declared.job.Job.TheVariants.{Kept, Check, Serve};
 ghost use Rattle.bac_words.specs.declared.job.Given.TheVariants.{Null, Signed};
 ghost use Rattle.bac_words.specs.declared.job.Stations.TheVariants.{Input, Listed};
 ghost use Rattle.bac_words.specs.Lines.{Says, Mistakes, station, by_default, by_way, group};
@@ -100,6 +100,8 @@ pub fn lines_say_jobs()
           instance = None;
           csv = false;
         }))) }
+    ensures check { Says (codes "bac check plant")
+        (Ok (Check (record { file = codes "plant" }))) }
     ensures csv { Says (codes "bac kept a.db --csv")
         (Ok (Kept (record { file = codes "a.db"; address = None; instance = None; csv = true }))) }
     ensures serve { Says (codes "bac serve 10.0.0.1") (Ok (Serve station 4294967295)) }

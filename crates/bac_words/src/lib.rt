@@ -4,6 +4,7 @@
 
 mod address;
 mod addresses;
+mod archive_commands;
 mod commands;
 mod device_laws;
 mod devices;
@@ -32,7 +33,7 @@ pub use devices::read_devices;
 pub use fault::WordsFault;
 pub use group::{Group, Groups, Way};
 pub use instances::Instances;
-pub use job::{Asked, Given, Job, Keep, KeepOptions, Kept, Stations};
+pub use job::{Asked, Check, Given, Job, Keep, KeepOptions, Kept, Stations};
 pub use laws::{lines_are_mistakes, lines_say_bad_values, lines_say_jobs};
 pub use listing::{ListFault, MOST_LISTED, read_addresses};
 pub use name::Name;

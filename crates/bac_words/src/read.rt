@@ -10,7 +10,7 @@ ghost use Rattle.bac_words.specs.Outcome.{mistakes_of, is_long_of, job_in, Answe
 use crate::commands::command;
 use crate::fault::WordsFault;
 use crate::job::Job;
-use crate::keeping::{keep, kept};
+use crate::keeping::{check, keep, kept};
 use crate::rows::is_long_at;
 use crate::tools::{log, logs, rp, serve, wi, wp};
 use crate::word::Word;
@@ -80,6 +80,7 @@ fn job_of_tool(alloc: Global, tool: &str, matches: &ArgMatches) -> Result<Job, W
         "logs" => logs(alloc, matches),
         "keep" => keep(alloc, matches),
         "kept" => kept(alloc, matches),
+        "check" => check(alloc, matches),
         "serve" => Ok(serve(matches)?),
         _ => Err(WordsFault::BadValue(Word::Tool)),
     }

@@ -1,9 +1,10 @@
-use Rattle.std.proofs.Common.{get_or, ap, subst, ◌∙◌, rules}
+use Rattle.std.proofs.Common.{get_or, ap, subst, ◌∙◌, rules, sym}
 use Rattle.std.proofs.lemmas.List.{length-set}
 use Rattle.sqlite.specs.Effect.{Database}
 use Rattle.sqlite.specs.Held.{state}
 use Rattle.bac_check.specs.Epochs.{CountsCourse}
 use Rattle.bac_check.proofs.CourseLemmas.{each_step, later_step}
+use Rattle.bac_archive.specs.Schema.{HasArchive}
 use Rattle.bac_check.proofs.course.count_each.Goals as goal
 
 pub loop-course-preserved : goal.loop-course-preserved
@@ -16,7 +17,7 @@ loop-course-preserved g c =
       later_step c.args.courses.now c.loop-course.courses c.loop-course.course-index c.count.new.self was.2,
       λ late has.
           let (same, early) = was.3 (it.clean late) has in
-          let schema = ap (λ (d : Database). d.schema) same ∙ has in (
+          let schema = subst (λ (d : Database). HasArchive d.schema) (sym same) has in (
             (it.same late schema).0.now_is ∙ same,
             each_step old.now.trees c.args.courses.now c.loop-course.courses c.loop-course.course-index c.course-item.result c.count.new.self
                 (search rules) was.2 early

@@ -22,6 +22,7 @@ returns c =
     let six = c.in_ok-command-6.ensures.app ∙ ap₂ more five c.in_ok-logs.ensures.app in
     let seven = c.in_ok-command-7.ensures.app ∙ ap₂ more six c.in_ok-keep.ensures.app in
     let eight = c.in_ok-command-8.ensures.app ∙ ap₂ more seven c.in_ok-kept.ensures.app in
+    let nine = c.in_ok-command-9.ensures.app ∙ ap₂ more eight c.in_ok-check.ensures.app in
     let local-1 = none c.in_ok-command.ensures.globals c.top.ensures.globals c.replay.ensures.globals in
     let local-2 = none c.in_ok-command-2.ensures.globals local-1 c.in_ok-wi.ensures.globals in
     let local-3 = none c.in_ok-command-3.ensures.globals local-2 c.in_ok-rp.ensures.globals in
@@ -30,7 +31,8 @@ returns c =
     let local-6 = none c.in_ok-command-6.ensures.globals local-5 c.in_ok-logs.ensures.globals in
     let local-7 = none c.in_ok-command-7.ensures.globals local-6 c.in_ok-keep.ensures.globals in
     let local-8 = none c.in_ok-command-8.ensures.globals local-7 c.in_ok-kept.ensures.globals in
-    IfOk-weaker c.with_tool-9.result _ _ (λ r e. record {
-      app = e.app ∙ ap₂ more eight c.in_ok-serve.ensures.app;
-      globals = none e.globals local-8 c.in_ok-serve.ensures.globals;
-    }) c.with_tool-9.ensures
+    let local-9 = none c.in_ok-command-9.ensures.globals local-8 c.in_ok-check.ensures.globals in
+    IfOk-weaker c.with_tool-10.result _ _ (λ r e. record {
+      app = e.app ∙ ap₂ more nine c.in_ok-serve.ensures.app;
+      globals = none e.globals local-9 c.in_ok-serve.ensures.globals;
+    }) c.with_tool-10.ensures

@@ -23,6 +23,8 @@ lines_of file.Overlap path text busy answered is = is
 lines_of file.Orphan path text busy answered is = is
 lines_of file.Full path text busy answered is = is
 lines_of file.Address path text busy answered is = is
+lines_of file.Apart path text busy answered is = is
+lines_of file.Holes path text busy answered is = is
 lines_of file.Memory path text busy answered is = is
 
 pub returns-in_default : goal.returns-in_default

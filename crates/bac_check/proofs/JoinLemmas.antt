@@ -1,0 +1,44 @@
+-- Where the rows of a log go on.
+use Rattle.std.proofs.Common.{◌≡◌, refl, sym, ap, subst, ◌∙◌, ℕ, pos, List, [], ◌∷◌, ◌++◌, take, length, get_or, ◌+◌, ◌<◌, Option, None, Some, unwrap_or}
+use Rattle.std.proofs.lemmas.List.{take_more}
+use Rattle.sqlite.specs.Effect.{Database}
+use Rattle.sqlite.specs.Held.{Held as Connected, state}
+use Rattle.sqlite.specs.State.{State, IsUnchanged, Shown}
+use Rattle.sqlite.specs.Values.{or_null}
+use Rattle.sqlite.proofs.Callers.{given_begin}
+use Rattle.sqlite_trees.specs.declared.store.Store.{Ghosts}
+use Rattle.sqlite_value.specs.Order.{Row as Values, column}
+use Rattle.sqlite_value.specs.declared.value.Value.{Value}
+use Rattle.sqlite_value.specs.declared.value.Value.TheVariants.{Int}
+use Rattle.bac_archive.proofs.ItemsLemmas.{begins_with, shows_items}
+use Rattle.bac_archive.specs.Items.{AreItems, IsItem, ReadsItems, asked, items_text}
+use Rattle.bac_archive.specs.Rows.{kept}
+use Rattle.bac_archive.specs.declared.items.Item.{Item}
+use Rattle.bac_check.specs.Epochs.{last_at}
+use Rattle.bac_check.specs.Joins.{TellsFirst, point_at}
+use Rattle.bac_archive.specs.Schema.{HasArchive}
+
+last_says : (value : Value) (last : Option ℕ) → value ≡ or_null (λ n. Int (pos n)) last → last_at value ≡ last
+last_says value None is = ap last_at is
+last_says value (Some n) is = ap last_at is
+
+-- an item says where its row is
+pub item_is_at : (row : Values) (item : Item) → IsItem row item → record { epoch = item.epoch; last = unwrap_or item.last item.number } ≡ point_at row
+item_is_at row item it = rw (it.epoch, it.number, sym (last_says (column row 1) item.last it.last)) refl
+
+module _ {S : Type 0} (g : Ghosts S) (log : ℕ) (old : State) (mid : Connected S) (has : HasArchive old.now.schema) (same : IsUnchanged old (state g mid)) where
+  schema_is : HasArchive (state g mid).now.schema
+  schema_is = subst (λ (d : Database). HasArchive d.schema) (sym same.0.now_is) has
+
+  -- a log has no row if none is given
+  pub none_first : (new : Connected S) → Shown items_text (asked log) (state g mid) (state g new) [] → TellsFirst log (kept old.now.trees) None
+  none_first new shown = ([], subst (λ (d : Database). AreItems log (kept d.trees) []) same.0.now_is (shows_items log (state g mid) (state g new) [] schema_is shown), refl)
+
+  -- the first row that is given is the log's first
+  pub one_first : (row : Values) → ReadsItems g log mid (row ∷ []) → TellsFirst log (kept old.now.trees) (Some (point_at row))
+  one_first row given =
+      let (more, are) = begins_with log (state g mid) (row ∷ []) schema_is (given_begin g items_text (asked log) mid (row ∷ []) given) in
+      (row ∷ more, subst (λ (d : Database). AreItems log (kept d.trees) (row ∷ more)) same.0.now_is are, refl)
+
+pub take_one : {X : Type 0} (all : List X) (at : ℕ) (x : X) → at < length all → x ≡ get_or all at x → take (at + 1) all ≡ take at all ++ x ∷ []
+take_one all at x lt is = take_more all at x lt ∙ ap (λ z. take at all ++ z ∷ []) (sym is)

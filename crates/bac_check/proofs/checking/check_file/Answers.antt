@@ -1,0 +1,31 @@
+use Rattle.std.proofs.Common.{◌≡◌, ℕ, List, [], inl, inr, map, refl, subst, rules}
+use Rattle.std.proofs.lemmas.Result.{IfErr-weaker, IfOk-weaker}
+use Rattle.std.specs.String.{string_bytes}
+use Rattle.bac_check.specs.Checked.{ChecksAll, RefusesText, Rules}
+use Rattle.bac_check.proofs.checking.check_file.Goals as goal
+
+pub returns-clause-refused : goal.returns-clause-refused
+returns-clause-refused g c =
+    let over : Rules g.row.P.Denot = record { holds = g.P.Parts.holds; bars = g.P.Parts.bars } in
+    let none : map string_bytes c.as_slice.result.now ≡ [] = search rules in
+    let text = λ (l : List (List ℕ)). RefusesText over c.args.parts.now l c.args.name.now (g.O.Write.contents c.args.output.now) (g.O.Write.contents c.check_all.new.output) c.check_all.new.parts in
+    IfErr-weaker c.check_all.result _ _
+    (λ why. elim [
+      | inl memory ↦ inl memory
+      | inr write ↦ inr (write.0, ([], c.args.name.now, refl, subst text none write.1))
+    ])
+    c.check_all.ensures.refused
+
+pub returns-clause-checks : goal.returns-clause-checks
+returns-clause-checks g c =
+    let over : Rules g.row.P.Denot = record { holds = g.P.Parts.holds; bars = g.P.Parts.bars } in
+    let none : map string_bytes c.as_slice.result.now ≡ [] = search rules in
+    IfOk-weaker c.check_all.result _ _
+    (λ status it. inr (
+      [],
+      c.args.name.now,
+      refl,
+      subst (λ (l : List (List ℕ)). ChecksAll over c.args.parts.now l c.args.name.now
+          (g.O.Write.contents c.args.output.now) (g.O.Write.contents c.check_all.new.output) status c.check_all.new.parts) none it,
+    ))
+    c.check_all.ensures.checks

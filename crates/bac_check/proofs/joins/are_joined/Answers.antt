@@ -1,0 +1,28 @@
+use Rattle.std.proofs.Common.{◌≡◌, ◌∙◌, true, ap, subst, sym, rules}
+use Rattle.std.specs.List.{All}
+use Rattle.std.proofs.lemmas.List.Elements.{All-push}
+use Rattle.sqlite.specs.Effect.{Database}
+use Rattle.sqlite.specs.Held.{state}
+use Rattle.bac_archive.specs.Rows.{kept}
+use Rattle.bac_check.specs.Joins.{IsJoined}
+use Rattle.bac_check.proofs.JoinLemmas.{take_one}
+use Rattle.bac_archive.specs.Schema.{HasArchive}
+use Rattle.bac_check.proofs.joins.are_joined.Goals as goal
+
+pub loop-course-preserved : goal.loop-course-preserved
+loop-course-preserved g c =
+    let old = state g.A.Store c.args.conn.now in
+    let course = c.course-item.result in
+    let yes : c.in_ok-is_joined.field-0 ≡ true = search rules in
+    let taken = take_one c.args.courses.now c.loop-course.course-index course (search rules) (search rules) in (
+      λ late. c.loop-course.invariant.0 (c.in_ok-is_joined.ensures.clean late),
+      λ late has.
+          let was = c.loop-course.invariant.1 (c.in_ok-is_joined.ensures.clean late) has in
+          let schema = subst (λ (d : Database). HasArchive d.schema) (sym was.0) has in
+          let one = subst (IsJoined _ c.args.courses.now course) yes (c.in_ok-is_joined.ensures.told late schema) in (
+            c.in_ok-is_joined.ensures.same late schema ∙ was.0,
+            subst (λ l. All (λ course. IsJoined (kept old.now.trees) c.args.courses.now course true) l) (sym taken)
+                (All-push (λ course. IsJoined (kept old.now.trees) c.args.courses.now course true) _ course was.1
+                (subst (λ (d : Database). IsJoined (kept d.trees) c.args.courses.now course true) was.0 one)),
+          ),
+    )

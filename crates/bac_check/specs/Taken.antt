@@ -1,0 +1,78 @@
+-- A part of an archive is read, which has to be an archive.
+use Rattle.std.specs.Prelude.{◌≡◌, ◌≢◌, ◌⊎◌, Bool, IsTrue, true, false, Option, None, Some}
+use Rattle.sqlite.specs.Effect.{Database}
+use Rattle.sqlite_trees.specs.View.{doubt}
+use Rattle.bac_archive.specs.Archive.{IsArchive, IsOfVersion}
+use Rattle.bac_archive.specs.Rows.{versions}
+use Rattle.bac_archive.specs.Schema.{first_tables, no_schema, HasArchive}
+use Rattle.bac_archive.specs.declared.opening.Refused.{Refused}
+use Rattle.bac_archive.specs.declared.opening.Refused.TheVariants as refused
+use Rattle.bac_asked.specs.Faults.{of_error, of_refusal}
+use Rattle.bac_asked.specs.declared.fault.FileFault.{FileFault}
+use Rattle.bac_asked.specs.declared.fault.FileFault.TheVariants as file
+use Rattle.bac_files.specs.Parts.{Reading}
+use Rattle.bac_check.specs.Counted.{CountsPart}
+use Rattle.bac_check.specs.declared.counts.Counts.{Counts}
+use Rattle.bac_check.specs.declared.tally.Uncounted.{Uncounted}
+use Rattle.bac_check.specs.declared.tally.Uncounted.TheVariants as uncounted
+
+-- the fault of a file whose rows aren't counted
+abbrev pub of_uncounted : Uncounted → FileFault
+of_uncounted uncounted.Overlap = file.Overlap
+of_uncounted uncounted.Memory = file.Memory
+of_uncounted (uncounted.Database error) = of_error error
+
+-- Why a database is no archive, of what it held. Of items that lie over one another, or are of no log, `open` of
+-- bac_archive says more, of the rows that the connection read.
+abbrev pub IsRefusedBy : Database → Refused → Type 0
+IsRefusedBy found refused.Foreign =
+    (¬ HasArchive found.schema) × (found.schema.tables ≢ first_tables) × (found.schema ≢ no_schema)
+IsRefusedBy found refused.First = found.schema.tables ≡ first_tables
+IsRefusedBy found refused.Version = IsOfVersion (versions found.trees) → ⊥
+IsRefusedBy found refused.Overlap = Unit {0}
+IsRefusedBy found refused.Orphan = Unit {0}
+IsRefusedBy found (refused.Database error) = Unit {0}
+
+-- the fault of a part that doesn't go on where the one before it ends
+abbrev pub unless_joined : Bool → Option FileFault
+unless_joined true = None
+unless_joined false = Some file.Apart
+
+-- There is nothing in a database, and no archive is made of it.
+pub record IsPassed (old : Counts) (found : Reading) (why : Option FileFault) (new : Counts) : Type 0 where
+  pub nothing : found.found.schema ≡ no_schema
+  pub told : why ≡ Some file.NoLogs
+  pub same : new ≡ old
+  pub left : found.left ≡ found.found
+
+-- There is something in it, and it is no archive, for a reason. Nothing is counted, and one with the tables of an
+-- archive is left as it is.
+pub record IsBarred (old : Counts) (found : Reading) (why : Option FileFault) (new : Counts) : Type 0 where
+  pub something : found.found.schema ≢ no_schema
+  pub reason : Refused
+  pub refused : IsRefusedBy found.found reason
+  pub told : why ≡ Some (of_refusal reason)
+  pub same : new ≡ old
+  pub left : IsTrue found.is_open → HasArchive found.found.schema → found.left ≡ found.found
+
+-- It is an archive, its rows are counted, it is left as it is; and it is told if it doesn't go on.
+pub record IsCounted (old : Counts) (found : Reading) (why : Option FileFault) (new : Counts) : Type 0 where
+  pub archive : IsArchive found.found
+  pub left : found.left ≡ found.found
+  pub joined : Bool
+  pub counted : CountsPart found.found.trees old new joined
+  pub told : why ≡ unless_joined joined
+
+-- Its rows aren't counted: memory is wanting, the database answers by an error, or rows lie over one another. What was
+-- counted then isn't told.
+abbrev pub IsUncounted : Option FileFault → Type 0
+IsUncounted why = (failed : Uncounted) × (why ≡ Some (of_uncounted failed))
+
+-- what becomes of what is counted where a part is read, and why the part is no use or doesn't go on
+abbrev pub TakesPart : Counts → Reading → Option FileFault → Counts → Type 0
+TakesPart old found why new =
+    IsPassed old found why new ⊎ (IsBarred old found why new ⊎ (IsCounted old found why new ⊎ IsUncounted why))
+
+-- the same where the disk has given back what was written
+abbrev pub ReadsPart : Counts → Reading → Option FileFault → Counts → Type 0
+ReadsPart old found why new = doubt found.is_clean ≡ 0 → TakesPart old found why new

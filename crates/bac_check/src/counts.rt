@@ -1,0 +1,106 @@
+//! What is counted of an archive, part by part.
+
+ghost use Rattle.std.specs.Prelude.{◌≡◌, IfOk, OnOk, fold};
+ghost use Rattle.std.specs.List.{list_any};
+ghost use Rattle.sqlite.specs.State.{HasCleanDisk};
+ghost use Rattle.sqlite.specs.Held.{state};
+ghost use Rattle.bac_archive.specs.Schema.{OverArchive};
+ghost use Rattle.bac_check.specs.Counted.{CountsPart, IsEmpty, course_of, is_epoch, with_begun};
+
+use crate::course::{Course, count_each};
+use crate::joins::are_joined;
+use crate::tally::Uncounted;
+use bac_archive::{Beginning, Log, beginnings, logs};
+use sqlite::{Alter, Connection};
+use std::alloc::{AllocError, Global};
+
+/// What was counted of the parts of an archive that were read.
+#[derive(Debug, Drop)]
+pub struct Counts {
+    /// The logs of the last part.
+    pub logs: Vec<Log>,
+    /// The epochs of all parts.
+    pub courses: Vec<Course>,
+}
+
+/// An epoch that has begun, of which nothing is counted yet.
+fn course_of(begun: &Beginning) -> Course
+    ensures { result ≡ course_of begun.now }
+{
+    Course {
+        log: begun.log,
+        epoch: begun.epoch,
+        from: Some(begun.number),
+        tally: None,
+    }
+}
+
+/// Whether it is this epoch of this log.
+fn is_epoch(course: &Course, log: u16, epoch: u16) -> bool
+    ensures { result ≡ is_epoch log epoch course.now }
+{
+    course.log == log && course.epoch == epoch
+}
+
+/// Whether it is among these.
+fn has_epoch(courses: &[Course], log: u16, epoch: u16) -> bool
+    ensures { result ≡ list_any (is_epoch log epoch) courses.now }
+{
+    courses.iter().any(|course| is_epoch(course, log, epoch))
+}
+
+/// Adds an epoch that has begun, if it isn't there.
+fn add_epoch(courses: &mut Vec<Course>, begun: &Beginning) -> Result<(), AllocError>
+    ensures { OnOk result (courses.new.items ≡ with_begun courses.old.items begun.now) }
+{
+    if has_epoch(courses.as_slice(), begun.log, begun.epoch) {
+        return Ok(());
+    }
+    courses.push(course_of(begun))?;
+    Ok(())
+}
+
+/// Adds each of them that isn't there.
+fn add_epochs(courses: &mut Vec<Course>, all: &[Beginning]) -> Result<(), AllocError>
+    ensures { OnOk result (courses.new.items ≡ fold with_begun courses.old.items all.now) }
+{
+    for begun in all {
+        add_epoch(courses, begun)?;
+    }
+    Ok(())
+}
+
+impl Counts {
+    /// Nothing is counted yet.
+    pub(crate) fn new(alloc: Global) -> Counts
+        ensures { IsEmpty result }
+    {
+        Counts {
+            logs: Vec::new(alloc),
+            courses: Vec::new(alloc),
+        }
+    }
+
+    /// Counts the rows of one more part, and tells whether its logs go on where what was counted
+    /// of them ends.
+    pub(crate) fn count<A: Alter>(
+        &mut self,
+        alloc: Global,
+        conn: &mut Connection<A>,
+    ) -> Result<bool, Uncounted>
+        ensures counted { OverArchive (state A.Store conn.old) (state A.Store conn.new)
+            (IfOk result (CountsPart (state A.Store conn.old).now.trees self.old self.new)) }
+        ensures same { OverArchive (state A.Store conn.old) (state A.Store conn.new)
+            (OnOk result ((state A.Store conn.new).now ≡ (state A.Store conn.old).now)) }
+        ensures clean { OnOk result
+            (HasCleanDisk (state A.Store conn.new) → HasCleanDisk (state A.Store conn.old)) }
+    {
+        let joined = are_joined(conn, self.courses.as_slice())?;
+        let known = logs(alloc, conn)?;
+        let begun = beginnings(alloc, conn)?;
+        add_epochs(&mut self.courses, begun.as_slice())?;
+        count_each(alloc, conn, self.courses.as_mut_slice())?;
+        self.logs = known;
+        Ok(joined)
+    }
+}
