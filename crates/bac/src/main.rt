@@ -4,7 +4,7 @@
 
 use bac_desks::SteadyClock;
 use bac_heeding::Heeding;
-use bac_run::{DiskFiles, run};
+use bac_run::{DiskFiles, FolderFiles, run};
 use bac_tools::{Fault, SystemClock, UdpSockets, UntilRefused, tell};
 use bac_trace::{Traced, Writers};
 use sqlite::Unknown;
@@ -62,6 +62,7 @@ fn started(rt: &HostRuntime) -> Result<u8, Fault> {
         ),
         &mut DiskFiles::new(rt, Unknown),
         &mut DiskFiles::new(rt, Unknown),
+        &mut FolderFiles::new(rt),
         rt.alloc(),
         SteadyClock::new(rt),
         &words,

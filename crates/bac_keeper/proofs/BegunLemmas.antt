@@ -1,5 +1,5 @@
 -- A part that is begun, from one function to the next.
-use Rattle.std.proofs.Common.{ℕ, true, false, IfOk, ◌≡◌, ◌⊎◌, ◌∙◌, inl, inr, Option, Some, None, String, Global, IfSome, IsSome, IfErr, OnOk, OnErr, Result, Ok, Err, ap, subst, sym}
+use Rattle.std.proofs.Common.{ℕ, true, false, IfOk, ◌≡◌, ◌⊎◌, ◌∙◌, inl, inr, Option, Some, None, String, Global, IfSome, IsSome, IfErr, OnOk, OnErr, Result, Ok, Err, ap, subst, sym, ◌++◌}
 use Rattle.sqlite_disk.specs.declared.Disk as disk
 use Rattle.sqlite_disk.specs.declared.Files.{Files}
 use Rattle.sqlite_disk.specs.declared.start.Start as start
@@ -11,7 +11,7 @@ use Rattle.sqlite.specs.State.{HasCleanDisk}
 use Rattle.sqlite_store.specs.declared.store.FileStore.{FileStore}
 use Rattle.sqlite_schema.specs.declared.schema.Schema.{Schema}
 use Rattle.bac_archive.specs.Parts.{FollowsOn}
-use Rattle.bac_archive.specs.Schema.{archive_schema, no_schema}
+use Rattle.bac_archive.specs.Schema.{no_schema, HasArchive, archive_tables}
 use Rattle.bac_asked.specs.declared.fault.FileFault.{FileFault}
 use Rattle.bac_files.specs.Files.{FileOf, IsClosedBy, IsDoneTo, IsOpenedBy}
 use Rattle.bac_files.specs.declared.disk_files.DiskFiles.{DiskFiles}
@@ -20,6 +20,7 @@ use Rattle.bac_keeper.specs.Begun.{BarsPart, BeginsOn, FollowsFound}
 use Rattle.bac_keeper.specs.Ends.{IsNoArchive, IsOfSomeFile, MayFail}
 use Rattle.bac_asked.specs.declared.end.NotDone.{NotDone}
 use Rattle.bac_keeper.proofs.FileLemmas.{fails_so, some_done}
+use Rattle.bac_archive.proofs.AroundLemmas.{made_is}
 
 -- what holds of a result that went well, or didn't
 pub on_ok_so : {V E : Type 0} (r : Result V E) (P Q : Type 0) → (P → Q) → OnOk r P → OnOk r Q
@@ -39,8 +40,8 @@ all_fail_so P Q (Ok v) f it = tt
 all_fail_so P Q (Err e) f it = fails_so P Q e f it
 
 -- an archive has tables
-pub not_both : (s : Schema) → s ≡ no_schema → s ≡ archive_schema → ⊥
-not_both s none has = let e : no_schema.tables ≡ archive_schema.tables = ap (λ (x : Schema). x.tables) (sym none ∙ has) in absurd (cc)
+pub not_both : (s : Schema) → s ≡ no_schema → HasArchive s → ⊥
+not_both s none has = let e : no_schema.tables ≡ archive_tables ++ has.tables.others = ap (λ (x : Schema). x.tables) (sym none) ∙ has.tables.are in absurd (cc)
 
 -- what is opened of a database that had nothing, or that is as it was, is the archive of that
 pub archive_of : (found mid archive : Database) → (mid ≡ found) ⊎ (found.schema ≡ no_schema) → IsArchiveOf mid archive → IsArchiveOf found archive
@@ -53,7 +54,7 @@ archive_of found mid archive (inr none) is = record {
 -- a part follows also as it is once it is opened
 pub follows_opened : (found mid archive : Database) → IsArchiveOf mid archive → FollowsFound found mid → FollowsFound found archive
 follows_opened found mid archive is (old, of, on) =
-    (old, of, subst (λ (d : Database). FollowsOn old d) (sym (is.same on.made.schema)) on)
+    (old, of, subst (λ (d : Database). FollowsOn old d) (sym (is.same (made_is _ on.made.schema))) on)
 
 -- what was done to two files was this too
 pub done_so : {D : Type 0} (g : disk.Ghosts D) (image : Image) (P Q : Database → Database → Type 0) → ((found left : Database) → P found left → Q found left)

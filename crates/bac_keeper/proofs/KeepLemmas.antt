@@ -12,7 +12,7 @@ use Rattle.bac_hearing.specs.Hearing.{StartedClock}
 use Rattle.bac_ports.specs.Sockets.{SocketRules}
 use Rattle.sqlite.specs.Effect.{Database}
 use Rattle.sqlite.specs.State.{State}
-use Rattle.bac_archive.specs.Schema.{OverArchive, archive_schema}
+use Rattle.bac_archive.specs.Schema.{OverArchive, HasArchive}
 use Rattle.bac_asked.specs.AsLog.{Given}
 use Rattle.bac_fetch.proofs.CausesLemmas.{chosen_so}
 use Rattle.bac_fetch.proofs.FaultsLemmas.{ends_so}
@@ -29,7 +29,7 @@ keeping_so rules N M A B f h which before after fault (inr (all, unlisted, betwe
 
 -- so a run ends over what two files held, which became this archive
 pub refused_so : {S P C : Type 0} (rules : SocketRules S P) (clock : StartedClock C) (bars : FileFault → Type 0) (which : Chosen) (given : Given) (found : Database) (archive last : State) (before after : S) (fault : NotDone)
-    → (IsHeld last → IsArchiveOf found archive.now × (archive.now.schema ≡ archive_schema))
+    → (IsHeld last → IsArchiveOf found archive.now × (HasArchive archive.now.schema))
     → OverArchive archive last (EndsRunOver rules clock given which before after archive.now fault)
     → MayFail (λ why. ((error : Error) × (why ≡ of_error error)) ⊎ (IsHeld last → RefusesKeep rules clock bars which given before after found why)) fault
 refused_so rules clock bars which given found archive last before after (done.Asking why) is ends = tt

@@ -7,3 +7,4 @@ pub mod SeekLemmas
 pub mod KeepLemmas
 pub mod PrintLemmas
 pub mod BegunLemmas
+pub mod PartedLemmas

@@ -3,7 +3,6 @@ use Rattle.std.proofs.Common.{◌≡◌, ◌⊎◌, inl, inr, false, ℕ, List, 
 use Rattle.sqlite.specs.State.{State, HasCleanDisk}
 use Rattle.sqlite.specs.declared.error.Error.{Error}
 use Rattle.bac_archive.specs.Logs.{AreLogs}
-use Rattle.bac_archive.specs.Schema.{archive_schema}
 use Rattle.bac_archive.specs.declared.trend_logs.Log.{Log}
 use Rattle.bac_asked.specs.Faults.{IsOfDatabase, RefusesLine, WantsMemory, of_error}
 use Rattle.bac_asked.specs.declared.end.NotDone.{NotDone}
@@ -19,6 +18,7 @@ use Rattle.bac_keeper.proofs.FileLemmas.{database_fails, file_asks, database_fil
 use Rattle.bac_keeper.proofs.NamesLemmas.{may_ask, never_fails}
 use Rattle.bac_kept.specs.Faults.{EndsPrinting, HasNoneOf}
 use Rattle.bac_kept.specs.declared.printing.Shown.{Shown}
+use Rattle.bac_archive.specs.Schema.{HasArchive}
 
 -- memory is wanting, or the output refused a line
 pub printing_fails : (P : FileFault → Type 0) (fault : NotDone) → WantsMemory fault ⊎ RefusesLine fault → MayFail P fault
@@ -27,7 +27,7 @@ printing_fails P fault (inr line) = never_fails P fault (_, line)
 
 -- none of the archive is chosen
 abbrev pub NoneBy : Shown → State → State → Type 0
-NoneBy which archive last = HasCleanDisk last → HasCleanDisk archive × (archive.now.schema ≡ archive_schema → HasNoneOf which archive.now.trees)
+NoneBy which archive last = HasCleanDisk last → HasCleanDisk archive × (HasArchive archive.now.schema → HasNoneOf which archive.now.trees)
 
 -- what a print fails by
 abbrev pub PrintFails : Shown → State → State → NotDone → Type 0
@@ -62,7 +62,7 @@ all_print_ask N (Err e) it = print_asks N e it
 
 -- a log that is meant isn't there
 abbrev pub IsMissing : Meant → State → State → Type 0
-IsMissing which archive last = HasCleanDisk last → archive.now.schema ≡ archive_schema → (known : List Log) × AreLogs archive.now.trees known × (are_there which known ≡ false)
+IsMissing which archive last = HasCleanDisk last → HasArchive archive.now.schema → (known : List Log) × AreLogs archive.now.trees known × (are_there which known ≡ false)
 
 abbrev pub StopFails : Meant → State → State → NotDone → Type 0
 StopFails which found last = MayFail (λ why. ((error : Error) × (why ≡ of_error error)) ⊎ (IsHeld last → RefusesStop which found.now why))

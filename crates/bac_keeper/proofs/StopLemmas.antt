@@ -15,7 +15,6 @@ use Rattle.sqlite.proofs.StateLemmas.{survives_then}
 use Rattle.sqlite_trees.specs.Tree.{Trees}
 use Rattle.bac_archive.proofs.ChangeLemmas.{changes_keep}
 use Rattle.bac_archive.specs.Changes.{ChangesLogs, HasChangedLogs}
-use Rattle.bac_archive.specs.Schema.{archive_schema}
 use Rattle.bac_archive.specs.declared.trend_logs.Log.{Log}
 use Rattle.bac_asked.specs.Lines.{stopped_line}
 use Rattle.bac_asked.specs.declared.end.NotDone.{NotDone}
@@ -28,6 +27,7 @@ use Rattle.bac_keeper.specs.Stops.{Means, StopsArchive, StopsIn, is_meant, stopp
 use Rattle.bac_keeper.specs.declared.stopping.Meant.{Meant}
 use Rattle.bac_print.specs.Output.{Held}
 use Rattle.bac_words.specs.declared.job.Keep.{Keep}
+use Rattle.bac_archive.specs.Schema.{HasArchive}
 
 pub stopped_more : (which : Meant) (xs ys : List Log) → stopped_logs which (xs ++ ys) ≡ stopped_logs which xs ++ stopped_logs which ys
 stopped_more which xs ys = ap (map stopped) (filter-append (is_meant which) xs ys) ∙ map-append stopped (filter (is_meant which) xs) (filter (is_meant which) ys)
@@ -44,14 +44,14 @@ items_of_changes : (a b : Trees) (logs : List Log) → ChangesLogs a b logs → 
 items_of_changes a b logs it = record { items = it.items; logs = changes_keep a b logs it }
 
 -- logs are read, and then some are changed
-pub changes_stay : (old mid new : State) (logs : List Log) → (HasCleanDisk mid → mid.now ≡ old.now) → old.now.schema ≡ archive_schema → Survives old mid (λ _. ⊥)
-    → Survives mid new (λ trees. mid.now.schema ≡ archive_schema → (db : Database) × HasChangedLogs mid.now db logs × (trees ≡ db.trees))
+pub changes_stay : (old mid new : State) (logs : List Log) → (HasCleanDisk mid → mid.now ≡ old.now) → HasArchive old.now.schema → Survives old mid (λ _. ⊥)
+    → Survives mid new (λ trees. HasArchive mid.now.schema → (db : Database) × HasChangedLogs mid.now db logs × (trees ≡ db.trees))
     → HasCleanDisk mid → Survives old new (HasSameItems old.now.trees)
 changes_stay old mid new logs same has one two clean =
     let is = same clean in
-    survives_then old mid new (λ _. ⊥) (λ trees. mid.now.schema ≡ archive_schema → (db : Database) × HasChangedLogs mid.now db logs × (trees ≡ db.trees))
+    survives_then old mid new (λ _. ⊥) (λ trees. HasArchive mid.now.schema → (db : Database) × HasChangedLogs mid.now db logs × (trees ≡ db.trees))
     (HasSameItems old.now.trees) (λ _ db none. absurd none)
-    (λ _ db left. let made = left (ap (λ (d : Database). d.schema) is ∙ has) in
+    (λ _ db left. let made = left (subst (λ (d : Database). HasArchive d.schema) (sym is) has) in
     subst (λ (d : Database). HasSameItems d.trees db) is
     (subst (HasSameItems mid.now.trees) (sym made.2) (items_of_changes mid.now.trees made.0.trees logs made.1.rows)))
     one two

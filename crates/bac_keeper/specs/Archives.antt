@@ -6,7 +6,6 @@ use Rattle.sqlite_trees.specs.Tree.{Trees}
 use Rattle.bac_archive.specs.Archive.{IsArchive}
 use Rattle.bac_archive.specs.Changes.{KeepsLogs as HasLogs}
 use Rattle.bac_archive.specs.Rows.{kept as items_in}
-use Rattle.bac_archive.specs.Schema.{archive_schema}
 use Rattle.bac_asked.specs.declared.end.End.{End}
 use Rattle.bac_asked.specs.declared.wanted.Wanted.{Wanted}
 use Rattle.bac_fetch.specs.Chosen.{AreChosen}
@@ -15,6 +14,7 @@ use Rattle.bac_fetch.specs.Stays.{HasAllOf}
 use Rattle.bac_fetch.specs.declared.keeping.Chosen.{Chosen}
 use Rattle.bac_hearing.specs.Hearing.{StartedClock}
 use Rattle.bac_ports.specs.Sockets.{SocketRules}
+use Rattle.bac_archive.specs.Schema.{HasArchive}
 
 -- a connection is open, and its disk has given back what was written
 abbrev pub IsHeld : State → Type 0
@@ -23,7 +23,7 @@ IsHeld s = HasCleanDisk s × IsTrue s.is_open
 -- an archive is the one that was found, or a new one
 pub record IsArchiveOf (found archive : Database) : Type 0 where
   pub is : IsArchive archive
-  pub same : found.schema ≡ archive_schema → archive ≡ found
+  pub same : HasArchive found.schema → archive ≡ found
 
 -- these logs, of those that were chosen, were kept in the archive, which begins so, and their runs ended so
 pub record KeepsArchive {S P C : Type 0} (rules : SocketRules S P) (clock : StartedClock C) (chosen : Chosen)
@@ -37,7 +37,7 @@ pub record KeepsArchive {S P C : Type 0} (rules : SocketRules S P) (clock : Star
 
 -- of an archive that was found no item and no log is lost
 abbrev pub LosesNothing : Database → Database → Type 0
-LosesNothing found left = found.schema ≡ archive_schema → HasAllOf found.trees left.trees
+LosesNothing found left = HasArchive found.schema → HasAllOf found.trees left.trees
 
 -- an archive has the items of another and no other, and each log under its id, with its instance and its name
 pub record HasSameItems (old new : Trees) : Type 0 where
@@ -46,4 +46,4 @@ pub record HasSameItems (old new : Trees) : Type 0 where
 
 -- of an archive that was found the items are the same, and no log is lost
 abbrev pub KeepsItems : Database → Database → Type 0
-KeepsItems found left = found.schema ≡ archive_schema → HasSameItems found.trees left.trees
+KeepsItems found left = HasArchive found.schema → HasSameItems found.trees left.trees

@@ -7,35 +7,25 @@ use Rattle.sqlite.specs.Effect.{Database}
 use Rattle.sqlite.specs.declared.error.Error.{Error}
 use Rattle.bac_archive.specs.Archive.{IsOfVersion}
 use Rattle.bac_archive.specs.Rows.{versions}
-use Rattle.bac_archive.specs.Schema.{archive_schema, first_tables, no_schema}
+use Rattle.bac_archive.specs.Schema.{first_tables, no_schema, HasArchive}
 use Rattle.bac_archive.specs.declared.opening.Refused.{Refused}
 use Rattle.bac_archive.specs.declared.opening.Refused.TheVariants as refused
-use Rattle.bac_asked.specs.Faults.{of_error, of_refusal}
+use Rattle.bac_asked.specs.Faults.{of_error, of_refusal, of_unopened}
 use Rattle.bac_asked.specs.Status.{file_status}
 use Rattle.bac_asked.specs.declared.end.NotDone.{NotDone}
 use Rattle.bac_asked.specs.declared.end.NotDone.TheVariants as done
 use Rattle.bac_asked.specs.declared.fault.FileFault.{FileFault}
-use Rattle.bac_asked.specs.declared.fault.FileFault.TheVariants as fault
 use Rattle.bac_print.specs.Output.{Held}
 use Rattle.bac_files.specs.Files.{FileOf, IsDoneTo, IsNamed, IsReason, IsUnclosed, IsUnopened}
 use Rattle.bac_files.specs.declared.disk_files.DiskFiles.{DiskFiles}
 use Rattle.bac_files.specs.declared.not_opened.NotOpened.{NotOpened}
 use Rattle.bac_files.specs.declared.not_opened.NotOpened.TheVariants as why
 
--- the fault of a file that isn't opened
-abbrev pub fault_of : NotOpened → FileFault
-fault_of why.InUse = fault.InUse
-fault_of why.Absent = fault.Absent
-fault_of why.Empty = fault.NoLogs
-fault_of (why.Barred obstacle) = fault.Barred obstacle
-fault_of why.Memory = fault.Memory
-fault_of (why.Database error) = fault.Database error
-
 -- Why a database isn't taken as an archive, of what it held. Of items that lie over one another, or are of no log,
 -- `open` of bac_archive says more, of the rows that the connection read.
 abbrev pub IsRefusedBy : Database → Refused → Type 0
 IsRefusedBy found refused.Foreign =
-    (found.schema ≢ archive_schema) × (found.schema.tables ≢ first_tables) × (found.schema ≢ no_schema)
+    (¬ HasArchive found.schema) × (found.schema.tables ≢ first_tables) × (found.schema ≢ no_schema)
 IsRefusedBy found refused.First = found.schema.tables ≡ first_tables
 IsRefusedBy found refused.Version = IsOfVersion (versions found.trees) → ⊥
 IsRefusedBy found refused.Overlap = Unit {0}
@@ -73,7 +63,7 @@ module _ {F : Type 0} {s : start.Ghosts F} where
   -- wanting for that.
   abbrev pub IsNotOpened : List ℕ → Bool → DiskFiles F s → FileFault → Type 0
   IsNotOpened path may files reason =
-      (refused : NotOpened) × IsUnopened refused files × IsReason may refused × (reason ≡ fault_of refused)
+      (refused : NotOpened) × IsUnopened refused files × IsReason may refused × (reason ≡ of_unopened refused)
       × (refused ≢ why.Memory → IsNamed path may files)
 
   -- Why the file of a tool is no use: it isn't opened; or it is, and can't be closed, or its database answers by an

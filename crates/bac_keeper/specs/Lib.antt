@@ -5,3 +5,4 @@ pub mod Done
 pub mod Shown
 pub mod Stops
 pub mod Places
+pub mod Parted

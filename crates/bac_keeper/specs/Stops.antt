@@ -3,6 +3,7 @@ use Rattle.std.specs.Prelude.{◌≡◌, ◌≢◌, ◌⊎◌, ℕ, Bool, true, 
 use Rattle.std.specs.Prelude.{IsSome}
 use Rattle.std.specs.List.{filter, list_all, list_any}
 use Rattle.std.specs.Io.KnownBytes.{Appends}
+use Rattle.std.specs.String.{string_bytes}
 use Rattle.clap.specs.Words.{Text}
 use Rattle.sqlite.specs.Effect.{Database}
 use Rattle.sqlite_disk.specs.declared.Disk as disk
@@ -24,11 +25,13 @@ use Rattle.bac_questions.specs.Silent.{is_same_device, is_same_log}
 use Rattle.sqlite_disk.specs.declared.start.Start as start
 use Rattle.bac_asked.specs.declared.fault.FileFault.{FileFault}
 use Rattle.bac_asked.specs.declared.fault.FileFault.TheVariants as fault
-use Rattle.bac_files.specs.Files.{FileOf, IsDoneTo}
+use Rattle.bac_files.specs.Files.{FileOf, IsDoneTo, IsNamed}
+use Rattle.bac_files.specs.Parts.{IsPlaced}
+use Rattle.bac_files.specs.declared.folder.Place.{Place}
 use Rattle.bac_files.specs.declared.disk_files.DiskFiles.{DiskFiles}
 use Rattle.bac_keeper.specs.Archives.{IsArchiveOf}
 use Rattle.bac_keeper.specs.Done.{SeeksNone, given_for, given_of}
-use Rattle.bac_keeper.specs.Ends.{FailsFile, IsNoArchive}
+use Rattle.bac_keeper.specs.Ends.{FailsFile, IsNoArchive, IsNotOpened}
 use Rattle.bac_keeper.specs.declared.stopping.Meant.{Meant}
 use Rattle.bac_keeper.specs.declared.stopping.Meant.TheVariants as meant
 use Rattle.bac_print.specs.Output.{Held}
@@ -99,11 +102,22 @@ RefusesStop which found why = IsNoArchive found why
     × AreLogs archive.trees known
     × (are_there which known ≡ false))
 
--- so the file is no use to `keep --stop`
-abbrev pub FailsToStop : {F : Type 0} {s : start.Ghosts F} → disk.Ghosts (FileOf s) → Image → Keep → DiskFiles F s →
-    FileFault → Type 0
-FailsToStop g image words files why =
-    (which : Meant) × Means words which × FailsFile g image words.file false (RefusesStop which) files why
+module _ {F : Type 0} {s : start.Ghosts F} (g : disk.Ghosts (FileOf s)) (image : Image) where
+  -- so the file of this name is no use to `keep --stop`
+  abbrev pub FailsToStop : Keep → List ℕ → DiskFiles F s → FileFault → Type 0
+  FailsToStop words path files why =
+      (which : Meant) × Means words which × FailsFile g image path false (RefusesStop which) files why
+
+  -- the logs were stopped in the file of the words, or in the newest part of the folder
+  abbrev pub StopsAt : Keep → Held → Held → DiskFiles F s → ℕ → Type 0
+  StopsAt words before after files status = (place : Place) × IsPlaced words.file place
+      × IsNamed (string_bytes place.path) false files × StopsIn g image words before after files.closed status
+
+  -- that file is no use; or it can't be told which one it is
+  abbrev pub FailsToStopAt : Keep → DiskFiles F s → FileFault → Type 0
+  FailsToStopAt words files why =
+      ((place : Place) × IsPlaced words.file place × FailsToStop words (string_bytes place.path) files why)
+      ⊎ IsNotOpened words.file false files why
 
 -- why words mean no logs: `bac log` with those of the one device asks for none; without it, or of more, none is stopped
 abbrev pub MeansNoneBy : List Group → Given → NotDone → Type 0

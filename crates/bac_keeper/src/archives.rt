@@ -8,25 +8,11 @@ ghost use Rattle.bac_archive.specs.Schema.{OverArchive};
 ghost use Rattle.bac_asked.specs.Faults.{of_error};
 ghost use Rattle.bac_files.specs.Files.{IsClosedBy, IsNamed, IsOpenedBy, IsUnclosed};
 ghost use Rattle.bac_keeper.specs.Archives.{IsArchiveOf, IsHeld};
-ghost use Rattle.bac_keeper.specs.Ends.{IsNoArchive, IsNotOpened, IsOfSomeFile, MayFail, fault_of};
+ghost use Rattle.bac_keeper.specs.Ends.{IsNoArchive, IsNotOpened, IsOfSomeFile, MayFail};
 
 use bac_asked::{FileFault, NotDone};
-use bac_files::{DiskFiles, NotOpened};
+use bac_files::DiskFiles;
 use sqlite::{Alter, Connection, Error, FileFrom, FileStore, Start};
-
-/// The fault of a file that isn't opened.
-pub(crate) fn fault_of(why: NotOpened) -> FileFault
-    ensures { result ≡ fault_of why }
-{
-    match why {
-        NotOpened::InUse => FileFault::InUse,
-        NotOpened::Absent => FileFault::Absent,
-        NotOpened::Empty => FileFault::NoLogs,
-        NotOpened::Barred(obstacle) => FileFault::Barred(obstacle),
-        NotOpened::Memory => FileFault::Memory,
-        NotOpened::Database(error) => FileFault::Database(error),
-    }
-}
 
 /// Opens the database of this name; an empty or absent one is made, where it may.
 pub(crate) fn open_file<F: Start>(
@@ -42,7 +28,7 @@ pub(crate) fn open_file<F: Start>(
 {
     match files.open(path, may_make) {
         Ok(conn) => Ok(conn),
-        Err(why) => Err(NotDone::File(fault_of(why))),
+        Err(why) => Err(NotDone::File(FileFault::of_unopened(why))),
     }
 }
 

@@ -5,7 +5,7 @@ ghost use Rattle.sqlite.specs.Held.{state};
 ghost use Rattle.sqlite.specs.State.{HasCleanDisk};
 ghost use Rattle.sqlite_wal.specs.Files.{image_at};
 ghost use Rattle.bac_archive.specs.Parts.{FollowsOn};
-ghost use Rattle.bac_archive.specs.Schema.{OverArchive, archive_schema, no_schema};
+ghost use Rattle.bac_archive.specs.Schema.{OverArchive, no_schema, HasArchive};
 ghost use Rattle.bac_asked.specs.Faults.{of_error};
 ghost use Rattle.bac_files.specs.Files.{IsNamed};
 ghost use Rattle.bac_keeper.specs.Archives.{IsArchiveOf, IsHeld};
@@ -117,7 +117,7 @@ pub(crate) fn begin_archive<A: Alter, G: Start>(
         ⊎ (IsHeld (state A.Store conn.new) → IsNoArchive (state A.Store conn.old).now why
         ⊎ BarsPart ⟦<FileFrom<G> as Disk>⟧ (image_at G.Start) place.old.before parts.new why))) }
     ensures left { IsHeld (state A.Store conn.new)
-        → (state A.Store conn.old).now.schema ≡ archive_schema
+        → HasArchive (state A.Store conn.old).now.schema
         → OnErr result ((state A.Store conn.new).committed ≡ (state A.Store conn.old).committed) }
     ensures clean { HasCleanDisk (state A.Store conn.new) → HasCleanDisk (state A.Store conn.old) }
     ensures place { place.new.path ≡ place.old.path }

@@ -9,10 +9,11 @@
 mod archives;
 mod begun;
 mod keeping;
+mod parts;
 mod printing;
 mod program;
 mod stopping;
 
 pub use bac_asked::Fault;
-pub use bac_files::DiskFiles;
+pub use bac_files::{DiskFiles, FolderFiles, Parts};
 pub use program::{run_keep, run_kept};

@@ -23,7 +23,7 @@ use std::alloc::Global;
 use std::io::Write;
 
 /// The logs that the words choose.
-fn choose(alloc: Global, asked: &Kept) -> Result<Shown, NotDone>
+pub(crate) fn choose(alloc: Global, asked: &Kept) -> Result<Shown, NotDone>
     ensures shows { IfOk result (Shows asked.now) }
     ensures none { IfErr result (ShowsNoneBy asked.now.address asked.now.instance) }
 {

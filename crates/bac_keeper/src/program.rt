@@ -1,58 +1,38 @@
 //! The tools `keep` and `kept`.
 
 ghost use Rattle.std.specs.Prelude.{◌≡◌, ◌⊎◌, Err, IfErr, IfOk, IfSome, OnErr, false, is_some};
-ghost use Rattle.std.specs.Prelude.{◌||◌, true};
+ghost use Rattle.std.specs.Prelude.{◌||◌, map, true};
 ghost use Rattle.std.specs.String.{string_bytes};
 ghost use Rattle.sqlite_wal.specs.Files.{image_at};
 ghost use Rattle.bac_asked.specs.Status.{file_status};
 ghost use Rattle.bac_files.specs.Files.{IsDoneTo, IsNamed, IsUnused};
-ghost use Rattle.bac_files.specs.Parts.{IsPlaced};
+ghost use Rattle.bac_files.specs.Parts.{IsPlaced, Listing};
 ghost use Rattle.bac_keeper.specs.Archives.{KeepsItems, LosesNothing};
 ghost use Rattle.bac_keeper.specs.Begun.{BarsPart, BeginsOn};
 ghost use Rattle.bac_keeper.specs.Done.{EndsKeep, FailsToKeep, KeepsIn};
 ghost use Rattle.bac_keeper.specs.Places.{FailsAt, KeepsAt};
 ghost use Rattle.bac_keeper.specs.Ends.{EndsBy, IsNotOpened, IsOfFile, IsOfSomeFile, IsUntold};
 ghost use Rattle.bac_keeper.specs.Ends.{MayFail};
-ghost use Rattle.bac_keeper.specs.Shown.{EndsPrint, FailsToPrint, PrintsIn};
-ghost use Rattle.bac_keeper.specs.Stops.{EndsStop, FailsToStop, StopsIn};
+ghost use Rattle.bac_keeper.specs.Parted.{IsNoFolder, PrintsFile, PrintsListed, PrintsOfFolder};
+ghost use Rattle.bac_keeper.specs.Shown.{EndsPrint};
+ghost use Rattle.bac_keeper.specs.Stops.{EndsStop, FailsToStopAt, StopsAt};
 ghost use Rattle.bac_hearing.specs.Hearing.{started};
 ghost use Rattle.bac_ports.specs.Sockets.{socket_rules};
 ghost use Rattle.bac_words.specs.Groups.{are_any};
 
-use crate::archives::fault_of;
 use crate::keeping::keep;
+use crate::parts::kept_parts;
 use crate::printing::kept;
 use crate::stopping::stop;
 use bac_asked::{Fault, FileFault, NotDone};
 use bac_desks::Clock;
-use bac_files::{DiskFiles, Place};
+use bac_files::{DiskFiles, Parts, Place};
 use bac_heeding::Heeds;
-use bac_print::write_text;
 use bac_words::{Keep, Kept};
 use sqlite::{FileFrom, Start};
 use sqlite_disk::Disk;
 use std::alloc::Global;
 use std::io::Write;
-
-/// Tells why the file with this name is no use, and answers the exit status.
-fn tell_file<E: Write>(
-    alloc: Global,
-    path: &str,
-    fault: FileFault,
-    errors: &mut E,
-) -> Result<u8, Fault>
-    ensures status { IfOk result (λ status. status ≡ file_status fault) }
-    ensures untold { OnErr result (E.contents errors.new ≡ E.contents errors.old) }
-    ensures memory { IfErr result (λ why. why ≡ Fault.Memory) }
-{
-    match fault.lines(alloc, path) {
-        Ok(text) => {
-            let _ = write_text(errors, text.as_bytes());
-            Ok(fault.status())
-        }
-        Err(_) => Err(Fault::Memory),
-    }
-}
 
 /// The exit status of what was done; a file with this name that is no use is told on the errors.
 fn tell_done<E: Write>(
@@ -69,23 +49,56 @@ fn tell_done<E: Write>(
     match done {
         Ok(status) => Ok(status),
         Err(NotDone::Asking(fault)) => Err(fault),
-        Err(NotDone::File(fault)) => tell_file(alloc, path, fault, errors),
+        Err(NotDone::File(fault)) => fault.tell(alloc, path, errors),
     }
 }
 
-/// Where the archive of the words is kept.
-fn place_of<F: Start>(files: &mut DiskFiles<'_, F>, asked: &Keep) -> Result<Place, NotDone>
+/// Where the archive of the words is kept, which may be made or not, where a part with so many
+/// octets is full.
+fn place_of<F: Start>(
+    files: &mut DiskFiles<'_, F>,
+    asked: &Keep,
+    may_make: bool,
+    full: u64,
+) -> Result<Place, NotDone>
     ensures placed { IfOk result (IsPlaced asked.now.file) }
-    ensures fault { IfErr result (MayFail
-        (IsNotOpened asked.now.file (are_any asked.now.groups) files.new)) }
+    ensures fault { IfErr result (MayFail (IsNotOpened asked.now.file may_make files.new)) }
     ensures file { IfErr result IsOfSomeFile }
     ensures kept { files.new.closed ≡ files.old.closed }
 {
-    let full = u64::from(asked.part) * 1_048_576;
-    match files.place(asked.file.as_str(), asked.groups.are_any(), full) {
+    match files.place(asked.file.as_str(), may_make, full) {
         Ok(place) => Ok(place),
-        Err(why) => Err(NotDone::File(fault_of(why))),
+        Err(why) => Err(NotDone::File(FileFault::of_unopened(why))),
     }
+}
+
+/// The same of `keep --stop`, at the place of its archive: the file, or the newest part.
+fn stop_at<F: Start, O: Write, E: Write>(
+    files: &mut DiskFiles<'_, F>,
+    alloc: Global,
+    asked: &Keep,
+    output: &mut O,
+    errors: &mut E,
+) -> Result<u8, Fault>
+    ensures stopped { IfOk result (λ status. (StopsAt ⟦<FileFrom<F> as Disk>⟧ (image_at F.Start)
+        asked.now (O.contents output.old) (O.contents output.new) files.new status
+        × (E.contents errors.new ≡ E.contents errors.old))
+        ⊎ IsOfFile (FailsToStopAt ⟦<FileFrom<F> as Disk>⟧ (image_at F.Start) asked.now files.new)
+        status) }
+    ensures untold { OnErr result (E.contents errors.new ≡ E.contents errors.old) }
+    ensures stays { IsUnused files.old → IfSome files.new.closed
+        (IsDoneTo ⟦<FileFrom<F> as Disk>⟧ (image_at F.Start) LosesNothing) }
+    ensures items { IsUnused files.old
+        → IfSome files.new.closed (IsDoneTo ⟦<FileFrom<F> as Disk>⟧ (image_at F.Start) KeepsItems) }
+    ensures ends { IfErr result (λ why. EndsStop asked.now (NotDone.Asking why)) }
+{
+    let place = match place_of(files, asked, false, u64::MAX) {
+        Ok(place) => place,
+        Err(fault) => return tell_done(alloc, asked.file.as_str(), Err(fault), errors),
+    };
+    let path = place.path.as_str();
+    let done = stop(files, alloc, asked, path, output);
+    tell_done(alloc, path, done, errors)
 }
 
 /// The same of `keep` without `--stop`, at the place of its archive.
@@ -167,12 +180,11 @@ where
     // With `--stop` they were stopped, and nothing else of the archive changed; no socket is
     // opened, and only that the file is no use is told on the errors.
     ensures stopped { asked.now.stop ≡ true
-        → IfOk result (λ status. ((IsNamed asked.now.file false files.new
-        × StopsIn ⟦<FileFrom<F> as Disk>⟧ (image_at F.Start) asked.now
-        (O.contents output.old) (O.contents output.new) files.new.closed status)
+        → IfOk result (λ status. (StopsAt ⟦<FileFrom<F> as Disk>⟧ (image_at F.Start) asked.now
+        (O.contents output.old) (O.contents output.new) files.new status
         × (E.contents errors.new ≡ E.contents errors.old))
         ⊎ IsOfFile
-        (FailsToStop ⟦<FileFrom<F> as Disk>⟧ (image_at F.Start) asked.now files.new)
+        (FailsToStopAt ⟦<FileFrom<F> as Disk>⟧ (image_at F.Start) asked.now files.new)
         status) }
     ensures untold { asked.now.stop ≡ true
         → OnErr result (E.contents errors.new ≡ E.contents errors.old) }
@@ -193,10 +205,10 @@ where
         → IfErr result (λ why. EndsStop asked.now (NotDone.Asking why)) }
 {
     if asked.stop {
-        let done = stop(files, alloc, asked, output);
-        return tell_done(alloc, asked.file.as_str(), done, errors);
+        return stop_at(files, alloc, asked, output, errors);
     }
-    let place = match place_of(files, asked) {
+    let full = u64::from(asked.part) * 1_048_576;
+    let place = match place_of(files, asked, asked.groups.are_any(), full) {
         Ok(place) => place,
         Err(fault) => return tell_done(alloc, asked.file.as_str(), Err(fault), errors),
     };
@@ -205,27 +217,70 @@ where
     )
 }
 
-/// Does what the words of `bac kept` ask for, and answers the exit status. What the file keeps goes
-/// to the output; a file that is no use is told on the errors, and any other fault is the caller's
-/// to tell.
-pub fn run_kept<F: Start, O: Write, E: Write>(
+/// The same of `kept` without a folder.
+fn kept_file<F: Start, O: Write, E: Write>(
     files: &mut DiskFiles<'_, F>,
     alloc: Global,
     asked: &Kept,
     output: &mut O,
     errors: &mut E,
 ) -> Result<u8, Fault>
-    // What the archive keeps of the logs that the words choose was printed; or the file is no use,
-    // which alone is told on the errors.
-    ensures printed { IfOk result (λ status. ((IsNamed asked.now.file false files.new
-        × PrintsIn ⟦<FileFrom<F> as Disk>⟧ (image_at F.Start) asked.now
-        (O.contents output.old) (O.contents output.new) files.new.closed status)
-        × (E.contents errors.new ≡ E.contents errors.old))
-        ⊎ IsOfFile (FailsToPrint ⟦<FileFrom<F> as Disk>⟧ (image_at F.Start) asked.now files.new)
-        status) }
+    ensures printed { IfOk result (PrintsFile ⟦<FileFrom<F> as Disk>⟧ (image_at F.Start) asked.now
+        (O.contents output.old) (O.contents output.new) (E.contents errors.old)
+        (E.contents errors.new) files.new) }
     ensures untold { OnErr result (E.contents errors.new ≡ E.contents errors.old) }
     ensures ends { IfErr result (λ why. EndsPrint asked.now (NotDone.Asking why)) }
 {
     let done = kept(files, alloc, asked, output);
     tell_done(alloc, asked.file.as_str(), done, errors)
+}
+
+/// The same of a folder.
+fn kept_folder<P: Parts, O: Write, E: Write>(
+    parts: &mut P,
+    alloc: Global,
+    asked: &Kept,
+    paths: &[String],
+    output: &mut O,
+    errors: &mut E,
+) -> Result<u8, Fault>
+    ensures printed { IfOk result (PrintsOfFolder P.holds P.bars asked.now
+        (map string_bytes paths.now) parts.old parts.new (O.contents output.old)
+        (O.contents output.new) (E.contents errors.old) (E.contents errors.new)) }
+    ensures ends { IfErr result (λ why. EndsPrint asked.now (NotDone.Asking why)) }
+{
+    let done = kept_parts(parts, alloc, asked, paths, output, errors);
+    tell_done(alloc, asked.file.as_str(), done, errors)
+}
+
+/// Does what the words of `bac kept` ask for, and answers the exit status. What the file keeps goes
+/// to the output, of a folder what its parts keep, each item once; a file that is no use is told on
+/// the errors, and any other fault is the caller's to tell.
+pub fn run_kept<F: Start, P: Parts, O: Write, E: Write>(
+    files: &mut DiskFiles<'_, F>,
+    folders: &mut P,
+    alloc: Global,
+    asked: &Kept,
+    output: &mut O,
+    errors: &mut E,
+) -> Result<u8, Fault>
+    // What the archive keeps of the logs that the words choose was printed; or the file is no use,
+    // which alone is told on the errors. Of a folder the parts were printed, one after the other.
+    ensures printed { IfOk result (λ status. (listing : Listing) × (listed : P)
+        × P.lists folders.old asked.now.file listing listed
+        × PrintsListed P.holds P.bars ⟦<FileFrom<F> as Disk>⟧ (image_at F.Start) asked.now listing
+        listed folders.new files.old files.new (O.contents output.old) (O.contents output.new)
+        (E.contents errors.old) (E.contents errors.new) status) }
+    ensures ends { IfErr result (λ why. EndsPrint asked.now (NotDone.Asking why)) }
+    // Unless parts were read, nothing is told beside such a fault.
+    ensures untold { OnErr result ((listing : Listing) × (listed : P)
+        × P.lists folders.old asked.now.file listing listed
+        × (IsNoFolder listing → E.contents errors.new ≡ E.contents errors.old)) }
+{
+    let name = asked.file.as_str();
+    match folders.list(name) {
+        Ok(None) => kept_file(files, alloc, asked, output, errors),
+        Ok(Some(paths)) => kept_folder(folders, alloc, asked, &paths, output, errors),
+        Err(why) => FileFault::of_unopened(why).tell(alloc, name, errors),
+    }
 }

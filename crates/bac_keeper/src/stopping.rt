@@ -250,18 +250,20 @@ fn stop_in<A: Alter, O: Write>(
     Ok(0)
 }
 
-/// `bac keep --stop`: opens the archive, stops the logs that the words name, and closes it.
+/// `bac keep --stop`: opens the archive in this file, stops the logs that the words name, and
+/// closes it.
 pub(crate) fn stop<F: Start, O: Write>(
     files: &mut DiskFiles<'_, F>,
     alloc: Global,
     asked: &Keep,
+    path: &str,
     output: &mut O,
 ) -> Result<u8, NotDone>
     ensures stopped { IfOk result (StopsIn ⟦<FileFrom<F> as Disk>⟧ (image_at F.Start) asked.now
         (O.contents output.old) (O.contents output.new) files.new.closed) }
-    ensures named { OnOk result (IsNamed asked.now.file false files.new) }
-    ensures fault { IfErr result
-        (MayFail (FailsToStop ⟦<FileFrom<F> as Disk>⟧ (image_at F.Start) asked.now files.new)) }
+    ensures named { OnOk result (IsNamed path.now false files.new) }
+    ensures fault { IfErr result (MayFail (FailsToStop ⟦<FileFrom<F> as Disk>⟧ (image_at F.Start)
+        asked.now path.now files.new)) }
     ensures stays { IsUnused files.old → IfSome files.new.closed
         (IsDoneTo ⟦<FileFrom<F> as Disk>⟧ (image_at F.Start) LosesNothing) }
     ensures items { IsUnused files.old
@@ -270,7 +272,7 @@ pub(crate) fn stop<F: Start, O: Write>(
 {
     let options = options_of(&asked.options);
     let meant = choose(alloc, asked, &options)?;
-    let mut conn = open_file(files, asked.file.as_str(), false)?;
+    let mut conn = open_file(files, path, false)?;
     let done = stop_in(&mut conn, alloc, &meant, output);
     close_file(files, conn, done)
 }

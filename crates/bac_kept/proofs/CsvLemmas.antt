@@ -1,15 +1,25 @@
 -- What is written as CSV of the items of logs.
-use Rattle.std.proofs.Common.{refl, sym, ap, ◌∙◌, ℕ, List, [], ◌∷◌, ◌++◌, append_assoc, append-nil}
+use Rattle.std.proofs.Common.{refl, sym, ap, subst, ◌∙◌, ℕ, List, [], ◌∷◌, ◌++◌, append_assoc, append-nil, Option, None}
 use Rattle.sqlite_value.specs.Order.{Row as Values}
 use Rattle.bac_archive.specs.declared.trend_logs.Log.{Log}
 use Rattle.bac_kept.specs.declared.printing.Shown.{Shown as Which}
-use Rattle.bac_kept.specs.Csv.{AreRowTexts, IsRowText, WritesLog, WritesLogs}
+use Rattle.bac_kept.specs.declared.seen.Newest.{Newest}
+use Rattle.bac_kept.specs.Csv.{AreRowTexts, IsRowText, WritesBehind, WritesItems, WritesLog, WritesLogs}
+use Rattle.bac_kept.proofs.PrintedLemmas.{all_new}
 
--- the text of one row more
-pub row_more : (log : Log) (rows : List Values) (row : Values) (text one : List ℕ) → AreRowTexts log rows text → IsRowText log row one → AreRowTexts log (rows ++ row ∷ []) (text ++ one)
-row_more log [] row text one all it = (one, [], ap (λ l. l ++ one) all ∙ sym (append-nil one), it, refl)
-row_more log (r ∷ rows) row text one all it =
-    (all.0, all.1 ++ one, ap (λ x. x ++ one) all.2 ∙ append_assoc all.0 all.1 one, all.3, row_more log rows row all.1 one all.4 it)
+-- the text of more rows
+pub texts_more : (log : Log) (rows more : List Values) (text one : List ℕ) → AreRowTexts log rows text → AreRowTexts log more one → AreRowTexts log (rows ++ more) (text ++ one)
+texts_more log [] more text one all it = subst (λ t. AreRowTexts log more (t ++ one)) (sym all) it
+texts_more log (r ∷ rows) more text one all it =
+    (all.0, all.1 ++ one, ap (λ x. x ++ one) all.2 ∙ append_assoc all.0 all.1 one, all.3, texts_more log rows more all.1 one all.4 it)
+
+-- the text of one row
+pub one_text : (log : Log) (row : Values) (text : List ℕ) → IsRowText log row text → AreRowTexts log (row ∷ []) text
+one_text log row text it = (text, [], sym (append-nil text), it, refl)
+
+-- the items of a log behind none are its items
+pub all_written : (log : Log) (items : List Values) (text : List ℕ) (newest : Option Newest) → WritesBehind None log items text newest → WritesItems log items text
+all_written log items text newest it = (it.0, it.1, subst (λ rows. AreRowTexts log rows text) (all_new it.0) it.2)
 
 -- the text of one log more
 pub log_more : (which : Which) (items : List Values) (logs : List Log) (log : Log) (text one : List ℕ) → WritesLogs which items logs text → WritesLog which items log one

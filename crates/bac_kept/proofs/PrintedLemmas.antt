@@ -1,6 +1,8 @@
 -- What is printed of the items of logs.
-use Rattle.std.proofs.Common.{◌≡◌, refl, sym, ap, subst, ◌∙◌, ℕ, pos, List, [], ◌∷◌, ◌++◌, append_assoc, append-nil, Option, None, Some, Result, Ok, Err, OnErr, ◌+◌, ◌<◌, length, take, get_or}
+use Rattle.std.proofs.Common.{◌≡◌, refl, sym, ap, subst, ◌∙◌, ℕ, pos, List, [], ◌∷◌, ◌++◌, append_assoc, append-nil, Option, None, Some, Result, Ok, Err, OnErr, true, false, ◌+◌, ◌<◌, length, take, get_or}
 use Rattle.std.proofs.lemmas.List.{take_more}
+use Rattle.std.proofs.lemmas.List.Elements.{filter-append}
+use Rattle.std.specs.List.{filter}
 use Rattle.std.specs.Io.KnownBytes.{Appends}
 use Rattle.std.proofs.KnownBytes.{Appends-nil, Appends-trans}
 use Rattle.sqlite_value.specs.declared.value.Value.{Value}
@@ -12,7 +14,6 @@ use Rattle.sqlite.specs.Effect.{Database}
 use Rattle.sqlite.specs.State.{State, IsUnchanged, Shown}
 use Rattle.sqlite.specs.Held.{Held as Connected, state}
 use Rattle.sqlite.proofs.Callers.{given_begin}
-use Rattle.bac_archive.specs.Schema.{archive_schema}
 use Rattle.bac_archive.specs.Rows.{kept}
 use Rattle.bac_archive.specs.Items.{AreFirst, AreItems, IsItem, ReadsItems, asked, epoch_in, items_text}
 use Rattle.bac_archive.proofs.ItemsLemmas.{begins_with, shows_items}
@@ -20,7 +21,10 @@ use Rattle.bac_archive.specs.declared.items.Item.{Item}
 use Rattle.bac_print.specs.Output.{AppendsPart, Held}
 use Rattle.bac_archive.specs.declared.trend_logs.Log.{Log}
 use Rattle.bac_kept.specs.declared.printing.Shown.{Shown as Which}
-use Rattle.bac_kept.specs.Printed.{PrintsLog, PrintsLogs, anew_if, item_line, last_at, row_lines, rows_lines}
+use Rattle.bac_kept.specs.Printed.{PrintsBehind, PrintsItems, PrintsLog, PrintsLogs, anew_if, item_line, last_at, lines_behind, row_lines, rows_lines}
+use Rattle.bac_kept.specs.Seen.{epoch_of, is_new, is_newer, item_at, newest_of}
+use Rattle.bac_kept.specs.declared.seen.Newest.{Newest}
+use Rattle.bac_archive.specs.Schema.{HasArchive}
 
 last_says : (value : Value) (last : Option ℕ) → value ≡ or_null (λ n. Int (pos n)) last → last_at value ≡ last
 last_says value None is = ap last_at is
@@ -32,21 +36,63 @@ pub item_says : (before : Option ℕ) (row : Values) (item : Item) → IsItem ro
 item_says before row item it =
     rw (it.epoch, it.number, it.stamp, it.datum, it.flags, sym (last_says (column row 1) item.last it.last)) refl
 
--- the epoch of the last of these rows, or the one before them
-abbrev pub last_epoch : Option ℕ → List Values → Option ℕ
-last_epoch before [] = before
-last_epoch before (row ∷ rows) = last_epoch (Some (epoch_in row)) rows
+-- the newest of rows, with more
+newest_more : (newest : Option Newest) (rows more : List Values) → newest_of newest (rows ++ more) ≡ newest_of (newest_of newest rows) more
+newest_more newest [] more = refl
+newest_more newest (r ∷ rows) more = newest_more (Some (item_at r)) rows more
 
-pub last_epoch_more : (before : Option ℕ) (rows : List Values) (row : Values) → last_epoch before (rows ++ row ∷ []) ≡ Some (epoch_in row)
-last_epoch_more before [] row = refl
-last_epoch_more before (r ∷ rows) row = last_epoch_more (Some (epoch_in r)) rows row
+-- the lines of rows, with more
+lines_more : (newest : Option Newest) (rows more : List Values) → rows_lines (epoch_of newest) (rows ++ more)
+    ≡ rows_lines (epoch_of newest) rows ++ rows_lines (epoch_of (newest_of newest rows)) more
+lines_more newest [] more = refl
+lines_more newest (r ∷ rows) more =
+    ap (λ l. row_lines (epoch_of newest) r ++ l) (lines_more (Some (item_at r)) rows more)
+    ∙ sym (append_assoc (row_lines (epoch_of newest) r) (rows_lines (Some (epoch_in r)) rows) (rows_lines (epoch_of (newest_of (Some (item_at r)) rows)) more))
 
--- the lines of one row more
-pub rows_more : (before : Option ℕ) (rows : List Values) (row : Values) → rows_lines before (rows ++ row ∷ []) ≡ rows_lines before rows ++ row_lines (last_epoch before rows) row
-rows_more before [] row = append-nil (row_lines before row)
-rows_more before (r ∷ rows) row =
-    ap (λ l. row_lines before r ++ l) (rows_more (Some (epoch_in r)) rows row)
-    ∙ sym (append_assoc (row_lines before r) (rows_lines (Some (epoch_in r)) rows) (row_lines (last_epoch (Some (epoch_in r)) rows) row))
+module _ (behind : Option Newest) (rows : List Values) (row : Values) where
+  new_more : filter (is_new behind) (rows ++ row ∷ []) ≡ filter (is_new behind) rows ++ filter (is_new behind) (row ∷ [])
+  new_more = filter-append (is_new behind) rows (row ∷ [])
+
+  -- the newest of those that lie behind an item, with one row more
+  pub newest_behind_more : newest_of behind (filter (is_new behind) (rows ++ row ∷ []))
+      ≡ newest_of (newest_of behind (filter (is_new behind) rows)) (filter (is_new behind) (row ∷ []))
+  newest_behind_more = ap (newest_of behind) new_more ∙ newest_more behind (filter (is_new behind) rows) (filter (is_new behind) (row ∷ []))
+
+  -- and their lines
+  pub lines_behind_more : lines_behind behind (rows ++ row ∷ [])
+      ≡ lines_behind behind rows ++ rows_lines (epoch_of (newest_of behind (filter (is_new behind) rows))) (filter (is_new behind) (row ∷ []))
+  lines_behind_more = ap (rows_lines (epoch_of behind)) new_more ∙ lines_more behind (filter (is_new behind) rows) (filter (is_new behind) (row ∷ []))
+
+-- all rows lie behind none
+pub all_new : (rows : List Values) → filter (is_new None) rows ≡ rows
+all_new [] = refl
+all_new (r ∷ rows) = ap (λ l. r ∷ l) (all_new rows)
+
+-- the items of a log behind none are its items
+pub all_printed : (log : ℕ) (items : List Values) (text : List ℕ) (newest : Option Newest) → PrintsBehind None log items text newest → PrintsItems log items text
+all_printed log items text newest it = (it.0, it.1, it.2 ∙ ap (rows_lines None) (all_new it.0))
+
+module _ (behind newest : Option Newest) (row : Values) (item : Item) (is : IsItem row item) where
+  same_is : is_newer behind item.epoch item.number ≡ is_new behind row
+  same_is = rw (is.epoch, is.number) refl
+
+  -- a row that lies behind an item
+  pub one_new : is_newer behind item.epoch item.number ≡ true → filter (is_new behind) (row ∷ []) ≡ row ∷ []
+  one_new so = rw (sym same_is ∙ so) refl
+
+  -- and one that doesn't
+  pub one_old : is_newer behind item.epoch item.number ≡ false → filter (is_new behind) (row ∷ []) ≡ []
+  one_old so = rw (sym same_is ∙ so) refl
+
+  -- its lines
+  pub one_says : is_newer behind item.epoch item.number ≡ true
+      → (anew_if (epoch_of newest) item.epoch ++ item_line item.number item.last item.stamp.now item.datum.now item.flags.now)
+      ≡ rows_lines (epoch_of newest) (filter (is_new behind) (row ∷ []))
+  one_says so = item_says (epoch_of newest) row item is ∙ sym (append-nil (row_lines (epoch_of newest) row)) ∙ ap (rows_lines (epoch_of newest)) (sym (one_new so))
+
+  pub newest_is : is_newer behind item.epoch item.number ≡ true
+      → Some (record { epoch = item.epoch; number = item.number }) ≡ newest_of newest (filter (is_new behind) (row ∷ []))
+  newest_is so = rw (is.epoch, is.number) (ap (newest_of newest) (sym (one_new so)))
 
 -- a text that was written, and then a front of another, are a front of both
 pub then_part : (a b c : Held) (text more : List ℕ) → Appends a b text → AppendsPart b c more → AppendsPart a c (text ++ more)
@@ -63,9 +109,9 @@ pub on_err : {A E : Type 0} (r : Result A E) (X : Type 0) → X → OnErr r X
 on_err (Ok a) X x = tt
 on_err (Err e) X x = x
 
-module _ {S : Type 0} (g : Ghosts S) (log : ℕ) (old : State) (mid : Connected S) (rows : List Values) (has : old.now.schema ≡ archive_schema) (same : IsUnchanged old (state g mid)) where
-  schema_is : (state g mid).now.schema ≡ archive_schema
-  schema_is = ap (λ (d : Database). d.schema) same.0.now_is ∙ has
+module _ {S : Type 0} (g : Ghosts S) (log : ℕ) (old : State) (mid : Connected S) (rows : List Values) (has : HasArchive old.now.schema) (same : IsUnchanged old (state g mid)) where
+  schema_is : HasArchive (state g mid).now.schema
+  schema_is = subst (λ (d : Database). HasArchive d.schema) (sym same.0.now_is) has
 
   -- when no row is left, those that were given are the items of the log as it was
   pub all_given : (new : Connected S) → Shown items_text (asked log) (state g mid) (state g new) rows → AreItems log (kept old.now.trees) rows

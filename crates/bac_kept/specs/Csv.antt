@@ -1,6 +1,7 @@
 -- The rows of `bac kept --csv`.
 use Rattle.std.specs.Prelude.{◌≡◌, ℕ, true, false, List, [], ◌∷◌, ◌++◌, codes, decimal, Option, None, Some, String}
 use Rattle.std.specs.Float.Ieee.{Float, binary64}
+use Rattle.std.specs.List.{filter}
 use Rattle.std.specs.String.{string_bytes}
 use Rattle.ryu.specs.Parse.{parse_float}
 use Rattle.csv.specs.Writing.{default_writer, row_text}
@@ -10,7 +11,9 @@ use Rattle.bac_archive.specs.declared.items.Item.{Item}
 use Rattle.bac_archive.specs.declared.trend_logs.Log.{Log}
 use Rattle.bac_asked.specs.Lines.{place_text}
 use Rattle.bac_kept.specs.Printed.{is_chosen}
+use Rattle.bac_kept.specs.Seen.{is_new, newest_of}
 use Rattle.bac_kept.specs.declared.csv_lines.Fields.{Fields}
+use Rattle.bac_kept.specs.declared.seen.Newest.{Newest}
 use Rattle.bac_kept.specs.declared.printing.Shown.{Shown}
 
 -- the first row
@@ -57,12 +60,16 @@ AreFieldsOf log fields =
     × (fields.instance.items ≡ decimal log.source.instance)
 
 -- the text of the row of an item: the fields of what it says, quoted as RFC 4180 quotes them, and a line feed
-abbrev pub IsRowText : Log → Values → List ℕ → Type 0
-IsRowText log row text = (item : Item) × IsItem row item × (value : List ℕ) × IsValueText item.value value
+abbrev pub IsItemText : Log → Item → List ℕ → Type 0
+IsItemText log item text = (value : List ℕ) × IsValueText item.value value
     × (text ≡ row_text default_writer
     (item_fields (place_text log.source) (device_text log.told.device) (decimal log.source.instance)
     (name_text log.name)
     item value))
+
+-- the text of the item of a row
+abbrev pub IsRowText : Log → Values → List ℕ → Type 0
+IsRowText log row text = (item : Item) × IsItem row item × IsItemText log item text
 
 -- the text of rows, one after the other
 abbrev pub AreRowTexts : Log → List Values → List ℕ → Type 0
@@ -73,6 +80,11 @@ AreRowTexts log (row ∷ rows) text = (one : List ℕ) × (rest : List ℕ) × (
 -- the text of the items of a log, a row each, by rising ids
 abbrev pub WritesItems : Log → List Values → List ℕ → Type 0
 WritesItems log items text = (rows : List Values) × AreItems log.id items rows × AreRowTexts log rows text
+
+-- the text of those that lie behind an item, and the newest of them
+abbrev pub WritesBehind : Option Newest → Log → List Values → List ℕ → Option Newest → Type 0
+WritesBehind behind log items text newest = (rows : List Values) × AreItems log.id items rows
+    × AreRowTexts log (filter (is_new behind) rows) text × (newest ≡ newest_of behind (filter (is_new behind) rows))
 
 -- the text of a log, if it is chosen
 abbrev pub WritesLog : Shown → List Values → Log → List ℕ → Type 0

@@ -1,6 +1,7 @@
 -- What `bac kept` prints of an archive.
 use Rattle.std.specs.Prelude.{◌≡◌, ◌⊎◌, ◌&&◌, ◌==◌, if◌then◌else◌, ℕ, pos, Bool, true, false}
 use Rattle.std.specs.Prelude.{List, [], ◌∷◌, ◌++◌, codes, decimal, Option, None, Some}
+use Rattle.std.specs.List.{filter}
 use Rattle.std.specs.String.{string_eq}
 use Rattle.sqlite_value.specs.declared.value.Value.{Value}
 use Rattle.sqlite_value.specs.declared.value.Value.TheVariants.{Int}
@@ -9,6 +10,8 @@ use Rattle.bac_archive.specs.Items.{AreFirst, AreItems, epoch_in, number_in, tex
 use Rattle.bac_archive.specs.declared.trend_logs.Log.{Log}
 use Rattle.bac_print.specs.Entries.{gap_line}
 use Rattle.bac_print.specs.Output.{AppendsPart, Held}
+use Rattle.bac_kept.specs.Seen.{epoch_of, is_new, newest_of}
+use Rattle.bac_kept.specs.declared.seen.Newest.{Newest}
 use Rattle.bac_kept.specs.declared.printing.Shown.{Shown}
 use Rattle.bac_kept.specs.declared.printing.Shown.TheVariants as shown
 use Rattle.bac_asked.specs.Lines.{source_text, stopped_line}
@@ -48,10 +51,19 @@ rows_lines before (row ∷ rows) = row_lines before row ++ rows_lines (Some (epo
 abbrev pub PrintsItems : ℕ → List Values → List ℕ → Type 0
 PrintsItems log items text = (rows : List Values) × AreItems log items rows × (text ≡ rows_lines None rows)
 
+-- the text of those that lie behind an item
+abbrev pub lines_behind : Option Newest → List Values → List ℕ
+lines_behind behind rows = rows_lines (epoch_of behind) (filter (is_new behind) rows)
+
+-- the text of the items of a log that lie behind one, by rising ids, and the newest of them
+abbrev pub PrintsBehind : Option Newest → ℕ → List Values → List ℕ → Option Newest → Type 0
+PrintsBehind behind log items text newest = (rows : List Values) × AreItems log items rows
+    × (text ≡ lines_behind behind rows) × (newest ≡ newest_of behind (filter (is_new behind) rows))
+
 -- a front of that text was written
-abbrev pub PrintsFront : Held → Held → ℕ → List Values → Type 0
-PrintsFront old new log items =
-    (rows : List Values) × ((rows ≡ []) ⊎ AreFirst log items rows) × AppendsPart old new (rows_lines None rows)
+abbrev pub PrintsFront : Held → Held → Option Newest → ℕ → List Values → Type 0
+PrintsFront old new behind log items = (rows : List Values) × ((rows ≡ []) ⊎ AreFirst log items rows)
+    × AppendsPart old new (lines_behind behind rows)
 
 -- the logs that are chosen: all, those of a device, or one, by address and instance
 abbrev pub is_chosen : Shown → Log → Bool

@@ -1,6 +1,7 @@
 //! What is kept of logs, as CSV (RFC 4180).
 
 ghost use Rattle.std.specs.Prelude.{◌≡◌, ◌∷◌, ◌++◌, [], decimal, map, IfOk, OnOk, List, IfErr};
+ghost use Rattle.std.specs.List.{filter};
 ghost use Rattle.std.specs.Io.KnownBytes.{Appends};
 ghost use Rattle.csv.specs.Writing.{default_writer, row_text};
 ghost use Rattle.sqlite.specs.State.{HasCleanDisk, IsUnchanged};
@@ -8,10 +9,13 @@ ghost use Rattle.sqlite.specs.Held.{state};
 ghost use Rattle.bac_archive.specs.Rows.{kept};
 ghost use Rattle.bac_archive.specs.Schema.{OverArchive};
 ghost use Rattle.bac_kept.specs.Faults.{EndsLines};
-ghost use Rattle.bac_kept.specs.Csv.{AreFieldsOf, IsRowText, IsValueText, WritesItems, device_text};
+ghost use Rattle.bac_kept.specs.Csv.{AreFieldsOf, AreRowTexts, IsItemText, IsValueText};
+ghost use Rattle.bac_kept.specs.Csv.{WritesBehind, device_text};
 ghost use Rattle.bac_kept.specs.Csv.{gap_text, item_fields, name_text, names};
+ghost use Rattle.bac_kept.specs.Seen.{is_new, newest_of};
 ghost use Rattle.bac_asked.specs.Lines.{place_text};
 
+use crate::seen::{Newest, is_newer};
 use bac_archive::{Item, Log, items_of, read_item};
 use bac_asked::{Fault, NotDone, of_error, push_address, push_short};
 use bac_print::{push_number, write_text};
@@ -240,9 +244,9 @@ fn name_of(log: &Log) -> &[u8]
     }
 }
 
-/// Writes the row of the item of a row, and gives its text back, as memory for the next.
-fn write_row<O: Write>(
-    row: &Row,
+/// Writes the row of an item, and gives its text back, as memory for the next.
+fn write_item<O: Write>(
+    item: &Item<'_>,
     text: Vec<u8>,
     fields: &mut Fields,
     log: &Log,
@@ -250,29 +254,69 @@ fn write_row<O: Write>(
 ) -> Result<Vec<u8>, NotDone>
     ensures log { AreFieldsOf log.now fields.old → AreFieldsOf log.now fields.new }
     ensures text { AreFieldsOf log.now fields.old
-        → OnOk result ((text : List _) × IsRowText log.now row.now text
+        → OnOk result ((text : List _) × IsItemText log.now item.now text
         × Appends (O.contents output.old) (O.contents output.new) text) }
+    ensures fault { IfErr result EndsLines }
+{
+    let text = item_row(text, fields, name_of(log), item)?;
+    write_out(text, output)
+}
+
+/// How far the items of a log are written, with the memory of a row's text.
+#[derive(Drop)]
+struct Written {
+    text: Vec<u8>,
+    newest: Option<Newest>,
+}
+
+/// Writes the row of the item of a row, if it lies behind this one.
+fn write_row<O: Write>(
+    row: &Row,
+    written: Written,
+    fields: &mut Fields,
+    log: &Log,
+    behind: Option<Newest>,
+    output: &mut O,
+) -> Result<Written, NotDone>
+    ensures log { AreFieldsOf log.now fields.old → AreFieldsOf log.now fields.new }
+    ensures text { AreFieldsOf log.now fields.old
+        → OnOk result ((text : List _)
+        × AreRowTexts log.now (filter (is_new behind) (row.now ∷ [])) text
+        × Appends (O.contents output.old) (O.contents output.new) text) }
+    ensures newest { IfOk result (λ now. now.newest
+        ≡ newest_of written.newest (filter (is_new behind) (row.now ∷ []))) }
     ensures fault { IfErr result EndsLines }
 {
     let item = match read_item(row) {
         Ok(item) => item,
         Err(error) => return Err(of_error(error)),
     };
-    let text = item_row(text, fields, name_of(log), &item)?;
-    write_out(text, output)
+    if !is_newer(behind, &item) {
+        return Ok(written);
+    }
+    let text = write_item(&item, written.text, fields, log, output)?;
+    Ok(Written {
+        text,
+        newest: Some(Newest {
+            epoch: item.epoch,
+            number: item.number,
+        }),
+    })
 }
 
-/// Writes a row for each item of a log; in that of a gap the datum is `gap FIRST LAST`.
+/// Writes a row for each item of a log that lies behind one, if there is such; in that of a gap the
+/// datum is `gap FIRST LAST`. Answers the newest item that was written, or that one.
 pub(crate) fn write_items<A: Alter, O: Write>(
     alloc: Global,
     conn: &mut Connection<A>,
     log: &Log,
+    behind: Option<Newest>,
     output: &mut O,
-) -> Result<(), NotDone>
+) -> Result<Option<Newest>, NotDone>
     // The rows of its items, in the order of their ids.
     ensures ok { OverArchive (state A.Store conn.old) (state A.Store conn.new)
-        (OnOk result ((text : List _)
-        × WritesItems log.now (kept (state A.Store conn.old).now.trees) text
+        (IfOk result (λ newest. (text : List _)
+        × WritesBehind behind log.now (kept (state A.Store conn.old).now.trees) text newest
         × Appends (O.contents output.old) (O.contents output.new) text)) }
     ensures same { OverArchive (state A.Store conn.old) (state A.Store conn.new)
         (OnOk result (IsUnchanged (state A.Store conn.old) (state A.Store conn.new))) }
@@ -283,7 +327,10 @@ pub(crate) fn write_items<A: Alter, O: Write>(
     let Ok(mut fields) = Fields::of(alloc, log) else {
         return Err(NotDone::Asking(Fault::Memory));
     };
-    let mut text = Vec::new(alloc);
+    let mut written = Written {
+        text: Vec::new(alloc),
+        newest: behind,
+    };
     let mut rows = match items_of(conn, log.id) {
         Ok(rows) => rows,
         Err(error) => return Err(of_error(error)),
@@ -291,10 +338,10 @@ pub(crate) fn write_items<A: Alter, O: Write>(
     'rows: for _ in 0..u64::MAX {
         let row = match rows.next() {
             Ok(Some(row)) => row,
-            Ok(None) => return Ok(()),
+            Ok(None) => return Ok(written.newest),
             Err(error) => return Err(of_error(error)),
         };
-        text = write_row(row, text, &mut fields, log, output)?;
+        written = write_row(row, written, &mut fields, log, behind, output)?;
     }
     Err(of_error(Error::SqliteFailure(ErrorCode::OperationInterrupted)))
 }

@@ -1,17 +1,19 @@
 //! What is kept of logs is printed, in the lines of `bac log`.
 
-ghost use Rattle.std.specs.Prelude.{◌≡◌, ◌∷◌, [], ◌++◌, IfOk, OnOk, OnErr, IfErr};
+ghost use Rattle.std.specs.Prelude.{◌≡◌, ◌∷◌, [], ◌++◌, IfOk, OnOk, OnErr, IfErr, Some};
+ghost use Rattle.std.specs.List.{filter};
 ghost use Rattle.std.specs.Io.KnownBytes.{Appends};
 ghost use Rattle.sqlite.specs.State.{HasCleanDisk, IsUnchanged};
 ghost use Rattle.sqlite.specs.Held.{state};
-ghost use Rattle.bac_archive.specs.Items.{epoch_in};
 ghost use Rattle.bac_archive.specs.Rows.{kept};
 ghost use Rattle.bac_archive.specs.Schema.{OverArchive};
 ghost use Rattle.bac_print.specs.Output.{AppendsPart};
 ghost use Rattle.bac_kept.specs.Faults.{EndsLines};
-ghost use Rattle.bac_kept.specs.Printed.{PrintsFront, PrintsItems, anew_if, item_line, log_line};
-ghost use Rattle.bac_kept.specs.Printed.{row_lines};
+ghost use Rattle.bac_kept.specs.Printed.{PrintsBehind, PrintsFront, anew_if, item_line, log_line};
+ghost use Rattle.bac_kept.specs.Printed.{rows_lines};
+ghost use Rattle.bac_kept.specs.Seen.{epoch_of, is_new, newest_of};
 
+use crate::seen::{Newest, is_newer};
 use bac_archive::{Item, Log, items_of, read_item};
 use bac_asked::{Fault, NotDone, of_error, push_source, push_stopped};
 use bac_print::{push_gap, push_number, write_text};
@@ -93,49 +95,85 @@ pub(crate) fn print_head<O: Write>(alloc: Global, log: &Log, output: &mut O) -> 
     }
 }
 
-/// Prints the lines of the item of a row, behind one of this epoch, and answers its own.
-#[tactic(auto, using(crate::proofs::PrintedLemmas::item_says, crate::proofs::PrintedLemmas::no_part))]
+/// Prints the lines of an item, behind one that was printed before it.
+fn print_item<O: Write>(
+    text: &mut Vec<u8>,
+    item: &Item<'_>,
+    newest: Option<Newest>,
+    output: &mut O,
+) -> Result<Option<Newest>, NotDone>
+    ensures ok { IfOk result (λ now.
+        (now ≡ Some (record { epoch = item.now.epoch; number = item.now.number }))
+        × Appends (O.contents output.old) (O.contents output.new)
+        (anew_if (epoch_of newest) item.now.epoch ++ item_line item.now.number item.now.last
+        item.now.stamp.now item.now.datum.now item.now.flags.now)) }
+    ensures err { OnErr result (AppendsPart (O.contents output.old) (O.contents output.new)
+        (anew_if (epoch_of newest) item.now.epoch ++ item_line item.now.number item.now.last
+        item.now.stamp.now item.now.datum.now item.now.flags.now)) }
+    ensures fault { IfErr result EndsLines }
+{
+    let epoch = match newest {
+        Some(before) => Some(before.epoch),
+        None => None,
+    };
+    if lines_of(text, item, epoch).is_err() {
+        return Err(NotDone::Asking(Fault::Memory));
+    }
+    match write_text(output, text.as_slice()) {
+        Ok(()) => Ok(Some(Newest {
+            epoch: item.epoch,
+            number: item.number,
+        })),
+        Err(_) => Err(NotDone::Asking(Fault::Write)),
+    }
+}
+
+/// Prints the lines of the item of a row, if it lies behind this one, and answers the newest item
+/// that was printed: the one before it was of this epoch.
+#[tactic(auto, using(crate::proofs::PrintedLemmas::no_part))]
 fn print_row<O: Write>(
     row: &Row,
     text: &mut Vec<u8>,
-    epoch: Option<u16>,
+    behind: Option<Newest>,
+    newest: Option<Newest>,
     output: &mut O,
-) -> Result<u16, NotDone>
-    ensures ok { IfOk result (λ now. (now ≡ epoch_in row.now)
-        × Appends (O.contents output.old) (O.contents output.new) (row_lines epoch row.now)) }
-    ensures err { OnErr result
-        (AppendsPart (O.contents output.old) (O.contents output.new) (row_lines epoch row.now)) }
+) -> Result<Option<Newest>, NotDone>
+    ensures ok { IfOk result (λ now.
+        (now ≡ newest_of newest (filter (is_new behind) (row.now ∷ [])))
+        × Appends (O.contents output.old) (O.contents output.new)
+        (rows_lines (epoch_of newest) (filter (is_new behind) (row.now ∷ [])))) }
+    ensures err { OnErr result (AppendsPart (O.contents output.old) (O.contents output.new)
+        (rows_lines (epoch_of newest) (filter (is_new behind) (row.now ∷ [])))) }
     ensures fault { IfErr result EndsLines }
 {
     let item = match read_item(row) {
         Ok(item) => item,
         Err(error) => return Err(of_error(error)),
     };
-    if lines_of(text, &item, epoch).is_err() {
-        return Err(NotDone::Asking(Fault::Memory));
+    if !is_newer(behind, &item) {
+        return Ok(newest);
     }
-    match write_text(output, text.as_slice()) {
-        Ok(()) => Ok(item.epoch),
-        Err(_) => Err(NotDone::Asking(Fault::Write)),
-    }
+    print_item(text, &item, newest, output)
 }
 
-/// Prints each item of a log.
+/// Prints each item of a log that lies behind one, if there is such; answers the newest that was
+/// printed, or that one.
 pub(crate) fn print_items<A: Alter, O: Write>(
     alloc: Global,
     conn: &mut Connection<A>,
     log: &Log,
+    behind: Option<Newest>,
     output: &mut O,
-) -> Result<(), NotDone>
+) -> Result<Option<Newest>, NotDone>
     // The lines of its items, in the order of their ids.
     ensures ok { OverArchive (state A.Store conn.old) (state A.Store conn.new)
-        (OnOk result ((text : _)
-        × PrintsItems log.now.id (kept (state A.Store conn.old).now.trees) text
+        (IfOk result (λ newest. (text : _)
+        × PrintsBehind behind log.now.id (kept (state A.Store conn.old).now.trees) text newest
         × Appends (O.contents output.old) (O.contents output.new) text)) }
     // After a fault a front of them.
     ensures err { OverArchive (state A.Store conn.old) (state A.Store conn.new)
-        (OnErr result (PrintsFront (O.contents output.old) (O.contents output.new) log.now.id
-        (kept (state A.Store conn.old).now.trees))) }
+        (OnErr result (PrintsFront (O.contents output.old) (O.contents output.new) behind
+        log.now.id (kept (state A.Store conn.old).now.trees))) }
     ensures same { OverArchive (state A.Store conn.old) (state A.Store conn.new)
         (OnOk result (IsUnchanged (state A.Store conn.old) (state A.Store conn.new))) }
     ensures clean { OnOk result
@@ -143,7 +181,7 @@ pub(crate) fn print_items<A: Alter, O: Write>(
     ensures fault { IfErr result EndsLines }
 {
     let mut text = Vec::new(alloc);
-    let mut epoch = None;
+    let mut newest = behind;
     let mut rows = match items_of(conn, log.id) {
         Ok(rows) => rows,
         Err(error) => return Err(of_error(error)),
@@ -151,10 +189,10 @@ pub(crate) fn print_items<A: Alter, O: Write>(
     'rows: for _ in 0..u64::MAX {
         let row = match rows.next() {
             Ok(Some(row)) => row,
-            Ok(None) => return Ok(()),
+            Ok(None) => return Ok(newest),
             Err(error) => return Err(of_error(error)),
         };
-        epoch = Some(print_row(row, &mut text, epoch, output)?);
+        newest = print_row(row, &mut text, behind, newest, output)?;
     }
     Err(of_error(Error::SqliteFailure(ErrorCode::OperationInterrupted)))
 }

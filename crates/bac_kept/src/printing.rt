@@ -8,7 +8,7 @@ ghost use Rattle.sqlite.specs.State.{HasCleanDisk};
 ghost use Rattle.sqlite.specs.Held.{state};
 ghost use Rattle.bac_archive.specs.Logs.{AreLogs};
 ghost use Rattle.bac_archive.specs.Rows.{kept};
-ghost use Rattle.bac_archive.specs.Schema.{OverArchive, archive_schema};
+ghost use Rattle.bac_archive.specs.Schema.{OverArchive, HasArchive};
 ghost use Rattle.bac_archive.specs.declared.trend_logs.Log.{Log as LogOf};
 ghost use Rattle.bac_kept.specs.Faults.{EndsLines, EndsPrinting, HasNoneOf};
 ghost use Rattle.bac_kept.specs.Csv.{WritesLog, WritesLogs, names};
@@ -36,7 +36,7 @@ pub enum Shown {
 
 impl Shown {
     /// Whether a log is one of them, by its address and instance alone.
-    fn has(&self, log: &Log) -> bool
+    pub(crate) fn has(&self, log: &Log) -> bool
         ensures { result ≡ is_chosen self.now log.now }
     {
         match self {
@@ -48,7 +48,12 @@ impl Shown {
     }
 
     /// Prints the line that names a log, unless it is the one that was chosen.
-    fn print_head<O: Write>(&self, alloc: Global, log: &Log, output: &mut O) -> Result<(), NotDone>
+    pub(crate) fn print_head<O: Write>(
+        &self,
+        alloc: Global,
+        log: &Log,
+        output: &mut O,
+    ) -> Result<(), NotDone>
         ensures head { OnOk result
             (Appends (O.contents output.old) (O.contents output.new) (head_line self.now log.now)) }
         ensures fault { IfErr result EndsLines }
@@ -83,7 +88,7 @@ fn print_log<A: Alter, O: Write>(
         return Ok(false);
     }
     shown.print_head(alloc, log, output)?;
-    print_items(alloc, conn, log, output)?;
+    print_items(alloc, conn, log, None, output)?;
     Ok(true)
 }
 
@@ -144,7 +149,7 @@ fn write_log<A: Alter, O: Write>(
     if !shown.has(log) {
         return Ok(false);
     }
-    write_items(alloc, conn, log, output)?;
+    write_items(alloc, conn, log, None, output)?;
     Ok(true)
 }
 
@@ -205,7 +210,7 @@ pub fn print_shown<A: Alter, O: Write>(
     ensures fault { IfErr result (EndsPrinting
         (HasCleanDisk (state A.Store conn.new)
         → HasCleanDisk (state A.Store conn.old)
-        × ((state A.Store conn.old).now.schema ≡ archive_schema
+        × (HasArchive (state A.Store conn.old).now.schema
         → HasNoneOf shown.now (state A.Store conn.old).now.trees))) }
 {
     let all = match logs(alloc, conn) {

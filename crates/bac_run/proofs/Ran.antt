@@ -1,5 +1,5 @@
 -- What the program does, by what its tools did.
-use Rattle.std.proofs.Common.{◌≡◌, ℕ, Bool, true, false, List, inl, inr, Option, None, refl, Result, Ok, Err, IfErr, IfOk, OnErr, subst, sym, ◌⊎◌}
+use Rattle.std.proofs.Common.{◌≡◌, ℕ, Bool, true, false, List, inl, inr, Option, None, refl, Result, Ok, Err, IfErr, IfOk, OnErr, subst, sym, ap, ◌∙◌, ◌⊎◌}
 use Rattle.clap.specs.Words.{Text, IsAmong, kind_of}
 use Rattle.sqlite_disk.specs.declared.Disk as disk
 use Rattle.sqlite_disk.specs.declared.start.Start as start
@@ -7,8 +7,11 @@ use Rattle.sqlite_wal.specs.Files.{image_at}
 use Rattle.bac_asked.specs.declared.end.NotDone.{NotDone}
 use Rattle.bac_asked.specs.declared.end.NotDone.TheVariants.{Asking}
 use Rattle.bac_asked.specs.declared.fault.Fault.{Fault as KeepFault}
+use Rattle.bac_asked.specs.declared.fault.Fault.TheVariants.{Memory as NoMemory, Write as Refused}
+use Rattle.bac_check.specs.Checked.{EndsCheck, RefusesCheck}
 use Rattle.bac_asked.specs.declared.fault.FileFault.{FileFault}
-use Rattle.bac_files.specs.Files.{FileOf, IsNamed}
+use Rattle.bac_files.specs.Files.{FileOf}
+use Rattle.bac_files.specs.Parts.{Listing, PartRules}
 use Rattle.bac_files.specs.declared.disk_files.DiskFiles.{DiskFiles}
 use Rattle.bac_hearing.specs.Hearing.{StartedClock}
 use Rattle.bac_heeding.specs.Notes.{nothing}
@@ -16,12 +19,13 @@ use Rattle.bac_heeding.specs.declared.notes.Passed.{Passed}
 use Rattle.bac_keeper.specs.Done.{EndsKeep}
 use Rattle.bac_keeper.specs.Ends.{IsOfFile}
 use Rattle.bac_keeper.specs.Places.{FailsAt, KeepsAt}
-use Rattle.bac_keeper.specs.Shown.{EndsPrint, FailsToPrint, PrintsIn}
-use Rattle.bac_keeper.specs.Stops.{EndsStop, FailsToStop, StopsIn}
+use Rattle.bac_keeper.specs.Parted.{IsNoFolder, PrintsListed}
+use Rattle.bac_keeper.specs.Shown.{EndsPrint}
+use Rattle.bac_keeper.specs.Stops.{EndsStop, FailsToStopAt, StopsAt}
 use Rattle.bac_ports.specs.Sockets.{SocketRules}
 use Rattle.bac_print.specs.Output.{Held}
 use Rattle.bac_run.specs.Faults.{ending_of, fault_of}
-use Rattle.bac_run.specs.Run.{DoesAll, DoesTold, HasFaultStatus, RunsAll, RunsGroups, RunsKeepBy, RunsKept, TellsFault}
+use Rattle.bac_run.specs.Run.{DoesAll, DoesTold, HasFaultStatus, RunsAll, RunsGroups, RunsCheck, RunsKeepBy, RunsKept, TellsFault, EndsUnchecked}
 use Rattle.std.specs.Io.KnownBytes.{Keeps}
 use Rattle.bac_tools.specs.Run.{AskFor, Ends, IsToldAfter, RunsRead}
 use Rattle.bac_tools.specs.Streams.{Streams, streams}
@@ -33,6 +37,7 @@ use Rattle.bac_words.specs.declared.fault.WordsFault.TheVariants.{Usage, BadValu
 use Rattle.bac_words.specs.declared.job.Job.{Job}
 use Rattle.bac_words.specs.declared.job.Job.TheVariants as job
 use Rattle.bac_words.specs.declared.job.Keep.{Keep as KeepWords}
+use Rattle.bac_words.specs.declared.job.Check.{Check as CheckWords}
 use Rattle.bac_words.specs.declared.job.Kept.{Kept as KeptWords}
 use Rattle.bac_words.specs.declared.word.Word.{Word}
 
@@ -73,8 +78,8 @@ pub keep_ran : {S P F G T : Type 0} {s : start.Ghosts F} {t : start.Ghosts G} (g
     (out out' before said errors : Held) (left : DiskFiles F s) (done : Result ℕ KeepFault) (status : ℕ) (stops : Bool)
     → (stops ≡ false → IfOk done (λ n. KeepsAt rules waits g h (image_at s) (image_at t) asked sockets sockets' out out' left parts n
     ⊎ IsOfFile (FailsAt rules waits g h (image_at s) (image_at t) asked sockets sockets' left parts) n))
-    → (stops ≡ true → IfOk done (λ n. ((IsNamed asked.file false left × StopsIn g (image_at s) asked out out' left.closed n) × (said ≡ before))
-    ⊎ IsOfFile (FailsToStop g (image_at s) asked left) n))
+    → (stops ≡ true → IfOk done (λ n. (StopsAt g (image_at s) asked out out' left n × (said ≡ before))
+    ⊎ IsOfFile (FailsToStopAt g (image_at s) asked left) n))
     → (stops ≡ true → OnErr done (said ≡ before))
     → (stops ≡ true → sockets' ≡ sockets)
     → (stops ≡ false → IfErr done (λ why. EndsKeep rules waits g (image_at s) asked sockets sockets' left (Asking why)))
@@ -85,20 +90,64 @@ keep_ran {s = s} {t = t} g h parts waits rules passes asked sockets sockets' out
     told_so (λ n. KeepsAt rules waits g h (image_at s) (image_at t) asked sockets sockets' out out' left parts n)
     (FailsAt rules waits g h (image_at s) (image_at t) asked sockets sockets' left parts) (EndsKeep rules waits g (image_at s) asked sockets sockets' left) (passes sockets') said errors done status (kept refl) (so refl) told
 keep_ran {s = s} {t = t} g h parts waits rules passes asked sockets sockets' out out' before said errors left done status true kept stopped untold silent so still told = (
-  told_alone (λ n. IsNamed asked.file false left × StopsIn g (image_at s) asked out out' left.closed n)
-      (FailsToStop g (image_at s) asked left) (EndsStop asked) (passes sockets') before said errors done status (stopped refl) (untold refl) (still refl) told,
+  told_alone (λ n. StopsAt g (image_at s) asked out out' left n)
+      (FailsToStopAt g (image_at s) asked left) (EndsStop asked) (passes sockets') before said errors done status (stopped refl) (untold refl) (still refl) told,
   silent refl,
 )
 
+-- what was printed by a name has one status
+printed_so : {F Q : Type 0} {s : start.Ghosts F} (g : disk.Ghosts (FileOf s)) (folders : PartRules Q) (p q : Q) (asked : KeptWords) (out out' before said : Held)
+    (files left : DiskFiles F s) (n status : ℕ) → status ≡ n
+    → ((listing : Listing) × (listed : Q) × folders.lists p asked.file listing listed
+    × PrintsListed folders.holds folders.bars g (image_at s) asked listing listed q files left out out' before said n)
+    → ((listing : Listing) × (listed : Q) × folders.lists p asked.file listing listed
+    × PrintsListed folders.holds folders.bars g (image_at s) asked listing listed q files left out out' before said status)
+printed_so {s = s} g folders p q asked out out' before said files left n status is it =
+    (it.0, it.1, it.2, subst (λ m. PrintsListed folders.holds folders.bars g (image_at s) asked it.0 it.1 q files left out out' before said m) (sym is) it.3)
+
 -- `kept`, and its fault is told
-pub kept_ran : {F : Type 0} {s : start.Ghosts F} (g : disk.Ghosts (FileOf s)) (asked : KeptWords) (out out' before said errors : Held)
-    (left : DiskFiles F s) (done : Result ℕ KeepFault) (status : ℕ)
-    → IfOk done (λ n. ((IsNamed asked.file false left × PrintsIn g (image_at s) asked out out' left.closed n) × (said ≡ before)) ⊎ IsOfFile (FailsToPrint g (image_at s) asked left) n)
-    → OnErr done (said ≡ before) → IfErr done (λ why. EndsPrint asked (Asking why)) → Ends nothing (ending_of done) said errors status
-    → RunsKept g asked (streams None out before (tt {0}) (tt {0})) status (streams None out' errors (tt {0}) (tt {0})) left
-kept_ran {s = s} g asked out out' before said errors left done status ok untold so told =
-    told_alone (λ n. IsNamed asked.file false left × PrintsIn g (image_at s) asked out out' left.closed n) (FailsToPrint g (image_at s) asked left) (EndsPrint asked)
-    nothing before said errors done status ok untold so told
+pub kept_ran : {F Q : Type 0} {s : start.Ghosts F} (g : disk.Ghosts (FileOf s)) (folders : PartRules Q) (p q : Q) (asked : KeptWords) (out out' before said errors : Held)
+    (files left : DiskFiles F s) (done : Result ℕ KeepFault) (status : ℕ)
+    → IfOk done (λ n. (listing : Listing) × (listed : Q) × folders.lists p asked.file listing listed
+    × PrintsListed folders.holds folders.bars g (image_at s) asked listing listed q files left out out' before said n)
+    → OnErr done ((listing : Listing) × (listed : Q) × folders.lists p asked.file listing listed × (IsNoFolder listing → said ≡ before))
+    → IfErr done (λ why. EndsPrint asked (Asking why)) → Ends nothing (ending_of done) said errors status
+    → RunsKept g folders p q asked (streams None out before (tt {0}) (tt {0})) files status (streams None out' errors (tt {0}) (tt {0})) left
+kept_ran {s = s} g folders p q asked out out' before said errors files left (Ok n) status ok untold so told =
+    let it = printed_so g folders p q asked out out' before said files left n status told.0 ok in
+    inl (it.0, it.1, it.2, said, told.1, it.3)
+kept_ran {s = s} g folders p q asked out out' before said errors files left (Err why) status ok untold so told =
+    inr (
+      why,
+      so,
+      elim told [
+        | inl its ↦ inl its.0
+        | inr memory ↦ inr memory.0
+      ],
+      untold.0,
+      untold.1,
+      untold.2,
+      λ none. subst (λ (h : Held). IsToldAfter nothing (fault_of why) h errors status) (untold.3 none) told,
+    )
+
+-- `check`, and its fault is told
+pub check_ran : {Q : Type 0} (folders : PartRules Q) (p q : Q) (asked : CheckWords) (out out' before said errors : Held)
+    (done : Result ℕ KeepFault) (status : ℕ)
+    → IfOk done (λ n. EndsCheck folders.lists (record { holds = folders.holds; bars = folders.bars }) p asked.file out out' n q)
+    → IfErr done (λ fault. (fault ≡ NoMemory) ⊎ ((fault ≡ Refused)
+    × RefusesCheck folders.lists (record { holds = folders.holds; bars = folders.bars }) p asked.file out out' q))
+    → IfOk done (λ n. n ≡ 0 → said ≡ before) → Ends nothing (ending_of done) said errors status
+    → RunsCheck folders p q asked (streams None out before (tt {0}) (tt {0})) status (streams None out' errors (tt {0}) (tt {0}))
+check_ran folders p q asked out out' before said errors (Ok n) status ok so quiet told = inl (
+  subst (λ m. EndsCheck folders.lists (record { holds = folders.holds; bars = folders.bars }) p asked.file out out' m q) (sym told.0) ok,
+  λ none. subst (λ (h : Held). Keeps h errors) (quiet (sym told.0 ∙ none)) told.1,
+)
+check_ran folders p q asked out out' before said errors (Err why) status ok so quiet told =
+    inr (status_told (EndsUnchecked folders p q asked (streams None out before (tt {0}) (tt {0})) (streams None out' errors (tt {0}) (tt {0}))) nothing why said errors status
+    (elim so [
+      | inl memory ↦ inl (ap Asking memory)
+      | inr refused ↦ inr (ap Asking refused.0, refused.1)
+    ]) told)
 
 -- what was done of `keep` is the same beside an input and a clock
 pub keep_over : {S P C F G T : Type 0} {s : start.Ghosts F} {t : start.Ghosts G} (g : disk.Ghosts (FileOf s)) (h : disk.Ghosts (FileOf t)) (parts : DiskFiles G t) (waits : StartedClock T) (rules : SocketRules S P) (passes : S → Passed) (asked : KeepWords) (stops : Bool) (old new : Streams S C)
@@ -129,32 +178,34 @@ one_job said a b p q = cc
 pub never_both : {A : Type 0} (said : Result Job Word) (a : Job) (w : Word) → said ≡ Ok a → said ≡ Err w → A
 never_both said a w p q = absurd (cc)
 
-module _ {S P C F G T : Type 0} {s : start.Ghosts F} {t : start.Ghosts G} (traces : S → Bool → S → Type 0) (rules : SocketRules S P) (passes : S → Passed) (tells : C → Option CivilTime → C → Type 0) (g : disk.Ghosts (FileOf s)) (h : disk.Ghosts (FileOf t)) (parts : DiskFiles G t) (waits : StartedClock T)
+module _ {S P C F G T Q : Type 0} {s : start.Ghosts F} {t : start.Ghosts G} (traces : S → Bool → S → Type 0) (rules : SocketRules S P) (passes : S → Passed) (tells : C → Option CivilTime → C → Type 0) (g : disk.Ghosts (FileOf s)) (h : disk.Ghosts (FileOf t)) (parts : DiskFiles G t) (waits : StartedClock T) (folders : PartRules Q) (p q : Q)
     (old new : Streams S C) (files left : DiskFiles F s) (status : ℕ) where
   -- what was done of the job of words
-  pub job_done : (words : List Text) (job asked : Job) → job_in words ≡ Ok job → AskFor words asked → DoesTold g h parts waits traces rules passes tells job old files status new left
-      → RunsAll g h parts waits traces rules passes tells asked old files status new left
-  job_done words job asked is ask does = inr (subst (λ (j : Job). DoesTold g h parts waits traces rules passes tells j old files status new left) (one_job (job_in words) job asked is ask.1) does)
+  pub job_done : (words : List Text) (job asked : Job) → job_in words ≡ Ok job → AskFor words asked → DoesTold g h parts waits folders p q traces rules passes tells job old files status new left
+      → RunsAll g h parts waits folders p q traces rules passes tells asked old files status new left
+  job_done words job asked is ask does = inr (subst (λ (j : Job). DoesTold g h parts waits folders p q traces rules passes tells j old files status new left) (one_job (job_in words) job asked is ask.1) does)
 
   -- words that ask for a job aren't read only without memory
-  pub unread : (words : List Text) (why : WordsFault) → IsRefused words why → RunsRead rules passes tells (Err why) old status new → left ≡ files
-      → (asked : Job) → AskFor words asked → RunsAll g h parts waits traces rules passes tells asked old files status new left
+  pub unread : (words : List Text) (why : WordsFault) → IsRefused words why → RunsRead rules passes tells (Err why) old status new → (left ≡ files) × (q ≡ p)
+      → (asked : Job) → AskFor words asked → RunsAll g h parts waits folders p q traces rules passes tells asked old files status new left
   unread words (Usage e) refused ran same asked ask = absurd (subst (λ kinds. IsAmong (kind_of e) kinds) ask.0 refused)
   unread words (BadValue w) refused ran same asked ask = never_both (job_in words) asked w ask.1 refused.1
   unread words (LongNumber w) refused ran same asked ask = never_both (job_in words) asked w ask.1 refused.1
-  unread words Memory refused ran same asked ask = inl (ran, same)
+  unread words Memory refused ran same asked ask = inl (ran, same.0, same.1)
 
-module _ {S P C F G T : Type 0} {s : start.Ghosts F} {t : start.Ghosts G} (rules : SocketRules S P) (passes : S → Passed) (tells : C → Option CivilTime → C → Type 0) (g : disk.Ghosts (FileOf s)) (h : disk.Ghosts (FileOf t)) (parts : DiskFiles G t) (waits : StartedClock T)
+module _ {S P C F G T Q : Type 0} {s : start.Ghosts F} {t : start.Ghosts G} (rules : SocketRules S P) (passes : S → Passed) (tells : C → Option CivilTime → C → Type 0) (g : disk.Ghosts (FileOf s)) (h : disk.Ghosts (FileOf t)) (parts : DiskFiles G t) (waits : StartedClock T) (folders : PartRules Q) (p q : Q)
     (old new : Streams S C) (files left : DiskFiles F s) (status : ℕ) where
   -- a job of another tool than `keep` and `kept` was done beside the files
   pub other_done : (asked : Job) → ((words : KeepWords) → asked ≡ job.Keep words → ⊥) → ((words : KeptWords) → asked ≡ job.Kept words → ⊥)
-      → RunsRead rules passes tells (Ok asked) old status new → left ≡ files → DoesAll g h parts waits rules passes tells asked old files status new left
-  other_done job.Replay none never ran same = (ran, same)
-  other_done (job.Wi stations min max dnet local timeout trace) none never ran same = (ran, same)
-  other_done (job.Rp asked object_type instance property index numbers trace) none never ran same = (ran, same)
-  other_done (job.Wp asked object_type instance property priority given index trace) none never ran same = (ran, same)
-  other_done (job.Log asked instance from steps count csv trace) none never ran same = (ran, same)
-  other_done (job.Logs asked instances trace) none never ran same = (ran, same)
-  other_done (job.Serve address count) none never ran same = (ran, same)
-  other_done (job.Keep words) none never ran same = absurd (none words refl)
-  other_done (job.Kept words) none never ran same = absurd (never words refl)
+      → ((words : CheckWords) → asked ≡ job.Check words → ⊥)
+      → RunsRead rules passes tells (Ok asked) old status new → (left ≡ files) × (q ≡ p) → DoesAll g h parts waits folders p q rules passes tells asked old files status new left
+  other_done job.Replay none never apart ran same = (ran, same.0, same.1)
+  other_done (job.Wi stations min max dnet local timeout trace) none never apart ran same = (ran, same.0, same.1)
+  other_done (job.Rp asked object_type instance property index numbers trace) none never apart ran same = (ran, same.0, same.1)
+  other_done (job.Wp asked object_type instance property priority given index trace) none never apart ran same = (ran, same.0, same.1)
+  other_done (job.Log asked instance from steps count csv trace) none never apart ran same = (ran, same.0, same.1)
+  other_done (job.Logs asked instances trace) none never apart ran same = (ran, same.0, same.1)
+  other_done (job.Serve address count) none never apart ran same = (ran, same.0, same.1)
+  other_done (job.Keep words) none never apart ran same = absurd (none words refl)
+  other_done (job.Kept words) none never apart ran same = absurd (never words refl)
+  other_done (job.Check words) none never apart ran same = absurd (apart words refl)

@@ -8,7 +8,10 @@ use Rattle.sqlite_wal.specs.Files.{image_at}
 use Rattle.bac_asked.specs.declared.end.NotDone.{NotDone}
 use Rattle.bac_asked.specs.declared.end.NotDone.TheVariants.{Asking}
 use Rattle.bac_asked.specs.declared.fault.Fault.{Fault as KeepFault}
-use Rattle.bac_files.specs.Files.{FileOf, IsNamed}
+use Rattle.bac_asked.specs.declared.fault.Fault.TheVariants.{Memory as NoMemory, Write as Refused}
+use Rattle.bac_check.specs.Checked.{EndsCheck, RefusesCheck}
+use Rattle.bac_files.specs.Files.{FileOf}
+use Rattle.bac_files.specs.Parts.{Listing, PartRules}
 use Rattle.bac_files.specs.declared.disk_files.DiskFiles.{DiskFiles}
 use Rattle.bac_hearing.specs.Hearing.{StartedClock}
 use Rattle.bac_heeding.specs.Notes.{nothing}
@@ -16,8 +19,9 @@ use Rattle.bac_heeding.specs.declared.notes.Passed.{Passed}
 use Rattle.bac_keeper.specs.Done.{EndsKeep}
 use Rattle.bac_keeper.specs.Ends.{IsOfFile}
 use Rattle.bac_keeper.specs.Places.{FailsAt, KeepsAt}
-use Rattle.bac_keeper.specs.Shown.{EndsPrint, FailsToPrint, PrintsIn}
-use Rattle.bac_keeper.specs.Stops.{EndsStop, FailsToStop, StopsIn}
+use Rattle.bac_keeper.specs.Parted.{IsNoFolder, PrintsListed}
+use Rattle.bac_keeper.specs.Shown.{EndsPrint}
+use Rattle.bac_keeper.specs.Stops.{EndsStop, FailsToStopAt, StopsAt}
 use Rattle.bac_ports.specs.Sockets.{SocketRules}
 use Rattle.std.specs.Io.KnownBytes.{Keeps}
 use Rattle.bac_print.specs.Output.{Held}
@@ -35,6 +39,7 @@ use Rattle.bac_words.specs.declared.group.Group.{Group}
 use Rattle.bac_words.specs.declared.job.Job.{Job}
 use Rattle.bac_words.specs.declared.job.Job.TheVariants as job
 use Rattle.bac_words.specs.declared.job.Keep.{Keep}
+use Rattle.bac_words.specs.declared.job.Check.{Check}
 use Rattle.bac_words.specs.declared.job.Kept.{Kept}
 use Rattle.bac_words.specs.declared.listing.ListFault.{ListFault}
 
@@ -65,15 +70,39 @@ abbrev pub HasFaultStatus : (NotDone → Type 0) → ℕ → Type 0
 HasFaultStatus ends status =
     (why : KeepFault) × ends (Asking why) × ((status ≡ exit_status (fault_of why)) ⊎ (status ≡ exit_status Memory))
 
-module _ {S C F : Type 0} {s : start.Ghosts F} (g : disk.Ghosts (FileOf s)) where
-  -- `kept`: what the archive keeps of the logs that the words choose was printed; or the file is no use; or a fault is
-  -- told
-  abbrev pub RunsKept : Kept → Streams S C → ℕ → Streams S C → DiskFiles F s → Type 0
-  RunsKept asked old status new left =
-      ((IsNamed asked.file false left × PrintsIn g (image_at s) asked old.output new.output left.closed status)
-      × Keeps old.errors new.errors)
-      ⊎ (IsOfFile (FailsToPrint g (image_at s) asked left) status
-      ⊎ TellsFault (EndsPrint asked) nothing old.errors new.errors status)
+module _ {S C F Q : Type 0} {s : start.Ghosts F} (g : disk.Ghosts (FileOf s)) (folders : PartRules Q) (p q : Q) where
+  -- `kept` ends so, and its status is a fault's; unless parts were read, it alone is told on the errors
+  abbrev pub EndsKept : Kept → Streams S C → ℕ → Streams S C → Type 0
+  EndsKept asked old status new = (why : KeepFault) × EndsPrint asked (Asking why)
+      × ((status ≡ exit_status (fault_of why)) ⊎ (status ≡ exit_status Memory))
+      × (listing : Listing) × (listed : Q) × folders.lists p asked.file listing listed
+      × (IsNoFolder listing → IsToldAfter nothing (fault_of why) old.errors new.errors status)
+
+  -- `kept`: what the archive keeps of the logs that the words choose was printed, of a folder what its parts keep; or
+  -- the file is no use; or the status is a fault's. These are the parts that are read, before and behind that.
+  abbrev pub RunsKept : Kept → Streams S C → DiskFiles F s → ℕ → Streams S C → DiskFiles F s → Type 0
+  RunsKept asked old files status new left =
+      ((listing : Listing) × (listed : Q) × folders.lists p asked.file listing listed
+      × (told : Held) × Keeps told new.errors
+      × PrintsListed folders.holds folders.bars g (image_at s) asked listing listed q files left old.output new.output
+      old.errors told status)
+      ⊎ EndsKept asked old status new
+
+module _ {S C Q : Type 0} (folders : PartRules Q) (p q : Q) where
+  -- why `check` ends before that: memory is wanting; or the output refused the text of what was counted
+  abbrev pub EndsUnchecked : Check → Streams S C → Streams S C → NotDone → Type 0
+  EndsUnchecked asked old new fault = (fault ≡ Asking NoMemory)
+      ⊎ ((fault ≡ Asking Refused)
+      × RefusesCheck folders.lists (record { holds = folders.holds; bars = folders.bars }) p asked.file old.output
+      new.output q)
+
+  -- `check`: the parts were read, and what is counted of them was printed, and nothing is told behind a status of 0; or
+  -- the status is a fault's
+  abbrev pub RunsCheck : Check → Streams S C → ℕ → Streams S C → Type 0
+  RunsCheck asked old status new =
+      (EndsCheck folders.lists (record { holds = folders.holds; bars = folders.bars }) p asked.file old.output
+      new.output status q × (status ≡ 0 → Keeps old.errors new.errors))
+      ⊎ HasFaultStatus (EndsUnchecked asked old new) status
 
 module _ {S C F G T : Type 0} {s : start.Ghosts F} {t : start.Ghosts G} (g : disk.Ghosts (FileOf s))
     (h : disk.Ghosts (FileOf t)) (parts : DiskFiles G t) (waits : StartedClock T) where
@@ -89,9 +118,8 @@ module _ {S C F G T : Type 0} {s : start.Ghosts F} {t : start.Ghosts G} (g : dis
       ⊎ (IsOfFile (FailsAt rules waits g h (image_at s) (image_at t) asked old.sockets new.sockets left parts) status
       ⊎ HasFaultStatus (EndsKeep rules waits g (image_at s) asked old.sockets new.sockets left) status)
   RunsKeepBy rules passes true asked old status new left =
-      (((IsNamed asked.file false left × StopsIn g (image_at s) asked old.output new.output left.closed status)
-      × Keeps old.errors new.errors)
-      ⊎ (IsOfFile (FailsToStop g (image_at s) asked left) status
+      ((StopsAt g (image_at s) asked old.output new.output left status × Keeps old.errors new.errors)
+      ⊎ (IsOfFile (FailsToStopAt g (image_at s) asked left) status
       ⊎ TellsFault (EndsStop asked) (passes new.sockets) old.errors new.errors status))
       × (new.sockets ≡ old.sockets)
 
@@ -124,29 +152,36 @@ module _ {S C F G T : Type 0} {s : start.Ghosts F} {t : start.Ghosts G} (g : dis
   RunsGroups rules passes true asked old files status new left =
       RunsListed rules passes asked old files status new left
 
-  -- The tool of a job. Each other one than `keep` and `kept` leaves the files alone; `kept` opens no socket.
-  abbrev pub DoesAll : {P : Type 0} → SocketRules S P → (S → Passed) → (C → Option CivilTime → C → Type 0) → Job →
-      Streams S C → DiskFiles F s → ℕ → Streams S C → DiskFiles F s → Type 0
-  DoesAll rules passes tells (job.Keep asked) old files status new left =
-      RunsGroups rules passes (reads_input asked) asked old files status new left × (new.clock ≡ old.clock)
-  DoesAll rules passes tells (job.Kept asked) old files status new left =
-      RunsKept g asked old status new left × IsStill old new × (new.sockets ≡ old.sockets)
-  DoesAll rules passes tells other old files status new left = Runs rules passes tells other old status new
-      × (left ≡ files)
+module _ {S C F G T Q : Type 0} {s : start.Ghosts F} {t : start.Ghosts G} (g : disk.Ghosts (FileOf s))
+    (h : disk.Ghosts (FileOf t)) (parts : DiskFiles G t) (waits : StartedClock T) (folders : PartRules Q) (p q : Q)
+  where
+    -- The tool of a job. `keep` works on files; `kept` and `check` read parts, too, and open no socket. Each other one
+    -- leaves the files alone.
+    abbrev pub DoesAll : {P : Type 0} → SocketRules S P → (S → Passed) → (C → Option CivilTime → C → Type 0) → Job →
+        Streams S C → DiskFiles F s → ℕ → Streams S C → DiskFiles F s → Type 0
+    DoesAll rules passes tells (job.Keep asked) old files status new left =
+        RunsGroups g h parts waits rules passes (reads_input asked) asked old files status new left
+        × (new.clock ≡ old.clock) × (q ≡ p)
+    DoesAll rules passes tells (job.Kept asked) old files status new left =
+        RunsKept g folders p q asked old files status new left × IsStill old new × (new.sockets ≡ old.sockets)
+    DoesAll rules passes tells (job.Check asked) old files status new left =
+        RunsCheck folders p q asked old status new × (left ≡ files) × IsStill old new × (new.sockets ≡ old.sockets)
+    DoesAll rules passes tells other old files status new left = Runs rules passes tells other old status new
+        × (left ≡ files) × (q ≡ p)
 
-  -- The sockets are switched on to tell each datagram, or off, as the words say; the tool does its work over these.
-  abbrev pub DoesTold : {P : Type 0} → (S → Bool → S → Type 0) → SocketRules S P → (S → Passed)
-      → (C → Option CivilTime → C → Type 0) →
-      Job → Streams S C → DiskFiles F s → ℕ → Streams S C → DiskFiles F s → Type 0
-  DoesTold traces rules passes tells asked old files status new left =
-      (sockets : S) × traces old.sockets (is_traced asked) sockets
-      × DoesAll rules passes tells asked (streams old.input old.output old.errors sockets old.clock) files status new
-      left
+    -- The sockets are switched on to tell each datagram, or off, as the words say; the tool does its work over these.
+    abbrev pub DoesTold : {P : Type 0} → (S → Bool → S → Type 0) → SocketRules S P → (S → Passed)
+        → (C → Option CivilTime → C → Type 0) →
+        Job → Streams S C → DiskFiles F s → ℕ → Streams S C → DiskFiles F s → Type 0
+    DoesTold traces rules passes tells asked old files status new left =
+        (sockets : S) × traces old.sockets (is_traced asked) sockets
+        × DoesAll rules passes tells asked (streams old.input old.output old.errors sockets old.clock) files status new
+        left
 
-  -- What the words ask for is done; or nothing is, as there is no memory for the words.
-  abbrev pub RunsAll : {P : Type 0} → (S → Bool → S → Type 0) → SocketRules S P → (S → Passed)
-      → (C → Option CivilTime → C → Type 0) →
-      Job → Streams S C → DiskFiles F s → ℕ → Streams S C → DiskFiles F s → Type 0
-  RunsAll traces rules passes tells asked old files status new left =
-      (OnlyTells Memory old status new × (left ≡ files))
-      ⊎ DoesTold traces rules passes tells asked old files status new left
+    -- What the words ask for is done; or nothing is, as there is no memory for the words.
+    abbrev pub RunsAll : {P : Type 0} → (S → Bool → S → Type 0) → SocketRules S P → (S → Passed)
+        → (C → Option CivilTime → C → Type 0) →
+        Job → Streams S C → DiskFiles F s → ℕ → Streams S C → DiskFiles F s → Type 0
+    RunsAll traces rules passes tells asked old files status new left =
+        (OnlyTells Memory old status new × (left ≡ files) × (q ≡ p))
+        ⊎ DoesTold traces rules passes tells asked old files status new left

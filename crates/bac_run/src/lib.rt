@@ -8,5 +8,5 @@
 
 mod program;
 
-pub use bac_keeper::DiskFiles;
+pub use bac_keeper::{DiskFiles, FolderFiles, Parts};
 pub use program::run;

@@ -4,6 +4,7 @@ ghost use Rattle.std.specs.Prelude.{◌≡◌, [], map, None, IfSome};
 ghost use Rattle.std.specs.String.{string_bytes};
 ghost use Rattle.sqlite_wal.specs.Files.{image_at};
 ghost use Rattle.bac_files.specs.Files.{IsDoneTo, IsUnused};
+ghost use Rattle.bac_files.specs.Parts.{part_rules};
 ghost use Rattle.bac_keeper.specs.Archives.{LosesNothing};
 ghost use Rattle.bac_hearing.specs.Hearing.{started};
 ghost use Rattle.bac_ports.specs.Sockets.{socket_rules};
@@ -15,14 +16,15 @@ ghost use Rattle.bac_words.specs.declared.job.Job.{Job as AnyJob};
 ghost use Rattle.bac_words.specs.declared.word.Word.{Word as AnyWord};
 ghost use Rattle.bac_run.specs.Faults.{ending_of, fault_of};
 ghost use Rattle.bac_run.specs.Run.{AskForKept, DoesAll, DoesTold, IsOfKept, RunsAll, RunsGroups};
-ghost use Rattle.bac_run.specs.Run.{RunsKeep, RunsKept, RunsListed};
+ghost use Rattle.bac_run.specs.Run.{RunsCheck, RunsKeep, RunsKept, RunsListed};
 
+use bac_check::run_check;
 use bac_desks::Clock as WaitClock;
 use bac_heeding::{Heeds, Passed};
-use bac_keeper::{DiskFiles, Fault as KeepFault, run_keep, run_kept};
+use bac_keeper::{DiskFiles, Fault as KeepFault, Parts, run_keep, run_kept};
 use bac_tools::{Clock, Fault, listed_devices, run_read, tell_after};
 use bac_trace::Tracing;
-use bac_words::{Job, Keep, Kept, read_words};
+use bac_words::{Check, Job, Keep, Kept, read_words};
 use sqlite::{FileFrom, Start};
 use sqlite_disk::Disk;
 use std::alloc::Global;
@@ -157,26 +159,56 @@ where
 }
 
 /// `kept`, and its fault is told.
-fn print_and_tell<F: Start, O: Write, E: Write>(
+fn print_and_tell<F: Start, Q: Parts, O: Write, E: Write>(
     files: &mut DiskFiles<'_, F>,
+    folders: &mut Q,
     alloc: Global,
     asked: &Kept,
     output: &mut O,
     errors: &mut E,
 ) -> u8
-    ensures { RunsKept ⟦<FileFrom<F> as Disk>⟧ asked.now
-        (streams None (O.contents output.old) (E.contents errors.old) (tt {0}) (tt {0})) result
+    ensures { RunsKept ⟦<FileFrom<F> as Disk>⟧ (part_rules Q.lists Q.holds Q.bars) folders.old
+        folders.new asked.now
+        (streams None (O.contents output.old) (E.contents errors.old) (tt {0}) (tt {0})) files.old
+        result
         (streams None (O.contents output.new) (E.contents errors.new) (tt {0}) (tt {0})) files.new }
 {
-    let done = run_kept(files, alloc, asked, output, errors);
+    let done = run_kept(files, folders, alloc, asked, output, errors);
+    ended(alloc, Passed::nothing(), done, errors)
+}
+
+/// `check`, and its fault is told.
+fn check_and_tell<Q: Parts, O: Write, E: Write>(
+    folders: &mut Q,
+    alloc: Global,
+    asked: &Check,
+    output: &mut O,
+    errors: &mut E,
+) -> u8
+    ensures { RunsCheck (part_rules Q.lists Q.holds Q.bars) folders.old folders.new asked.now
+        (streams None (O.contents output.old) (E.contents errors.old) (tt {0}) (tt {0})) result
+        (streams None (O.contents output.new) (E.contents errors.new) (tt {0}) (tt {0})) }
+{
+    let done = run_check(folders, alloc, asked, output, errors);
     ended(alloc, Passed::nothing(), done, errors)
 }
 
 /// Does what a job asks for, and answers the exit status.
-fn run_job<S: Heeds, F: Start, G: Start, I: Read, O: Write, E: Write, C: Clock, W: WaitClock>(
+fn run_job<
+    S: Heeds,
+    F: Start,
+    G: Start,
+    Q: Parts,
+    I: Read,
+    O: Write,
+    E: Write,
+    C: Clock,
+    W: WaitClock,
+>(
     sockets: &mut S,
     files: &mut DiskFiles<'_, F>,
     parts: &mut DiskFiles<'_, G>,
+    folders: &mut Q,
     alloc: Global,
     waits: W,
     job: Job,
@@ -189,7 +221,7 @@ fn run_job<S: Heeds, F: Start, G: Start, I: Read, O: Write, E: Write, C: Clock, 
 where
     W: Drop,
     ensures ran { DoesAll ⟦<FileFrom<F> as Disk>⟧ ⟦<FileFrom<G> as Disk>⟧ parts.new
-        (started W.reads waits)
+        (started W.reads waits) (part_rules Q.lists Q.holds Q.bars) folders.old folders.new
         (socket_rules S.opens S.closes S.Socket.sends S.Socket.receives S.Socket.receives_within)
         S.passes C.tells job (streams (I.remaining input.old) (O.contents output.old)
         (E.contents errors.old) sockets.old clock.old) files.old result
@@ -203,16 +235,28 @@ where
         Job::Keep(asked) => keep_job(
             sockets, files, parts, alloc, waits, asked, counts, input, output, errors,
         ),
-        Job::Kept(asked) => print_and_tell(files, alloc, &asked, output, errors),
+        Job::Kept(asked) => print_and_tell(files, folders, alloc, &asked, output, errors),
+        Job::Check(asked) => check_and_tell(folders, alloc, &asked, output, errors),
         other => run_read(sockets, alloc, Ok(other), input, output, errors, clock),
     }
 }
 
 /// The same over sockets that tell each datagram, if the words ask for it.
-fn run_told<S: Tracing, F: Start, G: Start, I: Read, O: Write, E: Write, C: Clock, W: WaitClock>(
+fn run_told<
+    S: Tracing,
+    F: Start,
+    G: Start,
+    Q: Parts,
+    I: Read,
+    O: Write,
+    E: Write,
+    C: Clock,
+    W: WaitClock,
+>(
     sockets: &mut S,
     files: &mut DiskFiles<'_, F>,
     parts: &mut DiskFiles<'_, G>,
+    folders: &mut Q,
     alloc: Global,
     waits: W,
     job: Job,
@@ -225,7 +269,7 @@ fn run_told<S: Tracing, F: Start, G: Start, I: Read, O: Write, E: Write, C: Cloc
 where
     W: Drop,
     ensures ran { DoesTold ⟦<FileFrom<F> as Disk>⟧ ⟦<FileFrom<G> as Disk>⟧ parts.new
-        (started W.reads waits) S.traces
+        (started W.reads waits) (part_rules Q.lists Q.holds Q.bars) folders.old folders.new S.traces
         (socket_rules S.opens S.closes S.Socket.sends S.Socket.receives S.Socket.receives_within)
         S.passes C.tells job (streams (I.remaining input.old) (O.contents output.old)
         (E.contents errors.old) sockets.old clock.old) files.old result
@@ -237,7 +281,7 @@ where
 {
     sockets.trace(job.is_traced());
     run_job(
-        sockets, files, parts, alloc, waits, job, counts, input, output, errors, clock,
+        sockets, files, parts, folders, alloc, waits, job, counts, input, output, errors, clock,
     )
 }
 
@@ -245,11 +289,23 @@ where
 /// exit status. Results and help go to the output; faults, and the line of a server that is up, go
 /// to the errors. `counts` is for a terminal: of `keep` the errors have a count of records while a
 /// log is fetched. `waits` is the clock by which `keep` waits for devices that it calls at once.
-/// `parts` are the files of the part of an archive on which another one follows.
-pub fn run<S: Tracing, F: Start, G: Start, I: Read, O: Write, E: Write, C: Clock, W: WaitClock>(
+/// `parts` are the files of the part of an archive on which another one follows, `folders` what the
+/// parts of an archive are read from.
+pub fn run<
+    S: Tracing,
+    F: Start,
+    G: Start,
+    Q: Parts,
+    I: Read,
+    O: Write,
+    E: Write,
+    C: Clock,
+    W: WaitClock,
+>(
     sockets: &mut S,
     files: &mut DiskFiles<'_, F>,
     parts: &mut DiskFiles<'_, G>,
+    folders: &mut Q,
     alloc: Global,
     waits: W,
     words: &[String],
@@ -264,7 +320,7 @@ where
     // The tool that the words name does what they say.
     ensures done { (job : AnyJob) → AskFor (map string_bytes words.now) job
         → RunsAll ⟦<FileFrom<F> as Disk>⟧ ⟦<FileFrom<G> as Disk>⟧ parts.new
-        (started W.reads waits) S.traces
+        (started W.reads waits) (part_rules Q.lists Q.holds Q.bars) folders.old folders.new S.traces
         (socket_rules S.opens S.closes S.Socket.sends S.Socket.receives
         S.Socket.receives_within) S.passes C.tells job
         (streams (I.remaining input.old) (O.contents output.old) (E.contents errors.old)
@@ -277,7 +333,8 @@ where
         (IsDoneTo ⟦<FileFrom<F> as Disk>⟧ (image_at F.Start) LosesNothing) }
     // Of words with a wrong value this is told, and nothing else is done.
     ensures bad_value { (word : AnyWord) → AreWrong (map string_bytes words.now) word
-        → (files.new ≡ files.old) × OnlyTells (wrong_fault (map string_bytes words.now) word)
+        → (files.new ≡ files.old) × (folders.new ≡ folders.old)
+        × OnlyTells (wrong_fault (map string_bytes words.now) word)
         (streams (I.remaining input.old) (O.contents output.old) (E.contents errors.old)
         sockets.old clock.old) result
         (streams (I.remaining input.new) (O.contents output.new) (E.contents errors.new)
@@ -285,7 +342,8 @@ where
     // Words that ask for help or the version have it on the output, those with a mistake on the
     // errors, and nothing else is done.
     ensures explained { (mistakes_of (map string_bytes words.now) ≡ [] → ⊥)
-        → (files.new ≡ files.old) × AnswersWords (map string_bytes words.now)
+        → (files.new ≡ files.old) × (folders.new ≡ folders.old)
+        × AnswersWords (map string_bytes words.now)
         (streams (I.remaining input.old) (O.contents output.old) (E.contents errors.old)
         sockets.old clock.old) result
         (streams (I.remaining input.new) (O.contents output.new) (E.contents errors.new)
@@ -293,7 +351,7 @@ where
 {
     match read_words(alloc, words) {
         Ok(job) => run_told(
-            sockets, files, parts, alloc, waits, job, counts, input, output, errors, clock,
+            sockets, files, parts, folders, alloc, waits, job, counts, input, output, errors, clock,
         ),
         Err(fault) => run_read(sockets, alloc, Err(fault), input, output, errors, clock),
     }

@@ -18,6 +18,7 @@ use Rattle.bac_fetch.specs.Keeps.{greatest_status, lines_of}
 use Rattle.bac_fetch.specs.Unlisted.{fault_status, unlisted_lines, unlisted_status}
 use Rattle.bac_fetch.specs.declared.unlisted.Unlisted.{Unlisted}
 use Rattle.bac_files.specs.Files.{FileOf}
+use Rattle.bac_files.specs.Parts.{PartRules}
 use Rattle.bac_files.specs.declared.disk_files.DiskFiles.{DiskFiles}
 use Rattle.bac_hearing.specs.Hearing.{StartedClock}
 use Rattle.bac_heeding.specs.declared.notes.Passed.{Passed}
@@ -66,6 +67,8 @@ file_is_told fault.Overlap none = absurd (cc)
 file_is_told fault.Orphan none = absurd (cc)
 file_is_told fault.Full none = absurd (cc)
 file_is_told fault.Address none = absurd (cc)
+file_is_told fault.Apart none = absurd (cc)
+file_is_told fault.Holes none = absurd (cc)
 file_is_told fault.Memory none = absurd (cc)
 file_is_told (fault.Database error) none = absurd (cc)
 
@@ -116,8 +119,8 @@ all_caught_up (end ∷ ends) none =
     let both = both_none (end_status end.why) (greatest_status ends) none in
     (ends_caught_up end.why both.0, all_caught_up ends both.1)
 
-module _ {S P C F G T : Type 0} {s : start.Ghosts F} {t : start.Ghosts G} (traces : S → Bool → S → Type 0) (rules : SocketRules S P)
-    (passes : S → Passed) (tells : C → Option CivilTime → C → Type 0) (g : disk.Ghosts (FileOf s)) (h : disk.Ghosts (FileOf t)) (parts : DiskFiles G t) (waits : StartedClock T)
+module _ {S P C F G T Q : Type 0} {s : start.Ghosts F} {t : start.Ghosts G} (traces : S → Bool → S → Type 0) (rules : SocketRules S P)
+    (passes : S → Passed) (tells : C → Option CivilTime → C → Type 0) (g : disk.Ghosts (FileOf s)) (h : disk.Ghosts (FileOf t)) (parts : DiskFiles G t) (waits : StartedClock T) (folders : PartRules Q) (p q : Q)
     (old new : Streams S C)
     (files left : DiskFiles F s) (status : ℕ) where
   -- `keep` over these sockets
@@ -169,18 +172,18 @@ module _ {S P C F G T : Type 0} {s : start.Ghosts F} {t : start.Ghosts G} (trace
   groups_kept true asked told still (Err fault, list, (inr its, output, sockets, same)) none = absurd (let e = its.0 in cc)
 
   -- `keep` that ended with 0
-  pub all_kept : (asked : KeepWords) → RunsAll g h parts waits traces rules passes tells (job.Keep asked) old files status new left
+  pub all_kept : (asked : KeepWords) → RunsAll g h parts waits folders p q traces rules passes tells (job.Keep asked) old files status new left
       → asked.stop ≡ false → status ≡ 0
       → (told : S) × traces old.sockets asked.trace told × (which : KeepWords) × HasDevices (reads_input asked) asked old.input new.input which
       × IsAllKept rules waits g h (image_at s) (image_at t) which told new.sockets old.output new.output left.closed parts
-  all_kept asked (inl ((inl its, keeps, untouched), same)) still none = absurd (let e = its.0 in cc)
-  all_kept asked (inl ((inr its, keeps, untouched), same)) still none = absurd (let e = its.0 in cc)
-  all_kept asked (inr (told, on, (ran, quiet))) still none =
+  all_kept asked (inl ((inl its, keeps, untouched), same, apart)) still none = absurd (let e = its.0 in cc)
+  all_kept asked (inl ((inr its, keeps, untouched), same, apart)) still none = absurd (let e = its.0 in cc)
+  all_kept asked (inr (told, on, (ran, quiet, apart))) still none =
       let it = groups_kept (reads_input asked) asked told still ran none in
       (told, on, it.0, it.1, it.2)
 
   -- `kept` opens no socket
-  pub none_asked : (asked : KeptWords) → RunsAll g h parts waits traces rules passes tells (job.Kept asked) old files status new left
+  pub none_asked : (asked : KeptWords) → RunsAll g h parts waits folders p q traces rules passes tells (job.Kept asked) old files status new left
       → (new.sockets ≡ old.sockets) ⊎ traces old.sockets false new.sockets
-  none_asked asked (inl ((told, keeps, (input, sockets, clock)), same)) = inl sockets
+  none_asked asked (inl ((told, keeps, (input, sockets, clock)), same, apart)) = inl sockets
   none_asked asked (inr (told, off, (ran, still, same))) = inr (subst (λ t. traces old.sockets false t) (sym same) off)

@@ -13,7 +13,7 @@ ghost use Rattle.bac_words.specs.Jobs.{reads_input};
 ghost use Rattle.bac_run_tests.specs.Done.{HasDevices, IsAllKept};
 
 use bac_desks::Clock as WaitClock;
-use bac_run::{DiskFiles, run};
+use bac_run::{DiskFiles, Parts, run};
 use bac_tools::Clock;
 use bac_trace::Tracing;
 use sqlite::{FileFrom, Start};
@@ -28,6 +28,7 @@ pub fn keep_until_done<
     S: Tracing,
     F: Start,
     G: Start,
+    Q: Parts,
     I: Read,
     O: Write,
     E: Write,
@@ -37,6 +38,7 @@ pub fn keep_until_done<
     sockets: &mut S,
     files: &mut DiskFiles<'_, F>,
     parts: &mut DiskFiles<'_, G>,
+    folders: &mut Q,
     alloc: Global,
     waits: W,
     words: &[String],
@@ -58,7 +60,7 @@ where
         sockets.new (O.contents output.old) (O.contents output.new) files.new.closed parts.new }
 {
     run(
-        sockets, files, parts, alloc, waits, words, false, input, output, errors, clock,
+        sockets, files, parts, folders, alloc, waits, words, false, input, output, errors, clock,
     )
 }
 
@@ -68,6 +70,7 @@ pub fn print_kept<
     S: Tracing,
     F: Start,
     G: Start,
+    Q: Parts,
     I: Read,
     O: Write,
     E: Write,
@@ -77,6 +80,7 @@ pub fn print_kept<
     sockets: &mut S,
     files: &mut DiskFiles<'_, F>,
     parts: &mut DiskFiles<'_, G>,
+    folders: &mut Q,
     alloc: Global,
     waits: W,
     words: &[String],
@@ -91,6 +95,6 @@ where
         → (sockets.new ≡ sockets.old) ⊎ S.traces sockets.old false sockets.new }
 {
     run(
-        sockets, files, parts, alloc, waits, words, false, input, output, errors, clock,
+        sockets, files, parts, folders, alloc, waits, words, false, input, output, errors, clock,
     )
 }

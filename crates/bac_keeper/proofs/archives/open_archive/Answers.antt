@@ -3,14 +3,14 @@ use Rattle.sqlite.specs.Effect.{Database}
 use Rattle.sqlite.specs.Held.{state}
 use Rattle.bac_archive.specs.Archive.{IsOfVersion}
 use Rattle.bac_archive.specs.Rows.{versions}
-use Rattle.bac_archive.specs.Schema.{archive_schema, first_tables, no_schema}
+use Rattle.bac_archive.specs.Schema.{first_tables, no_schema, HasArchive}
 use Rattle.bac_archive.specs.declared.opening.Refused.{Refused}
 use Rattle.bac_archive.specs.declared.opening.Refused.TheVariants as refused
 use Rattle.bac_keeper.specs.Ends.{IsRefusedBy}
 use Rattle.bac_keeper.proofs.archives.open_archive.Goals as goal
 
 -- why it is refused, by what `open` says
-refused_by : (found : Database) (why : Refused) → (why ≡ refused.Foreign → (found.schema ≢ archive_schema) × (found.schema.tables ≢ first_tables) × (found.schema ≢ no_schema))
+refused_by : (found : Database) (why : Refused) → (why ≡ refused.Foreign → (¬ HasArchive found.schema) × (found.schema.tables ≢ first_tables) × (found.schema ≢ no_schema))
     → (why ≡ refused.First → found.schema.tables ≡ first_tables) → (why ≡ refused.Version → IsOfVersion (versions found.trees) → ⊥) → IsRefusedBy found why
 refused_by found refused.Foreign foreign first version = foreign refl
 refused_by found refused.First foreign first version = first refl

@@ -1,11 +1,11 @@
-use Rattle.std.proofs.Common.{◌⊎◌, ◌≡◌, ◌∙◌, inl, inr, rules, subst, ap}
+use Rattle.std.proofs.Common.{◌⊎◌, ◌≡◌, ◌∙◌, inl, inr, rules, subst, ap, sym}
 use Rattle.sqlite.below.sqlite_std_file.specs.contracts.host.Host.{the_row}
 use Rattle.sqlite.below.sqlite_std_file.specs.contracts.host.HostCalls.TheImpl as host
 use Rattle.sqlite_disk.specs.contracts.modelled.ModelledDisk.TheImpl as modelled
 use Rattle.sqlite_wal.specs.Files.{image_at}
 use Rattle.sqlite.specs.Effect.{Database}
 use Rattle.sqlite.specs.Held.{Held, state}
-use Rattle.bac_archive.specs.Schema.{no_schema}
+use Rattle.bac_archive.specs.Schema.{no_schema, HasArchive}
 use Rattle.bac_asked.proofs.Results.{because}
 use Rattle.bac_keeper.proofs.BegunLemmas.{all_fail_so, archive_of, bars_made, begins_opened, not_both, on_err_if, on_err_so, on_ok_so}
 use Rattle.bac_keeper.proofs.FileLemmas.{fails_so}
@@ -36,7 +36,7 @@ returns-clause-begun g c clean =
 pub returns-clause-same : goal.returns-clause-same
 returns-clause-same g c clean has =
     elim c.begin_part.ensures.either [
-      | inl same ↦ c.open_archive.ensures.same clean (ap (λ (h : Held _). (state g.A.Store h).now.schema) same ∙ has)
+      | inl same ↦ c.open_archive.ensures.same clean (subst (λ (h : Held _). HasArchive (state g.A.Store h).now.schema) (sym same) has)
       | inr none ↦ absurd (not_both (state g.A.Store c.args.conn.now).now.schema none.0 has)
     ]
 

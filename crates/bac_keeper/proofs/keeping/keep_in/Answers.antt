@@ -9,7 +9,7 @@ use Rattle.bac_asked.proofs.Results.{because}
 use Rattle.bac_keeper.proofs.ArchiveLemmas.{loses_nothing, tells_weaker}
 use Rattle.bac_fetch.specs.Faults.{EndsKeeping, HasNone, LacksAddress}
 use Rattle.bac_keeper.specs.Archives.{IsHeld, KeepsArchive}
-use Rattle.bac_archive.specs.Schema.{OverArchive}
+use Rattle.bac_archive.specs.Schema.{OverArchive, HasArchive}
 use Rattle.bac_keeper.specs.Done.{EndsOver, TellsThese}
 use Rattle.bac_hearing.specs.Hearing.{started}
 use Rattle.bac_ports.specs.Sockets.{socket_rules}
@@ -68,7 +68,7 @@ returns-clause-stays g c held was has =
     loses_nothing found archive last was (c.in_ok-begin_archive.ensures.committed early) same
     (λ db may. g.met.A.Store.settled c.begin_archive.new.conn.store db (c.in_ok-begin_archive.ensures.same early has) may)
     (g.met.A.Store.stays c.keep_chosen.new.conn.store held.1) held.0
-    (c.keep_chosen.ensures.stays held.0 (ap (λ (d : Database). d.schema) same ∙ has))
+    (c.keep_chosen.ensures.stays held.0 (subst (λ (d : Database). HasArchive d.schema) (sym same) has))
 
 pub returns-in_err-status-clause-stays : goal.returns-in_err-status-clause-stays
 returns-in_err-status-clause-stays g c held was has =
@@ -81,7 +81,7 @@ returns-in_err-status-clause-stays g c held was has =
     loses_nothing found archive last was (c.in_ok-begin_archive.ensures.committed early) same
     (λ db may. g.met.A.Store.settled c.begin_archive.new.conn.store db (c.in_ok-begin_archive.ensures.same early has) may)
     (g.met.A.Store.stays c.keep_chosen.new.conn.store held.1) held.0
-    (c.keep_chosen.ensures.stays held.0 (ap (λ (d : Database). d.schema) same ∙ has))
+    (c.keep_chosen.ensures.stays held.0 (subst (λ (d : Database). HasArchive d.schema) (sym same) has))
 
 pub returns-in_err-begin_archive-clause-fault : goal.returns-in_err-begin_archive-clause-fault
 returns-in_err-begin_archive-clause-fault g c =

@@ -1,16 +1,18 @@
-use Rattle.std.proofs.Common.{inl, refl, inr, false}
-use Rattle.bac_files.specs.Files.{IsNamed}
-use Rattle.bac_keeper.proofs.EndLemmas.{ended_untold, not_done}
-use Rattle.bac_keeper.specs.Shown.{EndsPrint}
+use Rattle.std.proofs.Common.{◌≡◌, Ok, Some, map, refl, subst₂, sym, rules}
+use Rattle.std.proofs.lemmas.Result.{IfOk-weaker}
+use Rattle.std.specs.String.{string_bytes}
 use Rattle.bac_keeper.proofs.program.run_kept.Goals as goal
 
-pub returns-clause-printed : goal.returns-clause-printed
-returns-clause-printed g c =
-    let done = c.kept-done in
-    ended_untold (IsNamed c.args.asked.now.file false done.new.files) _ _ done.result c.tell_done.result (g.E.Write.contents c.args.errors.now) (g.E.Write.contents c.tell_done.new.errors)
-    done.ensures.printed done.ensures.named done.ensures.fault c.tell_done.ensures.ends c.tell_done.ensures.said
-
-pub returns-clause-ends : goal.returns-clause-ends
-returns-clause-ends g c =
-    let done = c.kept-done in
-    not_done (EndsPrint c.args.asked.now) done.result c.tell_done.result (inr (inl refl)) done.ensures.ends c.tell_done.ensures.why
+pub returns-in-Ok-Some-clause-printed : goal.returns-in-Ok-Some-clause-printed
+returns-in-Ok-Some-clause-printed g c =
+    let file : c.as_str-name.result.now ≡ c.args.asked.now.file = search rules in
+    let items : c.deref.result.now ≡ c.in-Ok-Some.paths.items = search rules in
+    let told = rw (c.in-Ok-Some.field-0-is) at c.in-Ok-Some.ensures in
+    IfOk-weaker c.kept_folder.result _ _
+    (λ status it. (
+      Ok (Some (map string_bytes c.deref.result.now)),
+      c.list.new.self,
+      subst₂ (λ name paths. g.P.Parts.lists c.args.folders.now name (Ok (Some (map string_bytes paths))) c.list.new.self) file (sym items) told,
+      (it, refl),
+    ))
+    c.kept_folder.ensures.printed

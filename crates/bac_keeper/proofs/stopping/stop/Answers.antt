@@ -1,7 +1,6 @@
-use Rattle.std.proofs.Common.{◌⊎◌, ◌≡◌, ◌∙◌, ℕ, List, false, inl, inr, rules, subst}
+use Rattle.std.proofs.Common.{◌⊎◌, ◌∙◌, false, inl, inr, rules}
 use Rattle.sqlite_wal.specs.Files.{image_at}
 use Rattle.bac_files.specs.Files.{IsNamed}
-use Rattle.bac_keeper.specs.Ends.{IsNotOpened}
 use Rattle.bac_asked.specs.Faults.{RefusesLine, WantsMemory}
 use Rattle.bac_keeper.specs.Stops.{EndsStop, RefusesStop}
 use Rattle.bac_asked.proofs.Results.{because}
@@ -14,24 +13,20 @@ use Rattle.bac_keeper.proofs.stopping.stop.Goals as goal
 
 pub returns-clause-named : goal.returns-clause-named
 returns-clause-named g c =
-    let file : c.as_str.result.now ≡ c.args.asked.now.file = search rules in
-    let named = subst (λ (p : List ℕ). IsNamed p false c.close_file.new.files) file (c.close_file.ensures.named c.as_str.result.now false c.in_ok-conn.ensures.named) in
-    done_named (IsNamed c.args.asked.now.file false c.close_file.new.files) c.close_file.result named
+    done_named (IsNamed c.args.path.now false c.close_file.new.files) c.close_file.result (c.close_file.ensures.named c.args.path.now false c.in_ok-conn.ensures.named)
 
 pub returns-clause-fault : goal.returns-clause-fault
 returns-clause-fault g c =
     let done = c.stop_in-done in
-    let file : c.as_str.result.now ≡ c.args.asked.now.file = search rules in
-    let named = subst (λ (p : List ℕ). IsNamed p false c.close_file.new.files) file (c.close_file.ensures.named c.as_str.result.now false c.in_ok-conn.ensures.named) in
+    let named = c.close_file.ensures.named c.args.path.now false c.in_ok-conn.ensures.named in
     all_fail _ _ c.close_file.result (λ why it. (c.in_ok-meant.meant, c.in_ok-meant.ensures.means, it))
-    (fails_file (image_at g.F.Start) c.in_ok-conn.conn done.new.conn c.close_file.new.files c.in_ok-conn.ensures.opened c.args.asked.now.file false named
+    (fails_file (image_at g.F.Start) c.in_ok-conn.conn done.new.conn c.close_file.new.files c.in_ok-conn.ensures.opened c.args.path.now false named
     (RefusesStop c.in_ok-meant.meant) done.result c.close_file.result (fails_clean _ _ _ done.result done.ensures.clean done.ensures.fault) c.close_file.ensures.fault c.close_file.ensures.shut)
 
 pub returns-in_err-conn-clause-fault : goal.returns-in_err-conn-clause-fault
 returns-in_err-conn-clause-fault g c =
-    let file : c.as_str.result.now ≡ c.args.asked.now.file = search rules in
     because c.from_residual-in_err-conn.result c.in_err-conn.field-0.0 _ (search rules)
-    (fails_so _ _ c.in_err-conn.field-0.0 (λ why it. (c.in_ok-meant.meant, c.in_ok-meant.ensures.means, inl (subst (λ (p : List ℕ). IsNotOpened p false c.open_file.new.files why) file it))) c.in_err-conn.ensures.fault)
+    (fails_so _ _ c.in_err-conn.field-0.0 (λ why it. (c.in_ok-meant.meant, c.in_ok-meant.ensures.means, inl it)) c.in_err-conn.ensures.fault)
 
 pub returns-clause-stopped : goal.returns-clause-stopped
 returns-clause-stopped g c =

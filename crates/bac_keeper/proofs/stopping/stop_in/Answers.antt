@@ -1,4 +1,4 @@
-use Rattle.std.proofs.Common.{◌⊎◌, rules, inl, inr, ◌∙◌, ap}
+use Rattle.std.proofs.Common.{◌⊎◌, rules, inl, inr, ◌∙◌, ap, subst, sym}
 use Rattle.bac_asked.specs.Faults.{RefusesLine, WantsMemory}
 use Rattle.bac_asked.specs.declared.end.NotDone.{NotDone}
 use Rattle.sqlite.specs.Effect.{Database}
@@ -9,6 +9,7 @@ use Rattle.bac_keeper.proofs.ArchiveLemmas.{keeps_items}
 use Rattle.bac_keeper.proofs.FileLemmas.{fails_so, file_asks}
 use Rattle.bac_keeper.proofs.NamesLemmas.{may_ask}
 use Rattle.bac_keeper.proofs.PrintLemmas.{printing_fails, stop_asks, stop_fails}
+use Rattle.bac_archive.specs.Schema.{HasArchive}
 use Rattle.bac_keeper.proofs.stopping.stop_in.Goals as goal
 
 pub returns-in_err-these-clause-stays : goal.returns-in_err-these-clause-stays
@@ -22,7 +23,7 @@ returns-in_err-these-clause-stays g c held was has =
     keeps_items found archive last was (c.in_ok-open_archive.ensures.committed early) same
     (λ db may. g.met.A.Store.settled c.open_archive.new.conn.store db (c.in_ok-open_archive.ensures.same early has) may)
     (g.met.A.Store.stays c.stop_known.new.conn.store held.1) held.0
-    (c.stop_known.ensures.stays held.0 (ap (λ (d : Database). d.schema) same ∙ has))
+    (c.stop_known.ensures.stays held.0 (subst (λ (d : Database). HasArchive d.schema) (sym same) has))
 
 pub returns-in_err-print_stopped-clause-stays : goal.returns-in_err-print_stopped-clause-stays
 returns-in_err-print_stopped-clause-stays g c held was has =
@@ -35,7 +36,7 @@ returns-in_err-print_stopped-clause-stays g c held was has =
     keeps_items found archive last was (c.in_ok-open_archive.ensures.committed early) same
     (λ db may. g.met.A.Store.settled c.open_archive.new.conn.store db (c.in_ok-open_archive.ensures.same early has) may)
     (g.met.A.Store.stays c.stop_known.new.conn.store held.1) held.0
-    (c.stop_known.ensures.stays held.0 (ap (λ (d : Database). d.schema) same ∙ has))
+    (c.stop_known.ensures.stays held.0 (subst (λ (d : Database). HasArchive d.schema) (sym same) has))
 
 pub returns-clause-stays : goal.returns-clause-stays
 returns-clause-stays g c held was has =
@@ -48,7 +49,7 @@ returns-clause-stays g c held was has =
     keeps_items found archive last was (c.in_ok-open_archive.ensures.committed early) same
     (λ db may. g.met.A.Store.settled c.open_archive.new.conn.store db (c.in_ok-open_archive.ensures.same early has) may)
     (g.met.A.Store.stays c.stop_known.new.conn.store held.1) held.0
-    (c.stop_known.ensures.stays held.0 (ap (λ (d : Database). d.schema) same ∙ has))
+    (c.stop_known.ensures.stays held.0 (subst (λ (d : Database). HasArchive d.schema) (sym same) has))
 
 pub returns-in_err-open_archive-clause-fault : goal.returns-in_err-open_archive-clause-fault
 returns-in_err-open_archive-clause-fault g c =

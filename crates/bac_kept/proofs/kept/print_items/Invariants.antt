@@ -1,12 +1,13 @@
-use Rattle.std.proofs.Common.{◌≡◌, List, None}
+use Rattle.std.proofs.Common.{◌≡◌, List}
+use Rattle.std.specs.List.{filter}
 use Rattle.std.specs.Io.KnownBytes.{Appends}
 use Rattle.sqlite_value.specs.Order.{Row as Values}
 use Rattle.sqlite.specs.State.{HasCleanDisk, IsUnchanged}
 use Rattle.sqlite.specs.Held.{state}
 use Rattle.bac_archive.specs.Items.{ReadsItems}
-use Rattle.bac_archive.specs.Schema.{archive_schema}
-use Rattle.bac_kept.specs.Printed.{rows_lines}
-use Rattle.bac_kept.proofs.PrintedLemmas.{last_epoch}
+use Rattle.bac_kept.specs.Printed.{lines_behind}
+use Rattle.bac_kept.specs.Seen.{is_new, newest_of}
+use Rattle.bac_archive.specs.Schema.{HasArchive}
 use Rattle.bac_kept.proofs.kept.print_items.Given as goal
 
 -- the lines of the rows that were given so far are written
@@ -15,6 +16,6 @@ invariant-rows g l =
     let old = state g.A.Store l.fn.conn in
     let now = state g.A.Store l.rows.conn.now in
     (l.rows.conn.ghost_name ≡ l.initial.rows.conn.ghost_name) × (HasCleanDisk now → HasCleanDisk old)
-    × (HasCleanDisk now → old.now.schema ≡ archive_schema
-    → (given : List Values) × ReadsItems g.A.Store l.fn.log.id l.rows.conn.now given × IsUnchanged old now × (l.epoch ≡ last_epoch None given)
-    × Appends (g.O.Write.contents l.fn.output) (g.O.Write.contents l.output) (rows_lines None given))
+    × (HasCleanDisk now → HasArchive old.now.schema
+    → (given : List Values) × ReadsItems g.A.Store l.fn.log.id l.rows.conn.now given × IsUnchanged old now × (l.newest ≡ newest_of l.fn.behind (filter (is_new l.fn.behind) given))
+    × Appends (g.O.Write.contents l.fn.output) (g.O.Write.contents l.output) (lines_behind l.fn.behind given))

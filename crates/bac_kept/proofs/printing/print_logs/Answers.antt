@@ -7,6 +7,7 @@ use Rattle.sqlite.specs.Held.{state}
 use Rattle.bac_archive.specs.Rows.{kept}
 use Rattle.bac_kept.specs.Printed.{is_chosen, PrintsLog, PrintsLogs}
 use Rattle.bac_kept.proofs.PrintedLemmas.{log_more, take_one}
+use Rattle.bac_archive.specs.Schema.{HasArchive}
 use Rattle.bac_kept.proofs.printing.print_logs.Goals as goal
 
 pub loop-log-preserved : goal.loop-log-preserved
@@ -19,7 +20,7 @@ loop-log-preserved g c =
       λ late. c.loop-log.invariant.0 (it.clean late),
       λ late has.
           let was = c.loop-log.invariant.1 (it.clean late) has in
-          let schema = ap (λ (d : Database). d.schema) was.0 ∙ has in
+          let schema = subst (λ (d : Database). HasArchive d.schema) (sym was.0) has in
           let one = it.printed late schema in
           let mine = subst (λ (d : Database). PrintsLog c.args.shown.now (kept d.trees) log one.0) was.0 one.1 in (
             it.same late schema ∙ was.0,

@@ -4,8 +4,8 @@ use Rattle.std.specs.Io.KnownBytes.{Appends}
 use Rattle.sqlite.specs.State.{HasCleanDisk}
 use Rattle.sqlite.specs.Held.{state}
 use Rattle.bac_archive.specs.Rows.{kept}
-use Rattle.bac_archive.specs.Schema.{archive_schema}
 use Rattle.bac_kept.specs.Printed.{is_chosen, PrintsLogs}
+use Rattle.bac_archive.specs.Schema.{HasArchive}
 use Rattle.bac_kept.proofs.printing.print_logs.Given as goal
 
 -- the text of the logs so far is written, and the archive is as it was
@@ -14,7 +14,7 @@ invariant-loop-log g l =
     let old = state g.A.Store l.fn.conn in
     let now = state g.A.Store l.conn in
     (HasCleanDisk now → HasCleanDisk old)
-    × (HasCleanDisk now → old.now.schema ≡ archive_schema → (now.now ≡ old.now)
+    × (HasCleanDisk now → HasArchive old.now.schema → (now.now ≡ old.now)
     × (text : List ℕ) × PrintsLogs l.fn.shown (kept old.now.trees) (take l.log-index l.fn.all) text
     × Appends (g.O.Write.contents l.fn.output) (g.O.Write.contents l.output) text)
     × (l.count ≡ 0 → All (λ log. is_chosen l.fn.shown log ≡ false) (take l.log-index l.fn.all))

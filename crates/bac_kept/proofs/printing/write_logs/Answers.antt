@@ -11,6 +11,7 @@ use Rattle.bac_kept.specs.Csv.{WritesLog, WritesLogs, names}
 use Rattle.bac_kept.specs.Printed.{is_chosen}
 use Rattle.bac_kept.proofs.CsvLemmas.{log_more}
 use Rattle.bac_kept.proofs.PrintedLemmas.{take_one}
+use Rattle.bac_archive.specs.Schema.{HasArchive}
 use Rattle.bac_kept.proofs.printing.write_logs.Goals as goal
 
 pub loop-log-preserved : goal.loop-log-preserved
@@ -24,7 +25,7 @@ loop-log-preserved g c =
       λ late. c.loop-log.invariant.0 (it.clean late),
       λ late has.
           let was = c.loop-log.invariant.1 (it.clean late) has in
-          let schema = ap (λ (d : Database). d.schema) was.0 ∙ has in
+          let schema = subst (λ (d : Database). HasArchive d.schema) (sym was.0) has in
           let one = it.written late schema in
           let mine = subst (λ (d : Database). WritesLog c.args.shown.now (kept d.trees) log one.0) was.0 one.1 in
           let all = Appends-trans (g.O.Write.contents c.args.output.now) (g.O.Write.contents c.loop-log.output) (g.O.Write.contents c.write_log.new.output) (first ++ was.1) one.0 was.3 one.2 in (

@@ -1,0 +1,38 @@
+use Rattle.std.proofs.Common.{◌≡◌, false, ◌++◌, ap, subst, sym, ◌∙◌, rules}
+use Rattle.std.specs.List.{All}
+use Rattle.std.proofs.lemmas.List.Elements.{All-push}
+use Rattle.std.proofs.KnownBytes.{Appends-trans}
+use Rattle.sqlite.specs.Effect.{Database}
+use Rattle.sqlite.specs.Held.{state}
+use Rattle.bac_archive.specs.Rows.{kept}
+use Rattle.bac_kept.specs.Parts.{PrintsMoreOf, PrintsPart}
+use Rattle.bac_kept.specs.Printed.{is_chosen}
+use Rattle.bac_kept.proofs.PrintedLemmas.{take_one}
+use Rattle.bac_kept.proofs.PartsLemmas.{log_more, or_none}
+use Rattle.bac_archive.specs.Schema.{HasArchive}
+use Rattle.bac_kept.proofs.parts.print_each.Goals as goal
+
+pub loop-log-preserved : goal.loop-log-preserved
+loop-log-preserved g c =
+    let old = state g.A.Store c.args.conn.now in
+    let items = kept old.now.trees in
+    let it = c.in_ok-was.ensures in
+    let log = c.log-item.result in
+    let taken = take_one c.args.all.now c.loop-log.log-index log (search rules) (search rules) in (
+      λ late. c.loop-log.invariant.0 (it.clean late),
+      λ late has.
+          let was = c.loop-log.invariant.1 (it.clean late) has in
+          let schema = subst (λ (d : Database). HasArchive d.schema) (sym was.0) has in
+          let one = it.printed late schema in
+          let mine = subst (λ (d : Database). PrintsMoreOf c.args.shown.now c.args.csv log (kept d.trees) c.loop-log.seen one.0 c.print_if.new.seen) was.0 one.1 in (
+            it.same late schema ∙ was.0,
+            was.1 ++ one.0,
+            subst (λ l. PrintsPart c.args.shown.now c.args.csv l items c.args.seen.now (was.1 ++ one.0) c.print_if.new.seen) (sym taken)
+                (log_more c.args.shown.now c.args.csv _ log items c.args.seen.now c.loop-log.seen c.print_if.new.seen was.1 one.0 was.2 mine),
+            Appends-trans (g.O.Write.contents c.args.output.now) (g.O.Write.contents c.loop-log.output) (g.O.Write.contents c.print_if.new.output) was.1 one.0 was.3 one.2,
+          ),
+      λ none.
+          let both = or_none c.loop-log.any c.in_ok-was.was' none in
+          subst (λ l. All (λ log. is_chosen c.args.shown.now log ≡ false) l) (sym taken)
+          (All-push (λ log. is_chosen c.args.shown.now log ≡ false) _ log (c.loop-log.invariant.2 both.0) (sym it.chosen ∙ both.1)),
+    )
