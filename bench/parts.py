@@ -1,11 +1,10 @@
 #!/usr/bin/env python3
-"""parts.py PROGRAM ROOM LOGS: what `PROGRAM keep` of a folder costs, for parts.sh."""
+"""parts.py PROGRAM ROOM LOGS: what `PROGRAM keep` of a folder costs, for parts.sh. years.py takes `cost` of it."""
 import os
 import sqlite3
 import subprocess
 import sys
 
-program, room, logs = sys.argv[1], sys.argv[2], int(sys.argv[3])
 sys.path.insert(0, os.path.join(os.path.dirname(os.path.abspath(__file__)), "..", "examples", "check"))
 from kept_devices import Device, Log, serve  # noqa: E402
 
@@ -41,6 +40,7 @@ def add(file, log, rows):
 
 
 def main():
+    program, room, logs = sys.argv[1], sys.argv[2], int(sys.argv[3])
     device = Device([Log(number, 10) for number in range(1, logs + 1)], "bench")
     for log in device.logs.values():
         log.log(2)
@@ -62,4 +62,5 @@ def main():
     cost("nothing new behind that", keep)
 
 
-main()
+if __name__ == "__main__":
+    main()

@@ -121,14 +121,14 @@ bac help
 ended 'help by its word' 0 '' bac.help
 bac rp here -h
 ended 'help behind a wrong word' 0 '' rp.help
-for tool in wi rp wp log logs keep kept serve replay; do
+for tool in wi rp wp log logs keep kept check serve replay; do
     bac "$tool" --help
     ended "help of $tool" 0 '' "$tool.help"
     bac help "$tool"
     ended "help of $tool by its word" 0 '' "$tool.help"
 done
 # No line of help is wider than a terminal of 80 columns.
-for help in bac.help {wi,rp,wp,log,logs,keep,kept,serve,replay}.help; do
+for help in bac.help {wi,rp,wp,log,logs,keep,kept,check,serve,replay}.help; do
     awk -v help="$help" 'length($0) > 80 { print help ": " $0 }' "$help"
 done > "$room/out" 2> "$room/err"
 ended 'help of 80 columns' 0 ''

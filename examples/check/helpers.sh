@@ -63,10 +63,11 @@ typed 'bac replay < ../scripts/walk.scr' 'bac replay < ../scripts/walk.script '
 typed 'bac log 10.0.0.1 1 1 > help' 'bac log 10.0.0.1 1 1 > helpers.sh '
 typed 'bac keep ../use/plant.c' 'bac keep ../use/plant.conf '
 typed 'bac kept ../use/plant.c' 'bac kept ../use/plant.conf '
+typed 'bac check ../use/plant.c' 'bac check ../use/plant.conf '
 typed 'bac help ser' 'bac help serve '
 typed 'bac help keep' 'bac help keep '
 # Each option that the help of a tool names, without its last letter.
-for tool in wi rp wp log logs keep kept serve replay; do
+for tool in wi rp wp log logs keep kept check serve replay; do
     while read -r option value; do
         typed "bac $tool ${option%?}" "bac $tool $option${value:-' '}"
     done < <(sed -nE 's/^ +(-h, )?(--[a-z]+) <.*/\2 =/p; s/^ +(-h, )?(--[a-z]+)( [^<].*)?$/\2/p' "$tool.help")
@@ -79,7 +80,7 @@ completed() { bash -c '. ../use/bac.bash; compopt() { :; }; COMP_LINE=$1 COMP_PO
 is 'the tools' "$(completed 'bac ' | grep -v -e -- | sort)" "$(tools)"
 is 'the tools behind help' "$(completed 'bac help ' | sort)" "$(tools | grep -v '^help$')"
 is 'the tools of the man page' "$(sed -nE 's/^\.B bac ([a-z]+)( .*)?$/\1/p' ../../docs/bac.1 | sort -u)" "$(tools | grep -v '^help$')"
-for tool in wi rp wp log logs keep kept serve replay; do
+for tool in wi rp wp log logs keep kept check serve replay; do
     is "the options of $tool" "$(completed "bac $tool --" | tr -d = | sort | tr '\n' ' ')" \
         "$(sed -nE 's/^ +(-h, )?(--[a-z]+).*/\2/p' "$tool.help" | sort | tr '\n' ' ')"
 done

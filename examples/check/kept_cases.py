@@ -13,7 +13,9 @@ import subprocess
 import sys
 import time
 
+from checked import checked, checked_parts
 from kept_apart import dead_at_once, dead_devices, last_epoch
+from kept_beside import objects_beside
 from kept_clocks import clocks, either_line, questions
 from kept_devices import Device, Log, chance, lock, serve, wait_until_asked
 from kept_doubts import emptied, never_begun, told_at_once
@@ -25,6 +27,7 @@ from kept_names import names
 from kept_rounds import one, rounds, said, unheard
 from kept_stopped import stopped
 from kept_terminal import terminals
+from kept_folders import folders, folders_damaged
 from kept_parts import parts, parts_ended, parts_refused
 from kept_told import told_among_others, told_beside
 from kept_warehouse import warehouses
@@ -377,7 +380,11 @@ def foreign_files(judge, _runs):
              made("later.db", "UPDATE archive SET version = 3", of=file),
              made("no_log.db", "DELETE FROM logs", of=file),
              made("not_begun.db", "DELETE FROM beginnings", of=file),
-             made("more.db", "CREATE TABLE people (name TEXT)", of=file),
+             made("keys.db", "CREATE TABLE notes (log INTEGER REFERENCES logs (id))", of=file),
+             made("unique.db", "CREATE UNIQUE INDEX once ON items (id, stamp)", of=file),
+             made("trigger.db", "CREATE TRIGGER gone AFTER DELETE ON items BEGIN DELETE FROM logs; END", of=file),
+             made("no_view.db", "DROP VIEW gaps", of=file),
+             made("other_view.db", "DROP VIEW gaps", "CREATE VIEW gaps AS SELECT id FROM items", of=file),
              made("over.db", "UPDATE items SET last = (id & 4294967295) + 1, stamp = NULL WHERE id & 4294967295 = 2", of=file)]
     for name in names:
         with open(name, "rb") as it:
@@ -668,6 +675,7 @@ def judgements(judge, _runs):
     judge.is_right("a broken page is seen", wrongs(broken, [device], True))
 
 
-CASES = [judgements, run_after_run, beginnings, options, losses, line_by_line, step_limits, last_epoch, dead_devices, dead_at_once, other_devices, words_and_names, no_archive, barred, far_away, rounds, restarts, clocks, questions, cut_files, foreign_files, a_large_file, printed, taken_over, served,
+CASES = [judgements, run_after_run, beginnings, options, losses, line_by_line, step_limits, last_epoch, dead_devices, dead_at_once, other_devices, words_and_names, no_archive, barred, far_away, rounds, restarts, clocks, questions, cut_files, foreign_files, objects_beside, a_large_file, printed, taken_over, served,
          stopped, terminals, warehouses, names, own_words, own_rule, own_lives, first_answers, renewed, moved, moved_ways, two_of_one, told_later,
-         moved_at_each_call, moved_at_random, emptied, never_begun, told_at_once, said_more, several, unlisted, listed, told_beside, told_among_others, parts, parts_refused, parts_ended]
+         moved_at_each_call, moved_at_random, emptied, never_begun, told_at_once, said_more, several, unlisted, listed, told_beside, told_among_others, parts, parts_refused, parts_ended,
+         folders, folders_damaged, checked, checked_parts]

@@ -15,12 +15,13 @@ def barred(judge, _runs):
     device, _log = one(count=2)
     folder, file = f"{judge.room}/plant", f"{judge.room}/a.db"
     os.mkdir(folder)
-    judge.same("kept of a folder", judge.ran(["kept", folder]), no_use(folder, "it is a folder"))
+    judge.same("kept of an empty folder", judge.ran(["kept", folder]), no_use(folder, "there is no trend log in it"))
     # An archive in parts, of which one isn't a file.
     part = f"{folder}/000001.db"
     os.mkdir(part)
     for words in (["keep", folder, device.address, "1"], ["keep", folder]):
         judge.same("keep of a folder for a part", judge.ran(words), no_use(part, "it is a folder"))
+    judge.same("kept of a folder for a part", judge.ran(["kept", folder]), no_use(part, "it is a folder"))
     away = f"{judge.room}/away/a.db"
     judge.same("in no folder", judge.ran(["keep", away, device.address, "1"]), no_use(away, "there is no such folder"))
     judge.is_right("none is made", not os.path.exists(os.path.dirname(away)))

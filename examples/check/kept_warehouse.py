@@ -7,6 +7,7 @@ import sqlite3
 import subprocess
 
 from kept_devices import chance
+from kept_parts import FULL, begun, fill, together
 from kept_rounds import one
 
 LOAD = os.path.realpath(os.path.join(os.path.dirname(__file__), "../use/warehouse.sh"))
@@ -40,9 +41,9 @@ class Warehouse:
                              text=True, check=True)
         return [tuple(line.split("|")) for line in ran.stdout.splitlines()]
 
-    def load(self, site, file, seconds=None):
+    def load(self, site, *files, seconds=None):
         """A load, which is killed after so many seconds; what it printed."""
-        process = subprocess.Popen([LOAD, site, file], env=self.surroundings, stdout=subprocess.PIPE, stderr=subprocess.PIPE,
+        process = subprocess.Popen([LOAD, site, *files], env=self.surroundings, stdout=subprocess.PIPE, stderr=subprocess.PIPE,
                                    text=True, start_new_session=True)
         try:
             out, errors = process.communicate(timeout=seconds)
@@ -70,9 +71,53 @@ def warehouses(judge, _runs):
         return "no PostgreSQL and sqlite3 here: not tried"
     warehouse = Warehouse(f"{judge.room}/postgres")
     try:
+        load_parts(judge, warehouse)
         return load_runs(judge, warehouse)
     finally:
         warehouse.close()
+
+
+def load_parts(judge, warehouse):
+    """Parts are loaded as they are begun, also one that was moved away; where one is missing it is told, and none behind it is loaded."""
+    device, folder = begun(judge, "warehouse's", 30)
+    judge.ran(["keep", folder, device.address, "1", "2"])
+    first, second, third = (f"{folder}/00000{n}.db" for n in (1, 2, 3))
+    away = f"{judge.room}/away"
+    os.mkdir(away)
+
+    def grown(part):
+        fill(part)
+        device.logs[1].log(20)
+        device.logs[2].log(3)
+        judge.ran(["keep", folder, *FULL])
+        device.logs[1].log(5)
+        judge.ran(["keep", folder])
+
+    def is_loaded(name, came):
+        merged = together(folder, f"{judge.room}/merged warehouse.db")
+        judge.same(name, came[0], 0)
+        judge.same(f"{name}: all of it", set(loaded(warehouse, "parts")) >= set(items_of(merged)), True)
+        judge.same(f"{name}: once", came[1], f"{len(loaded(warehouse, 'parts')) - before} items\n")
+
+    before = 0
+    is_loaded("one part is loaded", warehouse.load("parts", folder))
+    grown(first)
+    before = len(loaded(warehouse, "parts"))
+    is_loaded("and the next one", warehouse.load("parts", folder))
+    judge.same("and nothing again", warehouse.load("parts", folder), (0, "0 items\n", ""))
+    os.rename(first, f"{away}/000001.db")
+    device.logs[1].log(4)
+    judge.ran(["keep", folder])
+    grown(second)
+    os.rename(second, f"{away}/000002.db")
+    before = len(loaded(warehouse, "parts"))
+    status, out, errors = warehouse.load("parts", folder)
+    judge.is_right("a part is missing", (status, out) == (1, "") and third in errors, (status, out, errors))
+    judge.same("nothing of the others is loaded", len(loaded(warehouse, "parts")), before)
+    is_loaded("with it all is loaded", warehouse.load("parts", f"{away}/000002.db", folder))
+    open(f"{folder}/000004.db", "wb").close()
+    judge.same("a part that has nothing yet", warehouse.load("parts", folder), (0, "0 items\n", ""))
+    judge.same("all parts at once", warehouse.load("whole", away, folder)[1], f"{len(loaded(warehouse, 'parts'))} items\n")
 
 
 def load_runs(judge, warehouse):
@@ -94,7 +139,7 @@ def load_runs(judge, warehouse):
             log.begin(0)
             log.log(7)
         judge.same("a run", judge.ran(["keep", file])[0], 0)
-        killed += warehouse.load("here", file, chance.uniform(0.02, 0.3))[0] == -signal.SIGKILL
+        killed += warehouse.load("here", file, seconds=chance.uniform(0.02, 0.3))[0] == -signal.SIGKILL
         found, wanted = loaded(warehouse, "here"), items_of(file)
         judge.is_right(f"behind load {at}", set(found) <= set(wanted) and len(found) == len(set(found)), [it for it in found if it not in wanted][:3])
     judge.same("a whole load", warehouse.load("here", file)[0], 0)
