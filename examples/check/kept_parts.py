@@ -41,9 +41,15 @@ def copied(file, copy):
 
 
 def is_begun(file):
-    """Whether a part has the tables of an archive: one that a run was making when it ended has none."""
+    """Whether a part has the tables of an archive: one that a run was making when it ended has none, or sqlite3 may not
+    read it until the next run has gone on."""
     with contextlib.closing(sqlite3.connect(copied(file, f"{file}.copy"))) as base:
-        return bool(base.execute("SELECT 1 FROM sqlite_master WHERE name = 'gaps'").fetchall())
+        try:
+            return bool(base.execute("SELECT 1 FROM sqlite_master WHERE name = 'gaps'").fetchall())
+        except sqlite3.DatabaseError as error:
+            if error.sqlite_errorname != "SQLITE_NOTADB":
+                raise
+            return False
 
 
 def together(folder, merged):
