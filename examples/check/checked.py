@@ -10,7 +10,7 @@ from kept_parts import BEGINNINGS, LOGS, begun, copied, fill, names, read, toget
 ITEMS = "SELECT id, last FROM items ORDER BY id"
 HOLES = "numbers are missing in it"
 APART = "it doesn't go on where the part before ends"
-FOREIGN = "it is no archive of trend logs, or a trigger, foreign key or UNIQUE index was added"
+FOREIGN = "it is no archive of trend logs, or it got a trigger, foreign key or UNIQUE index"
 # A part that has a row is full.
 FULL = ("--part=1",)
 

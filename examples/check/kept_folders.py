@@ -96,7 +96,7 @@ def folders_damaged(judge, _runs):
     with contextlib.closing(sqlite3.connect(second)) as base:
         base.execute("CREATE TABLE other (id INTEGER PRIMARY KEY)")
         base.commit()
-    printed("the second is another's", no_use(second, "it is no archive of trend logs, or a trigger, foreign key or UNIQUE index was added")[2])
+    printed("the second is another's", no_use(second, "it is no archive of trend logs, or it got a trigger, foreign key or UNIQUE index")[2])
     shutil.move(f"{folder}/away", second)
     with contextlib.closing(sqlite3.connect(second, isolation_level=None)) as base:
         base.execute("BEGIN EXCLUSIVE")

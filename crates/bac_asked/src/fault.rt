@@ -167,7 +167,7 @@ impl FileFault {
         match self {
             FileFault::Barred(obstacle) => obstacle_text(obstacle),
             FileFault::Foreign =>
-                "it is no archive of trend logs, or a trigger, foreign key or UNIQUE index was added",
+                "it is no archive of trend logs, or it got a trigger, foreign key or UNIQUE index",
             FileFault::First => "it is an archive of version 1, and version 2 is read",
             FileFault::Version => "it is an archive of another version",
             FileFault::Memory => "out of memory",

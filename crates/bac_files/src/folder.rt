@@ -184,8 +184,8 @@ fn place_in(rt: &HostRuntime, folder: &str, full: u64) -> Result<Place, NotOpene
     }
 }
 
-/// The paths of the parts of a folder, the oldest first; where one between two others is gone, it is
-/// among them. A folder without parts has nothing.
+/// The paths of the parts of a folder, the oldest first; where one between two others is gone, it
+/// is among them. A folder without parts has nothing.
 fn paths_in(rt: &HostRuntime, folder: &str) -> Result<Vec<String>, NotOpened>
     ensures { IfErr result (IsReason false) }
 {
