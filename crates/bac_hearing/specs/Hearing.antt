@@ -18,9 +18,9 @@ use Rattle.bac_jobs.specs.declared.job.Turn.{Turn}
 use Rattle.bac_hearing.specs.declared.hearing.NotHeard.{NotHeard}
 use Rattle.bac_hearing.specs.declared.hearing.NotHeard.TheVariants.{Memory, Unfinished, Unopened}
 
--- a question waits so long and is sent so often again; at most 64 are open, one at each address
+-- a question waits so long and is sent so often again; at most 64 are open, four at each address
 abbrev pub limits : ℕ → ℕ → Rules
-limits timeout retries = record { retries = retries; wait_ms = timeout; window = 64; at_station = 1 }
+limits timeout retries = record { retries = retries; wait_ms = timeout; window = 64; at_station = 4 }
 
 -- no desks yet
 abbrev pub no_desks : Rules → TableState

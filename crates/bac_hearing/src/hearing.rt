@@ -25,7 +25,7 @@ pub enum NotHeard {
 }
 
 /// How often, how long, and how many at once: 64 answers fit the buffer that a system gives a
-/// socket, and what stands behind one router shares its line.
+/// socket, and what stands behind one router shares its line, and so is asked four at a time.
 fn limits(timeout: u32, retries: u8) -> Rules
     ensures { result ≡ limits timeout retries }
 {
@@ -33,7 +33,7 @@ fn limits(timeout: u32, retries: u8) -> Rules
         retries: u32::from(retries),
         wait_ms: timeout,
         window: 64,
-        at_station: 1,
+        at_station: 4,
     }
 }
 
@@ -72,8 +72,8 @@ fn hear<P: Port, C: Clock, J: Job>(
 }
 
 /// Brings a job for each of these devices to its end, all beside one another, over one socket that
-/// is opened at an address, or at any, and closed behind them. At most 64 questions are open, one
-/// at each address; a question waits so many milliseconds for its answer, and is sent so often
+/// is opened at an address, or at any, and closed behind them. At most 64 questions are open, four
+/// at each address, where devices may be behind one router; a question waits so many milliseconds for its answer, and is sent so often
 /// again. How the jobs ended, in their order, and of which something came in an answer's place.
 pub fn hear_all<S: Sockets, C: Clock, J: Job>(
     sockets: &mut S,

@@ -14,7 +14,7 @@ use bac_words::Asked;
 const ANY: [u8; 6] = [0; 6];
 
 /// Transactions that ask so often again, with a device that is behind this router if there is one.
-fn transactions_by(retries: u8, route: Option<Route>) -> Transactions
+pub fn transactions_by(retries: u8, route: Option<Route>) -> Transactions
     ensures retries { result.retries ≡ retries }
     ensures route { result.route ≡ route }
 {

@@ -11,10 +11,10 @@ mod said;
 mod whose;
 
 pub use among::{copy_source, is_same_device, log_among};
-pub use connecting::connect;
+pub use connecting::{connect, transactions_by};
 pub use discovering::{DEVICE, ITSELF, discover};
 pub use questions::{Count, read_count};
-pub use said::{Identity, OBJECT_IDENTIFIER, Said, copy_text, identify, silent};
+pub use said::{Identity, OBJECT_IDENTIFIER, Said, copy_text, identify, read_said, silent};
 pub use whose::{
     Heard, add_heard, device_on_record, hindrance, is_heard, is_silent, is_told, of_device,
     push_heard, said_of, stands_elsewhere,

@@ -207,8 +207,8 @@ fn read_more<L: LogLink>(
     }
 }
 
-/// Asks a device what it says of itself.
-fn read_said<L: LogLink>(
+/// Asks a device over a link what it says of itself.
+pub fn read_said<L: LogLink>(
     alloc: Global,
     link: &mut L,
     transactions: &mut Transactions,
