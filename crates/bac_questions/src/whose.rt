@@ -29,7 +29,7 @@ pub struct Heard {
 }
 
 /// What the device of a log was heard to say in this run.
-fn heard_of<'a>(heard: &'a [Heard], source: &Source) -> Option<&'a Said>
+pub fn heard_of<'a>(heard: &'a [Heard], source: &Source) -> Option<&'a Said>
     ensures found { IfSome result
         (λ said. (one : _) × HeardAs heard.now source.now one × (one.said ≡ said.now)) }
     ensures none { IsNone result → is_heard heard.now source.now ≡ false }
