@@ -10,39 +10,90 @@ use bac_ports::Port;
 use std::alloc::{AllocError, Global};
 
 /// Asks the question of the desk at a place that its job wants next, if it wants one and it may be
-/// asked now.
+/// asked now: whether it wants none any more.
 fn ask_at<P: Port, C: Clock, J: Job>(
     alloc: Global,
     desks: &mut Desks<P, C>,
     jobs: &[J],
     place: usize,
-) -> Result<(), AllocError>
+) -> Result<bool, AllocError>
     requires { place < length jobs.now }
     ensures { Runs P.sends P.receives_within C.reads desks.old.port desks.old.clock desks.old.table
         desks.new.port desks.new.clock desks.new.table }
 {
     let Some(outcomes) = desks.outcomes(place) else {
-        return Ok(());
+        return Ok(true);
     };
     if let Turn::Wants(question) = jobs[place].play(alloc, outcomes)? {
         let _asked = desks.ask(place, &question)?;
+        return Ok(false);
+    }
+    Ok(true)
+}
+
+/// Whether the job at a place is done, or its desk can't be asked now. A job that ended stays so,
+/// and isn't played for nothing.
+fn is_passed<P: Port, C: Clock>(desks: &Desks<P, C>, done: &[bool], place: usize) -> bool {
+    match done.get(place) {
+        Some(true) => true,
+        _ => !desks.is_free(place),
+    }
+}
+
+/// The job at a place is done.
+fn put_done(done: &mut [bool], place: usize) {
+    if let Some(one) = done.get_mut(place) {
+        *one = true;
+    }
+}
+
+/// Asks what the job at a place wants next, unless it is done.
+fn ask_unless<P: Port, C: Clock, J: Job>(
+    alloc: Global,
+    desks: &mut Desks<P, C>,
+    jobs: &[J],
+    place: usize,
+    done: &mut [bool],
+) -> Result<(), AllocError>
+    requires { place < length jobs.now }
+    ensures { Runs P.sends P.receives_within C.reads desks.old.port desks.old.clock desks.old.table
+        desks.new.port desks.new.clock desks.new.table }
+{
+    if is_passed(desks, done, place) {
+        return Ok(());
+    }
+    if ask_at(alloc, desks, jobs, place)? {
+        put_done(done, place);
     }
     Ok(())
 }
 
-/// Asks what each job wants next.
+/// Asks what each job wants next that isn't done, as long as a question more may be open.
 fn ask_all<P: Port, C: Clock, J: Job>(
     alloc: Global,
     desks: &mut Desks<P, C>,
     jobs: &[J],
+    done: &mut [bool],
 ) -> Result<(), AllocError>
     ensures { Runs P.sends P.receives_within C.reads desks.old.port desks.old.clock desks.old.table
         desks.new.port desks.new.clock desks.new.table }
 {
     for place in 0..jobs.len() {
-        ask_at(alloc, desks, jobs, place)?;
+        if !desks.has_room() {
+            return Ok(());
+        }
+        ask_unless(alloc, desks, jobs, place, done)?;
     }
     Ok(())
+}
+
+/// Of none of so many jobs it is known that it is done.
+fn none_done(alloc: Global, jobs: usize) -> Result<Vec<bool>, AllocError> {
+    let mut done = Vec::new(alloc);
+    for _place in 0..jobs {
+        done.push(false)?;
+    }
+    Ok(done)
 }
 
 /// How the job at a place ended, if it has.
@@ -106,13 +157,14 @@ pub fn finish<P: Port, C: Clock, J: Job>(
     ensures serves { Serves P.sends P.receives_within C.reads desks.old.port desks.old.clock
         desks.old.table desks.new.port desks.new.clock desks.new.table }
 {
+    let mut done = none_done(alloc, jobs.len())?;
     for round in 0..turns {
         if desks.is_idle() {
             if let Some(ends) = ends_of(alloc, desks, jobs)? {
                 return Ok(Some(ends));
             }
         }
-        ask_all(alloc, desks, jobs)?;
+        ask_all(alloc, desks, jobs, done.as_mut_slice())?;
         desks.turn();
     }
     Ok(None)
