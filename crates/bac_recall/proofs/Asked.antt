@@ -1,5 +1,8 @@
 -- What is asked over a port that answers from conversations first.
-use Rattle.std.proofs.Common.{◌≡◌, ◌∙◌, ap, subst, sym, ℕ, zero, suc, List, inl, inr, ◌⊎◌, Option, Some, None, Result, Ok, Err}
+use Rattle.std.proofs.Common.{◌≡◌, ◌∙◌, ap, subst, sym, ℕ, zero, suc, List, inl, inr, ◌⊎◌, Option, Some, None, Result, Ok, Err, Bool, true, false, if◌then◌else◌, refl}
+use Rattle.std.proofs.lemmas.Slice.Eq.{bytes_eq-Decides}
+use Rattle.std.specs.Str.{bytes_eq}
+use Rattle.bac_link.specs.Datagrams.{answers_to}
 use Rattle.bac_link.specs.declared.link.Lost.{Lost}
 use Rattle.bac_ports.specs.Asking.{Awaits, IsHeard, IsSent, IsTaken, fitting}
 use Rattle.bac_ports.specs.Port.{Receiving, Sending}
@@ -48,6 +51,14 @@ module _ {P : Type 0} (sends : P → List ℕ → List ℕ → Sending → P →
 
   -- ---- an ask
 
+  -- a datagram of the peer fits if it answers
+  fits : (datagram : List ℕ) (fit : Bool) → answers_to request datagram ≡ fit → fitting peer request (heard_from peer datagram) ≡ (if fit then Some datagram else None)
+  fits datagram fit is = let own : bytes_eq peer peer ≡ true = (bytes_eq-Decides peer peer).1 refl in rw (own, is) refl
+
+  taken_as : (datagram : List ℕ) (port new : P) (result : Result (List ℕ) Lost) (more : Type 0) (fit : Bool) → answers_to request datagram ≡ fit →
+      IsTaken (fitting peer request (heard_from peer datagram)) port result new more → IsTaken (if fit then Some datagram else None) port result new more
+  taken_as datagram port new result more fit is taken = subst (λ (o : Option (List ℕ)). IsTaken o port result new more) (fits datagram fit is) taken
+
   recalled : (others : ℕ) (old mid new : RecallingPort P) (result : Result (List ℕ) Lost) (sent : Sending) → IsRecalled old request peer sent mid →
       IsSent (ReceivesRecalled receives) peer request (suc others) sent mid result new → IsRecalledAs receives peer request others old result new
   unfolding Awaits
@@ -56,10 +67,12 @@ module _ {P : Type 0} (sends : P → List ℕ → List ℕ → Sending → P →
       let there = subst (λ (a : Option Heard). Gives receives a mid.port received next.port) answer came in
       let one = subst (λ (r : Receiving). IsHeard peer request r next result new (Awaits (ReceivesRecalled receives) peer request others next result new)) there.0 rest in
       let took = taken_on (fitting peer request (heard_from peer datagram)) next new result (Awaits (ReceivesRecalled receives) peer request others next result new)
-      (Awaits receives peer request others next.port result new.port) clear (awaits_on others next new result clear) one in (
+      (Awaits receives peer request others next.port result new.port) clear (awaits_on others next new result clear) one in
+      let below = subst (λ (p : P). IsTaken (fitting peer request (heard_from peer datagram)) p result new.port (Awaits receives peer request others p result new.port)) (there.1 ∙ port) took.0 in (
         datagram,
         subst (λ (l : List Conversation). Recalls request peer old.left.items datagram l) (sym (took.1.0 ∙ left)) recalls,
-        subst (λ (p : P). IsTaken (fitting peer request (heard_from peer datagram)) p result new.port (Awaits receives peer request others p result new.port)) (there.1 ∙ port) took.0,
+        λ fit. taken_as datagram old.port new.port result (Awaits receives peer request others old.port result new.port) true fit below,
+        λ unfit. taken_as datagram old.port new.port result (Awaits receives peer request others old.port result new.port) false unfit below,
       )
 
   passed : (limit : ℕ) (old mid new : RecallingPort P) (result : Result (List ℕ) Lost) (sent : Sending) → IsPassedOn sends old request peer sent mid →

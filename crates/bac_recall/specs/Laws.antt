@@ -1,23 +1,24 @@
 -- What is asked over a port that answers from conversations first.
-use Rattle.std.specs.Prelude.{◌≡◌, ℕ, suc, ◌+◌, ◌⊎◌, List, [], length, Some, None, Result}
+use Rattle.std.specs.Prelude.{◌≡◌, ℕ, suc, ◌+◌, ◌⊎◌, List, [], length, Some, None, Result, Ok, true, false}
 use Rattle.std.specs.List.{sum_by}
+use Rattle.bac_link.specs.Datagrams.{answers_to}
 use Rattle.bac_link.specs.declared.link.Lost.{Lost}
-use Rattle.bac_ports.specs.Asking.{Asks, Awaits, IsTaken, fitting}
+use Rattle.bac_ports.specs.Asking.{Asks, Awaits}
 use Rattle.bac_ports.specs.Port.{Receiving, Sending}
 use Rattle.bac_ports.specs.declared.port.Heard.{Heard}
 use Rattle.bac_heeding.specs.Ports.{Event, Happen}
-use Rattle.bac_recall.specs.Recall.{NoneAnswers, Recalls, heard_from}
+use Rattle.bac_recall.specs.Recall.{NoneAnswers, Recalls}
 use Rattle.bac_recall.specs.declared.conversations.Conversation.{Conversation}
 use Rattle.bac_recall.specs.declared.ports.RecallingPort.{RecallingPort}
 
--- An ask whose answer a conversation has: it is that, and the port below is as it was. (One that doesn't answer the
--- request would be passed over, as one that comes is, and the others awaited below.)
+-- An ask whose answer a conversation has: nothing is sent. If that answers the request it is the result, and the port
+-- below is as it was; else it is passed over, as such a datagram that comes is, and the others are awaited below.
 abbrev pub IsRecalledAs : {P : Type 0} → (P → Receiving → P → Type 0) → List ℕ → List ℕ → ℕ →
     RecallingPort P → Result (List ℕ) Lost → RecallingPort P → Type 0
 IsRecalledAs receives peer request others old result new =
     (datagram : List ℕ) × Recalls request peer old.left.items datagram new.left.items
-    × IsTaken (fitting peer request (heard_from peer datagram)) old.port result new.port
-    (Awaits receives peer request others old.port result new.port)
+    × (answers_to request datagram ≡ true → (result ≡ Ok datagram) × (new.port ≡ old.port))
+    × (answers_to request datagram ≡ false → Awaits receives peer request others old.port result new.port)
 
 -- an ask that no conversation has an answer to: it is one over the port below, and the conversations stay
 abbrev pub IsAskedBelow : {P : Type 0} → (P → List ℕ → List ℕ → Sending → P → Type 0) →
