@@ -2,3 +2,4 @@ pub mod Asked
 pub mod Held
 pub mod Nothing
 pub mod Once
+pub mod Runs

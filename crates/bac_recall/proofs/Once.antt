@@ -14,7 +14,7 @@ counted one = length one.outcomes.items
 split : (front : List Conversation) (one : Conversation) (behind : List Conversation) → outcomes_left (front ++ one ∷ behind) ≡ sum_by counted front + (counted one + sum_by counted behind)
 split front one behind = sum_by-append counted front (one ∷ behind) ∙ ap (λ (n : ℕ). sum_by counted front + n) (sum_by-cons counted one behind)
 
-one_fewer : (octets to datagram : List ℕ) (old new : List Conversation) → Recalls octets to old datagram new → outcomes_left old ≡ outcomes_left new + 1
+pub one_fewer : (octets to datagram : List ℕ) (old new : List Conversation) → Recalls octets to old datagram new → outcomes_left old ≡ outcomes_left new + 1
 one_fewer octets to datagram old new (front, one, rest, behind, before, none, ((peer, next), same), after) =
     let first : counted one ≡ counted rest + 1 = ap length next ∙ omega arith in
     let all : outcomes_left old ≡ sum_by counted front + (counted one + sum_by counted behind) = ap outcomes_left before ∙ split front one behind in

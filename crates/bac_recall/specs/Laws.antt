@@ -1,12 +1,12 @@
 -- What is asked over a port that answers from conversations first.
-use Rattle.std.specs.Prelude.{◌≡◌, ℕ, suc, ◌+◌, ◌⊎◌, List, [], length, Some, None, Result, Ok, true, false}
+use Rattle.std.specs.Prelude.{◌≡◌, ℕ, suc, ◌+◌, ◌⊎◌, List, [], ◌∷◌, length, Some, None, Result, Ok, true, false}
 use Rattle.std.specs.List.{sum_by}
 use Rattle.bac_link.specs.Datagrams.{answers_to}
 use Rattle.bac_link.specs.declared.link.Lost.{Lost}
 use Rattle.bac_ports.specs.Asking.{Asks, Awaits}
 use Rattle.bac_ports.specs.Port.{Receiving, Sending}
 use Rattle.bac_ports.specs.declared.port.Heard.{Heard}
-use Rattle.bac_heeding.specs.Ports.{Event, Happen}
+use Rattle.bac_heeding.specs.Ports.{Event, Happen, Received, Sent}
 use Rattle.bac_recall.specs.Recall.{NoneAnswers, Recalls}
 use Rattle.bac_recall.specs.declared.conversations.Conversation.{Conversation}
 use Rattle.bac_recall.specs.declared.ports.RecallingPort.{RecallingPort}
@@ -64,6 +64,34 @@ NothingIsRecalledTwice {P = P} sends receives within =
     ((octets to : List ℕ) (sent : Sending) → sends old octets to sent new → TakesOne old new ⊎ TakesNone old new)
     × ((heard : Receiving) → receives old heard new → TakesNone old new)
     × ((wait : ℕ) (heard : Receiving) → within old wait heard new → TakesNone old new)
+
+-- ---- whole runs
+
+-- how often something was sent
+abbrev pub sends_in : List Event → ℕ
+sends_in [] = 0
+sends_in (Sent octets to sent ∷ es) = sends_in es + 1
+sends_in (Received heard ∷ es) = sends_in es
+
+-- these are among all, in the same order
+abbrev pub AreAmong : List Event → List Event → Type 0
+AreAmong [] all = Unit {0}
+AreAmong (e ∷ es) [] = ⊥
+AreAmong (e ∷ es) (one ∷ all) = ((e ≡ one) × AreAmong es all) ⊎ AreAmong (e ∷ es) all
+
+-- Whatever is done over a port, some of it is done over the port below, in the same order. Each send that isn't has
+-- taken an outcome of its own.
+abbrev pub SendsAreRecalledOrBelow : {P : Type 0} →
+    (RecallingPort P → List ℕ → List ℕ → Sending → RecallingPort P → Type 0) →
+    (RecallingPort P → Receiving → RecallingPort P → Type 0) →
+    (RecallingPort P → ℕ → Receiving → RecallingPort P → Type 0) →
+    (P → List ℕ → List ℕ → Sending → P → Type 0) → (P → Receiving → P → Type 0) →
+    (P → ℕ → Receiving → P → Type 0) → Type 0
+SendsAreRecalledOrBelow {P = P} sends receives within sends_below receives_below within_below =
+    (es : List Event) (old new : RecallingPort P) → Happen sends receives within es old new →
+    (below : List Event) × AreAmong below es
+    × Happen sends_below receives_below within_below below old.port new.port
+    × (sends_in es + outcomes_left new.left.items ≡ sends_in below + outcomes_left old.left.items)
 
 -- ---- nothing is held
 

@@ -2,7 +2,7 @@
 //! the law.
 
 ghost use Rattle.bac_recall.specs.Laws.{AsksAreRecalledOrBelow, NothingHeldIsBelow};
-ghost use Rattle.bac_recall.specs.Laws.{NothingIsRecalledTwice};
+ghost use Rattle.bac_recall.specs.Laws.{NothingIsRecalledTwice, SendsAreRecalledOrBelow};
 
 use crate::ports::RecallingPort;
 use bac_ports::Port;
@@ -20,6 +20,14 @@ pub fn asks_are_recalled_or_below<P: Port>()
 pub fn nothing_is_recalled_twice<P: Port>()
     ensures { NothingIsRecalledTwice ⟦<RecallingPort<P> as Port>⟧.sends
         ⟦<RecallingPort<P> as Port>⟧.receives ⟦<RecallingPort<P> as Port>⟧.receives_within }
+{}
+
+/// Of all that is done over a port, what isn't done over the port below is sends, each of which took
+/// an outcome of its own, and receives.
+pub fn sends_are_recalled_or_below<P: Port>()
+    ensures { SendsAreRecalledOrBelow ⟦<RecallingPort<P> as Port>⟧.sends
+        ⟦<RecallingPort<P> as Port>⟧.receives ⟦<RecallingPort<P> as Port>⟧.receives_within
+        P.sends P.receives P.receives_within }
 {}
 
 /// Whatever is done over a port that holds nothing is done over the port below.

@@ -14,7 +14,10 @@ mod ports;
 mod sockets;
 
 pub use conversations::Conversation;
-pub use laws::{asks_are_recalled_or_below, nothing_held_is_below, nothing_is_recalled_twice};
+pub use laws::{
+    asks_are_recalled_or_below, nothing_held_is_below, nothing_is_recalled_twice,
+    sends_are_recalled_or_below,
+};
 pub use ports::RecallingPort;
 pub use sockets::{Recalling, Recalls};
 
