@@ -9,6 +9,7 @@ use crate::conversations::Conversation;
 use crate::ports::RecallingPort;
 use bac_heeding::{Heeds, Passed};
 use bac_ports::{OpenFault, Sockets};
+use bac_trace::Tracing;
 use std::alloc::Global;
 use std::mem;
 
@@ -83,6 +84,16 @@ impl<S: Heeds> Heeds for Recalling<S> {
 
     fn passed(&self) -> Passed {
         self.sockets.passed()
+    }
+}
+
+impl<S: Tracing> Tracing for Recalling<S> {
+    // The sockets below are switched: what is recalled isn't sent, and isn't told.
+    ghost traces = { λ old on new. S.traces old.sockets on new.sockets
+        × (new.left.items ≡ old.left.items) };
+
+    fn trace(&mut self, on: bool) {
+        self.sockets.trace(on);
     }
 }
 
