@@ -1,0 +1,68 @@
+-- One round more.
+use Rattle.std.proofs.Common.{◌≡◌, List, [], ◌∷◌, ◌++◌, map, refl, ap, sym, subst, inl, inr, ◌∙◌, append-nil, append_assoc}
+use Rattle.bac_asked.specs.declared.end.NotDone.{NotDone}
+use Rattle.bac_desks.specs.Chain.{Chain}
+use Rattle.bac_desks.proofs.Lists.{pushed}
+use Rattle.bac_hearing.specs.Hearing.{FailsToHear, StartedClock}
+use Rattle.bac_hearing.specs.declared.hearing.NotHeard.TheVariants.{Unfinished}
+use Rattle.bac_ports.specs.Sockets.{SocketRules}
+use Rattle.bac_questions.specs.Faults.{EndsAsking}
+use Rattle.bac_recall.specs.declared.conversations.Conversation.{Conversation}
+use Rattle.bac_words.specs.declared.job.Asked.{Asked}
+use Rattle.bac_ahead.specs.Rounds.{AsksAhead, EndsAhead, IsRound, IsRoundOf, Parts, Stage, conversations_of, parts_of, peers_of}
+use Rattle.bac_ahead.specs.declared.opening.Opened.{Opened}
+use Rattle.bac_ahead.specs.declared.opening.Opening.{Opening}
+
+abbrev of_opened : Opened → Conversation
+of_opened o = o.conversation
+
+-- what came in one round more comes behind
+pub one_more : (rounds : List (List Opened)) (ends : List Opened) → conversations_of (rounds ++ ends ∷ []) ≡ conversations_of rounds ++ map of_opened ends
+one_more [] ends = append-nil (map of_opened ends)
+one_more (first ∷ rounds) ends = ap (λ (l : List Conversation). map of_opened first ++ l) (one_more rounds ends)
+    ∙ sym (append_assoc (map of_opened first) (conversations_of rounds) (map of_opened ends))
+
+abbrev stage : {S : Type 0} → S → List Opening → Stage S
+stage sockets left = record { sockets = sockets; left = left }
+
+abbrev parts : List Opening → List Opening → Parts
+parts firsts rest = record { firsts = firsts; rest = rest }
+
+module _ {S P C : Type 0} (rules : SocketRules S P) (clock : StartedClock C) (asked : Asked) where
+  -- where rounds came, with what came in them
+  abbrev pub Came : List Opening → S → S → List Opening → List Conversation → Type 0
+  Came all before mid left came = (rounds : List (List Opened)) × Chain (IsRound rules clock asked) (stage before all) rounds (stage mid left)
+      × (came ≡ conversations_of rounds)
+
+  -- a round more
+  pub round_more : (all left firsts rest more : List Opening) (before mid after : S) (ends : List Opened) (came came' : List Conversation)
+      → parts firsts rest ≡ parts_of left → Came all before mid left came → IsRoundOf rules clock asked firsts rest mid ends more after
+      → came' ≡ came ++ map of_opened ends → Came all before after more came'
+  round_more all left firsts rest more before mid after ends came came' are (rounds, chain, is) this behind = (
+    rounds ++ ends ∷ [],
+    pushed (IsRound rules clock asked) (stage before all) (stage mid left) (stage after more) rounds ends chain
+        (subst (λ (p : Parts). IsRoundOf rules clock asked p.firsts p.rest mid ends more after) are this),
+    behind ∙ ap (λ (l : List Conversation). l ++ map of_opened ends) is ∙ sym (one_more rounds ends),
+  )
+
+  -- there are no more
+  pub no_more : (all left : List Opening) (before mid : S) (came : List Conversation) → Came all before mid left came → AsksAhead rules clock asked all before came mid
+  no_more all left before mid came (rounds, chain, is) = (rounds, stage mid left, chain, is, inl refl)
+
+  -- one doesn't end
+  pub unending : (all left firsts rest : List Opening) (before mid after : S) (came came' : List Conversation) → parts firsts rest ≡ parts_of left
+      → Came all before mid left came → FailsToHear rules clock (peers_of firsts) asked.local asked.timeout asked.retries mid after Unfinished
+      → came' ≡ came → AsksAhead rules clock asked all before came' after
+  unending all left firsts rest before mid after came came' are (rounds, chain, is) fails same = (
+    rounds,
+    stage mid left,
+    chain,
+    same ∙ is,
+    inr (subst (λ (p : Parts). FailsToHear rules clock (peers_of p.firsts) asked.local asked.timeout asked.retries mid after Unfinished) are fails),
+  )
+
+  -- one can't be made
+  pub fails : (all left : List Opening) (before mid after : S) (came : List Conversation) (fault : NotDone) → Came all before mid left came
+      → EndsAsking rules asked mid after fault → EndsAhead rules clock asked all before after fault
+  fails all left before mid after came fault (rounds, chain, is) (inl memory) = inl memory
+  fails all left before mid after came fault (rounds, chain, is) (inr unopened) = inr (rounds, stage mid left, chain, unopened)

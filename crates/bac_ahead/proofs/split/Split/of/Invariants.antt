@@ -1,0 +1,7 @@
+use Rattle.std.proofs.Common.{◌≡◌}
+use Rattle.bac_ahead.specs.Rounds.{Parts, parts_of}
+use Rattle.bac_ahead.proofs.split.Split.of.Given as goal
+
+-- so far they are the parts of the logs that were taken
+abbrev pub invariant-loop-one : goal.invariant-loop-one
+invariant-loop-one l = (let split : Parts = record { firsts = l.split.firsts.items; rest = l.split.rest.items } in split) ≡ parts_of l.yielded

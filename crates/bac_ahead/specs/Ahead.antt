@@ -1,0 +1,102 @@
+-- What a run over a log asks first, played over a record. Read `Plays`.
+use Rattle.std.specs.Prelude.{◌≡◌, ◌≢◌, ◌⊎◌, ◌≤◌, ℕ, Bool, true, false, List, [], Option, None, Some, Result, Ok, Err}
+use Rattle.std.specs.Prelude.{is_err}
+use Rattle.std.specs.List.{list_any}
+use Rattle.std.specs.String.{string_bytes}
+use Rattle.bac_wire.specs.Primitive.{Id}
+use Rattle.bac_link.specs.Path.{Path, towards}
+use Rattle.bac_link.specs.declared.link.Lost.{Lost as Loss}
+use Rattle.bac_link.specs.declared.item.Item.{Item}
+use Rattle.bac_walk.specs.Came.{Brought, Came}
+use Rattle.bac_walk.specs.Outcomes.{why_of}
+use Rattle.bac_walk.specs.Place.{WalkPlace}
+use Rattle.bac_walk.specs.declared.outcome.Ended.{Ended as HowEnded}
+use Rattle.bac_walk.specs.declared.outcome.Why.{Why}
+use Rattle.bac_play.specs.Play.{Plays as PlaysRecord}
+use Rattle.bac_play.specs.declared.play.Outcome.{Outcome}
+use Rattle.bac_play.specs.declared.play.Play.{Play}
+use Rattle.bac_asked.specs.declared.end.End.{End}
+use Rattle.bac_begin.specs.Stands.{word_at}
+use Rattle.bac_begin.specs.Starts.{GoesFrom, StartsNew}
+use Rattle.bac_begin.specs.declared.stands.Stand.{Stand}
+use Rattle.bac_begin.specs.declared.starting.Start.{Start}
+use Rattle.bac_jobs.specs.declared.job.Turn.{Turn}
+use Rattle.bac_jobs.specs.declared.job.Turn.TheVariants.{Ended, Unfit, Wants}
+use Rattle.bac_questions.specs.Silent.{is_same_log}
+use Rattle.bac_ahead.specs.declared.opening.Opened.{Opened}
+use Rattle.bac_ahead.specs.declared.opening.Opening.{Opening}
+
+-- the Trend Log object of this instance (clause 12.25)
+abbrev pub trend_log : ℕ → Id
+trend_log instance = record { kind = 20; instance = instance }
+
+-- A run over a log that stands there, or of which nothing is on record, asks over a link where it begins: what the run
+-- itself asks, no more and no less.
+abbrev pub BeginsAt : {S : Type 0} → (S → List ℕ → Result (List ℕ) Loss → S → Type 0) → Path → ℕ → S → Opening → Id →
+    Option Stand → Result Start End → S → Type 0
+BeginsAt asks path retries link opening log None begun left =
+    StartsNew asks path retries link opening.id log opening.many begun left
+BeginsAt asks path retries link opening log (Some stand) begun left =
+    GoesFrom asks path retries link opening.id log opening.many (word_at stand opening.word) stand opening.steps begun left
+
+-- the same of a log by where it stands
+abbrev pub Begins : {S : Type 0} → (S → List ℕ → Result (List ℕ) Loss → S → Type 0) → Path → ℕ → S → Opening → Id →
+    Result Start End → S → Type 0
+Begins asks path retries link opening log begun left =
+    BeginsAt asks path retries link opening log opening.stand begun left
+
+-- Behind that it goes on with eight batches more at most, unless what came first told that there is no more.
+abbrev pub WalksOn : {S : Type 0} → (S → List ℕ → Result (List ℕ) Loss → S → Type 0) → Path → ℕ → S → WalkPlace →
+    Option Why → S → Type 0
+WalksOn asks path retries link walk (Some why) left = left ≡ link
+WalksOn asks path retries link walk None left =
+    (steps : ℕ) × (steps ≤ 8) × (came : List Came) × (items : List Item) × (how : HowEnded) × (after : WalkPlace)
+    × Brought asks path retries link walk steps came items how after left
+
+-- so it does where the device said where the log begins
+abbrev pub GoesOn : {S : Type 0} → (S → List ℕ → Result (List ℕ) Loss → S → Type 0) → Path → ℕ → S → Result Start End →
+    S → Type 0
+GoesOn asks path retries link (Ok start) left =
+    WalksOn asks path retries link start.hand.walk (why_of start.hand.gathered.step.ended) left
+GoesOn asks path retries link (Err none) left = left ≡ link
+
+-- what is asked ahead for a log over a link: where it begins, and what lies behind
+abbrev pub Asks : {S : Type 0} → (S → List ℕ → Result (List ℕ) Loss → S → Type 0) → Path → ℕ → S → Opening → Id → S →
+    Type 0
+Asks {S = S} asks path retries link opening log left = (begun : Result Start End) × (mid : S)
+    × Begins asks path retries link opening log begun mid × GoesOn asks path retries mid begun left
+
+-- what came to the questions for a log is this
+abbrev pub IsOpened : Opening → List Outcome → Opened → Type 0
+IsOpened opening outcomes opened = (is_same_log opened.source opening.source ≡ true)
+    × (opened.conversation.peer ≡ opening.peer) × (opened.conversation.outcomes.items ≡ outcomes)
+
+-- What a run over a record comes to that left it so: what it asked first that isn't in the record; or all of the record
+-- was asked for, and nothing else.
+abbrev pub ComesTo : Opening → List Outcome → Play → Turn Opened → Type 0
+ComesTo opening outcomes left (Wants octets) =
+    (left.outcomes.now ≡ []) × (left.is_dry ≡ true) × (left.wanted ≡ Some octets)
+ComesTo opening outcomes left (Ended opened) =
+    (left.outcomes.now ≡ []) × (left.is_dry ≡ false) × IsOpened opening outcomes opened
+ComesTo opening outcomes left Unfit = (left.outcomes.now ≢ []) ⊎ ((left.is_dry ≡ true) × (left.wanted ≡ None))
+
+-- a link over a record, of which nothing was asked yet
+abbrev pub IsWhole : List Outcome → Play → Type 0
+IsWhole outcomes link = (link.outcomes.now ≡ outcomes) × (link.is_dry ≡ false)
+
+-- A log is asked for as its run begins, without repeats, over a record of what came to that; for an instance that no
+-- object has nothing is asked.
+abbrev pub Plays : Opening → List Outcome → Turn Opened → Type 0
+Plays opening outcomes turn =
+    ((4194304 ≤ opening.source.instance) × (opened : Opened) × (turn ≡ Ended opened) × IsOpened opening outcomes opened)
+    ⊎ ((link : Play) × (left : Play) × IsWhole outcomes link
+    × Asks PlaysRecord (towards opening.route) 0 link opening (trend_log opening.source.instance) left
+    × ComesTo opening outcomes left turn)
+
+-- no answer came to a question
+abbrev pub is_lost : Outcome → Bool
+is_lost outcome = is_err outcome.answer
+
+-- no answer came to one of the questions for a log
+abbrev pub has_lost : Opened → Bool
+has_lost opened = list_any is_lost opened.conversation.outcomes.items

@@ -1,0 +1,100 @@
+-- Logs are opened in rounds, in each of them one of each device, all beside one another. Read `AsksAhead`.
+use Rattle.std.specs.Prelude.{◌≡◌, ◌⊎◌, ◌&&◌, not, ℕ, Bool, List, [], ◌∷◌, ◌++◌, if◌then◌else◌, filter, fold, map}
+use Rattle.std.specs.List.{list_any}
+use Rattle.bac_desks.specs.Chain.{Chain}
+use Rattle.bac_hearing.specs.Hearing.{FailsToHear, HearsAll, StartedClock}
+use Rattle.bac_hearing.specs.declared.hearing.NotHeard.TheVariants.{Unfinished}
+use Rattle.bac_jobs.specs.declared.job.Ending.{Ending}
+use Rattle.bac_ports.specs.Sockets.{SocketRules}
+use Rattle.bac_asked.specs.Faults.{WantsMemory}
+use Rattle.bac_asked.specs.declared.end.NotDone.{NotDone}
+use Rattle.bac_questions.specs.Faults.{IsUnopened}
+use Rattle.bac_questions.specs.Silent.{is_same_device}
+use Rattle.bac_recall.specs.declared.conversations.Conversation.{Conversation}
+use Rattle.bac_words.specs.declared.job.Asked.{Asked}
+use Rattle.bac_ahead.specs.Ahead.{Plays, has_lost}
+use Rattle.bac_ahead.specs.declared.opening.Opened.{Opened}
+use Rattle.bac_ahead.specs.declared.opening.Opening.{Opening}
+
+-- ---- a round
+
+-- logs in two parts: the first of each device, and the rest
+pub record Parts : Type 0 where
+  pub firsts : List Opening
+  pub rest : List Opening
+
+-- a log is of the device of one of these
+abbrev pub is_among : List Opening → Opening → Bool
+is_among firsts one = list_any (λ (first : Opening). is_same_device first.source one.source) firsts
+
+-- one log more is the first of its device, or comes to the rest
+abbrev pub put_in : Parts → Opening → Parts
+put_in parts one = if is_among parts.firsts one
+    then record { firsts = parts.firsts; rest = parts.rest ++ one ∷ [] }
+    else record { firsts = parts.firsts ++ one ∷ []; rest = parts.rest }
+
+-- the two parts of these logs, in their order
+abbrev pub parts_of : List Opening → Parts
+parts_of all = fold put_in (record { firsts = []; rest = [] }) all
+
+-- a log is of the device of one that gave no answer
+abbrev pub is_gone : List Opened → Opening → Bool
+is_gone ends one = list_any (λ (opened : Opened). has_lost opened && is_same_device opened.source one.source) ends
+
+-- those of other devices
+abbrev pub left_of : List Opened → List Opening → List Opening
+left_of ends all = filter (λ one. not (is_gone ends one)) all
+
+-- the addresses of the devices of these logs
+abbrev pub peers_of : List Opening → List (List ℕ)
+peers_of all = map (λ (one : Opening). one.peer) all
+
+-- where rounds came: the sockets, and the logs that weren't opened yet
+pub record Stage (S : Type 0) : Type 0 where
+  pub sockets : S
+  pub left : List Opening
+
+-- These logs were opened beside one another, over one socket; of the rest those of the devices are left that gave an
+-- answer to each question.
+abbrev pub IsRoundOf : {S P C : Type 0} → SocketRules S P → StartedClock C → Asked → List Opening → List Opening → S →
+    List Opened → List Opening → S → Type 0
+IsRoundOf rules clock asked firsts rest before ends left after =
+    (endings : List (Ending Opened)) × (ends ≡ map (λ (e : Ending Opened). e.end) endings)
+    × HearsAll rules clock Plays (peers_of firsts) firsts asked.local asked.timeout asked.retries before endings after
+    × (left ≡ left_of ends rest)
+
+-- in a round these are the first log of each device
+abbrev pub IsRound : {S P C : Type 0} → SocketRules S P → StartedClock C → Asked → Stage S → List Opened → Stage S →
+    Type 0
+IsRound rules clock asked old ends new = IsRoundOf rules clock asked (parts_of old.left).firsts (parts_of old.left).rest
+    old.sockets ends new.left new.sockets
+
+-- ---- all rounds
+
+-- what came in these rounds, in their order
+abbrev pub conversations_of : List (List Opened) → List Conversation
+conversations_of [] = []
+conversations_of (ends ∷ more) = map (λ (o : Opened). o.conversation) ends ++ conversations_of more
+
+-- a round that has more turns than fit 64 bits opens nothing
+abbrev pub IsUnending : {S P C : Type 0} → SocketRules S P → StartedClock C → Asked → Stage S → S → Type 0
+IsUnending rules clock asked old after =
+    FailsToHear rules clock (peers_of (parts_of old.left).firsts) asked.local asked.timeout asked.retries old.sockets
+    after Unfinished
+
+-- Logs were opened in rounds, one after the other, as this is asked; what came is these conversations.
+abbrev pub AsksAhead : {S P C : Type 0} → SocketRules S P → StartedClock C → Asked → List Opening → S →
+    List Conversation → S → Type 0
+AsksAhead {S = S} rules clock asked all before came after =
+    (rounds : List (List Opened)) × (last : Stage S)
+    × Chain (IsRound rules clock asked) (record { sockets = before; left = all }) rounds last
+    × (came ≡ conversations_of rounds)
+    × ((after ≡ last.sockets) ⊎ IsUnending rules clock asked last after)
+
+-- The rounds end before that: memory is wanting, or no socket was opened for one.
+abbrev pub EndsAhead : {S P C : Type 0} → SocketRules S P → StartedClock C → Asked → List Opening → S → S → NotDone →
+    Type 0
+EndsAhead {S = S} rules clock asked all before after fault = WantsMemory fault
+    ⊎ ((rounds : List (List Opened)) × (last : Stage S)
+    × Chain (IsRound rules clock asked) (record { sockets = before; left = all }) rounds last
+    × IsUnopened rules asked last.sockets after fault)

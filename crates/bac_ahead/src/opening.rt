@@ -1,0 +1,235 @@
+//! What a run over a log asks first, played over a record.
+
+ghost use Rattle.std.specs.Prelude.{◌≡◌, IfErr, IfOk, OnOk};
+ghost use Rattle.bac_link.specs.Path.{towards};
+ghost use Rattle.bac_asked.specs.Faults.{WantsMemory};
+ghost use Rattle.bac_ahead.specs.Ahead.{Asks, Begins, ComesTo, IsOpened, Plays, WalksOn};
+ghost use Rattle.bac_ahead.specs.Ahead.{has_lost, is_lost};
+ghost use Rattle.bac_walk.specs.Outcomes.{why_of};
+
+use bac_apdu::Route;
+use bac_apdu::object_type::TREND_LOG;
+use bac_archive::Source;
+use bac_asked::{End, NotDone};
+use bac_begin::{Hand, Stand, Start, start_at, start_new};
+use bac_jobs::{Job, Turn};
+use bac_keep::Word;
+use bac_link::{LogLink, Transactions};
+use bac_play::{Outcome, Play};
+use bac_questions::{copy_source, transactions_by};
+use bac_recall::Conversation;
+use bac_walk::{Count, collect};
+use bac_wire::{Datagram, ObjectId};
+use std::alloc::{AllocError, Global};
+
+/// How many batches are asked for ahead behind what a run begins with: what comes is held in
+/// memory, up to 3 kilobytes for each.
+const BATCHES: u32 = 8;
+
+/// A log, and what it is asked for first by.
+#[derive(Drop)]
+pub struct Opening {
+    /// Where it is.
+    pub source: Source,
+    /// The address of its device, or of the router in front of it.
+    pub peer: [u8; 6],
+    /// The router, if there is one.
+    pub route: Option<Route>,
+    /// Its id in the archive; of no matter for a log of which nothing is on record.
+    pub id: u16,
+    /// How many records a question asks for.
+    pub many: Count,
+    /// What its device says of itself beside what is on record.
+    pub word: Word,
+    /// Where it stands, if anything of it is on record.
+    pub stand: Option<Stand>,
+    /// In how many batches it may be fetched.
+    pub steps: u32,
+}
+
+/// What came to the first questions for a log.
+#[derive(Drop)]
+pub struct Opened {
+    pub source: Source,
+    pub conversation: Conversation,
+}
+
+/// The same outcome once more.
+fn copy_outcome(outcome: &Outcome) -> Outcome
+    ensures { result ≡ outcome.now }
+{
+    let answer = match &outcome.answer {
+        Ok(datagram) => Ok(datagram.copy()),
+        Err(lost) => Err(*lost),
+    };
+    Outcome {
+        request: outcome.request.copy(),
+        answer,
+    }
+}
+
+/// The same route once more.
+fn copy_route(route: &Option<Route>) -> Result<Option<Route>, AllocError>
+    ensures { IfOk result (λ copy. copy ≡ route.now) }
+{
+    route.clone()
+}
+
+/// The same record once more.
+fn copy_outcomes(alloc: Global, outcomes: &[Outcome]) -> Result<Vec<Outcome>, AllocError>
+    ensures { IfOk result (λ copy. copy.items ≡ outcomes.now) }
+{
+    let mut copy = Vec::new(alloc);
+    for outcome in outcomes {
+        copy.push(copy_outcome(outcome))?;
+    }
+    Ok(copy)
+}
+
+/// Whether no answer came to a question.
+fn is_lost(outcome: &Outcome) -> bool
+    ensures { result ≡ is_lost outcome.now }
+{
+    outcome.answer.is_err()
+}
+
+impl Opened {
+    /// Whether no answer came to one of the questions.
+    pub(crate) fn has_lost(&self) -> bool
+        ensures { result ≡ has_lost self.now }
+    {
+        self.conversation.outcomes.iter().any(is_lost)
+    }
+}
+
+/// Asks over a link for what lies behind what a run begins with, in so many steps of it at most.
+fn walk_on<L: LogLink>(
+    alloc: Global,
+    link: &mut L,
+    transactions: &mut Transactions,
+    start: Start,
+    steps: u32,
+)
+    ensures { WalksOn L.asks (towards transactions.old.route) transactions.old.retries link.old
+        start.hand.walk (why_of start.hand.gathered.step.ended) link.new }
+{
+    let Hand {
+        gathered,
+        mut walk,
+        took,
+    } = start.hand;
+    if gathered.step.ended.why().is_some() {
+        return;
+    }
+    let steps = steps.saturating_sub(took).min(BATCHES);
+    let _outcome = collect(alloc, link, transactions, &mut walk, steps);
+}
+
+impl Opening {
+    /// Asks over a link where the run begins.
+    fn begin<L: LogLink>(
+        &self,
+        alloc: Global,
+        link: &mut L,
+        transactions: &mut Transactions,
+        log: ObjectId,
+    ) -> Result<Result<Start, End>, NotDone>
+        requires { log.kind ≡ 20 }
+        ensures retries { transactions.new.retries ≡ transactions.old.retries }
+        ensures route { transactions.new.route ≡ transactions.old.route }
+        ensures begins { IfOk result (λ begun. Begins L.asks (towards transactions.old.route)
+            transactions.old.retries link.old self.now log begun link.new) }
+        ensures fault { IfErr result WantsMemory }
+    {
+        match &self.stand {
+            Some(stand) => start_at(
+                alloc,
+                link,
+                transactions,
+                self.id,
+                log,
+                self.many,
+                self.word,
+                stand,
+                self.steps,
+            ),
+            None => start_new(alloc, link, transactions, self.id, log, self.many),
+        }
+    }
+
+    /// Asks over a link where the run begins, and for what lies behind.
+    fn ask<L: LogLink>(
+        &self,
+        alloc: Global,
+        link: &mut L,
+        transactions: &mut Transactions,
+        log: ObjectId,
+    ) -> Result<(), NotDone>
+        requires { log.kind ≡ 20 }
+        ensures asks { OnOk result (Asks L.asks (towards transactions.old.route)
+            transactions.old.retries link.old self.now log link.new) }
+        ensures fault { IfErr result WantsMemory }
+    {
+        let begun = self.begin(alloc, link, transactions, log)?;
+        if let Ok(start) = begun {
+            walk_on(alloc, link, transactions, start, self.steps);
+        }
+        Ok(())
+    }
+
+    /// What came, once nothing more is asked.
+    fn opened(&self, alloc: Global, outcomes: &[Outcome]) -> Result<Opened, AllocError>
+        ensures { IfOk result (IsOpened self.now outcomes.now) }
+    {
+        let Ok(source) = copy_source(alloc, &self.source) else {
+            return Err(AllocError);
+        };
+        let outcomes = copy_outcomes(alloc, outcomes)?;
+        Ok(Opened {
+            source,
+            conversation: Conversation {
+                peer: self.peer,
+                outcomes,
+            },
+        })
+    }
+
+    /// What a run over a record comes to that left the link so.
+    fn turn_by(
+        &self,
+        alloc: Global,
+        outcomes: &[Outcome],
+        link: Play<'_>,
+    ) -> Result<Turn<Opened>, AllocError>
+        ensures { IfOk result (ComesTo self.now outcomes.now link.entry) }
+    {
+        if !link.is_used_up() {
+            return Ok(Turn::Unfit);
+        }
+        if !link.is_dry() {
+            return Ok(Turn::Ended(self.opened(alloc, outcomes)?));
+        }
+        match link.wanted() {
+            Some(question) => Ok(Turn::Wants(question)),
+            None => Ok(Turn::Unfit),
+        }
+    }
+}
+
+impl Job for Opening {
+    type End = Opened;
+
+    ghost plays = { λ opening outcomes turn. Plays opening outcomes turn };
+
+    fn play(&self, alloc: Global, outcomes: &[Outcome]) -> Result<Turn<Opened>, AllocError> {
+        let Some(log) = ObjectId::new(TREND_LOG, self.source.instance) else {
+            return Ok(Turn::Ended(self.opened(alloc, outcomes)?));
+        };
+        let mut link = Play::new(outcomes);
+        let mut transactions = transactions_by(0, copy_route(&self.route)?);
+        match self.ask(alloc, &mut link, &mut transactions, log) {
+            Ok(()) => self.turn_by(alloc, outcomes, link),
+            Err(_) => Err(AllocError),
+        }
+    }
+}
