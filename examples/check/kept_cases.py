@@ -31,7 +31,7 @@ from kept_folders import folders, folders_damaged
 from kept_parts import parts, parts_ended, parts_refused
 from kept_told import told_among_others, told_beside
 from kept_warehouse import warehouses
-from kept_whose import other_devices
+from kept_whose import asked_at_once, other_devices
 from kept_words import first_answers, own_lives, own_rule, own_words, renewed
 
 TOP = os.path.realpath(os.path.join(os.path.dirname(__file__), "../.."))
@@ -199,8 +199,8 @@ def line_by_line(judge, _runs):
         judge.ran(["keep", file, device.address, "1"])
     log.log(1)
     other.log(1)
-    # It tells who it is as all are asked that at once, and is held back then.
-    second.then[75] = second.open.clear
+    # It says all of itself as all are asked that at once, and is held back then.
+    second.then[155] = second.open.clear
     process = judge.started(["keep", file, "--timeout=60000"])
     # A line that isn't written yet would come only once the second device answers.
     ready = select.select([process.stdout], [], [], 30)[0]
@@ -675,7 +675,7 @@ def judgements(judge, _runs):
     judge.is_right("a broken page is seen", wrongs(broken, [device], True))
 
 
-CASES = [judgements, run_after_run, beginnings, options, losses, line_by_line, step_limits, last_epoch, dead_devices, dead_at_once, other_devices, words_and_names, no_archive, barred, far_away, rounds, restarts, clocks, questions, cut_files, foreign_files, objects_beside, a_large_file, printed, taken_over, served,
+CASES = [judgements, run_after_run, beginnings, options, losses, line_by_line, step_limits, last_epoch, dead_devices, dead_at_once, other_devices, asked_at_once, words_and_names, no_archive, barred, far_away, rounds, restarts, clocks, questions, cut_files, foreign_files, objects_beside, a_large_file, printed, taken_over, served,
          stopped, terminals, warehouses, names, own_words, own_rule, own_lives, first_answers, renewed, moved, moved_ways, two_of_one, told_later,
          moved_at_each_call, moved_at_random, emptied, never_begun, told_at_once, said_more, several, unlisted, listed, told_beside, told_among_others, parts, parts_refused, parts_ended,
          folders, folders_damaged, checked, checked_parts]

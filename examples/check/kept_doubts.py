@@ -33,7 +33,8 @@ def never_begun(judge, _runs):
 
 
 def told_at_once(judge, _runs):
-    """Two devices that refused their instance tell the same one in one run: it is on record of the first alone."""
+    """Two devices that refused their instance tell the same one in one run: it is on record of the first alone. So it is in a
+    file that is new, where the first one was asked before the others."""
     (first, _), (second, _) = one(count=1), one(count=1)
     file, number = f"{judge.room}/at_once.db", first.number
     first.number = second.number = None
@@ -44,3 +45,9 @@ def told_at_once(judge, _runs):
     for name in ("told at once", "and again"):
         judge.same(name, judge.ran(["keep", file]), (3, out, ""))
         judge.same(f"{name}: on record", in_file(file, "SELECT device FROM logs ORDER BY id"), [(number,), (None,)])
+    third, _ = one(count=1)
+    file = f"{judge.room}/new.db"
+    out = (line(first, 1, 1, "caught up, next 2") + line(second, 1, 0, f"two devices have the number {number}")
+           + line(third, 1, 1, "caught up, next 2"))
+    judge.same("a new file", judge.ran(["keep", file, first.address, second.address, third.address]), (3, out, ""))
+    judge.same("a new file: on record", in_file(file, "SELECT device FROM logs ORDER BY id"), [(number,), (third.number,)])

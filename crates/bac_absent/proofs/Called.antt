@@ -1,9 +1,10 @@
 -- Which devices are called, log by log.
-use Rattle.std.proofs.Common.{◌≡◌, ℕ, ◌<◌, Bool, true, false, not, ◌&&◌, ◌||◌, true≢false, List, [], ◌∷◌, ◌++◌, length, get_or, map, inl, inr, refl, ap, sym, subst, ◌∙◌, arith}
+use Rattle.std.proofs.Common.{◌≡◌, ℕ, ◌<◌, Bool, true, false, not, ◌&&◌, ◌||◌, true≢false, List, [], ◌∷◌, ◌++◌, if◌then◌else◌, append_assoc, length, get_or, map, inl, inr, refl, ap, sym, subst, ◌∙◌, arith}
 use Rattle.std.specs.List.{Contains, list_any}
 use Rattle.std.specs.String.{string_eq, string_eq_equiv}
 use Rattle.std.proofs.lemmas.Cmp.{nat_eq_equiv}
 use Rattle.std.proofs.lemmas.Bool.{and_from, and_parts}
+use Rattle.std.proofs.lemmas.List.{append-nil}
 use Rattle.std.proofs.lemmas.List.Elements.{Contains-append_left, Contains-push, Contains-push_cases}
 use Rattle.std.proofs.lemmas.List.Folds.{Any-from_list_any, list_any_at}
 use Rattle.std.proofs.lemmas.List.Quantifiers.{all_pairs_push}
@@ -12,7 +13,7 @@ use Rattle.bac_archive.specs.declared.trend_logs.Source.{Source}
 use Rattle.bac_asked.specs.declared.wanted.Wanted.{Wanted}
 use Rattle.bac_questions.specs.Silent.{is_same_device}
 use Rattle.bac_questions.specs.declared.whose.Heard.{Heard}
-use Rattle.bac_absent.specs.Absent.{AreCalled, is_called}
+use Rattle.bac_absent.specs.Each.{AreCalled, comes_to, coming, is_called}
 
 -- a device is its own
 itself : (s : Source) → is_same_device s s ≡ true
@@ -33,9 +34,38 @@ pub any_seen : {X Y : Type 0} (p : Y → Bool) (f : X → Y) (xs : List X) → l
 any_seen p f [] = refl
 any_seen p f (x ∷ xs) = ap (λ b. p (f x) || b) (any_seen p f xs)
 
+-- a log behind these, if it comes to them
+abbrev behind : List Heard → List Wanted → Wanted → List Wanted
+behind heard called wanted = if comes_to heard called wanted then wanted ∷ [] else []
+
+-- one more of some logs comes to these and those of them, or doesn't
+abbrev Pushes : List Heard → List Wanted → List Wanted → Wanted → Type 0
+Pushes heard called all wanted =
+    coming heard called (all ++ wanted ∷ []) ≡ coming heard called all ++ behind heard (called ++ coming heard called all) wanted
+
+pushes_by : (heard : List Heard) (called all : List Wanted) (wanted x : Wanted) (b : Bool) → Pushes heard (called ++ x ∷ []) all wanted → Pushes heard called all wanted →
+    (if b then x ∷ coming heard (called ++ x ∷ []) (all ++ wanted ∷ []) else coming heard called (all ++ wanted ∷ []))
+    ≡ (if b then x ∷ coming heard (called ++ x ∷ []) all else coming heard called all)
+    ++ behind heard (called ++ (if b then x ∷ coming heard (called ++ x ∷ []) all else coming heard called all)) wanted
+pushes_by heard called all wanted x true with_it without =
+    ap (λ (l : List Wanted). x ∷ l) with_it
+    ∙ ap (λ (l : List Wanted). x ∷ coming heard (called ++ x ∷ []) all ++ behind heard l wanted) (append_assoc called (x ∷ []) (coming heard (called ++ x ∷ []) all))
+pushes_by heard called all wanted x false with_it without = without
+
+pushes : (heard : List Heard) (called all : List Wanted) (wanted : Wanted) → Pushes heard called all wanted
+pushes heard called [] wanted = ap (λ (l : List Wanted). behind heard l wanted) (sym (append-nil called))
+pushes heard called (x ∷ all) wanted =
+    pushes_by heard called all wanted x (comes_to heard called x) (pushes heard (called ++ x ∷ []) all wanted) (pushes heard called all wanted)
+
+-- with what came to none so far
+are_more : (heard : List Heard) (all called : List Wanted) (wanted : Wanted) → called ≡ coming heard [] all →
+    called ++ behind heard called wanted ≡ coming heard [] (all ++ wanted ∷ [])
+are_more heard all called wanted are = ap (λ (l : List Wanted). l ++ behind heard l wanted) are ∙ sym (pushes heard [] all wanted)
+
 -- of no logs none is called
 pub none_called : (heard : List Heard) → AreCalled heard [] []
 none_called heard = record {
+  are = refl;
   among = λ one has. absurd (omega (arith, has.1));
   each = λ one has so. absurd (omega (arith, has.1));
   once = λ i j d less within. absurd (omega (arith, less, within));
@@ -45,6 +75,8 @@ none_called heard = record {
 pub one_more : (heard : List Heard) (all called : List Wanted) (wanted : Wanted) → AreCalled heard all called → is_called heard wanted ≡ true →
     list_any (λ (one : Wanted). is_same_device one.source wanted.source) called ≡ false → AreCalled heard (all ++ wanted ∷ []) (called ++ wanted ∷ [])
 one_more heard all called wanted are it none = record {
+  are = ap (λ (b : Bool). called ++ (if b then wanted ∷ [] else [])) (sym (and_from _ (not (list_any (λ (one : Wanted). is_same_device one.source wanted.source) called)) it (ap not none)))
+      ∙ are_more heard all called wanted are.are;
   among = λ one has. elim (Contains-push_cases called wanted one has) [
     | inl before ↦ (Contains-append_left all (wanted ∷ []) one (are.among one before).0, (are.among one before).1)
     | inr is ↦ (subst (Contains (all ++ wanted ∷ [])) is (Contains-push all wanted), subst (λ (w : Wanted). is_called heard w ≡ true) is it)
@@ -61,6 +93,7 @@ one_more heard all called wanted are it none = record {
 pub no_more : (heard : List Heard) (all called : List Wanted) (wanted : Wanted) → AreCalled heard all called →
     (is_called heard wanted && not (list_any (λ (one : Wanted). is_same_device one.source wanted.source) called)) ≡ false → AreCalled heard (all ++ wanted ∷ []) called
 no_more heard all called wanted are it = record {
+  are = sym (append-nil called) ∙ ap (λ (b : Bool). called ++ (if b then wanted ∷ [] else [])) (sym it) ∙ are_more heard all called wanted are.are;
   among = λ one has. (Contains-append_left all (wanted ∷ []) one (are.among one has).0, (are.among one has).1);
   each = λ other has so. elim (Contains-push_cases all wanted other has) [
     | inl before ↦ are.each other before so

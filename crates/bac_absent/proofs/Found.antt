@@ -1,4 +1,4 @@
--- What is done of calls, from one function to the next.
+-- What is done of devices that are called, from one function to the next.
 use Rattle.std.specs.Prelude.{IfErr}
 use Rattle.std.proofs.Common.{◌≡◌, ◌⊎◌, inl, inr, ◌≤◌, List, [], ◌∷◌, length, map, get_or, Result, Ok, Err, ap, sym, subst, arith}
 use Rattle.std.specs.List.{Contains}
@@ -10,7 +10,7 @@ use Rattle.bac_hearing.specs.Hearing.{StartedClock}
 use Rattle.bac_ports.specs.Sockets.{SocketRules}
 use Rattle.bac_questions.specs.Faults.{EndsAsking, IsUnopened}
 use Rattle.bac_questions.specs.declared.whose.Heard.{Heard}
-use Rattle.bac_absent.specs.Absent.{AreCalled, CallsAll, CallsMany, EndsCalling}
+use Rattle.bac_absent.specs.Each.{AreCalled, CallsAll, CallsMany, EndsCalling}
 
 -- two or more are called as the first is asked
 pub many : {S P C : Type 0} (rules : SocketRules S P) (clock : StartedClock C) (refs : List (Bor Wanted)) (first : Bor Wanted) (heard now : List Heard)

@@ -1,4 +1,6 @@
 pub mod Called
 pub mod Put
+pub mod Saying
+pub mod Taken
 pub mod Together
 pub mod Found

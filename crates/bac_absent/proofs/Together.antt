@@ -1,32 +1,34 @@
--- Calls of the devices of some logs, which are seen through references.
-use Rattle.std.proofs.Common.{◌≡◌, ℕ, List, [], ◌∷◌, length, map, All, refl, ap, sym, subst, ◌∙◌}
-use Rattle.std.proofs.lemmas.List.{length-map}
+-- The devices of some logs are asked at once, which are seen through references.
+use Rattle.std.proofs.Common.{◌≡◌, ℕ, List, [], ◌∷◌, map, refl, ap, subst, ◌∙◌}
 use denote.Ref.{Bor}
 use Rattle.bac_asked.specs.declared.wanted.Wanted.{Wanted}
 use Rattle.bac_hearing.specs.Hearing.{FailsToHear, HearsAll, StartedClock}
 use Rattle.bac_hearing.specs.declared.hearing.NotHeard.TheVariants.{Unfinished}
 use Rattle.bac_jobs.specs.declared.job.Ending.{Ending}
 use Rattle.bac_ports.specs.Sockets.{SocketRules}
+use Rattle.bac_questions.specs.declared.said.Said.{Said}
 use Rattle.bac_words.specs.declared.job.Asked.{Asked}
-use Rattle.bac_absent.specs.Absent.{HearsCalls, IsCall, Plays, Unending, peers_of}
-use Rattle.bac_absent.specs.declared.call.Call.{Call}
-use Rattle.bac_absent.specs.declared.call.Presence.{Presence}
+use Rattle.bac_absent.specs.Each.{HearsCalled, Unending, jobs_of, peers_of}
+use Rattle.bac_absent.specs.Identifying.{IsPlayed, identifying_of}
+use Rattle.bac_absent.specs.declared.identifying.Identifying.{Identifying}
 
 peers_seen : (refs : List (Bor Wanted)) → map (λ (one : Bor Wanted). one.now.asking.asked.address) refs ≡ peers_of (map (λ (one : Bor Wanted). one.now) refs)
 peers_seen [] = refl
 peers_seen (one ∷ refs) = ap (λ (l : List (List ℕ)). one.now.asking.asked.address ∷ l) (peers_seen refs)
 
-pub calls_all : {S P C : Type 0} (rules : SocketRules S P) (clock : StartedClock C) (asked : Asked) (refs : List (Bor Wanted)) (peers : List (List ℕ))
-    (calls : List Call) (before after : S) (ends : List (Ending Presence)) →
-    peers ≡ map (λ (one : Bor Wanted). one.now.asking.asked.address) refs → length calls ≡ length refs → All IsCall calls →
-    HearsAll rules clock Plays peers calls asked.local asked.timeout asked.retries before ends after →
-    HearsCalls rules clock asked (map (λ (one : Bor Wanted). one.now) refs) before ends after
-calls_all rules clock asked refs peers calls before after ends are same all heard = (
-  calls,
-  same ∙ sym (length-map refs (λ (one : Bor Wanted). one.now)),
-  all,
-  subst (λ (p : List (List ℕ)). HearsAll rules clock Plays p calls asked.local asked.timeout asked.retries before ends after) (are ∙ peers_seen refs) heard,
-)
+jobs_seen : (refs : List (Bor Wanted)) → map (λ (one : Bor Wanted). identifying_of one.now) refs ≡ jobs_of (map (λ (one : Bor Wanted). one.now) refs)
+jobs_seen [] = refl
+jobs_seen (one ∷ refs) = ap (λ (l : List Identifying). identifying_of one.now ∷ l) (jobs_seen refs)
+
+pub heard_all : {S P C : Type 0} (rules : SocketRules S P) (clock : StartedClock C) (asked : Asked) (refs : List (Bor Wanted)) (peers : List (List ℕ))
+    (jobs : List Identifying) (before after : S) (ends : List (Ending Said)) →
+    peers ≡ map (λ (one : Bor Wanted). one.now.asking.asked.address) refs → jobs ≡ map (λ (one : Bor Wanted). identifying_of one.now) refs →
+    HearsAll rules clock IsPlayed peers jobs asked.local asked.timeout asked.retries before ends after →
+    HearsCalled rules clock asked (map (λ (one : Bor Wanted). one.now) refs) before ends after
+heard_all rules clock asked refs peers jobs before after ends are these heard =
+    let called = map (λ (one : Bor Wanted). one.now) refs in
+    subst (λ (p : List (List ℕ)). HearsAll rules clock IsPlayed p (jobs_of called) asked.local asked.timeout asked.retries before ends after) (are ∙ peers_seen refs)
+    (subst (λ (j : List Identifying). HearsAll rules clock IsPlayed peers j asked.local asked.timeout asked.retries before ends after) (these ∙ jobs_seen refs) heard)
 
 pub unending : {S P C : Type 0} (rules : SocketRules S P) (clock : StartedClock C) (asked : Asked) (refs : List (Bor Wanted)) (peers : List (List ℕ))
     (before after : S) → peers ≡ map (λ (one : Bor Wanted). one.now.asking.asked.address) refs →

@@ -1,9 +1,9 @@
-//! Which devices of a run give no answer: all are called at once, so that those that are gone cost
-//! one wait in all.
+//! What the devices of a run say of themselves: all are asked at once, so that a site costs few
+//! waits in all, and those that are gone one.
 #![tactic(auto)]
 
-mod absent;
-mod call;
+mod each;
+mod identifying;
 
-pub use absent::find_absent;
-pub use call::{Call, Presence};
+pub use each::hear_each;
+pub use identifying::Identifying;

@@ -29,7 +29,7 @@ use Rattle.bac_fetch.specs.declared.unlisted.Unlisted.{Unlisted}
 use Rattle.bac_questions.specs.declared.said.Identity.TheVariants.{Told}
 use Rattle.bac_questions.specs.declared.said.Said.{Said}
 use Rattle.bac_questions.specs.declared.whose.Heard.{Heard}
-use Rattle.bac_absent.specs.Absent.{EndsCalling, FindsAbsent}
+use Rattle.bac_absent.specs.Each.{EndsCalling, HearsEach}
 use Rattle.bac_hearing.specs.Hearing.{StartedClock}
 use Rattle.bac_ports.specs.Sockets.{SocketRules}
 use Rattle.bac_words.specs.declared.job.Asked.{Asked}
@@ -135,7 +135,7 @@ FailsToSettle rules given all before after old fault = FailsOnRows fault
 abbrev pub EndsCalled : {S P C : Type 0} → SocketRules S P → StartedClock C → List Heard → List Wanted → S → S
     → Database → NotDone → Type 0
 EndsCalled {S = S} rules clock heard all before after old fault = EndsCalling rules all heard before after fault
-    ⊎ ((found : List Heard) × (called : S) × FindsAbsent rules clock all heard before found called
+    ⊎ ((found : List Heard) × (called : S) × HearsEach rules clock all heard before found called
     × EndsSettled rules found all called after old fault)
 
 -- A run over logs ends: where the device of the first one stands isn't settled; or it was, and the run ends behind it.

@@ -34,7 +34,7 @@ use Rattle.bac_asked.specs.declared.end.Ending.TheVariants.{NotAsked, Walk}
 use Rattle.bac_begin.specs.declared.starting.Start.{Start}
 use Rattle.bac_asked.specs.declared.log_words.Asking.{Asking}
 use Rattle.bac_asked.specs.declared.wanted.Wanted.{Wanted}
-use Rattle.bac_absent.specs.Absent.{FindsAbsent}
+use Rattle.bac_absent.specs.Each.{HearsEach}
 use Rattle.bac_hearing.specs.Hearing.{StartedClock}
 use Rattle.bac_ports.specs.Sockets.{SocketRules, UsesSocket, link_over, own_address, socket_asks}
 use Rattle.bac_ports.specs.declared.udp_link.UdpLink.{UdpLink}
@@ -228,14 +228,15 @@ KeepsAll {S = S} rules known heard last (wanted ∷ more) before after old new (
     × KeepsAll rules known now last more half after mid new ends
 KeepsAll rules known heard last _ before after old new _ = ⊥
 
--- So are they in a run: first it is found whether the device of the first one has moved; then which devices give no
--- answer, all at once; and then they are kept in an archive that has these logs, with what was heard of devices.
+-- So are they in a run: first it is found whether the device of the first one has moved; then all devices are asked at
+-- once what they say of themselves; and then the logs are kept in an archive that has these, with what was heard of
+-- devices.
 abbrev pub KeepsLogs : {S P C : Type 0} → SocketRules S P → StartedClock C → List Wanted → S → S → Database → Database
     → List End → Type 0
 KeepsLogs {S = S} rules clock all before after old new ends =
     (known : List Log) × AreLogs old.trees known × (heard : List Heard) × (half : S) × (mid : Database)
     × Settles rules known all before heard half old mid
-    × (found : List Heard) × (called : S) × FindsAbsent rules clock all heard half found called
+    × (found : List Heard) × (called : S) × HearsEach rules clock all heard half found called
     × (now : List Log) × AreLogs mid.trees now × (last : List Heard)
     × KeepsAll rules now found last all called after mid new ends
 

@@ -28,7 +28,7 @@ ghost use Rattle.bac_asked.specs.declared.wanted.Wanted.{Wanted as WantedOf};
 use crate::moving::settle;
 use crate::single::keep_next;
 use crate::sought::{Found, Sought, sought_logs};
-use bac_absent::find_absent;
+use bac_absent::hear_each;
 use bac_archive::{Log, logs};
 use bac_asked::{FileFault, NotDone, Options, Wanted, add_wanted, kept_log};
 use bac_desks::Clock;
@@ -249,14 +249,14 @@ fn settle_known<S: Sockets, A: Alter, E: Write>(
 }
 
 /// Keeps what is new of each of these logs in an archive; answers the greatest of their statuses.
-/// Devices that no router is in front of are called at once, before the first log, if they are two
-/// or more: by the clock, which is read for how long each is waited for. A device is asked once
-/// what it says of itself; one that tells another instance than the one on record isn't asked for
-/// its logs, nor is one that gave no answer before. A device that tells at a new place the instance
-/// on record of logs at another one has moved, if nobody tells it there. The errors have a line for
-/// such a device, for a log that began anew, and for one whose walk failed: what came in place of
-/// the answer, or what a refusal means. If it counts, they have the number of a log's records while
-/// it is fetched: for a terminal.
+/// A device is asked once what it says of itself: all are asked at once before the first log, if
+/// they are two or more, by the clock, which is read for how long each is waited for. One that
+/// tells another instance than the one on record isn't asked for its logs, nor is one that gave no
+/// answer before. A device that tells at a new place the instance on record of logs at another one
+/// has moved, if nobody tells it there. The errors have a line for such a device, for a log that
+/// began anew, and for one whose walk failed: what came in place of the answer, or what a refusal
+/// means. If it counts, they have the number of a log's records while it is fetched: for a
+/// terminal.
 pub fn keep_each<S: Heeds, C: Clock, A: Alter, O: Write, E: Write>(
     sockets: &mut S,
     conn: &mut Connection<A>,
@@ -296,7 +296,7 @@ where
         sockets.old sockets.new (state A.Store conn.old).now)) }
 {
     let mut heard = settle_known(sockets, conn, alloc, all.as_slice(), options, errors)?;
-    let called = find_absent(sockets, alloc, clock, all.as_slice(), &mut heard)?;
+    let called = hear_each(sockets, alloc, clock, all.as_slice(), &mut heard)?;
     keep_settled(
         sockets, conn, alloc, heard, all, called, counts, output, errors,
     )

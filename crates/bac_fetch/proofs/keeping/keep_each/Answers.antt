@@ -2,7 +2,7 @@ use Rattle.std.proofs.Common.{◌≡◌, List, inl, inr, rules, subst}
 use Rattle.std.proofs.lemmas.Result.{IfErr-weaker, IfOk-weaker}
 use Rattle.sqlite.specs.State.{HasCleanDisk}
 use Rattle.sqlite.specs.Held.{state}
-use Rattle.bac_absent.specs.Absent.{EndsCalling, FindsAbsent}
+use Rattle.bac_absent.specs.Each.{EndsCalling, HearsEach}
 use Rattle.bac_asked.specs.declared.wanted.Wanted.{Wanted}
 use Rattle.bac_hearing.specs.Hearing.{started}
 use Rattle.bac_ports.specs.Sockets.{socket_rules}
@@ -23,10 +23,10 @@ returns-clause-told g c =
     let old = state g.A.Store c.args.conn.now in
     let mid = state g.A.Store c.settle_known.new.conn in
     let time = started g.C.Clock.reads c.args.clock in
-    let silent = c.find_absent.new.heard.items in
-    let called = c.find_absent.new.sockets in
-    let found : FindsAbsent over time c.args.all.items c.in_ok-heard.heard.items c.settle_known.new.sockets silent called =
-    subst (λ (l : List Wanted). FindsAbsent over time l c.in_ok-heard.heard.items c.settle_known.new.sockets silent called) c.as_slice-2.ensures.value c.in_ok-called.ensures.found in
+    let spoken = c.hear_each.new.heard.items in
+    let called = c.hear_each.new.sockets in
+    let found : HearsEach over time c.args.all.items c.in_ok-heard.heard.items c.settle_known.new.sockets spoken called =
+    subst (λ (l : List Wanted). HearsEach over time l c.in_ok-heard.heard.items c.settle_known.new.sockets spoken called) c.as_slice-2.ensures.value c.in_ok-called.ensures.heard in
     IfOk-weaker c.keep_settled.result _ _
     (λ status told. (
       told.0,
@@ -39,7 +39,7 @@ returns-clause-told g c =
           let schema = settles_schema over known all c.args.sockets.now c.in_ok-heard.heard.items c.settle_known.new.sockets old.now mid.now settles has in
           let (now, are_now, last, kept) = told.4 clean schema in
           logs_kept over time all c.args.sockets.now c.settle_known.new.sockets called c.keep_settled.new.sockets old.now mid.now (state g.A.Store c.keep_settled.new.conn).now
-          known now c.in_ok-heard.heard.items silent last told.0 are settles found are_now kept,
+          known now c.in_ok-heard.heard.items spoken last told.0 are settles found are_now kept,
     ))
     c.keep_settled.ensures.told
 
@@ -66,12 +66,12 @@ returns-clause-caused g c clean has =
     let (known, are, settles) = rw c.as_slice.ensures.value at c.in_ok-heard.ensures.settled early has in
     let schema = settles_schema over known all c.args.sockets.now heard half old.now mid.now settles has in
     let time = started g.C.Clock.reads c.args.clock in
-    let silent = c.find_absent.new.heard.items in
-    let called = c.find_absent.new.sockets in
-    let found : FindsAbsent over time c.args.all.items c.in_ok-heard.heard.items c.settle_known.new.sockets silent called =
-    subst (λ (l : List Wanted). FindsAbsent over time l c.in_ok-heard.heard.items c.settle_known.new.sockets silent called) c.as_slice-2.ensures.value c.in_ok-called.ensures.found in
+    let spoken = c.hear_each.new.heard.items in
+    let called = c.hear_each.new.sockets in
+    let found : HearsEach over time c.args.all.items c.in_ok-heard.heard.items c.settle_known.new.sockets spoken called =
+    subst (λ (l : List Wanted). HearsEach over time l c.in_ok-heard.heard.items c.settle_known.new.sockets spoken called) c.as_slice-2.ensures.value c.in_ok-called.ensures.heard in
     IfErr-weaker c.keep_settled.result _ _
-    (λ fault it. logs_end over time (given_in c.args.options.now) all c.args.sockets.now half called c.keep_settled.new.sockets old.now mid.now known heard silent fault are settles found it)
+    (λ fault it. logs_end over time (given_in c.args.options.now) all c.args.sockets.now half called c.keep_settled.new.sockets old.now mid.now known heard spoken fault are settles found it)
     (c.keep_settled.ensures.caused clean schema)
 
 pub returns-in_err-heard-clause-caused : goal.returns-in_err-heard-clause-caused
@@ -91,14 +91,14 @@ returns-in_err-called-clause-caused g c clean has =
       c.settle_known.new.sockets,
       mid.now,
       settles,
-      inl (subst (λ (l : List Wanted). EndsCalling over l c.in_ok-heard.heard.items c.settle_known.new.sockets c.find_absent.new.sockets c.in_err-called.field-0.0) c.as_slice-2.ensures.value c.in_err-called.ensures.fault),
+      inl (subst (λ (l : List Wanted). EndsCalling over l c.in_ok-heard.heard.items c.settle_known.new.sockets c.hear_each.new.sockets c.in_err-called.field-0.0) c.as_slice-2.ensures.value c.in_err-called.ensures.fault),
     ))
 
 pub returns-in_err-called-clause-fault : goal.returns-in_err-called-clause-fault
 returns-in_err-called-clause-fault g c =
     let over = socket_rules g.S.Sockets.opens g.S.Sockets.closes g.S.Socket.Port.sends g.S.Socket.Port.receives g.S.Socket.Port.receives_within in
     because c.from_residual-in_err-called.result c.in_err-called.field-0.0 _ (search rules)
-    (calling_ends_run over _ _ c.as_slice-2.result.now c.in_ok-heard.heard.items c.settle_known.new.sockets c.find_absent.new.sockets c.in_err-called.field-0.0 c.in_err-called.ensures.fault)
+    (calling_ends_run over _ _ c.as_slice-2.result.now c.in_ok-heard.heard.items c.settle_known.new.sockets c.hear_each.new.sockets c.in_err-called.field-0.0 c.in_err-called.ensures.fault)
 
 pub returns-clause-fault : goal.returns-clause-fault
 returns-clause-fault g c =

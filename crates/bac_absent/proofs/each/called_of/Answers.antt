@@ -1,11 +1,11 @@
-use Rattle.std.proofs.Common.{◌≡◌, ◌∙◌, ◌+◌, ◌<◌, false, length, List, ◌∷◌, ◌++◌, [], map, take, subst, sym, ap, rules, arith}
+use Rattle.std.proofs.Common.{◌≡◌, ◌∙◌, ◌+◌, ◌<◌, length, List, ◌∷◌, ◌++◌, [], map, take, subst, sym, ap, arith}
 use Rattle.std.proofs.lemmas.List.{take_more}
 use denote.Ref.{Bor}
 use Rattle.bac_asked.specs.declared.wanted.Wanted.{Wanted}
-use Rattle.bac_absent.specs.Absent.{AreCalled}
+use Rattle.bac_absent.specs.Each.{AreCalled}
 use Rattle.bac_absent.proofs.Called.{comes, stays}
-use Rattle.bac_absent.proofs.absent.called_of.Goals as goal
-use Rattle.bac_absent.proofs.absent.called_of.Goals.{then-comes_to+in_ok-add_called, else-comes_to}
+use Rattle.bac_absent.proofs.each.called_of.Goals as goal
+use Rattle.bac_absent.proofs.each.called_of.Goals.{then-comes_to+in_ok-add_called, else-comes_to}
 
 pub loop-wanted-preserved : goal.loop-wanted-preserved
 loop-wanted-preserved c =

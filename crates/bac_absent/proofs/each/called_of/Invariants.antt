@@ -1,6 +1,6 @@
 use Rattle.std.proofs.Common.{map, take}
-use Rattle.bac_absent.specs.Absent.{AreCalled}
-use Rattle.bac_absent.proofs.absent.called_of.Given as goal
+use Rattle.bac_absent.specs.Each.{AreCalled}
+use Rattle.bac_absent.proofs.each.called_of.Given as goal
 
 -- of the logs so far
 abbrev pub invariant-loop-wanted : goal.invariant-loop-wanted

@@ -1,7 +1,7 @@
 use Rattle.std.proofs.Common.{◌≡◌, false, take}
 use Rattle.std.specs.List.{list_any}
 use Rattle.bac_questions.specs.Silent.{is_same_device}
-use Rattle.bac_absent.proofs.absent.is_among.Given as goal
+use Rattle.bac_absent.proofs.each.is_among.Given as goal
 
 -- none so far is of this device
 abbrev pub invariant-loop-one : goal.invariant-loop-one

@@ -2,7 +2,7 @@ use Rattle.std.proofs.Common.{rules}
 use Rattle.bac_hearing.specs.Hearing.{started}
 use Rattle.bac_ports.specs.Sockets.{socket_rules}
 use Rattle.bac_absent.proofs.Found.{fails, many}
-use Rattle.bac_absent.proofs.absent.call_many.Goals as goal
+use Rattle.bac_absent.proofs.each.call_many.Goals as goal
 
 pub returns-in_err-call_as-clause-fault : goal.returns-in_err-call_as-clause-fault
 returns-in_err-call_as-clause-fault g c =

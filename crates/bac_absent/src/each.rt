@@ -1,27 +1,30 @@
-//! Devices are called at once.
+//! Devices are asked at once what they say of themselves.
 
 ghost use Rattle.std.specs.Prelude.{◌≡◌, ◌⊎◌, true, false, IfErr, IfNone, IfOk, IfSome, OnOk, ◌&&◌};
 ghost use Rattle.std.specs.Prelude.{◌∷◌, ◌++◌, [], length, map, not};
-ghost use Rattle.std.specs.List.{All, Contains, list_any};
+ghost use Rattle.std.specs.List.{Contains, list_any};
 ghost use Rattle.bac_asked.specs.Faults.{WantsMemory};
 ghost use Rattle.bac_asked.specs.declared.wanted.Wanted.{Wanted as WantedOf};
 ghost use Rattle.bac_hearing.specs.Hearing.{started};
 ghost use Rattle.bac_ports.specs.Sockets.{socket_rules};
 ghost use Rattle.bac_questions.specs.Faults.{EndsAsking, IsUnopened};
-ghost use Rattle.bac_questions.specs.Said.{silent};
 ghost use Rattle.bac_questions.specs.Silent.{is_same_device};
-ghost use Rattle.bac_absent.specs.Absent.{AreCalled, Calls, CallsAll, CallsMany, EndsCalling};
-ghost use Rattle.bac_absent.specs.Absent.{FindsAbsent, HearsCalls, IsCall, PutsAbsent, SaysMany};
-ghost use Rattle.bac_absent.specs.Absent.{Unending, are_many, is_called, presence_of};
+ghost use Rattle.bac_questions.specs.Whose.{told_elsewhere};
+ghost use Rattle.bac_absent.specs.Each.{AreCalled, CallsAll, CallsMany, EndsCalling, HearsCalled};
+ghost use Rattle.bac_absent.specs.Each.{HearsEach, PutsEach, PutsOne, SaysMany, Unending};
+ghost use Rattle.bac_absent.specs.Each.{are_many, is_called, is_left_out};
+ghost use Rattle.bac_absent.specs.Identifying.{identifying_of};
 
-use crate::call::{Call, Presence, presence_of};
+use crate::identifying::Identifying;
 use bac_archive::Source;
 use bac_asked::{Fault, NotDone, Wanted};
 use bac_desks::Clock;
 use bac_hearing::{NotHeard, hear_all};
 use bac_jobs::Ending;
 use bac_ports::Sockets;
-use bac_questions::{Heard, copy_source, is_heard, is_same_device, push_heard, silent};
+use bac_questions::{
+    Heard, Identity, Said, copy_source, is_heard, is_same_device, is_told, push_heard,
+};
 use bac_words::Asked;
 use std::alloc::{AllocError, Global};
 
@@ -29,7 +32,7 @@ use std::alloc::{AllocError, Global};
 fn is_called(heard: &[Heard], wanted: &Wanted) -> bool
     ensures { result ≡ is_called heard.now wanted.now }
 {
-    wanted.asking.asked.route.is_none() && !is_heard(heard, &wanted.source)
+    !is_heard(heard, &wanted.source)
 }
 
 /// Whether the last of these logs is of the device of this one.
@@ -110,30 +113,29 @@ fn peers_of(alloc: Global, called: &[&Wanted]) -> Result<Vec<[u8; 6]>, AllocErro
     Ok(peers)
 }
 
-/// So many calls.
-fn calls_of(alloc: Global, count: usize) -> Result<Vec<Call>, AllocError>
-    ensures count { IfOk result (λ calls. length calls.items ≡ count) }
-    ensures calls { IfOk result (λ calls. All IsCall calls.items) }
+/// What the devices of these logs are asked.
+fn jobs_of(alloc: Global, called: &[&Wanted]) -> Result<Vec<Identifying>, AllocError>
+    ensures { IfOk result (λ jobs. jobs.items ≡ map (λ one. identifying_of one.now) called.now) }
 {
-    let mut calls = Vec::new(alloc);
-    for _at in 0..count {
-        calls.push(Call::new())?;
+    let mut jobs = Vec::new(alloc);
+    for one in called {
+        jobs.push(Identifying::of(one)?)?;
     }
-    Ok(calls)
+    Ok(jobs)
 }
 
-/// Calls the devices of these logs at once, each as this one is asked: how each call ended; nothing
-/// if it didn't.
-fn hear_calls<S: Sockets, C: Clock>(
+/// Asks the devices of these logs at once what they say of themselves, with the waits and retries
+/// of this one: how that ended for each; nothing if it didn't.
+fn hear_called<S: Sockets, C: Clock>(
     sockets: &mut S,
     alloc: Global,
     clock: C,
     asked: &Asked,
     called: &[&Wanted],
-) -> Result<Option<Vec<Ending<Presence>>>, NotDone>
+) -> Result<Option<Vec<Ending<Said>>>, NotDone>
 where
     C: Drop,
-    ensures called { IfOk result (λ ends. IfSome ends (λ all. HearsCalls
+    ensures heard { IfOk result (λ ends. IfSome ends (λ all. HearsCalled
         (socket_rules S.opens S.closes S.Socket.sends S.Socket.receives
         S.Socket.receives_within) (started C.reads clock) asked.now
         (map (λ one. one.now) called.now) sockets.old all.items sockets.new)) }
@@ -146,7 +148,7 @@ where
     ensures fault { IfErr result (EndsAsking (socket_rules S.opens S.closes S.Socket.sends
         S.Socket.receives S.Socket.receives_within) asked.now sockets.old sockets.new) }
 {
-    let (Ok(peers), Ok(calls)) = (peers_of(alloc, called), calls_of(alloc, called.len())) else {
+    let (Ok(peers), Ok(jobs)) = (peers_of(alloc, called), jobs_of(alloc, called)) else {
         return Err(NotDone::Asking(Fault::Memory));
     };
     match hear_all(
@@ -154,7 +156,7 @@ where
         alloc,
         clock,
         peers.as_slice(),
-        calls.as_slice(),
+        jobs.as_slice(),
         asked.local,
         asked.timeout,
         asked.retries,
@@ -166,97 +168,69 @@ where
     }
 }
 
-/// What came of calls that ended so.
-fn presences_of(alloc: Global, endings: &[Ending<Presence>]) -> Result<Vec<Presence>, NotDone>
-    ensures ends { IfOk result (λ ends. ends.items ≡ map presence_of endings.now) }
-    ensures fault { IfErr result WantsMemory }
+/// Whether another device than a log's told this instance in this run.
+fn told_elsewhere(heard: &[Heard], source: &Source, device: u32) -> bool
+    ensures { result ≡ told_elsewhere heard.now source.now device }
 {
-    let mut ends = Vec::new(alloc);
-    for ending in endings {
-        push_presence(&mut ends, presence_of(ending))?;
+    for one in heard {
+        if is_told(device, one.said.identity) && !is_same_device(&one.source, source) {
+            return true;
+        }
     }
-    Ok(ends)
+    false
 }
 
-/// Puts what came of a call behind that of others.
-fn push_presence(ends: &mut Vec<Presence>, end: Presence) -> Result<(), NotDone>
-    ensures pushed { OnOk result (ends.new.items ≡ ends.old.items ++ end ∷ []) }
-    ensures fault { IfErr result WantsMemory }
+/// Whether the device of a log is left out whose questions ended so, to be asked alone in its turn:
+/// it told an instance that another one told before, or gave no answer while something else came
+/// from its host.
+fn is_left_out(heard: &[Heard], source: &Source, ending: &Ending<Said>) -> bool
+    ensures { result ≡ is_left_out heard.now source.now ending.now }
 {
-    match ends.push(end) {
-        Ok(()) => Ok(()),
-        Err(_) => Err(NotDone::Asking(Fault::Memory)),
-    }
-}
-
-/// Calls the devices of these logs at once, each as this one is asked: what came of each call;
-/// nothing if it didn't end.
-fn call_all<S: Sockets, C: Clock>(
-    sockets: &mut S,
-    alloc: Global,
-    clock: C,
-    asked: &Asked,
-    called: &[&Wanted],
-) -> Result<Option<Vec<Presence>>, NotDone>
-where
-    C: Drop,
-    ensures called { IfOk result (λ ends. IfSome ends (λ all. Calls
-        (socket_rules S.opens S.closes S.Socket.sends S.Socket.receives
-        S.Socket.receives_within) (started C.reads clock) asked.now
-        (map (λ one. one.now) called.now) sockets.old all.items sockets.new)) }
-    ensures each { IfOk result (λ ends. IfSome ends
-        (λ all. length all.items ≡ length called.now)) }
-    ensures unending { IfOk result (λ ends. IfNone ends (Unending
-        (socket_rules S.opens S.closes S.Socket.sends S.Socket.receives
-        S.Socket.receives_within) (started C.reads clock) asked.now
-        (map (λ one. one.now) called.now) sockets.old sockets.new)) }
-    ensures fault { IfErr result (EndsAsking (socket_rules S.opens S.closes S.Socket.sends
-        S.Socket.receives S.Socket.receives_within) asked.now sockets.old sockets.new) }
-{
-    match hear_calls(sockets, alloc, clock, asked, called)? {
-        Some(endings) => Ok(Some(presences_of(alloc, endings.as_slice())?)),
-        None => Ok(None),
+    match ending.end.identity {
+        Identity::Told(device) => told_elsewhere(heard, source, device),
+        Identity::Untold => false,
+        Identity::Lost => ending.has_stray,
     }
 }
 
-/// Puts the device of a log behind those heard of, as silent, if no answer came of its call.
+/// Puts the device of a log behind those heard of with what it said, unless it is left out.
 fn put_one(
     alloc: Global,
     heard: &mut Vec<Heard>,
     one: &Wanted,
-    end: Presence,
+    ending: Ending<Said>,
 ) -> Result<(), NotDone>
-    ensures put { OnOk result
-        (PutsAbsent (one.now ∷ []) (end ∷ []) heard.old.items heard.new.items) }
+    ensures put { OnOk result (PutsOne one.now ending heard.old.items heard.new.items) }
     ensures fault { IfErr result WantsMemory }
 {
-    match end {
-        Presence::Here => Ok(()),
-        Presence::Absent => { push_heard(heard, copy_source(alloc, &one.source)?, silent(), false) }
+    if is_left_out(heard.as_slice(), &one.source, &ending) {
+        return Ok(());
     }
+    push_heard(heard, copy_source(alloc, &one.source)?, ending.end, false)
 }
 
-/// Puts those of these devices behind those heard of, as silent, of whose calls no answer came.
-fn put_absent(
+/// Puts these devices behind those heard of, each with what it said, unless it is left out.
+fn put_each(
     alloc: Global,
     heard: &mut Vec<Heard>,
     called: &[&Wanted],
-    ends: &[Presence],
+    endings: Vec<Ending<Said>>,
 ) -> Result<(), NotDone>
-    requires { length ends.now ≡ length called.now }
-    ensures put { OnOk result (PutsAbsent (map (λ one. one.now) called.now) ends.now heard.old.items
-        heard.new.items) }
+    requires { length endings.items ≡ length called.now }
+    ensures put { OnOk result (PutsEach (map (λ one. one.now) called.now) endings.items
+        heard.old.items heard.new.items) }
     ensures fault { IfErr result WantsMemory }
 {
-    for at in 0..called.len() {
-        let end = ends[at];
-        put_one(alloc, heard, called[at], end)?;
+    let mut at = 0usize;
+    for ending in endings {
+        put_one(alloc, heard, called[at], ending)?;
+        at += 1;
     }
     Ok(())
 }
 
-/// Calls the devices of these logs at once, each as this one is asked, and puts those that give no
-/// answer behind those heard of.
+/// Asks the devices of these logs at once what they say of themselves, with the waits and retries
+/// of this one, and puts each behind those heard of with what it said, unless it is left out.
 fn call_as<S: Sockets, C: Clock>(
     sockets: &mut S,
     alloc: Global,
@@ -274,8 +248,8 @@ where
     ensures fault { IfErr result (EndsAsking (socket_rules S.opens S.closes S.Socket.sends
         S.Socket.receives S.Socket.receives_within) asked.now sockets.old sockets.new) }
 {
-    match call_all(sockets, alloc, clock, asked, called)? {
-        Some(ends) => put_absent(alloc, heard, called, ends.as_slice()),
+    match hear_called(sockets, alloc, clock, asked, called)? {
+        Some(endings) => put_each(alloc, heard, called, endings),
         None => Ok(()),
     }
 }
@@ -307,12 +281,13 @@ where
     Ok(true)
 }
 
-/// Calls the devices of these logs at once that no router is in front of, and that weren't heard
-/// of, each once, if there are two or more: whether they were called. Those that give no answer are
-/// put behind those heard of, as silent, if nothing came from their hosts in its place: what came
-/// is told when they are asked alone. A call is asked, waited for and repeated as the run asks
-/// the first of them.
-pub fn find_absent<S: Sockets, C: Clock>(
+/// Asks the devices of these logs that weren't heard of at once what they say of themselves, each
+/// once, if there are two or more: whether they were asked. Each is put behind those heard of with
+/// what it said, or as silent. Left out, to be asked alone in their turn, are one that told an
+/// instance which another one told before it, and one that gave no answer while something else came
+/// from its host, since what came is told then. The questions are waited for and repeated as the
+/// run asks the first of them.
+pub fn hear_each<S: Sockets, C: Clock>(
     sockets: &mut S,
     alloc: Global,
     clock: C,
@@ -321,7 +296,7 @@ pub fn find_absent<S: Sockets, C: Clock>(
 ) -> Result<bool, NotDone>
 where
     C: Drop,
-    ensures found { OnOk result (FindsAbsent (socket_rules S.opens S.closes S.Socket.sends
+    ensures heard { OnOk result (HearsEach (socket_rules S.opens S.closes S.Socket.sends
         S.Socket.receives S.Socket.receives_within) (started C.reads clock) all.now
         heard.old.items sockets.old heard.new.items sockets.new) }
     ensures many { IfOk result (SaysMany all.now heard.old.items) }

@@ -2,9 +2,9 @@ use Rattle.std.proofs.Common.{List, map, subst, sym}
 use denote.Ref.{Bor}
 use Rattle.bac_asked.specs.declared.wanted.Wanted.{Wanted}
 use Rattle.bac_ports.specs.Sockets.{socket_rules}
-use Rattle.bac_absent.specs.Absent.{AreCalled}
+use Rattle.bac_absent.specs.Each.{AreCalled}
 use Rattle.bac_absent.proofs.Found.{ends}
-use Rattle.bac_absent.proofs.absent.find_absent.Goals as goal
+use Rattle.bac_absent.proofs.each.hear_each.Goals as goal
 
 pub returns-clause-fault : goal.returns-clause-fault
 returns-clause-fault g c =

@@ -1,0 +1,36 @@
+-- What the questions what a device says of itself come to over a record of what came to them. Read `IsPlayed`.
+use Rattle.std.specs.Prelude.{◌≡◌, ◌≢◌, ◌⊎◌, true, false, List, [], None, Some}
+use Rattle.bac_asked.specs.declared.wanted.Wanted.{Wanted}
+use Rattle.bac_jobs.specs.declared.job.Turn.{Turn}
+use Rattle.bac_jobs.specs.declared.job.Turn.TheVariants.{Ended, Unfit, Wants}
+use Rattle.bac_link.specs.Path.{towards}
+use Rattle.bac_play.specs.declared.play.Outcome.{Outcome}
+use Rattle.bac_play.specs.declared.play.Play.{Play}
+use Rattle.bac_play.specs.Play.{Plays}
+use Rattle.bac_questions.specs.Said.{Says}
+use Rattle.bac_questions.specs.declared.said.Said.{Said}
+use Rattle.bac_absent.specs.declared.identifying.Identifying.{Identifying}
+
+-- the questions to the device of a log, by its route
+abbrev pub identifying_of : Wanted → Identifying
+identifying_of wanted = record { route = wanted.asking.asked.route }
+
+-- They were asked, each once, over a link that answers from this record and nothing else; it was left so, and the
+-- device says this by what it answered.
+abbrev pub Runs : Identifying → List Outcome → Said → Play → Type 0
+Runs job outcomes said left =
+    (link : Play) × (link.outcomes.now ≡ outcomes) × (link.is_dry ≡ false)
+    × Says Plays (towards job.route) 0 link said left
+
+-- What they come to over a record: all of it was taken, and this is what was asked first beyond it; or all that was
+-- asked is in it, and the device says this; or the record has an outcome of what isn't asked, or what is asked fits no
+-- datagram.
+abbrev pub IsPlayed : Identifying → List Outcome → Turn Said → Type 0
+IsPlayed job outcomes (Wants octets) =
+    (said : Said) × (left : Play) × Runs job outcomes said left × (left.outcomes.now ≡ []) × (left.is_dry ≡ true)
+    × (left.wanted ≡ Some octets)
+IsPlayed job outcomes (Ended said) =
+    (left : Play) × Runs job outcomes said left × (left.outcomes.now ≡ []) × (left.is_dry ≡ false)
+IsPlayed job outcomes Unfit =
+    (said : Said) × (left : Play) × Runs job outcomes said left
+    × ((left.outcomes.now ≢ []) ⊎ ((left.is_dry ≡ true) × (left.wanted ≡ None)))
