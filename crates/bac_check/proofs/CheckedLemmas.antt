@@ -2,15 +2,16 @@
 use Rattle.std.proofs.Common.{◌≡◌, refl, sym, ap, subst, ◌∙◌, ℕ, suc, ◌+◌, ◌<◌, max, List, [], ◌∷◌, drop, get_or, length, Option, arith, Result, Err, IfErr}
 use Rattle.std.proofs.Math.Seq.{drop-cons}
 use Rattle.bac_asked.specs.declared.fault.FileFault.{FileFault}
-use Rattle.bac_check.specs.Checked.{Rules, TakesEach, TakesPath, told_status}
+use Rattle.bac_files.specs.Parts.{PartRules}
+use Rattle.bac_check.specs.Checked.{TakesEach, TakesPath, told_status}
 use Rattle.bac_check.specs.declared.counts.Counts.{Counts}
 
 -- what the other parts come to, all parts do, beside a status so far
-abbrev pub Leads : {P : Type 0} → Rules P → P → List (List ℕ) → Counts → P → List (List ℕ) → Counts → ℕ → Type 0
+abbrev pub Leads : {P : Type 0} → PartRules P → P → List (List ℕ) → Counts → P → List (List ℕ) → Counts → ℕ → Type 0
 Leads {P} rules old paths before mid rest now status =
     (later : ℕ) (after : Counts) (new : P) → TakesEach rules mid rest now later after new → TakesEach rules old paths before (max status later) after new
 
-module _ {P : Type 0} (rules : Rules P) (old : P) (paths : List (List ℕ)) (before : Counts) where
+module _ {P : Type 0} (rules : PartRules P) (old : P) (paths : List (List ℕ)) (before : Counts) where
   pub leads_none : Leads rules old paths before old paths before 0
   leads_none later after new all = subst (λ n. TakesEach rules old paths before n after new) (let e : later ≡ max 0 later = omega arith in e) all
 

@@ -4,8 +4,9 @@ use Rattle.std.proofs.lemmas.List.Sums.{sum_by_push}
 use Rattle.bac_check.specs.declared.tally.Span.{Span}
 use Rattle.bac_check.specs.declared.tally.Tally.{Tally}
 use Rattle.bac_check.specs.Holes.{AreHoles, Has, Have, end_of, stretch}
+use Rattle.bac_check.specs.Lines.{HolesAreMissing}
 use Rattle.bac_check.specs.Tallies.{IsTally, gap_numbers}
-use Rattle.bac_check.proofs.HoleLemmas.{have_cases, have_new, have_old, more_holes, rise_more}
+use Rattle.bac_check.proofs.HoleLemmas.{from_beginning, have_cases, have_new, have_old, in_none, more_holes, rise_more}
 
 ones : (last : Option ℕ) → (if is_none last then 1 else 0) + (if is_some last then 1 else 0) ≡ 1
 ones None = refl
@@ -49,3 +50,14 @@ module _ (spans : List Span) (old t : Tally) (span : Span) (was : IsTally spans 
     short = omega (arith, gone, last, was.short, up, in_order, within (is_some span.last) (end_of span + 1 - span.number));
     holes = subst (AreHoles None (spans ++ span ∷ [])) (sym holes) (more_holes spans span old.holes.items old.last was.holes was.last was.greatest up in_order);
   }
+
+no_holes : (from : Option ℕ) → AreHoles from [] []
+no_holes from = record {
+  apart = tt;
+  each = λ n. (λ lies. absurd (in_none lies.0 lies.1), λ it. absurd (in_none it.later.2.0 it.later.2.1));
+}
+
+-- what is told as the holes of an epoch is missing
+pub holes_are : HolesAreMissing
+holes_are from spans None it = subst (λ (l : List Span). AreHoles from l []) (sym it) (no_holes from)
+holes_are from spans (Some t) it = from_beginning spans t.holes.items t.first it.holes it.first it.least from

@@ -1,15 +1,25 @@
 -- What a status of 0 means.
-use Rattle.std.proofs.Common.{◌≡◌, ◌⊎◌, inl, inr, refl, sym, subst, ◌∙◌, ℕ, Bool, true, false, List, [], ◌∷◌, Option, None, Some, unwrap_or, arith}
+use Rattle.std.proofs.Common.{◌≡◌, ◌⊎◌, inl, inr, refl, sym, subst, ◌∙◌, ℕ, ◌==◌, ◌&&◌, if◌then◌else◌, Bool, true, false, List, [], ◌∷◌, Option, None, Some, unwrap_or, arith}
+use Rattle.std.specs.List.{Contains, list_all}
+use Rattle.std.proofs.lemmas.Bool.{eq-eqb}
 use Rattle.sqlite.specs.declared.error.Error.{Error}
 use Rattle.bac_asked.specs.Faults.{of_error}
 use Rattle.bac_asked.specs.Status.{file_status}
 use Rattle.bac_asked.specs.declared.fault.FileFault.{FileFault}
 use Rattle.bac_asked.specs.declared.fault.FileFault.TheVariants as file
-use Rattle.bac_files.specs.Parts.{Reading}
-use Rattle.bac_check.specs.Checked.{Rules, TakesEach, TakesPath, has_all, last_told, told_status, unless_whole}
+use Rattle.bac_files.specs.Parts.{PartRules, Reading}
+use Rattle.bac_check.specs.Checked.{TakesEach, TakesPath, has_all, is_complete, last_told, told_status, unless_whole}
 use Rattle.bac_check.specs.Taken.{IsCounted, TakesPart}
-use Rattle.bac_check.specs.Whole.{AreRight, IsPassedOver, IsRight, ZeroIsWhole}
+use Rattle.bac_check.specs.Holes.{Rise}
+use Rattle.bac_check.specs.Lines.{holes_of, is_none_of, is_whole}
+use Rattle.bac_check.specs.Tallies.{IsTallied}
+use Rattle.bac_check.specs.Whole.{AreRight, IsPassedOver, IsRight, WholeHasEach, ZeroIsWhole}
 use Rattle.bac_check.specs.declared.counts.Counts.{Counts}
+use Rattle.bac_check.specs.declared.tally.Hole.{Hole}
+use Rattle.bac_check.specs.declared.tally.Span.{Span}
+use Rattle.bac_check.specs.declared.tally.Tally.{Tally}
+use Rattle.bac_check.proofs.HoleLemmas.{in_cases, in_none, none_missing}
+use Rattle.bac_check.proofs.TallyLemmas.{holes_are}
 
 -- a fault has a status
 pub told : (fault : FileFault) → file_status fault ≡ 0 → ⊥
@@ -43,7 +53,7 @@ is_counted old found why new none (inr (inl barred)) = absurd (some_none _ why _
 is_counted old found why new none (inr (inr (inl counted))) = subst (λ w. IsCounted old found w new) none counted
 is_counted old found why new none (inr (inr (inr (failed, is)))) = absurd (some_none _ why _ none is)
 
-module _ {P : Type 0} (rules : Rules P) where
+module _ {P : Type 0} (rules : PartRules P) where
   is_right : (old : P) (path : List ℕ) (before : Counts) (why : Option FileFault) (after : Counts) (new : P) → why ≡ None
       → TakesPath rules old path before why after new → IsRight rules old path before after new
   is_right old path before why after new none (inr (reason, barred, is, same)) = absurd (some_none _ why _ none is)
@@ -84,3 +94,36 @@ module _ {P : Type 0} (rules : Rules P) where
     last_right mid paths last front why counts new (omega (arith, zero, is)) one,
     whole (has_all counts) (omega (arith, zero, is)),
   )
+
+-- ---- each number where there is no hole
+
+both_true : (a b : Bool) → (a && b) ≡ true → (a ≡ true) × (b ≡ true)
+both_true true b is = (refl, is)
+both_true false b is = absurd (let e : false ≡ true = is in cc)
+
+all_at : {X : Type 0} (p : X → Bool) (xs : List X) (x : X) → list_all p xs ≡ true → Contains xs x → p x ≡ true
+all_at p [] x all there = absurd (in_none x there)
+all_at {X = X} p (y ∷ xs) x all there = go (in_cases x y xs there) (λ rest. all_at p xs x both.1 rest)
+  where
+    both : (p y ≡ true) × (list_all p xs ≡ true)
+    both = both_true (p y) (list_all p xs) all
+
+    go : (y ≡ x) ⊎ Contains xs x → (Contains xs x → p x ≡ true) → p x ≡ true
+    go (inl is) more = subst (λ (z : X). p z ≡ true) is both.0
+    go (inr rest) more = more rest
+
+none_there : (holes : List Hole) → is_none_of holes ≡ true → holes ≡ []
+none_there [] is = refl
+none_there (hole ∷ holes) is = absurd (let e : false ≡ true = is in cc)
+
+rises : (spans : List Span) (counted : Option Tally) → IsTallied spans counted → Rise 0 spans
+rises spans None it = subst (Rise 0) (sym it) tt
+rises spans (Some t) it = it.rise
+
+pub whole_has_each : WholeHasEach
+whole_has_each counts log course spans all known there of_log it n m have le from =
+    let one = all_at (is_complete counts.courses.items) counts.logs.items log all known in
+    let so : is_whole log.id course ≡ true = all_at (is_whole log.id) counts.courses.items course one there in
+    let here : (course.log == log.id) ≡ true = eq-eqb course.log log.id of_log in
+    let none = none_there (holes_of course.from course.tally) (subst (λ (b : Bool). (if b then is_none_of (holes_of course.from course.tally) else true) ≡ true) here so) in
+    (none_missing course.from spans (holes_of course.from course.tally) (rises spans course.tally it) (holes_are course.from spans course.tally it)).0 none n m have le from

@@ -10,7 +10,7 @@ use Rattle.bac_asked.specs.Lines.{source_text}
 use Rattle.bac_asked.specs.Status.{file_status}
 use Rattle.bac_asked.specs.declared.fault.FileFault.{FileFault}
 use Rattle.bac_asked.specs.declared.fault.FileFault.TheVariants as file
-use Rattle.bac_files.specs.Parts.{Listing, Reading}
+use Rattle.bac_files.specs.Parts.{PartRules, Reading}
 use Rattle.bac_files.specs.declared.not_opened.NotOpened.{NotOpened}
 use Rattle.bac_print.specs.Output.{AppendsPart, Held}
 use Rattle.bac_check.specs.Counted.{IsEmpty}
@@ -55,29 +55,24 @@ abbrev pub unless_nothing : Option FileFault → Option FileFault
 unless_nothing None = None
 unless_nothing (Some why) = if has_nothing why then None else Some why
 
--- what the parts are, by the members of `Parts`: what is found in one, and why one isn't opened
-pub record Rules (P : Type 0) : Type 1 where
-  pub holds : P → List ℕ → Reading → P → Type 0
-  pub bars : P → List ℕ → NotOpened → P → Type 0
-
 -- A part is read; it may fail to be closed, which is told if nothing else is.
-abbrev pub IsRead : {P : Type 0} → Rules P → P → List ℕ → Counts → Option FileFault → Counts → P → Type 0
+abbrev pub IsRead : {P : Type 0} → PartRules P → P → List ℕ → Counts → Option FileFault → Counts → P → Type 0
 IsRead rules old path before why after new = (found : Reading) × (read : Option FileFault)
     × rules.holds old path found new × ReadsPart before found read after
     × ((why ≡ read) ⊎ ((error : Error) × (why ≡ Some (unwrap_or read (of_error error)))))
 
 -- it isn't opened
-abbrev pub IsUnread : {P : Type 0} → Rules P → P → List ℕ → Counts → Option FileFault → Counts → P → Type 0
+abbrev pub IsUnread : {P : Type 0} → PartRules P → P → List ℕ → Counts → Option FileFault → Counts → P → Type 0
 IsUnread rules old path before why after new =
     (reason : NotOpened) × rules.bars old path reason new × (why ≡ Some (of_unopened reason)) × (after ≡ before)
 
 -- what becomes of what is counted where the part at a path is read, and why the part is no use or doesn't go on
-abbrev pub TakesPath : {P : Type 0} → Rules P → P → List ℕ → Counts → Option FileFault → Counts → P → Type 0
+abbrev pub TakesPath : {P : Type 0} → PartRules P → P → List ℕ → Counts → Option FileFault → Counts → P → Type 0
 TakesPath rules old path before why after new =
     IsRead rules old path before why after new ⊎ IsUnread rules old path before why after new
 
 -- the same of parts, one after the other, and the greatest status of what was told of them
-abbrev pub TakesEach : {P : Type 0} → Rules P → P → List (List ℕ) → Counts → ℕ → Counts → P → Type 0
+abbrev pub TakesEach : {P : Type 0} → PartRules P → P → List (List ℕ) → Counts → ℕ → Counts → P → Type 0
 TakesEach rules old [] before status after new = (status ≡ 0) × (after ≡ before) × (new ≡ old)
 TakesEach {P} rules old (path ∷ paths) before status after new =
     (why : Option FileFault) × (mid : P) × (counts : Counts) × (later : ℕ)
@@ -89,7 +84,7 @@ abbrev pub last_told : List (List ℕ) → Option FileFault → Option FileFault
 last_told paths why = if length paths == 0 then why else unless_nothing why
 
 -- the parts of an archive are read, the last of which is at this path, and nothing was counted before
-abbrev pub TakesAll : {P : Type 0} → Rules P → P → List (List ℕ) → List ℕ → ℕ → Counts → P → Type 0
+abbrev pub TakesAll : {P : Type 0} → PartRules P → P → List (List ℕ) → List ℕ → ℕ → Counts → P → Type 0
 TakesAll {P} rules old paths last status after new =
     (none : Counts) × IsEmpty none × (early : ℕ) × (mid : P) × (counts : Counts) × (why : Option FileFault)
     × TakesEach rules old paths none early counts mid × TakesPath rules mid last counts why after new
@@ -97,7 +92,7 @@ TakesAll {P} rules old paths last status after new =
 
 -- The parts are read, the text of what is counted is written, and the status is the greatest of what is told: 0 just if
 -- nothing is, and each number is there.
-abbrev pub ChecksAll : {P : Type 0} → Rules P → P → List (List ℕ) → List ℕ → Held → Held → ℕ → P → Type 0
+abbrev pub ChecksAll : {P : Type 0} → PartRules P → P → List (List ℕ) → List ℕ → Held → Held → ℕ → P → Type 0
 ChecksAll rules old paths last before after status new =
     (told : ℕ) × (counts : Counts) × TakesAll rules old paths last told counts new
     × Appends before after (check_text counts) × (status ≡ max told (told_status (unless_whole (has_all counts))))
@@ -111,32 +106,30 @@ abbrev pub all_paths : List ℕ → Option (List (List ℕ)) → List (List ℕ)
 all_paths name listed = unwrap_or listed (name ∷ [])
 
 -- the same of all the parts that are listed
-abbrev pub ChecksListed : {P : Type 0} → Rules P → P → List (List ℕ) → Held → Held → ℕ → P → Type 0
+abbrev pub ChecksListed : {P : Type 0} → PartRules P → P → List (List ℕ) → Held → Held → ℕ → P → Type 0
 ChecksListed rules old all before after status new =
     ((all ≡ []) × (new ≡ old) × IsTold file.NoLogs before after status)
     ⊎ ((paths : List (List ℕ)) × (last : List ℕ) × (all ≡ paths ++ last ∷ [])
     × ChecksAll rules old paths last before after status new)
 
 -- `bac check` of the archive of this name: why its parts aren't listed is told; or they are, and read.
-abbrev pub EndsCheck : {P : Type 0} → (P → List ℕ → Listing → P → Type 0) → Rules P → P → List ℕ → Held → Held → ℕ → P →
-    Type 0
-EndsCheck {P} lists rules old name before after status new =
-    ((why : NotOpened) × lists old name (Err why) new × IsTold (of_unopened why) before after status)
-    ⊎ ((listed : Option (List (List ℕ))) × (mid : P) × lists old name (Ok listed) mid
+abbrev pub EndsCheck : {P : Type 0} → PartRules P → P → List ℕ → Held → Held → ℕ → P → Type 0
+EndsCheck {P} rules old name before after status new =
+    ((why : NotOpened) × rules.lists old name (Err why) new × IsTold (of_unopened why) before after status)
+    ⊎ ((listed : Option (List (List ℕ))) × (mid : P) × rules.lists old name (Ok listed) mid
     × ChecksListed rules mid (all_paths name listed) before after status new)
 
 -- the output refused the text of what is counted, or a flush of it: a front part of it was written
-abbrev pub RefusesText : {P : Type 0} → Rules P → P → List (List ℕ) → List ℕ → Held → Held → P → Type 0
+abbrev pub RefusesText : {P : Type 0} → PartRules P → P → List (List ℕ) → List ℕ → Held → Held → P → Type 0
 RefusesText rules old paths last before after new = (told : ℕ) × (counts : Counts)
     × TakesAll rules old paths last told counts new × AppendsPart before after (check_text counts)
 
 -- the same of all the parts that are listed
-abbrev pub RefusesListed : {P : Type 0} → Rules P → P → List (List ℕ) → Held → Held → P → Type 0
+abbrev pub RefusesListed : {P : Type 0} → PartRules P → P → List (List ℕ) → Held → Held → P → Type 0
 RefusesListed rules old all before after new = (paths : List (List ℕ)) × (last : List ℕ) × (all ≡ paths ++ last ∷ [])
     × RefusesText rules old paths last before after new
 
 -- so `bac check` ends where its output refuses a write
-abbrev pub RefusesCheck : {P : Type 0} → (P → List ℕ → Listing → P → Type 0) → Rules P → P → List ℕ → Held → Held → P →
-    Type 0
-RefusesCheck {P} lists rules old name before after new = (listed : Option (List (List ℕ))) × (mid : P)
-    × lists old name (Ok listed) mid × RefusesListed rules mid (all_paths name listed) before after new
+abbrev pub RefusesCheck : {P : Type 0} → PartRules P → P → List ℕ → Held → Held → P → Type 0
+RefusesCheck {P} rules old name before after new = (listed : Option (List (List ℕ))) × (mid : P)
+    × rules.lists old name (Ok listed) mid × RefusesListed rules mid (all_paths name listed) before after new

@@ -27,10 +27,18 @@ is_epoch log epoch course = course.log == log && course.epoch == epoch
 abbrev pub with_begun : List Course → Beginning → List Course
 with_begun courses b = if list_any (is_epoch b.log b.epoch) courses then courses else courses ++ course_of b ∷ []
 
--- The rows of one more part are counted, and whether its logs go on where what was counted of them ends.
-pub record CountsPart (part : Trees) (old new : Counts) (joined : Bool) : Type 0 where
+-- The rows of one more part are counted.
+pub record CountsRows (part : Trees) (old new : Counts) : Type 0 where
   pub logs : AreLogs part new.logs.items
   pub begun : List Beginning
   pub beginnings : AreBeginnings part begun
-  pub joins : AreJoined (kept part) old.courses.items joined
   pub counted : CountsEach part (fold with_begun old.courses.items begun) new.courses.items
+
+-- The same, and whether its logs go on where what was counted of them ends.
+pub record CountsPart (part : Trees) (old new : Counts) (joined : Bool) : Type 0 where
+  pub joins : AreJoined (kept part) old.courses.items joined
+  pub rows : CountsRows part old new
+
+-- what an archive keeps is counted
+abbrev pub IsCountOf : Trees → Counts → Type 0
+IsCountOf archive counts = (none : Counts) × IsEmpty none × CountsRows archive none counts

@@ -1,9 +1,11 @@
 pub mod Holes
 pub mod Tallies
+pub mod Asked
 pub mod Epochs
 pub mod Lines
 pub mod Joins
 pub mod Counted
+pub mod Missing
 pub mod Taken
 pub mod Checked
 pub mod Whole

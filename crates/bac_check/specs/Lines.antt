@@ -2,9 +2,11 @@
 use Rattle.std.specs.Prelude.{Bool, true, false, ◌==◌, ℕ, if◌then◌else◌, List, [], ◌∷◌, ◌++◌, flat_map}
 use Rattle.std.specs.Prelude.{codes, decimal, Option, None, Some}
 use Rattle.std.specs.List.{list_all}
-use Rattle.bac_check.specs.Holes.{front_of}
+use Rattle.bac_check.specs.Holes.{AreHoles, front_of}
+use Rattle.bac_check.specs.Tallies.{IsTallied}
 use Rattle.bac_check.specs.declared.course.Course.{Course}
 use Rattle.bac_check.specs.declared.tally.Hole.{Hole}
+use Rattle.bac_check.specs.declared.tally.Span.{Span}
 use Rattle.bac_check.specs.declared.tally.Tally.{Tally}
 
 -- a number, and what is counted
@@ -43,6 +45,11 @@ holes_text holes = flat_map hole_line holes
 abbrev pub holes_of : Option ℕ → Option Tally → List Hole
 holes_of from None = []
 holes_of from (Some t) = front_of from t.first ++ t.holes.items
+
+-- The holes of an epoch are the numbers that are missing, in as few stretches as they can be told in.
+abbrev pub HolesAreMissing : Type 0
+HolesAreMissing = (from : Option ℕ) (spans : List Span) (counted : Option Tally) → IsTallied spans counted
+    → AreHoles from spans (holes_of from counted)
 
 -- the line of an epoch of the log with this name, and its holes
 abbrev pub course_text : List ℕ → Course → List ℕ

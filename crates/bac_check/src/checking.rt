@@ -5,12 +5,13 @@ ghost use Rattle.std.specs.Prelude.{◌≡◌, ◌⊎◌, [], ◌∷◌, ◌++�
 ghost use Rattle.std.specs.Io.KnownBytes.{Appends};
 ghost use Rattle.std.specs.List.{list_all};
 ghost use Rattle.std.specs.String.{string_bytes};
-ghost use Rattle.bac_check.specs.Checked.{ChecksAll, ChecksListed, EndsCheck, Rules};
+ghost use Rattle.bac_check.specs.Checked.{ChecksAll, ChecksListed, EndsCheck};
 ghost use Rattle.bac_check.specs.Checked.{RefusesCheck, RefusesListed, RefusesText, TakesAll};
 ghost use Rattle.bac_check.specs.Checked.{TakesEach, TakesPath};
 ghost use Rattle.bac_check.specs.Checked.{check_text, has_all, is_complete, last_told, lines_of};
 ghost use Rattle.bac_check.specs.Checked.{has_nothing, told_status, unless_nothing, unless_whole};
 ghost use Rattle.bac_check.specs.Counted.{IsEmpty};
+ghost use Rattle.bac_files.specs.Parts.{part_rules};
 ghost use Rattle.bac_print.specs.Output.{AppendsPart};
 
 use crate::counts::Counts;
@@ -32,7 +33,7 @@ fn read_part<P: Parts, O: Write>(
     checker: &mut Checker,
     output: &mut O,
 ) -> Option<FileFault>
-    ensures takes { TakesPath (record { holds = P.holds; bars = P.bars }) parts.old path.now
+    ensures takes { TakesPath (part_rules P.lists P.holds P.bars) parts.old path.now
         checker.old.counts result checker.new.counts parts.new }
     ensures unwritten { O.contents output.new ≡ O.contents output.old }
 {
@@ -72,7 +73,7 @@ fn read_each<P: Parts, O: Write, E: Write>(
     output: &mut O,
     errors: &mut E,
 ) -> Result<u8, Fault>
-    ensures takes { IfOk result (λ status. TakesEach (record { holds = P.holds; bars = P.bars })
+    ensures takes { IfOk result (λ status. TakesEach (part_rules P.lists P.holds P.bars)
         parts.old (map string_bytes paths.now) checker.old.counts status checker.new.counts
         parts.new) }
     ensures unwritten { O.contents output.new ≡ O.contents output.old }
@@ -135,7 +136,7 @@ fn read_all<P: Parts, O: Write, E: Write>(
     errors: &mut E,
 ) -> Result<u8, Fault>
     ensures takes { IsEmpty checker.old.counts → IfOk result (λ status. TakesAll
-        (record { holds = P.holds; bars = P.bars }) parts.old (map string_bytes before.now)
+        (part_rules P.lists P.holds P.bars) parts.old (map string_bytes before.now)
         last.now status checker.new.counts parts.new) }
     ensures unwritten { O.contents output.new ≡ O.contents output.old }
     ensures memory { IfErr result (λ fault. fault ≡ Fault.Memory) }
@@ -225,11 +226,11 @@ fn check_all<P: Parts, O: Write, E: Write>(
     output: &mut O,
     errors: &mut E,
 ) -> Result<u8, Fault>
-    ensures checks { IfOk result (λ status. ChecksAll (record { holds = P.holds; bars = P.bars })
+    ensures checks { IfOk result (λ status. ChecksAll (part_rules P.lists P.holds P.bars)
         parts.old (map string_bytes before.now) last.now (O.contents output.old)
         (O.contents output.new) status parts.new) }
     ensures refused { IfErr result (λ fault. (fault ≡ Fault.Memory) ⊎ ((fault ≡ Fault.Write)
-        × RefusesText (record { holds = P.holds; bars = P.bars }) parts.old
+        × RefusesText (part_rules P.lists P.holds P.bars) parts.old
         (map string_bytes before.now) last.now (O.contents output.old) (O.contents output.new)
         parts.new)) }
     ensures quiet { IfOk result
@@ -251,11 +252,11 @@ fn check_parts<P: Parts, O: Write, E: Write>(
     output: &mut O,
     errors: &mut E,
 ) -> Result<u8, Fault>
-    ensures checks { IfOk result (λ status. ChecksListed (record { holds = P.holds; bars = P.bars })
+    ensures checks { IfOk result (λ status. ChecksListed (part_rules P.lists P.holds P.bars)
         parts.old (map string_bytes paths.now) (O.contents output.old) (O.contents output.new)
         status parts.new) }
     ensures refused { IfErr result (λ fault. (fault ≡ Fault.Memory) ⊎ ((fault ≡ Fault.Write)
-        × RefusesListed (record { holds = P.holds; bars = P.bars }) parts.old
+        × RefusesListed (part_rules P.lists P.holds P.bars) parts.old
         (map string_bytes paths.now) (O.contents output.old) (O.contents output.new)
         parts.new)) }
     ensures quiet { IfOk result
@@ -277,11 +278,11 @@ fn check_file<P: Parts, O: Write, E: Write>(
     output: &mut O,
     errors: &mut E,
 ) -> Result<u8, Fault>
-    ensures checks { IfOk result (λ status. ChecksListed (record { holds = P.holds; bars = P.bars })
+    ensures checks { IfOk result (λ status. ChecksListed (part_rules P.lists P.holds P.bars)
         parts.old (name.now ∷ []) (O.contents output.old) (O.contents output.new)
         status parts.new) }
     ensures refused { IfErr result (λ fault. (fault ≡ Fault.Memory) ⊎ ((fault ≡ Fault.Write)
-        × RefusesListed (record { holds = P.holds; bars = P.bars }) parts.old (name.now ∷ [])
+        × RefusesListed (part_rules P.lists P.holds P.bars) parts.old (name.now ∷ [])
         (O.contents output.old) (O.contents output.new) parts.new)) }
     ensures quiet { IfOk result
         (λ status. status ≡ 0 → E.contents errors.new ≡ E.contents errors.old) }
@@ -300,11 +301,11 @@ pub fn run_check<P: Parts, O: Write, E: Write>(
     output: &mut O,
     errors: &mut E,
 ) -> Result<u8, Fault>
-    ensures checks { IfOk result (λ status. EndsCheck P.lists
-        (record { holds = P.holds; bars = P.bars }) parts.old asked.now.file
+    ensures checks { IfOk result (λ status. EndsCheck
+        (part_rules P.lists P.holds P.bars) parts.old asked.now.file
         (O.contents output.old) (O.contents output.new) status parts.new) }
     ensures refused { IfErr result (λ fault. (fault ≡ Fault.Memory) ⊎ ((fault ≡ Fault.Write)
-        × RefusesCheck P.lists (record { holds = P.holds; bars = P.bars }) parts.old asked.now.file
+        × RefusesCheck (part_rules P.lists P.holds P.bars) parts.old asked.now.file
         (O.contents output.old) (O.contents output.new) parts.new)) }
     ensures quiet { IfOk result
         (λ status. status ≡ 0 → E.contents errors.new ≡ E.contents errors.old) }

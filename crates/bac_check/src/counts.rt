@@ -1,11 +1,13 @@
 //! What is counted of an archive, part by part.
 
-ghost use Rattle.std.specs.Prelude.{◌≡◌, IfOk, OnOk, fold};
+ghost use Rattle.std.specs.Prelude.{◌≡◌, IfOk, OnErr, OnOk, fold};
 ghost use Rattle.std.specs.List.{list_any};
-ghost use Rattle.sqlite.specs.State.{HasCleanDisk};
+ghost use Rattle.sqlite.specs.State.{HasCleanDisk, IsUnchanged};
 ghost use Rattle.sqlite.specs.Held.{state};
 ghost use Rattle.bac_archive.specs.Schema.{OverArchive};
-ghost use Rattle.bac_check.specs.Counted.{CountsPart, IsEmpty, course_of, is_epoch, with_begun};
+ghost use Rattle.bac_check.specs.Asked.{IsAsLeft};
+ghost use Rattle.bac_check.specs.Counted.{CountsPart, CountsRows, IsCountOf, IsEmpty};
+ghost use Rattle.bac_check.specs.Counted.{course_of, is_epoch, with_begun};
 
 use crate::course::{Course, count_each};
 use crate::joins::are_joined;
@@ -81,6 +83,25 @@ impl Counts {
         }
     }
 
+    /// Counts the rows of one more part. An error leaves the part as it was.
+    fn add<A: Alter>(&mut self, alloc: Global, conn: &mut Connection<A>) -> Result<(), Uncounted>
+        ensures counted { OverArchive (state A.Store conn.old) (state A.Store conn.new)
+            (OnOk result (CountsRows (state A.Store conn.old).now.trees self.old self.new)) }
+        ensures same { OverArchive (state A.Store conn.old) (state A.Store conn.new)
+            (OnOk result (IsUnchanged (state A.Store conn.old) (state A.Store conn.new))) }
+        ensures left { OverArchive (state A.Store conn.old) (state A.Store conn.new)
+            (OnErr result (IsAsLeft A.Store conn.old conn.new)) }
+        ensures clean { HasCleanDisk (state A.Store conn.new)
+            → HasCleanDisk (state A.Store conn.old) }
+    {
+        let known = logs(alloc, conn)?;
+        let begun = beginnings(alloc, conn)?;
+        add_epochs(&mut self.courses, begun.as_slice())?;
+        count_each(alloc, conn, self.courses.as_mut_slice())?;
+        self.logs = known;
+        Ok(())
+    }
+
     /// Counts the rows of one more part, and tells whether its logs go on where what was counted
     /// of them ends.
     pub(crate) fn count<A: Alter>(
@@ -96,11 +117,25 @@ impl Counts {
             (HasCleanDisk (state A.Store conn.new) → HasCleanDisk (state A.Store conn.old)) }
     {
         let joined = are_joined(conn, self.courses.as_slice())?;
-        let known = logs(alloc, conn)?;
-        let begun = beginnings(alloc, conn)?;
-        add_epochs(&mut self.courses, begun.as_slice())?;
-        count_each(alloc, conn, self.courses.as_mut_slice())?;
-        self.logs = known;
+        self.add(alloc, conn)?;
         Ok(joined)
     }
+}
+
+/// Counts what an archive keeps. An error leaves it as it was.
+pub(crate) fn count_archive<A: Alter>(
+    alloc: Global,
+    conn: &mut Connection<A>,
+) -> Result<Counts, Uncounted>
+    ensures counted { OverArchive (state A.Store conn.old) (state A.Store conn.new)
+        (IfOk result (IsCountOf (state A.Store conn.old).now.trees)) }
+    ensures same { OverArchive (state A.Store conn.old) (state A.Store conn.new)
+        (OnOk result (IsUnchanged (state A.Store conn.old) (state A.Store conn.new))) }
+    ensures left { OverArchive (state A.Store conn.old) (state A.Store conn.new)
+        (OnErr result (IsAsLeft A.Store conn.old conn.new)) }
+    ensures clean { HasCleanDisk (state A.Store conn.new) → HasCleanDisk (state A.Store conn.old) }
+{
+    let mut counts = Counts::new(alloc);
+    counts.add(alloc, conn)?;
+    Ok(counts)
 }

@@ -1,18 +1,19 @@
 //! The epochs of logs, and what is counted of each.
 
-ghost use Rattle.std.specs.Prelude.{◌≡◌, ◌∷◌, ◌++◌, [], List, OnOk, map};
+ghost use Rattle.std.specs.Prelude.{◌≡◌, ◌∷◌, ◌++◌, [], List, OnErr, OnOk, map};
 ghost use Rattle.std.specs.Prelude.{option_map};
 ghost use Rattle.std.specs.List.{filter};
 ghost use Rattle.sqlite.specs.State.{HasCleanDisk, IsUnchanged};
 ghost use Rattle.sqlite.specs.Held.{state};
 ghost use Rattle.bac_archive.specs.Rows.{kept};
 ghost use Rattle.bac_archive.specs.Schema.{OverArchive};
+ghost use Rattle.bac_check.specs.Asked.{IsAsLeft, IsAsWas};
 ghost use Rattle.bac_check.specs.Epochs.{AreItemsIn, CountsCourse, CountsEach, CountsOn, is_new};
 ghost use Rattle.bac_check.specs.Epochs.{last_of, span_of};
 ghost use Rattle.bac_check.specs.Tallies.{IsTallied};
 ghost use Rattle.bac_check.specs.declared.tally.Span.{Span as SpanOf};
 
-use crate::rows::{read_span, spans_in};
+use crate::rows::{EPOCHS, read_span, spans_in};
 use crate::tally::{Span, Tally, Uncounted, take};
 use sqlite::{Alter, Connection, Error, ErrorCode, Row};
 use std::alloc::Global;
@@ -75,9 +76,13 @@ fn count_rows<A: Alter>(
         → IsTallied (before ++ filter (is_new behind) (map span_of rows)) tally.new))) }
     ensures same { OverArchive (state A.Store conn.old) (state A.Store conn.new)
         (OnOk result (IsUnchanged (state A.Store conn.old) (state A.Store conn.new))) }
-    ensures clean { OnOk result
-        (HasCleanDisk (state A.Store conn.new) → HasCleanDisk (state A.Store conn.old)) }
+    ensures left { OverArchive (state A.Store conn.old) (state A.Store conn.new)
+        (OnErr result (IsAsLeft A.Store conn.old conn.new)) }
+    ensures clean { HasCleanDisk (state A.Store conn.new) → HasCleanDisk (state A.Store conn.old) }
 {
+    if epoch >= EPOCHS {
+        return Err(Uncounted::Database(Error::IntegralValueOutOfRange(0)));
+    }
     let mut rows = match spans_in(conn, log, epoch) {
         Ok(rows) => rows,
         Err(error) => return Err(Uncounted::Database(error)),
@@ -110,15 +115,18 @@ impl Course {
             (OnOk result (CountsCourse (state A.Store conn.old).now.trees self.old self.new)) }
         ensures same { OverArchive (state A.Store conn.old) (state A.Store conn.new)
             (OnOk result (IsUnchanged (state A.Store conn.old) (state A.Store conn.new))) }
-        ensures clean { OnOk result
-            (HasCleanDisk (state A.Store conn.new) → HasCleanDisk (state A.Store conn.old)) }
+        ensures left { OverArchive (state A.Store conn.old) (state A.Store conn.new)
+            (OnErr result (IsAsLeft A.Store conn.old conn.new)) }
+        ensures clean { HasCleanDisk (state A.Store conn.new)
+            → HasCleanDisk (state A.Store conn.old) }
     {
         let behind = last_of(&self.tally);
         count_rows(alloc, conn, self.log, self.epoch, behind, &mut self.tally)
     }
 }
 
-/// Counts the rows of one more part, of each epoch.
+/// Counts the rows of one more part, of each epoch. An error leaves the part as it was, and what
+/// was counted of it is of no use.
 pub fn count_each<A: Alter>(
     alloc: Global,
     conn: &mut Connection<A>,
@@ -127,9 +135,11 @@ pub fn count_each<A: Alter>(
     ensures counted { OverArchive (state A.Store conn.old) (state A.Store conn.new)
         (OnOk result (CountsEach (state A.Store conn.old).now.trees courses.old courses.new)) }
     ensures same { OverArchive (state A.Store conn.old) (state A.Store conn.new)
-        (OnOk result ((state A.Store conn.new).now ≡ (state A.Store conn.old).now)) }
-    ensures clean { OnOk result
-        (HasCleanDisk (state A.Store conn.new) → HasCleanDisk (state A.Store conn.old)) }
+        (OnOk result (IsAsWas A.Store conn.old conn.new)) }
+    // An error leaves it as it was, or takes back what wasn't committed.
+    ensures left { OverArchive (state A.Store conn.old) (state A.Store conn.new)
+        (OnErr result (IsAsLeft A.Store conn.old conn.new)) }
+    ensures clean { HasCleanDisk (state A.Store conn.new) → HasCleanDisk (state A.Store conn.old) }
 {
     for course in courses.iter_mut() {
         course.count(alloc, conn)?;

@@ -9,12 +9,14 @@ mod course;
 mod joins;
 mod laws;
 mod lines;
+mod missing;
 mod reading;
 mod rows;
 mod tally;
 
 pub use checking::run_check;
 pub use course::{Course, count_each};
-pub use laws::zero_is_whole;
+pub use laws::{holes_are_missing, whole_has_each, zero_is_whole};
 pub use lines::push_log;
+pub use missing::tell_missing;
 pub use tally::{Hole, Span, Tally, Uncounted, front_hole, none_is_missing, take};

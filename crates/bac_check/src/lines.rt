@@ -61,7 +61,7 @@ fn push_epoch(text: &mut Vec<u8>, name: &[u8], course: &Course) -> Result<(), Al
 
 /// Appends the line of a hole.
 #[tactic(auto, unfolding(crate::specs::Lines::hole_line))]
-fn push_hole(text: &mut Vec<u8>, hole: Hole) -> Result<(), AllocError>
+pub(crate) fn push_hole(text: &mut Vec<u8>, hole: Hole) -> Result<(), AllocError>
     ensures { OnOk result (text.new.items ≡ text.old.items ++ hole_line hole) }
 {
     text.extend_from_slice(b"hole ")?;

@@ -1,9 +1,20 @@
 -- What is kept in an archive, and that nothing of it is lost.
-use Rattle.std.proofs.Common.{◌≡◌, ◌∙◌, inl, inr, ℕ, List, ap, refl, subst, sym}
+use Rattle.std.proofs.Common.{◌≡◌, ◌⊎◌, ◌∙◌, inl, inr, ℕ, IsTrue, List, ap, refl, subst, sym}
 use Rattle.std.specs.List.{Contains}
 use Rattle.sqlite.specs.Effect.{Database}
 use Rattle.sqlite.specs.State.{HasCleanDisk, State, Survives}
 use Rattle.sqlite_trees.specs.Tree.{Trees}
+use Rattle.sqlite.specs.Held.{Held as Connected, state}
+use Rattle.sqlite.specs.declared.error.Error.{Error}
+use Rattle.sqlite.specs.declared.error.Error.TheVariants.{SqliteFailure}
+use Rattle.sqlite.specs.declared.error.ErrorCode.TheVariants.{OutOfMemory}
+use Rattle.sqlite_trees.specs.declared.store.Store.{Ghosts}
+use Rattle.bac_archive.specs.declared.opening.Refused.TheVariants as refused
+use Rattle.bac_asked.specs.Faults.{of_error}
+use Rattle.bac_check.specs.Asked.{IsAsLeft}
+use Rattle.bac_check.specs.declared.tally.Uncounted.{Uncounted}
+use Rattle.bac_check.specs.declared.tally.Uncounted.TheVariants as uncounted
+use Rattle.bac_keeper.specs.Ends.{IsNoArchive, uncounted_fault}
 use Rattle.bac_asked.specs.declared.end.End.{End}
 use Rattle.bac_asked.specs.declared.wanted.Wanted.{Wanted}
 use Rattle.bac_fetch.proofs.StaysLemmas.{all_itself}
@@ -48,3 +59,17 @@ loses_nothing found archive last was settled same only may clean survives =
       | inl left ↦ subst (HasAllOf archive.now.trees) (ap (λ (d : Database). d.trees) (sym settled) ∙ sym (only last.committed.trees left)) (all_itself archive.now.trees)
       | inr all ↦ all
     ])
+
+-- ---- an archive whose rows were counted
+
+-- what is committed stays, also where the rows aren't counted
+pub still_committed : {S : Type 0} (g : Ghosts S) (a b : Connected S) → IsAsLeft g a b → IsTrue (state g b).is_open → (state g b).committed ≡ (state g a).committed
+still_committed g a b (inl none) is = ap (λ (h : Connected _). (state g h).committed) none
+still_committed g a b (inr (inl same)) is = same.0.committed_is
+still_committed g a b (inr (inr back)) is = (back.undone is).1
+
+-- why they aren't: the database answers by an error, or the file is no archive
+pub uncounted_so : (held : Type 0) (found : Database) (why : Uncounted) → ((error : Error) × (uncounted_fault why ≡ of_error error)) ⊎ (held → IsNoArchive found (uncounted_fault why))
+uncounted_so held found uncounted.Overlap = inr (λ _. (refused.Overlap, tt, refl))
+uncounted_so held found uncounted.Memory = inl (SqliteFailure OutOfMemory, refl)
+uncounted_so held found (uncounted.Database error) = inl (error, refl)

@@ -1,5 +1,5 @@
 -- What is printed of the parts of an archive.
-use Rattle.std.proofs.Common.{◌≡◌, ◌⊎◌, inl, inr, refl, sym, ap, subst, ℕ, max, Bool, true, false, ◌||◌, IfOk, IfErr, List, [], ◌∷◌, ◌++◌, Result, Ok, Err, take, ◌+◌, ◌<◌, length, get_or}
+use Rattle.std.proofs.Common.{◌≡◌, ◌⊎◌, inl, inr, refl, sym, ap, subst, ℕ, max, false, IfOk, IfErr, List, [], ◌∷◌, ◌++◌, Result, Ok, Err, take, ◌+◌, ◌<◌, length, get_or}
 use Rattle.sqlite.specs.State.{State}
 use Rattle.sqlite.specs.declared.error.Error.{Error}
 use Rattle.bac_asked.specs.Faults.{of_error}
@@ -30,12 +30,6 @@ module _ (old new : Printer) (found last : State) (before after : Held) where
   refused_read (done.File why) some (inl answered) = inl answered
   refused_read (done.File why) some (inr refused) = inr (λ clean held. refused (clean, held))
   refused_read (done.Asking why) (file, is) it = absurd (let e = is in cc)
-
--- neither of two is so
-pub or_none : (a b : Bool) → (a || b) ≡ false → (a ≡ false) × (b ≡ false)
-or_none false false is = (refl, refl)
-or_none false true is = absurd (let it = is in cc)
-or_none true b is = absurd (let it = is in cc)
 
 module _ {P : Type 0} (holds : P → List ℕ → Reading → P → Type 0) (bars : P → List ℕ → NotOpened → P → Type 0) where
   -- one part more

@@ -5,6 +5,8 @@ use Rattle.sqlite_disk.specs.declared.start.Start as start
 use Rattle.sqlite_wal.specs.Recovery.{Image}
 use Rattle.sqlite.specs.Effect.{Database}
 use Rattle.sqlite.specs.declared.error.Error.{Error}
+use Rattle.sqlite.specs.declared.error.Error.TheVariants.{SqliteFailure}
+use Rattle.sqlite.specs.declared.error.ErrorCode.TheVariants.{OutOfMemory}
 use Rattle.bac_archive.specs.Archive.{IsOfVersion}
 use Rattle.bac_archive.specs.Rows.{versions}
 use Rattle.bac_archive.specs.Schema.{first_tables, no_schema, HasArchive}
@@ -15,6 +17,9 @@ use Rattle.bac_asked.specs.Status.{file_status}
 use Rattle.bac_asked.specs.declared.end.NotDone.{NotDone}
 use Rattle.bac_asked.specs.declared.end.NotDone.TheVariants as done
 use Rattle.bac_asked.specs.declared.fault.FileFault.{FileFault}
+use Rattle.bac_asked.specs.declared.fault.FileFault.TheVariants as file
+use Rattle.bac_check.specs.declared.tally.Uncounted.{Uncounted}
+use Rattle.bac_check.specs.declared.tally.Uncounted.TheVariants as uncounted
 use Rattle.bac_print.specs.Output.{Held}
 use Rattle.bac_files.specs.Files.{FileOf, IsDoneTo, IsNamed, IsReason, IsUnclosed, IsUnopened}
 use Rattle.bac_files.specs.declared.disk_files.DiskFiles.{DiskFiles}
@@ -35,6 +40,12 @@ IsRefusedBy found (refused.Database error) = Unit {0}
 -- the fault of a file whose database isn't taken so
 abbrev pub IsNoArchive : Database → FileFault → Type 0
 IsNoArchive found why = (refused : Refused) × IsRefusedBy found refused × (why ≡ of_refusal refused)
+
+-- the fault of an archive whose rows aren't counted
+abbrev pub uncounted_fault : Uncounted → FileFault
+uncounted_fault uncounted.Overlap = file.Overlap
+uncounted_fault uncounted.Memory = of_error (SqliteFailure OutOfMemory)
+uncounted_fault (uncounted.Database error) = of_error error
 
 -- the file is at fault
 abbrev pub IsOfSomeFile : NotDone → Type 0

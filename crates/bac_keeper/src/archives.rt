@@ -1,18 +1,24 @@
 //! A database file is opened as an archive, and closed.
 
-ghost use Rattle.std.specs.Prelude.{◌≡◌, ◌⊎◌, Err, IfErr, IfOk, IsTrue, Ok, OnErr, OnOk};
+ghost use Rattle.std.specs.Prelude.{◌≡◌, ◌⊎◌, Err, IfErr, IfOk, IsTrue, Ok, OnErr, OnOk, is_some};
+ghost use Rattle.std.specs.String.{string_bytes};
 ghost use Rattle.sqlite.specs.Held.{state};
-ghost use Rattle.sqlite.specs.State.{HasCleanDisk};
+ghost use Rattle.sqlite.specs.State.{HasCleanDisk, IsUnchanged};
 ghost use Rattle.sqlite_wal.specs.Files.{image_at};
-ghost use Rattle.bac_archive.specs.Schema.{OverArchive};
+ghost use Rattle.bac_archive.specs.Schema.{HasArchive, OverArchive};
 ghost use Rattle.bac_asked.specs.Faults.{of_error};
+ghost use Rattle.bac_check.specs.Missing.{TellsMissing};
 ghost use Rattle.bac_files.specs.Files.{IsClosedBy, IsNamed, IsOpenedBy, IsUnclosed};
 ghost use Rattle.bac_keeper.specs.Archives.{IsArchiveOf, IsHeld};
 ghost use Rattle.bac_keeper.specs.Ends.{IsNoArchive, IsNotOpened, IsOfSomeFile, MayFail};
+ghost use Rattle.bac_keeper.specs.Ends.{uncounted_fault};
 
 use bac_asked::{FileFault, NotDone};
-use bac_files::DiskFiles;
-use sqlite::{Alter, Connection, Error, FileFrom, FileStore, Start};
+use bac_check::{Uncounted, tell_missing};
+use bac_files::{DiskFiles, Place};
+use sqlite::{Alter, Connection, Error, ErrorCode, FileFrom, FileStore, Start};
+use std::alloc::Global;
+use std::io::Write;
 
 /// Opens the database of this name; an empty or absent one is made, where it may.
 pub(crate) fn open_file<F: Start>(
@@ -65,6 +71,8 @@ pub(crate) fn open_archive<A: Alter>(conn: &mut Connection<A>) -> Result<(), Not
         → OnOk result ((state A.Store conn.new).committed ≡ (state A.Store conn.new).now) }
     ensures same { OverArchive (state A.Store conn.old) (state A.Store conn.new)
         (OnOk result (IsTrue (state A.Store conn.new).is_open)) }
+    ensures stays { OverArchive (state A.Store conn.old) (state A.Store conn.new)
+        (OnOk result (IsUnchanged (state A.Store conn.old) (state A.Store conn.new))) }
     // It is refused for what it held.
     ensures file { IfErr result IsOfSomeFile }
     ensures refused { IfErr result (MayFail
@@ -78,5 +86,59 @@ pub(crate) fn open_archive<A: Alter>(conn: &mut Connection<A>) -> Result<(), Not
     match bac_archive::open(conn) {
         Ok(()) => Ok(()),
         Err(refused) => Err(NotDone::File(FileFault::of_refusal(refused))),
+    }
+}
+
+/// The fault of an archive whose rows aren't counted.
+fn uncounted_fault(why: Uncounted) -> FileFault
+    ensures { result ≡ uncounted_fault why }
+{
+    match why {
+        Uncounted::Overlap => FileFault::Overlap,
+        Uncounted::Memory => FileFault::of(Error::SqliteFailure(ErrorCode::OutOfMemory)),
+        Uncounted::Database(error) => FileFault::of(error),
+    }
+}
+
+/// Opens the database at a place as an archive; an empty one becomes one. The numbers that are
+/// missing in it are told on the errors.
+pub(crate) fn open_told<A: Alter, E: Write>(
+    alloc: Global,
+    conn: &mut Connection<A>,
+    place: &Place,
+    errors: &mut E,
+) -> Result<(), NotDone>
+    ensures archive { HasCleanDisk (state A.Store conn.new)
+        → OnOk result (IsArchiveOf (state A.Store conn.old).now (state A.Store conn.new).now) }
+    ensures committed { HasCleanDisk (state A.Store conn.new)
+        → OnOk result ((state A.Store conn.new).committed ≡ (state A.Store conn.new).now) }
+    ensures same { OverArchive (state A.Store conn.old) (state A.Store conn.new)
+        (OnOk result (IsTrue (state A.Store conn.new).is_open)) }
+    ensures told { HasCleanDisk (state A.Store conn.new)
+        → OnOk result (TellsMissing (state A.Store conn.new).now.trees
+        (string_bytes place.now.path) (is_some place.now.before) (E.contents errors.old)
+        (E.contents errors.new)) }
+    ensures untold { OnErr result (E.contents errors.new ≡ E.contents errors.old) }
+    // It is refused for what it held.
+    ensures file { IfErr result IsOfSomeFile }
+    ensures refused { IfErr result (MayFail
+        (λ why. ((error : Error) × (why ≡ of_error error))
+        ⊎ (IsHeld (state A.Store conn.new)
+        → IsNoArchive (state A.Store conn.old).now why))) }
+    ensures left { IsHeld (state A.Store conn.new)
+        → HasArchive (state A.Store conn.old).now.schema
+        → OnErr result ((state A.Store conn.new).committed ≡ (state A.Store conn.old).committed) }
+    ensures clean { HasCleanDisk (state A.Store conn.new) → HasCleanDisk (state A.Store conn.old) }
+{
+    open_archive(conn)?;
+    match tell_missing(
+        alloc,
+        conn,
+        place.path.as_str(),
+        place.before.is_some(),
+        errors,
+    ) {
+        Ok(()) => Ok(()),
+        Err(why) => Err(NotDone::File(uncounted_fault(why))),
     }
 }

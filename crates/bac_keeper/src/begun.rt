@@ -1,24 +1,27 @@
 //! A part of an archive is begun: it follows on the one before it.
 
-ghost use Rattle.std.specs.Prelude.{◌≡◌, ◌⊎◌, IfErr, IsSome, IsTrue, OnErr, OnOk, false};
+ghost use Rattle.std.specs.Prelude.{◌≡◌, ◌⊎◌, IfErr, IsSome, IsTrue, OnErr, OnOk, false, is_some};
+ghost use Rattle.std.specs.String.{string_bytes};
 ghost use Rattle.sqlite.specs.Held.{state};
 ghost use Rattle.sqlite.specs.State.{HasCleanDisk};
 ghost use Rattle.sqlite_wal.specs.Files.{image_at};
 ghost use Rattle.bac_archive.specs.Parts.{FollowsOn};
 ghost use Rattle.bac_archive.specs.Schema.{OverArchive, no_schema, HasArchive};
 ghost use Rattle.bac_asked.specs.Faults.{of_error};
+ghost use Rattle.bac_check.specs.Missing.{TellsMissing};
 ghost use Rattle.bac_files.specs.Files.{IsNamed};
 ghost use Rattle.bac_keeper.specs.Archives.{IsArchiveOf, IsHeld};
 ghost use Rattle.bac_keeper.specs.Begun.{BarsPart, BeginsOn, FollowsFiles};
 ghost use Rattle.bac_keeper.specs.Ends.{FailsFile, IsNoArchive, IsOfSomeFile, MayFail};
 
-use crate::archives::{close_file, open_archive, open_file};
+use crate::archives::{close_file, open_archive, open_file, open_told};
 use bac_archive::{follow_on, is_nothing};
 use bac_asked::{FileFault, NotDone};
 use bac_files::{DiskFiles, Place};
 use sqlite::{Alter, Connection, Error, FileFrom, Start};
 use sqlite_disk::Disk;
 use std::alloc::Global;
+use std::io::Write;
 
 /// Makes of a database that has nothing the part that follows on another, which has to be an
 /// archive.
@@ -95,12 +98,13 @@ fn begin_part<A: Alter, G: Start>(
 }
 
 /// Opens a database as an archive. An empty one becomes one: the part that follows on the one
-/// before it, if there is one.
-pub(crate) fn begin_archive<A: Alter, G: Start>(
+/// before it, if there is one. The numbers that are missing in it are told on the errors.
+pub(crate) fn begin_archive<A: Alter, G: Start, E: Write>(
     alloc: Global,
     conn: &mut Connection<A>,
     parts: &mut DiskFiles<'_, G>,
     place: &mut Place,
+    errors: &mut E,
 ) -> Result<(), NotDone>
     ensures archive { HasCleanDisk (state A.Store conn.new)
         → OnOk result (IsArchiveOf (state A.Store conn.old).now (state A.Store conn.new).now) }
@@ -111,6 +115,11 @@ pub(crate) fn begin_archive<A: Alter, G: Start>(
         → OnOk result ((state A.Store conn.new).committed ≡ (state A.Store conn.new).now) }
     ensures same { OverArchive (state A.Store conn.old) (state A.Store conn.new)
         (OnOk result (IsTrue (state A.Store conn.new).is_open)) }
+    ensures told { HasCleanDisk (state A.Store conn.new)
+        → OnOk result (TellsMissing (state A.Store conn.new).now.trees
+        (string_bytes place.old.path) (is_some place.old.before) (E.contents errors.old)
+        (E.contents errors.new)) }
+    ensures untold { OnErr result (E.contents errors.new ≡ E.contents errors.old) }
     ensures file { IfErr result IsOfSomeFile }
     // It is refused for what it held, or the part before is no use.
     ensures refused { IfErr result (MayFail (λ why. ((error : Error) × (why ≡ of_error error))
@@ -125,5 +134,5 @@ pub(crate) fn begin_archive<A: Alter, G: Start>(
     place.blames_before = true;
     begin_part(alloc, conn, parts, &place.before)?;
     place.blames_before = false;
-    open_archive(conn)
+    open_told(alloc, conn, place, errors)
 }

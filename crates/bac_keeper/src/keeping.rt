@@ -196,7 +196,7 @@ where
         S.Socket.receives_within) (started C.reads clock) chosen (given_in options.now) sockets.old
         sockets.new (state A.Store conn.old).now fault))) }
 {
-    begin_archive(alloc, conn, parts, place)?;
+    begin_archive(alloc, conn, parts, place, errors)?;
     let status = keep_chosen(
         sockets, conn, alloc, clock, chosen, options, counts, output, errors,
     )?;

@@ -133,13 +133,13 @@ kept_ran {s = s} g folders p q asked out out' before said errors files left (Err
 -- `check`, and its fault is told
 pub check_ran : {Q : Type 0} (folders : PartRules Q) (p q : Q) (asked : CheckWords) (out out' before said errors : Held)
     (done : Result ℕ KeepFault) (status : ℕ)
-    → IfOk done (λ n. EndsCheck folders.lists (record { holds = folders.holds; bars = folders.bars }) p asked.file out out' n q)
+    → IfOk done (λ n. EndsCheck folders p asked.file out out' n q)
     → IfErr done (λ fault. (fault ≡ NoMemory) ⊎ ((fault ≡ Refused)
-    × RefusesCheck folders.lists (record { holds = folders.holds; bars = folders.bars }) p asked.file out out' q))
+    × RefusesCheck folders p asked.file out out' q))
     → IfOk done (λ n. n ≡ 0 → said ≡ before) → Ends nothing (ending_of done) said errors status
     → RunsCheck folders p q asked (streams None out before (tt {0}) (tt {0})) status (streams None out' errors (tt {0}) (tt {0}))
 check_ran folders p q asked out out' before said errors (Ok n) status ok so quiet told = inl (
-  subst (λ m. EndsCheck folders.lists (record { holds = folders.holds; bars = folders.bars }) p asked.file out out' m q) (sym told.0) ok,
+  subst (λ m. EndsCheck folders p asked.file out out' m q) (sym told.0) ok,
   λ none. subst (λ (h : Held). Keeps h errors) (quiet (sym told.0 ∙ none)) told.1,
 )
 check_ran folders p q asked out out' before said errors (Err why) status ok so quiet told =

@@ -93,15 +93,13 @@ module _ {S C Q : Type 0} (folders : PartRules Q) (p q : Q) where
   abbrev pub EndsUnchecked : Check → Streams S C → Streams S C → NotDone → Type 0
   EndsUnchecked asked old new fault = (fault ≡ Asking NoMemory)
       ⊎ ((fault ≡ Asking Refused)
-      × RefusesCheck folders.lists (record { holds = folders.holds; bars = folders.bars }) p asked.file old.output
-      new.output q)
+      × RefusesCheck folders p asked.file old.output new.output q)
 
   -- `check`: the parts were read, and what is counted of them was printed, and nothing is told behind a status of 0; or
   -- the status is a fault's
   abbrev pub RunsCheck : Check → Streams S C → ℕ → Streams S C → Type 0
   RunsCheck asked old status new =
-      (EndsCheck folders.lists (record { holds = folders.holds; bars = folders.bars }) p asked.file old.output
-      new.output status q × (status ≡ 0 → Keeps old.errors new.errors))
+      (EndsCheck folders p asked.file old.output new.output status q × (status ≡ 0 → Keeps old.errors new.errors))
       ⊎ HasFaultStatus (EndsUnchecked asked old new) status
 
 module _ {S C F G T : Type 0} {s : start.Ghosts F} {t : start.Ghosts G} (g : disk.Ghosts (FileOf s))

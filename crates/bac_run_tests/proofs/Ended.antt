@@ -42,7 +42,7 @@ use Rattle.bac_words.specs.declared.listing.ListFault.{ListFault}
 use Rattle.bac_words.specs.declared.listing.ListFault.TheVariants as list
 
 -- no fault of `keep` has the status 0
-fault_is_told : (why : KeepFault) → exit_status (fault_of why) ≡ 0 → ⊥
+pub fault_is_told : (why : KeepFault) → exit_status (fault_of why) ≡ 0 → ⊥
 fault_is_told (keep.BadValue word) none = absurd (cc)
 fault_is_told (keep.LongNumber word) none = absurd (cc)
 fault_is_told (keep.Unopened why) none = absurd (cc)
@@ -54,7 +54,7 @@ fault_is_told keep.Write none = absurd (cc)
 fault_is_told keep.Memory none = absurd (cc)
 
 -- no file that is no use
-file_is_told : (why : FileFault) → file_status why ≡ 0 → ⊥
+pub file_is_told : (why : FileFault) → file_status why ≡ 0 → ⊥
 file_is_told fault.InUse none = absurd (cc)
 file_is_told (fault.Barred obstacle) none = absurd (cc)
 file_is_told fault.Foreign none = absurd (cc)
@@ -104,7 +104,7 @@ ends_caught_up (Other told kept) none = absurd (cc)
 ends_caught_up (Twice told) none = absurd (cc)
 
 -- both are 0 whose greater one is
-both_none : (a b : ℕ) → max a b ≡ 0 → (a ≡ 0) × (b ≡ 0)
+pub both_none : (a b : ℕ) → max a b ≡ 0 → (a ≡ 0) × (b ≡ 0)
 both_none a b none = (omega (arith, none, le-max_left a b), omega (arith, none, le-max_right a b))
 
 -- where the greatest status of devices is 0 there is none

@@ -1,1 +1,3 @@
 pub mod Done
+pub mod Printed
+pub mod Whole

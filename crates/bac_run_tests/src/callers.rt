@@ -1,17 +1,23 @@
-//! Runs of `keep` and `kept`, and what their status and their sockets tell.
+//! Runs of `keep`, `kept` and `check`, and what their status and their sockets tell.
 
-ghost use Rattle.std.specs.Prelude.{◌≡◌, ◌⊎◌, false, map};
+ghost use Rattle.std.specs.Prelude.{◌≡◌, ◌⊎◌, ℕ, List, Ok, Some, false, map};
+ghost use Rattle.std.specs.Io.KnownBytes.{Keeps};
 ghost use Rattle.std.specs.String.{string_bytes};
 ghost use Rattle.sqlite_wal.specs.Files.{image_at};
+ghost use Rattle.bac_files.specs.Parts.{Listing, part_rules};
 ghost use Rattle.bac_hearing.specs.Hearing.{started};
 ghost use Rattle.bac_ports.specs.Sockets.{socket_rules};
 ghost use Rattle.bac_tools.specs.Run.{AskFor};
 ghost use Rattle.bac_words.specs.declared.job.Job.TheVariants as job;
+ghost use Rattle.bac_words.specs.declared.job.Check.{Check as CheckWords};
 ghost use Rattle.bac_words.specs.declared.job.Keep.{Keep as KeepWords};
 ghost use Rattle.bac_words.specs.declared.job.Kept.{Kept as KeptWords};
 ghost use Rattle.bac_words.specs.Jobs.{reads_input};
 ghost use Rattle.bac_run_tests.specs.Done.{HasDevices, IsAllKept};
+ghost use Rattle.bac_run_tests.specs.Printed.{IsFolderPrinted};
+ghost use Rattle.bac_run_tests.specs.Whole.{IsFoundWhole};
 
+use bac_check::zero_is_whole;
 use bac_desks::Clock as WaitClock;
 use bac_run::{DiskFiles, Parts, run};
 use bac_tools::Clock;
@@ -97,4 +103,84 @@ where
     run(
         sockets, files, parts, folders, alloc, waits, words, false, input, output, errors, clock,
     )
+}
+
+/// The program with the words of `kept`. Where it ends with 0 and they name a folder, each of its
+/// parts was an archive, and what it keeps behind the parts before it was printed, so each item
+/// once; the newest may have nothing. Nothing is told on the errors.
+pub fn print_folder<
+    S: Tracing,
+    F: Start,
+    G: Start,
+    Q: Parts,
+    I: Read,
+    O: Write,
+    E: Write,
+    C: Clock,
+    W: WaitClock,
+>(
+    sockets: &mut S,
+    files: &mut DiskFiles<'_, F>,
+    parts: &mut DiskFiles<'_, G>,
+    folders: &mut Q,
+    alloc: Global,
+    waits: W,
+    words: &[String],
+    input: &mut I,
+    output: &mut O,
+    errors: &mut E,
+    clock: &mut C,
+) -> u8
+where
+    W: Drop,
+    ensures { (asked : KeptWords) → AskFor (map string_bytes words.now) (job.Kept asked)
+        → result ≡ 0
+        → (listing : Listing) × (listed : Q) × Q.lists folders.old asked.file listing listed
+        × ((paths : List (List ℕ)) → listing ≡ Ok (Some paths)
+        → IsFolderPrinted (part_rules Q.lists Q.holds Q.bars) asked paths listed folders.new
+        (O.contents output.old) (O.contents output.new) (E.contents errors.old)
+        × Keeps (E.contents errors.old) (E.contents errors.new)) }
+{
+    run(
+        sockets, files, parts, folders, alloc, waits, words, false, input, output, errors, clock,
+    )
+}
+
+/// The program with the words of `check`. Where it ends with 0, each part of the archive goes on
+/// where the one before it ends, and no number is missing; nothing is told on the errors.
+pub fn check_until_whole<
+    S: Tracing,
+    F: Start,
+    G: Start,
+    Q: Parts,
+    I: Read,
+    O: Write,
+    E: Write,
+    C: Clock,
+    W: WaitClock,
+>(
+    sockets: &mut S,
+    files: &mut DiskFiles<'_, F>,
+    parts: &mut DiskFiles<'_, G>,
+    folders: &mut Q,
+    alloc: Global,
+    waits: W,
+    words: &[String],
+    input: &mut I,
+    output: &mut O,
+    errors: &mut E,
+    clock: &mut C,
+) -> u8
+where
+    W: Drop,
+    ensures { (asked : CheckWords) → AskFor (map string_bytes words.now) (job.Check asked)
+        → result ≡ 0
+        → IsFoundWhole (part_rules Q.lists Q.holds Q.bars) folders.old folders.new asked.file
+        × Keeps (E.contents errors.old) (E.contents errors.new) }
+{
+    let status = run(
+        sockets, files, parts, folders, alloc, waits, words, false, input, output, errors, clock,
+    );
+    zero_is_whole(folders);
+    status
 }

@@ -1,12 +1,13 @@
 use Rattle.std.proofs.Common.{◌≡◌, ℕ, List, [], inl, inr, map, refl, subst, rules}
 use Rattle.std.proofs.lemmas.Result.{IfErr-weaker, IfOk-weaker}
 use Rattle.std.specs.String.{string_bytes}
-use Rattle.bac_check.specs.Checked.{ChecksAll, RefusesText, Rules}
+use Rattle.bac_files.specs.Parts.{PartRules, part_rules}
+use Rattle.bac_check.specs.Checked.{ChecksAll, RefusesText}
 use Rattle.bac_check.proofs.checking.check_file.Goals as goal
 
 pub returns-clause-refused : goal.returns-clause-refused
 returns-clause-refused g c =
-    let over : Rules g.row.P.Denot = record { holds = g.P.Parts.holds; bars = g.P.Parts.bars } in
+    let over : PartRules g.row.P.Denot = part_rules g.P.Parts.lists g.P.Parts.holds g.P.Parts.bars in
     let none : map string_bytes c.as_slice.result.now ≡ [] = search rules in
     let text = λ (l : List (List ℕ)). RefusesText over c.args.parts.now l c.args.name.now (g.O.Write.contents c.args.output.now) (g.O.Write.contents c.check_all.new.output) c.check_all.new.parts in
     IfErr-weaker c.check_all.result _ _
@@ -18,7 +19,7 @@ returns-clause-refused g c =
 
 pub returns-clause-checks : goal.returns-clause-checks
 returns-clause-checks g c =
-    let over : Rules g.row.P.Denot = record { holds = g.P.Parts.holds; bars = g.P.Parts.bars } in
+    let over : PartRules g.row.P.Denot = part_rules g.P.Parts.lists g.P.Parts.holds g.P.Parts.bars in
     let none : map string_bytes c.as_slice.result.now ≡ [] = search rules in
     IfOk-weaker c.check_all.result _ _
     (λ status it. inr (

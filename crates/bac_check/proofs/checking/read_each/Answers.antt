@@ -1,16 +1,17 @@
 use Rattle.std.proofs.Common.{◌≡◌, ◌∙◌, ◌<◌, ◌+◌, [], ap, drop, get_or, length, map, max, refl, subst, sym, arith, rules}
 use Rattle.std.proofs.lemmas.List.{drop_all}
 use Rattle.std.specs.String.{string_bytes}
-use Rattle.bac_check.specs.Checked.{Rules, TakesPath, told_status}
+use Rattle.bac_files.specs.Parts.{PartRules, part_rules}
+use Rattle.bac_check.specs.Checked.{TakesPath, told_status}
 use Rattle.bac_check.proofs.CheckedLemmas.{Leads, drop_here, leads_all, leads_more, leads_none}
 use Rattle.bac_check.proofs.checking.read_each.Goals as goal
 
 pub loop-path-init : goal.loop-path-init
-loop-path-init g c = (leads_none (record { holds = g.P.Parts.holds; bars = g.P.Parts.bars }) c.args.parts.now (map string_bytes c.args.paths.now) c.args.checker.now.counts, refl, λ zero. refl)
+loop-path-init g c = (leads_none (part_rules g.P.Parts.lists g.P.Parts.holds g.P.Parts.bars) c.args.parts.now (map string_bytes c.args.paths.now) c.args.checker.now.counts, refl, λ zero. refl)
 
 pub loop-path-preserved : goal.loop-path-preserved
 loop-path-preserved g c =
-    let over : Rules g.row.P.Denot = record { holds = g.P.Parts.holds; bars = g.P.Parts.bars } in
+    let over : PartRules g.row.P.Denot = part_rules g.P.Parts.lists g.P.Parts.holds g.P.Parts.bars in
     let paths = c.args.paths.now in
     let path = c.path-item.result in
     let at = c.loop-path.path-index in
@@ -30,7 +31,7 @@ loop-path-preserved g c =
 
 pub returns-clause-takes : goal.returns-clause-takes
 returns-clause-takes g c =
-    let over : Rules g.row.P.Denot = record { holds = g.P.Parts.holds; bars = g.P.Parts.bars } in
+    let over : PartRules g.row.P.Denot = part_rules g.P.Parts.lists g.P.Parts.holds g.P.Parts.bars in
     let paths = c.args.paths.now in
     let done : drop c.loop-path.path-index paths ≡ [] = drop_all c.loop-path.path-index paths (omega arith) in
     leads_all over c.args.parts.now (map string_bytes paths) c.args.checker.now.counts c.loop-path.parts c.loop-path.checker.counts c.loop-path.status

@@ -1,8 +1,9 @@
-use Rattle.std.proofs.Common.{get_or, ap, subst, ◌∙◌, rules, sym}
+use Rattle.std.proofs.Common.{get_or, subst, ◌∙◌, rules, sym}
 use Rattle.std.proofs.lemmas.List.{length-set}
 use Rattle.sqlite.specs.Effect.{Database}
 use Rattle.sqlite.specs.Held.{state}
 use Rattle.bac_check.specs.Epochs.{CountsCourse}
+use Rattle.bac_check.proofs.AskedLemmas.{as_was_then, still}
 use Rattle.bac_check.proofs.CourseLemmas.{each_step, later_step}
 use Rattle.bac_archive.specs.Schema.{HasArchive}
 use Rattle.bac_check.proofs.course.count_each.Goals as goal
@@ -16,9 +17,10 @@ loop-course-preserved g c =
       length-set c.loop-course.courses c.loop-course.course-index c.count.new.self ∙ was.1,
       later_step c.args.courses.now c.loop-course.courses c.loop-course.course-index c.count.new.self was.2,
       λ late has.
-          let (same, early) = was.3 (it.clean late) has in
+          let (asked, early) = was.3 (it.clean late) has in
+          let same = still g.A.Store c.args.conn.now c.loop-course.conn asked in
           let schema = subst (λ (d : Database). HasArchive d.schema) (sym same) has in (
-            (it.same late schema).0.now_is ∙ same,
+            as_was_then g.A.Store c.args.conn.now c.loop-course.conn c.count.new.conn asked (it.same late schema),
             each_step old.now.trees c.args.courses.now c.loop-course.courses c.loop-course.course-index c.course-item.result c.count.new.self
                 (search rules) was.2 early
                 (subst (λ (d : Database). CountsCourse d.trees (get_or c.loop-course.courses c.loop-course.course-index c.course-item.result) c.count.new.self) same (it.counted late schema)),

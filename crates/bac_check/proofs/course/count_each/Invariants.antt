@@ -1,6 +1,7 @@
 use Rattle.std.proofs.Common.{◌≡◌, ℕ, ◌<◌, ◌≤◌, length, get_or}
 use Rattle.sqlite.specs.State.{HasCleanDisk}
 use Rattle.sqlite.specs.Held.{state}
+use Rattle.bac_check.specs.Asked.{IsAsWas}
 use Rattle.bac_check.specs.Epochs.{CountsCourse}
 use Rattle.bac_check.specs.declared.course.Course.{Course}
 use Rattle.bac_archive.specs.Schema.{HasArchive}
@@ -14,5 +15,5 @@ invariant-loop-course g l =
     (HasCleanDisk now → HasCleanDisk old)
     × (length l.courses ≡ length l.fn.courses)
     × ((i : ℕ) (d : Course) → l.course-index ≤ i → get_or l.courses i d ≡ get_or l.fn.courses i d)
-    × (HasCleanDisk now → HasArchive old.now.schema → (now.now ≡ old.now)
+    × (HasCleanDisk now → HasArchive old.now.schema → IsAsWas g.A.Store l.fn.conn l.conn
     × ((i : ℕ) (d : Course) → i < l.course-index → CountsCourse old.now.trees (get_or l.fn.courses i d) (get_or l.courses i d)))

@@ -16,27 +16,27 @@ pub returns-clause-archive : goal.returns-clause-archive
 returns-clause-archive g c clean =
     let found = (state g.A.Store c.args.conn.now).now in
     let mid = (state g.A.Store c.begin_part.new.conn).now in
-    let archive = (state g.A.Store c.open_archive.new.conn).now in
+    let archive = (state g.A.Store c.open_told.new.conn).now in
     let either : (mid ≡ found) ⊎ (found.schema ≡ no_schema) = elim c.begin_part.ensures.either [
       | inl same ↦ inl (ap (λ (h : Held _). (state g.A.Store h).now) same)
       | inr none ↦ inr none.0
     ] in
-    on_ok_so c.open_archive.result _ _ (archive_of found mid archive either) (c.open_archive.ensures.archive clean)
+    on_ok_so c.open_told.result _ _ (archive_of found mid archive either) (c.open_told.ensures.archive clean)
 
 pub returns-clause-begun : goal.returns-clause-begun
 returns-clause-begun g c clean =
     let disk = modelled.ghosts the_row g.row.G host.ghosts host.dict g.G.Start g.G.Start-dict g.G.Destruct-dict in
     let found = (state g.A.Store c.args.conn.now).now in
     let mid = (state g.A.Store c.begin_part.new.conn).now in
-    let archive = (state g.A.Store c.open_archive.new.conn).now in
-    on_ok_so c.open_archive.result _ _
-    (λ is. begins_opened disk (image_at g.G.Start) c.args.place.now.before c.begin_part.new.parts found mid archive is (c.in_ok-begin_part.ensures.begins (c.open_archive.ensures.clean clean)))
-    (c.open_archive.ensures.archive clean)
+    let archive = (state g.A.Store c.open_told.new.conn).now in
+    on_ok_so c.open_told.result _ _
+    (λ is. begins_opened disk (image_at g.G.Start) c.args.place.now.before c.begin_part.new.parts found mid archive is (c.in_ok-begin_part.ensures.begins (c.open_told.ensures.clean clean)))
+    (c.open_told.ensures.archive clean)
 
 pub returns-clause-same : goal.returns-clause-same
 returns-clause-same g c clean has =
     elim c.begin_part.ensures.either [
-      | inl same ↦ c.open_archive.ensures.same clean (subst (λ (h : Held _). HasArchive (state g.A.Store h).now.schema) (sym same) has)
+      | inl same ↦ c.open_told.ensures.same clean (subst (λ (h : Held _). HasArchive (state g.A.Store h).now.schema) (sym same) has)
       | inr none ↦ absurd (not_both (state g.A.Store c.args.conn.now).now.schema none.0 has)
     ]
 
@@ -45,16 +45,16 @@ returns-clause-refused g c =
     let disk = modelled.ghosts the_row g.row.G host.ghosts host.dict g.G.Start g.G.Start-dict g.G.Destruct-dict in
     let found = (state g.A.Store c.args.conn.now).now in
     let mid = (state g.A.Store c.begin_part.new.conn).now in
-    all_fail_so _ _ c.open_archive.result
+    all_fail_so _ _ c.open_told.result
     (λ why it. elim it [
       | inl answered ↦ inl answered
       | inr refused ↦ inr (λ held. elim c.begin_part.ensures.either [
         | inl same ↦ inl (subst (λ (d : Database). IsNoArchive d why) (ap (λ (h : Held _). (state g.A.Store h).now) same) (refused held))
         | inr none ↦ inr (bars_made disk (image_at g.G.Start) c.args.place.now.before c.begin_part.new.parts found mid why none.0 none.1
-            (c.in_ok-begin_part.ensures.begins (c.open_archive.ensures.clean held.0)) (refused held))
+            (c.in_ok-begin_part.ensures.begins (c.open_told.ensures.clean held.0)) (refused held))
       ])
     ])
-    c.open_archive.ensures.refused
+    c.open_told.ensures.refused
 
 pub returns-in_err-begin_part-clause-refused : goal.returns-in_err-begin_part-clause-refused
 returns-in_err-begin_part-clause-refused g c =
@@ -64,7 +64,8 @@ returns-in_err-begin_part-clause-refused g c =
 pub returns-clause-left : goal.returns-clause-left
 returns-clause-left g c held has =
     elim c.begin_part.ensures.either [
-      | inl same ↦ on_err_so c.open_archive.result _ _ (λ still. still ∙ ap (λ (h : Held _). (state g.A.Store h).committed) same) (c.open_archive.ensures.left held)
+      | inl same ↦ on_err_so c.open_told.result _ _ (λ still. still ∙ ap (λ (h : Held _). (state g.A.Store h).committed) same)
+          (c.open_told.ensures.left held (subst (λ (h : Held _). HasArchive (state g.A.Store h).now.schema) (sym same) has))
       | inr none ↦ absurd (not_both (state g.A.Store c.args.conn.now).now.schema none.0 has)
     ]
 

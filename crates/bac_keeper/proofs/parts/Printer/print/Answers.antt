@@ -1,7 +1,8 @@
 use Rattle.std.proofs.Common.{◌≡◌, Err, Ok, ap, sym, subst, rules}
 use Rattle.sqlite.specs.Held.{state}
 use Rattle.bac_files.specs.Parts.{reading}
-use Rattle.bac_keeper.proofs.PartedLemmas.{or_none, refused_read}
+use Rattle.bac_kept.proofs.PartsLemmas.{or_none}
+use Rattle.bac_keeper.proofs.PartedLemmas.{refused_read}
 use Rattle.bac_keeper.specs.Parted.{ReadsBy}
 use Rattle.bac_keeper.proofs.parts.Printer.print.Goals as goal
 

@@ -1,0 +1,20 @@
+use Rattle.sqlite.below.sqlite_std_file.specs.contracts.host.Host.{the_row}
+use Rattle.sqlite.below.sqlite_std_file.specs.contracts.host.HostCalls.TheImpl as host
+use Rattle.sqlite_disk.specs.contracts.modelled.ModelledDisk.TheImpl as modelled
+use Rattle.bac_hearing.specs.Hearing.{started}
+use Rattle.bac_files.specs.Parts.{part_rules}
+use Rattle.bac_ports.specs.Sockets.{socket_rules}
+use Rattle.bac_run_tests.proofs.Checks.{all_whole}
+use Rattle.bac_tools.specs.Streams.{streams}
+use Rattle.bac_words.specs.declared.job.Job.TheVariants as job
+use Rattle.bac_run_tests.proofs.callers.check_until_whole.Goals as goal
+
+pub returns : goal.returns
+returns g c asked ask zero =
+    let disk = modelled.ghosts the_row g.row.F host.ghosts host.dict g.F.Start g.F.Start-dict g.F.Destruct-dict in
+    let part = modelled.ghosts the_row g.row.G host.ghosts host.dict g.G.Start g.G.Start-dict g.G.Destruct-dict in
+    let rules = socket_rules g.S.Sockets.opens g.S.Sockets.closes g.S.Socket.Port.sends g.S.Socket.Port.receives g.S.Socket.Port.receives_within in
+    let old = streams (g.I.Read.remaining c.args.input.now) (g.O.Write.contents c.args.output.now) (g.E.Write.contents c.args.errors.now) c.args.sockets.now c.args.clock.now in
+    let new = streams (g.I.Read.remaining c.run-status.new.input) (g.O.Write.contents c.run-status.new.output) (g.E.Write.contents c.run-status.new.errors) c.run-status.new.sockets c.run-status.new.clock in
+    all_whole g.S.Tracing.traces rules g.S.Heeds.passes g.C.Clock.tells disk part c.run-status.new.parts (started g.W.Clock.reads c.args.waits) (part_rules g.Q.Parts.lists g.Q.Parts.holds g.Q.Parts.bars) c.zero_is_whole.ensures c.args.folders.now c.run-status.new.folders old new c.args.files.now c.run-status.new.files c.run-status.result asked
+    (c.run-status.ensures.done (job.Check asked) ask) zero
