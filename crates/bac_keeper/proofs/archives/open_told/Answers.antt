@@ -1,4 +1,4 @@
-use Rattle.std.proofs.Common.{◌≡◌, ◌⊎◌, ◌∙◌, subst, sym, is_some}
+use Rattle.std.proofs.Common.{◌≡◌, ◌⊎◌, ◌∙◌, subst, subst₂, sym, is_some, rules}
 use Rattle.std.specs.String.{string_bytes}
 use Rattle.sqlite.specs.Effect.{Database}
 use Rattle.sqlite.specs.Held.{state}
@@ -21,8 +21,12 @@ pub returns-in-Ok-clause-told : goal.returns-in-Ok-clause-told
 returns-in-Ok-clause-told g c clean =
     let opened = c.in_ok-open_archive.ensures.archive (c.tell_missing.ensures.clean clean) in
     let same = c.in-Ok.ensures.same clean opened.is.schema in
-    subst (λ (d : Database). TellsMissing d.trees (string_bytes c.args.place.now.path) (is_some c.args.place.now.before) (g.E.Write.contents c.args.errors.now) (g.E.Write.contents c.tell_missing.new.errors))
-    (sym same.0.now_is) (c.in-Ok.ensures.told clean opened.is.schema)
+    let before = g.E.Write.contents c.args.errors.now in
+    let after = g.E.Write.contents c.tell_missing.new.errors in
+    let path : c.as_str.result.now ≡ string_bytes c.args.place.now.path = search rules in
+    let follows : c.is_some.result ≡ is_some c.args.place.now.before = search rules in
+    subst (λ (d : Database). TellsMissing d.trees (string_bytes c.args.place.now.path) (is_some c.args.place.now.before) before after) (sym same.0.now_is)
+    (subst₂ (λ p b. TellsMissing (state g.A.Store c.open_archive.new.conn).now.trees p b before after) path follows (c.in-Ok.ensures.told clean opened.is.schema))
 
 pub returns-in-Ok-clause-committed : goal.returns-in-Ok-clause-committed
 returns-in-Ok-clause-committed g c clean =
