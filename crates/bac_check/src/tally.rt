@@ -52,12 +52,20 @@ pub enum Uncounted {
 }
 
 impl From<Error> for Uncounted {
+    ghost use Rattle.bac_check.specs.declared.tally.Uncounted.TheVariants.{Database};
+
+    ghost from_gives = { λ error why. why ≡ Database error };
+
     fn from(error: Error) -> Uncounted {
         Uncounted::Database(error)
     }
 }
 
 impl From<AllocError> for Uncounted {
+    ghost use Rattle.bac_check.specs.declared.tally.Uncounted.TheVariants.{Memory};
+
+    ghost from_gives = { λ _ why. why ≡ Memory };
+
     fn from(_error: AllocError) -> Uncounted {
         Uncounted::Memory
     }
