@@ -1,23 +1,21 @@
 -- What the status 0 of `kept` over a folder tells.
-use Rattle.std.proofs.Common.{◌≡◌, ◌⊎◌, ℕ, Bool, false, true, List, [], ◌∷◌, ◌++◌, inl, inr, max, refl, subst, sym, ap, ◌∙◌, Option, None, Some, Result, Ok, Err}
+use Rattle.std.proofs.Common.{◌≡◌, ℕ, Bool, false, true, List, [], ◌∷◌, inl, inr, max, subst, sym, ap, ◌∙◌, Option, Some, Result, Ok, Err}
 use Rattle.std.specs.Io.KnownBytes.{Keeps}
 use Rattle.sqlite_disk.specs.declared.Disk as disk
 use Rattle.sqlite_disk.specs.declared.start.Start as start
 use Rattle.sqlite_wal.specs.Files.{image_at}
 use Rattle.sqlite.specs.declared.error.Error.{Error}
-use Rattle.bac_asked.specs.Faults.{of_unopened}
 use Rattle.bac_asked.specs.declared.end.NotDone.{NotDone}
 use Rattle.bac_asked.specs.declared.end.NotDone.TheVariants as done
 use Rattle.bac_asked.specs.declared.fault.FileFault.TheVariants as fault
 use Rattle.bac_files.specs.Files.{FileOf}
-use Rattle.bac_files.specs.Parts.{Listing, PartRules, Reading}
+use Rattle.bac_files.specs.Parts.{Listing, PartRules}
 use Rattle.bac_files.specs.declared.disk_files.DiskFiles.{DiskFiles}
 use Rattle.bac_files.specs.declared.not_opened.NotOpened.{NotOpened}
 use Rattle.bac_files.specs.declared.not_opened.NotOpened.TheVariants as why
 use Rattle.bac_hearing.specs.Hearing.{StartedClock}
 use Rattle.bac_heeding.specs.declared.notes.Passed.{Passed}
-use Rattle.bac_keeper.specs.Parted.{At, ComesTo, IsClean, IsPartStatus, PrintsAll, PrintsFound, PrintsListed, PrintsPath, PrintsPaths, ReadsBy, unclosed, unopened}
-use Rattle.bac_keeper.specs.declared.parts.Printer.{Printer}
+use Rattle.bac_keeper.specs.Parted.{At, ComesTo, PrintsAll, PrintsListed, PrintsOfFolder, PrintsPath, PrintsPaths, ReadsBy, at_part, unclosed, unopened}
 use Rattle.bac_ports.specs.Sockets.{SocketRules}
 use Rattle.bac_print.specs.Output.{Held}
 use Rattle.bac_run.specs.Run.{RunsAll, RunsKept}
@@ -115,14 +113,16 @@ module _ {S C F Q : Type 0} {s : start.Ghosts F} (g : disk.Ghosts (FileOf s)) (f
   listed_printed asked listing listed told paths is keeps prints none =
       go (subst (λ l. PrintsListed folders.holds folders.bars g (image_at s) asked l listed q files left old.output new.output old.errors told status) is prints).0
     where
-      go : _ → IsFolderPrinted folders asked paths listed q old.output new.output old.errors × Keeps old.errors new.errors
-      go (inl (last, which, shows, begun, shown, csv, fresh, first, end, head, all, after)) =
-          let it = all_printed folders paths _ _ status all none in
-          let quiet = all_quiet folders paths _ _ it in (
-            (which, shows, begun, shown, csv, first, end, last, head, subst (λ h. AreAllPrinted folders paths _ (record { parts = q; printer = last; output = end; errors = h })) quiet it, after),
+      go : PrintsOfFolder folders.holds folders.bars asked paths listed q old.output new.output old.errors told status → IsFolderPrinted folders asked paths listed q old.output new.output old.errors × Keeps old.errors new.errors
+      go (inl (last, (which, shows, begun, shown, csv, fresh, first, end, head, all, after))) =
+          let a = at_part listed begun first old.errors in
+          let b = at_part q last end told in
+          let it = all_printed folders paths a b status all none in
+          let quiet : told ≡ old.errors = all_quiet folders paths a b it in (
+            (which, shows, begun, shown, csv, first, end, last, head, subst (λ h. AreAllPrinted folders paths a (at_part q last end h)) quiet it, after),
             subst (λ h. Keeps h new.errors) quiet keeps,
           )
-      go (inr (errors, reason, is', fails)) = absurd (file_is_told reason (sym is' ∙ none))
+      go (inr (errors, (reason, is', fails))) = absurd (file_is_told reason (sym is' ∙ none))
 
   folder_printed : (asked : KeptWords) → RunsKept g folders p q asked old files status new left → status ≡ 0
       → (listing : Listing) × (listed : Q) × folders.lists p asked.file listing listed
@@ -130,8 +130,8 @@ module _ {S C F Q : Type 0} {s : start.Ghosts F} (g : disk.Ghosts (FileOf s)) (f
       → IsFolderPrinted folders asked paths listed q old.output new.output old.errors × Keeps old.errors new.errors)
   folder_printed asked (inl (listing, listed, lists, told, keeps, prints)) none =
       (listing, listed, lists, λ paths is. listed_printed asked listing listed told paths is keeps prints none)
-  folder_printed asked (inr (reason, ends, inl is, rest)) none = absurd (fault_is_told reason (sym is ∙ none))
-  folder_printed asked (inr (reason, ends, inr is, rest)) none = absurd (cc)
+  folder_printed asked (inr (reason, ends, inl is, listing, listed, lists, quiet)) none = absurd (fault_is_told reason (sym is ∙ none))
+  folder_printed asked (inr (reason, ends, inr is, listing, listed, lists, quiet)) none = absurd (cc)
 
 module _ {S P C F G T Q : Type 0} {s : start.Ghosts F} {t : start.Ghosts G} (traces : S → Bool → S → Type 0) (rules : SocketRules S P)
     (passes : S → Passed) (tells : C → Option CivilTime → C → Type 0) (g : disk.Ghosts (FileOf s)) (h : disk.Ghosts (FileOf t)) (parts : DiskFiles G t) (waits : StartedClock T) (folders : PartRules Q) (p q : Q)
