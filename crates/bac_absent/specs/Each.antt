@@ -1,5 +1,6 @@
 -- What the devices of a run say of themselves: all are asked at once. Read `HearsEach`.
-use Rattle.std.specs.Prelude.{◌≡◌, ◌⊎◌, ◌++◌, ◌&&◌, not, ℕ, Bool, true, false, MatchBool, if◌then◌else◌, List, [], ◌∷◌, map}
+use Rattle.std.specs.Prelude.{◌≡◌, ◌⊎◌, ◌++◌, ◌&&◌, not, ℕ, Bool, true, false, MatchBool, if◌then◌else◌, List, [], ◌∷◌}
+use Rattle.std.specs.Prelude.{map}
 use Rattle.std.specs.List.{AllPairs, Contains, list_any}
 use Rattle.bac_archive.specs.declared.trend_logs.Source.{Source}
 use Rattle.bac_asked.specs.Faults.{WantsMemory}
@@ -35,7 +36,8 @@ comes_to heard called wanted =
 abbrev pub coming : List Heard → List Wanted → List Wanted → List Wanted
 coming heard called [] = []
 coming heard called (wanted ∷ more) =
-    if comes_to heard called wanted then wanted ∷ coming heard (called ++ wanted ∷ []) more else coming heard called more
+    if comes_to heard called wanted then wanted ∷ coming heard (called ++ wanted ∷ []) more
+    else coming heard called more
 
 -- Of these logs the first of each device that is called, in their order: so one of each, and none twice.
 pub record AreCalled (heard : List Heard) (all called : List Wanted) : Type 0 where

@@ -1,4 +1,4 @@
--- What the questions what a device says of itself come to over a record of what came to them. Read `IsPlayed`.
+-- What a device is asked about itself, over a record of what came to that. Read `IsPlayed`.
 use Rattle.std.specs.Prelude.{◌≡◌, ◌≢◌, ◌⊎◌, true, false, List, [], None, Some}
 use Rattle.bac_asked.specs.declared.wanted.Wanted.{Wanted}
 use Rattle.bac_jobs.specs.declared.job.Turn.{Turn}
@@ -11,20 +11,20 @@ use Rattle.bac_questions.specs.Said.{Says}
 use Rattle.bac_questions.specs.declared.said.Said.{Said}
 use Rattle.bac_absent.specs.declared.identifying.Identifying.{Identifying}
 
--- the questions to the device of a log, by its route
+-- what the device of a log is asked, by its route
 abbrev pub identifying_of : Wanted → Identifying
 identifying_of wanted = record { route = wanted.asking.asked.route }
 
--- They were asked, each once, over a link that answers from this record and nothing else; it was left so, and the
--- device says this by what it answered.
+-- It was asked that, each question once, over a link that answers from this record alone, and that was left so; and
+-- this is what it says by the answers.
 abbrev pub Runs : Identifying → List Outcome → Said → Play → Type 0
 Runs job outcomes said left =
     (link : Play) × (link.outcomes.now ≡ outcomes) × (link.is_dry ≡ false)
     × Says Plays (towards job.route) 0 link said left
 
--- What they come to over a record: all of it was taken, and this is what was asked first beyond it; or all that was
--- asked is in it, and the device says this; or the record has an outcome of what isn't asked, or what is asked fits no
--- datagram.
+-- What that comes to over a record: all of it was taken, and this is what was asked first beyond it; or it has all that
+-- was asked and nothing else, and the device says this; or it has an outcome of what isn't asked, or what is asked fits
+-- no datagram.
 abbrev pub IsPlayed : Identifying → List Outcome → Turn Said → Type 0
 IsPlayed job outcomes (Wants octets) =
     (said : Said) × (left : Play) × Runs job outcomes said left × (left.outcomes.now ≡ []) × (left.is_dry ≡ true)

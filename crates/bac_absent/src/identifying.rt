@@ -1,4 +1,4 @@
-//! The questions what a device says of itself, played.
+//! What a device is asked about itself, over a record of what came to that.
 
 ghost use Rattle.std.specs.Prelude.{◌≡◌, IfOk};
 ghost use Rattle.bac_absent.specs.Identifying.{IsPlayed, identifying_of};
@@ -11,8 +11,8 @@ use bac_play::{Outcome, Play};
 use bac_questions::{Said, read_said, transactions_by};
 use std::alloc::{AllocError, Global};
 
-/// The questions what a device says of itself: for its instance, and as the device that it tells
-/// to be for its last restart and the revision of its database (clause 12.11).
+/// What a device is asked about itself: its instance, and as the device that it tells to be its
+/// last restart and the revision of its database (clause 12.11).
 #[derive(Drop)]
 pub struct Identifying {
     /// The place of the device, if it is behind a router.
@@ -20,7 +20,7 @@ pub struct Identifying {
 }
 
 impl Identifying {
-    /// The questions to the device of a log.
+    /// What the device of a log is asked.
     pub fn of(wanted: &Wanted) -> Result<Identifying, AllocError>
         ensures { IfOk result (λ job. job ≡ identifying_of wanted.now) }
     {
