@@ -4,6 +4,7 @@
 
 use bac_desks::SteadyClock;
 use bac_heeding::Heeding;
+use bac_recall::Recalling;
 use bac_run::{DiskFiles, FolderFiles, run};
 use bac_tools::{Fault, SystemClock, UdpSockets, UntilRefused, tell};
 use bac_trace::{Traced, Writers};
@@ -55,10 +56,13 @@ fn started(rt: &HostRuntime) -> Result<u8, Fault> {
     // A count is for somebody who looks at both.
     let counts = rt.stdout().is_terminal() && rt.stderr().is_terminal();
     Ok(run(
-        &mut Traced::new(
+        &mut Recalling::new(
             rt.alloc(),
-            Heeding::new(UdpSockets::new(rt)),
-            StandardErrors { rt },
+            Traced::new(
+                rt.alloc(),
+                Heeding::new(UdpSockets::new(rt)),
+                StandardErrors { rt },
+            ),
         ),
         &mut DiskFiles::new(rt, Unknown),
         &mut DiskFiles::new(rt, Unknown),

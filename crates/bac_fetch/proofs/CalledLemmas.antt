@@ -11,21 +11,22 @@ use Rattle.bac_asked.specs.declared.wanted.Wanted.{Wanted}
 use Rattle.bac_fetch.specs.Causes.{EndsLogs, EndsSettled}
 use Rattle.bac_fetch.specs.Keeps.{KeepsAll, KeepsLogs}
 use Rattle.bac_fetch.specs.Moves.{Settles}
-use Rattle.bac_hearing.specs.Hearing.{StartedClock}
+use Rattle.bac_fetch.specs.Ahead.{AtOnce, OpensAhead}
 use Rattle.bac_ports.specs.Sockets.{SocketRules}
 use Rattle.bac_questions.specs.declared.whose.Heard.{Heard}
 
-module _ {S P C : Type 0} (rules : SocketRules S P) (clock : StartedClock C) where
+module _ {S P C : Type 0} (rules : SocketRules S P) (by : AtOnce S C) where
   -- they are kept
-  pub logs_kept : (all : List Wanted) (before half called after : S) (old mid new : Database) (known now : List Log) (heard spoken last : List Heard) (ends : List End)
-      → AreLogs old.trees known → Settles rules known all before heard half old mid → HearsEach rules clock all heard half spoken called → AreLogs mid.trees now
-      → KeepsAll rules now spoken last all called after mid new ends → KeepsLogs rules clock all before after old new ends
-  logs_kept all before half called after old mid new known now heard spoken last ends are settles found are_now kept =
-      (known, are, heard, half, mid, settles, spoken, called, found, now, are_now, last, kept)
+  pub logs_kept : (all : List Wanted) (before half called held after : S) (old mid new : Database) (known now : List Log) (heard found last : List Heard) (ends : List End)
+      → AreLogs old.trees known → Settles rules known all before heard half old mid → HearsEach rules by.clock all heard half found called → AreLogs mid.trees now
+      → OpensAhead rules by mid.trees now found all called held
+      → KeepsAll rules now found last all held after mid new ends → KeepsLogs rules by all before after old new ends
+  logs_kept all before half called held after old mid new known now heard found last ends are settles finds are_now opens kept =
+      (known, are, heard, half, mid, settles, found, called, finds, now, are_now, held, opens, last, kept)
 
   -- it ends at one of them
-  pub logs_end : (given : Given) (all : List Wanted) (before half called after : S) (old mid : Database) (known : List Log) (heard spoken : List Heard) (fault : NotDone)
-      → AreLogs old.trees known → Settles rules known all before heard half old mid → HearsEach rules clock all heard half spoken called
-      → EndsSettled rules spoken all called after mid fault → EndsLogs rules clock given all before after old fault
-  logs_end given all before half called after old mid known heard spoken fault are settles found it =
-      inr (known, are, heard, half, mid, settles, inr (spoken, called, found, it))
+  pub logs_end : (given : Given) (all : List Wanted) (before half called after : S) (old mid : Database) (known : List Log) (heard found : List Heard) (fault : NotDone)
+      → AreLogs old.trees known → Settles rules known all before heard half old mid → HearsEach rules by.clock all heard half found called
+      → EndsSettled rules by found all called after mid fault → EndsLogs rules by given all before after old fault
+  logs_end given all before half called after old mid known heard found fault are settles finds it =
+      inr (known, are, heard, half, mid, settles, inr (found, called, finds, it))

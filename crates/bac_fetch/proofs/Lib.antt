@@ -1,3 +1,4 @@
+pub mod AheadLemmas
 pub mod SameLemmas
 pub mod StaysLemmas
 pub mod EndsLemmas

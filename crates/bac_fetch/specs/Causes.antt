@@ -30,7 +30,7 @@ use Rattle.bac_questions.specs.declared.said.Identity.TheVariants.{Told}
 use Rattle.bac_questions.specs.declared.said.Said.{Said}
 use Rattle.bac_questions.specs.declared.whose.Heard.{Heard}
 use Rattle.bac_absent.specs.Each.{EndsCalling, HearsEach}
-use Rattle.bac_hearing.specs.Hearing.{StartedClock}
+use Rattle.bac_fetch.specs.Ahead.{AtOnce, EndsOpening, OpensAhead}
 use Rattle.bac_ports.specs.Sockets.{SocketRules}
 use Rattle.bac_words.specs.declared.job.Asked.{Asked}
 use Rattle.bac_words.specs.declared.word.Word.TheVariants.{Instance}
@@ -90,11 +90,19 @@ pub record EndsAll {S P : Type 0} (rules : SocketRules S P) (known : List Log) (
   pub kept : KeepsAll rules known heard now front before half old mid ends
   pub cause : EndsNext rules known now wanted mid.trees half after fault
 
+-- They aren't asked for ahead; or they were, and the run ends at one of them.
+abbrev pub EndsOpened : {S P C : Type 0} → SocketRules S P → AtOnce S C → List Log → List Heard → List Wanted → S → S
+    → Database → NotDone → Type 0
+EndsOpened {S = S} rules by known heard all before after old fault =
+    EndsOpening rules by old.trees known heard all before after fault
+    ⊎ ((held : S) × OpensAhead rules by old.trees known heard all before held
+    × EndsAll rules known heard all held after old fault)
+
 -- so it does in an archive that has these logs, or they aren't told
-abbrev pub EndsSettled : {S P : Type 0} → SocketRules S P → List Heard → List Wanted → S → S → Database → NotDone
-    → Type 0
-EndsSettled rules heard all before after old fault = FailsOnRows fault
-    ⊎ ((known : List Log) × AreLogs old.trees known × EndsAll rules known heard all before after old fault)
+abbrev pub EndsSettled : {S P C : Type 0} → SocketRules S P → AtOnce S C → List Heard → List Wanted → S → S → Database
+    → NotDone → Type 0
+EndsSettled rules by heard all before after old fault = FailsOnRows fault
+    ⊎ ((known : List Log) × AreLogs old.trees known × EndsOpened rules by known heard all before after old fault)
 
 -- ---- before them, whether a device has moved
 
@@ -132,25 +140,25 @@ FailsToSettle rules given all before after old fault = FailsOnRows fault
 -- ---- the whole run
 
 -- Devices aren't called at once; or they were, and from where that left the sockets the run ends at one of the logs.
-abbrev pub EndsCalled : {S P C : Type 0} → SocketRules S P → StartedClock C → List Heard → List Wanted → S → S
+abbrev pub EndsCalled : {S P C : Type 0} → SocketRules S P → AtOnce S C → List Heard → List Wanted → S → S
     → Database → NotDone → Type 0
-EndsCalled {S = S} rules clock heard all before after old fault = EndsCalling rules all heard before after fault
-    ⊎ ((found : List Heard) × (called : S) × HearsEach rules clock all heard before found called
-    × EndsSettled rules found all called after old fault)
+EndsCalled {S = S} rules by heard all before after old fault = EndsCalling rules all heard before after fault
+    ⊎ ((found : List Heard) × (called : S) × HearsEach rules by.clock all heard before found called
+    × EndsSettled rules by found all called after old fault)
 
 -- A run over logs ends: where the device of the first one stands isn't settled; or it was, and the run ends behind it.
-abbrev pub EndsLogs : {S P C : Type 0} → SocketRules S P → StartedClock C → Given → List Wanted → S → S → Database
+abbrev pub EndsLogs : {S P C : Type 0} → SocketRules S P → AtOnce S C → Given → List Wanted → S → S → Database
     → NotDone → Type 0
-EndsLogs {S = S} rules clock given all before after old fault = FailsToSettle rules given all before after old fault
+EndsLogs {S = S} rules by given all before after old fault = FailsToSettle rules given all before after old fault
     ⊎ ((known : List Log) × AreLogs old.trees known × (heard : List Heard) × (half : S) × (mid : Database)
-    × Settles rules known all before heard half old mid × EndsCalled rules clock heard all half after mid fault)
+    × Settles rules known all before heard half old mid × EndsCalled rules by heard all half after mid fault)
 
 -- A run over the logs that were chosen ends: they aren't found; or they were, and from where that left the sockets the
 -- run over them ends.
-abbrev pub EndsRunOver : {S P C : Type 0} → SocketRules S P → StartedClock C → Given → Chosen → S → S → Database
+abbrev pub EndsRunOver : {S P C : Type 0} → SocketRules S P → AtOnce S C → Given → Chosen → S → S → Database
     → NotDone → Type 0
-EndsRunOver {S = S} rules clock given chosen before after old fault =
+EndsRunOver {S = S} rules by given chosen before after old fault =
     EndsChosen rules chosen (HasNone old.trees) (LacksAddress given old.trees) before after fault
     ⊎ ((all : List Wanted) × (unlisted : List Unlisted) × (between : S)
     × AreFound rules chosen before all unlisted between
-    × EndsLogs rules clock given all between after old fault)
+    × EndsLogs rules by given all between after old fault)

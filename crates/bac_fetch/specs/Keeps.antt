@@ -35,9 +35,9 @@ use Rattle.bac_begin.specs.declared.starting.Start.{Start}
 use Rattle.bac_asked.specs.declared.log_words.Asking.{Asking}
 use Rattle.bac_asked.specs.declared.wanted.Wanted.{Wanted}
 use Rattle.bac_absent.specs.Each.{HearsEach}
-use Rattle.bac_hearing.specs.Hearing.{StartedClock}
 use Rattle.bac_ports.specs.Sockets.{SocketRules, UsesSocket, link_over, own_address, socket_asks}
 use Rattle.bac_ports.specs.declared.udp_link.UdpLink.{UdpLink}
+use Rattle.bac_fetch.specs.Ahead.{AtOnce, OpensAhead}
 use Rattle.bac_fetch.specs.Fetched.{ComesFrom}
 use Rattle.bac_fetch.specs.Heeds.{end_told, heeding, heeds}
 use Rattle.bac_fetch.specs.declared.heeding.Heeding.{Heeding}
@@ -228,17 +228,18 @@ KeepsAll {S = S} rules known heard last (wanted ∷ more) before after old new (
     × KeepsAll rules known now last more half after mid new ends
 KeepsAll rules known heard last _ before after old new _ = ⊥
 
--- So are they in a run: first it is found whether the device of the first one has moved; then all devices are asked at
--- once what they say of themselves; and then the logs are kept in an archive that has these, with what was heard of
--- devices.
-abbrev pub KeepsLogs : {S P C : Type 0} → SocketRules S P → StartedClock C → List Wanted → S → S → Database → Database
+-- So are they in a run: first it is found whether the device of the first one has moved; then what devices say of
+-- themselves, all at once; then their logs are asked for ahead; and then they are kept in an archive that has these logs,
+-- with what was heard of devices.
+abbrev pub KeepsLogs : {S P C : Type 0} → SocketRules S P → AtOnce S C → List Wanted → S → S → Database → Database
     → List End → Type 0
-KeepsLogs {S = S} rules clock all before after old new ends =
+KeepsLogs {S = S} rules by all before after old new ends =
     (known : List Log) × AreLogs old.trees known × (heard : List Heard) × (half : S) × (mid : Database)
     × Settles rules known all before heard half old mid
-    × (found : List Heard) × (called : S) × HearsEach rules clock all heard half found called
-    × (now : List Log) × AreLogs mid.trees now × (last : List Heard)
-    × KeepsAll rules now found last all called after mid new ends
+    × (found : List Heard) × (called : S) × HearsEach rules by.clock all heard half found called
+    × (now : List Log) × AreLogs mid.trees now
+    × (held : S) × OpensAhead rules by mid.trees now found all called held
+    × (last : List Heard) × KeepsAll rules now found last all held after mid new ends
 
 -- the lines of logs, in their order
 abbrev pub lines_of : List Wanted → List End → List ℕ

@@ -1,3 +1,4 @@
+pub mod Ahead
 pub mod Unlisted
 pub mod Chosen
 pub mod Fetched

@@ -105,7 +105,7 @@ fn eq_number(kept: Option<u32>, told: Option<u32>) -> bool
 }
 
 /// What a device that told this says beside what is kept of it.
-fn word_of(kept: &Told, told: &Told) -> Word
+pub(crate) fn word_of(kept: &Told, told: &Told) -> Word
     ensures { result ≡ word_of kept.now told.now }
 {
     if is_same_text(&kept.restart, &told.restart) && is_same_number(kept.revision, told.revision) {

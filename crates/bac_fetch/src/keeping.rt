@@ -6,10 +6,10 @@ ghost use Rattle.sqlite.specs.State.{HasCleanDisk, Survives};
 ghost use Rattle.sqlite.specs.Held.{state};
 ghost use Rattle.bac_archive.specs.Schema.{OverArchive, HasArchive};
 ghost use Rattle.bac_archive.specs.Logs.{AreLogs};
-ghost use Rattle.bac_hearing.specs.Hearing.{started};
+ghost use Rattle.bac_fetch.specs.Ahead.{OpensAhead, at_once};
 ghost use Rattle.bac_ports.specs.Sockets.{socket_rules};
 ghost use Rattle.bac_asked.specs.Faults.{WantsMemory, FailsOnRows, EndsLog};
-ghost use Rattle.bac_fetch.specs.Causes.{EndsAll, EndsLogs, EndsRunOver, EndsSettled};
+ghost use Rattle.bac_fetch.specs.Causes.{EndsAll, EndsLogs, EndsOpened, EndsRunOver, EndsSettled};
 ghost use Rattle.bac_fetch.specs.Causes.{FailsToSettle};
 ghost use Rattle.bac_fetch.specs.Faults.{EndsChosen, EndsKeeping, EndsKept, EndsRun, HasNoInstance};
 ghost use Rattle.bac_fetch.specs.Faults.{HasNone, LacksAddress};
@@ -25,6 +25,7 @@ ghost use Rattle.bac_asked.specs.Wanted.{AsksItsSource, HasNoAddress};
 ghost use Rattle.bac_fetch.specs.Stays.{HasAllOf};
 ghost use Rattle.bac_asked.specs.declared.wanted.Wanted.{Wanted as WantedOf};
 
+use crate::ahead::open_ahead;
 use crate::moving::settle;
 use crate::single::keep_next;
 use crate::sought::{Found, Sought, sought_logs};
@@ -35,6 +36,7 @@ use bac_desks::Clock;
 use bac_heeding::Heeds;
 use bac_ports::Sockets;
 use bac_questions::Heard;
+use bac_recall::Recalls;
 use sqlite::{Alter, Connection};
 use std::alloc::Global;
 use std::io::Write;
@@ -169,11 +171,14 @@ fn logs_of<A: Alter>(conn: &mut Connection<A>, alloc: Global) -> Result<Vec<Log>
     }
 }
 
-/// Keeps what is new of each of these logs in an archive, where this was heard of devices before.
-fn keep_settled<S: Heeds, A: Alter, O: Write, E: Write>(
+/// Keeps what is new of each of these logs in an archive that has these logs, behind what is asked
+/// for ahead.
+fn keep_ahead<S: Recalls, C: Clock + Copy, A: Alter, O: Write, E: Write>(
     sockets: &mut S,
     conn: &mut Connection<A>,
     alloc: Global,
+    clock: C,
+    known: &[Log],
     heard: Vec<Heard>,
     all: Vec<Wanted>,
     called: bool,
@@ -181,12 +186,68 @@ fn keep_settled<S: Heeds, A: Alter, O: Write, E: Write>(
     output: &mut O,
     errors: &mut E,
 ) -> Result<u8, NotDone>
+where
+    C: Drop,
+    ensures told { IfOk result (AreToldBy (O.contents output.old) (O.contents output.new) all.items
+        (λ ends. OverArchive (state A.Store conn.old) (state A.Store conn.new)
+        ((held : S) × OpensAhead (socket_rules S.opens S.closes S.Socket.sends
+        S.Socket.receives S.Socket.receives_within) (at_once S.holds C.reads clock)
+        (state A.Store conn.old).now.trees known.now heard.items all.items sockets.old held
+        × (last : List HeardOf) × KeepsAll (socket_rules S.opens S.closes S.Socket.sends
+        S.Socket.receives S.Socket.receives_within) known.now heard.items last
+        all.items held sockets.new (state A.Store conn.old).now
+        (state A.Store conn.new).now ends))) }
+    ensures stays { OverArchive (state A.Store conn.old) (state A.Store conn.new)
+        (Survives (state A.Store conn.old) (state A.Store conn.new)
+        (HasAllOf (state A.Store conn.old).now.trees)) }
+    ensures clean { HasCleanDisk (state A.Store conn.new) → HasCleanDisk (state A.Store conn.old) }
+    ensures fault { IfErr result (EndsRun (socket_rules S.opens S.closes S.Socket.sends
+        S.Socket.receives S.Socket.receives_within) (HasNoInstance all.items) ⊥
+        sockets.new) }
+    ensures caused { OverArchive (state A.Store conn.old) (state A.Store conn.new)
+        (IfErr result (EndsOpened (socket_rules S.opens S.closes S.Socket.sends S.Socket.receives
+        S.Socket.receives_within) (at_once S.holds C.reads clock) known.now heard.items all.items
+        sockets.old sockets.new (state A.Store conn.old).now)) }
+{
+    open_ahead(
+        sockets,
+        conn,
+        alloc,
+        clock,
+        known,
+        heard.as_slice(),
+        all.as_slice(),
+        called,
+    )?;
+    keep_known(
+        sockets, conn, alloc, known, heard, all, called, counts, output, errors,
+    )
+}
+
+/// Keeps what is new of each of these logs in an archive, where this was heard of devices before.
+fn keep_settled<S: Recalls, C: Clock + Copy, A: Alter, O: Write, E: Write>(
+    sockets: &mut S,
+    conn: &mut Connection<A>,
+    alloc: Global,
+    clock: C,
+    heard: Vec<Heard>,
+    all: Vec<Wanted>,
+    called: bool,
+    counts: bool,
+    output: &mut O,
+    errors: &mut E,
+) -> Result<u8, NotDone>
+where
+    C: Drop,
     ensures told { IfOk result (AreToldBy (O.contents output.old) (O.contents output.new) all.items
         (λ ends. OverArchive (state A.Store conn.old) (state A.Store conn.new)
         ((known : List LogOf) × AreLogs (state A.Store conn.old).now.trees known
+        × (held : S) × OpensAhead (socket_rules S.opens S.closes S.Socket.sends
+        S.Socket.receives S.Socket.receives_within) (at_once S.holds C.reads clock)
+        (state A.Store conn.old).now.trees known heard.items all.items sockets.old held
         × (last : List HeardOf) × KeepsAll (socket_rules S.opens S.closes S.Socket.sends
         S.Socket.receives S.Socket.receives_within) known heard.items last
-        all.items sockets.old sockets.new (state A.Store conn.old).now
+        all.items held sockets.new (state A.Store conn.old).now
         (state A.Store conn.new).now ends))) }
     ensures stays { OverArchive (state A.Store conn.old) (state A.Store conn.new)
         (Survives (state A.Store conn.old) (state A.Store conn.new)
@@ -197,14 +258,15 @@ fn keep_settled<S: Heeds, A: Alter, O: Write, E: Write>(
         sockets.new) }
     ensures caused { OverArchive (state A.Store conn.old) (state A.Store conn.new)
         (IfErr result (EndsSettled (socket_rules S.opens S.closes S.Socket.sends S.Socket.receives
-        S.Socket.receives_within) heard.items all.items sockets.old sockets.new
-        (state A.Store conn.old).now)) }
+        S.Socket.receives_within) (at_once S.holds C.reads clock) heard.items all.items sockets.old
+        sockets.new (state A.Store conn.old).now)) }
 {
     let known = logs_of(conn, alloc)?;
-    keep_known(
+    keep_ahead(
         sockets,
         conn,
         alloc,
+        clock,
         known.as_slice(),
         heard,
         all,
@@ -250,14 +312,15 @@ fn settle_known<S: Sockets, A: Alter, E: Write>(
 
 /// Keeps what is new of each of these logs in an archive; answers the greatest of their statuses.
 /// A device is asked once what it says of itself: all are asked at once before the first log, if
-/// they are two or more, by the clock, which is read for how long each is waited for. One that
-/// tells another instance than the one on record isn't asked for its logs, nor is one that gave no
-/// answer before. A device that tells at a new place the instance on record of logs at another one
-/// has moved, if nobody tells it there. The errors have a line for such a device, for a log that
-/// began anew, and for one whose walk failed: what came in place of the answer, or what a refusal
-/// means. If it counts, they have the number of a log's records while it is fetched: for a
-/// terminal.
-pub fn keep_each<S: Heeds, C: Clock, A: Alter, O: Write, E: Write>(
+/// they are two or more, by the clock, which is read for how long each is waited for; and then for
+/// what each log begins with, one log of each device at a time. What comes answers the run over the
+/// log, in its turn, where it asks the same. A device that tells another instance than the one on
+/// record isn't asked for its logs, nor is one that gave no answer before. A device that tells at a
+/// new place the instance on record of logs at another one has moved, if nobody tells it there. The
+/// errors have a line for such a device, for a log that began anew, and for one whose walk failed:
+/// what came in place of the answer, or what a refusal means. If it counts, they have the number of
+/// a log's records while it is fetched: for a terminal.
+pub fn keep_each<S: Recalls, C: Clock + Copy, A: Alter, O: Write, E: Write>(
     sockets: &mut S,
     conn: &mut Connection<A>,
     alloc: Global,
@@ -276,7 +339,7 @@ where
     ensures told { IfOk result (AreToldBy (O.contents output.old) (O.contents output.new) all.items
         (λ ends. OverArchive (state A.Store conn.old) (state A.Store conn.new)
         (KeepsLogs (socket_rules S.opens S.closes S.Socket.sends S.Socket.receives
-        S.Socket.receives_within) (started C.reads clock) all.items sockets.old sockets.new
+        S.Socket.receives_within) (at_once S.holds C.reads clock) all.items sockets.old sockets.new
         (state A.Store conn.old).now (state A.Store conn.new).now ends))) }
     // Whatever comes of it, no item and no log is lost: what is on the disk then, or is left by a
     // crash at any moment before, is what was there or has all of it.
@@ -292,13 +355,13 @@ where
         sockets.new) }
     ensures caused { OverArchive (state A.Store conn.old) (state A.Store conn.new)
         (IfErr result (EndsLogs (socket_rules S.opens S.closes S.Socket.sends S.Socket.receives
-        S.Socket.receives_within) (started C.reads clock) (given_in options.now) all.items
+        S.Socket.receives_within) (at_once S.holds C.reads clock) (given_in options.now) all.items
         sockets.old sockets.new (state A.Store conn.old).now)) }
 {
     let mut heard = settle_known(sockets, conn, alloc, all.as_slice(), options, errors)?;
     let called = hear_each(sockets, alloc, clock, all.as_slice(), &mut heard)?;
     keep_settled(
-        sockets, conn, alloc, heard, all, called, counts, output, errors,
+        sockets, conn, alloc, clock, heard, all, called, counts, output, errors,
     )
 }
 
@@ -350,7 +413,7 @@ fn chosen_logs<S: Heeds, A: Alter, O: Write, E: Write>(
 /// Keeps what is new of the logs that were chosen, as [`keep_each`] does. A device that doesn't
 /// tell its Object_List has a line before those of the logs, and the errors say why; the status is
 /// the greatest of all.
-pub fn keep_chosen<S: Heeds, C: Clock, A: Alter, O: Write, E: Write>(
+pub fn keep_chosen<S: Recalls, C: Clock + Copy, A: Alter, O: Write, E: Write>(
     sockets: &mut S,
     conn: &mut Connection<A>,
     alloc: Global,
@@ -374,7 +437,7 @@ where
         × AreToldBehind (O.contents output.old) (O.contents output.new) unlisted all
         (λ ends. OverArchive (state A.Store conn.old) (state A.Store conn.new)
         (KeepsLogs (socket_rules S.opens S.closes S.Socket.sends S.Socket.receives
-        S.Socket.receives_within) (started C.reads clock) all between sockets.new
+        S.Socket.receives_within) (at_once S.holds C.reads clock) all between sockets.new
         (state A.Store conn.old).now (state A.Store conn.new).now ends)) status) }
     // Whatever comes of it, no item and no log is lost.
     ensures stays { OverArchive (state A.Store conn.old) (state A.Store conn.new)
@@ -392,7 +455,7 @@ where
         sockets.old sockets.new) }
     ensures caused { OverArchive (state A.Store conn.old) (state A.Store conn.new)
         (IfErr result (EndsRunOver (socket_rules S.opens S.closes S.Socket.sends S.Socket.receives
-        S.Socket.receives_within) (started C.reads clock) (given_in options.now) chosen sockets.old
+        S.Socket.receives_within) (at_once S.holds C.reads clock) (given_in options.now) chosen sockets.old
         sockets.new (state A.Store conn.old).now)) }
 {
     let found = chosen_logs(sockets, conn, alloc, chosen, options, output, errors)?;

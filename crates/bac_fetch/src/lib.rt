@@ -2,6 +2,7 @@
 //! a device may come from anyone, and a file may have been written by anyone.
 #![tactic(auto)]
 
+mod ahead;
 mod count;
 mod ending;
 mod entry;

@@ -28,7 +28,7 @@ use Rattle.bac_keeper.specs.Done.{Chooses, EndsOver, KeepsIn, RefusesKeep, Tells
 use Rattle.bac_keeper.specs.Ends.{FailsFile, IsOfSomeFile, IsUnclosedBySome, MayAsk, MayFail}
 use Rattle.bac_keeper.specs.Shown.{PrintsArchive, PrintsIn, Shows}
 use Rattle.bac_kept.specs.declared.printing.Shown.{Shown}
-use Rattle.bac_hearing.specs.Hearing.{StartedClock}
+use Rattle.bac_fetch.specs.Ahead.{AtOnce}
 use Rattle.bac_ports.specs.Sockets.{SocketRules}
 use Rattle.bac_print.specs.Output.{Held}
 use Rattle.bac_words.specs.declared.job.Keep.{Keep}
@@ -57,7 +57,7 @@ module _ {D : Type 0} {g : disk.Ghosts D} (image : Image) (opened last : Connect
       → IsClosedBy last closed → IfSome closed (IsDoneTo g image LosesNothing)
   loses_none stays shut = some_done LosesNothing (λ c open'. stays (c, open') (opened_settled image opened is (clean c))) shut.1
 
-  pub keeps_in : {S P C : Type 0} (rules : SocketRules S P) (clock : StartedClock C) (begins : Database → Database → Type 0) (words : Keep) (chosen : Chosen) (sockets after : S) (out out' : Held) (result done : Result ℕ NotDone)
+  pub keeps_in : {S P C : Type 0} (rules : SocketRules S P) (clock : AtOnce S C) (begins : Database → Database → Type 0) (words : Keep) (chosen : Chosen) (sockets after : S) (out out' : Held) (result done : Result ℕ NotDone)
       → Chooses words chosen
       → IfOk done (TellsThese rules chosen sockets out out' (λ all between ends. IsHeld (file_state last) → KeepsArchive rules clock chosen all between after begins ends (file_state opened).now (file_state last).committed))
       → IfOk result (λ v. done ≡ Ok v) → OnOk result (IsClosedBy last closed) → IfOk result (KeepsIn rules clock g image begins words sockets after out out' closed)
@@ -143,14 +143,14 @@ asks_file image opened last files is clean ends over did (Err (done.Asking why))
     (it.0, inr (shut.0, some_done image opened last files.closed is clean (λ found left. over found (done.Asking why)) (λ c open'. it.1 (c, open')) shut.1))
 
 -- what a run over an archive fails by, by options that are the same
-pub refused_by : {S P C : Type 0} (rules : SocketRules S P) (clock : StartedClock C) (bars : FileFault → Type 0) (which : Chosen) (before after : S) (found : Database) (last : State) (given by : Given) (r : Result ℕ NotDone) → given ≡ by
+pub refused_by : {S P C : Type 0} (rules : SocketRules S P) (clock : AtOnce S C) (bars : FileFault → Type 0) (which : Chosen) (before after : S) (found : Database) (last : State) (given by : Given) (r : Result ℕ NotDone) → given ≡ by
     → IfErr r (MayFail (λ why. ((error : Error) × (why ≡ of_error error)) ⊎ (IsHeld last → RefusesKeep rules clock bars which given before after found why)))
     → IfErr r (MayFail (λ why. ((error : Error) × (why ≡ of_error error)) ⊎ (IsHeld last → RefusesKeep rules clock bars which by before after found why)))
 refused_by rules clock bars which before after found last given by r is it =
     subst (λ (x : Given). IfErr r (MayFail (λ why. ((error : Error) × (why ≡ of_error error)) ⊎ (IsHeld last → RefusesKeep rules clock bars which x before after found why)))) is it
 
 -- so what it ends by, by options that are the same
-pub ended_by : {S P C : Type 0} (rules : SocketRules S P) (clock : StartedClock C) (which : Chosen) (before after : S) (found : Database) (last : State) (given by : Given) (ends : NotDone → Type 0) (r : Result ℕ NotDone)
+pub ended_by : {S P C : Type 0} (rules : SocketRules S P) (clock : AtOnce S C) (which : Chosen) (before after : S) (found : Database) (last : State) (given by : Given) (ends : NotDone → Type 0) (r : Result ℕ NotDone)
     → given ≡ by
     → IfErr r (MayAsk (λ fault. ends fault × (IsHeld last → EndsOver rules clock which given before after found fault)))
     → IfErr r (MayAsk (λ fault. ends fault × (IsHeld last → EndsOver rules clock which by before after found fault)))

@@ -8,7 +8,7 @@ use Rattle.bac_asked.specs.declared.end.NotDone.TheVariants as done
 use Rattle.bac_fetch.specs.Causes.{EndsRunOver}
 use Rattle.bac_fetch.specs.Faults.{EndsKeeping, HasNoInstance}
 use Rattle.bac_fetch.specs.declared.keeping.Chosen.{Chosen}
-use Rattle.bac_hearing.specs.Hearing.{StartedClock}
+use Rattle.bac_fetch.specs.Ahead.{AtOnce}
 use Rattle.bac_ports.specs.Sockets.{SocketRules}
 use Rattle.sqlite.specs.Effect.{Database}
 use Rattle.sqlite.specs.State.{State}
@@ -28,7 +28,7 @@ keeping_so rules N M A B f h which before after fault (inr (all, unlisted, betwe
     inr (all, unlisted, between, found, ends_so rules (HasNoInstance all) (HasNoInstance all) A B after fault (λ n. n) h it)
 
 -- so a run ends over what two files held, which became this archive
-pub refused_so : {S P C : Type 0} (rules : SocketRules S P) (clock : StartedClock C) (bars : FileFault → Type 0) (which : Chosen) (given : Given) (found : Database) (archive last : State) (before after : S) (fault : NotDone)
+pub refused_so : {S P C : Type 0} (rules : SocketRules S P) (clock : AtOnce S C) (bars : FileFault → Type 0) (which : Chosen) (given : Given) (found : Database) (archive last : State) (before after : S) (fault : NotDone)
     → (IsHeld last → IsArchiveOf found archive.now × (HasArchive archive.now.schema))
     → OverArchive archive last (EndsRunOver rules clock given which before after archive.now fault)
     → MayFail (λ why. ((error : Error) × (why ≡ of_error error)) ⊎ (IsHeld last → RefusesKeep rules clock bars which given before after found why)) fault

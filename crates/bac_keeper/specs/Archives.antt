@@ -12,7 +12,7 @@ use Rattle.bac_fetch.specs.Chosen.{AreChosen}
 use Rattle.bac_fetch.specs.Keeps.{KeepsLogs}
 use Rattle.bac_fetch.specs.Stays.{HasAllOf}
 use Rattle.bac_fetch.specs.declared.keeping.Chosen.{Chosen}
-use Rattle.bac_hearing.specs.Hearing.{StartedClock}
+use Rattle.bac_fetch.specs.Ahead.{AtOnce}
 use Rattle.bac_ports.specs.Sockets.{SocketRules}
 use Rattle.bac_archive.specs.Schema.{HasArchive}
 
@@ -26,7 +26,7 @@ pub record IsArchiveOf (found archive : Database) : Type 0 where
   pub same : HasArchive found.schema → archive ≡ found
 
 -- these logs, of those that were chosen, were kept in the archive, which begins so, and their runs ended so
-pub record KeepsArchive {S P C : Type 0} (rules : SocketRules S P) (clock : StartedClock C) (chosen : Chosen)
+pub record KeepsArchive {S P C : Type 0} (rules : SocketRules S P) (clock : AtOnce S C) (chosen : Chosen)
     (all : List Wanted) (before after : S) (begins : Database → Database → Type 0)
     (ends : List End) (found left : Database) : Type 0 where
   pub archive : Database

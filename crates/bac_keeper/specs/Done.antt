@@ -28,7 +28,7 @@ use Rattle.bac_files.specs.Files.{FileOf, IsDoneTo}
 use Rattle.bac_files.specs.declared.disk_files.DiskFiles.{DiskFiles}
 use Rattle.bac_keeper.specs.Archives.{IsArchiveOf, KeepsArchive}
 use Rattle.bac_keeper.specs.Ends.{FailsFile, IsNoArchive, IsUnclosedBySome}
-use Rattle.bac_hearing.specs.Hearing.{StartedClock}
+use Rattle.bac_fetch.specs.Ahead.{AtOnce}
 use Rattle.bac_ports.specs.Sockets.{SocketRules}
 use Rattle.bac_print.specs.Output.{Held}
 use Rattle.bac_words.specs.declared.group.Group.{Group}
@@ -87,7 +87,7 @@ TellsThese {S = S} rules chosen sockets before after kept status =
 
 -- The logs that the words choose were kept in the archive that two files held, which begins so, and which the closed
 -- files hold now.
-abbrev pub KeepsIn : {S P C D : Type 0} → SocketRules S P → StartedClock C → (g : disk.Ghosts D) → Image
+abbrev pub KeepsIn : {S P C D : Type 0} → SocketRules S P → AtOnce S C → (g : disk.Ghosts D) → Image
     → (Database → Database → Type 0) → Keep → S → S → Held → Held → Option (Files D) → ℕ → Type 0
 KeepsIn rules clock g image begins keep sockets sockets_after before after closed status =
     IsSome closed × (chosen : Chosen) × Chooses keep chosen × TellsThese rules chosen sockets before after
@@ -96,20 +96,20 @@ KeepsIn rules clock g image begins keep sockets sockets_after before after close
     status
 
 -- what two files held is an archive, or becomes one, and the run over the logs that were chosen ends so
-abbrev pub EndsOver : {S P C : Type 0} → SocketRules S P → StartedClock C → Chosen → Given → S → S → Database
+abbrev pub EndsOver : {S P C : Type 0} → SocketRules S P → AtOnce S C → Chosen → Given → S → S → Database
     → NotDone → Type 0
 EndsOver rules clock which given before after found fault =
     (archive : Database) × IsArchiveOf found archive × EndsRunOver rules clock given which before after archive fault
 
 -- Why the logs that were chosen aren't kept in the archive that two files held: it is none; or what it is to begin on
 -- is no use; or the run over it ends so.
-abbrev pub RefusesKeep : {S P C : Type 0} → SocketRules S P → StartedClock C → (FileFault → Type 0) → Chosen → Given → S
+abbrev pub RefusesKeep : {S P C : Type 0} → SocketRules S P → AtOnce S C → (FileFault → Type 0) → Chosen → Given → S
     → S → Database → FileFault → Type 0
 RefusesKeep rules clock bars which given before after found why =
     (IsNoArchive found why ⊎ bars why) ⊎ EndsOver rules clock which given before after found (File why)
 
 -- so the file is no use to `keep`
-abbrev pub FailsToKeep : {S P C F : Type 0} {s : start.Ghosts F} → SocketRules S P → StartedClock C
+abbrev pub FailsToKeep : {S P C F : Type 0} {s : start.Ghosts F} → SocketRules S P → AtOnce S C
     → disk.Ghosts (FileOf s) → Image → (FileFault → Type 0) → Keep → List ℕ → Bool → S → S → DiskFiles F s → FileFault →
     Type 0
 FailsToKeep rules clock g image bars keep path may before after files why = (which : Chosen) × Chooses keep which
@@ -138,7 +138,7 @@ ChoosesNoneBy (group ∷ more) given fault = WantsMemory fault
 abbrev pub ChoosesNone : Keep → NotDone → Type 0
 ChoosesNone keep = ChoosesNoneBy keep.groups (given_of keep.options)
 
-module _ {S P C F : Type 0} {s : start.Ghosts F} (rules : SocketRules S P) (clock : StartedClock C)
+module _ {S P C F : Type 0} {s : start.Ghosts F} (rules : SocketRules S P) (clock : AtOnce S C)
     (g : disk.Ghosts (FileOf s)) (image : Image) where
   -- The logs that were chosen aren't kept, whatever the files hold; and of two closed files the run over what they held
   -- ends so, unless they couldn't be closed.

@@ -9,7 +9,7 @@ use Rattle.bac_files.specs.Files.{FileOf, IsNamed}
 use Rattle.bac_files.specs.Parts.{IsPlaced}
 use Rattle.bac_files.specs.declared.disk_files.DiskFiles.{DiskFiles}
 use Rattle.bac_files.specs.declared.folder.Place.{Place}
-use Rattle.bac_hearing.specs.Hearing.{StartedClock}
+use Rattle.bac_fetch.specs.Ahead.{AtOnce}
 use Rattle.bac_keeper.specs.Begun.{BarsPart, BeginsOn}
 use Rattle.bac_keeper.specs.Done.{FailsToKeep, KeepsIn}
 use Rattle.bac_keeper.specs.Ends.{IsNotOpened}
@@ -19,7 +19,7 @@ use Rattle.bac_words.specs.Groups.{are_any}
 use Rattle.bac_words.specs.declared.job.Keep.{Keep}
 
 module _ {S P C F G : Type 0} {s : start.Ghosts F} {t : start.Ghosts G} (rules : SocketRules S P)
-    (clock : StartedClock C) (g : disk.Ghosts (FileOf s)) (h : disk.Ghosts (FileOf t))
+    (clock : AtOnce S C) (g : disk.Ghosts (FileOf s)) (h : disk.Ghosts (FileOf t))
     (image before_image : Image) where
   -- The logs that the words choose were kept in the archive at the place of FILE, which was opened by its name. Where a
   -- part is begun it follows on the one before it.

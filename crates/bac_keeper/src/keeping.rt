@@ -18,7 +18,7 @@ ghost use Rattle.bac_keeper.specs.Done.{Chooses, ChoosesNone, EndsKeep, EndsOver
 ghost use Rattle.bac_keeper.specs.Done.{KeepsIn, RefusesKeep, Seeks, SeeksBy, SeeksNone};
 ghost use Rattle.bac_keeper.specs.Done.{SeeksNoneBy, TellsThese, given_for, given_of};
 ghost use Rattle.bac_keeper.specs.Ends.{MayAsk, MayFail};
-ghost use Rattle.bac_hearing.specs.Hearing.{started};
+ghost use Rattle.bac_fetch.specs.Ahead.{at_once};
 ghost use Rattle.bac_ports.specs.Sockets.{socket_rules};
 ghost use Rattle.bac_words.specs.Groups.{are_any};
 
@@ -28,7 +28,7 @@ use bac_asked::{Fault, FileFault, NotDone, Options, check_options, named, named_
 use bac_desks::Clock;
 use bac_fetch::{Chosen, Sought, keep_chosen};
 use bac_files::{DiskFiles, Place};
-use bac_heeding::Heeds;
+use bac_recall::Recalls;
 use bac_words::{Group, Keep, KeepOptions, Name, Way};
 use sqlite::{Alter, Connection, Error, ErrorCode, FileFrom, Start};
 use sqlite_disk::Disk;
@@ -151,7 +151,7 @@ fn choose(alloc: Global, asked: &Keep, options: &Options<'_>) -> Result<Chosen, 
 
 /// Keeps what is new of the logs that were chosen in an open database, which has to be an archive,
 /// or becomes one: the part that follows on the one before it, if there is one.
-fn keep_in<S: Heeds, C: Clock, A: Alter, G: Start, O: Write, E: Write>(
+fn keep_in<S: Recalls, C: Clock + Copy, A: Alter, G: Start, O: Write, E: Write>(
     sockets: &mut S,
     conn: &mut Connection<A>,
     parts: &mut DiskFiles<'_, G>,
@@ -173,7 +173,7 @@ where
         (O.contents output.old) (O.contents output.new)
         (λ all between ends. IsHeld (state A.Store conn.new)
         → KeepsArchive (socket_rules S.opens S.closes S.Socket.sends S.Socket.receives
-        S.Socket.receives_within) (started C.reads clock) chosen all between sockets.new
+        S.Socket.receives_within) (at_once S.holds C.reads clock) chosen all between sockets.new
         (BeginsOn ⟦<FileFrom<G> as Disk>⟧ (image_at G.Start) place.old.before parts.new) ends
         (state A.Store conn.old).now (state A.Store conn.new).committed)) }
     // Whatever comes of it, no item and no log is lost.
@@ -184,7 +184,7 @@ where
     ensures fault { IfErr result (MayFail (λ why. ((error : Error) × (why ≡ of_error error))
         ⊎ (IsHeld (state A.Store conn.new) → RefusesKeep
         (socket_rules S.opens S.closes S.Socket.sends S.Socket.receives
-        S.Socket.receives_within) (started C.reads clock)
+        S.Socket.receives_within) (at_once S.holds C.reads clock)
         (BarsPart ⟦<FileFrom<G> as Disk>⟧ (image_at G.Start) place.old.before parts.new) chosen
         (given_in options.now) sockets.old sockets.new (state A.Store conn.old).now why))) }
     ensures ends { IfErr result (MayAsk (λ fault. EndsKeeping
@@ -193,7 +193,7 @@ where
         sockets.new fault
         × (IsHeld (state A.Store conn.new) → EndsOver
         (socket_rules S.opens S.closes S.Socket.sends S.Socket.receives
-        S.Socket.receives_within) (started C.reads clock) chosen (given_in options.now) sockets.old
+        S.Socket.receives_within) (at_once S.holds C.reads clock) chosen (given_in options.now) sockets.old
         sockets.new (state A.Store conn.old).now fault))) }
 {
     begin_archive(alloc, conn, parts, place, errors)?;
@@ -225,7 +225,7 @@ fn may_make(asked: &Keep, place: &Place) -> bool
 
 /// `bac keep`: opens the archive at its place, keeps what is new of the logs that the words name,
 /// and closes it.
-pub(crate) fn keep<S: Heeds, C: Clock, F: Start, G: Start, O: Write, E: Write>(
+pub(crate) fn keep<S: Recalls, C: Clock + Copy, F: Start, G: Start, O: Write, E: Write>(
     sockets: &mut S,
     files: &mut DiskFiles<'_, F>,
     parts: &mut DiskFiles<'_, G>,
@@ -240,7 +240,7 @@ pub(crate) fn keep<S: Heeds, C: Clock, F: Start, G: Start, O: Write, E: Write>(
 where
     C: Drop,
     ensures kept { IfOk result (KeepsIn (socket_rules S.opens S.closes S.Socket.sends
-        S.Socket.receives S.Socket.receives_within) (started C.reads clock) ⟦<FileFrom<F> as Disk>⟧
+        S.Socket.receives S.Socket.receives_within) (at_once S.holds C.reads clock) ⟦<FileFrom<F> as Disk>⟧
         (image_at F.Start) (BeginsOn ⟦<FileFrom<G> as Disk>⟧ (image_at G.Start) place.old.before
         parts.new) asked.now sockets.old sockets.new (O.contents output.old)
         (O.contents output.new) files.new.closed) }
@@ -248,7 +248,7 @@ where
         (are_any asked.now.groups || is_some place.old.before) files.new) }
     ensures fault { IfErr result (MayFail (FailsToKeep
         (socket_rules S.opens S.closes S.Socket.sends S.Socket.receives
-        S.Socket.receives_within) (started C.reads clock) ⟦<FileFrom<F> as Disk>⟧
+        S.Socket.receives_within) (at_once S.holds C.reads clock) ⟦<FileFrom<F> as Disk>⟧
         (image_at F.Start)
         (BarsPart ⟦<FileFrom<G> as Disk>⟧ (image_at G.Start) place.old.before parts.new)
         asked.now (string_bytes place.old.path)
@@ -258,7 +258,7 @@ where
         (IsDoneTo ⟦<FileFrom<F> as Disk>⟧ (image_at F.Start) LosesNothing) }
     ensures ends { IfErr result (MayAsk (EndsKeep
         (socket_rules S.opens S.closes S.Socket.sends S.Socket.receives
-        S.Socket.receives_within) (started C.reads clock) ⟦<FileFrom<F> as Disk>⟧
+        S.Socket.receives_within) (at_once S.holds C.reads clock) ⟦<FileFrom<F> as Disk>⟧
         (image_at F.Start) asked.now
         sockets.old sockets.new files.new)) }
 {

@@ -16,7 +16,7 @@ ghost use Rattle.bac_keeper.specs.Ends.{MayFail};
 ghost use Rattle.bac_keeper.specs.Parted.{IsNoFolder, PrintsFile, PrintsListed, PrintsOfFolder};
 ghost use Rattle.bac_keeper.specs.Shown.{EndsPrint};
 ghost use Rattle.bac_keeper.specs.Stops.{EndsStop, FailsToStopAt, StopsAt};
-ghost use Rattle.bac_hearing.specs.Hearing.{started};
+ghost use Rattle.bac_fetch.specs.Ahead.{at_once};
 ghost use Rattle.bac_ports.specs.Sockets.{socket_rules};
 ghost use Rattle.bac_words.specs.Groups.{are_any};
 
@@ -27,7 +27,7 @@ use crate::stopping::stop;
 use bac_asked::{Fault, FileFault, NotDone};
 use bac_desks::Clock;
 use bac_files::{DiskFiles, Parts, Place};
-use bac_heeding::Heeds;
+use bac_recall::Recalls;
 use bac_words::{Keep, Kept};
 use sqlite::{FileFrom, Start};
 use sqlite_disk::Disk;
@@ -102,7 +102,7 @@ fn stop_at<F: Start, O: Write, E: Write>(
 }
 
 /// The same of `keep` without `--stop`, at the place of its archive.
-fn keep_at<S: Heeds, C: Clock, F: Start, G: Start, O: Write, E: Write>(
+fn keep_at<S: Recalls, C: Clock + Copy, F: Start, G: Start, O: Write, E: Write>(
     sockets: &mut S,
     files: &mut DiskFiles<'_, F>,
     parts: &mut DiskFiles<'_, G>,
@@ -119,12 +119,12 @@ where
     ensures kept { IfOk result (λ status. (IsNamed (string_bytes place.path)
         (are_any asked.now.groups || is_some place.before) files.new
         × KeepsIn (socket_rules S.opens S.closes S.Socket.sends S.Socket.receives
-        S.Socket.receives_within) (started C.reads clock) ⟦<FileFrom<F> as Disk>⟧ (image_at F.Start)
+        S.Socket.receives_within) (at_once S.holds C.reads clock) ⟦<FileFrom<F> as Disk>⟧ (image_at F.Start)
         (BeginsOn ⟦<FileFrom<G> as Disk>⟧ (image_at G.Start) place.before parts.new)
         asked.now sockets.old sockets.new (O.contents output.old)
         (O.contents output.new) files.new.closed status)
         ⊎ IsOfFile (FailsToKeep (socket_rules S.opens S.closes S.Socket.sends
-        S.Socket.receives S.Socket.receives_within) (started C.reads clock) ⟦<FileFrom<F> as Disk>⟧
+        S.Socket.receives S.Socket.receives_within) (at_once S.holds C.reads clock) ⟦<FileFrom<F> as Disk>⟧
         (image_at F.Start)
         (BarsPart ⟦<FileFrom<G> as Disk>⟧ (image_at G.Start) place.before parts.new) asked.now
         (string_bytes place.path) (are_any asked.now.groups || is_some place.before)
@@ -132,7 +132,7 @@ where
     ensures stays { IsUnused files.old → IfSome files.new.closed
         (IsDoneTo ⟦<FileFrom<F> as Disk>⟧ (image_at F.Start) LosesNothing) }
     ensures ends { IfErr result (λ why. EndsKeep (socket_rules S.opens S.closes S.Socket.sends
-        S.Socket.receives S.Socket.receives_within) (started C.reads clock) ⟦<FileFrom<F> as Disk>⟧
+        S.Socket.receives S.Socket.receives_within) (at_once S.holds C.reads clock) ⟦<FileFrom<F> as Disk>⟧
         (image_at F.Start) asked.now sockets.old sockets.new files.new
         (NotDone.Asking why)) }
 {
@@ -151,7 +151,7 @@ where
 /// it. Devices are called at once before the first log, by the clock. Any other fault is
 /// the caller's to tell. `counts` is for a terminal: the errors have a count of records while a log
 /// is fetched.
-pub fn run_keep<S: Heeds, C: Clock, F: Start, G: Start, O: Write, E: Write>(
+pub fn run_keep<S: Recalls, C: Clock + Copy, F: Start, G: Start, O: Write, E: Write>(
     sockets: &mut S,
     files: &mut DiskFiles<'_, F>,
     parts: &mut DiskFiles<'_, G>,
@@ -169,12 +169,12 @@ where
     // file is no use.
     ensures kept { asked.now.stop ≡ false
         → IfOk result (λ status. KeepsAt (socket_rules S.opens S.closes S.Socket.sends
-        S.Socket.receives S.Socket.receives_within) (started C.reads clock)
+        S.Socket.receives S.Socket.receives_within) (at_once S.holds C.reads clock)
         ⟦<FileFrom<F> as Disk>⟧ ⟦<FileFrom<G> as Disk>⟧ (image_at F.Start) (image_at G.Start)
         asked.now sockets.old sockets.new (O.contents output.old) (O.contents output.new)
         files.new parts.new status
         ⊎ IsOfFile (FailsAt (socket_rules S.opens S.closes S.Socket.sends S.Socket.receives
-        S.Socket.receives_within) (started C.reads clock) ⟦<FileFrom<F> as Disk>⟧
+        S.Socket.receives_within) (at_once S.holds C.reads clock) ⟦<FileFrom<F> as Disk>⟧
         ⟦<FileFrom<G> as Disk>⟧ (image_at F.Start) (image_at G.Start) asked.now sockets.old
         sockets.new files.new parts.new) status) }
     // With `--stop` they were stopped, and nothing else of the archive changed; no socket is
@@ -198,7 +198,7 @@ where
     // Or it ends so, and that is the caller's to tell.
     ensures ends { asked.now.stop ≡ false
         → IfErr result (λ why. EndsKeep (socket_rules S.opens S.closes S.Socket.sends
-        S.Socket.receives S.Socket.receives_within) (started C.reads clock) ⟦<FileFrom<F> as Disk>⟧
+        S.Socket.receives S.Socket.receives_within) (at_once S.holds C.reads clock) ⟦<FileFrom<F> as Disk>⟧
         (image_at F.Start) asked.now sockets.old sockets.new files.new
         (NotDone.Asking why)) }
     ensures stop_ends { asked.now.stop ≡ true

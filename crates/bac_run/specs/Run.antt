@@ -13,7 +13,7 @@ use Rattle.bac_check.specs.Checked.{EndsCheck, RefusesCheck}
 use Rattle.bac_files.specs.Files.{FileOf}
 use Rattle.bac_files.specs.Parts.{Listing, PartRules}
 use Rattle.bac_files.specs.declared.disk_files.DiskFiles.{DiskFiles}
-use Rattle.bac_hearing.specs.Hearing.{StartedClock}
+use Rattle.bac_fetch.specs.Ahead.{AtOnce}
 use Rattle.bac_heeding.specs.Notes.{nothing}
 use Rattle.bac_heeding.specs.declared.notes.Passed.{Passed}
 use Rattle.bac_keeper.specs.Done.{EndsKeep}
@@ -103,7 +103,7 @@ module _ {S C Q : Type 0} (folders : PartRules Q) (p q : Q) where
       ⊎ HasFaultStatus (EndsUnchecked asked old new) status
 
 module _ {S C F G T : Type 0} {s : start.Ghosts F} {t : start.Ghosts G} (g : disk.Ghosts (FileOf s))
-    (h : disk.Ghosts (FileOf t)) (parts : DiskFiles G t) (waits : StartedClock T) where
+    (h : disk.Ghosts (FileOf t)) (parts : DiskFiles G t) (waits : AtOnce S T) where
   -- `keep`: the logs that the words choose were kept in the archive that the files held, of a folder in a part, which
   -- follows on the one before it where it was begun; these are the files of that. Or the file is no use; or the
   -- status is a fault's. With `--stop` those that the words mean were stopped, or the file is no use, or a fault is
@@ -151,7 +151,7 @@ module _ {S C F G T : Type 0} {s : start.Ghosts F} {t : start.Ghosts G} (g : dis
       RunsListed rules passes asked old files status new left
 
 module _ {S C F G T Q : Type 0} {s : start.Ghosts F} {t : start.Ghosts G} (g : disk.Ghosts (FileOf s))
-    (h : disk.Ghosts (FileOf t)) (parts : DiskFiles G t) (waits : StartedClock T) (folders : PartRules Q) (p q : Q)
+    (h : disk.Ghosts (FileOf t)) (parts : DiskFiles G t) (waits : AtOnce S T) (folders : PartRules Q) (p q : Q)
   where
     -- The tool of a job. `keep` works on files; `kept` and `check` read parts, too, and open no socket. Each other one
     -- leaves the files alone.

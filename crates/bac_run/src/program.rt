@@ -6,7 +6,7 @@ ghost use Rattle.sqlite_wal.specs.Files.{image_at};
 ghost use Rattle.bac_files.specs.Files.{IsDoneTo, IsUnused};
 ghost use Rattle.bac_files.specs.Parts.{part_rules};
 ghost use Rattle.bac_keeper.specs.Archives.{LosesNothing};
-ghost use Rattle.bac_hearing.specs.Hearing.{started};
+ghost use Rattle.bac_fetch.specs.Ahead.{at_once};
 ghost use Rattle.bac_ports.specs.Sockets.{socket_rules};
 ghost use Rattle.bac_tools.specs.Run.{AnswersWords, AreWrong, AskFor, Ends, OnlyTells, wrong_fault};
 ghost use Rattle.bac_tools.specs.Streams.{streams};
@@ -22,6 +22,7 @@ use bac_check::run_check;
 use bac_desks::Clock as WaitClock;
 use bac_heeding::{Heeds, Passed};
 use bac_keeper::{DiskFiles, Fault as KeepFault, Parts, run_keep, run_kept};
+use bac_recall::Recalls;
 use bac_tools::{Clock, Fault, listed_devices, run_read, tell_after};
 use bac_trace::Tracing;
 use bac_words::{Check, Job, Keep, Kept, read_words};
@@ -55,7 +56,7 @@ fn ended<E: Write>(alloc: Global, passed: Passed, done: Result<u8, KeepFault>, e
 }
 
 /// `keep`, and its fault is told.
-fn keep_and_tell<S: Heeds, F: Start, G: Start, O: Write, E: Write, W: WaitClock>(
+fn keep_and_tell<S: Recalls, F: Start, G: Start, O: Write, E: Write, W: WaitClock + Copy + Copy + Copy>(
     sockets: &mut S,
     files: &mut DiskFiles<'_, F>,
     parts: &mut DiskFiles<'_, G>,
@@ -69,7 +70,7 @@ fn keep_and_tell<S: Heeds, F: Start, G: Start, O: Write, E: Write, W: WaitClock>
 where
     W: Drop,
     ensures ran { RunsKeep ⟦<FileFrom<F> as Disk>⟧ ⟦<FileFrom<G> as Disk>⟧ parts.new
-        (started W.reads waits)
+        (at_once S.holds W.reads waits)
         (socket_rules S.opens S.closes S.Socket.sends S.Socket.receives S.Socket.receives_within)
         S.passes asked.now
         (streams None (O.contents output.old) (E.contents errors.old) sockets.old (tt {0})) result
@@ -86,7 +87,15 @@ where
 
 /// `keep` of the devices that the input lists; without a list it is told why, and nothing else is
 /// done.
-fn keep_listed<S: Heeds, F: Start, G: Start, I: Read, O: Write, E: Write, W: WaitClock>(
+fn keep_listed<
+    S: Recalls,
+    F: Start,
+    G: Start,
+    I: Read,
+    O: Write,
+    E: Write,
+    W: WaitClock + Copy + Copy + Copy,
+>(
     sockets: &mut S,
     files: &mut DiskFiles<'_, F>,
     parts: &mut DiskFiles<'_, G>,
@@ -101,7 +110,7 @@ fn keep_listed<S: Heeds, F: Start, G: Start, I: Read, O: Write, E: Write, W: Wai
 where
     W: Drop,
     ensures ran { RunsListed ⟦<FileFrom<F> as Disk>⟧ ⟦<FileFrom<G> as Disk>⟧ parts.new
-        (started W.reads waits)
+        (at_once S.holds W.reads waits)
         (socket_rules S.opens S.closes S.Socket.sends S.Socket.receives S.Socket.receives_within)
         S.passes asked
         (streams (I.remaining input.old) (O.contents output.old) (E.contents errors.old)
@@ -123,7 +132,15 @@ where
 }
 
 /// `keep` of the devices of its words, or of those that the input lists.
-fn keep_job<S: Heeds, F: Start, G: Start, I: Read, O: Write, E: Write, W: WaitClock>(
+fn keep_job<
+    S: Recalls,
+    F: Start,
+    G: Start,
+    I: Read,
+    O: Write,
+    E: Write,
+    W: WaitClock + Copy + Copy + Copy,
+>(
     sockets: &mut S,
     files: &mut DiskFiles<'_, F>,
     parts: &mut DiskFiles<'_, G>,
@@ -138,7 +155,7 @@ fn keep_job<S: Heeds, F: Start, G: Start, I: Read, O: Write, E: Write, W: WaitCl
 where
     W: Drop,
     ensures ran { RunsGroups ⟦<FileFrom<F> as Disk>⟧ ⟦<FileFrom<G> as Disk>⟧ parts.new
-        (started W.reads waits)
+        (at_once S.holds W.reads waits)
         (socket_rules S.opens S.closes S.Socket.sends S.Socket.receives S.Socket.receives_within)
         S.passes (reads_input asked) asked
         (streams (I.remaining input.old) (O.contents output.old) (E.contents errors.old)
@@ -195,7 +212,7 @@ fn check_and_tell<Q: Parts, O: Write, E: Write>(
 
 /// Does what a job asks for, and answers the exit status.
 fn run_job<
-    S: Heeds,
+    S: Recalls,
     F: Start,
     G: Start,
     Q: Parts,
@@ -203,7 +220,7 @@ fn run_job<
     O: Write,
     E: Write,
     C: Clock,
-    W: WaitClock,
+    W: WaitClock + Copy + Copy + Copy,
 >(
     sockets: &mut S,
     files: &mut DiskFiles<'_, F>,
@@ -221,7 +238,7 @@ fn run_job<
 where
     W: Drop,
     ensures ran { DoesAll ⟦<FileFrom<F> as Disk>⟧ ⟦<FileFrom<G> as Disk>⟧ parts.new
-        (started W.reads waits) (part_rules Q.lists Q.holds Q.bars) folders.old folders.new
+        (at_once S.holds W.reads waits) (part_rules Q.lists Q.holds Q.bars) folders.old folders.new
         (socket_rules S.opens S.closes S.Socket.sends S.Socket.receives S.Socket.receives_within)
         S.passes C.tells job (streams (I.remaining input.old) (O.contents output.old)
         (E.contents errors.old) sockets.old clock.old) files.old result
@@ -243,7 +260,7 @@ where
 
 /// The same over sockets that tell each datagram, if the words ask for it.
 fn run_told<
-    S: Tracing,
+    S: Tracing + Recalls,
     F: Start,
     G: Start,
     Q: Parts,
@@ -251,7 +268,7 @@ fn run_told<
     O: Write,
     E: Write,
     C: Clock,
-    W: WaitClock,
+    W: WaitClock + Copy + Copy + Copy,
 >(
     sockets: &mut S,
     files: &mut DiskFiles<'_, F>,
@@ -269,7 +286,7 @@ fn run_told<
 where
     W: Drop,
     ensures ran { DoesTold ⟦<FileFrom<F> as Disk>⟧ ⟦<FileFrom<G> as Disk>⟧ parts.new
-        (started W.reads waits) (part_rules Q.lists Q.holds Q.bars) folders.old folders.new S.traces
+        (at_once S.holds W.reads waits) (part_rules Q.lists Q.holds Q.bars) folders.old folders.new S.traces
         (socket_rules S.opens S.closes S.Socket.sends S.Socket.receives S.Socket.receives_within)
         S.passes C.tells job (streams (I.remaining input.old) (O.contents output.old)
         (E.contents errors.old) sockets.old clock.old) files.old result
@@ -292,7 +309,7 @@ where
 /// `parts` are the files of the part of an archive on which another one follows, `folders` what the
 /// parts of an archive are read from.
 pub fn run<
-    S: Tracing,
+    S: Tracing + Recalls,
     F: Start,
     G: Start,
     Q: Parts,
@@ -300,7 +317,7 @@ pub fn run<
     O: Write,
     E: Write,
     C: Clock,
-    W: WaitClock,
+    W: WaitClock + Copy + Copy + Copy,
 >(
     sockets: &mut S,
     files: &mut DiskFiles<'_, F>,
@@ -320,7 +337,7 @@ where
     // The tool that the words name does what they say.
     ensures done { (job : AnyJob) → AskFor (map string_bytes words.now) job
         → RunsAll ⟦<FileFrom<F> as Disk>⟧ ⟦<FileFrom<G> as Disk>⟧ parts.new
-        (started W.reads waits) (part_rules Q.lists Q.holds Q.bars) folders.old folders.new S.traces
+        (at_once S.holds W.reads waits) (part_rules Q.lists Q.holds Q.bars) folders.old folders.new S.traces
         (socket_rules S.opens S.closes S.Socket.sends S.Socket.receives
         S.Socket.receives_within) S.passes C.tells job
         (streams (I.remaining input.old) (O.contents output.old) (E.contents errors.old)

@@ -20,7 +20,7 @@ use Rattle.bac_fetch.specs.declared.unlisted.Unlisted.{Unlisted}
 use Rattle.bac_files.specs.Files.{FileOf}
 use Rattle.bac_files.specs.Parts.{PartRules}
 use Rattle.bac_files.specs.declared.disk_files.DiskFiles.{DiskFiles}
-use Rattle.bac_hearing.specs.Hearing.{StartedClock}
+use Rattle.bac_fetch.specs.Ahead.{AtOnce}
 use Rattle.bac_heeding.specs.declared.notes.Passed.{Passed}
 use Rattle.bac_link.specs.declared.exchanges.ExchangeFault.{ExchangeFault}
 use Rattle.bac_link.specs.declared.exchanges.ExchangeFault.TheVariants as exchange
@@ -120,7 +120,7 @@ all_caught_up (end ∷ ends) none =
     (ends_caught_up end.why both.0, all_caught_up ends both.1)
 
 module _ {S P C F G T Q : Type 0} {s : start.Ghosts F} {t : start.Ghosts G} (traces : S → Bool → S → Type 0) (rules : SocketRules S P)
-    (passes : S → Passed) (tells : C → Option CivilTime → C → Type 0) (g : disk.Ghosts (FileOf s)) (h : disk.Ghosts (FileOf t)) (parts : DiskFiles G t) (waits : StartedClock T) (folders : PartRules Q) (p q : Q)
+    (passes : S → Passed) (tells : C → Option CivilTime → C → Type 0) (g : disk.Ghosts (FileOf s)) (h : disk.Ghosts (FileOf t)) (parts : DiskFiles G t) (waits : AtOnce S T) (folders : PartRules Q) (p q : Q)
     (old new : Streams S C)
     (files left : DiskFiles F s) (status : ℕ) where
   -- `keep` over these sockets

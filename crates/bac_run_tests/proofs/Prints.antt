@@ -13,7 +13,7 @@ use Rattle.bac_files.specs.Parts.{Listing, PartRules}
 use Rattle.bac_files.specs.declared.disk_files.DiskFiles.{DiskFiles}
 use Rattle.bac_files.specs.declared.not_opened.NotOpened.{NotOpened}
 use Rattle.bac_files.specs.declared.not_opened.NotOpened.TheVariants as why
-use Rattle.bac_hearing.specs.Hearing.{StartedClock}
+use Rattle.bac_fetch.specs.Ahead.{AtOnce}
 use Rattle.bac_heeding.specs.declared.notes.Passed.{Passed}
 use Rattle.bac_keeper.specs.Parted.{At, ComesTo, PrintsAll, PrintsListed, PrintsOfFolder, PrintsPath, PrintsPaths, ReadsBy, at_part, unclosed, unopened}
 use Rattle.bac_ports.specs.Sockets.{SocketRules}
@@ -134,7 +134,7 @@ module _ {S C F Q : Type 0} {s : start.Ghosts F} (g : disk.Ghosts (FileOf s)) (f
   folder_printed asked (inr (reason, ends, inr is, listing, listed, lists, quiet)) none = absurd (cc)
 
 module _ {S P C F G T Q : Type 0} {s : start.Ghosts F} {t : start.Ghosts G} (traces : S → Bool → S → Type 0) (rules : SocketRules S P)
-    (passes : S → Passed) (tells : C → Option CivilTime → C → Type 0) (g : disk.Ghosts (FileOf s)) (h : disk.Ghosts (FileOf t)) (parts : DiskFiles G t) (waits : StartedClock T) (folders : PartRules Q) (p q : Q)
+    (passes : S → Passed) (tells : C → Option CivilTime → C → Type 0) (g : disk.Ghosts (FileOf s)) (h : disk.Ghosts (FileOf t)) (parts : DiskFiles G t) (waits : AtOnce S T) (folders : PartRules Q) (p q : Q)
     (old new : Streams S C) (files left : DiskFiles F s) (status : ℕ) where
   -- `kept` that ended with 0
   pub printed : (asked : KeptWords) → RunsAll g h parts waits folders p q traces rules passes tells (job.Kept asked) old files status new left

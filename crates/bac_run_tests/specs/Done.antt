@@ -17,7 +17,7 @@ use Rattle.bac_files.specs.Files.{FileOf, IsDoneTo}
 use Rattle.bac_files.specs.Parts.{IsPlaced}
 use Rattle.bac_files.specs.declared.disk_files.DiskFiles.{DiskFiles}
 use Rattle.bac_files.specs.declared.folder.Place.{Place}
-use Rattle.bac_hearing.specs.Hearing.{StartedClock}
+use Rattle.bac_fetch.specs.Ahead.{AtOnce}
 use Rattle.bac_keeper.specs.Archives.{KeepsArchive}
 use Rattle.bac_keeper.specs.Begun.{BeginsOn}
 use Rattle.bac_keeper.specs.Done.{Chooses}
@@ -43,7 +43,7 @@ HasDevices true asked input left which =
 
 -- Each device told its logs. Each log that the words of `keep` choose is caught up and has its line, and two closed
 -- files hold the archive in which these runs kept them.
-pub record IsAllKept {S P C D G : Type 0} {t : start.Ghosts G} (rules : SocketRules S P) (clock : StartedClock C)
+pub record IsAllKept {S P C D G : Type 0} {t : start.Ghosts G} (rules : SocketRules S P) (clock : AtOnce S C)
     (g : disk.Ghosts D) (h : disk.Ghosts (FileOf t)) (image before_image : Image) (asked : Keep)
     (sockets sockets_after : S) (before after : Held) (closed : Option (Files D)) (parts : DiskFiles G t) : Type 0 where
   pub chosen : Chosen

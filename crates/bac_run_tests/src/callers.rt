@@ -5,7 +5,7 @@ ghost use Rattle.std.specs.Io.KnownBytes.{Keeps};
 ghost use Rattle.std.specs.String.{string_bytes};
 ghost use Rattle.sqlite_wal.specs.Files.{image_at};
 ghost use Rattle.bac_files.specs.Parts.{Listing, part_rules};
-ghost use Rattle.bac_hearing.specs.Hearing.{started};
+ghost use Rattle.bac_fetch.specs.Ahead.{at_once};
 ghost use Rattle.bac_ports.specs.Sockets.{socket_rules};
 ghost use Rattle.bac_tools.specs.Run.{AskFor};
 ghost use Rattle.bac_words.specs.declared.job.Job.TheVariants as job;
@@ -20,6 +20,7 @@ ghost use Rattle.bac_run_tests.specs.Whole.{IsFoundWhole};
 use bac_check::zero_is_whole;
 use bac_desks::Clock as WaitClock;
 use bac_run::{DiskFiles, Parts, run};
+use bac_recall::Recalls;
 use bac_tools::Clock;
 use bac_trace::Tracing;
 use sqlite::{FileFrom, Start};
@@ -31,7 +32,7 @@ use std::io::{Read, Write};
 /// their devices or of those that the input lists, is caught up and has its line, and the file
 /// holds the archive in which it is kept.
 pub fn keep_until_done<
-    S: Tracing,
+    S: Tracing + Recalls,
     F: Start,
     G: Start,
     Q: Parts,
@@ -39,7 +40,7 @@ pub fn keep_until_done<
     O: Write,
     E: Write,
     C: Clock,
-    W: WaitClock,
+    W: WaitClock + Copy,
 >(
     sockets: &mut S,
     files: &mut DiskFiles<'_, F>,
@@ -61,7 +62,7 @@ where
         × (which : KeepWords) × HasDevices (reads_input asked) asked
         (I.remaining input.old) (I.remaining input.new) which
         × IsAllKept (socket_rules S.opens S.closes S.Socket.sends S.Socket.receives
-        S.Socket.receives_within) (started W.reads waits) ⟦<FileFrom<F> as Disk>⟧
+        S.Socket.receives_within) (at_once S.holds W.reads waits) ⟦<FileFrom<F> as Disk>⟧
         ⟦<FileFrom<G> as Disk>⟧ (image_at F.Start) (image_at G.Start) which told
         sockets.new (O.contents output.old) (O.contents output.new) files.new.closed parts.new }
 {
@@ -73,7 +74,7 @@ where
 /// The program with the words of `kept`. It opens no socket: they are as they were, or as they are
 /// once they are switched not to tell datagrams.
 pub fn print_kept<
-    S: Tracing,
+    S: Tracing + Recalls,
     F: Start,
     G: Start,
     Q: Parts,
@@ -81,7 +82,7 @@ pub fn print_kept<
     O: Write,
     E: Write,
     C: Clock,
-    W: WaitClock,
+    W: WaitClock + Copy,
 >(
     sockets: &mut S,
     files: &mut DiskFiles<'_, F>,
@@ -109,7 +110,7 @@ where
 /// parts was an archive, and what it keeps behind the parts before it was printed, so each item
 /// once; the newest may have nothing. Nothing is told on the errors.
 pub fn print_folder<
-    S: Tracing,
+    S: Tracing + Recalls,
     F: Start,
     G: Start,
     Q: Parts,
@@ -117,7 +118,7 @@ pub fn print_folder<
     O: Write,
     E: Write,
     C: Clock,
-    W: WaitClock,
+    W: WaitClock + Copy,
 >(
     sockets: &mut S,
     files: &mut DiskFiles<'_, F>,
@@ -149,7 +150,7 @@ where
 /// The program with the words of `check`. Where it ends with 0, each part of the archive goes on
 /// where the one before it ends, and no number is missing; nothing is told on the errors.
 pub fn check_until_whole<
-    S: Tracing,
+    S: Tracing + Recalls,
     F: Start,
     G: Start,
     Q: Parts,
@@ -157,7 +158,7 @@ pub fn check_until_whole<
     O: Write,
     E: Write,
     C: Clock,
-    W: WaitClock,
+    W: WaitClock + Copy,
 >(
     sockets: &mut S,
     files: &mut DiskFiles<'_, F>,

@@ -6,7 +6,7 @@ use Rattle.std.specs.String.{string_bytes}
 use Rattle.bac_files.specs.Files.{IsNamed}
 use Rattle.sqlite_wal.specs.Files.{image_at}
 use Rattle.bac_keeper.proofs.EndLemmas.{ended, not_done}
-use Rattle.bac_hearing.specs.Hearing.{started}
+use Rattle.bac_fetch.specs.Ahead.{at_once}
 use Rattle.bac_ports.specs.Sockets.{socket_rules}
 use Rattle.bac_words.specs.Groups.{are_any}
 use Rattle.bac_keeper.specs.Done.{EndsKeep}
@@ -23,4 +23,4 @@ returns-clause-ends g c =
     let disk = modelled.ghosts the_row g.row.F host.ghosts host.dict g.F.Start g.F.Start-dict g.F.Destruct-dict in
     let over = socket_rules g.S.Sockets.opens g.S.Sockets.closes g.S.Socket.Port.sends g.S.Socket.Port.receives g.S.Socket.Port.receives_within in
     let done = c.keep-done in
-    not_done (EndsKeep over (started g.C.Clock.reads c.args.clock) disk (image_at g.F.Start) c.args.asked.now c.args.sockets.now done.new.sockets done.new.files) done.result c.tell_done.result (inl refl) done.ensures.ends c.tell_done.ensures.why
+    not_done (EndsKeep over (at_once g.S.Recalls.holds g.C.Clock.reads c.args.clock) disk (image_at g.F.Start) c.args.asked.now c.args.sockets.now done.new.sockets done.new.files) done.result c.tell_done.result (inl refl) done.ensures.ends c.tell_done.ensures.why

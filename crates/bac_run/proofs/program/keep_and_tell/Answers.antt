@@ -1,7 +1,7 @@
 use Rattle.sqlite.below.sqlite_std_file.specs.contracts.host.Host.{the_row}
 use Rattle.sqlite.below.sqlite_std_file.specs.contracts.host.HostCalls.TheImpl as host
 use Rattle.sqlite_disk.specs.contracts.modelled.ModelledDisk.TheImpl as modelled
-use Rattle.bac_hearing.specs.Hearing.{started}
+use Rattle.bac_fetch.specs.Ahead.{at_once}
 use Rattle.bac_ports.specs.Sockets.{socket_rules}
 use Rattle.bac_run.proofs.Ran.{keep_ran}
 use Rattle.bac_run.proofs.program.keep_and_tell.Goals as goal
@@ -12,6 +12,6 @@ returns-clause-ran g c =
     let part = modelled.ghosts the_row g.row.G host.ghosts host.dict g.G.Start g.G.Start-dict g.G.Destruct-dict in
     let rules = socket_rules g.S.Sockets.opens g.S.Sockets.closes g.S.Socket.Port.sends g.S.Socket.Port.receives g.S.Socket.Port.receives_within in
     let done = c.run_keep-done in
-    keep_ran disk part done.new.parts (started g.W.Clock.reads c.args.waits) rules g.S.Heeds.passes c.args.asked.now c.args.sockets.now done.new.sockets (g.O.Write.contents c.args.output.now) (g.O.Write.contents done.new.output)
+    keep_ran disk part done.new.parts (at_once g.S.Recalls.holds g.W.Clock.reads c.args.waits) rules g.S.Heeds.passes c.args.asked.now c.args.sockets.now done.new.sockets (g.O.Write.contents c.args.output.now) (g.O.Write.contents done.new.output)
     (g.E.Write.contents c.args.errors.now) (g.E.Write.contents done.new.errors) (g.E.Write.contents c.ended.new.errors) done.new.files
     done.result c.ended.result c.args.asked.now.stop done.ensures.kept done.ensures.stopped done.ensures.untold done.ensures.silent done.ensures.ends done.ensures.stop_ends (rw c.passed.ensures at c.ended.ensures)

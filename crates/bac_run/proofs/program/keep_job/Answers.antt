@@ -2,7 +2,7 @@ use Rattle.std.proofs.Common.{◌≡◌, ◌∙◌, Bool, false, refl, rules, sy
 use Rattle.sqlite.below.sqlite_std_file.specs.contracts.host.Host.{the_row}
 use Rattle.sqlite.below.sqlite_std_file.specs.contracts.host.HostCalls.TheImpl as host
 use Rattle.sqlite_disk.specs.contracts.modelled.ModelledDisk.TheImpl as modelled
-use Rattle.bac_hearing.specs.Hearing.{started}
+use Rattle.bac_fetch.specs.Ahead.{at_once}
 use Rattle.bac_ports.specs.Sockets.{socket_rules}
 use Rattle.bac_run.proofs.Ran.{keep_over}
 use Rattle.bac_tools.specs.Streams.{streams}
@@ -23,4 +23,4 @@ returns-clause-ran g c =
     let reads : reads_input c.args.asked ≡ false = first_of (search rules, cc) in
     let old = streams (g.I.Read.remaining c.args.input.now) (g.O.Write.contents c.args.output.now) (g.E.Write.contents c.args.errors.now) c.args.sockets.now (tt {0}) in
     let new = streams (g.I.Read.remaining c.args.input.now) (g.O.Write.contents done.new.output) (g.E.Write.contents done.new.errors) done.new.sockets (tt {0}) in
-    rw reads (keep_over disk part done.new.parts (started g.W.Clock.reads c.args.waits) rules g.S.Heeds.passes c.args.asked c.args.asked.stop old new _ _ done.result done.new.files done.ensures.ran, refl)
+    rw reads (keep_over disk part done.new.parts (at_once g.S.Recalls.holds g.W.Clock.reads c.args.waits) rules g.S.Heeds.passes c.args.asked c.args.asked.stop old new _ _ done.result done.new.files done.ensures.ran, refl)

@@ -3,7 +3,7 @@ use Rattle.sqlite.below.sqlite_std_file.specs.contracts.host.Host.{the_row}
 use Rattle.sqlite.below.sqlite_std_file.specs.contracts.host.HostCalls.TheImpl as host
 use Rattle.sqlite_disk.specs.contracts.modelled.ModelledDisk.TheImpl as modelled
 use Rattle.bac_keeper.proofs.FileLemmas.{none_closed}
-use Rattle.bac_hearing.specs.Hearing.{started}
+use Rattle.bac_fetch.specs.Ahead.{at_once}
 use Rattle.bac_ports.specs.Sockets.{socket_rules}
 use Rattle.bac_run.proofs.Ran.{keep_over}
 use Rattle.bac_tools.specs.Streams.{streams}
@@ -21,7 +21,7 @@ returns-in-Ok-clause-ran g c =
     let by = rw c.with_groups-asked.ensures at done.ensures.ran in (
       Ok c.in-Ok.groups,
       rw c.in-Ok.is at c.listed_devices.ensures,
-      keep_over disk part done.new.parts (started g.W.Clock.reads c.args.waits) rules g.S.Heeds.passes (with_groups c.args.asked c.in-Ok.groups) c.args.asked.stop old new _ _ done.result done.new.files by,
+      keep_over disk part done.new.parts (at_once g.S.Recalls.holds g.W.Clock.reads c.args.waits) rules g.S.Heeds.passes (with_groups c.args.asked c.in-Ok.groups) c.args.asked.stop old new _ _ done.result done.new.files by,
     )
 
 pub returns-in-Err-clause-ran : goal.returns-in-Err-clause-ran

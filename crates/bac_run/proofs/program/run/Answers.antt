@@ -4,7 +4,7 @@ use Rattle.sqlite.below.sqlite_std_file.specs.contracts.host.Host.{the_row}
 use Rattle.sqlite.below.sqlite_std_file.specs.contracts.host.HostCalls.TheImpl as host
 use Rattle.sqlite_disk.specs.contracts.modelled.ModelledDisk.TheImpl as modelled
 use Rattle.bac_keeper.proofs.FileLemmas.{none_closed}
-use Rattle.bac_hearing.specs.Hearing.{started}
+use Rattle.bac_fetch.specs.Ahead.{at_once}
 use Rattle.bac_files.specs.Parts.{part_rules}
 use Rattle.bac_ports.specs.Sockets.{socket_rules}
 use Rattle.bac_run.proofs.Ran.{job_done, never_both, unread}
@@ -21,7 +21,7 @@ returns-in-Ok-clause-done g c asked ask =
     let words = map string_bytes c.args.words.now in
     let old = streams (g.I.Read.remaining c.args.input.now) (g.O.Write.contents c.args.output.now) (g.E.Write.contents c.args.errors.now) c.args.sockets.now c.args.clock.now in
     let new = streams (g.I.Read.remaining c.run_told.new.input) (g.O.Write.contents c.run_told.new.output) (g.E.Write.contents c.run_told.new.errors) c.run_told.new.sockets c.run_told.new.clock in
-    job_done g.S.Tracing.traces rules g.S.Heeds.passes g.C.Clock.tells disk part c.run_told.new.parts (started g.W.Clock.reads c.args.waits) (part_rules g.Q.Parts.lists g.Q.Parts.holds g.Q.Parts.bars) c.args.folders.now c.run_told.new.folders old new c.args.files.now c.run_told.new.files c.run_told.result words c.in-Ok.job asked c.in-Ok.ensures.ok.1 ask c.run_told.ensures.ran
+    job_done g.S.Tracing.traces rules g.S.Heeds.passes g.C.Clock.tells disk part c.run_told.new.parts (at_once g.S.Recalls.holds g.W.Clock.reads c.args.waits) (part_rules g.Q.Parts.lists g.Q.Parts.holds g.Q.Parts.bars) c.args.folders.now c.run_told.new.folders old new c.args.files.now c.run_told.new.files c.run_told.result words c.in-Ok.job asked c.in-Ok.ensures.ok.1 ask c.run_told.ensures.ran
 
 pub returns-in-Err-clause-done : goal.returns-in-Err-clause-done
 returns-in-Err-clause-done g c asked ask =
@@ -31,7 +31,7 @@ returns-in-Err-clause-done g c asked ask =
     let words = map string_bytes c.args.words.now in
     let old = streams (g.I.Read.remaining c.args.input.now) (g.O.Write.contents c.args.output.now) (g.E.Write.contents c.args.errors.now) c.args.sockets.now c.args.clock.now in
     let new = streams (g.I.Read.remaining c.run_read.new.input) (g.O.Write.contents c.run_read.new.output) (g.E.Write.contents c.run_read.new.errors) c.run_read.new.sockets c.run_read.new.clock in
-    unread g.S.Tracing.traces rules g.S.Heeds.passes g.C.Clock.tells disk part c.args.parts.now (started g.W.Clock.reads c.args.waits) (part_rules g.Q.Parts.lists g.Q.Parts.holds g.Q.Parts.bars) c.args.folders.now c.args.folders.now old new c.args.files.now c.args.files.now c.run_read.result words c.in-Err.fault c.in-Err.ensures.err c.run_read.ensures (refl, refl) asked ask
+    unread g.S.Tracing.traces rules g.S.Heeds.passes g.C.Clock.tells disk part c.args.parts.now (at_once g.S.Recalls.holds g.W.Clock.reads c.args.waits) (part_rules g.Q.Parts.lists g.Q.Parts.holds g.Q.Parts.bars) c.args.folders.now c.args.folders.now old new c.args.files.now c.args.files.now c.run_read.result words c.in-Err.fault c.in-Err.ensures.err c.run_read.ensures (refl, refl) asked ask
 
 pub returns-in-Ok-clause-stays : goal.returns-in-Ok-clause-stays
 returns-in-Ok-clause-stays g c unused not =

@@ -3,7 +3,7 @@ use Rattle.sqlite.below.sqlite_std_file.specs.contracts.host.Host.{the_row}
 use Rattle.sqlite.below.sqlite_std_file.specs.contracts.host.HostCalls.TheImpl as host
 use Rattle.sqlite_disk.specs.contracts.modelled.ModelledDisk.TheImpl as modelled
 use Rattle.bac_keeper.proofs.FileLemmas.{none_closed}
-use Rattle.bac_hearing.specs.Hearing.{started}
+use Rattle.bac_fetch.specs.Ahead.{at_once}
 use Rattle.bac_files.specs.Parts.{part_rules}
 use Rattle.bac_ports.specs.Sockets.{socket_rules}
 use Rattle.bac_run.proofs.Ran.{groups_over, other_done}
@@ -19,7 +19,7 @@ returns-in-Keep-clause-ran g c =
     let done = c.keep_job in
     let old = streams (g.I.Read.remaining c.args.input.now) (g.O.Write.contents c.args.output.now) (g.E.Write.contents c.args.errors.now) c.args.sockets.now c.args.clock.now in
     let new = streams (g.I.Read.remaining done.new.input) (g.O.Write.contents done.new.output) (g.E.Write.contents done.new.errors) done.new.sockets c.args.clock.now in
-    rw c.in-Keep.is (groups_over disk part done.new.parts (started g.W.Clock.reads c.args.waits) rules g.S.Heeds.passes c.in-Keep.asked (reads_input c.in-Keep.asked) old new c.args.files.now done.new.files done.result done.ensures.ran, refl, refl)
+    rw c.in-Keep.is (groups_over disk part done.new.parts (at_once g.S.Recalls.holds g.W.Clock.reads c.args.waits) rules g.S.Heeds.passes c.in-Keep.asked (reads_input c.in-Keep.asked) old new c.args.files.now done.new.files done.result done.ensures.ran, refl, refl)
 
 pub returns-in_default-clause-ran : goal.returns-in_default-clause-ran
 returns-in_default-clause-ran g c =
@@ -29,7 +29,7 @@ returns-in_default-clause-ran g c =
     let done = c.run_read in
     let old = streams (g.I.Read.remaining c.args.input.now) (g.O.Write.contents c.args.output.now) (g.E.Write.contents c.args.errors.now) c.args.sockets.now c.args.clock.now in
     let new = streams (g.I.Read.remaining done.new.input) (g.O.Write.contents done.new.output) (g.E.Write.contents done.new.errors) done.new.sockets done.new.clock in
-    other_done rules g.S.Heeds.passes g.C.Clock.tells disk part c.args.parts.now (started g.W.Clock.reads c.args.waits) (part_rules g.Q.Parts.lists g.Q.Parts.holds g.Q.Parts.bars) c.args.folders.now c.args.folders.now old new c.args.files.now c.args.files.now done.result c.args.job c.in_default.not-Keep c.in_default.not-Kept c.in_default.not-Check done.ensures (refl, refl)
+    other_done rules g.S.Heeds.passes g.C.Clock.tells disk part c.args.parts.now (at_once g.S.Recalls.holds g.W.Clock.reads c.args.waits) (part_rules g.Q.Parts.lists g.Q.Parts.holds g.Q.Parts.bars) c.args.folders.now c.args.folders.now old new c.args.files.now c.args.files.now done.result c.args.job c.in_default.not-Keep c.in_default.not-Kept c.in_default.not-Check done.ensures (refl, refl)
 
 pub returns-in_default-clause-stays : goal.returns-in_default-clause-stays
 returns-in_default-clause-stays g c unused not = none_closed c.args.files.now.closed _ unused

@@ -1,7 +1,7 @@
 use Rattle.sqlite.below.sqlite_std_file.specs.contracts.host.Host.{the_row}
 use Rattle.sqlite.below.sqlite_std_file.specs.contracts.host.HostCalls.TheImpl as host
 use Rattle.sqlite_disk.specs.contracts.modelled.ModelledDisk.TheImpl as modelled
-use Rattle.bac_hearing.specs.Hearing.{started}
+use Rattle.bac_fetch.specs.Ahead.{at_once}
 use Rattle.bac_files.specs.Parts.{part_rules}
 use Rattle.bac_ports.specs.Sockets.{socket_rules}
 use Rattle.bac_run_tests.proofs.Ended.{all_kept}
@@ -16,5 +16,5 @@ returns g c asked ask still zero =
     let rules = socket_rules g.S.Sockets.opens g.S.Sockets.closes g.S.Socket.Port.sends g.S.Socket.Port.receives g.S.Socket.Port.receives_within in
     let old = streams (g.I.Read.remaining c.args.input.now) (g.O.Write.contents c.args.output.now) (g.E.Write.contents c.args.errors.now) c.args.sockets.now c.args.clock.now in
     let new = streams (g.I.Read.remaining c.run.new.input) (g.O.Write.contents c.run.new.output) (g.E.Write.contents c.run.new.errors) c.run.new.sockets c.run.new.clock in
-    all_kept g.S.Tracing.traces rules g.S.Heeds.passes g.C.Clock.tells disk part c.run.new.parts (started g.W.Clock.reads c.args.waits) (part_rules g.Q.Parts.lists g.Q.Parts.holds g.Q.Parts.bars) c.args.folders.now c.run.new.folders old new c.args.files.now c.run.new.files c.run.result asked
+    all_kept g.S.Tracing.traces rules g.S.Heeds.passes g.C.Clock.tells disk part c.run.new.parts (at_once g.S.Recalls.holds g.W.Clock.reads c.args.waits) (part_rules g.Q.Parts.lists g.Q.Parts.holds g.Q.Parts.bars) c.args.folders.now c.run.new.folders old new c.args.files.now c.run.new.files c.run.result asked
     (c.run.ensures.done (job.Keep asked) ask) still zero

@@ -1,0 +1,84 @@
+#!/usr/bin/env python3
+"""site.py PROGRAM ROOM DEVICES LOGS RECORDS DELAY: how long `PROGRAM keep` takes over a site whose devices answer after
+DELAY milliseconds, for site.sh."""
+import heapq
+import os
+import resource
+import select
+import subprocess
+import sys
+import threading
+import time
+
+program, room = sys.argv[1:3]
+devices, logs, records, delay = map(int, sys.argv[3:7])
+sys.path.insert(0, os.path.join(os.path.dirname(os.path.abspath(__file__)), "..", "examples", "check"))
+from kept_devices import Device, Log, answering  # noqa: E402
+
+
+class Late:
+    """A socket whose datagrams go out later."""
+
+    def __init__(self, at, out, port):
+        self.at, self.out, self.port = at, out, port
+
+    def sendto(self, octets, to):
+        heapq.heappush(self.out, (self.at, id(octets), self.port, octets, to))
+
+
+def answer_late(sockets):
+    """Each question is answered so long after it came."""
+    out, by_number = [], {port.fileno(): port for port in sockets}
+    poll = select.epoll()
+    for number in by_number:
+        poll.register(number, select.EPOLLIN)
+    while True:
+        wait = max(0.0, out[0][0] - time.monotonic()) if out else 1.0
+        for number, _ in poll.poll(wait, 256):
+            port = by_number[number]
+            request, asker = port.recvfrom(2000)
+            answering[port].answer(Late(time.monotonic() + delay / 1000, out, port), request, asker)
+        while out and out[0][0] <= time.monotonic():
+            _, _, port, octets, to = heapq.heappop(out)
+            port.sendto(octets, to)
+
+
+def ran(name, *words, lines=None):
+    """A run, with what it took."""
+    before = resource.getrusage(resource.RUSAGE_CHILDREN)
+    start = time.monotonic()
+    run = subprocess.run([program, "keep", *words], input=lines, capture_output=True, text=True)
+    took = time.monotonic() - start
+    after = resource.getrusage(resource.RUSAGE_CHILDREN)
+    ends = [line.split(" gaps ")[1].split(",")[0] for line in run.stdout.splitlines() if " gaps " in line]
+    counts = ", ".join(f"{ends.count(end)} {end}" for end in sorted(set(ends)))
+    print(f"{name}: {took:.2f} s, {after.ru_utime + after.ru_stime - before.ru_utime - before.ru_stime:.2f} s of processor, "
+          f"{after.ru_maxrss // 1024} MB at most so far; {counts}", flush=True)
+    if run.stderr:
+        print("  " + run.stderr.splitlines()[0])
+
+
+def main():
+    site = [Device([Log(number, 1000) for number in range(1, logs + 1)], f"device {at}") for at in range(devices)]
+    threading.Thread(target=answer_late, args=([device.socket for device in site],), daemon=True).start()
+    for device in site:
+        for log in device.logs.values():
+            log.log(records)
+    print(f"{devices} devices, {logs} logs each, answers after {delay} ms")
+    lines = "".join(device.address + "".join(f" {number}" for number in device.logs) + "\n" for device in site)
+    file = f"{room}/site.db"
+    # A device's instances stand behind its address.
+    words = [word for line in lines.splitlines() for word in line.split(" ")]
+    ran(f"a first run of {records} records a log", file, *words)
+    ran("nothing new", file)
+    for device in site:
+        for log in device.logs.values():
+            log.log(8)
+    ran("8 new a log", file)
+    for device in site[:: 10]:
+        device.answers = 0
+    ran("nothing new, a tenth silent", file, "--timeout=1000", "--retries=1")
+
+
+if __name__ == "__main__":
+    main()

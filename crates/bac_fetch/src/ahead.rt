@@ -1,0 +1,228 @@
+//! What a run over logs asks first is asked ahead, of many devices at once.
+
+ghost use Rattle.std.specs.Prelude.{◌≡◌, ◌++◌, option_map, option_to_list, IfErr, IfOk, IfSome, OnOk};
+ghost use Rattle.sqlite.specs.State.{HasCleanDisk, Survives};
+ghost use Rattle.sqlite.specs.Held.{state};
+ghost use Rattle.bac_archive.specs.Schema.{OverArchive};
+ghost use Rattle.bac_asked.specs.Faults.{EndsLog, FailsOnRows, WantsMemory};
+ghost use Rattle.bac_ports.specs.Sockets.{socket_rules};
+ghost use Rattle.bac_fetch.specs.Ahead.{AreOpenings, EndsOpening, IsOpenedBy, IsOpeningOf};
+ghost use Rattle.bac_fetch.specs.Ahead.{OpensAhead, StandsIf, at_once, id_of, word_beside};
+ghost use Rattle.bac_fetch.specs.Faults.{EndsRun};
+
+use crate::entry::word_of;
+use bac_ahead::{Opening, ask_ahead};
+use bac_archive::Log;
+use bac_asked::{Asking, Fault, NotDone, Wanted};
+use bac_begin::{Stand, stand_of};
+use bac_desks::Clock;
+use bac_keep::Word;
+use bac_questions::{Heard, Said, copy_source, device_on_record, heard_of, hindrance, log_among};
+use bac_recall::Recalls;
+use sqlite::{Alter, Connection};
+use std::alloc::Global;
+
+/// Where a log that is on record so stands.
+fn stand_if<A: Alter>(
+    alloc: Global,
+    conn: &mut Connection<A>,
+    log: Option<&Log>,
+) -> Result<Option<Stand>, NotDone>
+    ensures stands { OverArchive (state A.Store conn.old) (state A.Store conn.new)
+        (IfOk result (StandsIf (state A.Store conn.old).now.trees
+        (option_map (λ it. it.now) log.entry))) }
+    ensures same { OverArchive (state A.Store conn.old) (state A.Store conn.new)
+        (OnOk result ((state A.Store conn.new).now ≡ (state A.Store conn.old).now)) }
+    ensures quiet { OverArchive (state A.Store conn.old) (state A.Store conn.new)
+        (Survives (state A.Store conn.old) (state A.Store conn.new) (λ _. ⊥)) }
+    ensures clean { HasCleanDisk (state A.Store conn.new) → HasCleanDisk (state A.Store conn.old) }
+    ensures fault { IfErr result EndsLog }
+    ensures caused { OverArchive (state A.Store conn.old) (state A.Store conn.new)
+        (IfErr result FailsOnRows) }
+{
+    match log {
+        Some(log) => stand_of(alloc, conn, log.id),
+        None => Ok(None),
+    }
+}
+
+/// What a device that told this says beside what is on record of its log.
+fn word_beside(log: Option<&Log>, said: &Said) -> Word
+    ensures { result ≡ word_beside (option_map (λ it. it.now) log.entry) said.now.told }
+{
+    match log {
+        Some(log) => word_of(&log.told, &said.told),
+        None => Word::Untold,
+    }
+}
+
+/// The id of a log that is on record so.
+fn id_of(log: Option<&Log>) -> u16
+    ensures { result ≡ id_of (option_map (λ it. it.now) log.entry) }
+{
+    match log {
+        Some(log) => log.id,
+        None => 0,
+    }
+}
+
+/// What a log is opened by that is on record so, and whose device was heard to say this.
+fn opened_by<A: Alter>(
+    alloc: Global,
+    conn: &mut Connection<A>,
+    log: Option<&Log>,
+    said: &Said,
+    wanted: &Wanted,
+) -> Result<Opening, NotDone>
+    ensures opened { OverArchive (state A.Store conn.old) (state A.Store conn.new)
+        (IfOk result (IsOpenedBy (state A.Store conn.old).now.trees
+        (option_map (λ it. it.now) log.entry) said.now.told wanted.now)) }
+    ensures same { OverArchive (state A.Store conn.old) (state A.Store conn.new)
+        (OnOk result ((state A.Store conn.new).now ≡ (state A.Store conn.old).now)) }
+    ensures quiet { OverArchive (state A.Store conn.old) (state A.Store conn.new)
+        (Survives (state A.Store conn.old) (state A.Store conn.new) (λ _. ⊥)) }
+    ensures clean { HasCleanDisk (state A.Store conn.new) → HasCleanDisk (state A.Store conn.old) }
+    ensures fault { IfErr result EndsLog }
+    ensures caused { OverArchive (state A.Store conn.old) (state A.Store conn.new)
+        (IfErr result FailsOnRows) }
+{
+    let Asking {
+        asked,
+        steps,
+        count,
+        ..
+    } = &wanted.asking;
+    let stand = stand_if(alloc, conn, log)?;
+    let source = copy_source(alloc, &wanted.source)?;
+    let Ok(route) = asked.route.clone() else {
+        return Err(NotDone::Asking(Fault::Memory));
+    };
+    Ok(Opening {
+        source,
+        peer: asked.address,
+        route,
+        id: id_of(log),
+        many: *count,
+        word: word_beside(log, said),
+        stand,
+        steps: *steps,
+    })
+}
+
+/// What a log is opened by, if its device was heard of and nothing is against it.
+fn opening_of<A: Alter>(
+    alloc: Global,
+    conn: &mut Connection<A>,
+    known: &[Log],
+    at: usize,
+    heard: &[Heard],
+    wanted: &Wanted,
+) -> Result<Option<Opening>, NotDone>
+    ensures opening { OverArchive (state A.Store conn.old) (state A.Store conn.new)
+        (IfOk result (λ opening. IfSome opening (IsOpeningOf
+        (state A.Store conn.old).now.trees known.now heard.now wanted.now))) }
+    ensures same { OverArchive (state A.Store conn.old) (state A.Store conn.new)
+        (OnOk result ((state A.Store conn.new).now ≡ (state A.Store conn.old).now)) }
+    ensures quiet { OverArchive (state A.Store conn.old) (state A.Store conn.new)
+        (Survives (state A.Store conn.old) (state A.Store conn.new) (λ _. ⊥)) }
+    ensures clean { HasCleanDisk (state A.Store conn.new) → HasCleanDisk (state A.Store conn.old) }
+    ensures fault { IfErr result EndsLog }
+    ensures caused { OverArchive (state A.Store conn.old) (state A.Store conn.new)
+        (IfErr result FailsOnRows) }
+{
+    let Some(said) = heard_of(heard, &wanted.source) else {
+        return Ok(None);
+    };
+    let on_record = device_on_record(known, at, &wanted.source);
+    let why = hindrance(known, heard, &wanted.source, on_record, said.identity);
+    if why.is_some() {
+        return Ok(None);
+    }
+    let log = log_among(known, at, &wanted.source);
+    Ok(Some(opened_by(alloc, conn, log, said, wanted)?))
+}
+
+/// Puts what a log is opened by behind others, if it is.
+fn add_opening(openings: &mut Vec<Opening>, opening: Option<Opening>) -> Result<(), NotDone>
+    ensures added { OnOk result (openings.new.items ≡ openings.old.items ++ option_to_list opening) }
+    ensures fault { IfErr result WantsMemory }
+{
+    let Some(opening) = opening else {
+        return Ok(());
+    };
+    match openings.push(opening) {
+        Ok(()) => Ok(()),
+        Err(_) => Err(NotDone::Asking(Fault::Memory)),
+    }
+}
+
+/// What those of these logs are opened by whose devices were heard of, and that nothing is against.
+fn openings_of<A: Alter>(
+    alloc: Global,
+    conn: &mut Connection<A>,
+    known: &[Log],
+    heard: &[Heard],
+    all: &[Wanted],
+) -> Result<Vec<Opening>, NotDone>
+    ensures openings { OverArchive (state A.Store conn.old) (state A.Store conn.new)
+        (IfOk result (λ openings. AreOpenings (state A.Store conn.old).now.trees known.now heard.now
+        all.now openings.items)) }
+    ensures same { OverArchive (state A.Store conn.old) (state A.Store conn.new)
+        (OnOk result ((state A.Store conn.new).now ≡ (state A.Store conn.old).now)) }
+    ensures quiet { OverArchive (state A.Store conn.old) (state A.Store conn.new)
+        (Survives (state A.Store conn.old) (state A.Store conn.new) (λ _. ⊥)) }
+    ensures clean { HasCleanDisk (state A.Store conn.new) → HasCleanDisk (state A.Store conn.old) }
+    ensures fault { IfErr result EndsLog }
+    ensures caused { OverArchive (state A.Store conn.old) (state A.Store conn.new)
+        (IfErr result FailsOnRows) }
+{
+    let mut openings = Vec::new(alloc);
+    for at in 0..all.len() {
+        let opening = opening_of(alloc, conn, known, at, heard, &all[at])?;
+        add_opening(&mut openings, opening)?;
+    }
+    Ok(openings)
+}
+
+/// Asks ahead for the logs that a run fetches, if many devices were called: what comes is held by
+/// the sockets, and answers the run where it asks the same.
+pub(crate) fn open_ahead<S: Recalls, C: Clock + Copy, A: Alter>(
+    sockets: &mut S,
+    conn: &mut Connection<A>,
+    alloc: Global,
+    clock: C,
+    known: &[Log],
+    heard: &[Heard],
+    all: &[Wanted],
+    called: bool,
+) -> Result<(), NotDone>
+where
+    C: Drop,
+    ensures opens { OverArchive (state A.Store conn.old) (state A.Store conn.new)
+        (OnOk result (OpensAhead (socket_rules S.opens S.closes S.Socket.sends S.Socket.receives
+        S.Socket.receives_within) (at_once S.holds C.reads clock)
+        (state A.Store conn.old).now.trees known.now heard.now all.now sockets.old sockets.new)) }
+    ensures same { OverArchive (state A.Store conn.old) (state A.Store conn.new)
+        (OnOk result ((state A.Store conn.new).now ≡ (state A.Store conn.old).now)) }
+    ensures quiet { OverArchive (state A.Store conn.old) (state A.Store conn.new)
+        (Survives (state A.Store conn.old) (state A.Store conn.new) (λ _. ⊥)) }
+    ensures clean { HasCleanDisk (state A.Store conn.new) → HasCleanDisk (state A.Store conn.old) }
+    ensures fault { IfErr result (EndsRun (socket_rules S.opens S.closes S.Socket.sends
+        S.Socket.receives S.Socket.receives_within) ⊥ ⊥ sockets.new) }
+    ensures caused { OverArchive (state A.Store conn.old) (state A.Store conn.new)
+        (IfErr result (EndsOpening (socket_rules S.opens S.closes S.Socket.sends S.Socket.receives
+        S.Socket.receives_within) (at_once S.holds C.reads clock)
+        (state A.Store conn.old).now.trees known.now heard.now all.now sockets.old
+        sockets.new)) }
+{
+    if !called {
+        return Ok(());
+    }
+    let [first, ..] = all else {
+        return Ok(());
+    };
+    let openings = openings_of(alloc, conn, known, heard, all)?;
+    let came = ask_ahead(sockets, alloc, clock, &first.asking.asked, openings)?;
+    sockets.hold(came);
+    Ok(())
+}
