@@ -56,7 +56,14 @@ fn ended<E: Write>(alloc: Global, passed: Passed, done: Result<u8, KeepFault>, e
 }
 
 /// `keep`, and its fault is told.
-fn keep_and_tell<S: Recalls, F: Start, G: Start, O: Write, E: Write, W: WaitClock + Copy + Copy + Copy>(
+fn keep_and_tell<
+    S: Recalls,
+    F: Start,
+    G: Start,
+    O: Write,
+    E: Write,
+    W: WaitClock + Copy + Copy + Copy,
+>(
     sockets: &mut S,
     files: &mut DiskFiles<'_, F>,
     parts: &mut DiskFiles<'_, G>,

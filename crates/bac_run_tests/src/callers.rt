@@ -19,8 +19,8 @@ ghost use Rattle.bac_run_tests.specs.Whole.{IsFoundWhole};
 
 use bac_check::zero_is_whole;
 use bac_desks::Clock as WaitClock;
-use bac_run::{DiskFiles, Parts, run};
 use bac_recall::Recalls;
+use bac_run::{DiskFiles, Parts, run};
 use bac_tools::Clock;
 use bac_trace::Tracing;
 use sqlite::{FileFrom, Start};
