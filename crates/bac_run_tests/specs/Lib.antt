@@ -1,3 +1,2 @@
 pub mod Done
-pub mod Printed
 pub mod Whole
