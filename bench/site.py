@@ -64,7 +64,7 @@ def main():
     for device in site:
         for log in device.logs.values():
             log.log(records)
-    print(f"{devices} devices, {logs} logs each, answers after {delay} ms")
+    print(f"{devices} devices, {logs} logs each, answers after {delay} ms", flush=True)
     lines = "".join(device.address + "".join(f" {number}" for number in device.logs) + "\n" for device in site)
     file = f"{room}/site.db"
     # A device's instances stand behind its address.

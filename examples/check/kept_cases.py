@@ -194,23 +194,28 @@ def losses(judge, _runs):
 
 
 def line_by_line(judge, _runs):
-    """The line of a log can be read while the next log's device is held back."""
-    (first, log), (second, other) = one(count=3), one(count=2)
+    """The line of a log can be read while its device holds back what it is asked for the next one."""
+    device = Device([Log(1, 50), Log(2, 50)], "lines")
+    serve([device])
+    for log in device.logs.values():
+        log.log(3)
     file = f"{judge.room}/a.db"
-    for device in (first, second):
-        judge.ran(["keep", file, device.address, "1"])
-    log.log(1)
-    other.log(1)
-    # It says all of itself as all are asked that at once, and is held back then.
-    second.then[155] = second.open.clear
+    judge.ran(["keep", file, device.address])
+    device.logs[2].log(1)
+    # It answers the two questions for the first log, and is held back then.
+    device.then[131] = lambda: device.then.update({131: device.open.clear})
     process = judge.started(["keep", file, "--timeout=60000"])
-    # A line that isn't written yet would come only once the second device answers.
+    # A line that isn't written yet would come only once the device answers.
     ready = select.select([process.stdout], [], [], 30)[0]
     judge.same("a line comes before the next log", os.read(process.stdout.fileno(), 4096).decode() if ready else "nothing",
-               said(first, 1, 0, "caught up, next 5"))
-    second.open.set()
+               f"{device.address} 1 0 records 0 gaps caught up, next 4\n")
+    end = time.monotonic() + 30
+    while device.open.is_set() and time.monotonic() < end:
+        time.sleep(0.002)
+    device.open.set()
     out, errors = process.communicate(timeout=60)
-    judge.same("and then the next one", (process.returncode, out.decode(), errors.decode()), (0, said(second, 1, 0, "caught up, next 4"), ""))
+    judge.same("and then the next one", (process.returncode, out.decode(), errors.decode()),
+               (0, f"{device.address} 2 1 record 0 gaps caught up, next 5\n", ""))
 
 
 def step_limits(judge, _runs):
