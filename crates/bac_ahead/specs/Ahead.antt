@@ -37,7 +37,8 @@ abbrev pub BeginsAt : {S : Type 0} → (S → List ℕ → Result (List ℕ) Los
 BeginsAt asks path retries link opening log None begun left =
     StartsNew asks path retries link opening.id log opening.many begun left
 BeginsAt asks path retries link opening log (Some stand) begun left =
-    GoesFrom asks path retries link opening.id log opening.many (word_at stand opening.word) stand opening.steps begun left
+    GoesFrom asks path retries link opening.id log opening.many (word_at stand opening.word) stand opening.steps begun
+    left
 
 -- the same of a log by where it stands
 abbrev pub Begins : {S : Type 0} → (S → List ℕ → Result (List ℕ) Loss → S → Type 0) → Path → ℕ → S → Opening → Id →

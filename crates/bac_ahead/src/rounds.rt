@@ -84,7 +84,8 @@ fn put_all(came: &mut Vec<Conversation>, ends: Vec<Opened>) -> Result<(), AllocE
     Ok(())
 }
 
-/// What is left behind a round that ended so, of the rest; what came is put behind what came before.
+/// What is left behind a round that ended so, of the rest; what came is put behind what came
+/// before.
 fn close_round(
     alloc: Global,
     endings: Vec<Ending<Opened>>,

@@ -18,8 +18,7 @@ pub(crate) struct Split {
     pub rest: Vec<Opening>,
 }
 
-/// Whether a log is of the device of one of these. The last is looked at first, since the logs of a
-/// device lie beside each other.
+/// Whether a log is of the device of one of these.
 fn is_among(firsts: &[Opening], one: &Opening) -> bool
     ensures { result ≡ is_among firsts.now one.now }
 {

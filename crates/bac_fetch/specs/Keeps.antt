@@ -229,8 +229,8 @@ KeepsAll {S = S} rules known heard last (wanted ∷ more) before after old new (
 KeepsAll rules known heard last _ before after old new _ = ⊥
 
 -- So are they in a run: first it is found whether the device of the first one has moved; then what devices say of
--- themselves, all at once; then their logs are asked for ahead; and then they are kept in an archive that has these logs,
--- with what was heard of devices.
+-- themselves, all at once; then their logs are asked for ahead; and then they are kept in an archive that has these
+-- logs, with what was heard of devices.
 abbrev pub KeepsLogs : {S P C : Type 0} → SocketRules S P → AtOnce S C → List Wanted → S → S → Database → Database
     → List End → Type 0
 KeepsLogs {S = S} rules by all before after old new ends =

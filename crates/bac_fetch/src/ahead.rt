@@ -1,6 +1,7 @@
 //! What a run over logs asks first is asked ahead, of many devices at once.
 
-ghost use Rattle.std.specs.Prelude.{◌≡◌, ◌++◌, option_map, option_to_list, IfErr, IfOk, IfSome, OnOk};
+ghost use Rattle.std.specs.Prelude.{◌≡◌, ◌++◌, IfErr, IfOk, IfSome, OnOk, option_map};
+ghost use Rattle.std.specs.Prelude.{option_to_list};
 ghost use Rattle.sqlite.specs.State.{HasCleanDisk, Survives};
 ghost use Rattle.sqlite.specs.Held.{state};
 ghost use Rattle.bac_archive.specs.Schema.{OverArchive};
@@ -144,7 +145,8 @@ fn opening_of<A: Alter>(
 
 /// Puts what a log is opened by behind others, if it is.
 fn add_opening(openings: &mut Vec<Opening>, opening: Option<Opening>) -> Result<(), NotDone>
-    ensures added { OnOk result (openings.new.items ≡ openings.old.items ++ option_to_list opening) }
+    ensures added { OnOk result
+        (openings.new.items ≡ openings.old.items ++ option_to_list opening) }
     ensures fault { IfErr result WantsMemory }
 {
     let Some(opening) = opening else {

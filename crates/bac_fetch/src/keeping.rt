@@ -455,8 +455,8 @@ where
         sockets.old sockets.new) }
     ensures caused { OverArchive (state A.Store conn.old) (state A.Store conn.new)
         (IfErr result (EndsRunOver (socket_rules S.opens S.closes S.Socket.sends S.Socket.receives
-        S.Socket.receives_within) (at_once S.holds C.reads clock) (given_in options.now) chosen sockets.old
-        sockets.new (state A.Store conn.old).now)) }
+        S.Socket.receives_within) (at_once S.holds C.reads clock) (given_in options.now) chosen
+        sockets.old sockets.new (state A.Store conn.old).now)) }
 {
     let found = chosen_logs(sockets, conn, alloc, chosen, options, output, errors)?;
     let Found { all, status } = found;

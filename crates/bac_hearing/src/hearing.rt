@@ -73,8 +73,9 @@ fn hear<P: Port, C: Clock, J: Job>(
 
 /// Brings a job for each of these devices to its end, all beside one another, over one socket that
 /// is opened at an address, or at any, and closed behind them. At most 64 questions are open, four
-/// at each address, where devices may be behind one router; a question waits so many milliseconds for its answer, and is sent so often
-/// again. How the jobs ended, in their order, and of which something came in an answer's place.
+/// at each address, where devices may be behind one router; a question waits so many milliseconds
+/// for its answer, and is sent so often again. How the jobs ended, in their order, and of which
+/// something came in an answer's place.
 pub fn hear_all<S: Sockets, C: Clock, J: Job>(
     sockets: &mut S,
     alloc: Global,

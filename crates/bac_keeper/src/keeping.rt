@@ -193,8 +193,8 @@ where
         sockets.new fault
         × (IsHeld (state A.Store conn.new) → EndsOver
         (socket_rules S.opens S.closes S.Socket.sends S.Socket.receives
-        S.Socket.receives_within) (at_once S.holds C.reads clock) chosen (given_in options.now) sockets.old
-        sockets.new (state A.Store conn.old).now fault))) }
+        S.Socket.receives_within) (at_once S.holds C.reads clock) chosen (given_in options.now)
+        sockets.old sockets.new (state A.Store conn.old).now fault))) }
 {
     begin_archive(alloc, conn, parts, place, errors)?;
     let status = keep_chosen(
@@ -240,16 +240,16 @@ pub(crate) fn keep<S: Recalls, C: Clock + Copy, F: Start, G: Start, O: Write, E:
 where
     C: Drop,
     ensures kept { IfOk result (KeepsIn (socket_rules S.opens S.closes S.Socket.sends
-        S.Socket.receives S.Socket.receives_within) (at_once S.holds C.reads clock) ⟦<FileFrom<F> as Disk>⟧
-        (image_at F.Start) (BeginsOn ⟦<FileFrom<G> as Disk>⟧ (image_at G.Start) place.old.before
-        parts.new) asked.now sockets.old sockets.new (O.contents output.old)
-        (O.contents output.new) files.new.closed) }
+        S.Socket.receives S.Socket.receives_within) (at_once S.holds C.reads clock)
+        ⟦<FileFrom<F> as Disk>⟧ (image_at F.Start) (BeginsOn ⟦<FileFrom<G> as Disk>⟧
+        (image_at G.Start) place.old.before parts.new) asked.now sockets.old sockets.new
+        (O.contents output.old) (O.contents output.new) files.new.closed) }
     ensures named { OnOk result (IsNamed (string_bytes place.old.path)
         (are_any asked.now.groups || is_some place.old.before) files.new) }
     ensures fault { IfErr result (MayFail (FailsToKeep
         (socket_rules S.opens S.closes S.Socket.sends S.Socket.receives
-        S.Socket.receives_within) (at_once S.holds C.reads clock) ⟦<FileFrom<F> as Disk>⟧
-        (image_at F.Start)
+        S.Socket.receives_within) (at_once S.holds C.reads clock)
+        ⟦<FileFrom<F> as Disk>⟧ (image_at F.Start)
         (BarsPart ⟦<FileFrom<G> as Disk>⟧ (image_at G.Start) place.old.before parts.new)
         asked.now (string_bytes place.old.path)
         (are_any asked.now.groups || is_some place.old.before) sockets.old sockets.new
@@ -258,8 +258,8 @@ where
         (IsDoneTo ⟦<FileFrom<F> as Disk>⟧ (image_at F.Start) LosesNothing) }
     ensures ends { IfErr result (MayAsk (EndsKeep
         (socket_rules S.opens S.closes S.Socket.sends S.Socket.receives
-        S.Socket.receives_within) (at_once S.holds C.reads clock) ⟦<FileFrom<F> as Disk>⟧
-        (image_at F.Start) asked.now
+        S.Socket.receives_within) (at_once S.holds C.reads clock)
+        ⟦<FileFrom<F> as Disk>⟧ (image_at F.Start) asked.now
         sockets.old sockets.new files.new)) }
 {
     let options = options_of(&asked.options);

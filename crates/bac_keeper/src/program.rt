@@ -119,21 +119,22 @@ where
     ensures kept { IfOk result (λ status. (IsNamed (string_bytes place.path)
         (are_any asked.now.groups || is_some place.before) files.new
         × KeepsIn (socket_rules S.opens S.closes S.Socket.sends S.Socket.receives
-        S.Socket.receives_within) (at_once S.holds C.reads clock) ⟦<FileFrom<F> as Disk>⟧ (image_at F.Start)
+        S.Socket.receives_within) (at_once S.holds C.reads clock)
+        ⟦<FileFrom<F> as Disk>⟧ (image_at F.Start)
         (BeginsOn ⟦<FileFrom<G> as Disk>⟧ (image_at G.Start) place.before parts.new)
         asked.now sockets.old sockets.new (O.contents output.old)
         (O.contents output.new) files.new.closed status)
         ⊎ IsOfFile (FailsToKeep (socket_rules S.opens S.closes S.Socket.sends
-        S.Socket.receives S.Socket.receives_within) (at_once S.holds C.reads clock) ⟦<FileFrom<F> as Disk>⟧
-        (image_at F.Start)
+        S.Socket.receives S.Socket.receives_within) (at_once S.holds C.reads clock)
+        ⟦<FileFrom<F> as Disk>⟧ (image_at F.Start)
         (BarsPart ⟦<FileFrom<G> as Disk>⟧ (image_at G.Start) place.before parts.new) asked.now
         (string_bytes place.path) (are_any asked.now.groups || is_some place.before)
         sockets.old sockets.new files.new) status) }
     ensures stays { IsUnused files.old → IfSome files.new.closed
         (IsDoneTo ⟦<FileFrom<F> as Disk>⟧ (image_at F.Start) LosesNothing) }
     ensures ends { IfErr result (λ why. EndsKeep (socket_rules S.opens S.closes S.Socket.sends
-        S.Socket.receives S.Socket.receives_within) (at_once S.holds C.reads clock) ⟦<FileFrom<F> as Disk>⟧
-        (image_at F.Start) asked.now sockets.old sockets.new files.new
+        S.Socket.receives S.Socket.receives_within) (at_once S.holds C.reads clock)
+        ⟦<FileFrom<F> as Disk>⟧ (image_at F.Start) asked.now sockets.old sockets.new files.new
         (NotDone.Asking why)) }
 {
     let mut place = place;
@@ -198,8 +199,8 @@ where
     // Or it ends so, and that is the caller's to tell.
     ensures ends { asked.now.stop ≡ false
         → IfErr result (λ why. EndsKeep (socket_rules S.opens S.closes S.Socket.sends
-        S.Socket.receives S.Socket.receives_within) (at_once S.holds C.reads clock) ⟦<FileFrom<F> as Disk>⟧
-        (image_at F.Start) asked.now sockets.old sockets.new files.new
+        S.Socket.receives S.Socket.receives_within) (at_once S.holds C.reads clock)
+        ⟦<FileFrom<F> as Disk>⟧ (image_at F.Start) asked.now sockets.old sockets.new files.new
         (NotDone.Asking why)) }
     ensures stop_ends { asked.now.stop ≡ true
         → IfErr result (λ why. EndsStop asked.now (NotDone.Asking why)) }

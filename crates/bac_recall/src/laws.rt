@@ -22,8 +22,8 @@ pub fn nothing_is_recalled_twice<P: Port>()
         ⟦<RecallingPort<P> as Port>⟧.receives ⟦<RecallingPort<P> as Port>⟧.receives_within }
 {}
 
-/// Of all that is done over a port, what isn't done over the port below is sends, each of which took
-/// an outcome of its own, and receives.
+/// Of all that is done over a port, what isn't done over the port below is sends, each of which
+/// took an outcome of its own, and receives.
 pub fn sends_are_recalled_or_below<P: Port>()
     ensures { SendsAreRecalledOrBelow ⟦<RecallingPort<P> as Port>⟧.sends
         ⟦<RecallingPort<P> as Port>⟧.receives ⟦<RecallingPort<P> as Port>⟧.receives_within

@@ -293,7 +293,8 @@ fn run_told<
 where
     W: Drop,
     ensures ran { DoesTold ⟦<FileFrom<F> as Disk>⟧ ⟦<FileFrom<G> as Disk>⟧ parts.new
-        (at_once S.holds W.reads waits) (part_rules Q.lists Q.holds Q.bars) folders.old folders.new S.traces
+        (at_once S.holds W.reads waits) (part_rules Q.lists Q.holds Q.bars) folders.old
+        folders.new S.traces
         (socket_rules S.opens S.closes S.Socket.sends S.Socket.receives S.Socket.receives_within)
         S.passes C.tells job (streams (I.remaining input.old) (O.contents output.old)
         (E.contents errors.old) sockets.old clock.old) files.old result
@@ -344,7 +345,8 @@ where
     // The tool that the words name does what they say.
     ensures done { (job : AnyJob) → AskFor (map string_bytes words.now) job
         → RunsAll ⟦<FileFrom<F> as Disk>⟧ ⟦<FileFrom<G> as Disk>⟧ parts.new
-        (at_once S.holds W.reads waits) (part_rules Q.lists Q.holds Q.bars) folders.old folders.new S.traces
+        (at_once S.holds W.reads waits) (part_rules Q.lists Q.holds Q.bars) folders.old
+        folders.new S.traces
         (socket_rules S.opens S.closes S.Socket.sends S.Socket.receives
         S.Socket.receives_within) S.passes C.tells job
         (streams (I.remaining input.old) (O.contents output.old) (E.contents errors.old)
