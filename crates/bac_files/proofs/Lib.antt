@@ -1,1 +1,2 @@
+pub mod FileGhosts
 pub mod FilesLemmas

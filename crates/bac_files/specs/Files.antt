@@ -5,8 +5,8 @@ use Rattle.sqlite_disk.specs.declared.Disk as disk
 use Rattle.sqlite_disk.specs.declared.Files.{Files}
 use Rattle.sqlite_disk.specs.declared.modelled.Modelled.{Modelled}
 use Rattle.sqlite_disk.specs.declared.start.Start as start
-use Rattle.sqlite.below.sqlite_std_file.specs.contracts.host.HostCalls.TheImpl as host
-use Rattle.sqlite.below.sqlite_std_file.specs.declared.host.Host.{Host}
+use Rattle.sqlite_std_file.specs.contracts.host.HostCalls.TheImpl as host
+use Rattle.sqlite_std_file.specs.declared.host.Host.{Host}
 use Rattle.sqlite_store.specs.declared.store.FileStore.{FileStore}
 use Rattle.sqlite_trees.specs.Tree.{Trees}
 use Rattle.sqlite_wal.specs.Files.{outcomes}
@@ -23,14 +23,15 @@ use Rattle.sqlite.specs.declared.error.Error.{Error}
 use Rattle.sqlite.specs.declared.error.Error.TheVariants.{SqliteFailure}
 use Rattle.sqlite.specs.declared.error.ErrorCode.TheVariants.{CannotOpen, DatabaseBusy}
 use Rattle.bac_files.specs.declared.disk_files.DiskFiles.{DiskFiles}
+use Rattle.bac_files.specs.declared.limited.Limited.{Limited}
 use Rattle.bac_files.specs.declared.not_opened.NotOpened.{NotOpened}
 use Rattle.bac_files.specs.declared.not_opened.Obstacle.{Obstacle}
 use Rattle.bac_files.specs.declared.not_opened.NotOpened.TheVariants.{InUse, Absent, Empty, Barred, Memory}
 use Rattle.bac_files.specs.declared.not_opened.NotOpened.TheVariants.{Database as Failed}
 
--- a file of the machine that held what a `Start` says
+-- a file of the machine that held what a `Start` says, and gets no longer than it may
 abbrev pub FileOf : {F : Type 0} → start.Ghosts F → Type 0
-FileOf {F = F} s = Modelled Host F host.ghosts s
+FileOf {F = F} s = Limited (Modelled Host F host.ghosts s)
 
 -- why a database isn't opened that answers so
 abbrev pub reason_of : Error → NotOpened

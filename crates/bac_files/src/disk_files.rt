@@ -10,7 +10,8 @@ ghost use Rattle.bac_files.specs.Parts.{IsPlaced};
 use crate::folder::{Place, place_of};
 use crate::not_opened::NotOpened;
 use crate::obstacles::obstacle_of;
-use sqlite::{Connection, Error, ErrorCode, FileFrom, FileStore, Files, Start};
+use crate::opening::{FileOf, connect};
+use sqlite::{Connection, Error, ErrorCode, FileStore, Files, Start};
 use std::alloc::AllocError;
 use std::fs::{Files as _, exists, metadata};
 
@@ -27,7 +28,7 @@ pub struct DiskFiles<'a, F: Start> {
     refused: Option<NotOpened>,
     /// Why it couldn't be closed.
     unclosed: Option<Error>,
-    closed: Option<Files<FileFrom<F>>>,
+    closed: Option<Files<FileOf<F>>>,
 }
 
 /// How many octets a file has, if it is there and no folder.
@@ -81,17 +82,15 @@ fn open_from<F: Start>(
     path: &str,
     log: &str,
     start: F,
-) -> Result<Connection<FileStore<FileFrom<F>>>, NotOpened>
+) -> Result<Connection<FileStore<FileOf<F>>>, NotOpened>
     ensures opened { IfOk result (IsOpenedBy (image_at F.Start)) }
     ensures refused { IfErr result
         (λ why. (error : Error) × IsTrue (is_open_error error) × IsReasonFor error why) }
 {
     let had_log = !matches!(exists(rt, log), Ok(false));
-    match Connection::open_from(rt, path, false, start) {
+    match connect(rt, path, start) {
         Ok(conn) => Ok(conn),
-        Err((error, left)) => {
-            // The files are closed first.
-            drop(left);
+        Err(error) => {
             if !had_log {
                 remove_empty(rt, log);
             }
@@ -157,7 +156,7 @@ impl<'a, F: Start> DiskFiles<'a, F> {
         &mut self,
         path: &str,
         may_make: bool,
-    ) -> Result<Connection<FileStore<FileFrom<F>>>, NotOpened>
+    ) -> Result<Connection<FileStore<FileOf<F>>>, NotOpened>
         ensures opened { IfOk result (IsOpenedBy (image_at F.Start)) }
         ensures refused { IfErr result (IsReason may_make) }
         ensures named { result ≢ Err NotOpened.Memory → IsNamed path.now may_make self.new }
@@ -190,7 +189,7 @@ impl<'a, F: Start> DiskFiles<'a, F> {
         &mut self,
         path: &str,
         may_make: bool,
-    ) -> Result<Connection<FileStore<FileFrom<F>>>, NotOpened>
+    ) -> Result<Connection<FileStore<FileOf<F>>>, NotOpened>
         ensures opened { IfOk result (IsOpenedBy (image_at F.Start)) }
         ensures named { result ≢ Err NotOpened.Memory → IsNamed path.now may_make self.new }
         ensures refused { IfErr result (λ why. IsUnopened why self.new × IsReason may_make why) }
@@ -211,7 +210,7 @@ impl<'a, F: Start> DiskFiles<'a, F> {
     }
 
     /// Closes the database.
-    pub fn close(&mut self, conn: Connection<FileStore<FileFrom<F>>>) -> Result<(), Error>
+    pub fn close(&mut self, conn: Connection<FileStore<FileOf<F>>>) -> Result<(), Error>
         ensures closed { OnOk result (IsClosedBy conn self.new.closed) }
         ensures unclosed { OnErr result (self.new.closed ≡ self.old.closed) }
         ensures failed { IfErr result (λ error. IsUnclosed error self.new) }

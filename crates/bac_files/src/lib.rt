@@ -9,11 +9,15 @@
 
 mod disk_files;
 mod folder;
+mod limited;
 mod not_opened;
 mod obstacles;
+mod opening;
 mod parts;
 
 pub use disk_files::DiskFiles;
 pub use folder::Place;
+pub use limited::Limited;
 pub use not_opened::{NotOpened, Obstacle};
+pub use opening::FileOf;
 pub use parts::{FolderFiles, Parts, Reader};
