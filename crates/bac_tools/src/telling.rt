@@ -49,6 +49,7 @@ fn range_of<'a>(word: Word) -> &'a str
         Word::Timeout => "a number from 1 to 60000",
         Word::Records => "a number from 1 to 100",
         Word::Part => "a number from 1 to 4096",
+        Word::AtOnce => "a number from 1 to 1024",
         Word::Retries => "a number from 0 to 10",
         Word::Dnet => "a number from 1 to 65534, beside --dadr; for bac wi from 1 to 65535",
         Word::Dadr => "2 to 30 hexadecimal digits, an even number, beside --dnet",

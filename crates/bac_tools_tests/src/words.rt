@@ -68,7 +68,7 @@ fn each_tool_with_its_defaults(rt: HostRuntime) -> Result<(), Fail> {
             (
                 "keep a.db",
                 "Keep(Keep { file: Name { text: \"a.db\" }, groups: Groups { list: [] }, \
-                 stop: false, part: 32, trace: false, \
+                 stop: false, part: 32, at_once: 64, trace: false, \
                  options: KeepOptions { steps: None, count: None, timeout: None, local: None, \
                  retries: None, dnet: None, dadr: None } })",
             ),
@@ -180,7 +180,7 @@ fn keep_and_kept_have_their_texts(rt: HostRuntime) -> Result<(), Fail> {
                  groups: Groups { list: [Group { address: Name { text: \"10.0.0.1\" }, \
                  instances: Names { list: [Name { text: \"1\" }, Name { text: \"2\" }] }, \
                  way: None }] }, \
-                 stop: true, part: 32, trace: true, \
+                 stop: true, part: 32, at_once: 64, trace: true, \
                  options: KeepOptions { steps: Some(Name { text: \"5\" }), \
                  count: Some(Name { text: \"20\" }), timeout: Some(Name { text: \"0\" }), \
                  local: Some(Name { text: \"b\" }), retries: Some(Name { text: \"c\" }), \
@@ -193,7 +193,7 @@ fn keep_and_kept_have_their_texts(rt: HostRuntime) -> Result<(), Fail> {
                  instances: Names { list: [Name { text: \"1\" }] }, way: None }, \
                  Group { address: Name { text: \"x\" }, \
                  instances: Names { list: [Name { text: \"7\" }] }, way: None }] }, \
-                 stop: false, part: 32, trace: false, \
+                 stop: false, part: 32, at_once: 64, trace: false, \
                  options: KeepOptions { steps: None, count: None, timeout: None, local: None, \
                  retries: None, dnet: None, dadr: None } })",
             ),

@@ -10,7 +10,7 @@ use Rattle.bac_words.specs.declared.word.Word.{Word}
 use Rattle.bac_words.specs.declared.word.Word.TheVariants.{Address, ObjectType, Instance, Property, Priority, Tag, From}
 use Rattle.bac_words.specs.declared.word.Word.TheVariants.{File}
 use Rattle.bac_words.specs.declared.word.Word.TheVariants.{Index, Value, Min, Max, Steps, Count, Local, Timeout}
-use Rattle.bac_words.specs.declared.word.Word.TheVariants.{Records, Part}
+use Rattle.bac_words.specs.declared.word.Word.TheVariants.{AtOnce, Records, Part}
 use Rattle.bac_words.specs.declared.word.Word.TheVariants.{Retries, Dnet, Dadr, Csv, Stop, Numbers, Trace}
 use Rattle.bac_words.specs.Names.{name_of}
 
@@ -94,11 +94,11 @@ log_app = with_rules (new_app (codes "log"))
 abbrev pub logs_app : App
 logs_app = with_rules (new_app (codes "logs")) (needed Address ∷ maybe_list Instance ∷ asking_rules)
 
--- bac keep FILE [ADDRESS [INSTANCE..]] [--steps=N] [--count=N] [--part=MIB] [--stop]
+-- bac keep FILE [ADDRESS [INSTANCE..]] [--steps=N] [--count=N] [--part=MIB] [--at-once=N] [--stop]
 abbrev pub keep_app : App
 keep_app = with_rules (new_app (codes "keep"))
     (needed File ∷ maybe Address ∷ maybe_list Instance ∷ option Steps ∷ option Records ∷ option_or Part (codes "32")
-    ∷ flag Stop ∷ keeping_rules)
+    ∷ option_or AtOnce (codes "64") ∷ flag Stop ∷ keeping_rules)
 
 -- bac kept FILE [ADDRESS [INSTANCE]] [--csv]
 abbrev pub kept_app : App

@@ -8,7 +8,7 @@ use Rattle.clap.specs.Words.{Row, Text}
 use Rattle.bac_words.specs.declared.word.Word.{Word}
 use Rattle.bac_words.specs.declared.word.Word.TheVariants.{Tool, Address, ObjectType, Instance, Property, Priority, Tag}
 use Rattle.bac_words.specs.declared.word.Word.TheVariants.{From, File, Index, Value, Min, Max, Steps, Count, Local}
-use Rattle.bac_words.specs.declared.word.Word.TheVariants.{Records, Part}
+use Rattle.bac_words.specs.declared.word.Word.TheVariants.{AtOnce, Records, Part}
 use Rattle.bac_words.specs.declared.word.Word.TheVariants.{Timeout, Retries, Dnet, Dadr, Csv, Stop, Numbers, Trace}
 use Rattle.bac_words.specs.declared.job.Job.{Job}
 use Rattle.bac_words.specs.declared.job.Job.TheVariants.{Replay, Wi, Rp, Wp, Log, Logs, Serve}
@@ -141,11 +141,13 @@ keep_at rows = do
   file ← file_at rows
   stop ← stop_beside (groups_at rows) (is_said Stop rows)
   part ← number_at Part 1 4096 rows
+  at_once ← number_at AtOnce 1 1024 rows
   Ok (job.Keep (record {
     file = file;
     groups = groups_at rows;
     stop = stop;
     part = part;
+    at_once = at_once;
     trace = is_said Trace rows;
     options = keep_options_at rows;
   }))

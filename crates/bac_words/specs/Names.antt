@@ -4,7 +4,7 @@ use Rattle.clap.specs.Words.{Text}
 use Rattle.bac_words.specs.declared.word.Word.{Word}
 use Rattle.bac_words.specs.declared.word.Word.TheVariants.{Tool, Address, ObjectType, Instance, Property, Priority, Tag}
 use Rattle.bac_words.specs.declared.word.Word.TheVariants.{From, File, Index, Value, Min, Max, Steps, Count, Local}
-use Rattle.bac_words.specs.declared.word.Word.TheVariants.{Records, Part}
+use Rattle.bac_words.specs.declared.word.Word.TheVariants.{AtOnce, Records, Part}
 use Rattle.bac_words.specs.declared.word.Word.TheVariants.{Timeout, Retries, Dnet, Dadr, Csv, Stop, Numbers, Trace}
 
 -- a word's name in the help; an option's, without its --
@@ -25,6 +25,7 @@ name_of Max = codes "max"
 name_of Steps = codes "steps"
 name_of Records = codes "count"
 name_of Part = codes "part"
+name_of AtOnce = codes "at-once"
 name_of Count = codes "count"
 name_of Csv = codes "csv"
 name_of Stop = codes "stop"
@@ -45,6 +46,7 @@ is_option Max = true
 is_option Steps = true
 is_option Records = true
 is_option Part = true
+is_option AtOnce = true
 is_option Count = true
 is_option Csv = true
 is_option Stop = true

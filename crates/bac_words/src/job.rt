@@ -80,6 +80,8 @@ pub struct Keep {
     pub stop: bool,
     /// How many MiB a part of an archive has when the next one is begun: 1 to 4,096.
     pub part: u32,
+    /// How many questions are open at once, of those that weren't sent again: 1 to 1,024.
+    pub at_once: u32,
     /// Each datagram is told.
     pub trace: bool,
     pub options: KeepOptions,
@@ -101,6 +103,7 @@ impl Keep {
             file,
             stop,
             part,
+            at_once,
             trace,
             options,
             groups: _groups,
@@ -110,6 +113,7 @@ impl Keep {
             groups,
             stop,
             part,
+            at_once,
             trace,
             options,
         }

@@ -129,6 +129,7 @@ pub(crate) fn keep(alloc: Global, matches: &ArgMatches) -> Result<Job, WordsFaul
     let groups = groups_at(alloc, matches)?;
     let stop = stop_beside(groups.as_slice(), is_said(matches, Word::Stop))?;
     let part = number_at(matches, Word::Part, 1, 4096)?;
+    let at_once = number_at(matches, Word::AtOnce, 1, 1024)?;
     let trace = is_said(matches, Word::Trace);
     let options = keep_options_at(alloc, matches)?;
     Ok(Job::Keep(Keep {
@@ -136,6 +137,7 @@ pub(crate) fn keep(alloc: Global, matches: &ArgMatches) -> Result<Job, WordsFaul
         groups,
         stop,
         part,
+        at_once,
         trace,
         options,
     }))

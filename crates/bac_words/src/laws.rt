@@ -51,6 +51,7 @@ pub fn lines_say_jobs()
           groups = [];
           stop = false;
           part = 32;
+          at_once = 64;
           trace = false;
           options = no_options;
         }))) }
@@ -60,6 +61,7 @@ pub fn lines_say_jobs()
           groups = group (codes "10.0.0.1") (codes "1" ∷ codes "2" ∷ []) ∷ [];
           stop = false;
           part = 32;
+          at_once = 64;
           trace = false;
           options = record no_options { steps = Some (codes "5") };
         }))) }
@@ -72,6 +74,7 @@ pub fn lines_say_jobs()
               ∷ [];
           stop = false;
           part = 32;
+          at_once = 64;
           trace = false;
           options = no_options;
         }))) }
@@ -81,6 +84,7 @@ pub fn lines_say_jobs()
           groups = group (codes "7") [] ∷ group (codes "8x") [] ∷ [];
           stop = false;
           part = 32;
+          at_once = 64;
           trace = false;
           options = no_options;
         }))) }
@@ -90,6 +94,7 @@ pub fn lines_say_jobs()
           groups = group (codes "10.0.0.1") [] ∷ [];
           stop = true;
           part = 32;
+          at_once = 64;
           trace = false;
           options = no_options;
         }))) }

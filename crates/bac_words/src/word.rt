@@ -41,6 +41,8 @@ pub enum Word {
     Records,
     /// How large a part of an archive is when the next one is begun.
     Part,
+    /// How many questions are open at once.
+    AtOnce,
     /// How many datagrams to serve.
     Count,
     /// Lines of CSV.
@@ -85,6 +87,7 @@ impl Word {
             Word::Steps => "steps",
             Word::Records => "count",
             Word::Part => "part",
+            Word::AtOnce => "at-once",
             Word::Count => "count",
             Word::Csv => "csv",
             Word::Stop => "stop",
@@ -111,6 +114,7 @@ impl Word {
                 | Word::Steps
                 | Word::Records
                 | Word::Part
+                | Word::AtOnce
                 | Word::Count
                 | Word::Csv
                 | Word::Stop
