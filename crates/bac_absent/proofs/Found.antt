@@ -6,14 +6,14 @@ use denote.Ref.{Bor}
 use Rattle.bac_asked.specs.Faults.{WantsMemory}
 use Rattle.bac_asked.specs.declared.end.NotDone.{NotDone}
 use Rattle.bac_asked.specs.declared.wanted.Wanted.{Wanted}
-use Rattle.bac_hearing.specs.Hearing.{StartedClock}
+use Rattle.bac_hearing.specs.Hearing.{Pace}
 use Rattle.bac_ports.specs.Sockets.{SocketRules}
 use Rattle.bac_questions.specs.Faults.{EndsAsking, IsUnopened}
 use Rattle.bac_questions.specs.declared.whose.Heard.{Heard}
 use Rattle.bac_absent.specs.Each.{AreCalled, CallsAll, CallsMany, EndsCalling}
 
 -- two or more are called as the first is asked
-pub many : {S P C : Type 0} (rules : SocketRules S P) (clock : StartedClock C) (refs : List (Bor Wanted)) (first : Bor Wanted) (heard now : List Heard)
+pub many : {S P C : Type 0} (rules : SocketRules S P) (clock : Pace C) (refs : List (Bor Wanted)) (first : Bor Wanted) (heard now : List Heard)
     (before after : S) → 2 ≤ length refs → first ≡ get_or refs 0 first →
     CallsAll rules clock first.now.asking.asked (map (λ (r : Bor Wanted). r.now) refs) heard before now after →
     CallsMany rules clock (map (λ (r : Bor Wanted). r.now) refs) heard before now after

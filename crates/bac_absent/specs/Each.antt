@@ -6,7 +6,7 @@ use Rattle.bac_archive.specs.declared.trend_logs.Source.{Source}
 use Rattle.bac_asked.specs.Faults.{WantsMemory}
 use Rattle.bac_asked.specs.declared.end.NotDone.{NotDone}
 use Rattle.bac_asked.specs.declared.wanted.Wanted.{Wanted}
-use Rattle.bac_hearing.specs.Hearing.{FailsToHear, HearsAll, StartedClock}
+use Rattle.bac_hearing.specs.Hearing.{FailsToHear, HearsAll, Pace}
 use Rattle.bac_hearing.specs.declared.hearing.NotHeard.TheVariants.{Unfinished}
 use Rattle.bac_jobs.specs.declared.job.Ending.{Ending}
 use Rattle.bac_ports.specs.Sockets.{SocketRules}
@@ -59,15 +59,15 @@ jobs_of called = map identifying_of called
 
 -- The devices of these logs were asked at once what they say of themselves, each by its route, with the waits and
 -- retries of this one, over one socket that was opened as it says.
-abbrev pub HearsCalled : {S P C : Type 0} → SocketRules S P → StartedClock C → Asked → List Wanted → S →
+abbrev pub HearsCalled : {S P C : Type 0} → SocketRules S P → Pace C → Asked → List Wanted → S →
     List (Ending Said) → S → Type 0
-HearsCalled rules clock asked called before endings after = HearsAll rules clock IsPlayed (peers_of called)
+HearsCalled rules pace asked called before endings after = HearsAll rules pace IsPlayed (peers_of called)
     (jobs_of called) asked.local asked.timeout asked.retries before endings after
 
 -- as many rounds as fit 64 bits weren't enough for that
-abbrev pub Unending : {S P C : Type 0} → SocketRules S P → StartedClock C → Asked → List Wanted → S → S → Type 0
-Unending rules clock asked called before after =
-    FailsToHear rules clock (peers_of called) asked.local asked.timeout asked.retries before after Unfinished
+abbrev pub Unending : {S P C : Type 0} → SocketRules S P → Pace C → Asked → List Wanted → S → S → Type 0
+Unending rules pace asked called before after =
+    FailsToHear rules pace (peers_of called) asked.local asked.timeout asked.retries before after Unfinished
 
 -- A device is left out that told this, to be asked alone in its turn: it told an instance that another device told
 -- before, so that the first of the two is kept; or it gave no answer while something else came from its host, so that
@@ -100,26 +100,26 @@ PutsEach called endings heard now = now ≡ heard
 
 -- They were asked so, and each that isn't left out is put behind those that were heard of; or the questions didn't end,
 -- and none is.
-abbrev pub CallsAll : {S P C : Type 0} → SocketRules S P → StartedClock C → Asked → List Wanted → List Heard → S →
+abbrev pub CallsAll : {S P C : Type 0} → SocketRules S P → Pace C → Asked → List Wanted → List Heard → S →
     List Heard → S → Type 0
-CallsAll rules clock asked called heard before now after =
-    ((endings : List (Ending Said)) × HearsCalled rules clock asked called before endings after
+CallsAll rules pace asked called heard before now after =
+    ((endings : List (Ending Said)) × HearsCalled rules pace asked called before endings after
     × PutsEach called endings heard now)
-    ⊎ (Unending rules clock asked called before after × (now ≡ heard))
+    ⊎ (Unending rules pace asked called before after × (now ≡ heard))
 
 -- fewer than two aren't called
-abbrev pub CallsMany : {S P C : Type 0} → SocketRules S P → StartedClock C → List Wanted → List Heard → S →
+abbrev pub CallsMany : {S P C : Type 0} → SocketRules S P → Pace C → List Wanted → List Heard → S →
     List Heard → S → Type 0
-CallsMany rules clock (one ∷ two ∷ more) heard before now after =
-    CallsAll rules clock one.asking.asked (one ∷ two ∷ more) heard before now after
-CallsMany rules clock called heard before now after = (now ≡ heard) × (after ≡ before)
+CallsMany rules pace (one ∷ two ∷ more) heard before now after =
+    CallsAll rules pace one.asking.asked (one ∷ two ∷ more) heard before now after
+CallsMany rules pace called heard before now after = (now ≡ heard) × (after ≡ before)
 
 -- The devices of these logs that weren't heard of are asked at once what they say of themselves, each once, if there
 -- are two or more; what they said is what they are heard to say in this run.
-abbrev pub HearsEach : {S P C : Type 0} → SocketRules S P → StartedClock C → List Wanted → List Heard → S →
+abbrev pub HearsEach : {S P C : Type 0} → SocketRules S P → Pace C → List Wanted → List Heard → S →
     List Heard → S → Type 0
-HearsEach rules clock all heard before now after =
-    (called : List Wanted) × AreCalled heard all called × CallsMany rules clock called heard before now after
+HearsEach rules pace all heard before now after =
+    (called : List Wanted) × AreCalled heard all called × CallsMany rules pace called heard before now after
 
 -- two or more
 abbrev pub are_many : List Wanted → Bool

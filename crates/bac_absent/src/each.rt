@@ -5,11 +5,10 @@ ghost use Rattle.std.specs.Prelude.{◌∷◌, ◌++◌, [], length, map, not};
 ghost use Rattle.std.specs.List.{Contains, list_any};
 ghost use Rattle.bac_asked.specs.Faults.{WantsMemory};
 ghost use Rattle.bac_asked.specs.declared.wanted.Wanted.{Wanted as WantedOf};
-ghost use Rattle.bac_hearing.specs.Hearing.{started};
+ghost use Rattle.bac_hearing.specs.Hearing.{paced};
 ghost use Rattle.bac_ports.specs.Sockets.{socket_rules};
 ghost use Rattle.bac_questions.specs.Faults.{EndsAsking, IsUnopened};
 ghost use Rattle.bac_questions.specs.Silent.{is_same_device};
-ghost use Rattle.bac_questions.specs.Whose.{told_elsewhere};
 ghost use Rattle.bac_absent.specs.Each.{AreCalled, CallsAll, CallsMany, EndsCalling, HearsCalled};
 ghost use Rattle.bac_absent.specs.Each.{HearsEach, PutsEach, PutsOne, SaysMany, Unending};
 ghost use Rattle.bac_absent.specs.Each.{are_many, is_called, is_left_out};
@@ -23,7 +22,7 @@ use bac_hearing::{NotHeard, hear_all};
 use bac_jobs::Ending;
 use bac_ports::Sockets;
 use bac_questions::{
-    Heard, Identity, Said, copy_source, is_heard, is_same_device, is_told, push_heard,
+    Heard, Identity, Said, copy_source, is_heard, is_same_device, push_heard, told_elsewhere,
 };
 use bac_words::Asked;
 use std::alloc::{AllocError, Global};
@@ -130,6 +129,7 @@ fn hear_called<S: Sockets, C: Clock>(
     sockets: &mut S,
     alloc: Global,
     clock: C,
+    window: u32,
     asked: &Asked,
     called: &[&Wanted],
 ) -> Result<Option<Vec<Ending<Said>>>, NotDone>
@@ -137,13 +137,13 @@ where
     C: Drop,
     ensures heard { IfOk result (λ ends. IfSome ends (λ all. HearsCalled
         (socket_rules S.opens S.closes S.Socket.sends S.Socket.receives
-        S.Socket.receives_within) (started C.reads clock) asked.now
+        S.Socket.receives_within) (paced C.reads clock window) asked.now
         (map (λ one. one.now) called.now) sockets.old all.items sockets.new)) }
     ensures each { IfOk result (λ ends. IfSome ends
         (λ all. length all.items ≡ length called.now)) }
     ensures unending { IfOk result (λ ends. IfNone ends (Unending
         (socket_rules S.opens S.closes S.Socket.sends S.Socket.receives
-        S.Socket.receives_within) (started C.reads clock) asked.now
+        S.Socket.receives_within) (paced C.reads clock window) asked.now
         (map (λ one. one.now) called.now) sockets.old sockets.new)) }
     ensures fault { IfErr result (EndsAsking (socket_rules S.opens S.closes S.Socket.sends
         S.Socket.receives S.Socket.receives_within) asked.now sockets.old sockets.new) }
@@ -155,6 +155,7 @@ where
         sockets,
         alloc,
         clock,
+        window,
         peers.as_slice(),
         jobs.as_slice(),
         asked.local,
@@ -166,18 +167,6 @@ where
         Err(NotHeard::Memory) => Err(NotDone::Asking(Fault::Memory)),
         Err(NotHeard::Unopened(why)) => Err(NotDone::Asking(Fault::Unopened(why))),
     }
-}
-
-/// Whether another device than a log's told this instance in this run.
-fn told_elsewhere(heard: &[Heard], source: &Source, device: u32) -> bool
-    ensures { result ≡ told_elsewhere heard.now source.now device }
-{
-    for one in heard {
-        if is_told(device, one.said.identity) && !is_same_device(&one.source, source) {
-            return true;
-        }
-    }
-    false
 }
 
 /// Whether the device of a log is left out whose questions ended so, to be asked alone in its turn:
@@ -235,6 +224,7 @@ fn call_as<S: Sockets, C: Clock>(
     sockets: &mut S,
     alloc: Global,
     clock: C,
+    window: u32,
     asked: &Asked,
     called: &[&Wanted],
     heard: &mut Vec<Heard>,
@@ -242,13 +232,13 @@ fn call_as<S: Sockets, C: Clock>(
 where
     C: Drop,
     ensures called { OnOk result (CallsAll (socket_rules S.opens S.closes S.Socket.sends
-        S.Socket.receives S.Socket.receives_within) (started C.reads clock) asked.now
+        S.Socket.receives S.Socket.receives_within) (paced C.reads clock window) asked.now
         (map (λ one. one.now) called.now) heard.old.items sockets.old heard.new.items
         sockets.new) }
     ensures fault { IfErr result (EndsAsking (socket_rules S.opens S.closes S.Socket.sends
         S.Socket.receives S.Socket.receives_within) asked.now sockets.old sockets.new) }
 {
-    match hear_called(sockets, alloc, clock, asked, called)? {
+    match hear_called(sockets, alloc, clock, window, asked, called)? {
         Some(endings) => put_each(alloc, heard, called, endings),
         None => Ok(()),
     }
@@ -259,13 +249,14 @@ fn call_many<S: Sockets, C: Clock>(
     sockets: &mut S,
     alloc: Global,
     clock: C,
+    window: u32,
     called: &[&Wanted],
     heard: &mut Vec<Heard>,
 ) -> Result<bool, NotDone>
 where
     C: Drop,
     ensures called { OnOk result (CallsMany (socket_rules S.opens S.closes S.Socket.sends
-        S.Socket.receives S.Socket.receives_within) (started C.reads clock)
+        S.Socket.receives S.Socket.receives_within) (paced C.reads clock window)
         (map (λ one. one.now) called.now) heard.old.items sockets.old heard.new.items
         sockets.new) }
     ensures many { IfOk result (λ said. said ≡ are_many (map (λ one. one.now) called.now)) }
@@ -277,7 +268,15 @@ where
     let [first, _, ..] = called else {
         return Ok(false);
     };
-    call_as(sockets, alloc, clock, &first.asking.asked, called, heard)?;
+    call_as(
+        sockets,
+        alloc,
+        clock,
+        window,
+        &first.asking.asked,
+        called,
+        heard,
+    )?;
     Ok(true)
 }
 
@@ -291,13 +290,14 @@ pub fn hear_each<S: Sockets, C: Clock>(
     sockets: &mut S,
     alloc: Global,
     clock: C,
+    window: u32,
     all: &[Wanted],
     heard: &mut Vec<Heard>,
 ) -> Result<bool, NotDone>
 where
     C: Drop,
     ensures heard { OnOk result (HearsEach (socket_rules S.opens S.closes S.Socket.sends
-        S.Socket.receives S.Socket.receives_within) (started C.reads clock) all.now
+        S.Socket.receives S.Socket.receives_within) (paced C.reads clock window) all.now
         heard.old.items sockets.old heard.new.items sockets.new) }
     ensures many { IfOk result (SaysMany all.now heard.old.items) }
     ensures fault { IfErr result (EndsCalling (socket_rules S.opens S.closes S.Socket.sends
@@ -305,5 +305,5 @@ where
         sockets.new) }
 {
     let called = called_of(alloc, all, heard.as_slice())?;
-    call_many(sockets, alloc, clock, called.as_slice(), heard)
+    call_many(sockets, alloc, clock, window, called.as_slice(), heard)
 }

@@ -8,7 +8,7 @@ use Rattle.bac_play.specs.declared.play.Outcome.{Outcome}
 use Rattle.bac_site.specs.Desk.{DeskState}
 use Rattle.bac_desks.specs.declared.rules.Rules.{Rules}
 use Rattle.bac_desks.specs.declared.seat.Seat.{Seat}
-use Rattle.bac_desks.specs.Seat.{fresh_seat, is_open, is_open_at}
+use Rattle.bac_desks.specs.Seat.{fresh_seat, holds_place, holds_place_at, is_open}
 use Rattle.bac_desks.specs.Table.{IsWithin, TableState}
 use Rattle.bac_desks.specs.Told.{AreTold, IsSeatTold, IsTold}
 use Rattle.bac_desks.proofs.Lists.{get_map}
@@ -47,8 +47,9 @@ are_told rules peers = (refl, λ place seat at. at_one place seat (get_map fresh
 
 pub is_within : (rules : Rules) (peers : List (List ℕ)) → IsWithin (fresh rules peers)
 is_within rules peers = (
+  (let none : count_by holds_place (map fresh_seat peers) ≡ 0 = none_open holds_place (λ peer. refl) peers in omega arith),
   (let none : count_by is_open (map fresh_seat peers) ≡ 0 = none_open is_open (λ peer. refl) peers in omega arith),
-  λ q. (let none : count_by (λ s. is_open_at q s) (map fresh_seat peers) ≡ 0 = none_open (λ s. is_open_at q s) (λ peer. refl) peers in omega arith),
+  λ q. (let none : count_by (λ s. holds_place_at q s) (map fresh_seat peers) ≡ 0 = none_open (λ s. holds_place_at q s) (λ peer. refl) peers in omega arith),
 )
 
 -- one more

@@ -18,9 +18,11 @@ use Rattle.bac_jobs.specs.declared.job.Turn.{Turn}
 use Rattle.bac_hearing.specs.declared.hearing.NotHeard.{NotHeard}
 use Rattle.bac_hearing.specs.declared.hearing.NotHeard.TheVariants.{Memory, Unfinished, Unopened}
 
--- a question waits so long and is sent so often again; at most 64 are open, four at each address
-abbrev pub limits : ℕ → ℕ → Rules
-limits timeout retries = record { retries = retries; wait_ms = timeout; window = 64; at_station = 4 }
+-- A question waits so long and is sent so often again. So many are open at most that weren't sent again, four of them at
+-- each address; and 1,024 in all.
+abbrev pub limits : ℕ → ℕ → ℕ → Rules
+limits timeout retries window =
+    record { retries = retries; wait_ms = timeout; window = window; at_station = 4; most = 1024 }
 
 -- no desks yet
 abbrev pub no_desks : Rules → TableState
@@ -40,23 +42,25 @@ Ends {C = C} sends receives reads plays jobs port start fresh ends last =
     × Does sends receives reads port start fresh events last stop left
     × AreEnded plays jobs left.seats ends × IsIdle left
 
--- a clock as it was handed in, and what a reading of it is
-pub record StartedClock (C : Type 0) : Type 1 where
+-- By what devices are asked at once: a clock as it was handed in, what a reading of it is, and how many questions may be
+-- open that weren't sent again.
+pub record Pace (C : Type 0) : Type 1 where
   pub reads : C → ℕ → C → Type 0
   pub start : C
+  pub window : ℕ
 
--- the one that is this
-abbrev pub started : {C : Type 0} → (C → ℕ → C → Type 0) → C → StartedClock C
-started reads start = record { reads = reads; start = start }
+-- by this clock, and so many at once
+abbrev pub paced : {C : Type 0} → (C → ℕ → C → Type 0) → C → ℕ → Pace C
+paced reads start window = record { reads = reads; start = start; window = window }
 
 -- One socket was opened as asked. Over it the devices at these addresses were asked at once, from nothing on, each what
 -- the job at its place asks, up to where it ended so; and it was closed as the last of that left it.
-abbrev pub HearsAll : {S P C J E : Type 0} → SocketRules S P → StartedClock C → (J → List Outcome → Turn E → Type 0) →
+abbrev pub HearsAll : {S P C J E : Type 0} → SocketRules S P → Pace C → (J → List Outcome → Turn E → Type 0) →
     List (List ℕ) → List J → Option (List ℕ) → ℕ → ℕ → S → List (Ending E) → S → Type 0
-HearsAll rules clock plays peers jobs local timeout retries before ends after =
+HearsAll rules pace plays peers jobs local timeout retries before ends after =
     UsesSocket rules (own_address local) timeout before
-    (λ port last. Ends rules.sends rules.receives_within clock.reads plays jobs port clock.start
-    (with_peers (no_desks (limits timeout retries)) peers) ends last)
+    (λ port last. Ends rules.sends rules.receives_within pace.reads plays jobs port pace.start
+    (with_peers (no_desks (limits timeout retries pace.window)) peers) ends last)
     after
 
 -- So many rounds were made from these desks on, each of which asks what the jobs want next and waits for what comes.
@@ -67,16 +71,16 @@ Waits {C = C} sends receives reads rounds port start fresh last =
 
 -- Devices aren't heard: no socket was opened as asked; memory is wanting, of which std doesn't tell why; or as many
 -- rounds as fit a number of 64 bits were made over the one that was, which was closed then.
-abbrev pub FailsToHear : {S P C : Type 0} → SocketRules S P → StartedClock C → List (List ℕ) → Option (List ℕ) → ℕ → ℕ
+abbrev pub FailsToHear : {S P C : Type 0} → SocketRules S P → Pace C → List (List ℕ) → Option (List ℕ) → ℕ → ℕ
     → S → S →
     NotHeard → Type 0
-FailsToHear rules clock peers local timeout retries before after (Unopened why) =
+FailsToHear rules pace peers local timeout retries before after (Unopened why) =
     rules.opens before (own_address local) timeout (Err why) after
-FailsToHear rules clock peers local timeout retries before after Memory = Unit {0}
-FailsToHear rules clock peers local timeout retries before after Unfinished =
+FailsToHear rules pace peers local timeout retries before after Memory = Unit {0}
+FailsToHear rules pace peers local timeout retries before after Unfinished =
     UsesSocket rules (own_address local) timeout before
-    (λ port last. Waits rules.sends rules.receives_within clock.reads 18446744073709551615 port clock.start
-    (with_peers (no_desks (limits timeout retries)) peers) last)
+    (λ port last. Waits rules.sends rules.receives_within pace.reads 18446744073709551615 port pace.start
+    (with_peers (no_desks (limits timeout retries pace.window)) peers) last)
     after
 
 -- ---- laws

@@ -2,7 +2,7 @@
 
 ghost use Rattle.std.specs.Prelude.{◌≡◌, IfErr, IfNone, IfOk, IfSome, OnOk};
 ghost use Rattle.bac_ports.specs.Sockets.{socket_rules};
-ghost use Rattle.bac_hearing.specs.Hearing.{Ends, FailsToHear, HearsAll, Waits, limits, started};
+ghost use Rattle.bac_hearing.specs.Hearing.{Ends, FailsToHear, HearsAll, Waits, limits, paced};
 ghost use Rattle.bac_hearing.specs.Hearing.{with_peers};
 
 use bac_desks::{Clock, Desks, Rules};
@@ -24,16 +24,17 @@ pub enum NotHeard {
     Unfinished,
 }
 
-/// How often, how long, and how many at once: 64 answers fit the buffer that a system gives a
-/// socket, and what stands behind one router shares its line, and so is asked four at a time.
-fn limits(timeout: u32, retries: u8) -> Rules
-    ensures { result ≡ limits timeout retries }
+/// How often, how long, and how many at once. What stands behind one router shares its line, and so
+/// is asked four at a time.
+fn limits(timeout: u32, retries: u8, window: u32) -> Rules
+    ensures { result ≡ limits timeout retries window }
 {
     Rules {
         retries: u32::from(retries),
         wait_ms: timeout,
-        window: 64,
+        window: window as usize,
         at_station: 4,
+        most: 1024,
     }
 }
 
@@ -72,14 +73,15 @@ fn hear<P: Port, C: Clock, J: Job>(
 }
 
 /// Brings a job for each of these devices to its end, all beside one another, over one socket that
-/// is opened at an address, or at any, and closed behind them. At most 64 questions are open, four
-/// at each address, where devices may be behind one router; a question waits so many milliseconds
-/// for its answer, and is sent so often again. How the jobs ended, in their order, and of which
-/// something came in an answer's place.
+/// is opened at an address, or at any, and closed behind them. So many questions are open at most
+/// that weren't sent again, four of them at each address, where devices may be behind one router;
+/// and 1,024 in all. A question waits so many milliseconds for its answer, and is sent so often
+/// again. How the jobs ended, in their order, and of which something came in an answer's place.
 pub fn hear_all<S: Sockets, C: Clock, J: Job>(
     sockets: &mut S,
     alloc: Global,
     clock: C,
+    window: u32,
     peers: &[[u8; 6]],
     jobs: &[J],
     local: Option<[u8; 6]>,
@@ -90,18 +92,18 @@ where
     C: Drop,
     ensures heard { IfOk result (λ ends. HearsAll
         (socket_rules S.opens S.closes S.Socket.sends S.Socket.receives
-        S.Socket.receives_within) (started C.reads clock) J.plays peers.now jobs.now local
+        S.Socket.receives_within) (paced C.reads clock window) J.plays peers.now jobs.now local
         timeout retries sockets.old ends.items sockets.new) }
     ensures fault { IfErr result (FailsToHear
         (socket_rules S.opens S.closes S.Socket.sends S.Socket.receives
-        S.Socket.receives_within) (started C.reads clock) peers.now local timeout retries
+        S.Socket.receives_within) (paced C.reads clock window) peers.now local timeout retries
         sockets.old sockets.new) }
 {
     let port = match sockets.open(local.unwrap_or(ANY), timeout) {
         Ok(port) => port,
         Err(why) => return Err(NotHeard::Unopened(why)),
     };
-    let mut desks = Desks::new(alloc, port, clock, limits(timeout, retries));
+    let mut desks = Desks::new(alloc, port, clock, limits(timeout, retries, window));
     let heard = hear(alloc, &mut desks, peers, jobs);
     sockets.close(desks.into_port());
     match heard {

@@ -31,12 +31,16 @@ fn ask_at<P: Port, C: Clock, J: Job>(
     Ok(true)
 }
 
-/// Whether the job at a place is done, or its desk can't be asked now. A job that ended stays so,
-/// and isn't played for nothing.
-fn is_passed<P: Port, C: Clock>(desks: &Desks<P, C>, done: &[bool], place: usize) -> bool {
-    match done.get(place) {
-        Some(true) => true,
-        _ => !desks.is_free(place),
+/// Whether the job at a place is done. A job that ended stays so, and isn't played for nothing.
+fn is_done(done: &[bool], place: usize) -> bool {
+    matches!(done.get(place), Some(true))
+}
+
+/// Whether nothing came yet of a question of the desk at a place.
+fn is_new<P: Port, C: Clock>(desks: &Desks<P, C>, place: usize) -> bool {
+    match desks.outcomes(place) {
+        Some(outcomes) => outcomes.is_empty(),
+        None => false,
     }
 }
 
@@ -47,7 +51,7 @@ fn put_done(done: &mut [bool], place: usize) {
     }
 }
 
-/// Asks what the job at a place wants next, unless it is done.
+/// Asks what the job at a place wants next, if its desk may be asked now.
 fn ask_unless<P: Port, C: Clock, J: Job>(
     alloc: Global,
     desks: &mut Desks<P, C>,
@@ -59,7 +63,7 @@ fn ask_unless<P: Port, C: Clock, J: Job>(
     ensures { Runs P.sends P.receives_within C.reads desks.old.port desks.old.clock desks.old.table
         desks.new.port desks.new.clock desks.new.table }
 {
-    if is_passed(desks, done, place) {
+    if !desks.is_free(place) {
         return Ok(());
     }
     if ask_at(alloc, desks, jobs, place)? {
@@ -68,7 +72,32 @@ fn ask_unless<P: Port, C: Clock, J: Job>(
     Ok(())
 }
 
-/// Asks what each job wants next that isn't done, as long as a question more may be open.
+/// Asks what each job wants next that isn't done, as long as a question more may be open: of those
+/// desks of which nothing was answered yet, or of the others.
+fn ask_those<P: Port, C: Clock, J: Job>(
+    alloc: Global,
+    desks: &mut Desks<P, C>,
+    jobs: &[J],
+    done: &mut [bool],
+    new: bool,
+) -> Result<(), AllocError>
+    ensures { Runs P.sends P.receives_within C.reads desks.old.port desks.old.clock desks.old.table
+        desks.new.port desks.new.clock desks.new.table }
+{
+    for place in 0..jobs.len() {
+        if is_done(done, place) || is_new(desks, place) != new {
+            continue;
+        }
+        if !desks.has_room() {
+            return Ok(());
+        }
+        ask_unless(alloc, desks, jobs, place, done)?;
+    }
+    Ok(())
+}
+
+/// Asks what each job wants next that isn't done: each device is asked once before any is asked
+/// twice.
 fn ask_all<P: Port, C: Clock, J: Job>(
     alloc: Global,
     desks: &mut Desks<P, C>,
@@ -78,13 +107,8 @@ fn ask_all<P: Port, C: Clock, J: Job>(
     ensures { Runs P.sends P.receives_within C.reads desks.old.port desks.old.clock desks.old.table
         desks.new.port desks.new.clock desks.new.table }
 {
-    for place in 0..jobs.len() {
-        if !desks.has_room() {
-            return Ok(());
-        }
-        ask_unless(alloc, desks, jobs, place, done)?;
-    }
-    Ok(())
+    ask_those(alloc, desks, jobs, done, true)?;
+    ask_those(alloc, desks, jobs, done, false)
 }
 
 /// Of none of so many jobs it is known that it is done.

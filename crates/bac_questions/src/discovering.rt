@@ -152,7 +152,7 @@ fn name_in(alloc: Global, answer: &Datagram) -> Result<Option<String>, NotDone>
 }
 
 /// How a log of the device is asked for, as another of its logs is.
-pub(crate) fn asked_like(like: &Asking, instance: u32) -> Result<Asking, NotDone>
+pub fn asked_like(like: &Asking, instance: u32) -> Result<Asking, NotDone>
     ensures alike { IfOk result (IsAskedAs like.now) }
     ensures instance { IfOk result (λ asking. asking.instance ≡ instance) }
     ensures fault { IfErr result WantsMemory }
@@ -293,6 +293,35 @@ fn find_all<L: LogLink>(
     add_listed(alloc, device, itself, count, like)
 }
 
+/// Each trend log of a device, asked as this one is over a link to it, from these transactions on;
+/// and the link as that left it.
+pub fn find_logs<L: LogLink>(
+    alloc: Global,
+    link: L,
+    transactions: Transactions,
+    like: &Asking,
+) -> (Result<Vec<Wanted>, NotDone>, L)
+    ensures asks { IfOk result.0 (λ all. All AsksItsSource all.items) }
+    ensures alike { IfOk result.0
+        (λ all. All (λ wanted. IsAskedAs like.now wanted.asking) all.items) }
+    ensures finds { IfOk result.0 (λ all. Finds
+        (Reads L.asks (towards transactions.route) transactions.retries) link all.items
+        result.1) }
+    ensures lacks { IfErr result.0 (λ fault. WantsMemory fault
+        ⊎ ((why : _) × (fault ≡ NotDone.Asking (Fault.Exchange like.now.asked.address why))
+        × FailsToFind (Reads L.asks (towards transactions.route) transactions.retries) link why
+        result.1)) }
+{
+    let mut device = Station {
+        link,
+        transactions,
+        address: like.asked.address,
+    };
+    let found = find_all(alloc, &mut device, like);
+    let Station { link, .. } = device;
+    (found, link)
+}
+
 /// Each trend log of a device, asked as this one is.
 pub fn discover<S: Sockets>(
     sockets: &mut S,
@@ -312,16 +341,9 @@ pub fn discover<S: Sockets>(
         (socket_rules S.opens S.closes S.Socket.sends S.Socket.receives
         S.Socket.receives_within) like.now sockets.old sockets.new) }
 {
-    let address = like.asked.address;
     let asked = asked_like(like, 0)?.asked;
     let (link, transactions) = connect(sockets, asked)?;
-    let mut device = Station {
-        link,
-        transactions,
-        address,
-    };
-    let found = find_all(alloc, &mut device, like);
-    let Station { link, .. } = device;
-    sockets.close(link.into_port());
+    let (found, left) = find_logs(alloc, link, transactions, like);
+    sockets.close(left.into_port());
     found
 }

@@ -12,10 +12,10 @@ mod whose;
 
 pub use among::{copy_source, is_same_device, log_among};
 pub use connecting::{connect, transactions_by};
-pub use discovering::{DEVICE, ITSELF, discover};
+pub use discovering::{DEVICE, ITSELF, asked_like, discover, find_logs};
 pub use questions::{Count, read_count};
 pub use said::{Identity, OBJECT_IDENTIFIER, Said, copy_text, identify, read_said, silent};
 pub use whose::{
     Heard, add_heard, device_on_record, heard_of, hindrance, is_heard, is_silent, is_told,
-    of_device, push_heard, said_of, stands_elsewhere,
+    of_device, push_heard, said_of, stands_elsewhere, told_elsewhere,
 };

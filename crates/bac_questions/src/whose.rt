@@ -217,7 +217,7 @@ pub fn is_told(device: u32, identity: Identity) -> bool
 }
 
 /// Whether another device than a log's told this instance in this run.
-fn told_elsewhere(heard: &[Heard], source: &Source, device: u32) -> bool
+pub fn told_elsewhere(heard: &[Heard], source: &Source, device: u32) -> bool
     ensures { result ≡ told_elsewhere heard.now source.now device }
 {
     for one in heard {

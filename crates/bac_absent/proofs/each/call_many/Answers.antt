@@ -1,5 +1,5 @@
 use Rattle.std.proofs.Common.{rules}
-use Rattle.bac_hearing.specs.Hearing.{started}
+use Rattle.bac_hearing.specs.Hearing.{paced}
 use Rattle.bac_ports.specs.Sockets.{socket_rules}
 use Rattle.bac_absent.proofs.Found.{fails, many}
 use Rattle.bac_absent.proofs.each.call_many.Goals as goal
@@ -13,5 +13,5 @@ returns-in_err-call_as-clause-fault g c =
 pub returns-clause-called : goal.returns-clause-called
 returns-clause-called g c =
     let over = socket_rules g.S.Sockets.opens g.S.Sockets.closes g.S.Socket.Port.sends g.S.Socket.Port.receives g.S.Socket.Port.receives_within in
-    many over (started g.C.Clock.reads c.args.clock) c.args.called.now c.first-item.result c.args.heard.now.items c.call_as.new.heard.items c.args.sockets.now
+    many over (paced g.C.Clock.reads c.args.clock c.args.window) c.args.called.now c.first-item.result c.args.heard.now.items c.call_as.new.heard.items c.args.sockets.now
     c.call_as.new.sockets c.in-len2-up.len_at_least c.first-item.is c.in_ok-call_as.ensures.called

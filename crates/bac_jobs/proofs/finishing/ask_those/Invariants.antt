@@ -1,5 +1,5 @@
 use Rattle.bac_desks.specs.Served.{Runs}
-use Rattle.bac_jobs.proofs.finishing.ask_all.Given as goal
+use Rattle.bac_jobs.proofs.finishing.ask_those.Given as goal
 
 abbrev pub invariant-loop-place : goal.invariant-loop-place
 invariant-loop-place g l =
