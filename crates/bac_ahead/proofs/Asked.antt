@@ -1,7 +1,7 @@
 -- What a log is asked for by is of its own route and object, without repeats.
-use Rattle.std.proofs.Common.{◌≡◌, ℕ, Option, subst, ap}
+use Rattle.std.proofs.Common.{◌≡◌, ℕ, Option, subst}
 use Rattle.bac_apdu.specs.Npdu.{Place}
-use Rattle.bac_link.specs.Path.{Path, towards}
+use Rattle.bac_link.specs.Path.{towards}
 use Rattle.bac_play.specs.Play.{Plays as PlaysRecord}
 use Rattle.bac_play.specs.declared.play.Play.{Play}
 use Rattle.bac_wire.specs.Primitive.{Id}

@@ -3,7 +3,7 @@ use Rattle.std.proofs.Common.{◌≡◌, List, [], ◌∷◌, ◌++◌, map, ref
 use Rattle.bac_asked.specs.declared.end.NotDone.{NotDone}
 use Rattle.bac_desks.specs.Chain.{Chain}
 use Rattle.bac_desks.proofs.Lists.{pushed}
-use Rattle.bac_hearing.specs.Hearing.{FailsToHear, StartedClock}
+use Rattle.bac_hearing.specs.Hearing.{FailsToHear, Pace}
 use Rattle.bac_hearing.specs.declared.hearing.NotHeard.TheVariants.{Unfinished}
 use Rattle.bac_ports.specs.Sockets.{SocketRules}
 use Rattle.bac_questions.specs.Faults.{EndsAsking}
@@ -28,7 +28,7 @@ stage sockets left = record { sockets = sockets; left = left }
 abbrev parts : List Opening → List Opening → Parts
 parts firsts rest = record { firsts = firsts; rest = rest }
 
-module _ {S P C : Type 0} (rules : SocketRules S P) (clock : StartedClock C) (asked : Asked) where
+module _ {S P C : Type 0} (rules : SocketRules S P) (clock : Pace C) (asked : Asked) where
   -- where rounds came, with what came in them
   abbrev pub Came : List Opening → S → S → List Opening → List Conversation → Type 0
   Came all before mid left came = (rounds : List (List Opened)) × Chain (IsRound rules clock asked) (stage before all) rounds (stage mid left)

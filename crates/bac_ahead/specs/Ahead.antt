@@ -2,7 +2,6 @@
 use Rattle.std.specs.Prelude.{◌≡◌, ◌≢◌, ◌⊎◌, ◌≤◌, ℕ, Bool, true, false, List, [], Option, None, Some, Result, Ok, Err}
 use Rattle.std.specs.Prelude.{is_err}
 use Rattle.std.specs.List.{list_any}
-use Rattle.std.specs.String.{string_bytes}
 use Rattle.bac_wire.specs.Primitive.{Id}
 use Rattle.bac_link.specs.Path.{Path, towards}
 use Rattle.bac_link.specs.declared.link.Lost.{Lost as Loss}
@@ -46,26 +45,26 @@ abbrev pub Begins : {S : Type 0} → (S → List ℕ → Result (List ℕ) Loss 
 Begins asks path retries link opening log begun left =
     BeginsAt asks path retries link opening log opening.stand begun left
 
--- Behind that it goes on with eight batches more at most, unless what came first told that there is no more.
-abbrev pub WalksOn : {S : Type 0} → (S → List ℕ → Result (List ℕ) Loss → S → Type 0) → Path → ℕ → S → WalkPlace →
+-- Behind that it goes on with so many batches more at most, unless what came first told that there is no more.
+abbrev pub WalksOn : {S : Type 0} → (S → List ℕ → Result (List ℕ) Loss → S → Type 0) → Path → ℕ → ℕ → S → WalkPlace →
     Option Why → S → Type 0
-WalksOn asks path retries link walk (Some why) left = left ≡ link
-WalksOn asks path retries link walk None left =
-    (steps : ℕ) × (steps ≤ 8) × (came : List Came) × (items : List Item) × (how : HowEnded) × (after : WalkPlace)
+WalksOn asks path retries batches link walk (Some why) left = left ≡ link
+WalksOn asks path retries batches link walk None left =
+    (steps : ℕ) × (steps ≤ batches) × (came : List Came) × (items : List Item) × (how : HowEnded) × (after : WalkPlace)
     × Brought asks path retries link walk steps came items how after left
 
 -- so it does where the device said where the log begins
-abbrev pub GoesOn : {S : Type 0} → (S → List ℕ → Result (List ℕ) Loss → S → Type 0) → Path → ℕ → S → Result Start End →
-    S → Type 0
-GoesOn asks path retries link (Ok start) left =
-    WalksOn asks path retries link start.hand.walk (why_of start.hand.gathered.step.ended) left
-GoesOn asks path retries link (Err none) left = left ≡ link
+abbrev pub GoesOn : {S : Type 0} → (S → List ℕ → Result (List ℕ) Loss → S → Type 0) → Path → ℕ → ℕ → S →
+    Result Start End → S → Type 0
+GoesOn asks path retries batches link (Ok start) left =
+    WalksOn asks path retries batches link start.hand.walk (why_of start.hand.gathered.step.ended) left
+GoesOn asks path retries batches link (Err none) left = left ≡ link
 
 -- what is asked ahead for a log over a link: where it begins, and what lies behind
 abbrev pub Asks : {S : Type 0} → (S → List ℕ → Result (List ℕ) Loss → S → Type 0) → Path → ℕ → S → Opening → Id → S →
     Type 0
 Asks {S = S} asks path retries link opening log left = (begun : Result Start End) × (mid : S)
-    × Begins asks path retries link opening log begun mid × GoesOn asks path retries mid begun left
+    × Begins asks path retries link opening log begun mid × GoesOn asks path retries opening.batches mid begun left
 
 -- what came to the questions for a log is this
 abbrev pub IsOpened : Opening → List Outcome → Opened → Type 0

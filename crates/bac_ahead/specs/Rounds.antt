@@ -2,7 +2,7 @@
 use Rattle.std.specs.Prelude.{◌≡◌, ◌⊎◌, ◌&&◌, not, ℕ, Bool, List, [], ◌∷◌, ◌++◌, if◌then◌else◌, filter, fold, map}
 use Rattle.std.specs.List.{list_any}
 use Rattle.bac_desks.specs.Chain.{Chain}
-use Rattle.bac_hearing.specs.Hearing.{FailsToHear, HearsAll, StartedClock}
+use Rattle.bac_hearing.specs.Hearing.{FailsToHear, HearsAll, Pace}
 use Rattle.bac_hearing.specs.declared.hearing.NotHeard.TheVariants.{Unfinished}
 use Rattle.bac_jobs.specs.declared.job.Ending.{Ending}
 use Rattle.bac_ports.specs.Sockets.{SocketRules}
@@ -56,17 +56,17 @@ pub record Stage (S : Type 0) : Type 0 where
 
 -- These logs were opened beside one another, over one socket; of the rest those of the devices are left that gave an
 -- answer to each question.
-abbrev pub IsRoundOf : {S P C : Type 0} → SocketRules S P → StartedClock C → Asked → List Opening → List Opening → S →
+abbrev pub IsRoundOf : {S P C : Type 0} → SocketRules S P → Pace C → Asked → List Opening → List Opening → S →
     List Opened → List Opening → S → Type 0
-IsRoundOf rules clock asked firsts rest before ends left after =
+IsRoundOf rules pace asked firsts rest before ends left after =
     (endings : List (Ending Opened)) × (ends ≡ map (λ (e : Ending Opened). e.end) endings)
-    × HearsAll rules clock Plays (peers_of firsts) firsts asked.local asked.timeout asked.retries before endings after
+    × HearsAll rules pace Plays (peers_of firsts) firsts asked.local asked.timeout asked.retries before endings after
     × (left ≡ left_of ends rest)
 
 -- in a round these are the first log of each device
-abbrev pub IsRound : {S P C : Type 0} → SocketRules S P → StartedClock C → Asked → Stage S → List Opened → Stage S →
+abbrev pub IsRound : {S P C : Type 0} → SocketRules S P → Pace C → Asked → Stage S → List Opened → Stage S →
     Type 0
-IsRound rules clock asked old ends new = IsRoundOf rules clock asked (parts_of old.left).firsts (parts_of old.left).rest
+IsRound rules pace asked old ends new = IsRoundOf rules pace asked (parts_of old.left).firsts (parts_of old.left).rest
     old.sockets ends new.left new.sockets
 
 -- ---- all rounds
@@ -77,24 +77,24 @@ conversations_of [] = []
 conversations_of (ends ∷ more) = map (λ (o : Opened). o.conversation) ends ++ conversations_of more
 
 -- a round that has more turns than fit 64 bits opens nothing
-abbrev pub IsUnending : {S P C : Type 0} → SocketRules S P → StartedClock C → Asked → Stage S → S → Type 0
-IsUnending rules clock asked old after =
-    FailsToHear rules clock (peers_of (parts_of old.left).firsts) asked.local asked.timeout asked.retries old.sockets
+abbrev pub IsUnending : {S P C : Type 0} → SocketRules S P → Pace C → Asked → Stage S → S → Type 0
+IsUnending rules pace asked old after =
+    FailsToHear rules pace (peers_of (parts_of old.left).firsts) asked.local asked.timeout asked.retries old.sockets
     after Unfinished
 
 -- Logs were opened in rounds, one after the other, as this is asked; what came is these conversations.
-abbrev pub AsksAhead : {S P C : Type 0} → SocketRules S P → StartedClock C → Asked → List Opening → S →
+abbrev pub AsksAhead : {S P C : Type 0} → SocketRules S P → Pace C → Asked → List Opening → S →
     List Conversation → S → Type 0
-AsksAhead {S = S} rules clock asked all before came after =
+AsksAhead {S = S} rules pace asked all before came after =
     (rounds : List (List Opened)) × (last : Stage S)
-    × Chain (IsRound rules clock asked) (record { sockets = before; left = all }) rounds last
+    × Chain (IsRound rules pace asked) (record { sockets = before; left = all }) rounds last
     × (came ≡ conversations_of rounds)
-    × ((after ≡ last.sockets) ⊎ IsUnending rules clock asked last after)
+    × ((after ≡ last.sockets) ⊎ IsUnending rules pace asked last after)
 
 -- The rounds end before that: memory is wanting, or no socket was opened for one.
-abbrev pub EndsAhead : {S P C : Type 0} → SocketRules S P → StartedClock C → Asked → List Opening → S → S → NotDone →
+abbrev pub EndsAhead : {S P C : Type 0} → SocketRules S P → Pace C → Asked → List Opening → S → S → NotDone →
     Type 0
-EndsAhead {S = S} rules clock asked all before after fault = WantsMemory fault
+EndsAhead {S = S} rules pace asked all before after fault = WantsMemory fault
     ⊎ ((rounds : List (List Opened)) × (last : Stage S)
-    × Chain (IsRound rules clock asked) (record { sockets = before; left = all }) rounds last
+    × Chain (IsRound rules pace asked) (record { sockets = before; left = all }) rounds last
     × IsUnopened rules asked last.sockets after fault)

@@ -3,9 +3,11 @@
 //! another log's question comes to it. What comes is kept, to answer the run when it asks the same.
 #![tactic(auto)]
 
+mod laws;
 mod opening;
 mod rounds;
 mod split;
 
+pub use laws::rounds_ask_each_once;
 pub use opening::{Opened, Opening};
 pub use rounds::ask_ahead;

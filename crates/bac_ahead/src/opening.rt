@@ -22,10 +22,6 @@ use bac_walk::{Count, collect};
 use bac_wire::{Datagram, ObjectId};
 use std::alloc::{AllocError, Global};
 
-/// How many batches are asked for ahead behind what a run begins with: what comes is held in
-/// memory, up to 3 kilobytes for each.
-const BATCHES: u32 = 8;
-
 /// A log, and what it is asked for first by.
 #[derive(Drop)]
 pub struct Opening {
@@ -45,6 +41,9 @@ pub struct Opening {
     pub stand: Option<Stand>,
     /// In how many batches it may be fetched.
     pub steps: u32,
+    /// How many batches are asked for ahead behind what the run begins with. What comes is held in
+    /// memory, up to 3 kilobytes for each.
+    pub batches: u32,
 }
 
 /// What came to the first questions for a log.
@@ -102,16 +101,18 @@ impl Opened {
     }
 }
 
-/// Asks over a link for what lies behind what a run begins with, in so many steps of it at most.
+/// Asks over a link for what lies behind what a run begins with, in so many steps of it and so many
+/// batches at most.
 fn walk_on<L: LogLink>(
     alloc: Global,
     link: &mut L,
     transactions: &mut Transactions,
     start: Start,
     steps: u32,
+    batches: u32,
 )
-    ensures { WalksOn L.asks (towards transactions.old.route) transactions.old.retries link.old
-        start.hand.walk (why_of start.hand.gathered.step.ended) link.new }
+    ensures { WalksOn L.asks (towards transactions.old.route) transactions.old.retries batches
+        link.old start.hand.walk (why_of start.hand.gathered.step.ended) link.new }
 {
     let Hand {
         gathered,
@@ -121,7 +122,7 @@ fn walk_on<L: LogLink>(
     if gathered.step.ended.why().is_some() {
         return;
     }
-    let steps = steps.saturating_sub(took).min(BATCHES);
+    let steps = steps.saturating_sub(took).min(batches);
     let _outcome = collect(alloc, link, transactions, &mut walk, steps);
 }
 
@@ -172,7 +173,7 @@ impl Opening {
     {
         let begun = self.begin(alloc, link, transactions, log)?;
         if let Ok(start) = begun {
-            walk_on(alloc, link, transactions, start, self.steps);
+            walk_on(alloc, link, transactions, start, self.steps, self.batches);
         }
         Ok(())
     }

@@ -2,7 +2,7 @@
 
 ghost use Rattle.std.specs.Prelude.{◌≡◌, ◌++◌, IfErr, IfNone, IfOk, IfSome, OnOk, map};
 ghost use Rattle.std.specs.Prelude.{List};
-ghost use Rattle.bac_hearing.specs.Hearing.{FailsToHear, HearsAll, started};
+ghost use Rattle.bac_hearing.specs.Hearing.{FailsToHear, HearsAll, paced};
 ghost use Rattle.bac_ports.specs.Sockets.{socket_rules};
 ghost use Rattle.bac_questions.specs.Faults.{EndsAsking};
 ghost use Rattle.bac_ahead.specs.Ahead.{Plays};
@@ -36,6 +36,7 @@ fn hear<S: Sockets, C: Clock>(
     sockets: &mut S,
     alloc: Global,
     clock: C,
+    window: u32,
     asked: &Asked,
     firsts: &[Opening],
 ) -> Result<Option<Vec<Ending<Opened>>>, NotDone>
@@ -43,11 +44,11 @@ where
     C: Drop,
     ensures heard { IfOk result (λ ends. IfSome ends (λ all. HearsAll
         (socket_rules S.opens S.closes S.Socket.sends S.Socket.receives
-        S.Socket.receives_within) (started C.reads clock) Plays (peers_of firsts.now) firsts.now
-        asked.now.local asked.now.timeout asked.now.retries sockets.old all.items sockets.new)) }
+        S.Socket.receives_within) (paced C.reads clock window) Plays (peers_of firsts.now)
+        firsts.now asked.now.local asked.now.timeout asked.now.retries sockets.old all.items sockets.new)) }
     ensures unending { IfOk result (λ ends. IfNone ends (FailsToHear
         (socket_rules S.opens S.closes S.Socket.sends S.Socket.receives
-        S.Socket.receives_within) (started C.reads clock) (peers_of firsts.now)
+        S.Socket.receives_within) (paced C.reads clock window) (peers_of firsts.now)
         asked.now.local asked.now.timeout asked.now.retries sockets.old sockets.new
         NotHeard.Unfinished)) }
     ensures fault { IfErr result (EndsAsking (socket_rules S.opens S.closes S.Socket.sends
@@ -60,6 +61,7 @@ where
         sockets,
         alloc,
         clock,
+        window,
         peers.as_slice(),
         firsts,
         asked.local,
@@ -109,6 +111,7 @@ fn open_round<S: Sockets, C: Clock>(
     sockets: &mut S,
     alloc: Global,
     clock: C,
+    window: u32,
     asked: &Asked,
     split: Split,
     came: &mut Vec<Conversation>,
@@ -117,12 +120,12 @@ where
     C: Drop,
     ensures round { IfOk result (λ left. IfSome left (λ more. (ends : List OpenedOf)
         × IsRoundOf (socket_rules S.opens S.closes S.Socket.sends S.Socket.receives
-        S.Socket.receives_within) (started C.reads clock) asked.now split.firsts.items
+        S.Socket.receives_within) (paced C.reads clock window) asked.now split.firsts.items
         split.rest.items sockets.old ends more.items sockets.new
         × (came.new.items ≡ came.old.items ++ map (λ (o : OpenedOf). o.conversation) ends))) }
     ensures unending { IfOk result (λ left. IfNone left (FailsToHear
         (socket_rules S.opens S.closes S.Socket.sends S.Socket.receives
-        S.Socket.receives_within) (started C.reads clock) (peers_of split.firsts.items)
+        S.Socket.receives_within) (paced C.reads clock window) (peers_of split.firsts.items)
         asked.now.local asked.now.timeout asked.now.retries sockets.old sockets.new
         NotHeard.Unfinished
         × (came.new.items ≡ came.old.items))) }
@@ -130,7 +133,7 @@ where
         S.Socket.receives S.Socket.receives_within) asked.now sockets.old sockets.new) }
 {
     let Split { firsts, rest } = split;
-    let Some(endings) = hear(sockets, alloc, clock, asked, firsts.as_slice())? else {
+    let Some(endings) = hear(sockets, alloc, clock, window, asked, firsts.as_slice())? else {
         return Ok(None);
     };
     match close_round(alloc, endings, rest, came) {
@@ -147,6 +150,7 @@ pub fn ask_ahead<S: Sockets, C: Clock + Copy>(
     sockets: &mut S,
     alloc: Global,
     clock: C,
+    window: u32,
     asked: &Asked,
     all: Vec<Opening>,
 ) -> Result<Vec<Conversation>, NotDone>
@@ -154,11 +158,11 @@ where
     C: Drop,
     ensures asked { IfOk result (λ came. AsksAhead
         (socket_rules S.opens S.closes S.Socket.sends S.Socket.receives
-        S.Socket.receives_within) (started C.reads clock) asked.now all.items sockets.old
+        S.Socket.receives_within) (paced C.reads clock window) asked.now all.items sockets.old
         came.items sockets.new) }
     ensures fault { IfErr result (EndsAhead
         (socket_rules S.opens S.closes S.Socket.sends S.Socket.receives
-        S.Socket.receives_within) (started C.reads clock) asked.now all.items sockets.old
+        S.Socket.receives_within) (paced C.reads clock window) asked.now all.items sockets.old
         sockets.new) }
 {
     let mut came = Vec::new(alloc);
@@ -170,7 +174,7 @@ where
         if split.firsts.len() < 2 {
             return Ok(came);
         }
-        match open_round(sockets, alloc, clock, asked, split, &mut came)? {
+        match open_round(sockets, alloc, clock, window, asked, split, &mut came)? {
             Some(more) => left = more,
             None => return Ok(came),
         }

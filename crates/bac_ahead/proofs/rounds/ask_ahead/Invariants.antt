@@ -1,5 +1,4 @@
-use Rattle.std.proofs.Common.{◌≡◌, List}
-use Rattle.bac_hearing.specs.Hearing.{started}
+use Rattle.bac_hearing.specs.Hearing.{paced}
 use Rattle.bac_ports.specs.Sockets.{socket_rules}
 use Rattle.bac_ahead.proofs.Rounded.{Came}
 use Rattle.bac_ahead.proofs.rounds.ask_ahead.Given as goal
@@ -8,4 +7,4 @@ use Rattle.bac_ahead.proofs.rounds.ask_ahead.Given as goal
 abbrev pub invariant-loop-round : goal.invariant-loop-round
 invariant-loop-round g l =
     Came (socket_rules g.S.Sockets.opens g.S.Sockets.closes g.S.Socket.Port.sends g.S.Socket.Port.receives g.S.Socket.Port.receives_within)
-    (started g.C.Clock.reads l.clock) l.asked l.fn.all.items l.fn.sockets l.sockets l.left.items l.came.items
+    (paced g.C.Clock.reads l.clock l.window) l.asked l.fn.all.items l.fn.sockets l.sockets l.left.items l.came.items

@@ -1,7 +1,5 @@
-use Rattle.std.proofs.Common.{◌≡◌, ◌∙◌, ℕ, ◌≤◌, Option, inl, inr, refl, rules, arith}
+use Rattle.std.proofs.Common.{◌≡◌, ◌∙◌, ◌≤◌, inl, inr, refl, arith}
 use Rattle.std.proofs.lemmas.Result.{IfOk-weaker}
-use Rattle.bac_apdu.specs.Npdu.{Place}
-use Rattle.bac_wire.specs.Primitive.{Id}
 use Rattle.bac_ahead.specs.Ahead.{trend_log}
 use Rattle.bac_ahead.proofs.Asked.{asks_as}
 use Rattle.bac_ahead.proofs.opening.OpeningJob.play.Goals as goal

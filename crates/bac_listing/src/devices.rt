@@ -1,0 +1,205 @@
+//! Devices are asked for their Object_Lists beside one another.
+
+ghost use Rattle.std.specs.Prelude.{◌≡◌, IfErr, IfNone, IfOk, IfSome, OnOk, length, map};
+ghost use Rattle.std.specs.List.{list_any};
+ghost use Rattle.bac_asked.specs.Faults.{WantsMemory};
+ghost use Rattle.bac_hearing.specs.Hearing.{paced};
+ghost use Rattle.bac_ports.specs.Sockets.{socket_rules};
+ghost use Rattle.bac_questions.specs.Faults.{EndsAsking};
+ghost use Rattle.bac_questions.specs.Silent.{is_same_device};
+ghost use Rattle.bac_listing.specs.Devices.{AreHeard, EndsLists, ListsAhead, ListsAll, Unending};
+ghost use Rattle.bac_listing.specs.Devices.{questions_of, with_device};
+ghost use Rattle.bac_listing.specs.Listing.{listing_of};
+
+use crate::listing::Listing;
+use bac_asked::{Fault, NotDone, Wanted};
+use bac_desks::Clock;
+use bac_hearing::{NotHeard, hear_all};
+use bac_jobs::Ending;
+use bac_ports::Sockets;
+use bac_questions::is_same_device;
+use bac_recall::Conversation;
+use bac_words::Asked;
+use std::alloc::{AllocError, Global};
+
+/// Whether a device is one of these.
+fn is_among(devices: &[&Wanted], one: &Wanted) -> bool
+    ensures { result ≡ list_any (λ d. is_same_device d.now.source one.now.source) devices.now }
+{
+    for device in devices {
+        if is_same_device(&device.source, &one.source) {
+            return true;
+        }
+    }
+    false
+}
+
+/// Puts a device behind others, unless it is one of them.
+pub fn add_device<'a>(devices: &mut Vec<&'a Wanted>, one: &'a Wanted) -> Result<(), NotDone>
+    ensures added { OnOk result (map (λ d. d.now) devices.new.items
+        ≡ with_device (map (λ d. d.now) devices.old.items) one.now) }
+    ensures fault { IfErr result WantsMemory }
+{
+    if is_among(devices.as_slice(), one) {
+        return Ok(());
+    }
+    match devices.push(one) {
+        Ok(()) => Ok(()),
+        Err(_) => Err(NotDone::Asking(Fault::Memory)),
+    }
+}
+
+/// The addresses of these devices.
+fn peers_of(alloc: Global, devices: &[&Wanted]) -> Result<Vec<[u8; 6]>, AllocError>
+    ensures { IfOk result
+        (λ peers. peers.items ≡ map (λ one. one.now.asking.asked.address) devices.now) }
+{
+    let mut peers = Vec::new(alloc);
+    for one in devices {
+        peers.push(one.asking.asked.address)?;
+    }
+    Ok(peers)
+}
+
+/// How many questions each of so many devices is asked. What comes of 16,384 is held in memory, 48
+/// megabytes at most. What came of a device is played over for each of its questions, so that the
+/// work grows with their square: so 256. Few devices have as many objects; of one that does the
+/// rest is asked in its turn.
+fn questions_of(devices: usize) -> usize
+    ensures { result ≡ questions_of devices }
+{
+    (16_384 / devices.max(1)).min(256)
+}
+
+/// What each of them is asked, so many questions at most.
+fn jobs_by(alloc: Global, devices: &[&Wanted], most: usize) -> Result<Vec<Listing>, AllocError>
+    ensures { IfOk result (λ jobs. jobs.items ≡ map (λ one. listing_of most one.now) devices.now) }
+{
+    let mut jobs = Vec::new(alloc);
+    for one in devices {
+        jobs.push(Listing::of(one, most)?)?;
+    }
+    Ok(jobs)
+}
+
+/// What they are asked.
+fn jobs_of(alloc: Global, devices: &[&Wanted]) -> Result<Vec<Listing>, AllocError>
+    ensures { IfOk result (λ jobs. jobs.items
+        ≡ map (λ one. listing_of (questions_of (length devices.now)) one.now) devices.now) }
+{
+    jobs_by(alloc, devices, questions_of(devices.len()))
+}
+
+/// What came, without whether something came in its place.
+fn ends_of(
+    alloc: Global,
+    endings: Vec<Ending<Conversation>>,
+) -> Result<Vec<Conversation>, AllocError>
+    ensures { IfOk result (λ ends. ends.items ≡ map (λ e. e.end) endings.items) }
+{
+    let mut ends = Vec::new(alloc);
+    for ending in endings {
+        ends.push(ending.end)?;
+    }
+    Ok(ends)
+}
+
+/// Asks these devices beside one another, with the waits and retries of this one: how that ended
+/// for each; nothing if it didn't.
+fn hear<S: Sockets, C: Clock>(
+    sockets: &mut S,
+    alloc: Global,
+    clock: C,
+    window: u32,
+    asked: &Asked,
+    devices: &[&Wanted],
+) -> Result<Option<Vec<Ending<Conversation>>>, NotDone>
+where
+    C: Drop,
+    ensures heard { IfOk result (λ ends. IfSome ends (λ all. AreHeard
+        (socket_rules S.opens S.closes S.Socket.sends S.Socket.receives
+        S.Socket.receives_within) (paced C.reads clock window) asked.now
+        (map (λ one. one.now) devices.now) sockets.old all.items sockets.new)) }
+    ensures unending { IfOk result (λ ends. IfNone ends (Unending
+        (socket_rules S.opens S.closes S.Socket.sends S.Socket.receives
+        S.Socket.receives_within) (paced C.reads clock window) asked.now
+        (map (λ one. one.now) devices.now) sockets.old sockets.new)) }
+    ensures fault { IfErr result (EndsAsking (socket_rules S.opens S.closes S.Socket.sends
+        S.Socket.receives S.Socket.receives_within) asked.now sockets.old sockets.new) }
+{
+    let (Ok(peers), Ok(jobs)) = (peers_of(alloc, devices), jobs_of(alloc, devices)) else {
+        return Err(NotDone::Asking(Fault::Memory));
+    };
+    match hear_all(
+        sockets,
+        alloc,
+        clock,
+        window,
+        peers.as_slice(),
+        jobs.as_slice(),
+        asked.local,
+        asked.timeout,
+        asked.retries,
+    ) {
+        Ok(ends) => Ok(Some(ends)),
+        Err(NotHeard::Unfinished) => Ok(None),
+        Err(NotHeard::Memory) => Err(NotDone::Asking(Fault::Memory)),
+        Err(NotHeard::Unopened(why)) => Err(NotDone::Asking(Fault::Unopened(why))),
+    }
+}
+
+/// The same: what came to the questions for each; nothing if that didn't end.
+fn list_as<S: Sockets, C: Clock>(
+    sockets: &mut S,
+    alloc: Global,
+    clock: C,
+    window: u32,
+    asked: &Asked,
+    devices: &[&Wanted],
+) -> Result<Vec<Conversation>, NotDone>
+where
+    C: Drop,
+    ensures lists { IfOk result (λ came. ListsAll
+        (socket_rules S.opens S.closes S.Socket.sends S.Socket.receives
+        S.Socket.receives_within) (paced C.reads clock window) asked.now
+        (map (λ one. one.now) devices.now) sockets.old came.items sockets.new) }
+    ensures fault { IfErr result (EndsAsking (socket_rules S.opens S.closes S.Socket.sends
+        S.Socket.receives S.Socket.receives_within) asked.now sockets.old sockets.new) }
+{
+    let Some(endings) = hear(sockets, alloc, clock, window, asked, devices)? else {
+        return Ok(Vec::new(alloc));
+    };
+    match ends_of(alloc, endings) {
+        Ok(came) => Ok(came),
+        Err(_) => Err(NotDone::Asking(Fault::Memory)),
+    }
+}
+
+/// Asks these devices beside one another for their trend logs, as [`discover`] asks each, if they
+/// are two or more: what came to the questions for each, in their order, and of nothing else. The
+/// questions are waited for and repeated as the run asks the first of them. A device is asked at
+/// most 256 questions, and all of them 16,384.
+///
+/// [`discover`]: bac_questions::discover
+pub fn list_ahead<S: Sockets, C: Clock>(
+    sockets: &mut S,
+    alloc: Global,
+    clock: C,
+    window: u32,
+    devices: &[&Wanted],
+) -> Result<Vec<Conversation>, NotDone>
+where
+    C: Drop,
+    ensures lists { IfOk result (λ came. ListsAhead
+        (socket_rules S.opens S.closes S.Socket.sends S.Socket.receives
+        S.Socket.receives_within) (paced C.reads clock window) (map (λ one. one.now) devices.now)
+        sockets.old came.items sockets.new) }
+    ensures fault { IfErr result (EndsLists (socket_rules S.opens S.closes S.Socket.sends
+        S.Socket.receives S.Socket.receives_within) (map (λ one. one.now) devices.now)
+        sockets.old sockets.new) }
+{
+    let [first, _, ..] = devices else {
+        return Ok(Vec::new(alloc));
+    };
+    list_as(sockets, alloc, clock, window, &first.asking.asked, devices)
+}
