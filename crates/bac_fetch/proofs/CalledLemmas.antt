@@ -1,7 +1,7 @@
 -- A run over logs, behind a call of its devices.
-use Rattle.std.proofs.Common.{inr, List}
+use Rattle.std.proofs.Common.{inr, Bool, List}
 use Rattle.sqlite.specs.Effect.{Database}
-use Rattle.bac_absent.specs.Each.{HearsEach}
+use Rattle.bac_absent.specs.Each.{HearsEach, SaysMany}
 use Rattle.bac_archive.specs.Logs.{AreLogs}
 use Rattle.bac_archive.specs.declared.trend_logs.Log.{Log}
 use Rattle.bac_asked.specs.AsLog.{Given}
@@ -17,16 +17,16 @@ use Rattle.bac_questions.specs.declared.whose.Heard.{Heard}
 
 module _ {S P C : Type 0} (rules : SocketRules S P) (by : AtOnce S C) where
   -- they are kept
-  pub logs_kept : (all : List Wanted) (before half called held after : S) (old mid new : Database) (known now : List Log) (heard found last : List Heard) (ends : List End)
-      → AreLogs old.trees known → Settles rules known all before heard half old mid → HearsEach rules by.clock all heard half found called → AreLogs mid.trees now
-      → OpensAhead rules by mid.trees now found all called held
+  pub logs_kept : (all : List Wanted) (before half told held after : S) (old mid new : Database) (known now : List Log) (heard found last : List Heard) (called : Bool) (ends : List End)
+      → AreLogs old.trees known → Settles rules known all before heard half old mid → HearsEach rules by.pace all heard half found told → AreLogs mid.trees now
+      → SaysMany all heard called → OpensAhead rules by mid.trees now found all called told held
       → KeepsAll rules now found last all held after mid new ends → KeepsLogs rules by all before after old new ends
-  logs_kept all before half called held after old mid new known now heard found last ends are settles finds are_now opens kept =
-      (known, are, heard, half, mid, settles, found, called, finds, now, are_now, held, opens, last, kept)
+  logs_kept all before half told held after old mid new known now heard found last called ends are settles finds are_now says opens kept =
+      (known, are, heard, half, mid, settles, found, told, finds, now, are_now, called, says, held, opens, last, kept)
 
   -- it ends at one of them
-  pub logs_end : (given : Given) (all : List Wanted) (before half called after : S) (old mid : Database) (known : List Log) (heard found : List Heard) (fault : NotDone)
-      → AreLogs old.trees known → Settles rules known all before heard half old mid → HearsEach rules by.clock all heard half found called
-      → EndsSettled rules by found all called after mid fault → EndsLogs rules by given all before after old fault
-  logs_end given all before half called after old mid known heard found fault are settles finds it =
-      inr (known, are, heard, half, mid, settles, inr (found, called, finds, it))
+  pub logs_end : (given : Given) (all : List Wanted) (before half told after : S) (old mid : Database) (known : List Log) (heard found : List Heard) (called : Bool) (fault : NotDone)
+      → AreLogs old.trees known → Settles rules known all before heard half old mid → HearsEach rules by.pace all heard half found told
+      → SaysMany all heard called → EndsSettled rules by found all called told after mid fault → EndsLogs rules by given all before after old fault
+  logs_end given all before half told after old mid known heard found called fault are settles finds says it =
+      inr (known, are, heard, half, mid, settles, inr (found, told, finds, called, says, it))

@@ -13,6 +13,7 @@ use Rattle.bac_asked.specs.declared.end.NotDone.TheVariants.{File}
 use Rattle.bac_asked.specs.declared.fault.FileFault.{FileFault}
 use Rattle.bac_asked.specs.declared.wanted.Wanted.{Wanted}
 use Rattle.bac_ports.specs.Sockets.{SocketRules}
+use Rattle.bac_fetch.specs.Ahead.{AtOnce}
 use Rattle.bac_fetch.specs.Causes.{EndsFirst, EndsSettling, FailsToEnter}
 use Rattle.bac_asked.specs.Faults.{FailsOnRows}
 use Rattle.bac_fetch.specs.Faults.{EndsChosen}
@@ -38,13 +39,13 @@ pub never : {T E : Type 0} (r : Result T E) (e : E) (P : E → Type 0) → IfErr
 never r e P it f is = f (subst (λ x. IfErr x P) is it)
 
 -- the logs that were chosen aren't found, for these reasons or for others
-pub chosen_so : {S P : Type 0} (rules : SocketRules S P) (which : Chosen) (N M A B : Type 0) (before after : S) (fault : NotDone)
-    → (N → M) → (A → B) → EndsChosen rules which N A before after fault → EndsChosen rules which M B before after fault
-chosen_so rules Kept N M A B before after fault f h (inl it, same) = (inl it, same)
-chosen_so rules Kept N M A B before after fault f h (inr (inl it), same) = (inr (inl it), same)
-chosen_so rules Kept N M A B before after fault f h (inr (inr (inl it)), same) = (inr (inr (inl (it.0, f it.1))), same)
-chosen_so rules Kept N M A B before after fault f h (inr (inr (inr it)), same) = (inr (inr (inr (it.0, h it.1))), same)
-chosen_so rules (Sought sought) N M A B before after fault f h it = it
+pub chosen_so : {S P C : Type 0} (rules : SocketRules S P) (by : AtOnce S C) (which : Chosen) (N M A B : Type 0) (before after : S) (fault : NotDone)
+    → (N → M) → (A → B) → EndsChosen rules by which N A before after fault → EndsChosen rules by which M B before after fault
+chosen_so rules by Kept N M A B before after fault f h (inl it, same) = (inl it, same)
+chosen_so rules by Kept N M A B before after fault f h (inr (inl it), same) = (inr (inl it), same)
+chosen_so rules by Kept N M A B before after fault f h (inr (inr (inl it)), same) = (inr (inr (inl (it.0, f it.1))), same)
+chosen_so rules by Kept N M A B before after fault f h (inr (inr (inr it)), same) = (inr (inr (inr (it.0, h it.1))), same)
+chosen_so rules by (Sought sought) N M A B before after fault f h it = it
 
 -- the first of some logs
 pub settling_of_first : {S P : Type 0} (rules : SocketRules S P) (given : Given) (known : List Log) (all : List Wanted) (first : Wanted) (before after : S) (fault : NotDone)

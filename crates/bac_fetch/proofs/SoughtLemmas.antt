@@ -1,11 +1,11 @@
 -- Logs of one device after the other.
-use Rattle.std.proofs.Common.{◌≡◌, ◌∙◌, inl, inr, ℕ, max, List, [], ◌∷◌, ◌++◌, Result, Ok, Err, ap, append_assoc, arith, not, refl, subst, sym}
+use Rattle.std.proofs.Common.{◌≡◌, ◌∙◌, inl, inr, max, List, [], ◌∷◌, ◌++◌, Ok, Err, ap, append_assoc, arith, not, refl, subst, sym}
 use Rattle.std.proofs.lemmas.List.Elements.{All-append, All-filter, All-same}
 use Rattle.std.specs.List.{All}
 use Rattle.bac_asked.specs.Wanted.{AsksItsSource}
 use Rattle.bac_asked.specs.declared.end.NotDone.{NotDone}
 use Rattle.bac_asked.specs.declared.end.NotDone.TheVariants.{Asking}
-use Rattle.bac_asked.specs.declared.fault.Fault.TheVariants.{Exchange, Memory, Unopened}
+use Rattle.bac_asked.specs.declared.fault.Fault.TheVariants.{Memory, Unopened}
 use Rattle.bac_asked.specs.declared.log_words.Asking.{Asking as AskedFor}
 use Rattle.bac_asked.specs.declared.wanted.Wanted.{Wanted}
 use Rattle.bac_fetch.specs.Chosen.{AddSought, AreOfDevice, is_wanted, new_of, told_by, unlisted_by, untold_in, with_new}

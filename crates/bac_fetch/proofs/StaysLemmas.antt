@@ -1,5 +1,5 @@
 -- A run takes nothing away.
-use Rattle.std.proofs.Common.{◌≡◌, ◌-◌, inl, inr, ℕ, pos, true, MatchBool, List, [], ◌∷◌, Option, None, Some, Result, Ok, Err, ap, refl, subst, sym, ◌∙◌, arith}
+use Rattle.std.proofs.Common.{◌≡◌, inl, inr, ℕ, pos, true, MatchBool, List, [], ◌∷◌, Option, None, Some, Result, Ok, Err, refl, subst, sym, ◌∙◌, arith}
 use Rattle.std.specs.List.{Contains}
 use Rattle.std.proofs.lemmas.List.Elements.{Contains-append_left}
 use Rattle.std.proofs.lemmas.List.Sorted.{Contains-permutation}
@@ -9,7 +9,7 @@ use Rattle.sqlite_trees.specs.Tree.{Trees, rowid}
 use Rattle.sqlite.specs.Effect.{Database}
 use Rattle.sqlite.specs.State.{State, HasCleanDisk, IsUnchanged, Survives}
 use Rattle.sqlite.proofs.StateLemmas.{survives_then}
-use Rattle.bac_archive.specs.Rows.{kept, known}
+use Rattle.bac_archive.specs.Rows.{known}
 use Rattle.bac_archive.specs.declared.epochs.Beginning.{Beginning}
 use Rattle.bac_link.specs.Path.{Path}
 use Rattle.bac_link.specs.declared.link.Lost.{Lost as Loss}

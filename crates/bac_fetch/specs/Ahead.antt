@@ -1,6 +1,6 @@
 -- What a run over logs asks first is asked ahead, of many devices at once. Read `OpensAhead`.
-use Rattle.std.specs.Prelude.{◌≡◌, ◌⊎◌, ℕ, true, List, Option, None, Some}
-use Rattle.std.specs.List.{All, Contains}
+use Rattle.std.specs.Prelude.{◌≡◌, ◌≢◌, ◌⊎◌, ℕ, ◌/◌, max, min, Bool, true, false, List, [], ◌∷◌, ◌++◌, Option, None}
+use Rattle.std.specs.Prelude.{Some, length, option_to_list}
 use Rattle.sqlite_trees.specs.Tree.{Trees}
 use Rattle.bac_ahead.specs.Rounds.{AsksAhead, EndsAhead}
 use Rattle.bac_ahead.specs.declared.opening.Opening.{Opening}
@@ -13,22 +13,23 @@ use Rattle.bac_begin.specs.Stands.{IsStand}
 use Rattle.bac_begin.specs.declared.stands.Stand.{Stand}
 use Rattle.bac_keep.specs.declared.courses.Word.{Word}
 use Rattle.bac_keep.specs.declared.courses.Word.TheVariants.{Untold}
-use Rattle.bac_hearing.specs.Hearing.{StartedClock, started}
+use Rattle.bac_hearing.specs.Hearing.{Pace, paced}
 use Rattle.bac_ports.specs.Sockets.{SocketRules}
 use Rattle.bac_questions.specs.Silent.{IsAmong, is_same_log}
-use Rattle.bac_questions.specs.Whose.{HeardAs, IsOnRecord, hindrance}
+use Rattle.bac_questions.specs.Whose.{HeardAs, IsOnRecord, hindrance, is_heard}
 use Rattle.bac_questions.specs.declared.whose.Heard.{Heard}
 use Rattle.bac_recall.specs.declared.conversations.Conversation.{Conversation}
 use Rattle.bac_fetch.specs.Entries.{word_of}
 
--- what devices are asked at once by: a clock, and what it is for sockets to hold what came
+-- what devices are asked at once by: a clock with how many questions may be open, and what it is for sockets to hold
+-- what came
 pub record AtOnce (S C : Type 0) : Type 1 where
   pub holds : S → List Conversation → S → Type 0
-  pub clock : StartedClock C
+  pub pace : Pace C
 
--- the one that is this
-abbrev pub at_once : {S C : Type 0} → (S → List Conversation → S → Type 0) → (C → ℕ → C → Type 0) → C → AtOnce S C
-at_once holds reads start = record { holds = holds; clock = started reads start }
+-- by this clock, and so many at once
+abbrev pub at_once : {S C : Type 0} → (S → List Conversation → S → Type 0) → (C → ℕ → C → Type 0) → C → ℕ → AtOnce S C
+at_once holds reads start window = record { holds = holds; pace = paced reads start window }
 
 -- a log that is on record so stands there; of one without a row nothing is on record
 abbrev pub StandsIf : Trees → Option Log → Option Stand → Type 0
@@ -45,43 +46,69 @@ abbrev pub word_beside : Option Log → Told → Word
 word_beside None told = Untold
 word_beside (Some log) told = word_of log.told told
 
--- a log that is on record so is opened as it is asked for, and by where it stands
-pub record IsOpenedBy (trees : Trees) (log : Option Log) (told : Told) (wanted : Wanted) (opening : Opening) :
-    Type 0 where
+-- how many replies for each of so many logs are asked for ahead behind what its run begins with: 16,384 of all, and 32
+-- at most
+abbrev pub batches_of : ℕ → ℕ
+batches_of logs = min (16384 / max logs 1) 32
+
+-- a log that is on record so is opened as it is asked for, by where it stands, and with so many batches behind that
+pub record IsOpenedBy (trees : Trees) (log : Option Log) (told : Told) (many : ℕ) (wanted : Wanted)
+    (opening : Opening) : Type 0 where
   pub source : is_same_log opening.source wanted.source ≡ true
   pub peer : opening.peer ≡ wanted.asking.asked.address
   pub route : opening.route ≡ wanted.asking.asked.route
-  pub many : opening.many ≡ wanted.asking.count
+  pub count : opening.many ≡ wanted.asking.count
   pub steps : opening.steps ≡ wanted.asking.steps
+  pub batches : opening.batches ≡ many
   pub id : opening.id ≡ id_of log
   pub word : opening.word ≡ word_beside log told
   pub stands : StandsIf trees log opening.stand
 
 -- so it is of one that the run fetches, by what its device was heard to say
-abbrev pub IsOpeningOf : Trees → List Log → List Heard → Wanted → Opening → Type 0
-IsOpeningOf trees known heard wanted opening =
+abbrev pub IsOpeningOf : Trees → List Log → List Heard → ℕ → Wanted → Opening → Type 0
+IsOpeningOf trees known heard batches wanted opening =
     (one : Heard) × HeardAs heard wanted.source one
     × (on_record : Option ℕ) × IsOnRecord known wanted.source on_record
     × (hindrance known heard wanted.source on_record one.said.identity ≡ None)
-    × (log : Option Log) × IsAmong known wanted.source log × IsOpenedBy trees log one.said.told wanted opening
+    × (log : Option Log) × IsAmong known wanted.source log
+    × IsOpenedBy trees log one.said.told batches wanted opening
 
--- each is of one of these logs
-abbrev pub AreOpenings : Trees → List Log → List Heard → List Wanted → List Opening → Type 0
-AreOpenings trees known heard all openings =
-    All (λ opening. (wanted : Wanted) × Contains all wanted × IsOpeningOf trees known heard wanted opening) openings
+-- a log isn't opened: its device wasn't heard of, or something is against it
+abbrev pub IsLeftOut : List Log → List Heard → Wanted → Type 0
+IsLeftOut known heard wanted = (is_heard heard wanted.source ≡ false)
+    ⊎ ((one : Heard) × HeardAs heard wanted.source one
+    × (on_record : Option ℕ) × IsOnRecord known wanted.source on_record
+    × (hindrance known heard wanted.source on_record one.said.identity ≢ None))
 
--- Nothing is asked ahead; or logs that the run fetches were opened in rounds, as one of them is asked for, and the
--- sockets hold what came.
+-- it is opened, or isn't
+abbrev pub IsOpeningIf : Trees → List Log → List Heard → ℕ → Wanted → Option Opening → Type 0
+IsOpeningIf trees known heard batches wanted None = IsLeftOut known heard wanted
+IsOpeningIf trees known heard batches wanted (Some opening) = IsOpeningOf trees known heard batches wanted opening
+
+-- each of these logs in their order, if it isn't left out
+abbrev pub AreOpenings : Trees → List Log → List Heard → ℕ → List Wanted → List Opening → Type 0
+AreOpenings trees known heard batches [] openings = openings ≡ []
+AreOpenings trees known heard batches (wanted ∷ more) openings =
+    (one : Option Opening) × IsOpeningIf trees known heard batches wanted one
+    × (rest : List Opening) × AreOpenings trees known heard batches more rest
+    × (openings ≡ option_to_list one ++ rest)
+
+-- Where many devices were called, each log that isn't left out was opened, in rounds, as the first one is asked for,
+-- and the sockets hold what came, and nothing else. Else nothing is asked ahead.
 abbrev pub OpensAhead : {S P C : Type 0} → SocketRules S P → AtOnce S C → Trees → List Log → List Heard → List Wanted →
-    S → S → Type 0
-OpensAhead {S = S} rules by trees known heard all before after = (after ≡ before)
-    ⊎ ((first : Wanted) × Contains all first × (openings : List Opening) × AreOpenings trees known heard all openings
+    (called : Bool) → S → S → Type 0
+OpensAhead {S = S} rules by trees known heard (first ∷ more) true before after =
+    (openings : List Opening)
+    × AreOpenings trees known heard (batches_of (length (first ∷ more))) (first ∷ more) openings
     × (came : List Conversation) × (mid : S)
-    × AsksAhead rules by.clock first.asking.asked openings before came mid × by.holds mid came after)
+    × AsksAhead rules by.pace first.asking.asked openings before came mid × by.holds mid came after
+OpensAhead rules by trees known heard all called before after = after ≡ before
 
 -- That ends the run: the rows aren't read, memory is wanting, or no socket was opened for a round.
 abbrev pub EndsOpening : {S P C : Type 0} → SocketRules S P → AtOnce S C → Trees → List Log → List Heard →
-    List Wanted → S → S → NotDone → Type 0
-EndsOpening rules by trees known heard all before after fault = FailsOnRows fault
-    ⊎ ((first : Wanted) × Contains all first × (openings : List Opening) × AreOpenings trees known heard all openings
-    × EndsAhead rules by.clock first.asking.asked openings before after fault)
+    List Wanted → (called : Bool) → S → S → NotDone → Type 0
+EndsOpening rules by trees known heard (first ∷ more) true before after fault = FailsOnRows fault
+    ⊎ ((openings : List Opening)
+    × AreOpenings trees known heard (batches_of (length (first ∷ more))) (first ∷ more) openings
+    × EndsAhead rules by.pace first.asking.asked openings before after fault)
+EndsOpening rules by trees known heard all called before after fault = ⊥

@@ -1,6 +1,6 @@
 -- Why a run over logs of an archive on a clean disk ends before each of them was told, from what its caller has on.
 -- Read `EndsLogs`.
-use Rattle.std.specs.Prelude.{◌≡◌, ◌⊎◌, ℕ, List, [], ◌∷◌, ◌++◌, Option, None, Some, true}
+use Rattle.std.specs.Prelude.{◌≡◌, ◌⊎◌, ℕ, List, [], ◌∷◌, ◌++◌, Option, None, Some, true, Bool}
 use Rattle.sqlite.specs.Effect.{Database}
 use Rattle.sqlite_trees.specs.Tree.{Trees}
 use Rattle.bac_archive.specs.Causes.{HasNoFreshId}
@@ -29,7 +29,7 @@ use Rattle.bac_fetch.specs.declared.unlisted.Unlisted.{Unlisted}
 use Rattle.bac_questions.specs.declared.said.Identity.TheVariants.{Told}
 use Rattle.bac_questions.specs.declared.said.Said.{Said}
 use Rattle.bac_questions.specs.declared.whose.Heard.{Heard}
-use Rattle.bac_absent.specs.Each.{EndsCalling, HearsEach}
+use Rattle.bac_absent.specs.Each.{EndsCalling, HearsEach, SaysMany}
 use Rattle.bac_fetch.specs.Ahead.{AtOnce, EndsOpening, OpensAhead}
 use Rattle.bac_ports.specs.Sockets.{SocketRules}
 use Rattle.bac_words.specs.declared.job.Asked.{Asked}
@@ -91,18 +91,19 @@ pub record EndsAll {S P : Type 0} (rules : SocketRules S P) (known : List Log) (
   pub cause : EndsNext rules known now wanted mid.trees half after fault
 
 -- They aren't asked for ahead; or they were, and the run ends at one of them.
-abbrev pub EndsOpened : {S P C : Type 0} → SocketRules S P → AtOnce S C → List Log → List Heard → List Wanted → S → S
-    → Database → NotDone → Type 0
-EndsOpened {S = S} rules by known heard all before after old fault =
-    EndsOpening rules by old.trees known heard all before after fault
-    ⊎ ((held : S) × OpensAhead rules by old.trees known heard all before held
+abbrev pub EndsOpened : {S P C : Type 0} → SocketRules S P → AtOnce S C → List Log → List Heard → List Wanted
+    → (called : Bool) → S → S → Database → NotDone → Type 0
+EndsOpened {S = S} rules by known heard all called before after old fault =
+    EndsOpening rules by old.trees known heard all called before after fault
+    ⊎ ((held : S) × OpensAhead rules by old.trees known heard all called before held
     × EndsAll rules known heard all held after old fault)
 
 -- so it does in an archive that has these logs, or they aren't told
-abbrev pub EndsSettled : {S P C : Type 0} → SocketRules S P → AtOnce S C → List Heard → List Wanted → S → S → Database
-    → NotDone → Type 0
-EndsSettled rules by heard all before after old fault = FailsOnRows fault
-    ⊎ ((known : List Log) × AreLogs old.trees known × EndsOpened rules by known heard all before after old fault)
+abbrev pub EndsSettled : {S P C : Type 0} → SocketRules S P → AtOnce S C → List Heard → List Wanted → (called : Bool)
+    → S → S → Database → NotDone → Type 0
+EndsSettled rules by heard all called before after old fault = FailsOnRows fault
+    ⊎ ((known : List Log) × AreLogs old.trees known
+    × EndsOpened rules by known heard all called before after old fault)
 
 -- ---- before them, whether a device has moved
 
@@ -143,8 +144,8 @@ FailsToSettle rules given all before after old fault = FailsOnRows fault
 abbrev pub EndsCalled : {S P C : Type 0} → SocketRules S P → AtOnce S C → List Heard → List Wanted → S → S
     → Database → NotDone → Type 0
 EndsCalled {S = S} rules by heard all before after old fault = EndsCalling rules all heard before after fault
-    ⊎ ((found : List Heard) × (called : S) × HearsEach rules by.clock all heard before found called
-    × EndsSettled rules by found all called after old fault)
+    ⊎ ((found : List Heard) × (half : S) × HearsEach rules by.pace all heard before found half
+    × (called : Bool) × SaysMany all heard called × EndsSettled rules by found all called half after old fault)
 
 -- A run over logs ends: where the device of the first one stands isn't settled; or it was, and the run ends behind it.
 abbrev pub EndsLogs : {S P C : Type 0} → SocketRules S P → AtOnce S C → Given → List Wanted → S → S → Database
@@ -158,7 +159,7 @@ EndsLogs {S = S} rules by given all before after old fault = FailsToSettle rules
 abbrev pub EndsRunOver : {S P C : Type 0} → SocketRules S P → AtOnce S C → Given → Chosen → S → S → Database
     → NotDone → Type 0
 EndsRunOver {S = S} rules by given chosen before after old fault =
-    EndsChosen rules chosen (HasNone old.trees) (LacksAddress given old.trees) before after fault
+    EndsChosen rules by chosen (HasNone old.trees) (LacksAddress given old.trees) before after fault
     ⊎ ((all : List Wanted) × (unlisted : List Unlisted) × (between : S)
-    × AreFound rules chosen before all unlisted between
+    × AreFound rules by chosen before all unlisted between
     × EndsLogs rules by given all between after old fault)

@@ -11,6 +11,8 @@ use Rattle.bac_asked.specs.declared.end.NotDone.{NotDone}
 use Rattle.bac_asked.specs.declared.end.NotDone.TheVariants.{Asking}
 use Rattle.bac_asked.specs.declared.fault.Fault.TheVariants.{Exchange}
 use Rattle.bac_asked.specs.declared.wanted.Wanted.{Wanted}
+use Rattle.bac_fetch.specs.Ahead.{AtOnce}
+use Rattle.bac_fetch.specs.Listed.{HoldsLists}
 use Rattle.bac_fetch.specs.Unlisted.{unlisted_lines, unlisted_status}
 use Rattle.bac_fetch.specs.declared.keeping.Chosen.{Chosen}
 use Rattle.bac_fetch.specs.declared.keeping.Chosen.TheVariants as chosen
@@ -95,17 +97,27 @@ AddSought {S = S} rules (one ∷ more) before untold sockets all unlisted after 
     after
 
 -- which logs are fetched, and what was asked for that: of a file at least one, for which no socket is opened; or those
--- of devices, some of which may not have told theirs
-abbrev pub AreFound : {S P : Type 0} → SocketRules S P → Chosen → S → List Wanted → List Unlisted → S → Type 0
-AreFound rules chosen.Kept before all unlisted after = (all ≢ []) × (unlisted ≡ []) × (after ≡ before)
-AreFound rules (chosen.Sought sought) before all unlisted after =
-    AddSought rules sought.items [] [] before all unlisted after
-
--- The same, and each device that didn't tell its logs has its line, and their greatest status is known.
-abbrev pub Finds : {S P : Type 0} → SocketRules S P → Chosen → S → Option (List ℕ) → Found → S → Option (List ℕ)
+-- of devices, some of which may not have told theirs, one after the other from where their lists were asked for ahead
+abbrev pub AreFound : {S P C : Type 0} → SocketRules S P → AtOnce S C → Chosen → S → List Wanted → List Unlisted → S
     → Type 0
-Finds rules chosen before out found after out_after =
-    (unlisted : List Unlisted) × AreFound rules chosen before found.all.items unlisted after
+AreFound rules by chosen.Kept before all unlisted after = (all ≢ []) × (unlisted ≡ []) × (after ≡ before)
+AreFound {S = S} rules by (chosen.Sought sought) before all unlisted after =
+    (held : S) × HoldsLists rules by sought.items before held
+    × AddSought rules sought.items [] [] held all unlisted after
+
+-- The logs of these devices were found so; each device that didn't tell its logs has its line, and their greatest
+-- status is known.
+abbrev pub FindsEach : {S P : Type 0} → SocketRules S P → List Sought → S → Option (List ℕ) → Found → S
+    → Option (List ℕ) → Type 0
+FindsEach rules sought before out found after out_after =
+    (unlisted : List Unlisted) × AddSought rules sought [] [] before found.all.items unlisted after
+    × Appends out out_after (unlisted_lines unlisted) × (found.status ≡ unlisted_status unlisted)
+
+-- so it is of those that were chosen
+abbrev pub Finds : {S P C : Type 0} → SocketRules S P → AtOnce S C → Chosen → S → Option (List ℕ) → Found → S
+    → Option (List ℕ) → Type 0
+Finds rules by chosen before out found after out_after =
+    (unlisted : List Unlisted) × AreFound rules by chosen before found.all.items unlisted after
     × Appends out out_after (unlisted_lines unlisted) × (found.status ≡ unlisted_status unlisted)
 
 -- ---- what only private calls cite

@@ -34,7 +34,8 @@ use Rattle.bac_asked.specs.declared.end.Ending.TheVariants.{NotAsked, Walk}
 use Rattle.bac_begin.specs.declared.starting.Start.{Start}
 use Rattle.bac_asked.specs.declared.log_words.Asking.{Asking}
 use Rattle.bac_asked.specs.declared.wanted.Wanted.{Wanted}
-use Rattle.bac_absent.specs.Each.{HearsEach}
+use Rattle.bac_absent.specs.Each.{HearsEach, SaysMany}
+use Rattle.bac_ahead.specs.Ahead.{trend_log}
 use Rattle.bac_ports.specs.Sockets.{SocketRules, UsesSocket, link_over, own_address, socket_asks}
 use Rattle.bac_ports.specs.declared.udp_link.UdpLink.{UdpLink}
 use Rattle.bac_fetch.specs.Ahead.{AtOnce, OpensAhead}
@@ -148,10 +149,6 @@ KeepsLog {P = P} rules asking before after entry object old new end =
     × (end ≡ end_told left.more before_told) × (last ≡ left.link.port))
     after
 
--- the Trend Log object of this instance (clause 12.25)
-abbrev pub trend_log : ℕ → Id
-trend_log instance = record { kind = 20; instance = instance }
-
 -- a row is to be that of a log that is wanted, with what its device told, and not stopped
 abbrev pub IsRowOf : Wanted → Told → Log → Type 0
 IsRowOf wanted told row =
@@ -236,9 +233,10 @@ abbrev pub KeepsLogs : {S P C : Type 0} → SocketRules S P → AtOnce S C → L
 KeepsLogs {S = S} rules by all before after old new ends =
     (known : List Log) × AreLogs old.trees known × (heard : List Heard) × (half : S) × (mid : Database)
     × Settles rules known all before heard half old mid
-    × (found : List Heard) × (called : S) × HearsEach rules by.clock all heard half found called
+    × (found : List Heard) × (told : S) × HearsEach rules by.pace all heard half found told
     × (now : List Log) × AreLogs mid.trees now
-    × (held : S) × OpensAhead rules by mid.trees now found all called held
+    × (called : Bool) × SaysMany all heard called
+    × (held : S) × OpensAhead rules by mid.trees now found all called told held
     × (last : List Heard) × KeepsAll rules now found last all held after mid new ends
 
 -- the lines of logs, in their order

@@ -1,14 +1,15 @@
 //! What a run over logs asks first is asked ahead, of many devices at once.
 
-ghost use Rattle.std.specs.Prelude.{◌≡◌, ◌++◌, IfErr, IfOk, IfSome, OnOk, option_map};
+ghost use Rattle.std.specs.Prelude.{◌≡◌, ◌++◌, IfErr, IfOk, OnOk, length, option_map};
 ghost use Rattle.std.specs.Prelude.{option_to_list};
 ghost use Rattle.sqlite.specs.State.{HasCleanDisk, Survives};
 ghost use Rattle.sqlite.specs.Held.{state};
 ghost use Rattle.bac_archive.specs.Schema.{OverArchive};
 ghost use Rattle.bac_asked.specs.Faults.{EndsLog, FailsOnRows, WantsMemory};
 ghost use Rattle.bac_ports.specs.Sockets.{socket_rules};
-ghost use Rattle.bac_fetch.specs.Ahead.{AreOpenings, EndsOpening, IsOpenedBy, IsOpeningOf};
-ghost use Rattle.bac_fetch.specs.Ahead.{OpensAhead, StandsIf, at_once, id_of, word_beside};
+ghost use Rattle.bac_fetch.specs.Ahead.{AreOpenings, EndsOpening, IsOpenedBy, IsOpeningIf};
+ghost use Rattle.bac_fetch.specs.Ahead.{OpensAhead, StandsIf, at_once, batches_of, id_of};
+ghost use Rattle.bac_fetch.specs.Ahead.{word_beside};
 ghost use Rattle.bac_fetch.specs.Faults.{EndsRun};
 
 use crate::entry::word_of;
@@ -67,17 +68,19 @@ fn id_of(log: Option<&Log>) -> u16
     }
 }
 
-/// What a log is opened by that is on record so, and whose device was heard to say this.
+/// What a log is opened by that is on record so, and whose device was heard to say this; with so
+/// many batches behind what its run begins with.
 fn opened_by<A: Alter>(
     alloc: Global,
     conn: &mut Connection<A>,
     log: Option<&Log>,
     said: &Said,
+    batches: u32,
     wanted: &Wanted,
 ) -> Result<Opening, NotDone>
     ensures opened { OverArchive (state A.Store conn.old) (state A.Store conn.new)
         (IfOk result (IsOpenedBy (state A.Store conn.old).now.trees
-        (option_map (λ it. it.now) log.entry) said.now.told wanted.now)) }
+        (option_map (λ it. it.now) log.entry) said.now.told batches wanted.now)) }
     ensures same { OverArchive (state A.Store conn.old) (state A.Store conn.new)
         (OnOk result ((state A.Store conn.new).now ≡ (state A.Store conn.old).now)) }
     ensures quiet { OverArchive (state A.Store conn.old) (state A.Store conn.new)
@@ -107,21 +110,23 @@ fn opened_by<A: Alter>(
         word: word_beside(log, said),
         stand,
         steps: *steps,
+        batches,
     })
 }
 
-/// What a log is opened by, if its device was heard of and nothing is against it.
+/// What a log is opened by, unless its device wasn't heard of, or something is against it.
 fn opening_of<A: Alter>(
     alloc: Global,
     conn: &mut Connection<A>,
     known: &[Log],
     at: usize,
     heard: &[Heard],
+    batches: u32,
     wanted: &Wanted,
 ) -> Result<Option<Opening>, NotDone>
     ensures opening { OverArchive (state A.Store conn.old) (state A.Store conn.new)
-        (IfOk result (λ opening. IfSome opening (IsOpeningOf
-        (state A.Store conn.old).now.trees known.now heard.now wanted.now))) }
+        (IfOk result (IsOpeningIf (state A.Store conn.old).now.trees known.now heard.now batches
+        wanted.now)) }
     ensures same { OverArchive (state A.Store conn.old) (state A.Store conn.new)
         (OnOk result ((state A.Store conn.new).now ≡ (state A.Store conn.old).now)) }
     ensures quiet { OverArchive (state A.Store conn.old) (state A.Store conn.new)
@@ -140,7 +145,7 @@ fn opening_of<A: Alter>(
         return Ok(None);
     }
     let log = log_among(known, at, &wanted.source);
-    Ok(Some(opened_by(alloc, conn, log, said, wanted)?))
+    Ok(Some(opened_by(alloc, conn, log, said, batches, wanted)?))
 }
 
 /// Puts what a log is opened by behind others, if it is.
@@ -158,7 +163,16 @@ fn add_opening(openings: &mut Vec<Opening>, opening: Option<Opening>) -> Result<
     }
 }
 
-/// What those of these logs are opened by whose devices were heard of, and that nothing is against.
+/// How many replies for each of so many logs are asked for ahead: what comes of 16,384 is held in
+/// memory, 48 megabytes at most. What is asked of one log is played anew for each reply, so 32.
+fn batches_of(logs: usize) -> u32
+    ensures { result ≡ batches_of logs }
+{
+    (16_384 / logs.max(1)).min(32) as u32
+}
+
+/// What those of these logs are opened by, in their order, whose devices were heard of, and that
+/// nothing is against.
 fn openings_of<A: Alter>(
     alloc: Global,
     conn: &mut Connection<A>,
@@ -168,7 +182,7 @@ fn openings_of<A: Alter>(
 ) -> Result<Vec<Opening>, NotDone>
     ensures openings { OverArchive (state A.Store conn.old) (state A.Store conn.new)
         (IfOk result (λ openings. AreOpenings (state A.Store conn.old).now.trees known.now heard.now
-        all.now openings.items)) }
+        (batches_of (length all.now)) all.now openings.items)) }
     ensures same { OverArchive (state A.Store conn.old) (state A.Store conn.new)
         (OnOk result ((state A.Store conn.new).now ≡ (state A.Store conn.old).now)) }
     ensures quiet { OverArchive (state A.Store conn.old) (state A.Store conn.new)
@@ -178,9 +192,10 @@ fn openings_of<A: Alter>(
     ensures caused { OverArchive (state A.Store conn.old) (state A.Store conn.new)
         (IfErr result FailsOnRows) }
 {
+    let batches = batches_of(all.len());
     let mut openings = Vec::new(alloc);
     for at in 0..all.len() {
-        let opening = opening_of(alloc, conn, known, at, heard, &all[at])?;
+        let opening = opening_of(alloc, conn, known, at, heard, batches, &all[at])?;
         add_opening(&mut openings, opening)?;
     }
     Ok(openings)
@@ -193,6 +208,7 @@ pub(crate) fn open_ahead<S: Recalls, C: Clock + Copy, A: Alter>(
     conn: &mut Connection<A>,
     alloc: Global,
     clock: C,
+    window: u32,
     known: &[Log],
     heard: &[Heard],
     all: &[Wanted],
@@ -202,8 +218,9 @@ where
     C: Drop,
     ensures opens { OverArchive (state A.Store conn.old) (state A.Store conn.new)
         (OnOk result (OpensAhead (socket_rules S.opens S.closes S.Socket.sends S.Socket.receives
-        S.Socket.receives_within) (at_once S.holds C.reads clock)
-        (state A.Store conn.old).now.trees known.now heard.now all.now sockets.old sockets.new)) }
+        S.Socket.receives_within) (at_once S.holds C.reads clock window)
+        (state A.Store conn.old).now.trees known.now heard.now all.now called sockets.old
+        sockets.new)) }
     ensures same { OverArchive (state A.Store conn.old) (state A.Store conn.new)
         (OnOk result ((state A.Store conn.new).now ≡ (state A.Store conn.old).now)) }
     ensures quiet { OverArchive (state A.Store conn.old) (state A.Store conn.new)
@@ -213,8 +230,8 @@ where
         S.Socket.receives S.Socket.receives_within) ⊥ ⊥ sockets.new) }
     ensures caused { OverArchive (state A.Store conn.old) (state A.Store conn.new)
         (IfErr result (EndsOpening (socket_rules S.opens S.closes S.Socket.sends S.Socket.receives
-        S.Socket.receives_within) (at_once S.holds C.reads clock)
-        (state A.Store conn.old).now.trees known.now heard.now all.now sockets.old
+        S.Socket.receives_within) (at_once S.holds C.reads clock window)
+        (state A.Store conn.old).now.trees known.now heard.now all.now called sockets.old
         sockets.new)) }
 {
     if !called {
@@ -224,7 +241,7 @@ where
         return Ok(());
     };
     let openings = openings_of(alloc, conn, known, heard, all)?;
-    let came = ask_ahead(sockets, alloc, clock, &first.asking.asked, openings)?;
+    let came = ask_ahead(sockets, alloc, clock, window, &first.asking.asked, openings)?;
     sockets.hold(came);
     Ok(())
 }

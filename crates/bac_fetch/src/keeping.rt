@@ -28,7 +28,7 @@ ghost use Rattle.bac_asked.specs.declared.wanted.Wanted.{Wanted as WantedOf};
 use crate::ahead::open_ahead;
 use crate::moving::settle;
 use crate::single::keep_next;
-use crate::sought::{Found, Sought, sought_logs};
+use crate::sought::{Found, Sought, found_logs};
 use bac_absent::hear_each;
 use bac_archive::{Log, logs};
 use bac_asked::{FileFault, NotDone, Options, Wanted, add_wanted, kept_log};
@@ -178,6 +178,7 @@ fn keep_ahead<S: Recalls, C: Clock + Copy, A: Alter, O: Write, E: Write>(
     conn: &mut Connection<A>,
     alloc: Global,
     clock: C,
+    window: u32,
     known: &[Log],
     heard: Vec<Heard>,
     all: Vec<Wanted>,
@@ -191,8 +192,8 @@ where
     ensures told { IfOk result (AreToldBy (O.contents output.old) (O.contents output.new) all.items
         (λ ends. OverArchive (state A.Store conn.old) (state A.Store conn.new)
         ((held : S) × OpensAhead (socket_rules S.opens S.closes S.Socket.sends
-        S.Socket.receives S.Socket.receives_within) (at_once S.holds C.reads clock)
-        (state A.Store conn.old).now.trees known.now heard.items all.items sockets.old held
+        S.Socket.receives S.Socket.receives_within) (at_once S.holds C.reads clock window)
+        (state A.Store conn.old).now.trees known.now heard.items all.items called sockets.old held
         × (last : List HeardOf) × KeepsAll (socket_rules S.opens S.closes S.Socket.sends
         S.Socket.receives S.Socket.receives_within) known.now heard.items last
         all.items held sockets.new (state A.Store conn.old).now
@@ -206,14 +207,15 @@ where
         sockets.new) }
     ensures caused { OverArchive (state A.Store conn.old) (state A.Store conn.new)
         (IfErr result (EndsOpened (socket_rules S.opens S.closes S.Socket.sends S.Socket.receives
-        S.Socket.receives_within) (at_once S.holds C.reads clock) known.now heard.items all.items
-        sockets.old sockets.new (state A.Store conn.old).now)) }
+        S.Socket.receives_within) (at_once S.holds C.reads clock window) known.now heard.items
+        all.items called sockets.old sockets.new (state A.Store conn.old).now)) }
 {
     open_ahead(
         sockets,
         conn,
         alloc,
         clock,
+        window,
         known,
         heard.as_slice(),
         all.as_slice(),
@@ -230,6 +232,7 @@ fn keep_settled<S: Recalls, C: Clock + Copy, A: Alter, O: Write, E: Write>(
     conn: &mut Connection<A>,
     alloc: Global,
     clock: C,
+    window: u32,
     heard: Vec<Heard>,
     all: Vec<Wanted>,
     called: bool,
@@ -243,8 +246,8 @@ where
         (λ ends. OverArchive (state A.Store conn.old) (state A.Store conn.new)
         ((known : List LogOf) × AreLogs (state A.Store conn.old).now.trees known
         × (held : S) × OpensAhead (socket_rules S.opens S.closes S.Socket.sends
-        S.Socket.receives S.Socket.receives_within) (at_once S.holds C.reads clock)
-        (state A.Store conn.old).now.trees known heard.items all.items sockets.old held
+        S.Socket.receives S.Socket.receives_within) (at_once S.holds C.reads clock window)
+        (state A.Store conn.old).now.trees known heard.items all.items called sockets.old held
         × (last : List HeardOf) × KeepsAll (socket_rules S.opens S.closes S.Socket.sends
         S.Socket.receives S.Socket.receives_within) known heard.items last
         all.items held sockets.new (state A.Store conn.old).now
@@ -258,8 +261,8 @@ where
         sockets.new) }
     ensures caused { OverArchive (state A.Store conn.old) (state A.Store conn.new)
         (IfErr result (EndsSettled (socket_rules S.opens S.closes S.Socket.sends S.Socket.receives
-        S.Socket.receives_within) (at_once S.holds C.reads clock) heard.items all.items sockets.old
-        sockets.new (state A.Store conn.old).now)) }
+        S.Socket.receives_within) (at_once S.holds C.reads clock window) heard.items all.items called
+        sockets.old sockets.new (state A.Store conn.old).now)) }
 {
     let known = logs_of(conn, alloc)?;
     keep_ahead(
@@ -267,6 +270,7 @@ where
         conn,
         alloc,
         clock,
+        window,
         known.as_slice(),
         heard,
         all,
@@ -312,9 +316,9 @@ fn settle_known<S: Sockets, A: Alter, E: Write>(
 
 /// Keeps what is new of each of these logs in an archive; answers the greatest of their statuses.
 /// A device is asked once what it says of itself: all are asked at once before the first log, if
-/// they are two or more, by the clock, which is read for how long each is waited for; and then for
-/// what each log begins with, one log of each device at a time. What comes answers the run over the
-/// log, in its turn, where it asks the same. A device that tells another instance than the one on
+/// they are two or more, so many questions open, by the clock, which is read for how long each is
+/// waited for; and then for what each log begins with, one log of each device at a time. What comes
+/// answers the run over the log, in its turn, where it asks the same. A device that tells another instance than the one on
 /// record isn't asked for its logs, nor is one that gave no answer before. A device that tells at a
 /// new place the instance on record of logs at another one has moved, if nobody tells it there. The
 /// errors have a line for such a device, for a log that began anew, and for one whose walk failed:
@@ -325,6 +329,7 @@ pub fn keep_each<S: Recalls, C: Clock + Copy, A: Alter, O: Write, E: Write>(
     conn: &mut Connection<A>,
     alloc: Global,
     clock: C,
+    window: u32,
     all: Vec<Wanted>,
     options: &Options<'_>,
     counts: bool,
@@ -339,8 +344,8 @@ where
     ensures told { IfOk result (AreToldBy (O.contents output.old) (O.contents output.new) all.items
         (λ ends. OverArchive (state A.Store conn.old) (state A.Store conn.new)
         (KeepsLogs (socket_rules S.opens S.closes S.Socket.sends S.Socket.receives
-        S.Socket.receives_within) (at_once S.holds C.reads clock) all.items sockets.old sockets.new
-        (state A.Store conn.old).now (state A.Store conn.new).now ends))) }
+        S.Socket.receives_within) (at_once S.holds C.reads clock window) all.items sockets.old
+        sockets.new (state A.Store conn.old).now (state A.Store conn.new).now ends))) }
     // Whatever comes of it, no item and no log is lost: what is on the disk then, or is left by a
     // crash at any moment before, is what was there or has all of it.
     ensures stays { OverArchive (state A.Store conn.old) (state A.Store conn.new)
@@ -355,27 +360,31 @@ where
         sockets.new) }
     ensures caused { OverArchive (state A.Store conn.old) (state A.Store conn.new)
         (IfErr result (EndsLogs (socket_rules S.opens S.closes S.Socket.sends S.Socket.receives
-        S.Socket.receives_within) (at_once S.holds C.reads clock) (given_in options.now) all.items
-        sockets.old sockets.new (state A.Store conn.old).now)) }
+        S.Socket.receives_within) (at_once S.holds C.reads clock window) (given_in options.now)
+        all.items sockets.old sockets.new (state A.Store conn.old).now)) }
 {
     let mut heard = settle_known(sockets, conn, alloc, all.as_slice(), options, errors)?;
-    let called = hear_each(sockets, alloc, clock, all.as_slice(), &mut heard)?;
+    let called = hear_each(sockets, alloc, clock, window, all.as_slice(), &mut heard)?;
     keep_settled(
-        sockets, conn, alloc, clock, heard, all, called, counts, output, errors,
+        sockets, conn, alloc, clock, window, heard, all, called, counts, output, errors,
     )
 }
 
 /// Which logs were chosen, in the order in which they are fetched. A device that doesn't tell its
-/// own is told.
-fn chosen_logs<S: Heeds, A: Alter, O: Write, E: Write>(
+/// own is told. Two devices or more are asked for their lists at once before that.
+fn chosen_logs<S: Recalls, C: Clock, A: Alter, O: Write, E: Write>(
     sockets: &mut S,
     conn: &mut Connection<A>,
     alloc: Global,
+    clock: C,
+    window: u32,
     chosen: Chosen,
     options: &Options<'_>,
     output: &mut O,
     errors: &mut E,
 ) -> Result<Found, NotDone>
+where
+    C: Drop,
     requires { AskTheirSources chosen }
     ensures asks { IfOk result (λ found. All AsksItsSource found.all.items) }
     ensures chosen { OverArchive (state A.Store conn.old) (state A.Store conn.new)
@@ -385,8 +394,8 @@ fn chosen_logs<S: Heeds, A: Alter, O: Write, E: Write>(
     // Object_List, and no socket is opened for others.
     ensures found { IfOk result (λ found. Finds
         (socket_rules S.opens S.closes S.Socket.sends S.Socket.receives
-        S.Socket.receives_within) chosen sockets.old (O.contents output.old) found sockets.new
-        (O.contents output.new)) }
+        S.Socket.receives_within) (at_once S.holds C.reads clock window) chosen sockets.old
+        (O.contents output.old) found sockets.new (O.contents output.new)) }
     ensures same { OverArchive (state A.Store conn.old) (state A.Store conn.new)
         (OnOk result ((state A.Store conn.new).now ≡ (state A.Store conn.old).now)) }
     ensures crash { HasArchive (state A.Store conn.old).now.schema
@@ -394,7 +403,7 @@ fn chosen_logs<S: Heeds, A: Alter, O: Write, E: Write>(
     ensures clean { HasCleanDisk (state A.Store conn.new) → HasCleanDisk (state A.Store conn.old) }
     ensures fault { IfErr result (EndsChosen
         (socket_rules S.opens S.closes S.Socket.sends S.Socket.receives
-        S.Socket.receives_within) chosen
+        S.Socket.receives_within) (at_once S.holds C.reads clock window) chosen
         (OverArchive (state A.Store conn.old) (state A.Store conn.new)
         (HasNone (state A.Store conn.old).now.trees))
         (OverArchive (state A.Store conn.old) (state A.Store conn.new)
@@ -406,7 +415,9 @@ fn chosen_logs<S: Heeds, A: Alter, O: Write, E: Write>(
             let all = kept_logs(alloc, conn, options)?;
             Ok(Found { all, status: 0 })
         }
-        Chosen::Sought(sought) => sought_logs(sockets, alloc, sought, output, errors),
+        Chosen::Sought(sought) => {
+            found_logs(sockets, alloc, clock, window, sought, output, errors)
+        }
     }
 }
 
@@ -418,6 +429,7 @@ pub fn keep_chosen<S: Recalls, C: Clock + Copy, A: Alter, O: Write, E: Write>(
     conn: &mut Connection<A>,
     alloc: Global,
     clock: C,
+    window: u32,
     chosen: Chosen,
     options: &Options<'_>,
     counts: bool,
@@ -431,13 +443,14 @@ where
     ensures told { IfOk result (λ status. (all : List WantedOf)
         × (unlisted : List UnlistedOf) × (between : S)
         × All AsksItsSource all × AreFound (socket_rules S.opens S.closes S.Socket.sends
-        S.Socket.receives S.Socket.receives_within) chosen sockets.old all unlisted between
+        S.Socket.receives S.Socket.receives_within) (at_once S.holds C.reads clock window) chosen
+        sockets.old all unlisted between
         × (OverArchive (state A.Store conn.old) (state A.Store conn.new)
         (AreChosen chosen (state A.Store conn.old).now.trees all))
         × AreToldBehind (O.contents output.old) (O.contents output.new) unlisted all
         (λ ends. OverArchive (state A.Store conn.old) (state A.Store conn.new)
         (KeepsLogs (socket_rules S.opens S.closes S.Socket.sends S.Socket.receives
-        S.Socket.receives_within) (at_once S.holds C.reads clock) all between sockets.new
+        S.Socket.receives_within) (at_once S.holds C.reads clock window) all between sockets.new
         (state A.Store conn.old).now (state A.Store conn.new).now ends)) status) }
     // Whatever comes of it, no item and no log is lost.
     ensures stays { OverArchive (state A.Store conn.old) (state A.Store conn.new)
@@ -447,7 +460,7 @@ where
     // Or their names aren't found, or the run over them ends before that.
     ensures fault { IfErr result (EndsKeeping
         (socket_rules S.opens S.closes S.Socket.sends S.Socket.receives
-        S.Socket.receives_within) chosen
+        S.Socket.receives_within) (at_once S.holds C.reads clock window) chosen
         (OverArchive (state A.Store conn.old) (state A.Store conn.new)
         (HasNone (state A.Store conn.old).now.trees))
         (OverArchive (state A.Store conn.old) (state A.Store conn.new)
@@ -455,13 +468,15 @@ where
         sockets.old sockets.new) }
     ensures caused { OverArchive (state A.Store conn.old) (state A.Store conn.new)
         (IfErr result (EndsRunOver (socket_rules S.opens S.closes S.Socket.sends S.Socket.receives
-        S.Socket.receives_within) (at_once S.holds C.reads clock) (given_in options.now) chosen
-        sockets.old sockets.new (state A.Store conn.old).now)) }
+        S.Socket.receives_within) (at_once S.holds C.reads clock window) (given_in options.now)
+        chosen sockets.old sockets.new (state A.Store conn.old).now)) }
 {
-    let found = chosen_logs(sockets, conn, alloc, chosen, options, output, errors)?;
+    let found = chosen_logs(
+        sockets, conn, alloc, clock, window, chosen, options, output, errors,
+    )?;
     let Found { all, status } = found;
     let kept = keep_each(
-        sockets, conn, alloc, clock, all, options, counts, output, errors,
+        sockets, conn, alloc, clock, window, all, options, counts, output, errors,
     )?;
     Ok(status.max(kept))
 }

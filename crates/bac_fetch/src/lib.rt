@@ -9,6 +9,7 @@ mod entry;
 mod fetching;
 mod heeding;
 mod keeping;
+mod listed;
 mod moving;
 mod passing;
 mod single;

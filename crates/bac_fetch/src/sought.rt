@@ -7,21 +7,25 @@ ghost use Rattle.std.specs.Io.KnownBytes.{Appends};
 ghost use Rattle.std.specs.List.{All};
 ghost use Rattle.bac_asked.specs.Faults.{RefusesLine, WantsMemory};
 ghost use Rattle.bac_asked.specs.Wanted.{AsksItsSource};
-ghost use Rattle.bac_fetch.specs.Chosen.{AreOfDevice, AskOneSource, Finds, is_wanted};
+ghost use Rattle.bac_fetch.specs.Chosen.{AreOfDevice, AskOneSource, Finds, FindsEach, is_wanted};
 ghost use Rattle.bac_fetch.specs.Chosen.{new_of, told_by, unlisted_by, untold_in, with_new};
-ghost use Rattle.bac_fetch.specs.Faults.{EndsDevice, EndsSought};
+ghost use Rattle.bac_fetch.specs.Ahead.{at_once};
+ghost use Rattle.bac_fetch.specs.Faults.{EndsDevice, EndsListed, EndsSought};
 ghost use Rattle.bac_fetch.specs.Unlisted.{unlisted_lines, unlisted_status};
 ghost use Rattle.bac_fetch.specs.declared.keeping.Chosen.TheVariants as chosen;
 ghost use Rattle.bac_ports.specs.Sockets.{socket_rules};
 ghost use Rattle.bac_questions.specs.Silent.{is_same_log};
 
+use crate::listed::hold_lists;
 use crate::unlisted::{Unlisted, tell_unlisted};
 use bac_archive::Source;
 use bac_asked::{Fault, NotDone, Wanted, add_wanted};
+use bac_desks::Clock;
 use bac_heeding::{Heeds, Passed};
 use bac_link::ExchangeFault;
 use bac_ports::Sockets;
 use bac_questions::discover;
+use bac_recall::Recalls;
 use std::alloc::Global;
 use std::io::Write;
 
@@ -182,7 +186,7 @@ fn add_listing<O: Write, E: Write>(
 
 /// The logs of these devices in their order, each once. A device that doesn't tell its own has a
 /// line, and the next one is asked.
-pub(crate) fn sought_logs<S: Heeds, O: Write, E: Write>(
+fn sought_logs<S: Heeds, O: Write, E: Write>(
     sockets: &mut S,
     alloc: Global,
     sought: Vec<Sought>,
@@ -191,10 +195,10 @@ pub(crate) fn sought_logs<S: Heeds, O: Write, E: Write>(
 ) -> Result<Found, NotDone>
     requires { All AskOneSource sought.items }
     ensures asks { IfOk result (λ found. All AsksItsSource found.all.items) }
-    ensures found { IfOk result (λ found. Finds
+    ensures found { IfOk result (λ found. FindsEach
         (socket_rules S.opens S.closes S.Socket.sends S.Socket.receives
-        S.Socket.receives_within) (chosen.Sought sought) sockets.old (O.contents output.old)
-        found sockets.new (O.contents output.new)) }
+        S.Socket.receives_within) sought.items sockets.old (O.contents output.old) found
+        sockets.new (O.contents output.new)) }
     ensures fault { IfErr result (EndsSought
         (socket_rules S.opens S.closes S.Socket.sends S.Socket.receives
         S.Socket.receives_within) sought.items sockets.old sockets.new) }
@@ -207,4 +211,31 @@ pub(crate) fn sought_logs<S: Heeds, O: Write, E: Write>(
         status = status.max(told);
     }
     Ok(Found { all, status })
+}
+
+/// The same, behind what these devices are asked ahead for their lists.
+pub(crate) fn found_logs<S: Recalls, C: Clock, O: Write, E: Write>(
+    sockets: &mut S,
+    alloc: Global,
+    clock: C,
+    window: u32,
+    sought: Vec<Sought>,
+    output: &mut O,
+    errors: &mut E,
+) -> Result<Found, NotDone>
+where
+    C: Drop,
+    requires { All AskOneSource sought.items }
+    ensures asks { IfOk result (λ found. All AsksItsSource found.all.items) }
+    ensures found { IfOk result (λ found. Finds
+        (socket_rules S.opens S.closes S.Socket.sends S.Socket.receives
+        S.Socket.receives_within) (at_once S.holds C.reads clock window) (chosen.Sought sought)
+        sockets.old (O.contents output.old) found sockets.new (O.contents output.new)) }
+    ensures fault { IfErr result (EndsListed
+        (socket_rules S.opens S.closes S.Socket.sends S.Socket.receives
+        S.Socket.receives_within) (at_once S.holds C.reads clock window) sought.items sockets.old
+        sockets.new) }
+{
+    hold_lists(sockets, alloc, clock, window, sought.as_slice())?;
+    sought_logs(sockets, alloc, sought, output, errors)
 }

@@ -1,13 +1,19 @@
-use Rattle.std.proofs.Common.{◌≡◌, ◌∙◌, None, sym, option_map, rules}
+use Rattle.std.proofs.Common.{◌≡◌, ◌≢◌, ◌∙◌, None, sym, rules}
 use Rattle.sqlite.specs.Held.{state}
-use Rattle.bac_questions.specs.Whose.{hindrance}
-use Rattle.bac_fetch.proofs.AheadLemmas.{no_reason, opened_so}
+use Rattle.bac_fetch.proofs.AheadLemmas.{left_so, no_reason, opened_so, some_reason}
 use Rattle.bac_fetch.proofs.ahead.opening_of.Goals as goal
 
 pub returns-clause-opening : goal.returns-clause-opening
 returns-clause-opening g c clean has =
     let (one, there, is) = c.in-Some.ensures.found in
     let none : c.hindrance-why.result ≡ None = no_reason c.hindrance-why.result (search rules) in
-    opened_so (state g.A.Store c.args.conn.now).now.trees c.args.known.now c.args.heard.now c.args.wanted.now one c.in-Some.said.now
+    opened_so (state g.A.Store c.args.conn.now).now.trees c.args.known.now c.args.heard.now c.args.batches c.args.wanted.now one c.in-Some.said.now
     c.device_on_record-on_record.result _ c.in_ok-opened_by.field-0 there is c.device_on_record-on_record.ensures (sym c.hindrance-why.ensures ∙ none)
     c.log_among-log.ensures (c.in_ok-opened_by.ensures.opened clean has)
+
+pub returns-then-is_some-clause-opening : goal.returns-then-is_some-clause-opening
+returns-then-is_some-clause-opening g c clean has =
+    let (one, there, is) = c.in-Some.ensures.found in
+    let some : c.hindrance-why.result ≢ None = some_reason c.hindrance-why.result (search rules) in
+    left_so c.args.known.now c.args.heard.now c.args.wanted.now one c.in-Some.said.now c.device_on_record-on_record.result there is
+    c.device_on_record-on_record.ensures (λ none. some (c.hindrance-why.ensures ∙ none))

@@ -1,9 +1,10 @@
-use Rattle.std.proofs.Common.{◌≡◌, ◌∙◌, subst, sym, ap, List, Option, refl, rules}
-use Rattle.std.specs.List.{Contains}
+use Rattle.std.proofs.Common.{◌≡◌, ◌∙◌, ◌<◌, ◌+◌, ◌++◌, ◌∷◌, [], ℕ, ap, get_or, length, subst, sym, refl, rules, take}
+use Rattle.std.proofs.lemmas.List.{take_more}
 use Rattle.sqlite.specs.Effect.{Database}
-use Rattle.sqlite.specs.State.{HasCleanDisk, Survives}
+use Rattle.sqlite.specs.State.{HasCleanDisk}
 use Rattle.sqlite.specs.Held.{state}
 use Rattle.bac_archive.specs.Schema.{HasArchive}
+use Rattle.bac_fetch.specs.Ahead.{IsOpeningIf, batches_of}
 use Rattle.bac_fetch.proofs.AheadLemmas.{more_opened, quiet_then}
 use Rattle.bac_fetch.proofs.StaysLemmas.{does_nothing}
 use Rattle.bac_fetch.proofs.ahead.openings_of.Goals as goal
@@ -36,6 +37,15 @@ loop-at-preserved g c =
       openings = λ clean has.
           let early : HasCleanDisk mid = c.opening_of.ensures.clean clean in
           let one : mid.now ≡ old.now = was.same early has in
-          more_opened old.now mid.now one c.args.known.now c.args.heard.now c.args.all.now _ _ c.in_ok-opening.opening c.index-all-at.result
-          (search rules) (was.openings early has) (c.in_ok-opening.ensures.opening clean (schema has one)) c.in_ok-add_opening.ensures.added;
+          let many = batches_of (length c.args.all.now) in
+          let e : c.batches_of-batches.result ≡ many = search rules in
+          let i = c.loop-at.at in
+          let wanted = c.index-all-at.result in
+          let below : i < length c.args.all.now = search rules in
+          let is : wanted ≡ get_or c.args.all.now i wanted = search rules in
+          let longer : take (i + 1) c.args.all.now ≡ take i c.args.all.now ++ wanted ∷ [] = take_more c.args.all.now i wanted below ∙ ap (λ w. take i c.args.all.now ++ w ∷ []) (sym is) in
+          more_opened old.now mid.now one c.args.known.now c.args.heard.now many (take c.loop-at.at c.args.all.now) _ _ _ c.in_ok-opening.opening
+          c.index-all-at.result longer (was.openings early has)
+          (subst (λ (n : ℕ). IsOpeningIf mid.now.trees c.args.known.now c.args.heard.now n c.index-all-at.result c.in_ok-opening.opening) e
+          (c.in_ok-opening.ensures.opening clean (schema has one))) c.in_ok-add_opening.ensures.added;
     }

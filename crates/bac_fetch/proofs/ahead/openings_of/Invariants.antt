@@ -1,8 +1,8 @@
-use Rattle.std.proofs.Common.{◌≡◌}
+use Rattle.std.proofs.Common.{◌≡◌, length, take}
 use Rattle.sqlite.specs.State.{HasCleanDisk, Survives}
 use Rattle.sqlite.specs.Held.{state}
 use Rattle.bac_archive.specs.Schema.{OverArchive}
-use Rattle.bac_fetch.specs.Ahead.{AreOpenings}
+use Rattle.bac_fetch.specs.Ahead.{AreOpenings, batches_of}
 use Rattle.bac_fetch.proofs.ahead.openings_of.Given as goal
 
 -- the logs so far are opened so, and the archive is as it was
@@ -12,5 +12,5 @@ invariant-loop-at g l = record {
   same : OverArchive (state g.A.Store l.fn.conn) (state g.A.Store l.conn) ((state g.A.Store l.conn).now ≡ (state g.A.Store l.fn.conn).now);
   quiet : OverArchive (state g.A.Store l.fn.conn) (state g.A.Store l.conn) (Survives (state g.A.Store l.fn.conn) (state g.A.Store l.conn) (λ _. ⊥));
   openings : OverArchive (state g.A.Store l.fn.conn) (state g.A.Store l.conn)
-      (AreOpenings (state g.A.Store l.fn.conn).now.trees l.known l.heard l.all l.openings.items);
+      (AreOpenings (state g.A.Store l.fn.conn).now.trees l.known l.heard (batches_of (length l.all)) (take l.at l.all) l.openings.items);
 }

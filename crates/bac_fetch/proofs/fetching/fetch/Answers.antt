@@ -2,7 +2,7 @@ use Rattle.std.proofs.Common.{◌≡◌, ap, refl, rules, ◌∙◌}
 use Rattle.sqlite.specs.Held.{state}
 use Rattle.bac_ports.specs.Sockets.{socket_rules}
 use Rattle.bac_fetch.specs.Heeds.{heeding}
-use Rattle.bac_fetch.specs.Keeps.{trend_log}
+use Rattle.bac_ahead.specs.Ahead.{trend_log}
 use Rattle.bac_fetch.proofs.KeepsLemmas.{keeps_log}
 use Rattle.bac_fetch.proofs.fetching.fetch.Goals as goal
 

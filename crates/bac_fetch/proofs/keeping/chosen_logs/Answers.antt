@@ -1,6 +1,7 @@
 use Rattle.std.proofs.Common.{rules, subst}
 use Rattle.bac_asked.proofs.Results.{because}
 use Rattle.bac_ports.specs.Sockets.{socket_rules}
+use Rattle.bac_fetch.specs.Ahead.{at_once}
 use Rattle.bac_fetch.specs.Chosen.{AskTheirSources}
 use Rattle.bac_fetch.proofs.FaultsLemmas.{kept_there}
 use Rattle.bac_fetch.proofs.keeping.chosen_logs.Goals as goal
@@ -9,7 +10,7 @@ pub returns-in_err-all-in-Kept-clause-fault : goal.returns-in_err-all-in-Kept-cl
 returns-in_err-all-in-Kept-clause-fault g c =
     let over = socket_rules g.S.Sockets.opens g.S.Sockets.closes g.S.Socket.Port.sends g.S.Socket.Port.receives g.S.Socket.Port.receives_within in
     because c.from_residual.result c.in_err-all-in-Kept.field-0.0 _ (search rules)
-    (kept_there over c.args.chosen _ _ c.args.sockets.now c.in_err-all-in-Kept.field-0.0 c.in-Kept.is c.in_err-all-in-Kept.ensures.fault)
+    (kept_there over (at_once g.S.Recalls.holds g.C.Clock.reads c.args.clock c.args.window) c.args.chosen _ _ c.args.sockets.now c.in_err-all-in-Kept.field-0.0 c.in-Kept.is c.in_err-all-in-Kept.ensures.fault)
 
-pub sought_logs-requires : goal.sought_logs-requires
-sought_logs-requires g c = subst AskTheirSources c.in-Sought.is c.requires
+pub found_logs-requires : goal.found_logs-requires
+found_logs-requires g c = subst AskTheirSources c.in-Sought.is c.requires

@@ -1,15 +1,12 @@
 use Rattle.bac_asked.proofs.Results.{because}
-use Rattle.std.proofs.Common.{◌≡◌, List, ap, inr, subst, sym, ◌∙◌, rules, inl}
+use Rattle.std.proofs.Common.{◌≡◌, inr, subst, sym, rules, inl}
 use Rattle.std.proofs.lemmas.Result.{IfErr-weaker, IfOk-weaker}
 use Rattle.sqlite.specs.Effect.{Database}
 use Rattle.sqlite.specs.State.{HasCleanDisk}
 use Rattle.sqlite.specs.Held.{state}
 use Rattle.bac_archive.specs.Schema.{HasArchive}
-use Rattle.bac_asked.specs.declared.wanted.Wanted.{Wanted}
-use Rattle.bac_hearing.specs.Hearing.{started}
 use Rattle.bac_ports.specs.Sockets.{socket_rules}
-use Rattle.bac_questions.specs.declared.whose.Heard.{Heard}
-use Rattle.bac_fetch.specs.Ahead.{OpensAhead, at_once}
+use Rattle.bac_fetch.specs.Ahead.{at_once}
 use Rattle.bac_fetch.specs.Causes.{EndsAll}
 use Rattle.bac_fetch.specs.Keeps.{KeepsAll}
 use Rattle.bac_fetch.proofs.AheadLemmas.{ends_as, opens_as}
@@ -19,7 +16,7 @@ use Rattle.bac_fetch.proofs.keeping.keep_ahead.Goals as goal
 pub returns-clause-told : goal.returns-clause-told
 returns-clause-told g c =
     let over = socket_rules g.S.Sockets.opens g.S.Sockets.closes g.S.Socket.Port.sends g.S.Socket.Port.receives g.S.Socket.Port.receives_within in
-    let by = at_once g.S.Recalls.holds g.C.Clock.reads c.args.clock in
+    let by = at_once g.S.Recalls.holds g.C.Clock.reads c.args.clock c.args.window in
     let all = c.args.all.items in
     let heard = c.args.heard.items in
     let known = c.args.known.now in
@@ -39,7 +36,7 @@ returns-clause-told g c =
           let same : mid.now ≡ old.now = c.in_ok-open_ahead.ensures.same early has in
           let schema : HasArchive mid.now.schema = subst (λ (d : Database). HasArchive d.schema) (sym same) has in
           let it = told.4 clean schema in
-          let opens = opens_as over by old.now.trees known _ heard _ all c.args.sockets.now held c.as_slice.ensures.value c.as_slice-2.ensures.value
+          let opens = opens_as over by old.now.trees known _ heard _ all c.args.called c.args.sockets.now held c.as_slice.ensures.value c.as_slice-2.ensures.value
           (c.in_ok-open_ahead.ensures.opens early has) in
           (held, opens, it.0, subst (λ (d : Database). KeepsAll over known heard it.0 all held after d new.now told.0) same it.1),
     ))
@@ -62,7 +59,7 @@ returns-in_err-open_ahead-clause-stays g c clean has =
 pub returns-clause-caused : goal.returns-clause-caused
 returns-clause-caused g c clean has =
     let over = socket_rules g.S.Sockets.opens g.S.Sockets.closes g.S.Socket.Port.sends g.S.Socket.Port.receives g.S.Socket.Port.receives_within in
-    let by = at_once g.S.Recalls.holds g.C.Clock.reads c.args.clock in
+    let by = at_once g.S.Recalls.holds g.C.Clock.reads c.args.clock c.args.window in
     let known = c.args.known.now in
     let heard = c.args.heard.items in
     let all = c.args.all.items in
@@ -73,7 +70,7 @@ returns-clause-caused g c clean has =
     let early : HasCleanDisk mid = c.keep_known.ensures.clean clean in
     let same : mid.now ≡ old.now = c.in_ok-open_ahead.ensures.same early has in
     let schema : HasArchive mid.now.schema = subst (λ (d : Database). HasArchive d.schema) (sym same) has in
-    let opens = opens_as over by old.now.trees known _ heard _ all c.args.sockets.now held c.as_slice.ensures.value c.as_slice-2.ensures.value
+    let opens = opens_as over by old.now.trees known _ heard _ all c.args.called c.args.sockets.now held c.as_slice.ensures.value c.as_slice-2.ensures.value
     (c.in_ok-open_ahead.ensures.opens early has) in
     IfErr-weaker c.keep_known.result _ _
     (λ fault it. inr (held, opens, subst (λ (d : Database). EndsAll over known heard all held after d fault) same it))
@@ -82,7 +79,7 @@ returns-clause-caused g c clean has =
 pub returns-in_err-open_ahead-clause-caused : goal.returns-in_err-open_ahead-clause-caused
 returns-in_err-open_ahead-clause-caused g c clean has =
     let over = socket_rules g.S.Sockets.opens g.S.Sockets.closes g.S.Socket.Port.sends g.S.Socket.Port.receives g.S.Socket.Port.receives_within in
-    let by = at_once g.S.Recalls.holds g.C.Clock.reads c.args.clock in
+    let by = at_once g.S.Recalls.holds g.C.Clock.reads c.args.clock c.args.window in
     because c.from_residual.result c.in_err-open_ahead.field-0.0 _ (search rules)
-    (inl (ends_as over by (state g.A.Store c.args.conn.now).now.trees c.args.known.now _ c.args.heard.items _ c.args.all.items c.args.sockets.now
+    (inl (ends_as over by (state g.A.Store c.args.conn.now).now.trees c.args.known.now _ c.args.heard.items _ c.args.all.items c.args.called c.args.sockets.now
     c.open_ahead.new.sockets c.in_err-open_ahead.field-0.0 c.as_slice.ensures.value c.as_slice-2.ensures.value (c.in_err-open_ahead.ensures.caused clean has)))

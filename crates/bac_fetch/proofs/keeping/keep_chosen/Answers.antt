@@ -1,4 +1,4 @@
-use Rattle.std.proofs.Common.{◌≡◌, ap, ap₂, inl, inr, max, rules, subst, ◌∙◌, sym}
+use Rattle.std.proofs.Common.{ap₂, inl, inr, max, rules, subst, ◌∙◌, sym}
 use Rattle.std.proofs.KnownBytes.{Appends-trans}
 use Rattle.sqlite.specs.Effect.{Database}
 use Rattle.sqlite.specs.State.{HasCleanDisk}
@@ -39,7 +39,7 @@ returns-clause-told g c =
         λ clean has.
             let early : HasCleanDisk mid = c.keep_each.ensures.clean clean in
             let same = c.in_ok-found.ensures.same early has in
-            subst (λ (d : Database). KeepsLogs over (at_once g.S.Recalls.holds g.C.Clock.reads c.args.clock) all c.chosen_logs.new.sockets c.keep_each.new.sockets d new.now told.0) same (told.4 clean (subst (λ (d : Database). HasArchive d.schema) (sym same) has)),
+            subst (λ (d : Database). KeepsLogs over (at_once g.S.Recalls.holds g.C.Clock.reads c.args.clock c.args.window) all c.chosen_logs.new.sockets c.keep_each.new.sockets d new.now told.0) same (told.4 clean (subst (λ (d : Database). HasArchive d.schema) (sym same) has)),
       ),
     )
 
@@ -73,8 +73,8 @@ returns-in_err-kept-clause-fault g c =
     let none = OverArchive old new (HasNone old.now.trees) in
     let early_lacks = OverArchive mid new (LacksAddress given mid.now.trees) in
     let lacks = OverArchive old new (LacksAddress given old.now.trees) in
-    because c.from_residual-in_err-kept.result fault (EndsKeeping over c.args.chosen none lacks c.args.sockets.now c.keep_each.new.sockets) (search rules)
-    (run_of over c.args.chosen none early_lacks lacks c.args.sockets.now c.chosen_logs.new.sockets c.keep_each.new.sockets c.in_ok-found.found.all.items found.0 fault found.1
+    because c.from_residual-in_err-kept.result fault (EndsKeeping over (at_once g.S.Recalls.holds g.C.Clock.reads c.args.clock c.args.window) c.args.chosen none lacks c.args.sockets.now c.keep_each.new.sockets) (search rules)
+    (run_of over (at_once g.S.Recalls.holds g.C.Clock.reads c.args.clock c.args.window) c.args.chosen none early_lacks lacks c.args.sockets.now c.chosen_logs.new.sockets c.keep_each.new.sockets c.in_ok-found.found.all.items found.0 fault found.1
     (λ wrong clean has.
     let early : HasCleanDisk mid = c.keep_each.ensures.clean clean in
     let same = c.in_ok-found.ensures.same early has in
@@ -90,13 +90,13 @@ returns-in_err-kept-clause-caused g c clean has =
     let mid = state g.A.Store c.chosen_logs.new.conn in
     let early : HasCleanDisk mid = c.keep_each.ensures.clean clean in
     let same = c.in_ok-found.ensures.same early has in
-    because c.from_residual-in_err-kept.result fault (EndsRunOver over (at_once g.S.Recalls.holds g.C.Clock.reads c.args.clock) (given_in c.args.options.now) c.args.chosen c.args.sockets.now c.keep_each.new.sockets (state g.A.Store c.args.conn.now).now) (search rules)
+    because c.from_residual-in_err-kept.result fault (EndsRunOver over (at_once g.S.Recalls.holds g.C.Clock.reads c.args.clock c.args.window) (given_in c.args.options.now) c.args.chosen c.args.sockets.now c.keep_each.new.sockets (state g.A.Store c.args.conn.now).now) (search rules)
     (inr (
       all,
       found.0,
       c.chosen_logs.new.sockets,
       found.1,
-      subst (λ (d : Database). EndsLogs over (at_once g.S.Recalls.holds g.C.Clock.reads c.args.clock) (given_in c.args.options.now) all c.chosen_logs.new.sockets c.keep_each.new.sockets d fault) same
+      subst (λ (d : Database). EndsLogs over (at_once g.S.Recalls.holds g.C.Clock.reads c.args.clock c.args.window) (given_in c.args.options.now) all c.chosen_logs.new.sockets c.keep_each.new.sockets d fault) same
           (c.in_err-kept.ensures.caused clean (subst (λ (d : Database). HasArchive d.schema) (sym same) has)),
     ))
 
@@ -111,7 +111,7 @@ returns-in_err-found-clause-caused g c clean has =
     let given = given_in c.args.options.now in
     let old = state g.A.Store c.args.conn.now in
     let new = state g.A.Store c.chosen_logs.new.conn in
-    because c.from_residual.result fault (EndsRunOver over (at_once g.S.Recalls.holds g.C.Clock.reads c.args.clock) given c.args.chosen c.args.sockets.now c.chosen_logs.new.sockets old.now) (search rules)
-    (inl (chosen_so over c.args.chosen (HasCleanDisk new → HasArchive old.now.schema → HasNone old.now.trees) (HasNone old.now.trees)
+    because c.from_residual.result fault (EndsRunOver over (at_once g.S.Recalls.holds g.C.Clock.reads c.args.clock c.args.window) given c.args.chosen c.args.sockets.now c.chosen_logs.new.sockets old.now) (search rules)
+    (inl (chosen_so over (at_once g.S.Recalls.holds g.C.Clock.reads c.args.clock c.args.window) c.args.chosen (HasCleanDisk new → HasArchive old.now.schema → HasNone old.now.trees) (HasNone old.now.trees)
     (HasCleanDisk new → HasArchive old.now.schema → LacksAddress given old.now.trees) (LacksAddress given old.now.trees)
     c.args.sockets.now c.chosen_logs.new.sockets fault (λ none. none clean has) (λ wrong. wrong clean has) c.in_err-found.ensures.fault))

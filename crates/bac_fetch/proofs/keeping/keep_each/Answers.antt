@@ -1,8 +1,8 @@
-use Rattle.std.proofs.Common.{◌≡◌, List, inl, inr, rules, subst}
+use Rattle.std.proofs.Common.{List, inl, inr, rules, subst}
 use Rattle.std.proofs.lemmas.Result.{IfErr-weaker, IfOk-weaker}
 use Rattle.sqlite.specs.State.{HasCleanDisk}
 use Rattle.sqlite.specs.Held.{state}
-use Rattle.bac_absent.specs.Each.{EndsCalling, HearsEach}
+use Rattle.bac_absent.specs.Each.{EndsCalling, HearsEach, SaysMany}
 use Rattle.bac_asked.specs.declared.wanted.Wanted.{Wanted}
 use Rattle.bac_fetch.specs.Ahead.{at_once}
 use Rattle.bac_ports.specs.Sockets.{socket_rules}
@@ -22,12 +22,14 @@ returns-clause-told g c =
     let all = c.args.all.items in
     let old = state g.A.Store c.args.conn.now in
     let mid = state g.A.Store c.settle_known.new.conn in
-    let by = at_once g.S.Recalls.holds g.C.Clock.reads c.args.clock in
-    let time = by.clock in
+    let by = at_once g.S.Recalls.holds g.C.Clock.reads c.args.clock c.args.window in
+    let time = by.pace in
     let spoken = c.hear_each.new.heard.items in
     let called = c.hear_each.new.sockets in
     let found : HearsEach over time c.args.all.items c.in_ok-heard.heard.items c.settle_known.new.sockets spoken called =
     subst (λ (l : List Wanted). HearsEach over time l c.in_ok-heard.heard.items c.settle_known.new.sockets spoken called) c.as_slice-2.ensures.value c.in_ok-called.ensures.heard in
+    let says : SaysMany all c.in_ok-heard.heard.items c.in_ok-called.called =
+    subst (λ (l : List Wanted). SaysMany l c.in_ok-heard.heard.items c.in_ok-called.called) c.as_slice-2.ensures.value c.in_ok-called.ensures.many in
     IfOk-weaker c.keep_settled.result _ _
     (λ status told. (
       told.0,
@@ -40,7 +42,7 @@ returns-clause-told g c =
           let schema = settles_schema over known all c.args.sockets.now c.in_ok-heard.heard.items c.settle_known.new.sockets old.now mid.now settles has in
           let (now, are_now, held, opens, last, kept) = told.4 clean schema in
           logs_kept over by all c.args.sockets.now c.settle_known.new.sockets called held c.keep_settled.new.sockets old.now mid.now (state g.A.Store c.keep_settled.new.conn).now
-          known now c.in_ok-heard.heard.items spoken last told.0 are settles found are_now opens kept,
+          known now c.in_ok-heard.heard.items spoken last c.in_ok-called.called told.0 are settles found are_now says opens kept,
     ))
     c.keep_settled.ensures.told
 
@@ -66,14 +68,16 @@ returns-clause-caused g c clean has =
     let early : HasCleanDisk mid = c.keep_settled.ensures.clean clean in
     let (known, are, settles) = rw c.as_slice.ensures.value at c.in_ok-heard.ensures.settled early has in
     let schema = settles_schema over known all c.args.sockets.now heard half old.now mid.now settles has in
-    let by = at_once g.S.Recalls.holds g.C.Clock.reads c.args.clock in
-    let time = by.clock in
+    let by = at_once g.S.Recalls.holds g.C.Clock.reads c.args.clock c.args.window in
+    let time = by.pace in
     let spoken = c.hear_each.new.heard.items in
     let called = c.hear_each.new.sockets in
     let found : HearsEach over time c.args.all.items c.in_ok-heard.heard.items c.settle_known.new.sockets spoken called =
     subst (λ (l : List Wanted). HearsEach over time l c.in_ok-heard.heard.items c.settle_known.new.sockets spoken called) c.as_slice-2.ensures.value c.in_ok-called.ensures.heard in
+    let says : SaysMany all c.in_ok-heard.heard.items c.in_ok-called.called =
+    subst (λ (l : List Wanted). SaysMany l c.in_ok-heard.heard.items c.in_ok-called.called) c.as_slice-2.ensures.value c.in_ok-called.ensures.many in
     IfErr-weaker c.keep_settled.result _ _
-    (λ fault it. logs_end over by (given_in c.args.options.now) all c.args.sockets.now half called c.keep_settled.new.sockets old.now mid.now known heard spoken fault are settles found it)
+    (λ fault it. logs_end over by (given_in c.args.options.now) all c.args.sockets.now half called c.keep_settled.new.sockets old.now mid.now known heard spoken c.in_ok-called.called fault are settles found says it)
     (c.keep_settled.ensures.caused clean schema)
 
 pub returns-in_err-heard-clause-caused : goal.returns-in_err-heard-clause-caused

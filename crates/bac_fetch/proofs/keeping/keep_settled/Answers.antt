@@ -1,5 +1,5 @@
 use Rattle.bac_asked.proofs.Results.{because}
-use Rattle.std.proofs.Common.{◌≡◌, List, ap, inr, subst, sym, ◌∙◌, rules, inl}
+use Rattle.std.proofs.Common.{◌≡◌, List, inr, subst, sym, rules, inl}
 use Rattle.std.proofs.lemmas.Result.{IfErr-weaker, IfOk-weaker}
 use Rattle.sqlite.specs.Effect.{Database}
 use Rattle.sqlite.specs.State.{HasCleanDisk}
@@ -17,7 +17,7 @@ use Rattle.bac_fetch.proofs.keeping.keep_settled.Goals as goal
 pub returns-clause-told : goal.returns-clause-told
 returns-clause-told g c =
     let over = socket_rules g.S.Sockets.opens g.S.Sockets.closes g.S.Socket.Port.sends g.S.Socket.Port.receives g.S.Socket.Port.receives_within in
-    let by = at_once g.S.Recalls.holds g.C.Clock.reads c.args.clock in
+    let by = at_once g.S.Recalls.holds g.C.Clock.reads c.args.clock c.args.window in
     let all = c.args.all.items in
     let heard = c.args.heard.items in
     let known = c.as_slice.result.now in
@@ -38,7 +38,7 @@ returns-clause-told g c =
           let are : AreLogs old.now.trees known = subst (λ (l : List Log). AreLogs old.now.trees l) (sym c.as_slice.ensures.value) (c.in_ok-known.ensures.logs early has) in
           let schema : HasArchive mid.now.schema = subst (λ (d : Database). HasArchive d.schema) (sym same) has in
           let it = told.4 clean schema in
-          let opens = subst (λ (d : Database). OpensAhead over by d.trees known heard all before it.0) same it.1 in
+          let opens = subst (λ (d : Database). OpensAhead over by d.trees known heard all c.args.called before it.0) same it.1 in
           (known, are, it.0, opens, it.2, subst (λ (d : Database). KeepsAll over known heard it.2 all it.0 after d new.now told.0) same it.3),
     ))
     c.keep_ahead.ensures.told
@@ -69,7 +69,7 @@ returns-clause-caused g c clean has =
     let are : AreLogs old.now.trees known = subst (λ (l : List Log). AreLogs old.now.trees l) (sym c.as_slice.ensures.value) (c.in_ok-known.ensures.logs early has) in
     let schema : HasArchive mid.now.schema = subst (λ (d : Database). HasArchive d.schema) (sym same) has in
     IfErr-weaker c.keep_ahead.result _ _
-    (λ fault it. inr (known, are, subst (λ (d : Database). EndsOpened over (at_once g.S.Recalls.holds g.C.Clock.reads c.args.clock) known c.args.heard.items c.args.all.items before after d fault) same it))
+    (λ fault it. inr (known, are, subst (λ (d : Database). EndsOpened over (at_once g.S.Recalls.holds g.C.Clock.reads c.args.clock c.args.window) known c.args.heard.items c.args.all.items c.args.called before after d fault) same it))
     (c.keep_ahead.ensures.caused clean schema)
 
 pub returns-in_err-known-clause-fault : goal.returns-in_err-known-clause-fault

@@ -1,5 +1,5 @@
 use Rattle.bac_asked.proofs.Results.{because}
-use Rattle.std.proofs.Common.{◌≡◌, List, ap, inr, subst, sym, ◌∙◌, rules, inl}
+use Rattle.std.proofs.Common.{◌≡◌, List, inr, subst, sym, rules, inl}
 use Rattle.std.proofs.lemmas.Result.{IfErr-weaker, IfOk-weaker}
 use Rattle.sqlite.specs.Effect.{Database}
 use Rattle.sqlite.specs.State.{HasCleanDisk}

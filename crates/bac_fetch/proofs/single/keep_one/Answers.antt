@@ -1,11 +1,12 @@
-use Rattle.std.proofs.Common.{◌≡◌, ap, inl, inr, refl, rules, subst, ◌∙◌, sym}
+use Rattle.std.proofs.Common.{◌≡◌, inl, inr, refl, rules, subst, sym}
 use Rattle.sqlite.specs.Effect.{Database}
 use Rattle.sqlite.specs.State.{HasCleanDisk}
 use Rattle.sqlite.specs.Held.{state}
 use Rattle.bac_archive.specs.declared.trend_logs.Source.{Source}
 use Rattle.bac_ports.specs.Sockets.{socket_rules}
 use Rattle.bac_fetch.specs.Causes.{EndsFetch}
-use Rattle.bac_fetch.specs.Keeps.{KeepsLog, trend_log}
+use Rattle.bac_ahead.specs.Ahead.{trend_log}
+use Rattle.bac_fetch.specs.Keeps.{KeepsLog}
 use Rattle.bac_asked.proofs.Results.{because}
 use Rattle.bac_fetch.proofs.StaysLemmas.{quiet_first, quiet_stays}
 use Rattle.bac_archive.specs.Schema.{HasArchive}

@@ -1,0 +1,30 @@
+-- The Object_Lists of devices are asked for ahead, of many at once. Read `HoldsLists`.
+use Rattle.std.specs.Prelude.{◌⊎◌, List, [], fold}
+use Rattle.bac_asked.specs.Faults.{WantsMemory}
+use Rattle.bac_asked.specs.declared.end.NotDone.{NotDone}
+use Rattle.bac_asked.specs.declared.wanted.Wanted.{Wanted}
+use Rattle.bac_fetch.specs.Ahead.{AtOnce}
+use Rattle.bac_fetch.specs.declared.sought.Sought.{Sought}
+use Rattle.bac_fetch.specs.declared.sought.Sought.TheVariants.{Device, Named}
+use Rattle.bac_listing.specs.Devices.{EndsLists, ListsAhead, with_device}
+use Rattle.bac_ports.specs.Sockets.{SocketRules}
+use Rattle.bac_recall.specs.declared.conversations.Conversation.{Conversation}
+
+-- a device whose logs are those of its list comes behind others, unless it is one of them
+abbrev pub with_sought : List Wanted → Sought → List Wanted
+with_sought devices (Device like) = with_device devices like
+with_sought devices (Named all) = devices
+
+-- the devices whose logs are those of their lists, each once, in their order
+abbrev pub devices_of : List Sought → List Wanted
+devices_of sought = fold with_sought [] sought
+
+-- These devices are asked for their lists ahead, if they are two or more, and the sockets hold what came, and nothing
+-- else.
+abbrev pub HoldsLists : {S P C : Type 0} → SocketRules S P → AtOnce S C → List Sought → S → S → Type 0
+HoldsLists {S = S} rules by sought before held = (came : List Conversation) × (mid : S)
+    × ListsAhead rules by.pace (devices_of sought) before came mid × by.holds mid came held
+
+-- They aren't asked: memory is wanting, or no socket was opened as the first of them says.
+abbrev pub EndsHolding : {S P : Type 0} → SocketRules S P → List Sought → S → S → NotDone → Type 0
+EndsHolding rules sought before after fault = WantsMemory fault ⊎ EndsLists rules (devices_of sought) before after fault
