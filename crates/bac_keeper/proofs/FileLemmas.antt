@@ -57,19 +57,19 @@ module _ {D : Type 0} {g : disk.Ghosts D} (image : Image) (opened last : Connect
       → IsClosedBy last closed → IfSome closed (IsDoneTo g image LosesNothing)
   loses_none stays shut = some_done LosesNothing (λ c open'. stays (c, open') (opened_settled image opened is (clean c))) shut.1
 
-  pub keeps_in : {S P C : Type 0} (rules : SocketRules S P) (clock : AtOnce S C) (begins : Database → Database → Type 0) (words : Keep) (chosen : Chosen) (sockets after : S) (out out' : Held) (result done : Result ℕ NotDone)
+  pub keeps_in : {S P C : Type 0} (rules : SocketRules S P) (by : ℕ → AtOnce S C) (begins : Database → Database → Type 0) (words : Keep) (chosen : Chosen) (sockets after : S) (out out' : Held) (result done : Result ℕ NotDone)
       → Chooses words chosen
-      → IfOk done (TellsThese rules chosen sockets out out' (λ all between ends. IsHeld (file_state last) → KeepsArchive rules clock chosen all between after begins ends (file_state opened).now (file_state last).committed))
-      → IfOk result (λ v. done ≡ Ok v) → OnOk result (IsClosedBy last closed) → IfOk result (KeepsIn rules clock g image begins words sockets after out out' closed)
-  keeps_in rules clock begins words chosen sockets after out out' (Err e) done chooses told same shut = tt
-  keeps_in rules clock begins words chosen sockets after out out' (Ok v) done chooses told same shut =
-      let these = subst (λ (r : Result ℕ NotDone). IfOk r (TellsThese rules chosen sockets out out' (λ all between ends. IsHeld (file_state last)
-      → KeepsArchive rules clock chosen all between after begins ends (file_state opened).now (file_state last).committed))) same told in (
+      → IfOk done (TellsThese rules (by words.at_once) chosen sockets out out' (λ all between ends. IsHeld (file_state last) → KeepsArchive rules (by words.at_once) chosen all between after begins ends (file_state opened).now (file_state last).committed))
+      → IfOk result (λ v. done ≡ Ok v) → OnOk result (IsClosedBy last closed) → IfOk result (KeepsIn rules by g image begins words sockets after out out' closed)
+  keeps_in rules by begins words chosen sockets after out out' (Err e) done chooses told same shut = tt
+  keeps_in rules by begins words chosen sockets after out out' (Ok v) done chooses told same shut =
+      let these = subst (λ (r : Result ℕ NotDone). IfOk r (TellsThese rules (by words.at_once) chosen sockets out out' (λ all between ends. IsHeld (file_state last)
+      → KeepsArchive rules (by words.at_once) chosen all between after begins ends (file_state opened).now (file_state last).committed))) same told in (
         shut.0,
         chosen,
         chooses,
-        tells_weaker rules chosen sockets out out' _ (λ all between ends. IfSome closed (IsDoneTo g image (KeepsArchive rules clock chosen all between after begins ends))) v
-            (λ all between ends kept. some_done (KeepsArchive rules clock chosen all between after begins ends) (λ c open'. kept (c, open')) shut.1) these,
+        tells_weaker rules (by words.at_once) chosen sockets out out' _ (λ all between ends. IfSome closed (IsDoneTo g image (KeepsArchive rules (by words.at_once) chosen all between after begins ends))) v
+            (λ all between ends kept. some_done (KeepsArchive rules (by words.at_once) chosen all between after begins ends) (λ c open'. kept (c, open')) shut.1) these,
       )
 
 -- what was printed over the connection is what the files held

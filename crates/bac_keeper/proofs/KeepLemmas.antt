@@ -21,10 +21,10 @@ use Rattle.bac_keeper.specs.Done.{RefusesKeep}
 use Rattle.bac_keeper.specs.Ends.{MayFail}
 
 -- what ends for one reason ends for another
-pub keeping_so : {S P : Type 0} (rules : SocketRules S P) (N M A B : Type 0) → (N → M) → (A → B) → (which : Chosen) (before after : S) (fault : NotDone)
-    → EndsKeeping rules which N A before after fault → EndsKeeping rules which M B before after fault
-keeping_so rules N M A B f h which before after fault (inl it) = inl (chosen_so rules which N M A B before after fault f h it)
-keeping_so rules N M A B f h which before after fault (inr (all, unlisted, between, found, it)) =
+pub keeping_so : {S P C : Type 0} (rules : SocketRules S P) (by : AtOnce S C) (N M A B : Type 0) → (N → M) → (A → B) → (which : Chosen) (before after : S) (fault : NotDone)
+    → EndsKeeping rules by which N A before after fault → EndsKeeping rules by which M B before after fault
+keeping_so rules by N M A B f h which before after fault (inl it) = inl (chosen_so rules by which N M A B before after fault f h it)
+keeping_so rules by N M A B f h which before after fault (inr (all, unlisted, between, found, it)) =
     inr (all, unlisted, between, found, ends_so rules (HasNoInstance all) (HasNoInstance all) A B after fault (λ n. n) h it)
 
 -- so a run ends over what two files held, which became this archive

@@ -1,5 +1,5 @@
 -- What is printed of the parts of an archive.
-use Rattle.std.proofs.Common.{◌≡◌, ◌⊎◌, inl, inr, refl, sym, ap, subst, ℕ, max, false, IfOk, IfErr, List, [], ◌∷◌, ◌++◌, Result, Ok, Err, take, ◌+◌, ◌<◌, length, get_or}
+use Rattle.std.proofs.Common.{◌≡◌, ◌⊎◌, inl, inr, refl, sym, ap, subst, ℕ, max, false, IfOk, IfErr, List, [], ◌∷◌, ◌++◌, Result, Ok, Err}
 use Rattle.sqlite.specs.State.{State}
 use Rattle.sqlite.specs.declared.error.Error.{Error}
 use Rattle.bac_asked.specs.Faults.{of_error}

@@ -26,14 +26,14 @@ pub record IsArchiveOf (found archive : Database) : Type 0 where
   pub same : HasArchive found.schema → archive ≡ found
 
 -- these logs, of those that were chosen, were kept in the archive, which begins so, and their runs ended so
-pub record KeepsArchive {S P C : Type 0} (rules : SocketRules S P) (clock : AtOnce S C) (chosen : Chosen)
+pub record KeepsArchive {S P C : Type 0} (rules : SocketRules S P) (by : AtOnce S C) (chosen : Chosen)
     (all : List Wanted) (before after : S) (begins : Database → Database → Type 0)
     (ends : List End) (found left : Database) : Type 0 where
   pub archive : Database
   pub opened : IsArchiveOf found archive
   pub begun : begins found archive
   pub chose : AreChosen chosen archive.trees all
-  pub kept : KeepsLogs rules clock all before after archive left ends
+  pub kept : KeepsLogs rules by all before after archive left ends
 
 -- of an archive that was found no item and no log is lost
 abbrev pub LosesNothing : Database → Database → Type 0

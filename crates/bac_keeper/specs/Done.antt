@@ -78,43 +78,44 @@ Chooses keep chosen = ChoosesBy keep.groups (given_of keep.options) chosen
 -- the device that the line names, and the greatest status. Those of a device are those that were named, or those of its
 -- Object_List, which came over the caller's sockets. This holds of the logs, of the sockets then, and of how the runs
 -- over them ended.
-abbrev pub TellsThese : {S P : Type 0} → SocketRules S P → Chosen → S → Held → Held
+abbrev pub TellsThese : {S P C : Type 0} → SocketRules S P → AtOnce S C → Chosen → S → Held → Held
     → (List Wanted → S → List End → Type 0) → ℕ → Type 0
-TellsThese {S = S} rules chosen sockets before after kept status =
+TellsThese {S = S} rules by chosen sockets before after kept status =
     (all : List Wanted) × (unlisted : List Unlisted) × (between : S) × All AsksItsSource all
-    × AreFound rules chosen sockets all unlisted between
+    × AreFound rules by chosen sockets all unlisted between
     × AreToldBehind before after unlisted all (kept all between) status
 
 -- The logs that the words choose were kept in the archive that two files held, which begins so, and which the closed
 -- files hold now.
-abbrev pub KeepsIn : {S P C D : Type 0} → SocketRules S P → AtOnce S C → (g : disk.Ghosts D) → Image
+abbrev pub KeepsIn : {S P C D : Type 0} → SocketRules S P → (ℕ → AtOnce S C) → (g : disk.Ghosts D) → Image
     → (Database → Database → Type 0) → Keep → S → S → Held → Held → Option (Files D) → ℕ → Type 0
-KeepsIn rules clock g image begins keep sockets sockets_after before after closed status =
-    IsSome closed × (chosen : Chosen) × Chooses keep chosen × TellsThese rules chosen sockets before after
+KeepsIn rules by g image begins keep sockets sockets_after before after closed status =
+    IsSome closed × (chosen : Chosen) × Chooses keep chosen
+    × TellsThese rules (by keep.at_once) chosen sockets before after
     (λ all between ends. IfSome closed
-    (IsDoneTo g image (KeepsArchive rules clock chosen all between sockets_after begins ends)))
+    (IsDoneTo g image (KeepsArchive rules (by keep.at_once) chosen all between sockets_after begins ends)))
     status
 
 -- what two files held is an archive, or becomes one, and the run over the logs that were chosen ends so
 abbrev pub EndsOver : {S P C : Type 0} → SocketRules S P → AtOnce S C → Chosen → Given → S → S → Database
     → NotDone → Type 0
-EndsOver rules clock which given before after found fault =
-    (archive : Database) × IsArchiveOf found archive × EndsRunOver rules clock given which before after archive fault
+EndsOver rules by which given before after found fault =
+    (archive : Database) × IsArchiveOf found archive × EndsRunOver rules by given which before after archive fault
 
 -- Why the logs that were chosen aren't kept in the archive that two files held: it is none; or what it is to begin on
 -- is no use; or the run over it ends so.
 abbrev pub RefusesKeep : {S P C : Type 0} → SocketRules S P → AtOnce S C → (FileFault → Type 0) → Chosen → Given → S
     → S → Database → FileFault → Type 0
-RefusesKeep rules clock bars which given before after found why =
-    (IsNoArchive found why ⊎ bars why) ⊎ EndsOver rules clock which given before after found (File why)
+RefusesKeep rules by bars which given before after found why =
+    (IsNoArchive found why ⊎ bars why) ⊎ EndsOver rules by which given before after found (File why)
 
 -- so the file is no use to `keep`
-abbrev pub FailsToKeep : {S P C F : Type 0} {s : start.Ghosts F} → SocketRules S P → AtOnce S C
+abbrev pub FailsToKeep : {S P C F : Type 0} {s : start.Ghosts F} → SocketRules S P → (ℕ → AtOnce S C)
     → disk.Ghosts (FileOf s) → Image → (FileFault → Type 0) → Keep → List ℕ → Bool → S → S → DiskFiles F s → FileFault →
     Type 0
-FailsToKeep rules clock g image bars keep path may before after files why = (which : Chosen) × Chooses keep which
+FailsToKeep rules by g image bars keep path may before after files why = (which : Chosen) × Chooses keep which
     × FailsFile g image path may
-    (RefusesKeep rules clock bars which (given_of keep.options) before after)
+    (RefusesKeep rules (by keep.at_once) bars which (given_of keep.options) before after)
     files why
 
 -- why words name no logs of a device: `bac log` with them asks for none
@@ -138,20 +139,22 @@ ChoosesNoneBy (group ∷ more) given fault = WantsMemory fault
 abbrev pub ChoosesNone : Keep → NotDone → Type 0
 ChoosesNone keep = ChoosesNoneBy keep.groups (given_of keep.options)
 
-module _ {S P C F : Type 0} {s : start.Ghosts F} (rules : SocketRules S P) (clock : AtOnce S C)
+module _ {S P C F : Type 0} {s : start.Ghosts F} (rules : SocketRules S P) (by : AtOnce S C)
     (g : disk.Ghosts (FileOf s)) (image : Image) where
   -- The logs that were chosen aren't kept, whatever the files hold; and of two closed files the run over what they held
   -- ends so, unless they couldn't be closed.
   abbrev pub EndsChosenKeep : Chosen → Given → S → S → DiskFiles F s → NotDone → Type 0
   EndsChosenKeep which given before after files fault =
-      EndsKeeping rules which (Unit {0}) (Unit {0}) before after fault × (IsUnclosedBySome files
+      EndsKeeping rules by which (Unit {0}) (Unit {0}) before after fault × (IsUnclosedBySome files
       ⊎ (IsSome files.closed
       × IfSome files.closed
-      (IsDoneTo g image (λ found left. EndsOver rules clock which given before after found fault))))
+      (IsDoneTo g image (λ found left. EndsOver rules by which given before after found fault))))
 
+module _ {S P C F : Type 0} {s : start.Ghosts F} (rules : SocketRules S P) (by : ℕ → AtOnce S C)
+    (g : disk.Ghosts (FileOf s)) (image : Image) where
   -- Why `keep` isn't done, if the file isn't at fault: memory is wanting; the words choose no logs, and no socket is
   -- opened; or those that they choose aren't kept.
   abbrev pub EndsKeep : Keep → S → S → DiskFiles F s → NotDone → Type 0
   EndsKeep keep before after files fault = WantsMemory fault ⊎ ((ChoosesNone keep fault × (after ≡ before))
       ⊎ ((which : Chosen) × Chooses keep which
-      × EndsChosenKeep which (given_of keep.options) before after files fault))
+      × EndsChosenKeep rules (by keep.at_once) g image which (given_of keep.options) before after files fault))

@@ -1,6 +1,6 @@
 -- What was printed of an archive in parts by the words of `bac kept`. Read from the end.
-use Rattle.std.specs.Prelude.{◌≡◌, ◌≢◌, ◌⊎◌, ◌++◌, ℕ, max, Bool, true, false, List, [], ◌∷◌, codes}
-use Rattle.std.specs.Prelude.{if◌then◌else◌, IsTrue, Option, None, Some, Result, Ok, Err}
+use Rattle.std.specs.Prelude.{◌≡◌, ◌≢◌, ◌⊎◌, ◌++◌, ℕ, max, Bool, true, false, List, [], ◌∷◌}
+use Rattle.std.specs.Prelude.{if◌then◌else◌, IsTrue, None, Some, Result, Ok, Err}
 use Rattle.std.specs.List.{All}
 use Rattle.std.specs.Io.KnownBytes.{Appends, Keeps}
 use Rattle.csv.specs.Writing.{default_writer, row_text}

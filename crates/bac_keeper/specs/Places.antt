@@ -19,7 +19,7 @@ use Rattle.bac_words.specs.Groups.{are_any}
 use Rattle.bac_words.specs.declared.job.Keep.{Keep}
 
 module _ {S P C F G : Type 0} {s : start.Ghosts F} {t : start.Ghosts G} (rules : SocketRules S P)
-    (clock : AtOnce S C) (g : disk.Ghosts (FileOf s)) (h : disk.Ghosts (FileOf t))
+    (by : ℕ → AtOnce S C) (g : disk.Ghosts (FileOf s)) (h : disk.Ghosts (FileOf t))
     (image before_image : Image) where
   -- The logs that the words choose were kept in the archive at the place of FILE, which was opened by its name. Where a
   -- part is begun it follows on the one before it.
@@ -27,13 +27,13 @@ module _ {S P C F G : Type 0} {s : start.Ghosts F} {t : start.Ghosts G} (rules :
   KeepsAt keep sockets sockets_after before after files parts status =
       (place : Place) × IsPlaced keep.file place
       × IsNamed (string_bytes place.path) (are_any keep.groups || is_some place.before) files
-      × KeepsIn rules clock g image (BeginsOn h before_image place.before parts) keep sockets sockets_after before after
+      × KeepsIn rules by g image (BeginsOn h before_image place.before parts) keep sockets sockets_after before after
       files.closed status
 
   -- its file is no use; or the place of FILE can't be told
   abbrev pub FailsAt : Keep → S → S → DiskFiles F s → DiskFiles G t → FileFault → Type 0
   FailsAt keep before after files parts why =
       ((place : Place) × IsPlaced keep.file place
-      × FailsToKeep rules clock g image (BarsPart h before_image place.before parts) keep (string_bytes place.path)
+      × FailsToKeep rules by g image (BarsPart h before_image place.before parts) keep (string_bytes place.path)
       (are_any keep.groups || is_some place.before) before after files why)
       ⊎ IsNotOpened keep.file (are_any keep.groups) files why

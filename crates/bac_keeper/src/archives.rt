@@ -15,8 +15,8 @@ ghost use Rattle.bac_keeper.specs.Ends.{uncounted_fault};
 
 use bac_asked::{FileFault, NotDone};
 use bac_check::{Uncounted, tell_missing};
-use bac_files::{DiskFiles, Place};
-use sqlite::{Alter, Connection, Error, ErrorCode, FileFrom, FileStore, Start};
+use bac_files::{DiskFiles, FileOf, Place};
+use sqlite::{Alter, Connection, Error, ErrorCode, FileStore, Start};
 use std::alloc::Global;
 use std::io::Write;
 
@@ -25,7 +25,7 @@ pub(crate) fn open_file<F: Start>(
     files: &mut DiskFiles<'_, F>,
     path: &str,
     may_make: bool,
-) -> Result<Connection<FileStore<FileFrom<F>>>, NotDone>
+) -> Result<Connection<FileStore<FileOf<F>>>, NotDone>
     ensures opened { IfOk result (IsOpenedBy (image_at F.Start)) }
     ensures named { OnOk result (IsNamed path.now may_make files.new) }
     ensures fault { IfErr result (MayFail (IsNotOpened path.now may_make files.new)) }
@@ -41,7 +41,7 @@ pub(crate) fn open_file<F: Start>(
 /// Closes it; a close that fails is the fault of what went well before.
 pub(crate) fn close_file<F: Start, T: Copy>(
     files: &mut DiskFiles<'_, F>,
-    conn: Connection<FileStore<FileFrom<F>>>,
+    conn: Connection<FileStore<FileOf<F>>>,
     done: Result<T, NotDone>,
 ) -> Result<T, NotDone>
     ensures done { IfOk result (λ value. done ≡ Ok value) }

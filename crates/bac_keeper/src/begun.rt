@@ -17,8 +17,8 @@ ghost use Rattle.bac_keeper.specs.Ends.{FailsFile, IsNoArchive, IsOfSomeFile, Ma
 use crate::archives::{close_file, open_archive, open_file, open_told};
 use bac_archive::{follow_on, is_nothing};
 use bac_asked::{FileFault, NotDone};
-use bac_files::{DiskFiles, Place};
-use sqlite::{Alter, Connection, Error, FileFrom, Start};
+use bac_files::{DiskFiles, FileOf, Place};
+use sqlite::{Alter, Connection, Error, Start};
 use sqlite_disk::Disk;
 use std::alloc::Global;
 use std::io::Write;
@@ -56,12 +56,12 @@ fn fill<A: Alter, G: Start>(
 ) -> Result<u8, NotDone>
     requires { (state A.Store conn.old).now.schema ≡ no_schema }
     ensures followed { HasCleanDisk (state A.Store conn.new)
-        → OnOk result (FollowsFiles ⟦<FileFrom<G> as Disk>⟧ (image_at G.Start) parts.new
+        → OnOk result (FollowsFiles ⟦<FileOf<G> as Disk>⟧ (image_at G.Start) parts.new
         (state A.Store conn.new).now) }
     ensures named { OnOk result (IsNamed before.now false parts.new) }
     ensures clean { HasCleanDisk (state A.Store conn.new) → HasCleanDisk (state A.Store conn.old) }
     ensures file { IfErr result IsOfSomeFile }
-    ensures fault { IfErr result (MayFail (FailsFile ⟦<FileFrom<G> as Disk>⟧ (image_at G.Start)
+    ensures fault { IfErr result (MayFail (FailsFile ⟦<FileOf<G> as Disk>⟧ (image_at G.Start)
         before.now false IsNoArchive parts.new)) }
 {
     let mut base = open_file(parts, before, false)?;
@@ -77,14 +77,14 @@ fn begin_part<A: Alter, G: Start>(
     before: &Option<String>,
 ) -> Result<(), NotDone>
     ensures begins { HasCleanDisk (state A.Store conn.new)
-        → OnOk result (BeginsOn ⟦<FileFrom<G> as Disk>⟧ (image_at G.Start) before.now parts.new
+        → OnOk result (BeginsOn ⟦<FileOf<G> as Disk>⟧ (image_at G.Start) before.now parts.new
         (state A.Store conn.old).now (state A.Store conn.new).now) }
     // The database is as it was; or it had nothing, and there is a part before it.
     ensures either { (conn.new ≡ conn.old)
         ⊎ (((state A.Store conn.old).now.schema ≡ no_schema) × IsSome before.now) }
     ensures clean { HasCleanDisk (state A.Store conn.new) → HasCleanDisk (state A.Store conn.old) }
     ensures file { IfErr result IsOfSomeFile }
-    ensures barred { IfErr result (MayFail (BarsPart ⟦<FileFrom<G> as Disk>⟧ (image_at G.Start)
+    ensures barred { IfErr result (MayFail (BarsPart ⟦<FileOf<G> as Disk>⟧ (image_at G.Start)
         before.now parts.new)) }
 {
     let Some(before) = before else {
@@ -109,7 +109,7 @@ pub(crate) fn begin_archive<A: Alter, G: Start, E: Write>(
     ensures archive { HasCleanDisk (state A.Store conn.new)
         → OnOk result (IsArchiveOf (state A.Store conn.old).now (state A.Store conn.new).now) }
     ensures begun { HasCleanDisk (state A.Store conn.new)
-        → OnOk result (BeginsOn ⟦<FileFrom<G> as Disk>⟧ (image_at G.Start) place.old.before
+        → OnOk result (BeginsOn ⟦<FileOf<G> as Disk>⟧ (image_at G.Start) place.old.before
         parts.new (state A.Store conn.old).now (state A.Store conn.new).now) }
     ensures committed { HasCleanDisk (state A.Store conn.new)
         → OnOk result ((state A.Store conn.new).committed ≡ (state A.Store conn.new).now) }
@@ -124,7 +124,7 @@ pub(crate) fn begin_archive<A: Alter, G: Start, E: Write>(
     // It is refused for what it held, or the part before is no use.
     ensures refused { IfErr result (MayFail (λ why. ((error : Error) × (why ≡ of_error error))
         ⊎ (IsHeld (state A.Store conn.new) → IsNoArchive (state A.Store conn.old).now why
-        ⊎ BarsPart ⟦<FileFrom<G> as Disk>⟧ (image_at G.Start) place.old.before parts.new why))) }
+        ⊎ BarsPart ⟦<FileOf<G> as Disk>⟧ (image_at G.Start) place.old.before parts.new why))) }
     ensures left { IsHeld (state A.Store conn.new)
         → HasArchive (state A.Store conn.old).now.schema
         → OnErr result ((state A.Store conn.new).committed ≡ (state A.Store conn.old).committed) }

@@ -27,10 +27,10 @@ use crate::begun::begin_archive;
 use bac_asked::{Fault, FileFault, NotDone, Options, check_options, named, named_all};
 use bac_desks::Clock;
 use bac_fetch::{Chosen, Sought, keep_chosen};
-use bac_files::{DiskFiles, Place};
+use bac_files::{DiskFiles, FileOf, Place};
 use bac_recall::Recalls;
 use bac_words::{Group, Keep, KeepOptions, Name, Way};
-use sqlite::{Alter, Connection, Error, ErrorCode, FileFrom, Start};
+use sqlite::{Alter, Connection, Error, ErrorCode, Start};
 use sqlite_disk::Disk;
 use std::alloc::Global;
 use std::io::Write;
@@ -158,6 +158,7 @@ fn keep_in<S: Recalls, C: Clock + Copy, A: Alter, G: Start, O: Write, E: Write>(
     place: &mut Place,
     alloc: Global,
     clock: C,
+    window: u32,
     chosen: Chosen,
     options: &Options<'_>,
     counts: bool,
@@ -169,12 +170,12 @@ where
     requires { AskTheirSources chosen }
     // What is kept is committed.
     ensures told { IfOk result (TellsThese (socket_rules S.opens S.closes S.Socket.sends
-        S.Socket.receives S.Socket.receives_within) chosen sockets.old
-        (O.contents output.old) (O.contents output.new)
+        S.Socket.receives S.Socket.receives_within) (at_once S.holds C.reads clock window) chosen
+        sockets.old (O.contents output.old) (O.contents output.new)
         (λ all between ends. IsHeld (state A.Store conn.new)
         → KeepsArchive (socket_rules S.opens S.closes S.Socket.sends S.Socket.receives
-        S.Socket.receives_within) (at_once S.holds C.reads clock) chosen all between sockets.new
-        (BeginsOn ⟦<FileFrom<G> as Disk>⟧ (image_at G.Start) place.old.before parts.new) ends
+        S.Socket.receives_within) (at_once S.holds C.reads clock window) chosen all between
+        sockets.new (BeginsOn ⟦<FileOf<G> as Disk>⟧ (image_at G.Start) place.old.before parts.new) ends
         (state A.Store conn.old).now (state A.Store conn.new).committed)) }
     // Whatever comes of it, no item and no log is lost.
     ensures stays { IsHeld (state A.Store conn.new)
@@ -184,21 +185,21 @@ where
     ensures fault { IfErr result (MayFail (λ why. ((error : Error) × (why ≡ of_error error))
         ⊎ (IsHeld (state A.Store conn.new) → RefusesKeep
         (socket_rules S.opens S.closes S.Socket.sends S.Socket.receives
-        S.Socket.receives_within) (at_once S.holds C.reads clock)
-        (BarsPart ⟦<FileFrom<G> as Disk>⟧ (image_at G.Start) place.old.before parts.new) chosen
+        S.Socket.receives_within) (at_once S.holds C.reads clock window)
+        (BarsPart ⟦<FileOf<G> as Disk>⟧ (image_at G.Start) place.old.before parts.new) chosen
         (given_in options.now) sockets.old sockets.new (state A.Store conn.old).now why))) }
     ensures ends { IfErr result (MayAsk (λ fault. EndsKeeping
         (socket_rules S.opens S.closes S.Socket.sends S.Socket.receives
-        S.Socket.receives_within) chosen (Unit {0}) (Unit {0}) sockets.old
-        sockets.new fault
+        S.Socket.receives_within) (at_once S.holds C.reads clock window) chosen (Unit {0})
+        (Unit {0}) sockets.old sockets.new fault
         × (IsHeld (state A.Store conn.new) → EndsOver
         (socket_rules S.opens S.closes S.Socket.sends S.Socket.receives
-        S.Socket.receives_within) (at_once S.holds C.reads clock) chosen (given_in options.now)
-        sockets.old sockets.new (state A.Store conn.old).now fault))) }
+        S.Socket.receives_within) (at_once S.holds C.reads clock window) chosen
+        (given_in options.now) sockets.old sockets.new (state A.Store conn.old).now fault))) }
 {
     begin_archive(alloc, conn, parts, place, errors)?;
     let status = keep_chosen(
-        sockets, conn, alloc, clock, chosen, options, counts, output, errors,
+        sockets, conn, alloc, clock, window, chosen, options, counts, output, errors,
     )?;
     settled(conn, status)
 }
@@ -241,7 +242,7 @@ where
     C: Drop,
     ensures kept { IfOk result (KeepsIn (socket_rules S.opens S.closes S.Socket.sends
         S.Socket.receives S.Socket.receives_within) (at_once S.holds C.reads clock)
-        ⟦<FileFrom<F> as Disk>⟧ (image_at F.Start) (BeginsOn ⟦<FileFrom<G> as Disk>⟧
+        ⟦<FileOf<F> as Disk>⟧ (image_at F.Start) (BeginsOn ⟦<FileOf<G> as Disk>⟧
         (image_at G.Start) place.old.before parts.new) asked.now sockets.old sockets.new
         (O.contents output.old) (O.contents output.new) files.new.closed) }
     ensures named { OnOk result (IsNamed (string_bytes place.old.path)
@@ -249,17 +250,17 @@ where
     ensures fault { IfErr result (MayFail (FailsToKeep
         (socket_rules S.opens S.closes S.Socket.sends S.Socket.receives
         S.Socket.receives_within) (at_once S.holds C.reads clock)
-        ⟦<FileFrom<F> as Disk>⟧ (image_at F.Start)
-        (BarsPart ⟦<FileFrom<G> as Disk>⟧ (image_at G.Start) place.old.before parts.new)
+        ⟦<FileOf<F> as Disk>⟧ (image_at F.Start)
+        (BarsPart ⟦<FileOf<G> as Disk>⟧ (image_at G.Start) place.old.before parts.new)
         asked.now (string_bytes place.old.path)
         (are_any asked.now.groups || is_some place.old.before) sockets.old sockets.new
         files.new)) }
     ensures stays { IsUnused files.old → IfSome files.new.closed
-        (IsDoneTo ⟦<FileFrom<F> as Disk>⟧ (image_at F.Start) LosesNothing) }
+        (IsDoneTo ⟦<FileOf<F> as Disk>⟧ (image_at F.Start) LosesNothing) }
     ensures ends { IfErr result (MayAsk (EndsKeep
         (socket_rules S.opens S.closes S.Socket.sends S.Socket.receives
         S.Socket.receives_within) (at_once S.holds C.reads clock)
-        ⟦<FileFrom<F> as Disk>⟧ (image_at F.Start) asked.now
+        ⟦<FileOf<F> as Disk>⟧ (image_at F.Start) asked.now
         sockets.old sockets.new files.new)) }
 {
     let options = options_of(&asked.options);
@@ -267,7 +268,18 @@ where
     // Without a device only an archive that has logs is of use, and none is made but a part of it.
     let mut conn = open_file(files, place.path.as_str(), may_make(asked, place))?;
     let done = keep_in(
-        sockets, &mut conn, parts, place, alloc, clock, chosen, &options, counts, output, errors,
+        sockets,
+        &mut conn,
+        parts,
+        place,
+        alloc,
+        clock,
+        asked.at_once,
+        chosen,
+        &options,
+        counts,
+        output,
+        errors,
     );
     close_file(files, conn, done)
 }

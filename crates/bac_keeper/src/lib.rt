@@ -16,4 +16,5 @@ mod stopping;
 
 pub use bac_asked::Fault;
 pub use bac_files::{DiskFiles, FolderFiles, Parts};
+pub use parts::Printer;
 pub use program::{run_keep, run_kept};

@@ -28,10 +28,12 @@ use std::io::Write;
 
 /// Prints the parts of an archive, one after the other.
 #[derive(Drop)]
-pub(crate) struct Printer {
+pub struct Printer {
     alloc: Global,
-    shown: Shown,
-    csv: bool,
+    /// Which logs are printed.
+    pub shown: Shown,
+    /// As CSV.
+    pub csv: bool,
     /// What was printed.
     seen: Seen,
     /// A log of the parts was chosen.

@@ -14,10 +14,10 @@ ghost use Rattle.bac_keeper.specs.Shown.{RefusesPrint, Shows, ShowsNoneBy};
 use crate::archives::{close_file, open_archive, open_file};
 use crate::keeping::text_of;
 use bac_asked::{NotDone, Options, named};
-use bac_files::DiskFiles;
+use bac_files::{DiskFiles, FileOf};
 use bac_kept::{Shown, print_shown};
 use bac_words::Kept;
-use sqlite::{Alter, Connection, Error, FileFrom, Start};
+use sqlite::{Alter, Connection, Error, Start};
 use sqlite_disk::Disk;
 use std::alloc::Global;
 use std::io::Write;
@@ -77,11 +77,11 @@ pub(crate) fn kept<F: Start, O: Write>(
     asked: &Kept,
     output: &mut O,
 ) -> Result<u8, NotDone>
-    ensures printed { IfOk result (PrintsIn ⟦<FileFrom<F> as Disk>⟧ (image_at F.Start) asked.now
+    ensures printed { IfOk result (PrintsIn ⟦<FileOf<F> as Disk>⟧ (image_at F.Start) asked.now
         (O.contents output.old) (O.contents output.new) files.new.closed) }
     ensures named { OnOk result (IsNamed asked.now.file false files.new) }
     ensures fault { IfErr result
-        (MayFail (FailsToPrint ⟦<FileFrom<F> as Disk>⟧ (image_at F.Start) asked.now files.new)) }
+        (MayFail (FailsToPrint ⟦<FileOf<F> as Disk>⟧ (image_at F.Start) asked.now files.new)) }
     ensures ends { IfErr result (MayAsk (EndsPrint asked.now)) }
 {
     let shown = choose(alloc, asked)?;

@@ -26,10 +26,10 @@ use crate::printing::kept;
 use crate::stopping::stop;
 use bac_asked::{Fault, FileFault, NotDone};
 use bac_desks::Clock;
-use bac_files::{DiskFiles, Parts, Place};
+use bac_files::{DiskFiles, FileOf, Parts, Place};
 use bac_recall::Recalls;
 use bac_words::{Keep, Kept};
-use sqlite::{FileFrom, Start};
+use sqlite::Start;
 use sqlite_disk::Disk;
 use std::alloc::Global;
 use std::io::Write;
@@ -80,16 +80,16 @@ fn stop_at<F: Start, O: Write, E: Write>(
     output: &mut O,
     errors: &mut E,
 ) -> Result<u8, Fault>
-    ensures stopped { IfOk result (λ status. (StopsAt ⟦<FileFrom<F> as Disk>⟧ (image_at F.Start)
+    ensures stopped { IfOk result (λ status. (StopsAt ⟦<FileOf<F> as Disk>⟧ (image_at F.Start)
         asked.now (O.contents output.old) (O.contents output.new) files.new status
         × (E.contents errors.new ≡ E.contents errors.old))
-        ⊎ IsOfFile (FailsToStopAt ⟦<FileFrom<F> as Disk>⟧ (image_at F.Start) asked.now files.new)
+        ⊎ IsOfFile (FailsToStopAt ⟦<FileOf<F> as Disk>⟧ (image_at F.Start) asked.now files.new)
         status) }
     ensures untold { OnErr result (E.contents errors.new ≡ E.contents errors.old) }
     ensures stays { IsUnused files.old → IfSome files.new.closed
-        (IsDoneTo ⟦<FileFrom<F> as Disk>⟧ (image_at F.Start) LosesNothing) }
+        (IsDoneTo ⟦<FileOf<F> as Disk>⟧ (image_at F.Start) LosesNothing) }
     ensures items { IsUnused files.old
-        → IfSome files.new.closed (IsDoneTo ⟦<FileFrom<F> as Disk>⟧ (image_at F.Start) KeepsItems) }
+        → IfSome files.new.closed (IsDoneTo ⟦<FileOf<F> as Disk>⟧ (image_at F.Start) KeepsItems) }
     ensures ends { IfErr result (λ why. EndsStop asked.now (NotDone.Asking why)) }
 {
     let place = match place_of(files, asked, false, u64::MAX) {
@@ -120,21 +120,21 @@ where
         (are_any asked.now.groups || is_some place.before) files.new
         × KeepsIn (socket_rules S.opens S.closes S.Socket.sends S.Socket.receives
         S.Socket.receives_within) (at_once S.holds C.reads clock)
-        ⟦<FileFrom<F> as Disk>⟧ (image_at F.Start)
-        (BeginsOn ⟦<FileFrom<G> as Disk>⟧ (image_at G.Start) place.before parts.new)
+        ⟦<FileOf<F> as Disk>⟧ (image_at F.Start)
+        (BeginsOn ⟦<FileOf<G> as Disk>⟧ (image_at G.Start) place.before parts.new)
         asked.now sockets.old sockets.new (O.contents output.old)
         (O.contents output.new) files.new.closed status)
         ⊎ IsOfFile (FailsToKeep (socket_rules S.opens S.closes S.Socket.sends
         S.Socket.receives S.Socket.receives_within) (at_once S.holds C.reads clock)
-        ⟦<FileFrom<F> as Disk>⟧ (image_at F.Start)
-        (BarsPart ⟦<FileFrom<G> as Disk>⟧ (image_at G.Start) place.before parts.new) asked.now
+        ⟦<FileOf<F> as Disk>⟧ (image_at F.Start)
+        (BarsPart ⟦<FileOf<G> as Disk>⟧ (image_at G.Start) place.before parts.new) asked.now
         (string_bytes place.path) (are_any asked.now.groups || is_some place.before)
         sockets.old sockets.new files.new) status) }
     ensures stays { IsUnused files.old → IfSome files.new.closed
-        (IsDoneTo ⟦<FileFrom<F> as Disk>⟧ (image_at F.Start) LosesNothing) }
+        (IsDoneTo ⟦<FileOf<F> as Disk>⟧ (image_at F.Start) LosesNothing) }
     ensures ends { IfErr result (λ why. EndsKeep (socket_rules S.opens S.closes S.Socket.sends
         S.Socket.receives S.Socket.receives_within) (at_once S.holds C.reads clock)
-        ⟦<FileFrom<F> as Disk>⟧ (image_at F.Start) asked.now sockets.old sockets.new files.new
+        ⟦<FileOf<F> as Disk>⟧ (image_at F.Start) asked.now sockets.old sockets.new files.new
         (NotDone.Asking why)) }
 {
     let mut place = place;
@@ -171,36 +171,36 @@ where
     ensures kept { asked.now.stop ≡ false
         → IfOk result (λ status. KeepsAt (socket_rules S.opens S.closes S.Socket.sends
         S.Socket.receives S.Socket.receives_within) (at_once S.holds C.reads clock)
-        ⟦<FileFrom<F> as Disk>⟧ ⟦<FileFrom<G> as Disk>⟧ (image_at F.Start) (image_at G.Start)
+        ⟦<FileOf<F> as Disk>⟧ ⟦<FileOf<G> as Disk>⟧ (image_at F.Start) (image_at G.Start)
         asked.now sockets.old sockets.new (O.contents output.old) (O.contents output.new)
         files.new parts.new status
         ⊎ IsOfFile (FailsAt (socket_rules S.opens S.closes S.Socket.sends S.Socket.receives
-        S.Socket.receives_within) (at_once S.holds C.reads clock) ⟦<FileFrom<F> as Disk>⟧
-        ⟦<FileFrom<G> as Disk>⟧ (image_at F.Start) (image_at G.Start) asked.now sockets.old
+        S.Socket.receives_within) (at_once S.holds C.reads clock) ⟦<FileOf<F> as Disk>⟧
+        ⟦<FileOf<G> as Disk>⟧ (image_at F.Start) (image_at G.Start) asked.now sockets.old
         sockets.new files.new parts.new) status) }
     // With `--stop` they were stopped, and nothing else of the archive changed; no socket is
     // opened, and only that the file is no use is told on the errors.
     ensures stopped { asked.now.stop ≡ true
-        → IfOk result (λ status. (StopsAt ⟦<FileFrom<F> as Disk>⟧ (image_at F.Start) asked.now
+        → IfOk result (λ status. (StopsAt ⟦<FileOf<F> as Disk>⟧ (image_at F.Start) asked.now
         (O.contents output.old) (O.contents output.new) files.new status
         × (E.contents errors.new ≡ E.contents errors.old))
         ⊎ IsOfFile
-        (FailsToStopAt ⟦<FileFrom<F> as Disk>⟧ (image_at F.Start) asked.now files.new)
+        (FailsToStopAt ⟦<FileOf<F> as Disk>⟧ (image_at F.Start) asked.now files.new)
         status) }
     ensures untold { asked.now.stop ≡ true
         → OnErr result (E.contents errors.new ≡ E.contents errors.old) }
     ensures silent { asked.now.stop ≡ true → sockets.new ≡ sockets.old }
     // Whatever comes of it, of an archive that the files held no item and no log is lost.
     ensures stays { IsUnused files.old → IfSome files.new.closed
-        (IsDoneTo ⟦<FileFrom<F> as Disk>⟧ (image_at F.Start) LosesNothing) }
+        (IsDoneTo ⟦<FileOf<F> as Disk>⟧ (image_at F.Start) LosesNothing) }
     // With `--stop` no item comes to it either.
     ensures items { asked.now.stop ≡ true → IsUnused files.old
-        → IfSome files.new.closed (IsDoneTo ⟦<FileFrom<F> as Disk>⟧ (image_at F.Start) KeepsItems) }
+        → IfSome files.new.closed (IsDoneTo ⟦<FileOf<F> as Disk>⟧ (image_at F.Start) KeepsItems) }
     // Or it ends so, and that is the caller's to tell.
     ensures ends { asked.now.stop ≡ false
         → IfErr result (λ why. EndsKeep (socket_rules S.opens S.closes S.Socket.sends
         S.Socket.receives S.Socket.receives_within) (at_once S.holds C.reads clock)
-        ⟦<FileFrom<F> as Disk>⟧ (image_at F.Start) asked.now sockets.old sockets.new files.new
+        ⟦<FileOf<F> as Disk>⟧ (image_at F.Start) asked.now sockets.old sockets.new files.new
         (NotDone.Asking why)) }
     ensures stop_ends { asked.now.stop ≡ true
         → IfErr result (λ why. EndsStop asked.now (NotDone.Asking why)) }
@@ -226,7 +226,7 @@ fn kept_file<F: Start, O: Write, E: Write>(
     output: &mut O,
     errors: &mut E,
 ) -> Result<u8, Fault>
-    ensures printed { IfOk result (PrintsFile ⟦<FileFrom<F> as Disk>⟧ (image_at F.Start) asked.now
+    ensures printed { IfOk result (PrintsFile ⟦<FileOf<F> as Disk>⟧ (image_at F.Start) asked.now
         (O.contents output.old) (O.contents output.new) (E.contents errors.old)
         (E.contents errors.new) files.new) }
     ensures untold { OnErr result (E.contents errors.new ≡ E.contents errors.old) }
@@ -269,7 +269,7 @@ pub fn run_kept<F: Start, P: Parts, O: Write, E: Write>(
     // which alone is told on the errors. Of a folder the parts were printed, one after the other.
     ensures printed { IfOk result (λ status. (listing : Listing) × (listed : P)
         × P.lists folders.old asked.now.file listing listed
-        × PrintsListed P.holds P.bars ⟦<FileFrom<F> as Disk>⟧ (image_at F.Start) asked.now listing
+        × PrintsListed P.holds P.bars ⟦<FileOf<F> as Disk>⟧ (image_at F.Start) asked.now listing
         listed folders.new files.old files.new (O.contents output.old) (O.contents output.new)
         (E.contents errors.old) (E.contents errors.new) status) }
     ensures ends { IfErr result (λ why. EndsPrint asked.now (NotDone.Asking why)) }

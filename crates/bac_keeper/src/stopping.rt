@@ -30,11 +30,11 @@ use bac_asked::{
     Fault, FileFault, NotDone, Options, Wanted, named, named_all, of_error, push_stopped,
 };
 use bac_fetch::{is_same_log, is_wanted};
-use bac_files::DiskFiles;
+use bac_files::{DiskFiles, FileOf};
 use bac_print::write_text;
 use bac_questions::is_same_device;
 use bac_words::{Group, Keep, Name, Word};
-use sqlite::{Alter, Connection, Error, FileFrom, Start};
+use sqlite::{Alter, Connection, Error, Start};
 use sqlite_disk::Disk;
 use std::alloc::{AllocError, Global};
 use std::io::Write;
@@ -259,15 +259,15 @@ pub(crate) fn stop<F: Start, O: Write>(
     path: &str,
     output: &mut O,
 ) -> Result<u8, NotDone>
-    ensures stopped { IfOk result (StopsIn ⟦<FileFrom<F> as Disk>⟧ (image_at F.Start) asked.now
+    ensures stopped { IfOk result (StopsIn ⟦<FileOf<F> as Disk>⟧ (image_at F.Start) asked.now
         (O.contents output.old) (O.contents output.new) files.new.closed) }
     ensures named { OnOk result (IsNamed path.now false files.new) }
-    ensures fault { IfErr result (MayFail (FailsToStop ⟦<FileFrom<F> as Disk>⟧ (image_at F.Start)
+    ensures fault { IfErr result (MayFail (FailsToStop ⟦<FileOf<F> as Disk>⟧ (image_at F.Start)
         asked.now path.now files.new)) }
     ensures stays { IsUnused files.old → IfSome files.new.closed
-        (IsDoneTo ⟦<FileFrom<F> as Disk>⟧ (image_at F.Start) LosesNothing) }
+        (IsDoneTo ⟦<FileOf<F> as Disk>⟧ (image_at F.Start) LosesNothing) }
     ensures items { IsUnused files.old
-        → IfSome files.new.closed (IsDoneTo ⟦<FileFrom<F> as Disk>⟧ (image_at F.Start) KeepsItems) }
+        → IfSome files.new.closed (IsDoneTo ⟦<FileOf<F> as Disk>⟧ (image_at F.Start) KeepsItems) }
     ensures ends { IfErr result (MayAsk (EndsStop asked.now)) }
 {
     let options = options_of(&asked.options);

@@ -74,7 +74,7 @@ told_alone Done fails ends passed before said errors (Err why) status ok quiet s
     inr (inr (why, so, subst (λ (h : Held). IsToldAfter passed (fault_of why) h errors status) quiet told))
 
 -- `keep`, and its fault is told
-pub keep_ran : {S P F G T : Type 0} {s : start.Ghosts F} {t : start.Ghosts G} (g : disk.Ghosts (FileOf s)) (h : disk.Ghosts (FileOf t)) (parts : DiskFiles G t) (waits : AtOnce S T) (rules : SocketRules S P) (passes : S → Passed) (asked : KeepWords) (sockets sockets' : S)
+pub keep_ran : {S P F G T : Type 0} {s : start.Ghosts F} {t : start.Ghosts G} (g : disk.Ghosts (FileOf s)) (h : disk.Ghosts (FileOf t)) (parts : DiskFiles G t) (waits : ℕ → AtOnce S T) (rules : SocketRules S P) (passes : S → Passed) (asked : KeepWords) (sockets sockets' : S)
     (out out' before said errors : Held) (left : DiskFiles F s) (done : Result ℕ KeepFault) (status : ℕ) (stops : Bool)
     → (stops ≡ false → IfOk done (λ n. KeepsAt rules waits g h (image_at s) (image_at t) asked sockets sockets' out out' left parts n
     ⊎ IsOfFile (FailsAt rules waits g h (image_at s) (image_at t) asked sockets sockets' left parts) n))
@@ -150,7 +150,7 @@ check_ran folders p q asked out out' before said errors (Err why) status ok so q
     ]) told)
 
 -- what was done of `keep` is the same beside an input and a clock
-pub keep_over : {S P C F G T : Type 0} {s : start.Ghosts F} {t : start.Ghosts G} (g : disk.Ghosts (FileOf s)) (h : disk.Ghosts (FileOf t)) (parts : DiskFiles G t) (waits : AtOnce S T) (rules : SocketRules S P) (passes : S → Passed) (asked : KeepWords) (stops : Bool) (old new : Streams S C)
+pub keep_over : {S P C F G T : Type 0} {s : start.Ghosts F} {t : start.Ghosts G} (g : disk.Ghosts (FileOf s)) (h : disk.Ghosts (FileOf t)) (parts : DiskFiles G t) (waits : ℕ → AtOnce S T) (rules : SocketRules S P) (passes : S → Passed) (asked : KeepWords) (stops : Bool) (old new : Streams S C)
     (input left_input : Held) (status : ℕ) (left : DiskFiles F s)
     → RunsKeepBy g h parts waits rules passes stops asked (streams input old.output old.errors old.sockets (tt {0})) status (streams left_input new.output new.errors new.sockets (tt {0})) left
     → RunsKeepBy g h parts waits rules passes stops asked old status new left
@@ -158,7 +158,7 @@ keep_over g h parts waits rules passes asked false old new input left_input stat
 keep_over g h parts waits rules passes asked true old new input left_input status left it = it
 
 -- so is what was done of it by its devices, for which the input isn't read, or is
-pub groups_over : {S P C F G T : Type 0} {s : start.Ghosts F} {t : start.Ghosts G} (g : disk.Ghosts (FileOf s)) (h : disk.Ghosts (FileOf t)) (parts : DiskFiles G t) (waits : AtOnce S T) (rules : SocketRules S P) (passes : S → Passed) (asked : KeepWords) (reads : Bool) (old new : Streams S C)
+pub groups_over : {S P C F G T : Type 0} {s : start.Ghosts F} {t : start.Ghosts G} (g : disk.Ghosts (FileOf s)) (h : disk.Ghosts (FileOf t)) (parts : DiskFiles G t) (waits : ℕ → AtOnce S T) (rules : SocketRules S P) (passes : S → Passed) (asked : KeepWords) (reads : Bool) (old new : Streams S C)
     (files left : DiskFiles F s) (status : ℕ)
     → RunsGroups g h parts waits rules passes reads asked (streams old.input old.output old.errors old.sockets (tt {0})) files status (streams new.input new.output new.errors new.sockets (tt {0})) left
     → RunsGroups g h parts waits rules passes reads asked old files status new left
@@ -178,7 +178,7 @@ one_job said a b p q = cc
 pub never_both : {A : Type 0} (said : Result Job Word) (a : Job) (w : Word) → said ≡ Ok a → said ≡ Err w → A
 never_both said a w p q = absurd (cc)
 
-module _ {S P C F G T Q : Type 0} {s : start.Ghosts F} {t : start.Ghosts G} (traces : S → Bool → S → Type 0) (rules : SocketRules S P) (passes : S → Passed) (tells : C → Option CivilTime → C → Type 0) (g : disk.Ghosts (FileOf s)) (h : disk.Ghosts (FileOf t)) (parts : DiskFiles G t) (waits : AtOnce S T) (folders : PartRules Q) (p q : Q)
+module _ {S P C F G T Q : Type 0} {s : start.Ghosts F} {t : start.Ghosts G} (traces : S → Bool → S → Type 0) (rules : SocketRules S P) (passes : S → Passed) (tells : C → Option CivilTime → C → Type 0) (g : disk.Ghosts (FileOf s)) (h : disk.Ghosts (FileOf t)) (parts : DiskFiles G t) (waits : ℕ → AtOnce S T) (folders : PartRules Q) (p q : Q)
     (old new : Streams S C) (files left : DiskFiles F s) (status : ℕ) where
   -- what was done of the job of words
   pub job_done : (words : List Text) (job asked : Job) → job_in words ≡ Ok job → AskFor words asked → DoesTold g h parts waits folders p q traces rules passes tells job old files status new left
@@ -193,7 +193,7 @@ module _ {S P C F G T Q : Type 0} {s : start.Ghosts F} {t : start.Ghosts G} (tra
   unread words (LongNumber w) refused ran same asked ask = never_both (job_in words) asked w ask.1 refused.1
   unread words Memory refused ran same asked ask = inl (ran, same.0, same.1)
 
-module _ {S P C F G T Q : Type 0} {s : start.Ghosts F} {t : start.Ghosts G} (rules : SocketRules S P) (passes : S → Passed) (tells : C → Option CivilTime → C → Type 0) (g : disk.Ghosts (FileOf s)) (h : disk.Ghosts (FileOf t)) (parts : DiskFiles G t) (waits : AtOnce S T) (folders : PartRules Q) (p q : Q)
+module _ {S P C F G T Q : Type 0} {s : start.Ghosts F} {t : start.Ghosts G} (rules : SocketRules S P) (passes : S → Passed) (tells : C → Option CivilTime → C → Type 0) (g : disk.Ghosts (FileOf s)) (h : disk.Ghosts (FileOf t)) (parts : DiskFiles G t) (waits : ℕ → AtOnce S T) (folders : PartRules Q) (p q : Q)
     (old new : Streams S C) (files left : DiskFiles F s) (status : ℕ) where
   -- a job of another tool than `keep` and `kept` was done beside the files
   pub other_done : (asked : Job) → ((words : KeepWords) → asked ≡ job.Keep words → ⊥) → ((words : KeptWords) → asked ≡ job.Kept words → ⊥)

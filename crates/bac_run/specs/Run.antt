@@ -103,7 +103,7 @@ module _ {S C Q : Type 0} (folders : PartRules Q) (p q : Q) where
       ⊎ HasFaultStatus (EndsUnchecked asked old new) status
 
 module _ {S C F G T : Type 0} {s : start.Ghosts F} {t : start.Ghosts G} (g : disk.Ghosts (FileOf s))
-    (h : disk.Ghosts (FileOf t)) (parts : DiskFiles G t) (waits : AtOnce S T) where
+    (h : disk.Ghosts (FileOf t)) (parts : DiskFiles G t) (waits : ℕ → AtOnce S T) where
   -- `keep`: the logs that the words choose were kept in the archive that the files held, of a folder in a part, which
   -- follows on the one before it where it was begun; these are the files of that. Or the file is no use; or the
   -- status is a fault's. With `--stop` those that the words mean were stopped, or the file is no use, or a fault is
@@ -151,7 +151,7 @@ module _ {S C F G T : Type 0} {s : start.Ghosts F} {t : start.Ghosts G} (g : dis
       RunsListed rules passes asked old files status new left
 
 module _ {S C F G T Q : Type 0} {s : start.Ghosts F} {t : start.Ghosts G} (g : disk.Ghosts (FileOf s))
-    (h : disk.Ghosts (FileOf t)) (parts : DiskFiles G t) (waits : AtOnce S T) (folders : PartRules Q) (p q : Q)
+    (h : disk.Ghosts (FileOf t)) (parts : DiskFiles G t) (waits : ℕ → AtOnce S T) (folders : PartRules Q) (p q : Q)
   where
     -- The tool of a job. `keep` works on files; `kept` and `check` read parts, too, and open no socket. Each other one
     -- leaves the files alone.

@@ -20,13 +20,14 @@ ghost use Rattle.bac_run.specs.Run.{RunsCheck, RunsKeep, RunsKept, RunsListed};
 
 use bac_check::run_check;
 use bac_desks::Clock as WaitClock;
+use bac_files::FileOf;
 use bac_heeding::{Heeds, Passed};
 use bac_keeper::{DiskFiles, Fault as KeepFault, Parts, run_keep, run_kept};
 use bac_recall::Recalls;
 use bac_tools::{Clock, Fault, listed_devices, run_read, tell_after};
 use bac_trace::Tracing;
 use bac_words::{Check, Job, Keep, Kept, read_words};
-use sqlite::{FileFrom, Start};
+use sqlite::Start;
 use sqlite_disk::Disk;
 use std::alloc::Global;
 use std::io::{Read, Write};
@@ -76,7 +77,7 @@ fn keep_and_tell<
 ) -> u8
 where
     W: Drop,
-    ensures ran { RunsKeep ⟦<FileFrom<F> as Disk>⟧ ⟦<FileFrom<G> as Disk>⟧ parts.new
+    ensures ran { RunsKeep ⟦<FileOf<F> as Disk>⟧ ⟦<FileOf<G> as Disk>⟧ parts.new
         (at_once S.holds W.reads waits)
         (socket_rules S.opens S.closes S.Socket.sends S.Socket.receives S.Socket.receives_within)
         S.passes asked.now
@@ -84,7 +85,7 @@ where
         (streams None (O.contents output.new) (E.contents errors.new) sockets.new (tt {0}))
         files.new }
     ensures stays { IsUnused files.old → IfSome files.new.closed
-        (IsDoneTo ⟦<FileFrom<F> as Disk>⟧ (image_at F.Start) LosesNothing) }
+        (IsDoneTo ⟦<FileOf<F> as Disk>⟧ (image_at F.Start) LosesNothing) }
 {
     let done = run_keep(
         sockets, files, parts, alloc, waits, asked, counts, output, errors,
@@ -116,7 +117,7 @@ fn keep_listed<
 ) -> u8
 where
     W: Drop,
-    ensures ran { RunsListed ⟦<FileFrom<F> as Disk>⟧ ⟦<FileFrom<G> as Disk>⟧ parts.new
+    ensures ran { RunsListed ⟦<FileOf<F> as Disk>⟧ ⟦<FileOf<G> as Disk>⟧ parts.new
         (at_once S.holds W.reads waits)
         (socket_rules S.opens S.closes S.Socket.sends S.Socket.receives S.Socket.receives_within)
         S.passes asked
@@ -125,7 +126,7 @@ where
         (streams (I.remaining input.new) (O.contents output.new) (E.contents errors.new)
         sockets.new (tt {0})) files.new }
     ensures stays { IsUnused files.old → IfSome files.new.closed
-        (IsDoneTo ⟦<FileFrom<F> as Disk>⟧ (image_at F.Start) LosesNothing) }
+        (IsDoneTo ⟦<FileOf<F> as Disk>⟧ (image_at F.Start) LosesNothing) }
 {
     match listed_devices(alloc, input) {
         Ok(groups) => {
@@ -161,7 +162,7 @@ fn keep_job<
 ) -> u8
 where
     W: Drop,
-    ensures ran { RunsGroups ⟦<FileFrom<F> as Disk>⟧ ⟦<FileFrom<G> as Disk>⟧ parts.new
+    ensures ran { RunsGroups ⟦<FileOf<F> as Disk>⟧ ⟦<FileOf<G> as Disk>⟧ parts.new
         (at_once S.holds W.reads waits)
         (socket_rules S.opens S.closes S.Socket.sends S.Socket.receives S.Socket.receives_within)
         S.passes (reads_input asked) asked
@@ -170,7 +171,7 @@ where
         (streams (I.remaining input.new) (O.contents output.new) (E.contents errors.new)
         sockets.new (tt {0})) files.new }
     ensures stays { IsUnused files.old → IfSome files.new.closed
-        (IsDoneTo ⟦<FileFrom<F> as Disk>⟧ (image_at F.Start) LosesNothing) }
+        (IsDoneTo ⟦<FileOf<F> as Disk>⟧ (image_at F.Start) LosesNothing) }
 {
     if asked.reads_input() {
         return keep_listed(
@@ -191,7 +192,7 @@ fn print_and_tell<F: Start, Q: Parts, O: Write, E: Write>(
     output: &mut O,
     errors: &mut E,
 ) -> u8
-    ensures { RunsKept ⟦<FileFrom<F> as Disk>⟧ (part_rules Q.lists Q.holds Q.bars) folders.old
+    ensures { RunsKept ⟦<FileOf<F> as Disk>⟧ (part_rules Q.lists Q.holds Q.bars) folders.old
         folders.new asked.now
         (streams None (O.contents output.old) (E.contents errors.old) (tt {0}) (tt {0})) files.old
         result
@@ -244,7 +245,7 @@ fn run_job<
 ) -> u8
 where
     W: Drop,
-    ensures ran { DoesAll ⟦<FileFrom<F> as Disk>⟧ ⟦<FileFrom<G> as Disk>⟧ parts.new
+    ensures ran { DoesAll ⟦<FileOf<F> as Disk>⟧ ⟦<FileOf<G> as Disk>⟧ parts.new
         (at_once S.holds W.reads waits) (part_rules Q.lists Q.holds Q.bars) folders.old folders.new
         (socket_rules S.opens S.closes S.Socket.sends S.Socket.receives S.Socket.receives_within)
         S.passes C.tells job (streams (I.remaining input.old) (O.contents output.old)
@@ -253,7 +254,7 @@ where
         clock.new) files.new }
     ensures stays { IsUnused files.old → (IsOfKept job → ⊥)
         → IfSome files.new.closed
-        (IsDoneTo ⟦<FileFrom<F> as Disk>⟧ (image_at F.Start) LosesNothing) }
+        (IsDoneTo ⟦<FileOf<F> as Disk>⟧ (image_at F.Start) LosesNothing) }
 {
     match job {
         Job::Keep(asked) => keep_job(
@@ -292,7 +293,7 @@ fn run_told<
 ) -> u8
 where
     W: Drop,
-    ensures ran { DoesTold ⟦<FileFrom<F> as Disk>⟧ ⟦<FileFrom<G> as Disk>⟧ parts.new
+    ensures ran { DoesTold ⟦<FileOf<F> as Disk>⟧ ⟦<FileOf<G> as Disk>⟧ parts.new
         (at_once S.holds W.reads waits) (part_rules Q.lists Q.holds Q.bars) folders.old
         folders.new S.traces
         (socket_rules S.opens S.closes S.Socket.sends S.Socket.receives S.Socket.receives_within)
@@ -302,7 +303,7 @@ where
         clock.new) files.new }
     ensures stays { IsUnused files.old → (IsOfKept job → ⊥)
         → IfSome files.new.closed
-        (IsDoneTo ⟦<FileFrom<F> as Disk>⟧ (image_at F.Start) LosesNothing) }
+        (IsDoneTo ⟦<FileOf<F> as Disk>⟧ (image_at F.Start) LosesNothing) }
 {
     sockets.trace(job.is_traced());
     run_job(
@@ -344,7 +345,7 @@ where
     W: Drop,
     // The tool that the words name does what they say.
     ensures done { (job : AnyJob) → AskFor (map string_bytes words.now) job
-        → RunsAll ⟦<FileFrom<F> as Disk>⟧ ⟦<FileFrom<G> as Disk>⟧ parts.new
+        → RunsAll ⟦<FileOf<F> as Disk>⟧ ⟦<FileOf<G> as Disk>⟧ parts.new
         (at_once S.holds W.reads waits) (part_rules Q.lists Q.holds Q.bars) folders.old
         folders.new S.traces
         (socket_rules S.opens S.closes S.Socket.sends S.Socket.receives
@@ -356,7 +357,7 @@ where
     // Whatever comes of it, of an archive that the files held no item and no log is lost.
     ensures stays { IsUnused files.old → (AskForKept (map string_bytes words.now) → ⊥)
         → IfSome files.new.closed
-        (IsDoneTo ⟦<FileFrom<F> as Disk>⟧ (image_at F.Start) LosesNothing) }
+        (IsDoneTo ⟦<FileOf<F> as Disk>⟧ (image_at F.Start) LosesNothing) }
     // Of words with a wrong value this is told, and nothing else is done.
     ensures bad_value { (word : AnyWord) → AreWrong (map string_bytes words.now) word
         → (files.new ≡ files.old) × (folders.new ≡ folders.old)

@@ -35,7 +35,7 @@ module _ {S C Q : Type 0} (folders : PartRules Q) (law : ZeroIsWhole folders) (p
   found_whole asked (inr (why, so, inr is)) none = absurd (cc)
 
 module _ {S P C F G T Q : Type 0} {s : start.Ghosts F} {t : start.Ghosts G} (traces : S → Bool → S → Type 0) (rules : SocketRules S P)
-    (passes : S → Passed) (tells : C → Option CivilTime → C → Type 0) (g : disk.Ghosts (FileOf s)) (h : disk.Ghosts (FileOf t)) (parts : DiskFiles G t) (waits : AtOnce S T) (folders : PartRules Q)
+    (passes : S → Passed) (tells : C → Option CivilTime → C → Type 0) (g : disk.Ghosts (FileOf s)) (h : disk.Ghosts (FileOf t)) (parts : DiskFiles G t) (waits : ℕ → AtOnce S T) (folders : PartRules Q)
     (law : ZeroIsWhole folders) (p q : Q) (old new : Streams S C) (files left : DiskFiles F s) (status : ℕ) where
   -- `check` that ended with 0
   pub all_whole : (asked : CheckWords) → RunsAll g h parts waits folders p q traces rules passes tells (job.Check asked) old files status new left

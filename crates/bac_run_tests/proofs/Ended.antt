@@ -120,7 +120,7 @@ all_caught_up (end ∷ ends) none =
     (ends_caught_up end.why both.0, all_caught_up ends both.1)
 
 module _ {S P C F G T Q : Type 0} {s : start.Ghosts F} {t : start.Ghosts G} (traces : S → Bool → S → Type 0) (rules : SocketRules S P)
-    (passes : S → Passed) (tells : C → Option CivilTime → C → Type 0) (g : disk.Ghosts (FileOf s)) (h : disk.Ghosts (FileOf t)) (parts : DiskFiles G t) (waits : AtOnce S T) (folders : PartRules Q) (p q : Q)
+    (passes : S → Passed) (tells : C → Option CivilTime → C → Type 0) (g : disk.Ghosts (FileOf s)) (h : disk.Ghosts (FileOf t)) (parts : DiskFiles G t) (waits : ℕ → AtOnce S T) (folders : PartRules Q) (p q : Q)
     (old new : Streams S C)
     (files left : DiskFiles F s) (status : ℕ) where
   -- `keep` over these sockets
@@ -136,7 +136,7 @@ module _ {S P C F G T Q : Type 0} {s : start.Ghosts F} {t : start.Ghosts G} (tra
         all = all;
         ask_their_source = ask;
         between = between;
-        found = subst (λ (u : List Unlisted). AreFound rules chosen told all u between) listed found;
+        found = subst (λ (u : List Unlisted). AreFound rules (waits asked.at_once) chosen told all u between) listed found;
         ends = ends;
         caught_up = all_caught_up ends both.1;
         lines = subst (λ (u : List Unlisted). Appends old.output new.output (unlisted_lines u ++ lines_of all ends)) listed lines;

@@ -1,5 +1,5 @@
 -- What a run of `bac keep` means that ended with 0.
-use Rattle.std.specs.Prelude.{◌≡◌, Bool, true, false, List, [], ◌∷◌, Option, IfSome, IsSome, Ok}
+use Rattle.std.specs.Prelude.{ℕ, ◌≡◌, Bool, true, false, List, [], ◌∷◌, Option, IfSome, IsSome, Ok}
 use Rattle.std.specs.List.{All}
 use Rattle.std.specs.Io.KnownBytes.{Appends}
 use Rattle.sqlite_disk.specs.declared.Disk as disk
@@ -43,7 +43,7 @@ HasDevices true asked input left which =
 
 -- Each device told its logs. Each log that the words of `keep` choose is caught up and has its line, and two closed
 -- files hold the archive in which these runs kept them.
-pub record IsAllKept {S P C D G : Type 0} {t : start.Ghosts G} (rules : SocketRules S P) (clock : AtOnce S C)
+pub record IsAllKept {S P C D G : Type 0} {t : start.Ghosts G} (rules : SocketRules S P) (by : ℕ → AtOnce S C)
     (g : disk.Ghosts D) (h : disk.Ghosts (FileOf t)) (image before_image : Image) (asked : Keep)
     (sockets sockets_after : S) (before after : Held) (closed : Option (Files D)) (parts : DiskFiles G t) : Type 0 where
   pub chosen : Chosen
@@ -51,12 +51,12 @@ pub record IsAllKept {S P C D G : Type 0} {t : start.Ghosts G} (rules : SocketRu
   pub all : List Wanted
   pub ask_their_source : All AsksItsSource all
   pub between : S
-  pub found : AreFound rules chosen sockets all [] between
+  pub found : AreFound rules (by asked.at_once) chosen sockets all [] between
   pub ends : List End
   pub caught_up : AreCaughtUp ends
   pub lines : Appends before after (lines_of all ends)
   pub is_closed : IsSome closed
   pub place : Place
   pub placed : IsPlaced asked.file place
-  pub kept : IfSome closed (IsDoneTo g image (KeepsArchive rules clock chosen all between sockets_after
+  pub kept : IfSome closed (IsDoneTo g image (KeepsArchive rules (by asked.at_once) chosen all between sockets_after
       (BeginsOn h before_image place.before parts) ends))

@@ -1,2 +1,3 @@
 pub mod Done
 pub mod Whole
+pub mod Printed

@@ -1,10 +1,10 @@
 //! Runs of `keep`, `kept` and `check`, and what their status and their sockets tell.
 
-ghost use Rattle.std.specs.Prelude.{◌≡◌, ◌⊎◌, false, map};
+ghost use Rattle.std.specs.Prelude.{◌≡◌, ◌⊎◌, ℕ, List, Ok, Some, false, map};
 ghost use Rattle.std.specs.Io.KnownBytes.{Keeps};
 ghost use Rattle.std.specs.String.{string_bytes};
 ghost use Rattle.sqlite_wal.specs.Files.{image_at};
-ghost use Rattle.bac_files.specs.Parts.{part_rules};
+ghost use Rattle.bac_files.specs.Parts.{Listing, part_rules};
 ghost use Rattle.bac_fetch.specs.Ahead.{at_once};
 ghost use Rattle.bac_ports.specs.Sockets.{socket_rules};
 ghost use Rattle.bac_tools.specs.Run.{AskFor};
@@ -14,15 +14,17 @@ ghost use Rattle.bac_words.specs.declared.job.Keep.{Keep as KeepWords};
 ghost use Rattle.bac_words.specs.declared.job.Kept.{Kept as KeptWords};
 ghost use Rattle.bac_words.specs.Jobs.{reads_input};
 ghost use Rattle.bac_run_tests.specs.Done.{HasDevices, IsAllKept};
+ghost use Rattle.bac_run_tests.specs.Printed.{IsFolderPrinted};
 ghost use Rattle.bac_run_tests.specs.Whole.{IsFoundWhole};
 
 use bac_check::zero_is_whole;
 use bac_desks::Clock as WaitClock;
+use bac_files::FileOf;
 use bac_recall::Recalls;
 use bac_run::{DiskFiles, Parts, run};
 use bac_tools::Clock;
 use bac_trace::Tracing;
-use sqlite::{FileFrom, Start};
+use sqlite::Start;
 use sqlite_disk::Disk;
 use std::alloc::Global;
 use std::io::{Read, Write};
@@ -61,8 +63,8 @@ where
         × (which : KeepWords) × HasDevices (reads_input asked) asked
         (I.remaining input.old) (I.remaining input.new) which
         × IsAllKept (socket_rules S.opens S.closes S.Socket.sends S.Socket.receives
-        S.Socket.receives_within) (at_once S.holds W.reads waits) ⟦<FileFrom<F> as Disk>⟧
-        ⟦<FileFrom<G> as Disk>⟧ (image_at F.Start) (image_at G.Start) which told
+        S.Socket.receives_within) (at_once S.holds W.reads waits) ⟦<FileOf<F> as Disk>⟧
+        ⟦<FileOf<G> as Disk>⟧ (image_at F.Start) (image_at G.Start) which told
         sockets.new (O.contents output.old) (O.contents output.new) files.new.closed parts.new }
 {
     run(
@@ -99,6 +101,47 @@ where
     W: Drop,
     ensures { (asked : KeptWords) → AskFor (map string_bytes words.now) (job.Kept asked)
         → (sockets.new ≡ sockets.old) ⊎ S.traces sockets.old false sockets.new }
+{
+    run(
+        sockets, files, parts, folders, alloc, waits, words, false, input, output, errors, clock,
+    )
+}
+
+/// The program with the words of `kept`. Where it ends with 0 and they name a folder, each of its
+/// parts was an archive, and what it keeps behind the parts before it was printed, so each item
+/// once; the newest may have nothing. Nothing is told on the errors.
+pub fn print_folder<
+    S: Tracing + Recalls,
+    F: Start,
+    G: Start,
+    Q: Parts,
+    I: Read,
+    O: Write,
+    E: Write,
+    C: Clock,
+    W: WaitClock + Copy,
+>(
+    sockets: &mut S,
+    files: &mut DiskFiles<'_, F>,
+    parts: &mut DiskFiles<'_, G>,
+    folders: &mut Q,
+    alloc: Global,
+    waits: W,
+    words: &[String],
+    input: &mut I,
+    output: &mut O,
+    errors: &mut E,
+    clock: &mut C,
+) -> u8
+where
+    W: Drop,
+    ensures { (asked : KeptWords) → AskFor (map string_bytes words.now) (job.Kept asked)
+        → result ≡ 0
+        → (listing : Listing) × (listed : Q) × Q.lists folders.old asked.file listing listed
+        × ((paths : List (List ℕ)) → listing ≡ Ok (Some paths)
+        → IsFolderPrinted (part_rules Q.lists Q.holds Q.bars) asked paths listed folders.new
+        (O.contents output.old) (O.contents output.new) (E.contents errors.old)
+        × Keeps (E.contents errors.old) (E.contents errors.new)) }
 {
     run(
         sockets, files, parts, folders, alloc, waits, words, false, input, output, errors, clock,

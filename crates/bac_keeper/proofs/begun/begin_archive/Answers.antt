@@ -1,7 +1,5 @@
 use Rattle.std.proofs.Common.{◌⊎◌, ◌≡◌, ◌∙◌, inl, inr, rules, subst, ap, sym}
-use Rattle.sqlite.below.sqlite_std_file.specs.contracts.host.Host.{the_row}
-use Rattle.sqlite.below.sqlite_std_file.specs.contracts.host.HostCalls.TheImpl as host
-use Rattle.sqlite_disk.specs.contracts.modelled.ModelledDisk.TheImpl as modelled
+use Rattle.bac_files.proofs.FileGhosts.{file_ghosts}
 use Rattle.sqlite_wal.specs.Files.{image_at}
 use Rattle.sqlite.specs.Effect.{Database}
 use Rattle.sqlite.specs.Held.{Held, state}
@@ -25,7 +23,7 @@ returns-clause-archive g c clean =
 
 pub returns-clause-begun : goal.returns-clause-begun
 returns-clause-begun g c clean =
-    let disk = modelled.ghosts the_row g.row.G host.ghosts host.dict g.G.Start g.G.Start-dict g.G.Destruct-dict in
+    let disk = file_ghosts g.row.G g.G.Start g.G.Start-dict g.G.Destruct-dict in
     let found = (state g.A.Store c.args.conn.now).now in
     let mid = (state g.A.Store c.begin_part.new.conn).now in
     let archive = (state g.A.Store c.open_told.new.conn).now in
@@ -42,7 +40,7 @@ returns-clause-same g c clean has =
 
 pub returns-clause-refused : goal.returns-clause-refused
 returns-clause-refused g c =
-    let disk = modelled.ghosts the_row g.row.G host.ghosts host.dict g.G.Start g.G.Start-dict g.G.Destruct-dict in
+    let disk = file_ghosts g.row.G g.G.Start g.G.Start-dict g.G.Destruct-dict in
     let found = (state g.A.Store c.args.conn.now).now in
     let mid = (state g.A.Store c.begin_part.new.conn).now in
     all_fail_so _ _ c.open_told.result

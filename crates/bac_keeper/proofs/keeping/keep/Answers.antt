@@ -1,6 +1,4 @@
-use Rattle.sqlite.below.sqlite_std_file.specs.contracts.host.Host.{the_row}
-use Rattle.sqlite.below.sqlite_std_file.specs.contracts.host.HostCalls.TheImpl as host
-use Rattle.sqlite_disk.specs.contracts.modelled.ModelledDisk.TheImpl as modelled
+use Rattle.bac_files.proofs.FileGhosts.{file_ghosts}
 use Rattle.std.proofs.Common.{refl, ◌∙◌, ℕ, List, Bool, inl, inr, ◌||◌, is_some, rules, subst₂}
 use Rattle.sqlite.specs.Files.{file_state}
 use Rattle.sqlite_wal.specs.Files.{image_at}
@@ -23,7 +21,7 @@ pub returns-clause-kept : goal.returns-clause-kept
 returns-clause-kept g c =
     let over = socket_rules g.S.Sockets.opens g.S.Sockets.closes g.S.Socket.Port.sends g.S.Socket.Port.receives g.S.Socket.Port.receives_within in
     let done = c.keep_in-done in
-    let part = modelled.ghosts the_row g.row.G host.ghosts host.dict g.G.Start g.G.Start-dict g.G.Destruct-dict in
+    let part = file_ghosts g.row.G g.G.Start g.G.Start-dict g.G.Destruct-dict in
     keeps_in (image_at g.F.Start) c.in_ok-conn.conn done.new.conn c.close_file.new.files.closed c.in_ok-conn.ensures.opened done.ensures.clean
     over (at_once g.S.Recalls.holds g.C.Clock.reads c.args.clock) (BeginsOn part (image_at g.G.Start) c.args.place.now.before done.new.parts) c.args.asked.now c.in_ok-chosen.chosen c.args.sockets.now done.new.sockets (g.O.Write.contents c.args.output.now) (g.O.Write.contents done.new.output)
     c.close_file.result done.result c.in_ok-chosen.ensures.chosen done.ensures.told c.close_file.ensures.done c.close_file.ensures.closed
@@ -39,7 +37,7 @@ pub returns-clause-fault : goal.returns-clause-fault
 returns-clause-fault g c =
     let over = socket_rules g.S.Sockets.opens g.S.Sockets.closes g.S.Socket.Port.sends g.S.Socket.Port.receives g.S.Socket.Port.receives_within in
     let done = c.keep_in-done in
-    let part = modelled.ghosts the_row g.row.G host.ghosts host.dict g.G.Start g.G.Start-dict g.G.Destruct-dict in
+    let part = file_ghosts g.row.G g.G.Start g.G.Start-dict g.G.Destruct-dict in
     let bars = BarsPart part (image_at g.G.Start) c.args.place.now.before done.new.parts in
     let may = are_any c.args.asked.now.groups || is_some c.args.place.now.before in
     let named = subst₂ (λ (p : List ℕ) (b : Bool). IsNamed p b c.close_file.new.files) c.as_str.ensures.value c.may_make.ensures
@@ -48,8 +46,8 @@ returns-clause-fault g c =
     let by = given_of c.args.asked.now.options in
     all_fail _ _ c.close_file.result (λ why it. (c.in_ok-chosen.chosen, c.in_ok-chosen.ensures.chosen, it))
     (fails_file (image_at g.F.Start) c.in_ok-conn.conn done.new.conn c.close_file.new.files c.in_ok-conn.ensures.opened (string_bytes c.args.place.now.path) may named
-    (RefusesKeep over (at_once g.S.Recalls.holds g.C.Clock.reads c.args.clock) bars c.in_ok-chosen.chosen by c.args.sockets.now done.new.sockets) done.result c.close_file.result (fails_clean _ _ _ done.result done.ensures.clean
-    (refused_by over (at_once g.S.Recalls.holds g.C.Clock.reads c.args.clock) bars c.in_ok-chosen.chosen c.args.sockets.now done.new.sockets (file_state c.in_ok-conn.conn).now (file_state done.new.conn) given by done.result c.options_of-options.ensures done.ensures.fault)) c.close_file.ensures.fault c.close_file.ensures.shut)
+    (RefusesKeep over (at_once g.S.Recalls.holds g.C.Clock.reads c.args.clock c.args.asked.now.at_once) bars c.in_ok-chosen.chosen by c.args.sockets.now done.new.sockets) done.result c.close_file.result (fails_clean _ _ _ done.result done.ensures.clean
+    (refused_by over (at_once g.S.Recalls.holds g.C.Clock.reads c.args.clock c.args.asked.now.at_once) bars c.in_ok-chosen.chosen c.args.sockets.now done.new.sockets (file_state c.in_ok-conn.conn).now (file_state done.new.conn) given by done.result c.options_of-options.ensures done.ensures.fault)) c.close_file.ensures.fault c.close_file.ensures.shut)
 
 pub returns-in_err-conn-clause-fault : goal.returns-in_err-conn-clause-fault
 returns-in_err-conn-clause-fault g c =
@@ -71,30 +69,30 @@ returns-in_err-chosen-clause-fault g c =
 
 pub returns-in_err-chosen-clause-ends : goal.returns-in_err-chosen-clause-ends
 returns-in_err-chosen-clause-ends g c =
-    let disk = modelled.ghosts the_row g.row.F host.ghosts host.dict g.F.Start g.F.Start-dict g.F.Destruct-dict in
+    let disk = file_ghosts g.row.F g.F.Start g.F.Start-dict g.F.Destruct-dict in
     let over = socket_rules g.S.Sockets.opens g.S.Sockets.closes g.S.Socket.Port.sends g.S.Socket.Port.receives g.S.Socket.Port.receives_within in
     because c.from_residual.result c.in_err-chosen.field-0.0 _ (search rules)
     (may_ask (EndsKeep over (at_once g.S.Recalls.holds g.C.Clock.reads c.args.clock) disk (image_at g.F.Start) c.args.asked.now c.args.sockets.now c.args.sockets.now c.args.files.now) c.in_err-chosen.field-0.0 (inr (inl (c.in_err-chosen.ensures.none, refl))))
 
 pub returns-in_err-conn-clause-ends : goal.returns-in_err-conn-clause-ends
 returns-in_err-conn-clause-ends g c =
-    let disk = modelled.ghosts the_row g.row.F host.ghosts host.dict g.F.Start g.F.Start-dict g.F.Destruct-dict in
+    let disk = file_ghosts g.row.F g.F.Start g.F.Start-dict g.F.Destruct-dict in
     let over = socket_rules g.S.Sockets.opens g.S.Sockets.closes g.S.Socket.Port.sends g.S.Socket.Port.receives g.S.Socket.Port.receives_within in
     because c.from_residual-in_err-conn.result c.in_err-conn.field-0.0 _ (search rules)
     (file_asks (EndsKeep over (at_once g.S.Recalls.holds g.C.Clock.reads c.args.clock) disk (image_at g.F.Start) c.args.asked.now c.args.sockets.now c.args.sockets.now c.open_file.new.files) c.in_err-conn.field-0.0 c.in_err-conn.ensures.file)
 
 pub returns-clause-ends : goal.returns-clause-ends
 returns-clause-ends g c =
-    let disk = modelled.ghosts the_row g.row.F host.ghosts host.dict g.F.Start g.F.Start-dict g.F.Destruct-dict in
+    let disk = file_ghosts g.row.F g.F.Start g.F.Start-dict g.F.Destruct-dict in
     let over = socket_rules g.S.Sockets.opens g.S.Sockets.closes g.S.Socket.Port.sends g.S.Socket.Port.receives g.S.Socket.Port.receives_within in
     let done = c.keep_in-done in
     let which = c.in_ok-chosen.chosen in
     let by = given_of c.args.asked.now.options in
-    let runs = EndsKeeping over which (Unit {0}) (Unit {0}) c.args.sockets.now done.new.sockets in
-    all_ask_so (EndsChosenKeep over (at_once g.S.Recalls.holds g.C.Clock.reads c.args.clock) disk (image_at g.F.Start) which by c.args.sockets.now done.new.sockets c.close_file.new.files)
+    let runs = EndsKeeping over (at_once g.S.Recalls.holds g.C.Clock.reads c.args.clock c.args.asked.now.at_once) which (Unit {0}) (Unit {0}) c.args.sockets.now done.new.sockets in
+    all_ask_so (EndsChosenKeep over (at_once g.S.Recalls.holds g.C.Clock.reads c.args.clock c.args.asked.now.at_once) disk (image_at g.F.Start) which by c.args.sockets.now done.new.sockets c.close_file.new.files)
     (EndsKeep over (at_once g.S.Recalls.holds g.C.Clock.reads c.args.clock) disk (image_at g.F.Start) c.args.asked.now c.args.sockets.now done.new.sockets c.close_file.new.files) c.close_file.result
     (λ fault it. inr (inr (which, c.in_ok-chosen.ensures.chosen, it)))
     (asks_file (image_at g.F.Start) c.in_ok-conn.conn done.new.conn c.close_file.new.files c.in_ok-conn.ensures.opened done.ensures.clean runs
-    (EndsOver over (at_once g.S.Recalls.holds g.C.Clock.reads c.args.clock) which by c.args.sockets.now done.new.sockets) done.result c.close_file.result
-    (ended_by over (at_once g.S.Recalls.holds g.C.Clock.reads c.args.clock) which c.args.sockets.now done.new.sockets (file_state c.in_ok-conn.conn).now (file_state done.new.conn) (given_in c.options_of-options.result) by runs done.result
+    (EndsOver over (at_once g.S.Recalls.holds g.C.Clock.reads c.args.clock c.args.asked.now.at_once) which by c.args.sockets.now done.new.sockets) done.result c.close_file.result
+    (ended_by over (at_once g.S.Recalls.holds g.C.Clock.reads c.args.clock c.args.asked.now.at_once) which c.args.sockets.now done.new.sockets (file_state c.in_ok-conn.conn).now (file_state done.new.conn) (given_in c.options_of-options.result) by runs done.result
     c.options_of-options.ensures done.ensures.ends) c.close_file.ensures.fault c.close_file.ensures.shut)

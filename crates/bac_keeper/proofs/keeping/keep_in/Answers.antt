@@ -1,4 +1,4 @@
-use Rattle.std.proofs.Common.{rules, inl, inr, ◌≡◌, ◌∙◌, ℕ, ap, subst, sym}
+use Rattle.std.proofs.Common.{rules, inl, inr, ◌≡◌, ◌∙◌, ℕ, subst, sym}
 use Rattle.std.proofs.lemmas.Result.{IfOk-weaker}
 use Rattle.sqlite.specs.Effect.{Database}
 use Rattle.sqlite.specs.Held.{state}
@@ -17,9 +17,7 @@ use Rattle.bac_asked.specs.AsLog.{given_in}
 use Rattle.bac_keeper.proofs.FileLemmas.{all_database_ask, all_database_fail, fails_so, file_asks}
 use Rattle.bac_keeper.proofs.KeepLemmas.{keeping_so, refused_so}
 use Rattle.bac_keeper.proofs.NamesLemmas.{may_ask}
-use Rattle.sqlite.below.sqlite_std_file.specs.contracts.host.Host.{the_row}
-use Rattle.sqlite.below.sqlite_std_file.specs.contracts.host.HostCalls.TheImpl as host
-use Rattle.sqlite_disk.specs.contracts.modelled.ModelledDisk.TheImpl as modelled
+use Rattle.bac_files.proofs.FileGhosts.{file_ghosts}
 use Rattle.sqlite_wal.specs.Files.{image_at}
 use Rattle.bac_fetch.proofs.StaysLemmas.{all_itself}
 use Rattle.bac_fetch.specs.Stays.{HasAllOf}
@@ -35,14 +33,14 @@ returns-clause-told g c =
     let found = state g.A.Store c.args.conn.now in
     let archive = state g.A.Store c.begin_archive.new.conn in
     let last = state g.A.Store c.keep_chosen.new.conn in
-    let part = modelled.ghosts the_row g.row.G host.ghosts host.dict g.G.Start g.G.Start-dict g.G.Destruct-dict in
+    let part = file_ghosts g.row.G g.G.Start g.G.Start-dict g.G.Destruct-dict in
     let begins = BeginsOn part (image_at g.G.Start) c.args.place.now.before c.begin_archive.new.parts in
     let told = c.in_ok-status.ensures.told in
     IfOk-weaker c.settled.result _ _
     (λ done is.
-    subst (λ (n : ℕ). TellsThese over c.args.chosen c.args.sockets.now out out' (λ all between ends. IsHeld last → KeepsArchive over (at_once g.S.Recalls.holds g.C.Clock.reads c.args.clock) c.args.chosen all between after begins ends found.now last.committed) n) (sym is.0)
-    (tells_weaker over c.args.chosen c.args.sockets.now out out'
-    (λ all between ends. OverArchive archive last (AreChosen c.args.chosen archive.now.trees all × KeepsLogs over (at_once g.S.Recalls.holds g.C.Clock.reads c.args.clock) all between after archive.now last.now ends)) _ _
+    subst (λ (n : ℕ). TellsThese over (at_once g.S.Recalls.holds g.C.Clock.reads c.args.clock c.args.window) c.args.chosen c.args.sockets.now out out' (λ all between ends. IsHeld last → KeepsArchive over (at_once g.S.Recalls.holds g.C.Clock.reads c.args.clock c.args.window) c.args.chosen all between after begins ends found.now last.committed) n) (sym is.0)
+    (tells_weaker over (at_once g.S.Recalls.holds g.C.Clock.reads c.args.clock c.args.window) c.args.chosen c.args.sockets.now out out'
+    (λ all between ends. OverArchive archive last (AreChosen c.args.chosen archive.now.trees all × KeepsLogs over (at_once g.S.Recalls.holds g.C.Clock.reads c.args.clock c.args.window) all between after archive.now last.now ends)) _ _
     (λ all between ends kept held.
     let early : HasCleanDisk archive = c.keep_chosen.ensures.clean held.0 in
     let opened = c.in_ok-begin_archive.ensures.archive early in
@@ -52,7 +50,7 @@ returns-clause-told g c =
       opened = opened;
       begun = c.in_ok-begin_archive.ensures.begun early;
       chose = it.0;
-      kept = subst (λ (d : Database). KeepsLogs over (at_once g.S.Recalls.holds g.C.Clock.reads c.args.clock) all between after archive.now d ends) (is.1 held.1) it.1;
+      kept = subst (λ (d : Database). KeepsLogs over (at_once g.S.Recalls.holds g.C.Clock.reads c.args.clock c.args.window) all between after archive.now d ends) (is.1 held.1) it.1;
     })
     (told.0, told.1, told.2, told.3, told.4, (told.6.0, told.6.1, told.6.2, told.6.3, λ clean schema. (told.5 clean schema, told.6.4 clean schema)))))
     c.settled.ensures.settled
@@ -92,18 +90,18 @@ pub returns-in_err-begin_archive-clause-ends : goal.returns-in_err-begin_archive
 returns-in_err-begin_archive-clause-ends g c =
     let over = socket_rules g.S.Sockets.opens g.S.Sockets.closes g.S.Socket.Port.sends g.S.Socket.Port.receives g.S.Socket.Port.receives_within in
     because c.from_residual.result c.in_err-begin_archive.field-0.0 _ (search rules)
-    (file_asks (λ fault. EndsKeeping over c.args.chosen (Unit {0}) (Unit {0}) c.args.sockets.now c.args.sockets.now fault
-    × (IsHeld (state g.A.Store c.begin_archive.new.conn) → EndsOver over (at_once g.S.Recalls.holds g.C.Clock.reads c.args.clock) c.args.chosen (given_in c.args.options.now) c.args.sockets.now c.args.sockets.now (state g.A.Store c.args.conn.now).now fault))
+    (file_asks (λ fault. EndsKeeping over (at_once g.S.Recalls.holds g.C.Clock.reads c.args.clock c.args.window) c.args.chosen (Unit {0}) (Unit {0}) c.args.sockets.now c.args.sockets.now fault
+    × (IsHeld (state g.A.Store c.begin_archive.new.conn) → EndsOver over (at_once g.S.Recalls.holds g.C.Clock.reads c.args.clock c.args.window) c.args.chosen (given_in c.args.options.now) c.args.sockets.now c.args.sockets.now (state g.A.Store c.args.conn.now).now fault))
     c.in_err-begin_archive.field-0.0 c.in_err-begin_archive.ensures.file)
 
 pub returns-in_err-status-clause-fault : goal.returns-in_err-status-clause-fault
 returns-in_err-status-clause-fault g c =
     let over = socket_rules g.S.Sockets.opens g.S.Sockets.closes g.S.Socket.Port.sends g.S.Socket.Port.receives g.S.Socket.Port.receives_within in
     let archive = state g.A.Store c.begin_archive.new.conn in
-    let part = modelled.ghosts the_row g.row.G host.ghosts host.dict g.G.Start g.G.Start-dict g.G.Destruct-dict in
+    let part = file_ghosts g.row.G g.G.Start g.G.Start-dict g.G.Destruct-dict in
     let bars = BarsPart part (image_at g.G.Start) c.args.place.now.before c.begin_archive.new.parts in
     because c.from_residual-in_err-status.result c.in_err-status.field-0.0 _ (search rules)
-    (refused_so over (at_once g.S.Recalls.holds g.C.Clock.reads c.args.clock) bars c.args.chosen (given_in c.args.options.now) (state g.A.Store c.args.conn.now).now archive (state g.A.Store c.keep_chosen.new.conn) c.args.sockets.now c.keep_chosen.new.sockets c.in_err-status.field-0.0
+    (refused_so over (at_once g.S.Recalls.holds g.C.Clock.reads c.args.clock c.args.window) bars c.args.chosen (given_in c.args.options.now) (state g.A.Store c.args.conn.now).now archive (state g.A.Store c.keep_chosen.new.conn) c.args.sockets.now c.keep_chosen.new.sockets c.in_err-status.field-0.0
     (λ held. let opened = c.in_ok-begin_archive.ensures.archive (c.keep_chosen.ensures.clean held.0) in (opened, opened.is.schema)) c.in_err-status.ensures.caused)
 
 pub returns-in_err-status-clause-ends : goal.returns-in_err-status-clause-ends
@@ -112,9 +110,9 @@ returns-in_err-status-clause-ends g c =
     let archive = state g.A.Store c.begin_archive.new.conn in
     let last = state g.A.Store c.keep_chosen.new.conn in
     because c.from_residual-in_err-status.result c.in_err-status.field-0.0 _ (search rules)
-    (may_ask (λ fault. EndsKeeping over c.args.chosen (Unit {0}) (Unit {0}) c.args.sockets.now c.keep_chosen.new.sockets fault
-    × (IsHeld last → EndsOver over (at_once g.S.Recalls.holds g.C.Clock.reads c.args.clock) c.args.chosen (given_in c.args.options.now) c.args.sockets.now c.keep_chosen.new.sockets (state g.A.Store c.args.conn.now).now fault)) c.in_err-status.field-0.0 (
-      keeping_so over (OverArchive archive last (HasNone archive.now.trees)) (Unit {0}) (OverArchive archive last (LacksAddress (given_in c.args.options.now) archive.now.trees)) (Unit {0})
+    (may_ask (λ fault. EndsKeeping over (at_once g.S.Recalls.holds g.C.Clock.reads c.args.clock c.args.window) c.args.chosen (Unit {0}) (Unit {0}) c.args.sockets.now c.keep_chosen.new.sockets fault
+    × (IsHeld last → EndsOver over (at_once g.S.Recalls.holds g.C.Clock.reads c.args.clock c.args.window) c.args.chosen (given_in c.args.options.now) c.args.sockets.now c.keep_chosen.new.sockets (state g.A.Store c.args.conn.now).now fault)) c.in_err-status.field-0.0 (
+      keeping_so over (at_once g.S.Recalls.holds g.C.Clock.reads c.args.clock c.args.window) (OverArchive archive last (HasNone archive.now.trees)) (Unit {0}) (OverArchive archive last (LacksAddress (given_in c.args.options.now) archive.now.trees)) (Unit {0})
           (λ n. tt {0}) (λ n. tt {0}) c.args.chosen c.args.sockets.now c.keep_chosen.new.sockets c.in_err-status.field-0.0 c.in_err-status.ensures.fault,
       λ held. let opened = c.in_ok-begin_archive.ensures.archive (c.keep_chosen.ensures.clean held.0) in (archive.now, opened, c.in_err-status.ensures.caused held.0 opened.is.schema),
     ))
@@ -125,8 +123,8 @@ returns-clause-fault g c = all_database_fail _ c.settled.result c.settled.ensure
 pub returns-clause-ends : goal.returns-clause-ends
 returns-clause-ends g c =
     let over = socket_rules g.S.Sockets.opens g.S.Sockets.closes g.S.Socket.Port.sends g.S.Socket.Port.receives g.S.Socket.Port.receives_within in
-    all_database_ask (λ fault. EndsKeeping over c.args.chosen (Unit {0}) (Unit {0}) c.args.sockets.now c.keep_chosen.new.sockets fault
-    × (IsHeld (state g.A.Store c.keep_chosen.new.conn) → EndsOver over (at_once g.S.Recalls.holds g.C.Clock.reads c.args.clock) c.args.chosen (given_in c.args.options.now) c.args.sockets.now c.keep_chosen.new.sockets (state g.A.Store c.args.conn.now).now fault))
+    all_database_ask (λ fault. EndsKeeping over (at_once g.S.Recalls.holds g.C.Clock.reads c.args.clock c.args.window) c.args.chosen (Unit {0}) (Unit {0}) c.args.sockets.now c.keep_chosen.new.sockets fault
+    × (IsHeld (state g.A.Store c.keep_chosen.new.conn) → EndsOver over (at_once g.S.Recalls.holds g.C.Clock.reads c.args.clock c.args.window) c.args.chosen (given_in c.args.options.now) c.args.sockets.now c.keep_chosen.new.sockets (state g.A.Store c.args.conn.now).now fault))
     c.settled.result c.settled.ensures.fault
 
 pub returns-in_err-begin_archive-clause-stays : goal.returns-in_err-begin_archive-clause-stays

@@ -1,8 +1,8 @@
-use Rattle.std.proofs.Common.{◌≡◌, ◌⊎◌, inl, inr, map, refl, subst, sym, ℕ}
+use Rattle.std.proofs.Common.{inl, inr, map, refl, subst, sym}
 use Rattle.std.proofs.lemmas.Result.{IfErr-weaker, IfOk-weaker}
 use Rattle.std.specs.String.{string_bytes}
 use Rattle.bac_keeper.specs.Ends.{MayFail}
-use Rattle.bac_keeper.specs.Parted.{FailsFolder, PrintsAll, PrintsParts, at_part}
+use Rattle.bac_keeper.specs.Parted.{FailsFolder, PrintsAll, at_part}
 use Rattle.bac_keeper.proofs.NamesLemmas.{never_fails}
 use Rattle.bac_keeper.proofs.parts.kept_parts.Goals as goal
 

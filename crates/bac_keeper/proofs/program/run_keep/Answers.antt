@@ -1,6 +1,4 @@
-use Rattle.sqlite.below.sqlite_std_file.specs.contracts.host.Host.{the_row}
-use Rattle.sqlite.below.sqlite_std_file.specs.contracts.host.HostCalls.TheImpl as host
-use Rattle.sqlite_disk.specs.contracts.modelled.ModelledDisk.TheImpl as modelled
+use Rattle.bac_files.proofs.FileGhosts.{file_ghosts}
 use Rattle.std.proofs.Common.{◌≡◌, inl, refl, inr, Err, ◌∙◌, subst, rules}
 use Rattle.bac_words.specs.Groups.{are_any}
 use Rattle.bac_keeper.specs.Ends.{IsNotOpened}
@@ -35,7 +33,7 @@ returns-in-Err-clause-stays g c unused = none_closed c.place_of.new.files.closed
 
 pub returns-in-Err-clause-ends : goal.returns-in-Err-clause-ends
 returns-in-Err-clause-ends g c keeps =
-    let disk = modelled.ghosts the_row g.row.F host.ghosts host.dict g.F.Start g.F.Start-dict g.F.Destruct-dict in
+    let disk = file_ghosts g.row.F g.F.Start g.F.Start-dict g.F.Destruct-dict in
     let over = socket_rules g.S.Sockets.opens g.S.Sockets.closes g.S.Socket.Port.sends g.S.Socket.Port.receives g.S.Socket.Port.receives_within in
     let ends = EndsKeep over (at_once g.S.Recalls.holds g.C.Clock.reads c.args.clock) disk (image_at g.F.Start) c.args.asked.now c.args.sockets.now c.args.sockets.now c.place_of.new.files in
     not_done ends (Err c.in-Err.fault) c.tell_done.result (inl refl) (file_asks ends c.in-Err.fault c.in-Err.ensures.file) c.tell_done.ensures.why

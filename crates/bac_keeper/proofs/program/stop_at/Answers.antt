@@ -1,7 +1,5 @@
 use Rattle.std.proofs.Common.{◌≡◌, inl, refl, inr, false, Err, ◌∙◌, subst, rules}
-use Rattle.sqlite.below.sqlite_std_file.specs.contracts.host.Host.{the_row}
-use Rattle.sqlite.below.sqlite_std_file.specs.contracts.host.HostCalls.TheImpl as host
-use Rattle.sqlite_disk.specs.contracts.modelled.ModelledDisk.TheImpl as modelled
+use Rattle.bac_files.proofs.FileGhosts.{file_ghosts}
 use Rattle.sqlite_wal.specs.Files.{image_at}
 use Rattle.std.proofs.lemmas.Result.{IfOk-weaker}
 use Rattle.std.specs.String.{string_bytes}
@@ -14,7 +12,7 @@ use Rattle.bac_keeper.proofs.program.stop_at.Goals as goal
 pub returns-clause-stopped : goal.returns-clause-stopped
 returns-clause-stopped g c =
     let done = c.stop-done in
-    let disk = modelled.ghosts the_row g.row.F host.ghosts host.dict g.F.Start g.F.Start-dict g.F.Destruct-dict in
+    let disk = file_ghosts g.row.F g.F.Start g.F.Start-dict g.F.Destruct-dict in
     let path : c.as_str-path.result.now ≡ string_bytes c.in-Ok.place.path = search rules in
     IfOk-weaker c.tell_done-2.result _ _
     (λ status it. elim it [

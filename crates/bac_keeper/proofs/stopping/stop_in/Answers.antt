@@ -1,4 +1,4 @@
-use Rattle.std.proofs.Common.{◌⊎◌, rules, inl, inr, ◌∙◌, ap, subst, sym}
+use Rattle.std.proofs.Common.{◌⊎◌, rules, inl, inr, subst, sym}
 use Rattle.bac_asked.specs.Faults.{RefusesLine, WantsMemory}
 use Rattle.bac_asked.specs.declared.end.NotDone.{NotDone}
 use Rattle.sqlite.specs.Effect.{Database}

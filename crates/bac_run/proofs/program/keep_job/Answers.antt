@@ -1,7 +1,5 @@
 use Rattle.std.proofs.Common.{◌≡◌, ◌∙◌, Bool, false, refl, rules, sym, true}
-use Rattle.sqlite.below.sqlite_std_file.specs.contracts.host.Host.{the_row}
-use Rattle.sqlite.below.sqlite_std_file.specs.contracts.host.HostCalls.TheImpl as host
-use Rattle.sqlite_disk.specs.contracts.modelled.ModelledDisk.TheImpl as modelled
+use Rattle.bac_files.proofs.FileGhosts.{file_ghosts}
 use Rattle.bac_fetch.specs.Ahead.{at_once}
 use Rattle.bac_ports.specs.Sockets.{socket_rules}
 use Rattle.bac_run.proofs.Ran.{keep_over}
@@ -16,8 +14,8 @@ returns-then-reads_input-clause-ran g c =
 
 pub returns-clause-ran : goal.returns-clause-ran
 returns-clause-ran g c =
-    let disk = modelled.ghosts the_row g.row.F host.ghosts host.dict g.F.Start g.F.Start-dict g.F.Destruct-dict in
-    let part = modelled.ghosts the_row g.row.G host.ghosts host.dict g.G.Start g.G.Start-dict g.G.Destruct-dict in
+    let disk = file_ghosts g.row.F g.F.Start g.F.Start-dict g.F.Destruct-dict in
+    let part = file_ghosts g.row.G g.G.Start g.G.Start-dict g.G.Destruct-dict in
     let rules = socket_rules g.S.Sockets.opens g.S.Sockets.closes g.S.Socket.Port.sends g.S.Socket.Port.receives g.S.Socket.Port.receives_within in
     let done = c.keep_and_tell in
     let reads : reads_input c.args.asked ≡ false = first_of (search rules, cc) in

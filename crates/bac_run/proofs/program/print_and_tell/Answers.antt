@@ -1,13 +1,11 @@
-use Rattle.sqlite.below.sqlite_std_file.specs.contracts.host.Host.{the_row}
-use Rattle.sqlite.below.sqlite_std_file.specs.contracts.host.HostCalls.TheImpl as host
-use Rattle.sqlite_disk.specs.contracts.modelled.ModelledDisk.TheImpl as modelled
+use Rattle.bac_files.proofs.FileGhosts.{file_ghosts}
 use Rattle.bac_files.specs.Parts.{part_rules}
 use Rattle.bac_run.proofs.Ran.{kept_ran}
 use Rattle.bac_run.proofs.program.print_and_tell.Goals as goal
 
 pub returns : goal.returns
 returns g c =
-    let disk = modelled.ghosts the_row g.row.F host.ghosts host.dict g.F.Start g.F.Start-dict g.F.Destruct-dict in
+    let disk = file_ghosts g.row.F g.F.Start g.F.Start-dict g.F.Destruct-dict in
     let done = c.run_kept-done in
     kept_ran disk (part_rules g.Q.Parts.lists g.Q.Parts.holds g.Q.Parts.bars) c.args.folders.now done.new.folders c.args.asked.now (g.O.Write.contents c.args.output.now) (g.O.Write.contents done.new.output)
     (g.E.Write.contents c.args.errors.now) (g.E.Write.contents done.new.errors) (g.E.Write.contents c.ended.new.errors) c.args.files.now done.new.files

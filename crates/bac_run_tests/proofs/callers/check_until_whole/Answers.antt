@@ -1,6 +1,4 @@
-use Rattle.sqlite.below.sqlite_std_file.specs.contracts.host.Host.{the_row}
-use Rattle.sqlite.below.sqlite_std_file.specs.contracts.host.HostCalls.TheImpl as host
-use Rattle.sqlite_disk.specs.contracts.modelled.ModelledDisk.TheImpl as modelled
+use Rattle.bac_files.proofs.FileGhosts.{file_ghosts}
 use Rattle.bac_fetch.specs.Ahead.{at_once}
 use Rattle.bac_files.specs.Parts.{part_rules}
 use Rattle.bac_ports.specs.Sockets.{socket_rules}
@@ -11,8 +9,8 @@ use Rattle.bac_run_tests.proofs.callers.check_until_whole.Goals as goal
 
 pub returns : goal.returns
 returns g c asked ask zero =
-    let disk = modelled.ghosts the_row g.row.F host.ghosts host.dict g.F.Start g.F.Start-dict g.F.Destruct-dict in
-    let part = modelled.ghosts the_row g.row.G host.ghosts host.dict g.G.Start g.G.Start-dict g.G.Destruct-dict in
+    let disk = file_ghosts g.row.F g.F.Start g.F.Start-dict g.F.Destruct-dict in
+    let part = file_ghosts g.row.G g.G.Start g.G.Start-dict g.G.Destruct-dict in
     let rules = socket_rules g.S.Sockets.opens g.S.Sockets.closes g.S.Socket.Port.sends g.S.Socket.Port.receives g.S.Socket.Port.receives_within in
     let old = streams (g.I.Read.remaining c.args.input.now) (g.O.Write.contents c.args.output.now) (g.E.Write.contents c.args.errors.now) c.args.sockets.now c.args.clock.now in
     let new = streams (g.I.Read.remaining c.run-status.new.input) (g.O.Write.contents c.run-status.new.output) (g.E.Write.contents c.run-status.new.errors) c.run-status.new.sockets c.run-status.new.clock in
