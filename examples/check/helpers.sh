@@ -70,7 +70,7 @@ typed 'bac help keep' 'bac help keep '
 for tool in wi rp wp log logs keep kept check serve replay; do
     while read -r option value; do
         typed "bac $tool ${option%?}" "bac $tool $option${value:-' '}"
-    done < <(sed -nE 's/^ +(-h, )?(--[a-z]+) <.*/\2 =/p; s/^ +(-h, )?(--[a-z]+)( [^<].*)?$/\2/p' "$tool.help")
+    done < <(sed -nE 's/^ +(-h, )?(--[a-z-]+) <.*/\2 =/p; s/^ +(-h, )?(--[a-z-]+)( [^<].*)?$/\2/p' "$tool.help")
 done
 is 'completion' "$(./complete.py ../use/bac.bash "${typed[@]}" 2>&1)" "$(printf '%s\n' "${wanted[@]}" | sed "s/' '$/ /")"
 # The tools of the help are those that are completed and those of the man page.
@@ -82,7 +82,7 @@ is 'the tools behind help' "$(completed 'bac help ' | sort)" "$(tools | grep -v 
 is 'the tools of the man page' "$(sed -nE 's/^\.B bac ([a-z]+)( .*)?$/\1/p' ../../docs/bac.1 | sort -u)" "$(tools | grep -v '^help$')"
 for tool in wi rp wp log logs keep kept check serve replay; do
     is "the options of $tool" "$(completed "bac $tool --" | tr -d = | sort | tr '\n' ' ')" \
-        "$(sed -nE 's/^ +(-h, )?(--[a-z]+).*/\2/p' "$tool.help" | sort | tr '\n' ' ')"
+        "$(sed -nE 's/^ +(-h, )?(--[a-z-]+).*/\2/p' "$tool.help" | sort | tr '\n' ' ')"
 done
 
 # ---- records as CSV: each kind of datum; 41c80000 is 25, 3dcccccd 0.1, c0490fdb -pi, 00000001 the least,

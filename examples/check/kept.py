@@ -3,25 +3,30 @@
 
 RUNS runs keep the logs of four sites, two in a file of their own each and two in a folder of small parts, while the
 devices of kept_devices.py log records, lose datagrams, purge and overwrite their logs, set their clocks back, are started
-and begin anew; most of the runs are ended by SIGKILL at any moment. Others
-are ended before each of their calls on files in turn, by KILLS, the library of kills.c, or have that call fail. After each
-run the file is compared with what the devices logged (kept_judge.py). The cases of kept_cases.py follow. As many of all that as there
-are cores go on at once. Prints what is wrong, and `N passed, M failed` at the end."""
+and begin anew; most of the runs are ended by SIGKILL at any moment. So are those over two sites of 50 devices, some of
+which are dead, slow or late, or answer again (kept_fifty.py). Others are ended before each of their calls on files in
+turn, by KILLS, the library of kills.c, or have that call fail. After each run the file is compared with what the devices
+logged (kept_judge.py). The cases of kept_cases.py follow. As many of all that as there are cores go on at once. Prints
+what is wrong, with the seed, and `N passed, M failed` at the end."""
 import collections
 import datetime
 import multiprocessing
 import os
-import resource
 import signal
 import subprocess
 import sys
 import time
 
 import kept_cases
-import kept_parts
 from kept_apart import in_file
+from kept_archives import OneFile, Parts
+from kept_changes import changed, started
 from kept_devices import LAST, Device, Log, chance, lock, serve
+from kept_fifty import fifty_in_a_file, fifty_in_parts
+from kept_fifty_judged import fifty_judged
 from kept_judge import Judge
+from kept_limits import at_most, is_full
+from kept_lines import in_doubt
 
 SITES = 4
 
@@ -35,96 +40,12 @@ def whole(words):
     return ["keep", *words, *LONG]
 
 
-def started(device):
-    """A device is started, or its objects change, and it tells so; whether it tells that at all."""
-    if device.restart is not None and (device.revision is None or chance.random() < 0.5):
-        device.restart += datetime.timedelta(minutes=1)
-    elif device.revision is not None:
-        device.revision += 1
-    return device.word() != (None, None)
-
-
-def changed(device, log):
-    """Something happens to a log. One that began anew keeps all until a run has seen it, where its device doesn't tell so:
-    no octet would tell a restart whose records are gone from a gap, nor one behind a large number from numbers that come
-    round. Where it does, it keeps something."""
-    what = chance.random()
-    if log.fresh and device.word() != (None, None):
-        log.log(chance.choice((0, 1, 20, 120, log.room_for + 50)))
-    elif log.fresh:
-        log.log(chance.randrange(min(3, log.room_for - len(log.held))))
-    elif what < 0.7:
-        log.log(chance.choice((0, 1, 3, 20, 120)))
-    elif what < 0.8:
-        log.log(log.room_for + chance.randrange(50))
-    elif what < 0.9 or log.total > LAST // 2:
-        log.log(chance.randrange(5))
-        log.purge()
-        log.log(chance.randrange(3))
-    elif what < 0.93:
-        log.clock -= datetime.timedelta(hours=1)
-        log.log(chance.choice((3, 120)))
-    else:
-        kept, tells = log.total, started(device)
-        log.begin(0)
-        log.log(chance.choice((1, 5, kept + 100 if tells else min(kept + 3, log.room_for - 5))))
-
-
-class OneFile:
-    """An archive in one file."""
-
-    def __init__(self, name):
-        self.name = self.judged = name
-
-    def keep(self, *words):
-        return ["keep", self.name, *words]
-
-    def judge(self, judge, name, devices, all_of_it=False):
-        """What was logged is in `judged`, which has all of it."""
-        judge.judge(name, self.judged, devices, all_of_it)
-
-    def goes_on(self):
-        """Between two runs."""
-
-    def is_over(self, judge):
-        """Behind all runs."""
-
-
-class Parts(OneFile):
-    """An archive in the parts of a folder; now and then the next run begins one."""
-
-    def __init__(self, name):
-        super().__init__(name)
-        self.judged = f"{name}.together"
-        os.mkdir(name)
-
-    def keep(self, *words):
-        return [*super().keep(*words), *kept_parts.FULL]
-
-    def judge(self, judge, name, devices, all_of_it=False):
-        kept_parts.together(self.name, self.judged)
-        super().judge(judge, name, devices, all_of_it)
-
-    def goes_on(self):
-        newest = f"{self.name}/{kept_parts.names(self.name)[-1]}"
-        if chance.random() < 0.1 and kept_parts.is_begun(newest):
-            kept_parts.fill(newest)
-
-    def is_over(self, judge):
-        numbers = [int(name[:6]) for name in kept_parts.names(self.name)]
-        judge.is_right("parts are begun", numbers == [at + 1 for at in range(len(numbers))] and len(numbers) > 1, numbers)
-
-
 def doubted(judge, name, devices, archive, errors):
-    """Nothing is in doubt of a log whose device tells both when it was started and its revision, as they were when its
-    records were kept, in the file that was judged last. How many are."""
-    question = "SELECT address, instance, restart, revision FROM logs"
-    kept = {f"{address} {instance}": word for address, instance, *word in in_file(f"{archive.judged}.copy", question)}
-    told = {device.address: list(device.word()) for device in devices}
-    in_doubt = [line.split(" began")[0] for line in errors.splitlines() if line.endswith(" began anew or its clock was set back")]
-    wrong = [log for log in in_doubt if None not in kept[log] and kept[log] == told[log.split()[0]]]
+    """Nothing is in doubt that can't be, by the file that was judged last. How many logs are."""
+    logs = in_file(f"{archive.judged}.copy", "SELECT id, address, instance, device, restart, revision FROM logs")
+    doubts, wrong = in_doubt(logs, devices, errors)
     judge.is_right(f"{name}: what is in doubt", not wrong, wrong)
-    return len(in_doubt)
+    return len(doubts)
 
 
 def settle(judge, name, devices, archive):
@@ -289,18 +210,13 @@ def full_disk(judge, _runs):
     """No file may grow beyond a limit."""
     devices, file, ends = few(), f"{judge.room}/full.db", collections.Counter()
     words = whole([file, devices[0].address, "1", "2"])
-
-    def limited():
-        signal.signal(signal.SIGXFSZ, signal.SIG_IGN)
-        resource.setrlimit(resource.RLIMIT_FSIZE, (limit, limit))
-
     for limit in (0, 512, 4096, 8192, 12000, 16384, 20000, 24576, 30000, 40000, 80000, 150000, 600000):
         with lock:
             for log in devices[0].logs.values():
                 log.log(60)
-        status, out, errors = judge.ran(words, preexec_fn=limited)
+        status, out, errors = judge.ran(words, preexec_fn=at_most(limit))
         ends[status] += 1
-        right = status == 0 or status == 6 and errors.startswith("file fault\n")
+        right = status == 0 or (status, errors) == is_full(file)
         judge.is_right(f"at most {limit} octets", right, f"status {status}: {out} {errors}")
         # A new file that is cut within its first page keeps nothing, and the next run makes it whole.
         if os.path.getsize(file) >= 4096:
@@ -323,12 +239,14 @@ def run_job(job):
     except Exception as error:  # what stops a judge is a failure
         line = ""
         judge.is_right(name, False, f"{type(error).__name__}: {error}")
-    return f"{name}, {time.monotonic() - began:.0f} s: {line or ''}", judge.passed, judge.failed, judge.told
+    seeded = f" (seed {seed})" if judge.failed else ""
+    return f"{name}, {time.monotonic() - began:.0f} s{seeded}: {line or ''}", judge.passed, judge.failed, judge.told
 
 
 def main(program, room, runs, seed, kills):
     common = (program, room, seed, kills)
-    tasks = [at_each_call, a_first_run_at_each_call, faults_at_each_call, full_disk, *kept_cases.CASES]
+    tasks = [fifty_in_a_file, fifty_in_parts, fifty_judged, at_each_call, a_first_run_at_each_call, faults_at_each_call,
+             full_disk, *kept_cases.CASES]
     share = -(-int(runs) // SITES)
     jobs = [((in_one_file, in_parts)[at % 2], f"at_random_{at}", share, common) for at in range(SITES)]
     jobs += [(task, task.__name__, 0, common) for task in tasks]

@@ -2,8 +2,9 @@
 import threading
 import time
 
-from kept_apart import line, unheard
+from kept_apart import in_file, line, unheard, untold
 from kept_devices import Device, Log, serve
+from kept_more import fed
 
 WAIT = 0.1
 
@@ -62,3 +63,62 @@ def at_once(judge, _runs):
     judge.is_right("in two waits", took < 6, took)
     site[5].answers = None
     judge.same("it is back", judge.ran(["keep", file])[:2], (0, lines_of(site, 0)))
+
+
+class Listed(Slow):
+    """`lists` has when it told each place of its Object_List that it was asked for."""
+
+    def __init__(self, logs, name):
+        super().__init__(logs, name)
+        self.lists = []
+
+    def ack(self, apdu):
+        ack = super().ack(apdu)
+        if self.told == 76:
+            self.lists.append(time.monotonic())
+        return ack
+
+
+def rows_by(file):
+    """What an archive has of logs and of their records, but when it was written."""
+    return (in_file(file, "SELECT address, instance, name FROM logs ORDER BY id"),
+            in_file(file, "SELECT address, instance, items.id & 4294967295 FROM items JOIN logs ON logs.id = items.id >> 47 ORDER BY items.id"))
+
+
+def lists_at_once(judge, _runs):
+    """Devices are asked beside one another for their Object_Lists, each place once; what is told and kept is as where they are asked alone."""
+    site = [Listed([Log(1, 50), Log(2, 50)], f"listed{n}") for n in range(8)]
+    serve(site)
+    for device in site:
+        for log in device.logs.values():
+            log.log(4)
+    alone = f"{judge.room}/alone.db"
+    for device in site:
+        judge.same("alone", judge.ran(["keep", alone, device.address]), (0, lines_of([device], 4), ""))
+    words = [device.address for device in site]
+    listed = "".join(f"{address}\n" for address in words)
+    for name, run in (("words", lambda file: judge.ran(["keep", file, *words])), ("a list", lambda file: fed(judge, ["keep", file, "-"], listed))):
+        for device in site:
+            device.lists = []
+        file = f"{judge.room}/{name}.db"
+        start = time.monotonic()
+        told = run(file)
+        took = time.monotonic() - start
+        judge.same(f"{name}: what is told", told, (0, lines_of(site, 4), ""))
+        judge.same(f"{name}: each place is asked for once", [len(device.lists) for device in site], [5] * 8)
+        # Each has told its first place before one has told its last.
+        first, last = max(device.lists[0] for device in site), min(device.lists[-1] for device in site)
+        judge.is_right(f"{name}: beside one another", first < last, (first, last))
+        # One after the other their lists alone take 5.6 seconds.
+        judge.is_right(f"{name}: in the time of few", took < 5.6, took)
+        judge.judge(name, file, site, True)
+        judge.same(f"{name}: as alone", rows_by(file), rows_by(alone))
+    # One that gives no answer, or none any more, is waited for beside the others, and once more alone.
+    for answers in (0, 3):
+        site[5].answers, asked = answers, site[5].asked
+        told, took = timed(judge, f"{judge.room}/silent {answers}.db", *words, "--timeout=400", "--retries=1")
+        judge.same(f"silent behind {answers}", told, (2, untold(site[5], "lost") + lines_of(site[:5] + site[6:], 4),
+                                                       f"{site[5].address}: no answer came from {site[5].address}\n"))
+        judge.same(f"silent behind {answers}: how often it is asked", site[5].asked - asked, answers + 2 + 2)
+        judge.is_right(f"silent behind {answers}: in two waits", took < 6, took)
+    site[5].answers = None

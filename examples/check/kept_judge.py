@@ -8,8 +8,8 @@ import subprocess
 from kept_devices import LAST
 
 
-def started_by(program, words, **more):
-    return subprocess.Popen([program, *words], stdin=subprocess.DEVNULL, stdout=subprocess.PIPE, stderr=subprocess.PIPE, **more)
+def started_by(program, words, stdin=subprocess.DEVNULL, **more):
+    return subprocess.Popen([program, *words], stdin=stdin, stdout=subprocess.PIPE, stderr=subprocess.PIPE, **more)
 
 
 class Judge:
@@ -80,7 +80,8 @@ def rows_of(file):
         if not base.execute("SELECT 1 FROM sqlite_master WHERE name = 'gaps'").fetchall():
             # A first run that ended before it made the tables.
             return whole, [], [], {}
-        logs = base.execute("SELECT id, address, instance, device, restart, revision FROM logs").fetchall()
+        place = "address || CASE dnet WHEN 0 THEN '' ELSE '/' || dnet || '/' || dadr END"
+        logs = base.execute(f"SELECT id, {place}, instance, device, restart, revision FROM logs ORDER BY id").fetchall()
         items = base.execute("SELECT id, last, stamp, value, datum, flags FROM items ORDER BY id").fetchall()
         beginnings = dict(base.execute("SELECT id, number FROM beginnings").fetchall())
         return whole, logs, items, beginnings
@@ -91,39 +92,45 @@ def rows_of(file):
 def wrongs(file, devices, all_of_it):
     """What is wrong with a file, a text each; if `all_of_it`, it has to have caught up."""
     try:
-        whole, logs, items, beginnings = rows_of(file)
+        return wrongs_in(rows_of(file), devices, all_of_it)
     except sqlite3.Error as error:
         return [f"sqlite3: {error}"]
+
+
+def wrongs_in(read, devices, all_of_it):
+    """The same of what `rows_of` read of one."""
+    whole, logs, items, beginnings = read
     if whole != [("ok",)]:
         return [f"integrity_check: {whole}"]
-    found, by_log = [], {}
+    found, by_log, named = [], {}, {log_id: f"{place} {instance}" for log_id, place, instance, *_ in logs}
     for item, last, *texts in items:
         by_log.setdefault(item >> 47, {}).setdefault(item >> 32 & 32767, []).append((item & 0xFFFFFFFF, last, tuple(texts)))
-    if strangers := set(by_log) - {log_id for log_id, *_ in logs}:
+    if strangers := set(by_log) - set(named):
         found.append(f"items of the logs {strangers}, which aren't there")
     for log_id, epochs in by_log.items():
         for epoch, rows in epochs.items():
             if (said := beginnings.get(log_id << 15 | epoch)) != rows[0][0]:
-                found.append(f"epoch {epoch} of log {log_id} begins at {rows[0][0]}, and {said} is on record")
+                found.append(f"{named.get(log_id)}: epoch {epoch} begins at {rows[0][0]}, and {said} is on record")
     places = {}
-    for log_id, address, instance, number, *word in logs:
-        device = device_of(devices, address, number)
+    for log_id, place, instance, number, *word in logs:
+        device = device_of(devices, place, number)
         log = device and device.logs.get(instance)
         wrong = wrong_of(log, by_log.get(log_id, {}), all_of_it) if log else "no device has it"
         if wrong or (wrong := log and wrong_word(device, number, tuple(word), all_of_it)):
-            found.append(f"{address} {instance}: {wrong}")
-        places.setdefault(number, set()).add(address)
+            found.append(f"{place} {instance}: {wrong}")
+        places.setdefault(number, set()).add(place)
     found += [f"device {number} is at {at}" for number, at in places.items() if number is not None and len(at) > 1]
     if all_of_it:
-        kept = {(address, instance) for _, address, instance, *_ in logs}
-        found += [f"{device.address} {number} isn't kept" for device in devices for number in device.logs
-                  if (device.address, number) not in kept]
+        kept = {(place, instance) for _, place, instance, *_ in logs}
+        found += [f"{device.place()} {number} isn't kept" for device in devices for number in device.logs
+                  if (device.place(), number) not in kept]
     return found
 
 
-def device_of(devices, address, number):
-    """The device that is or was at an address, and that told this number, if one is on record."""
-    return next((device for device in devices if address in device.places and (number is None or number in device.numbers)), None)
+def device_of(devices, place, number):
+    """The device that is or was at a place, and that told this number, if one is on record."""
+    return next((device for device in devices
+                 if place in device.places and (number is None or number in device.numbers)), None)
 
 
 def wrong_word(device, number, word, all_of_it):

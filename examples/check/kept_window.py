@@ -1,0 +1,87 @@
+"""How many questions of a run are open at once, and in which order devices are asked, for kept.py."""
+import threading
+import time
+
+from kept_apart import line
+from kept_devices import Device, Log, serve
+
+WAIT = 0.05
+
+
+class Counted:
+    """How many questions of a site are open, how many were at most, and which devices were asked, in order."""
+
+    def __init__(self):
+        self.lock, self.open, self.most, self.order = threading.Lock(), 0, 0, []
+
+    def come(self, device):
+        with self.lock:
+            self.open += 1
+            self.most = max(self.most, self.open)
+            self.order.append(device)
+
+    def go(self):
+        with self.lock:
+            self.open -= 1
+
+    def begin(self):
+        with self.lock:
+            self.open, self.most, self.order = 0, 0, []
+
+
+class Watched(Device):
+    """Each answer goes out some time after its question came; a device that is gone never answers, and has no question open."""
+
+    def __init__(self, logs, name, site):
+        super().__init__(logs, name)
+        self.site, self.is_gone = site, False
+
+    def answer(self, port, request, asker):
+        if self.is_gone:
+            with self.site.lock:
+                self.site.order.append(self)
+            return
+        self.site.come(self)
+        threading.Timer(WAIT, self.late, (port, request, asker)).start()
+
+    def late(self, port, request, asker):
+        self.site.go()
+        super().answer(port, request, asker)
+
+
+def lines_of(site, gone=None):
+    """The lines of a run with nothing new, of which one device gives no answer."""
+    return "".join(line(device, 1, 0, f"{'lost' if device is gone else 'caught up'}, next 6") for device in site)
+
+
+def window(judge, _runs):
+    """So many questions are open as --at-once says; each device is asked once before any is asked twice; a silent one holds nobody up."""
+    counted = Counted()
+    site = [Watched([Log(1, 50)], f"watched{n}", counted) for n in range(12)]
+    serve(site)
+    for device in site:
+        device.logs[1].log(5)
+    file = f"{judge.room}/a.db"
+    words = [word for device in site for word in (device.address, "1")]
+    judge.same("a first run", judge.ran(["keep", file, *words])[0], 0)
+    for most in (1, 3, 5, 64):
+        counted.begin()
+        judge.same(f"{most} at once", judge.ran(["keep", file, f"--at-once={most}"]), (0, lines_of(site), ""))
+        judge.same(f"{most} at once: open at most", counted.most, min(most, len(site)))
+        # Each device's first question comes before anybody's second.
+        judge.same(f"{most} at once: each once before any twice", len(set(counted.order[:len(site)])), len(site))
+    # The first device is silent: with one question at a time the others wait for it once, and not for its repeats.
+    site[0].is_gone = True
+    counted.begin()
+    start = time.monotonic()
+    status, out, _ = judge.ran(["keep", file, "--at-once=1", "--timeout=1000", "--retries=3"])
+    took = time.monotonic() - start
+    judge.same("one is silent", (status, out), (2, lines_of(site, site[0])))
+    others = [at for at, device in enumerate(counted.order) if device is not site[0]]
+    repeats = [at for at, device in enumerate(counted.order) if device is site[0]]
+    judge.same("it is asked four times", len(repeats), 4)
+    # It is asked at 0, 1, 2 and 3 seconds. Eleven first questions of 50 ms lie between the second and the third time.
+    judge.is_right("its repeats hold nobody up", all(any(counted.order[at] is device for at in others if at < repeats[2]) for device in site[1:]), counted.order)
+    judge.is_right("one wait for it", took < 9, took)
+    site[0].is_gone = False
+    judge.same("it is back", judge.ran(["keep", file]), (0, lines_of(site), ""))
