@@ -1,6 +1,6 @@
 -- Where an archive is kept: in a file, or in parts.
 use Rattle.std.specs.Prelude.{◌≡◌, ◌⊎◌, ◌++◌, ℕ, Bool, List, map, Option, None, option_map, Result, Ok, Err}
-use Rattle.std.specs.Prelude.{String, Vec, IfSome, codes}
+use Rattle.std.specs.Prelude.{String, Vec, IfSome, codes, if◌then◌else◌, unwrap_or}
 use Rattle.std.specs.declared.alloc.Global.{Global}
 use Rattle.std.specs.String.{string_bytes}
 use Rattle.sqlite.specs.Effect.{Database}
@@ -17,6 +17,11 @@ abbrev pub IsPlaced : List ℕ → Place → Type 0
 IsPlaced name place =
     ((string_bytes place.path ≡ name) × (place.before ≡ None))
     ⊎ (IsPartOf name place.path × IfSome place.before (IsPartOf name))
+
+-- the path of the file that is no use: of the one that it follows on, where that is blamed
+abbrev pub blamed : Place → List ℕ
+blamed place =
+    if place.blames_before then string_bytes (unwrap_or place.before place.path) else string_bytes place.path
 
 -- ---- the parts of an archive, read one after the other
 

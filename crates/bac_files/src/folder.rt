@@ -1,9 +1,9 @@
 //! A folder of parts: files with a name of six digits and `.db`, of which the greatest is the
 //! newest.
 
-ghost use Rattle.std.specs.Prelude.{Bool, IfErr, IfOk, false};
+ghost use Rattle.std.specs.Prelude.{◌≡◌, Bool, IfErr, IfOk, false};
 ghost use Rattle.bac_files.specs.Files.{IsReason};
-ghost use Rattle.bac_files.specs.Parts.{IsPartOf, IsPlaced};
+ghost use Rattle.bac_files.specs.Parts.{IsPartOf, IsPlaced, blamed};
 
 use crate::not_opened::{NotOpened, Obstacle};
 use crate::obstacles::is_folder;
@@ -57,7 +57,9 @@ impl Place {
     }
 
     /// The name of the file that is no use, where one of them is.
-    pub fn blamed(&self) -> &str {
+    pub fn blamed(&self) -> &str
+        ensures { result.now ≡ blamed self.now }
+    {
         match &self.before {
             Some(before) if self.blames_before => before.as_str(),
             _ => self.path.as_str(),

@@ -70,7 +70,9 @@ pub struct FolderFiles<'a> {
 
 impl<'a> FolderFiles<'a> {
     /// The files of the machine.
-    pub fn new(rt: &'a HostRuntime) -> FolderFiles<'a> {
+    pub fn new(rt: &'a HostRuntime) -> FolderFiles<'a>
+        ensures { result.rt ≡ rt.entry }
+    {
         FolderFiles { rt }
     }
 }

@@ -2,14 +2,20 @@
 
 use crate::port::{Heard, OpenFault, Port, SocketFault};
 use bac_wire::Datagram;
+use libc::net::{SO_RCVBUF, SOL_SOCKET, setsockopt};
 use std::io;
 use std::io::ErrorKind;
 use std::net::{Ipv4Addr, Net, SocketAddr, SocketAddrV4, UdpSocket};
+use std::os::fd::AsRawFd;
 use std::time::Duration;
 
 /// One octet more than a datagram may have, so that a longer one is told: the system cuts off what
 /// doesn't fit.
 const BUFFER: usize = 1502;
+
+/// How many octets of datagrams that came and weren't taken yet the system is asked to hold: a
+/// hundred and more of each size. What doesn't fit is lost.
+const WAITING: i32 = 1_048_576;
 
 /// A UDP socket over IPv4. It isn't connected: datagrams come from anyone.
 #[derive(Debug, Drop)]
@@ -96,7 +102,17 @@ fn open_fault(kind: ErrorKind) -> OpenFault {
 fn socket_at<R: Net>(rt: &R, local: [u8; 6], timeout_ms: u32) -> io::Result<UdpSocket> {
     let socket = UdpSocket::bind(rt, address_of(local))?;
     socket.set_read_timeout(waiting(timeout_ms))?;
+    ask_for_room(&socket);
     Ok(socket)
+}
+
+/// Asks the system for room for what comes at once. It may give less, or none: then more is lost,
+/// and asked for again.
+fn ask_for_room(socket: &UdpSocket) {
+    let [a, b, c, d] = WAITING.to_ne_bytes();
+    let octets = [a, b, c, d, 0, 0, 0, 0, 0, 0, 0, 0, 0, 0, 0, 0];
+    // SAFETY: the option's value is four octets, and the descriptor is the socket's own.
+    let _ = unsafe { setsockopt(socket.as_raw_fd(), SOL_SOCKET, SO_RCVBUF, &octets, 4) };
 }
 
 /// So many milliseconds, and no limit at 0.
