@@ -16,3 +16,4 @@ mod ChangeStatement
 pub mod ChangeLemmas
 mod CauseLemmas
 mod CreateLemmas
+pub mod GroupLemmas

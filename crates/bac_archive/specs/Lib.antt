@@ -11,3 +11,4 @@ pub mod Parts
 pub mod Standing
 pub mod Causes
 pub mod OpenCauses
+pub mod Group

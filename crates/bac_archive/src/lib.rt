@@ -10,6 +10,7 @@
 mod changes;
 mod creation;
 mod epochs;
+mod group;
 mod items;
 mod latest;
 mod log_values;
@@ -23,7 +24,8 @@ mod trend_logs;
 
 pub use changes::{change_logs, changes_keep_logs, renew_log};
 pub use creation::create;
-pub use epochs::{Beginning, begin_epoch, beginnings};
+pub use epochs::{Beginning, begin_epoch, beginnings, last_begun};
+pub use group::{append_within, commit_group, open_group, undo_group};
 pub use items::{Item, given_are_items, items_of, read_item};
 pub use latest::{NewestItem, head_of, newest};
 pub use opening::{Refused, open};

@@ -1,3 +1,2 @@
-pub mod StandLemmas
 pub mod Ways
 pub mod Quiet

@@ -1,13 +1,12 @@
 -- Where a log stands in an archive, from which a run over it begins.
-use Rattle.std.specs.Prelude.{◌≡◌, ℕ, ◌+◌, ◌-◌, ◌≤◌, ◌==◌, nat_le, nat_lt, Bool, false, if◌then◌else◌, List, [], String}
+use Rattle.std.specs.Prelude.{◌≡◌, ℕ, ◌+◌, ◌-◌, ◌==◌, nat_le, nat_lt, Bool, false, if◌then◌else◌, List, [], String}
 use Rattle.std.specs.Prelude.{Option, None, Some, option_map, unwrap_or}
-use Rattle.std.specs.List.{Contains}
 use Rattle.std.specs.String.{string_bytes}
 use Rattle.sqlite_trees.specs.Tree.{Trees}
 use Rattle.sqlite_value.specs.Order.{Row as Values}
-use Rattle.bac_archive.specs.Beginnings.{AreBeginnings}
 use Rattle.bac_archive.specs.Latest.{HasNoItem, IsNewest, TellsHead}
-use Rattle.bac_archive.specs.Rows.{kept}
+use Rattle.bac_archive.specs.Rows.{begun as beginnings, kept}
+use Rattle.bac_archive.specs.Standing.{TellsBegun}
 use Rattle.bac_archive.specs.declared.epochs.Beginning.{Beginning}
 use Rattle.bac_archive.specs.declared.row.Row.{Row}
 use Rattle.bac_keep.specs.Newest.{epoch_behind}
@@ -17,17 +16,6 @@ use Rattle.bac_keep.specs.Looks.{KeptAs}
 use Rattle.bac_begin.specs.declared.stands.Last.{Last}
 use Rattle.bac_begin.specs.declared.stands.Stand.{Stand}
 use Rattle.bac_begin.specs.declared.stands.Stand.TheVariants.{Behind, At}
-
--- the beginning of a log's last epoch among these, or that none is of the log
-abbrev pub IsLastOf : ℕ → List Beginning → Option Beginning → Type 0
-IsLastOf log all None = (b : Beginning) → Contains all b → b.log ≡ log → ⊥
-IsLastOf log all (Some b) =
-    Contains all b × (b.log ≡ log) × ((other : Beginning) → Contains all other → other.log ≡ log
-    → other.epoch ≤ b.epoch)
-
--- the beginning of a log's last epoch in an archive, or that none has begun
-abbrev pub BeganLast : ℕ → Trees → Option Beginning → Type 0
-BeganLast log trees begun = (all : List Beginning) × AreBeginnings trees all × IsLastOf log all begun
 
 -- the status flags in the values of an item; a gap has none
 abbrev pub flags_in : Option Row → List ℕ
@@ -54,7 +42,7 @@ stand_by (Some last) (Some begun) = if nat_lt last.item.epoch begun.epoch then S
 -- where a log stands, by its newest item and the beginning of its last epoch
 abbrev pub IsStand : ℕ → Trees → Option Stand → Type 0
 IsStand log trees stand = (last : Option Last) × (begun : Option Beginning) × IsItemOf log (kept trees) last
-    × BeganLast log trees begun × (stand ≡ stand_by last begun)
+    × TellsBegun log (beginnings trees) begun × (stand ≡ stand_by last begun)
 
 -- the octets of a text, or none
 abbrev pub octets : {A : Type 0} → Option (String A) → List ℕ

@@ -2,18 +2,18 @@
 
 ghost use Rattle.std.specs.Prelude.{◌≡◌, ◌<◌, ◌++◌, ◌∷◌, [], List, IfNone, IfOk, IfSome, OnOk};
 ghost use Rattle.std.specs.Prelude.{IfErr};
-ghost use Rattle.bac_archive.specs.declared.epochs.Beginning.{Beginning as BeginningOf};
-ghost use Rattle.bac_archive.specs.Rows.{kept};
+ghost use Rattle.bac_archive.specs.Rows.{begun, kept};
+ghost use Rattle.bac_archive.specs.Standing.{TellsBegun};
 ghost use Rattle.sqlite.specs.State.{HasCleanDisk, Survives};
 ghost use Rattle.sqlite.specs.Held.{state};
 ghost use Rattle.bac_archive.specs.Schema.{OverArchive, HasArchive};
 ghost use Rattle.bac_link.specs.Ordinals.{number_after};
 ghost use Rattle.bac_asked.specs.Faults.{FailsOnRows, EndsLog};
-ghost use Rattle.bac_begin.specs.Stands.{AreFlagsOf, BeganLast, IsItemOf, IsLastOf, IsStand};
+ghost use Rattle.bac_begin.specs.Stands.{AreFlagsOf, IsItemOf, IsStand};
 ghost use Rattle.bac_begin.specs.Stands.{begins_at_one, epoch_from, epoch_of, flags_in, free_from};
 ghost use Rattle.bac_begin.specs.Stands.{kept_last, number_before, octets, stand_by, word_at};
 
-use bac_archive::{Beginning, NewestItem, Row, beginnings, head_of, is_archive, newest};
+use bac_archive::{Beginning, NewestItem, Row, head_of, is_archive, last_begun, newest};
 use bac_asked::{FileFault, NotDone};
 use bac_keep::{LastKept, Place, Word};
 use sqlite::{Alter, Connection};
@@ -35,43 +35,10 @@ pub enum Stand {
     At(Beginning),
 }
 
-/// The beginning of a log's last epoch among these.
-fn last_of(all: &[Beginning], log: u16) -> Option<Beginning>
-    ensures { IsLastOf log all.now result }
-{
-    let mut last: Option<Beginning> = None;
-    for begun in all {
-        last = later(last, *begun, log);
-    }
-    last
-}
-
-/// The later one of two beginnings, if this one is of the log.
-fn later(last: Option<Beginning>, begun: Beginning, log: u16) -> Option<Beginning>
-    ensures { (seen : List BeginningOf) → IsLastOf log seen last
-        → IsLastOf log (seen ++ begun ∷ []) result }
-{
-    if begun.log != log {
-        return last;
-    }
-    let Some(other) = last else {
-        return Some(begun);
-    };
-    if begun.epoch <= other.epoch {
-        Some(other)
-    } else {
-        Some(begun)
-    }
-}
-
 /// The beginning of a log's last epoch.
-fn began_last<A: Alter>(
-    alloc: Global,
-    conn: &mut Connection<A>,
-    id: u16,
-) -> Result<Option<Beginning>, NotDone>
+fn began_last<A: Alter>(conn: &mut Connection<A>, id: u16) -> Result<Option<Beginning>, NotDone>
     ensures began { OverArchive (state A.Store conn.old) (state A.Store conn.new)
-        (IfOk result (BeganLast id (state A.Store conn.old).now.trees)) }
+        (IfOk result (TellsBegun id (begun (state A.Store conn.old).now.trees))) }
     ensures same { OverArchive (state A.Store conn.old) (state A.Store conn.new)
         (OnOk result ((state A.Store conn.new).now ≡ (state A.Store conn.old).now)) }
     ensures crash { (HasCleanDisk (state A.Store conn.old)
@@ -81,8 +48,8 @@ fn began_last<A: Alter>(
     ensures fault { IfErr result EndsLog }
     ensures caused { IfErr result FailsOnRows }
 {
-    match beginnings(alloc, conn) {
-        Ok(all) => Ok(last_of(all.as_slice(), id)),
+    match last_begun(conn, id) {
+        Ok(last) => Ok(last),
         Err(error) => Err(NotDone::File(FileFault::of(error))),
     }
 }
@@ -192,7 +159,7 @@ pub fn stand_of<A: Alter>(
         (IfErr result FailsOnRows) }
 {
     let last = last_item(alloc, conn, id)?;
-    let begun = began_last(alloc, conn, id)?;
+    let begun = began_last(conn, id)?;
     Ok(stand_by(last, begun))
 }
 

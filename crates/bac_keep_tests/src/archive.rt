@@ -1,6 +1,9 @@
 //! Archives in memory: what is opened, what is refused, and what is kept.
 
-use bac_archive::{Refused, Row, append, is_archive, leaves_the_last_commit, open};
+use bac_archive::{
+    Refused, Row, append, append_within, commit_group, is_archive, leaves_the_last_commit, open,
+    open_group, undo_group,
+};
 use sqlite::types::{FromSql, ToSql};
 use sqlite::{Connection, Constraint, Error, ErrorCode, MemStore};
 use std::alloc::Global;
@@ -142,5 +145,51 @@ fn an_append_keeps_all_rows_or_none(rt: HostRuntime) -> Result<(), Fail> {
         first::<String>(&mut conn, "SELECT address FROM records")?.as_str(),
         "192.0.2.1"
     );
+    Ok(())
+}
+
+// A group of two calls.
+fn group(conn: &mut Connection<MemStore>, first: &[Row], then: &[Row]) -> Result<(), Error> {
+    open_group(conn)?;
+    append_within(conn, first)?;
+    append_within(conn, then)?;
+    commit_group(conn)
+}
+
+#[test]
+fn a_group_keeps_the_rows_of_all_its_calls(rt: HostRuntime) -> Result<(), Fail> {
+    let alloc = rt.alloc();
+    let mut conn = archive_with(alloc, 0)?;
+    assert!(rt;
+        group(
+            &mut conn,
+            &[row(alloc, 445)?, gap(446, 449)],
+            &[row(alloc, 450)?]
+        ) == Ok(())
+    );
+    assert!(rt; conn.is_autocommit());
+    assert_eq!(rt; first::<i64>(&mut conn, "SELECT count(*) FROM items")?, 3);
+    assert_eq!(rt;
+        first::<i64>(&mut conn, "SELECT beginning FROM epochs")?,
+        445
+    );
+    assert!(rt; open(&mut conn) == Ok(()));
+    let none = Error::SqliteFailure(ErrorCode::TransactionState);
+    assert!(rt; append_within(&mut conn, &[row(alloc, 451)?]) == Err(none));
+    Ok(())
+}
+
+#[test]
+fn a_group_that_is_undone_keeps_nothing(rt: HostRuntime) -> Result<(), Fail> {
+    let alloc = rt.alloc();
+    let mut conn = archive_with(alloc, 0)?;
+    assert!(rt; add(&mut conn, &[row(alloc, 445)?])? == Ok(()));
+    let taken = Error::SqliteFailure(ErrorCode::ConstraintViolation(Constraint::PrimaryKey));
+    let both = [row(alloc, 447)?, row(alloc, 445)?];
+    assert!(rt; group(&mut conn, &[row(alloc, 446)?], &both) == Err(taken));
+    assert_eq!(rt; first::<i64>(&mut conn, "SELECT count(*) FROM items")?, 3);
+    undo_group(&mut conn);
+    assert!(rt; conn.is_autocommit());
+    assert_eq!(rt; first::<i64>(&mut conn, "SELECT count(*) FROM items")?, 1);
     Ok(())
 }
