@@ -15,4 +15,4 @@ use Rattle.bac_absent.specs.declared.identifying.Identifying.{Identifying}
 pub run : (job : Identifying) (outcomes : List Outcome) (link left : Play) (said : Said) (t : Transactions) → link.outcomes.now ≡ outcomes → link.is_dry ≡ false →
     t.retries ≡ 0 → t.route ≡ job.route → Says Plays (towards t.route) t.retries link said left → Runs job outcomes said left
 run job outcomes link left said t all wet none route h =
-    (link, all, wet, subst (λ (r : Option Place). Says Plays (towards r) 0 link said left) route (subst (λ (n : ℕ). Says Plays (towards t.route) n link said left) none h))
+    (link, (all, wet), subst (λ (r : Option Place). Says Plays (towards r) 0 link said left) route (subst (λ (n : ℕ). Says Plays (towards t.route) n link said left) none h))

@@ -1,8 +1,8 @@
 -- What a device is asked about itself, over a record of what came to that. Read `IsPlayed`.
-use Rattle.std.specs.Prelude.{◌≡◌, ◌≢◌, ◌⊎◌, true, false, List, [], None, Some}
+use Rattle.std.specs.Prelude.{◌≡◌, List}
 use Rattle.bac_asked.specs.declared.wanted.Wanted.{Wanted}
+use Rattle.bac_jobs.specs.Records.{ComesTo, IsWhole}
 use Rattle.bac_jobs.specs.declared.job.Turn.{Turn}
-use Rattle.bac_jobs.specs.declared.job.Turn.TheVariants.{Ended, Unfit, Wants}
 use Rattle.bac_link.specs.Path.{towards}
 use Rattle.bac_play.specs.declared.play.Outcome.{Outcome}
 use Rattle.bac_play.specs.declared.play.Play.{Play}
@@ -19,18 +19,11 @@ identifying_of wanted = record { route = wanted.asking.asked.route }
 -- this is what it says by the answers.
 abbrev pub Runs : Identifying → List Outcome → Said → Play → Type 0
 Runs job outcomes said left =
-    (link : Play) × (link.outcomes.now ≡ outcomes) × (link.is_dry ≡ false)
-    × Says Plays (towards job.route) 0 link said left
+    (link : Play) × IsWhole outcomes link × Says Plays (towards job.route) 0 link said left
 
--- What that comes to over a record: all of it was taken, and this is what was asked first beyond it; or it has all that
--- was asked and nothing else, and the device says this; or it has an outcome of what isn't asked, or what is asked fits
--- no datagram.
+-- What that comes to over a record: the device says this, if the record has all that was asked and nothing else; or
+-- what was asked first beyond it.
 abbrev pub IsPlayed : Identifying → List Outcome → Turn Said → Type 0
-IsPlayed job outcomes (Wants octets) =
-    (said : Said) × (left : Play) × Runs job outcomes said left × (left.outcomes.now ≡ []) × (left.is_dry ≡ true)
-    × (left.wanted ≡ Some octets)
-IsPlayed job outcomes (Ended said) =
-    (left : Play) × Runs job outcomes said left × (left.outcomes.now ≡ []) × (left.is_dry ≡ false)
-IsPlayed job outcomes Unfit =
+IsPlayed job outcomes turn =
     (said : Said) × (left : Play) × Runs job outcomes said left
-    × ((left.outcomes.now ≢ []) ⊎ ((left.is_dry ≡ true) × (left.wanted ≡ None)))
+    × ComesTo (λ end. end ≡ said) left left.is_dry turn

@@ -5,7 +5,7 @@ ghost use Rattle.bac_absent.specs.Identifying.{IsPlayed, identifying_of};
 
 use bac_apdu::Route;
 use bac_asked::Wanted;
-use bac_jobs::{Job, Turn};
+use bac_jobs::{Job, Turn, turn_by};
 use bac_link::Transactions;
 use bac_play::{Outcome, Play};
 use bac_questions::{Said, read_said, transactions_by};
@@ -50,15 +50,11 @@ impl Job for Identifying {
         let Ok(said) = read_said(alloc, &mut link, &mut transactions) else {
             return Err(AllocError);
         };
-        if !link.is_used_up() {
-            return Ok(Turn::Unfit);
-        }
-        if !link.is_dry() {
-            return Ok(Turn::Ended(said));
-        }
-        match link.wanted() {
-            Some(question) => Ok(Turn::Wants(question)),
-            None => Ok(Turn::Unfit),
+        let is_dry = link.is_dry();
+        match turn_by(link, is_dry) {
+            Turn::Wants(question) => Ok(Turn::Wants(question)),
+            Turn::Ended(()) => Ok(Turn::Ended(said)),
+            Turn::Unfit => Ok(Turn::Unfit),
         }
     }
 }

@@ -1,15 +1,17 @@
 -- One round more.
-use Rattle.std.proofs.Common.{◌≡◌, List, [], ◌∷◌, ◌++◌, map, refl, ap, sym, subst, inl, inr, ◌∙◌, append-nil, append_assoc}
+use Rattle.std.proofs.Common.{◌≡◌, List, [], ◌∷◌, ◌++◌, map, refl, ap, sym, subst, inl, inr, ◌⊎◌, ◌∙◌, ◌<◌, ◌≤◌, ℕ, length, append-nil, append_assoc, arith}
 use Rattle.bac_asked.specs.declared.end.NotDone.{NotDone}
 use Rattle.bac_desks.specs.Chain.{Chain}
 use Rattle.bac_desks.proofs.Lists.{pushed}
-use Rattle.bac_hearing.specs.Hearing.{FailsToHear, Pace}
+use Rattle.bac_hearing.specs.Hearing.{FailsToHear, Pace, paced}
 use Rattle.bac_hearing.specs.declared.hearing.NotHeard.TheVariants.{Unfinished}
 use Rattle.bac_ports.specs.Sockets.{SocketRules}
 use Rattle.bac_questions.specs.Faults.{EndsAsking}
 use Rattle.bac_recall.specs.declared.conversations.Conversation.{Conversation}
 use Rattle.bac_words.specs.declared.job.Asked.{Asked}
-use Rattle.bac_ahead.specs.Rounds.{AsksAhead, EndsAhead, IsRound, IsRoundOf, Parts, Stage, conversations_of, parts_of, peers_of}
+use Rattle.bac_ahead.proofs.Parted.{two_devices}
+use Rattle.bac_ahead.specs.Laws.{SomeAreAsked}
+use Rattle.bac_ahead.specs.Rounds.{AsksAhead, EndsAhead, IsRound, IsRoundOf, IsUnending, Parts, Stage, conversations_of, devices_of, parts_of, peers_of}
 use Rattle.bac_ahead.specs.declared.opening.Opened.{Opened}
 use Rattle.bac_ahead.specs.declared.opening.Opening.{Opening}
 
@@ -36,33 +38,48 @@ module _ {S P C : Type 0} (rules : SocketRules S P) (clock : Pace C) (asked : As
 
   -- a round more
   pub round_more : (all left firsts rest more : List Opening) (before mid after : S) (ends : List Opened) (came came' : List Conversation)
-      → parts firsts rest ≡ parts_of left → Came all before mid left came → IsRoundOf rules clock asked firsts rest mid ends more after
+      → parts firsts rest ≡ parts_of left → 2 ≤ length firsts → Came all before mid left came → IsRoundOf rules clock asked firsts rest mid ends more after
       → came' ≡ came ++ map of_opened ends → Came all before after more came'
-  round_more all left firsts rest more before mid after ends came came' are (rounds, chain, is) this behind = (
+  round_more all left firsts rest more before mid after ends came came' are two (rounds, chain, is) this behind = (
     rounds ++ ends ∷ [],
     pushed (IsRound rules clock asked) (stage before all) (stage mid left) (stage after more) rounds ends chain
-        (subst (λ (p : Parts). IsRoundOf rules clock asked p.firsts p.rest mid ends more after) are this),
+        (subst (λ (p : Parts). (2 ≤ length p.firsts) × IsRoundOf rules clock asked p.firsts p.rest mid ends more after) are (two, this)),
     behind ∙ ap (λ (l : List Conversation). l ++ map of_opened ends) is ∙ sym (one_more rounds ends),
   )
 
   -- there are no more
-  pub no_more : (all left : List Opening) (before mid : S) (came : List Conversation) → Came all before mid left came → AsksAhead rules clock asked all before came mid
-  no_more all left before mid came (rounds, chain, is) = (rounds, stage mid left, chain, is, inl refl)
+  pub no_more : (all left firsts rest : List Opening) (before mid : S) (came : List Conversation) → parts firsts rest ≡ parts_of left → length firsts < 2
+      → Came all before mid left came → AsksAhead rules clock asked all before came mid
+  no_more all left firsts rest before mid came are few (rounds, chain, is) =
+      (rounds, stage mid left, chain, is, inl (subst (λ (p : Parts). length p.firsts < 2) are few, refl))
 
   -- one doesn't end
-  pub unending : (all left firsts rest : List Opening) (before mid after : S) (came came' : List Conversation) → parts firsts rest ≡ parts_of left
+  pub unending : (all left firsts rest : List Opening) (before mid after : S) (came came' : List Conversation) → parts firsts rest ≡ parts_of left → 2 ≤ length firsts
       → Came all before mid left came → FailsToHear rules clock (peers_of firsts) asked.local asked.timeout asked.retries mid after Unfinished
       → came' ≡ came → AsksAhead rules clock asked all before came' after
-  unending all left firsts rest before mid after came came' are (rounds, chain, is) fails same = (
+  unending all left firsts rest before mid after came came' are two (rounds, chain, is) fails same = (
     rounds,
     stage mid left,
     chain,
     same ∙ is,
-    inr (subst (λ (p : Parts). FailsToHear rules clock (peers_of p.firsts) asked.local asked.timeout asked.retries mid after Unfinished) are fails),
+    inr (subst (λ (p : Parts). (2 ≤ length p.firsts) × FailsToHear rules clock (peers_of p.firsts) asked.local asked.timeout asked.retries mid after Unfinished) are (two, fails)),
   )
 
   -- one can't be made
-  pub fails : (all left : List Opening) (before mid after : S) (came : List Conversation) (fault : NotDone) → Came all before mid left came
-      → EndsAsking rules asked mid after fault → EndsAhead rules clock asked all before after fault
-  fails all left before mid after came fault (rounds, chain, is) (inl memory) = inl memory
-  fails all left before mid after came fault (rounds, chain, is) (inr unopened) = inr (rounds, stage mid left, chain, unopened)
+  pub fails : (all left firsts rest : List Opening) (before mid after : S) (came : List Conversation) (fault : NotDone) → parts firsts rest ≡ parts_of left → 2 ≤ length firsts
+      → Came all before mid left came → EndsAsking rules asked mid after fault → EndsAhead rules clock asked all before after fault
+  fails all left firsts rest before mid after came fault are two (rounds, chain, is) (inl memory) = inl memory
+  fails all left firsts rest before mid after came fault are two (rounds, chain, is) (inr unopened) =
+      inr (rounds, stage mid left, chain, subst (λ (p : Parts). 2 ≤ length p.firsts) are two, unopened)
+
+  -- of two devices some are asked
+  pub first_round : (all : List Opening) (before after : S) (came : List Conversation) → 2 ≤ devices_of all → AsksAhead rules clock asked all before came after
+      → ((ends : List Opened) × (next : Stage S) × IsRound rules clock asked (stage before all) ends next) ⊎ IsUnending rules clock asked (stage before all) after
+  first_round all before after came two (ends ∷ rounds, last, (next, round, more), is, end) = inl (ends, next, round)
+  first_round all before after came two ([], last, same, is, inl (few, rest)) =
+      let less : devices_of all < 2 = subst (λ (s : Stage S). devices_of s.left < 2) same few in absurd (omega (arith, less, two))
+  first_round all before after came two ([], last, same, is, inr unending) = inr (subst (λ (s : Stage S). IsUnending rules clock asked s after) same unending)
+
+pub some : {S P C : Type 0} (rules : SocketRules S P) (reads : C → ℕ → C → Type 0) → SomeAreAsked rules reads
+some rules reads = λ start window asked all one other before after came has has' apart asks.
+    first_round rules (paced reads start window) asked all before after came (two_devices all one other has has' apart) asks

@@ -1,5 +1,5 @@
 -- What a run over a log asks first, played over a record. Read `Plays`.
-use Rattle.std.specs.Prelude.{◌≡◌, ◌≢◌, ◌⊎◌, ◌≤◌, ℕ, Bool, true, false, List, [], Option, None, Some, Result, Ok, Err}
+use Rattle.std.specs.Prelude.{◌≡◌, ◌⊎◌, ◌≤◌, ℕ, Bool, true, List, Option, None, Some, Result, Ok, Err}
 use Rattle.std.specs.Prelude.{is_err}
 use Rattle.std.specs.List.{list_any}
 use Rattle.bac_wire.specs.Primitive.{Id}
@@ -19,8 +19,9 @@ use Rattle.bac_begin.specs.Stands.{word_at}
 use Rattle.bac_begin.specs.Starts.{GoesFrom, StartsNew}
 use Rattle.bac_begin.specs.declared.stands.Stand.{Stand}
 use Rattle.bac_begin.specs.declared.starting.Start.{Start}
+use Rattle.bac_jobs.specs.Records.{ComesTo, IsWhole}
 use Rattle.bac_jobs.specs.declared.job.Turn.{Turn}
-use Rattle.bac_jobs.specs.declared.job.Turn.TheVariants.{Ended, Unfit, Wants}
+use Rattle.bac_jobs.specs.declared.job.Turn.TheVariants.{Ended}
 use Rattle.bac_questions.specs.Silent.{is_same_log}
 use Rattle.bac_ahead.specs.declared.opening.Opened.{Opened}
 use Rattle.bac_ahead.specs.declared.opening.Opening.{Opening}
@@ -71,19 +72,6 @@ abbrev pub IsOpened : Opening → List Outcome → Opened → Type 0
 IsOpened opening outcomes opened = (is_same_log opened.source opening.source ≡ true)
     × (opened.conversation.peer ≡ opening.peer) × (opened.conversation.outcomes.items ≡ outcomes)
 
--- What a run over a record comes to that left it so: what it asked first that isn't in the record; or all of the record
--- was asked for, and nothing else.
-abbrev pub ComesTo : Opening → List Outcome → Play → Turn Opened → Type 0
-ComesTo opening outcomes left (Wants octets) =
-    (left.outcomes.now ≡ []) × (left.is_dry ≡ true) × (left.wanted ≡ Some octets)
-ComesTo opening outcomes left (Ended opened) =
-    (left.outcomes.now ≡ []) × (left.is_dry ≡ false) × IsOpened opening outcomes opened
-ComesTo opening outcomes left Unfit = (left.outcomes.now ≢ []) ⊎ ((left.is_dry ≡ true) × (left.wanted ≡ None))
-
--- a link over a record, of which nothing was asked yet
-abbrev pub IsWhole : List Outcome → Play → Type 0
-IsWhole outcomes link = (link.outcomes.now ≡ outcomes) × (link.is_dry ≡ false)
-
 -- A log is asked for as its run begins, without repeats, over a record of what came to that; for an instance that no
 -- object has nothing is asked.
 abbrev pub Plays : Opening → List Outcome → Turn Opened → Type 0
@@ -91,7 +79,7 @@ Plays opening outcomes turn =
     ((4194304 ≤ opening.source.instance) × (opened : Opened) × (turn ≡ Ended opened) × IsOpened opening outcomes opened)
     ⊎ ((link : Play) × (left : Play) × IsWhole outcomes link
     × Asks PlaysRecord (towards opening.route) 0 link opening (trend_log opening.source.instance) left
-    × ComesTo opening outcomes left turn)
+    × ComesTo (IsOpened opening outcomes) left left.is_dry turn)
 
 -- no answer came to a question
 abbrev pub is_lost : Outcome → Bool

@@ -1,5 +1,6 @@
 -- Logs are opened in rounds, in each of them one of each device, all beside one another. Read `AsksAhead`.
-use Rattle.std.specs.Prelude.{◌≡◌, ◌⊎◌, ◌&&◌, not, ℕ, Bool, List, [], ◌∷◌, ◌++◌, if◌then◌else◌, filter, fold, map}
+use Rattle.std.specs.Prelude.{◌≡◌, ◌<◌, ◌≤◌, ◌⊎◌, ◌&&◌, not, ℕ, Bool, List, [], ◌∷◌, ◌++◌, if◌then◌else◌, filter, fold}
+use Rattle.std.specs.Prelude.{length, map}
 use Rattle.std.specs.List.{list_any}
 use Rattle.bac_desks.specs.Chain.{Chain}
 use Rattle.bac_hearing.specs.Hearing.{FailsToHear, HearsAll, Pace}
@@ -63,11 +64,16 @@ IsRoundOf rules pace asked firsts rest before ends left after =
     × HearsAll rules pace Plays (peers_of firsts) firsts asked.local asked.timeout asked.retries before endings after
     × (left ≡ left_of ends rest)
 
--- in a round these are the first log of each device
+-- how many devices these logs are of
+abbrev pub devices_of : List Opening → ℕ
+devices_of all = length (parts_of all).firsts
+
+-- in a round these are the first log of each device, of which there are two or more
 abbrev pub IsRound : {S P C : Type 0} → SocketRules S P → Pace C → Asked → Stage S → List Opened → Stage S →
     Type 0
-IsRound rules pace asked old ends new = IsRoundOf rules pace asked (parts_of old.left).firsts (parts_of old.left).rest
-    old.sockets ends new.left new.sockets
+IsRound rules pace asked old ends new = (2 ≤ devices_of old.left)
+    × IsRoundOf rules pace asked (parts_of old.left).firsts (parts_of old.left).rest old.sockets ends new.left
+    new.sockets
 
 -- ---- all rounds
 
@@ -78,18 +84,23 @@ conversations_of (ends ∷ more) = map (λ (o : Opened). o.conversation) ends ++
 
 -- a round that has more turns than fit 64 bits opens nothing
 abbrev pub IsUnending : {S P C : Type 0} → SocketRules S P → Pace C → Asked → Stage S → S → Type 0
-IsUnending rules pace asked old after =
-    FailsToHear rules pace (peers_of (parts_of old.left).firsts) asked.local asked.timeout asked.retries old.sockets
+IsUnending rules pace asked old after = (2 ≤ devices_of old.left)
+    × FailsToHear rules pace (peers_of (parts_of old.left).firsts) asked.local asked.timeout asked.retries old.sockets
     after Unfinished
 
--- Logs were opened in rounds, one after the other, as this is asked; what came is these conversations.
+-- no round is made of the logs of fewer devices
+abbrev pub IsOver : {S : Type 0} → Stage S → S → Type 0
+IsOver last after = (devices_of last.left < 2) × (after ≡ last.sockets)
+
+-- Logs were opened in rounds, one after the other, as this is asked, until those that were left were of fewer than two
+-- devices, or a round didn't end; what came is these conversations.
 abbrev pub AsksAhead : {S P C : Type 0} → SocketRules S P → Pace C → Asked → List Opening → S →
     List Conversation → S → Type 0
 AsksAhead {S = S} rules pace asked all before came after =
     (rounds : List (List Opened)) × (last : Stage S)
     × Chain (IsRound rules pace asked) (record { sockets = before; left = all }) rounds last
     × (came ≡ conversations_of rounds)
-    × ((after ≡ last.sockets) ⊎ IsUnending rules pace asked last after)
+    × (IsOver last after ⊎ IsUnending rules pace asked last after)
 
 -- The rounds end before that: memory is wanting, or no socket was opened for one.
 abbrev pub EndsAhead : {S P C : Type 0} → SocketRules S P → Pace C → Asked → List Opening → S → S → NotDone →
@@ -97,4 +108,4 @@ abbrev pub EndsAhead : {S P C : Type 0} → SocketRules S P → Pace C → Asked
 EndsAhead {S = S} rules pace asked all before after fault = WantsMemory fault
     ⊎ ((rounds : List (List Opened)) × (last : Stage S)
     × Chain (IsRound rules pace asked) (record { sockets = before; left = all }) rounds last
-    × IsUnopened rules asked last.sockets after fault)
+    × (2 ≤ devices_of last.left) × IsUnopened rules asked last.sockets after fault)

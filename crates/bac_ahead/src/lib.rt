@@ -8,6 +8,6 @@ mod opening;
 mod rounds;
 mod split;
 
-pub use laws::rounds_ask_each_once;
+pub use laws::{rounds_ask_each_once, some_are_asked};
 pub use opening::{Opened, Opening};
 pub use rounds::ask_ahead;

@@ -3,8 +3,9 @@
 ghost use Rattle.std.specs.Prelude.{◌≡◌, IfErr, IfOk, OnOk};
 ghost use Rattle.bac_link.specs.Path.{towards};
 ghost use Rattle.bac_asked.specs.Faults.{WantsMemory};
-ghost use Rattle.bac_ahead.specs.Ahead.{Asks, Begins, ComesTo, IsOpened, Plays, WalksOn};
+ghost use Rattle.bac_ahead.specs.Ahead.{Asks, Begins, IsOpened, Plays, WalksOn};
 ghost use Rattle.bac_ahead.specs.Ahead.{has_lost, is_lost};
+ghost use Rattle.bac_jobs.specs.Records.{ComesTo};
 ghost use Rattle.bac_walk.specs.Outcomes.{why_of};
 
 use bac_apdu::Route;
@@ -12,7 +13,7 @@ use bac_apdu::object_type::TREND_LOG;
 use bac_archive::Source;
 use bac_asked::{End, NotDone};
 use bac_begin::{Hand, Stand, Start, start_at, start_new};
-use bac_jobs::{Job, Turn};
+use bac_jobs::{Job, Turn, copy_outcomes, turn_by};
 use bac_keep::Word;
 use bac_link::{LogLink, Transactions};
 use bac_play::{Outcome, Play};
@@ -51,38 +52,6 @@ pub struct Opening {
 pub struct Opened {
     pub source: Source,
     pub conversation: Conversation,
-}
-
-/// The same outcome once more.
-fn copy_outcome(outcome: &Outcome) -> Outcome
-    ensures { result ≡ outcome.now }
-{
-    let answer = match &outcome.answer {
-        Ok(datagram) => Ok(datagram.copy()),
-        Err(lost) => Err(*lost),
-    };
-    Outcome {
-        request: outcome.request.copy(),
-        answer,
-    }
-}
-
-/// The same route once more.
-fn copy_route(route: &Option<Route>) -> Result<Option<Route>, AllocError>
-    ensures { IfOk result (λ copy. copy ≡ route.now) }
-{
-    route.clone()
-}
-
-/// The same record once more.
-fn copy_outcomes(alloc: Global, outcomes: &[Outcome]) -> Result<Vec<Outcome>, AllocError>
-    ensures { IfOk result (λ copy. copy.items ≡ outcomes.now) }
-{
-    let mut copy = Vec::new(alloc);
-    for outcome in outcomes {
-        copy.push(copy_outcome(outcome))?;
-    }
-    Ok(copy)
 }
 
 /// Whether no answer came to a question.
@@ -178,6 +147,14 @@ impl Opening {
         Ok(())
     }
 
+    /// Transactions with its device, of which none is repeated.
+    fn transactions(&self) -> Result<Transactions, AllocError>
+        ensures retries { IfOk result (λ made. made.retries ≡ 0) }
+        ensures route { IfOk result (λ made. made.route ≡ self.now.route) }
+    {
+        Ok(transactions_by(0, self.route.clone()?))
+    }
+
     /// What came, once nothing more is asked.
     fn opened(&self, alloc: Global, outcomes: &[Outcome]) -> Result<Opened, AllocError>
         ensures { IfOk result (IsOpened self.now outcomes.now) }
@@ -202,17 +179,14 @@ impl Opening {
         outcomes: &[Outcome],
         link: Play<'_>,
     ) -> Result<Turn<Opened>, AllocError>
-        ensures { IfOk result (ComesTo self.now outcomes.now link.entry) }
+        ensures { IfOk result (ComesTo (IsOpened self.now outcomes.now) link.entry
+            link.entry.is_dry) }
     {
-        if !link.is_used_up() {
-            return Ok(Turn::Unfit);
-        }
-        if !link.is_dry() {
-            return Ok(Turn::Ended(self.opened(alloc, outcomes)?));
-        }
-        match link.wanted() {
-            Some(question) => Ok(Turn::Wants(question)),
-            None => Ok(Turn::Unfit),
+        let is_dry = link.is_dry();
+        match turn_by(link, is_dry) {
+            Turn::Wants(question) => Ok(Turn::Wants(question)),
+            Turn::Ended(()) => Ok(Turn::Ended(self.opened(alloc, outcomes)?)),
+            Turn::Unfit => Ok(Turn::Unfit),
         }
     }
 }
@@ -227,7 +201,7 @@ impl Job for Opening {
             return Ok(Turn::Ended(self.opened(alloc, outcomes)?));
         };
         let mut link = Play::new(outcomes);
-        let mut transactions = transactions_by(0, copy_route(&self.route)?);
+        let mut transactions = self.transactions()?;
         match self.ask(alloc, &mut link, &mut transactions, log) {
             Ok(()) => self.turn_by(alloc, outcomes, link),
             Err(_) => Err(AllocError),

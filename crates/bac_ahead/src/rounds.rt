@@ -14,22 +14,11 @@ use crate::split::{Split, left_of, peers_of};
 use bac_asked::{Fault, NotDone};
 use bac_desks::Clock;
 use bac_hearing::{NotHeard, hear_all};
-use bac_jobs::Ending;
+use bac_jobs::{Ending, ends_in};
 use bac_ports::Sockets;
 use bac_recall::Conversation;
 use bac_words::Asked;
 use std::alloc::{AllocError, Global};
-
-/// What came, without whether something came in its place.
-fn ends_of(alloc: Global, endings: Vec<Ending<Opened>>) -> Result<Vec<Opened>, AllocError>
-    ensures { IfOk result (λ ends. ends.items ≡ map (λ e. e.end) endings.items) }
-{
-    let mut ends = Vec::new(alloc);
-    for ending in endings {
-        ends.push(ending.end)?;
-    }
-    Ok(ends)
-}
 
 /// Opens these logs beside one another: how that ended; nothing if it didn't.
 fn hear<S: Sockets, C: Clock>(
@@ -45,7 +34,8 @@ where
     ensures heard { IfOk result (λ ends. IfSome ends (λ all. HearsAll
         (socket_rules S.opens S.closes S.Socket.sends S.Socket.receives
         S.Socket.receives_within) (paced C.reads clock window) Plays (peers_of firsts.now)
-        firsts.now asked.now.local asked.now.timeout asked.now.retries sockets.old all.items sockets.new)) }
+        firsts.now asked.now.local asked.now.timeout asked.now.retries sockets.old all.items
+        sockets.new)) }
     ensures unending { IfOk result (λ ends. IfNone ends (FailsToHear
         (socket_rules S.opens S.closes S.Socket.sends S.Socket.receives
         S.Socket.receives_within) (paced C.reads clock window) (peers_of firsts.now)
@@ -99,7 +89,7 @@ fn close_round(
     ensures came { OnOk result (came.new.items ≡ came.old.items
         ++ map (λ (o : OpenedOf). o.conversation) (map (λ e. e.end) endings.items)) }
 {
-    let ends = ends_of(alloc, endings)?;
+    let ends = ends_in(alloc, endings)?;
     let left = left_of(alloc, ends.as_slice(), rest)?;
     put_all(came, ends)?;
     Ok(left)
@@ -144,8 +134,9 @@ where
 
 /// Asks for these logs as a run over each of them begins, in rounds, by the clock, which is read
 /// anew for each: what came to the questions for each of them. In a round one log of each device is
-/// asked for, all beside one another, as [`hear_all`] does; it takes two devices. The logs of a
-/// device that gave no answer aren't asked for in the next one.
+/// asked for, all beside one another, as [`hear_all`] does. The logs of a device that gave no
+/// answer aren't asked for in the next one. The rounds go on until logs of fewer than two devices
+/// are left, or one doesn't end.
 pub fn ask_ahead<S: Sockets, C: Clock + Copy>(
     sockets: &mut S,
     alloc: Global,
@@ -167,7 +158,7 @@ where
 {
     let mut came = Vec::new(alloc);
     let mut left = all;
-    for _round in 0..left.len() {
+    loop {
         let Ok(split) = Split::of(alloc, left) else {
             return Err(NotDone::Asking(Fault::Memory));
         };
@@ -179,5 +170,4 @@ where
             None => return Ok(came),
         }
     }
-    Ok(came)
 }

@@ -18,8 +18,8 @@ use Rattle.bac_jobs.specs.declared.job.Turn.{Turn}
 use Rattle.bac_hearing.specs.declared.hearing.NotHeard.{NotHeard}
 use Rattle.bac_hearing.specs.declared.hearing.NotHeard.TheVariants.{Memory, Unfinished, Unopened}
 
--- A question waits so long and is sent so often again. So many are open at most that weren't sent again, four of them at
--- each address; and 1,024 in all.
+-- A question waits so long and is sent so often again. So many are open at most that weren't sent again, four of them
+-- at each address; and 1,024 in all.
 abbrev pub limits : ℕ → ℕ → ℕ → Rules
 limits timeout retries window =
     record { retries = retries; wait_ms = timeout; window = window; at_station = 4; most = 1024 }
@@ -42,8 +42,8 @@ Ends {C = C} sends receives reads plays jobs port start fresh ends last =
     × Does sends receives reads port start fresh events last stop left
     × AreEnded plays jobs left.seats ends × IsIdle left
 
--- By what devices are asked at once: a clock as it was handed in, what a reading of it is, and how many questions may be
--- open that weren't sent again.
+-- By what devices are asked at once: a clock as it was handed in, what a reading of it is, and how many questions may
+-- be open that weren't sent again.
 pub record Pace (C : Type 0) : Type 1 where
   pub reads : C → ℕ → C → Type 0
   pub start : C
@@ -71,9 +71,8 @@ Waits {C = C} sends receives reads rounds port start fresh last =
 
 -- Devices aren't heard: no socket was opened as asked; memory is wanting, of which std doesn't tell why; or as many
 -- rounds as fit a number of 64 bits were made over the one that was, which was closed then.
-abbrev pub FailsToHear : {S P C : Type 0} → SocketRules S P → Pace C → List (List ℕ) → Option (List ℕ) → ℕ → ℕ
-    → S → S →
-    NotHeard → Type 0
+abbrev pub FailsToHear : {S P C : Type 0} → SocketRules S P → Pace C → List (List ℕ) → Option (List ℕ) → ℕ → ℕ →
+    S → S → NotHeard → Type 0
 FailsToHear rules pace peers local timeout retries before after (Unopened why) =
     rules.opens before (own_address local) timeout (Err why) after
 FailsToHear rules pace peers local timeout retries before after Memory = Unit {0}

@@ -1,5 +1,6 @@
 -- The ends of jobs, one after the other.
-use Rattle.std.proofs.Common.{◌≡◌, ◌⊎◌, inl, inr, ℕ, zero, suc, List, [], ◌∷◌, ◌++◌, Option, Some, None, IfSome, slice_get, length, refl, ap, sym, subst, ◌∙◌}
+use Rattle.std.proofs.Common.{◌≡◌, ◌⊎◌, inl, inr, ℕ, zero, suc, List, [], ◌∷◌, ◌++◌, Option, Some, None, IfSome, map, slice_get, length, refl, ap, sym, subst, ◌∙◌}
+use Rattle.std.proofs.lemmas.List.{map-append}
 use Rattle.bac_desks.specs.declared.seat.Seat.{Seat}
 use Rattle.bac_jobs.specs.Jobs.{HasEnded}
 use Rattle.bac_jobs.specs.declared.job.Ending.{Ending}
@@ -41,3 +42,13 @@ none_there {X = X} xs at x empty is =
 -- what holds of what is there
 pub got : {E : Type 0} (o : Option E) (e : E) (P : E → Type 0) → o ≡ Some e → IfSome o P → P e
 got {E = E} o e P is holds = subst (λ (x : Option E). IfSome x P) is holds
+
+-- what one job more ended with
+pub end_more : {E : Type 0} (ends after : List E) (seen : List (Ending E)) (ending : Ending E) → ends ≡ map (λ (e : Ending E). e.end) seen →
+    after ≡ ends ++ ending.end ∷ [] → after ≡ map (λ (e : Ending E). e.end) (seen ++ ending ∷ [])
+end_more {E = E} ends after seen ending are more =
+    more ∙ ap (λ (l : List E). l ++ ending.end ∷ []) are ∙ sym (map-append (λ (e : Ending E). e.end) seen (ending ∷ []))
+
+-- what all did
+pub end_all : {E : Type 0} (ends : List E) (seen all : List (Ending E)) → ends ≡ map (λ (e : Ending E). e.end) seen → seen ≡ all → ends ≡ map (λ (e : Ending E). e.end) all
+end_all {E = E} ends seen all are same = are ∙ ap (map (λ (e : Ending E). e.end)) same

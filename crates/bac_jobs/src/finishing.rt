@@ -96,8 +96,8 @@ fn ask_those<P: Port, C: Clock, J: Job>(
     Ok(())
 }
 
-/// Asks what each job wants next that isn't done: each device is asked once before any is asked
-/// twice.
+/// Asks what each job wants next that isn't done, those first that weren't asked yet. One whose
+/// address has no place left waits, and others may be asked again before it.
 fn ask_all<P: Port, C: Clock, J: Job>(
     alloc: Global,
     desks: &mut Desks<P, C>,

@@ -1,6 +1,6 @@
 //! What is to be asked of a device.
 
-ghost use Rattle.std.specs.Prelude.{IfOk, List};
+ghost use Rattle.std.specs.Prelude.{◌≡◌, IfOk, List, map};
 ghost use Rattle.bac_jobs.specs.declared.job.Turn.{Turn};
 ghost use Rattle.bac_play.specs.declared.play.Outcome.{Outcome};
 
@@ -25,6 +25,17 @@ pub enum Turn<E> {
 pub struct Ending<E> {
     pub end: E,
     pub has_stray: bool,
+}
+
+/// What jobs ended with, without whether something came in an answer's place.
+pub fn ends_in<E: Drop>(alloc: Global, endings: Vec<Ending<E>>) -> Result<Vec<E>, AllocError>
+    ensures { IfOk result (λ ends. ends.items ≡ map (λ e. e.end) endings.items) }
+{
+    let mut ends = Vec::new(alloc);
+    for ending in endings {
+        ends.push(ending.end)?;
+    }
+    Ok(ends)
 }
 
 /// Something that asks a device question after question, and ends by what came to them.

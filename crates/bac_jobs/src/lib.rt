@@ -5,7 +5,9 @@
 mod finishing;
 mod job;
 mod laws;
+mod records;
 
 pub use finishing::finish;
-pub use job::{Ending, Job, Turn};
+pub use job::{Ending, Job, Turn, ends_in};
 pub use laws::places_stay;
+pub use records::{copy_outcomes, turn_by};

@@ -1,8 +1,8 @@
 -- What a device is asked for its trend logs, played over a record. Read `Plays`.
-use Rattle.std.specs.Prelude.{◌≡◌, ◌≢◌, ◌⊎◌, ◌≤◌, ◌<◌, ℕ, true, false, List, [], None, Some, Result, length}
+use Rattle.std.specs.Prelude.{◌≡◌, ◌⊎◌, ◌&&◌, ℕ, Bool, List, Result, length, ltb}
 use Rattle.bac_asked.specs.declared.wanted.Wanted.{Wanted}
+use Rattle.bac_jobs.specs.Records.{ComesTo, IsWhole}
 use Rattle.bac_jobs.specs.declared.job.Turn.{Turn}
-use Rattle.bac_jobs.specs.declared.job.Turn.TheVariants.{Ended, Unfit, Wants}
 use Rattle.bac_link.specs.Path.{Path, towards}
 use Rattle.bac_link.specs.declared.exchanges.ExchangeFault.{ExchangeFault}
 use Rattle.bac_link.specs.declared.link.Lost.{Lost as Loss}
@@ -29,21 +29,12 @@ Asks asks path retries link left =
 abbrev pub IsCame : Listing → List Outcome → Conversation → Type 0
 IsCame listing outcomes came = (came.peer ≡ listing.like.asked.address) × (came.outcomes.items ≡ outcomes)
 
--- What was asked over a record comes to, which left it so: what was asked first that isn't in the record, as long as
--- that has fewer outcomes than questions may be asked; or all of the record was asked for, and nothing else, or it has
--- so many.
-abbrev pub ComesTo : Listing → List Outcome → Play → Turn Conversation → Type 0
-ComesTo listing outcomes left (Wants octets) =
-    (left.outcomes.now ≡ []) × (left.is_dry ≡ true) × (left.wanted ≡ Some octets) × (length outcomes < listing.most)
-ComesTo listing outcomes left (Ended came) =
-    (left.outcomes.now ≡ []) × ((left.is_dry ≡ false) ⊎ (listing.most ≤ length outcomes)) × IsCame listing outcomes came
-ComesTo listing outcomes left Unfit = (left.outcomes.now ≢ []) ⊎ ((left.is_dry ≡ true) × (left.wanted ≡ None))
-
--- a link over a record, of which nothing was asked yet
-abbrev pub IsWhole : List Outcome → Play → Type 0
-IsWhole outcomes link = (link.outcomes.now ≡ outcomes) × (link.is_dry ≡ false)
+-- whether more is asked than a record has, as long as that has fewer outcomes than questions may be asked
+abbrev pub asks_more : Listing → List Outcome → Play → Bool
+asks_more listing outcomes left = left.is_dry && ltb (length outcomes) listing.most
 
 -- A device is asked for its trend logs by its route, without repeats, over a record of what came to that.
 abbrev pub Plays : Listing → List Outcome → Turn Conversation → Type 0
 Plays listing outcomes turn = (link : Play) × (left : Play) × IsWhole outcomes link
-    × Asks PlaysRecord (towards listing.like.asked.route) 0 link left × ComesTo listing outcomes left turn
+    × Asks PlaysRecord (towards listing.like.asked.route) 0 link left
+    × ComesTo (IsCame listing outcomes) left (asks_more listing outcomes left) turn

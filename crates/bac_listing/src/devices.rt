@@ -15,7 +15,7 @@ use crate::listing::Listing;
 use bac_asked::{Fault, NotDone, Wanted};
 use bac_desks::Clock;
 use bac_hearing::{NotHeard, hear_all};
-use bac_jobs::Ending;
+use bac_jobs::{Ending, ends_in};
 use bac_ports::Sockets;
 use bac_questions::is_same_device;
 use bac_recall::Conversation;
@@ -90,20 +90,6 @@ fn jobs_of(alloc: Global, devices: &[&Wanted]) -> Result<Vec<Listing>, AllocErro
     jobs_by(alloc, devices, questions_of(devices.len()))
 }
 
-/// What came, without whether something came in its place.
-fn ends_of(
-    alloc: Global,
-    endings: Vec<Ending<Conversation>>,
-) -> Result<Vec<Conversation>, AllocError>
-    ensures { IfOk result (λ ends. ends.items ≡ map (λ e. e.end) endings.items) }
-{
-    let mut ends = Vec::new(alloc);
-    for ending in endings {
-        ends.push(ending.end)?;
-    }
-    Ok(ends)
-}
-
 /// Asks these devices beside one another, with the waits and retries of this one: how that ended
 /// for each; nothing if it didn't.
 fn hear<S: Sockets, C: Clock>(
@@ -169,7 +155,7 @@ where
     let Some(endings) = hear(sockets, alloc, clock, window, asked, devices)? else {
         return Ok(Vec::new(alloc));
     };
-    match ends_of(alloc, endings) {
+    match ends_in(alloc, endings) {
         Ok(came) => Ok(came),
         Err(_) => Err(NotDone::Asking(Fault::Memory)),
     }

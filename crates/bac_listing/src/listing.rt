@@ -2,11 +2,11 @@
 
 ghost use Rattle.std.specs.Prelude.{◌≡◌, IfOk};
 ghost use Rattle.bac_link.specs.Path.{towards};
-ghost use Rattle.bac_listing.specs.Listing.{Asks, ComesTo, IsCame, Plays, listing_of};
+ghost use Rattle.bac_jobs.specs.Records.{ComesTo};
+ghost use Rattle.bac_listing.specs.Listing.{Asks, IsCame, Plays, asks_more, listing_of};
 
-use bac_apdu::Route;
 use bac_asked::{Asking, Fault, NotDone, Wanted};
-use bac_jobs::{Job, Turn};
+use bac_jobs::{Job, Turn, copy_outcomes, turn_by};
 use bac_link::{LogLink, Transactions};
 use bac_play::{Outcome, Play};
 use bac_questions::{asked_like, find_logs, transactions_by};
@@ -19,38 +19,6 @@ pub struct Listing {
     pub like: Asking,
     /// How many questions it is asked at most.
     pub most: usize,
-}
-
-/// The same route once more.
-fn copy_route(route: &Option<Route>) -> Result<Option<Route>, AllocError>
-    ensures { IfOk result (λ copy. copy ≡ route.now) }
-{
-    route.clone()
-}
-
-/// The same outcome once more.
-fn copy_outcome(outcome: &Outcome) -> Outcome
-    ensures { result ≡ outcome.now }
-{
-    let answer = match &outcome.answer {
-        Ok(datagram) => Ok(datagram.copy()),
-        Err(lost) => Err(*lost),
-    };
-    Outcome {
-        request: outcome.request.copy(),
-        answer,
-    }
-}
-
-/// The same record once more.
-fn copy_outcomes(alloc: Global, outcomes: &[Outcome]) -> Result<Vec<Outcome>, AllocError>
-    ensures { IfOk result (λ copy. copy.items ≡ outcomes.now) }
-{
-    let mut copy = Vec::new(alloc);
-    for outcome in outcomes {
-        copy.push(copy_outcome(outcome))?;
-    }
-    Ok(copy)
 }
 
 /// Asks a device over a link for its trend logs, each as this one is: the link as that left it.
@@ -82,6 +50,14 @@ impl Listing {
         }
     }
 
+    /// Transactions with the device, of which none is repeated.
+    fn transactions(&self) -> Result<Transactions, AllocError>
+        ensures retries { IfOk result (λ made. made.retries ≡ 0) }
+        ensures route { IfOk result (λ made. made.route ≡ self.now.like.asked.route) }
+    {
+        Ok(transactions_by(0, self.like.asked.route.clone()?))
+    }
+
     /// What came, once nothing more is asked.
     fn came(&self, alloc: Global, outcomes: &[Outcome]) -> Result<Conversation, AllocError>
         ensures { IfOk result (IsCame self.now outcomes.now) }
@@ -99,17 +75,14 @@ impl Listing {
         outcomes: &[Outcome],
         link: Play<'_>,
     ) -> Result<Turn<Conversation>, AllocError>
-        ensures { IfOk result (ComesTo self.now outcomes.now link.entry) }
+        ensures { IfOk result (ComesTo (IsCame self.now outcomes.now) link.entry
+            (asks_more self.now outcomes.now link.entry)) }
     {
-        if !link.is_used_up() {
-            return Ok(Turn::Unfit);
-        }
-        if !link.is_dry() || outcomes.len() >= self.most {
-            return Ok(Turn::Ended(self.came(alloc, outcomes)?));
-        }
-        match link.wanted() {
-            Some(question) => Ok(Turn::Wants(question)),
-            None => Ok(Turn::Unfit),
+        let asks_more = link.is_dry() && outcomes.len() < self.most;
+        match turn_by(link, asks_more) {
+            Turn::Wants(question) => Ok(Turn::Wants(question)),
+            Turn::Ended(()) => Ok(Turn::Ended(self.came(alloc, outcomes)?)),
+            Turn::Unfit => Ok(Turn::Unfit),
         }
     }
 }
@@ -121,9 +94,8 @@ impl Job for Listing {
 
     /// No question is asked again here: whoever has the record sends it as often as it is to be.
     fn play(&self, alloc: Global, outcomes: &[Outcome]) -> Result<Turn<Conversation>, AllocError> {
-        let route = copy_route(&self.like.asked.route)?;
         let link = Play::new(outcomes);
-        let left = ask(alloc, link, transactions_by(0, route), &self.like)?;
+        let left = ask(alloc, link, self.transactions()?, &self.like)?;
         self.turn_by(alloc, outcomes, left)
     }
 }

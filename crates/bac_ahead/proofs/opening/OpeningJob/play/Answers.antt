@@ -1,4 +1,4 @@
-use Rattle.std.proofs.Common.{◌≡◌, ◌∙◌, ◌≤◌, inl, inr, refl, arith}
+use Rattle.std.proofs.Common.{◌≡◌, ◌≤◌, inl, inr, refl, arith}
 use Rattle.std.proofs.lemmas.Result.{IfOk-weaker}
 use Rattle.bac_ahead.specs.Ahead.{trend_log}
 use Rattle.bac_ahead.proofs.Asked.{asks_as}
@@ -12,15 +12,15 @@ returns-in_default c =
 pub returns-in-Ok : goal.returns-in-Ok
 returns-in-Ok c =
     let opening = c.args.self.now in
-    let route : c.transactions_by-transactions.result.route ≡ opening.route = c.transactions_by-transactions.ensures.route ∙ c.in_ok-copy_route.ensures in
+    let t = c.in_ok-transactions in
     let log : c.in-Some.log ≡ trend_log opening.source.instance = c.in-Some.ensures.some.0 in
     IfOk-weaker c.turn_by.result _ _
     (λ turn it. inr (
       c.new-link.result,
       c.ask.new.link,
       (c.new-link.ensures.outcomes, c.new-link.ensures.wet),
-      asks_as opening _ opening.route _ 0 c.in-Some.log (trend_log opening.source.instance) c.new-link.result c.ask.new.link route
-          c.transactions_by-transactions.ensures.retries log c.in-Ok.ensures.asks,
+      asks_as opening _ opening.route _ 0 c.in-Some.log (trend_log opening.source.instance) c.new-link.result c.ask.new.link t.ensures.route t.ensures.retries
+          log c.in-Ok.ensures.asks,
       it,
     ))
     c.turn_by.ensures

@@ -1,17 +1,16 @@
-use Rattle.std.proofs.Common.{◌∙◌}
 use Rattle.std.proofs.lemmas.Result.{IfOk-weaker}
 use Rattle.bac_listing.proofs.Said.{asks_by}
 use Rattle.bac_listing.proofs.listing.ListingJob.play.Goals as goal
 
 pub returns : goal.returns
 returns c =
-    let t = c.transactions_by in
+    let t = c.in_ok-transactions in
     IfOk-weaker c.turn_by.result _ _
     (λ turn it. (
       c.new-link.result,
       c.in_ok-left.left,
       (c.new-link.ensures.outcomes, c.new-link.ensures.wet),
-      asks_by c.args.self.now.like.asked.route t.result c.new-link.result c.in_ok-left.left t.ensures.retries (t.ensures.route ∙ c.in_ok-route.ensures) c.in_ok-left.ensures,
+      asks_by c.args.self.now.like.asked.route t.field-0 c.new-link.result c.in_ok-left.left t.ensures.retries t.ensures.route c.in_ok-left.ensures,
       it,
     ))
     c.turn_by.ensures
