@@ -1,5 +1,5 @@
 -- Why a run ends, in an archive.
-use Rattle.std.proofs.Common.{◌≡◌, inl, inr, refl, subst, ap, ◌∙◌, ℕ, List, [], ◌∷◌, None, Result, Err, IfErr, length, slice_index_or, ◌≤◌, arith}
+use Rattle.std.proofs.Common.{◌≡◌, inl, inr, refl, subst, ap, ◌∙◌, ℕ, List, [], ◌∷◌, None, Option, Result, Err, IfErr, length, slice_index_or, ◌≤◌, arith}
 use Rattle.sqlite.specs.declared.error.Error.{Error}
 use Rattle.sqlite_trees.specs.Tree.{Trees}
 use Rattle.bac_archive.specs.Causes.{HasNoFreshId}
@@ -14,7 +14,8 @@ use Rattle.bac_asked.specs.declared.fault.FileFault.{FileFault}
 use Rattle.bac_asked.specs.declared.wanted.Wanted.{Wanted}
 use Rattle.bac_ports.specs.Sockets.{SocketRules}
 use Rattle.bac_fetch.specs.Ahead.{AtOnce}
-use Rattle.bac_fetch.specs.Causes.{EndsFirst, EndsSettling, FailsToEnter}
+use Rattle.bac_fetch.specs.Causes.{EndsFirst, EndsSettling, FailsToEnter, LeavesUnopened}
+use Rattle.sqlite.specs.Effect.{Database}
 use Rattle.bac_asked.specs.Faults.{FailsOnRows}
 use Rattle.bac_fetch.specs.Faults.{EndsChosen}
 use Rattle.bac_fetch.specs.declared.keeping.Chosen.{Chosen}
@@ -52,3 +53,18 @@ pub settling_of_first : {S P : Type 0} (rules : SocketRules S P) (given : Given)
     → 1 ≤ length all → first ≡ slice_index_or all 0 first → EndsFirst rules given known first before after fault → EndsSettling rules given known all before after fault
 settling_of_first rules given known [] first before after fault lt is it = absurd (omega (arith, lt))
 settling_of_first rules given known (x ∷ xs) first before after fault lt is it = subst (λ (w : Wanted). EndsFirst rules given known w before after fault) is it
+
+-- what fails on rows is no socket that wasn't opened
+pub rows_leave : (old new : Database) (fault : NotDone) → FailsOnRows fault → LeavesUnopened old new fault
+rows_leave old new fault (inl memory) = λ why is. absurd (cc)
+rows_leave old new fault (inr (inl line)) = λ why is. absurd (cc)
+rows_leave old new fault (inr (inr (error, wrong))) = λ why is. absurd (cc)
+
+-- nor is a log that isn't entered
+pub entry_leaves : (old new : Database) (log : Option Log) (trees : Trees) (fault : NotDone) → FailsToEnter log trees fault → LeavesUnopened old new fault
+entry_leaves old new log trees fault (inl rows) = rows_leave old new fault rows
+entry_leaves old new log trees fault (inr (full, none, fresh)) = λ why is. absurd (cc)
+
+-- behind what changes nothing
+pub leaves_behind : (old mid new : Database) (fault : NotDone) → mid ≡ old → LeavesUnopened mid new fault → LeavesUnopened old new fault
+leaves_behind old mid new fault same it = λ why is. it why is ∙ same

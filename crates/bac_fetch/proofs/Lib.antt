@@ -5,6 +5,7 @@ pub mod EndsLemmas
 pub mod KeepsLemmas
 pub mod MovesLemmas
 pub mod QuietLemmas
+pub mod GroupLemmas
 pub mod FaultsLemmas
 pub mod CausesLemmas
 pub mod TakenLemmas

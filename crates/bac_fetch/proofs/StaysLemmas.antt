@@ -220,10 +220,10 @@ renews_crash entry end old new is has it = survives_as old new _ _
 
 -- what a crash leaves of calls that keep each log as it was, and of one behind them that keeps all
 pub leaves_word : (old mid new : State) (keeps : Database → Type 0) (more : Trees → Type 0) → Survives old mid (HasRows old.now.trees)
-    → (HasCleanDisk mid → (db : Trees) → more db → (it : Database) × keeps it × (db ≡ it.trees)) → Survives mid new more
+    → (HasCleanDisk mid → (db : Trees) → more db → LeavesWord old.now.trees keeps db) → Survives mid new more
     → Survives old new (LeavesWord old.now.trees keeps)
 leaves_word old mid new keeps more one f two = survives_then old mid new (HasRows old.now.trees) more (LeavesWord old.now.trees keeps)
-    (λ _ db it. inl it) (λ clean db it. inr (f (omega (arith, clean, two.clean)) db it)) one two
+    (λ _ db it. inl it) (λ clean db it. f (omega (arith, clean, two.clean)) db it) one two
 
 -- or of these alone
 pub leaves_rows : (old new : State) (keeps : Database → Type 0) → Survives old new (HasRows old.now.trees) → Survives old new (LeavesWord old.now.trees keeps)

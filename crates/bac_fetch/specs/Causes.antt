@@ -13,7 +13,7 @@ use Rattle.bac_asked.specs.Wanted.{AsksItsSource, HasNoAddress}
 use Rattle.bac_asked.specs.declared.end.End.{End}
 use Rattle.bac_asked.specs.declared.end.NotDone.{NotDone}
 use Rattle.bac_asked.specs.declared.end.NotDone.TheVariants.{Asking, File}
-use Rattle.bac_asked.specs.declared.fault.Fault.TheVariants.{BadValue}
+use Rattle.bac_asked.specs.declared.fault.Fault.TheVariants.{BadValue, Unopened}
 use Rattle.bac_asked.specs.declared.fault.FileFault.TheVariants.{Address, Full}
 use Rattle.bac_asked.specs.declared.wanted.Wanted.{Wanted}
 use Rattle.bac_fetch.specs.Chosen.{AreFound}
@@ -32,6 +32,7 @@ use Rattle.bac_questions.specs.declared.whose.Heard.{Heard}
 use Rattle.bac_absent.specs.Each.{EndsCalling, HearsEach, SaysMany}
 use Rattle.bac_fetch.specs.Ahead.{AtOnce, EndsOpening, OpensAhead}
 use Rattle.bac_ports.specs.Sockets.{SocketRules}
+use Rattle.bac_ports.specs.declared.port.OpenFault.{OpenFault}
 use Rattle.bac_words.specs.declared.job.Asked.{Asked}
 use Rattle.bac_words.specs.declared.word.Word.TheVariants.{Instance}
 
@@ -72,6 +73,10 @@ EndsNext {S = S} rules known heard wanted trees before after fault = FailsOnRows
     ⊎ (IsUnopened rules wanted.asking.asked before after fault
     ⊎ ((said : Said) × (half : S) × IsIdentified rules heard wanted before said half
     × EndsAmong rules known wanted trees half after fault))
+
+-- a fault that says that no socket was opened leaves the rows of the archive as they were
+abbrev pub LeavesUnopened : Database → Database → NotDone → Type 0
+LeavesUnopened old new fault = (why : OpenFault) → fault ≡ Asking (Unopened why) → new ≡ old
 
 -- ---- one log after the other
 

@@ -1,5 +1,6 @@
 //! A count of records on a terminal, while the run over a log goes on.
 
+use crate::site::Site;
 use bac_archive::Source;
 use bac_asked::push_source;
 use bac_keep::Progress;
@@ -7,14 +8,15 @@ use bac_print::{push_number, write_text};
 use std::alloc::{AllocError, Global};
 use std::io::Write;
 
-/// How many records a run has kept so far: one line, which is written over until it is taken away.
+/// How many records a run has kept so far, or how far it is over several devices: one line, which
+/// is written over until it is taken away.
 #[derive(Drop)]
 pub(crate) struct Count<'a, W> {
     terminal: &'a mut W,
     text: Vec<u8>,
     source: &'a Source,
-    /// Nothing is written where there is no terminal.
-    is_shown: bool,
+    /// Says whether there is a terminal: else nothing is written.
+    site: &'a mut Site,
 }
 
 impl<'a, W: Write> Count<'a, W> {
@@ -23,13 +25,20 @@ impl<'a, W: Write> Count<'a, W> {
         alloc: Global,
         source: &'a Source,
         terminal: &'a mut W,
-        is_shown: bool,
+        site: &'a mut Site,
     ) -> Count<'a, W> {
         Count {
             terminal,
             text: Vec::new(alloc),
             source,
-            is_shown,
+            site,
+        }
+    }
+
+    /// Shows how far a run over several devices is, before a log is waited for.
+    pub(crate) fn begin(&mut self) {
+        if self.site.has_many() {
+            self.show(0);
         }
     }
 
@@ -39,17 +48,28 @@ impl<'a, W: Write> Count<'a, W> {
             terminal,
             text,
             source: _source,
-            is_shown,
+            site: _site,
         } = self;
         // To the beginning of the line, and erase it from there on.
-        if is_shown && !text.is_empty() {
+        if !text.is_empty() {
             let _ = write_text(terminal, b"\r\x1b[K");
+        }
+    }
+
+    /// Writes the line over, with so many records of the log.
+    fn show(&mut self, records: u64) {
+        // A run goes on without its count where there is no memory for it.
+        if self.site.is_shown() && self.set_text(records).is_ok() {
+            let _ = write_text(self.terminal, &self.text);
         }
     }
 
     fn set_text(&mut self, records: u64) -> Result<(), AllocError> {
         self.text.clear();
         self.text.push(b'\r')?;
+        if self.site.has_many() {
+            return self.site.push_to(&mut self.text);
+        }
         push_source(&mut self.text, self.source)?;
         self.text.push(b' ')?;
         push_number(&mut self.text, records)?;
@@ -59,10 +79,8 @@ impl<'a, W: Write> Count<'a, W> {
 
 impl<W: Write> Progress for Count<'_, W> {
     fn kept(&mut self, records: u64) {
-        // A run goes on without its count where there is no memory for it.
-        if self.is_shown && self.set_text(records).is_ok() {
-            let _ = write_text(self.terminal, &self.text);
-        }
+        self.site.kept(records);
+        self.show(records);
     }
 }
 

@@ -5,11 +5,14 @@ ghost use Rattle.std.specs.Prelude.{Err};
 ghost use Rattle.sqlite.specs.State.{HasCleanDisk, Survives};
 ghost use Rattle.sqlite.specs.Held.{state};
 ghost use Rattle.bac_asked.specs.Faults.{FailsOnRows, EndsLog};
-ghost use Rattle.bac_archive.specs.Schema.{OverArchive};
+ghost use Rattle.bac_archive.specs.Beginnings.{beginning_row};
+ghost use Rattle.bac_archive.specs.Schema.{HasArchive, OverArchive};
+ghost use Rattle.bac_archive.specs.Standing.{HasNewBeginning};
 ghost use Rattle.bac_fetch.specs.Fetched.{HasFailed, IsEndingOf};
 ghost use Rattle.bac_fetch.specs.Keeps.{Marks, is_idle};
 ghost use Rattle.bac_fetch.specs.Stays.{HasSameLogs};
 
+use crate::group::commit;
 use bac_archive::{Beginning, begin_epoch, is_archive, newest};
 use bac_asked::{Began, End, Ending, Fault, FileFault, NotDone, end_status};
 use bac_keep::{KeptRun, KeptStep, NotKept, Refusal};
@@ -99,7 +102,27 @@ fn is_idle(end: &End) -> bool
     end_status(end.why) == 0 && end.records == 0 && end.gaps == 0
 }
 
-/// Puts the beginning of an epoch on record, behind a run that brought nothing.
+/// Puts the beginning of an epoch on record.
+fn put_beginning<A: Alter>(conn: &mut Connection<A>, beginning: Beginning) -> Result<(), NotDone>
+    ensures put { OverArchive (state A.Store conn.old) (state A.Store conn.new)
+        (OnOk result (HasNewBeginning (state A.Store conn.old).now (state A.Store conn.new).now
+        (beginning_row beginning))) }
+    ensures crash { Survives (state A.Store conn.old) (state A.Store conn.new)
+        (λ trees. HasArchive (state A.Store conn.old).now.schema
+        → (db : _) × HasNewBeginning (state A.Store conn.old).now db (beginning_row beginning)
+        × (trees ≡ db.trees)) }
+    ensures clean { HasCleanDisk (state A.Store conn.new) → HasCleanDisk (state A.Store conn.old) }
+    ensures fault { IfErr result EndsLog }
+    ensures caused { IfErr result FailsOnRows }
+{
+    match begin_epoch(conn, &beginning) {
+        Ok(()) => Ok(()),
+        Err(error) => Err(NotDone::File(FileFault::of(error))),
+    }
+}
+
+/// Puts the beginning of an epoch on record, behind a run that brought nothing and the commit of
+/// the group.
 pub(crate) fn mark<A: Alter>(
     conn: &mut Connection<A>,
     begins_at: Option<Beginning>,
@@ -121,8 +144,6 @@ pub(crate) fn mark<A: Alter>(
     if !is_idle(end) {
         return Ok(());
     }
-    match begin_epoch(conn, &beginning) {
-        Ok(()) => Ok(()),
-        Err(error) => Err(NotDone::File(FileFault::of(error))),
-    }
+    commit(conn)?;
+    put_beginning(conn, beginning)
 }

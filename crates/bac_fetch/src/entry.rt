@@ -1,18 +1,21 @@
 //! A log as a run over it begins: how its row is to be, and how it is on record.
 
-ghost use Rattle.std.specs.Prelude.{◌≡◌, false, option_map, None, IfOk, OnOk, IfErr};
+ghost use Rattle.std.specs.Prelude.{◌≡◌, ◌⊎◌, ◌∷◌, [], false, option_map, None, IfOk, OnOk};
+ghost use Rattle.std.specs.Prelude.{IfErr};
 ghost use Rattle.std.specs.String.{string_bytes};
 ghost use Rattle.sqlite.specs.State.{HasCleanDisk, Survives};
 ghost use Rattle.sqlite.specs.Held.{state};
 ghost use Rattle.bac_archive.specs.Schema.{OverArchive, HasArchive};
 ghost use Rattle.bac_archive.specs.Beginnings.{IsFreshId};
+ghost use Rattle.bac_archive.specs.Changes.{HasChangedLogs};
 ghost use Rattle.bac_fetch.specs.Causes.{FailsToEnter};
 ghost use Rattle.bac_asked.specs.Faults.{FailsOnRows, EndsLog};
-ghost use Rattle.bac_fetch.specs.Entries.{Admits, IsEntry, Renews, eq_number, eq_text, has_word};
-ghost use Rattle.bac_fetch.specs.Entries.{how_recorded, is_due, is_other_number, is_other_text};
-ghost use Rattle.bac_fetch.specs.Entries.{is_same_number, is_same_text, word_of};
+ghost use Rattle.bac_fetch.specs.Entries.{Admits, AdmitsRow, IsEntry, Renews, eq_number, eq_text};
+ghost use Rattle.bac_fetch.specs.Entries.{has_word, how_recorded, is_due, is_other_number};
+ghost use Rattle.bac_fetch.specs.Entries.{is_other_text, is_same_number, is_same_text, word_of};
 ghost use Rattle.bac_fetch.specs.Stays.{HasAllOf, HasRows};
 
+use crate::group::commit;
 use bac_archive::{Log, Source, Told, add_log_as, fresh_id, renew_log};
 use bac_asked::{End, FileFault, NotDone};
 use bac_keep::Word;
@@ -222,7 +225,34 @@ fn name_of(text: &Option<String>) -> Option<&str>
     }
 }
 
-/// Adds the row of a log that has none.
+/// Adds this row to the logs.
+fn add_row<A: Alter>(conn: &mut Connection<A>, row: &Log) -> Result<(), NotDone>
+    ensures added { OverArchive (state A.Store conn.old) (state A.Store conn.new)
+        (OnOk result (AdmitsRow Recorded.Not row.now (state A.Store conn.old).now
+        (state A.Store conn.new).now)) }
+    ensures crash { Survives (state A.Store conn.old) (state A.Store conn.new)
+        (λ trees. HasArchive (state A.Store conn.old).now.schema
+        → (db : _) × AdmitsRow Recorded.Not row.now (state A.Store conn.old).now db
+        × (trees ≡ db.trees)) }
+    ensures clean { HasCleanDisk (state A.Store conn.new) → HasCleanDisk (state A.Store conn.old) }
+    ensures fault { IfErr result EndsLog }
+    ensures caused { OverArchive (state A.Store conn.old) (state A.Store conn.new)
+        (IfErr result FailsOnRows) }
+{
+    let Log {
+        id,
+        source,
+        name,
+        told,
+        ..
+    } = row;
+    match add_log_as(conn, *id, source, name_of(name), told) {
+        Ok(()) => Ok(()),
+        Err(fault) => Err(NotDone::File(FileFault::of_log(fault))),
+    }
+}
+
+/// Adds the row of a log that has none, behind the commit of the group.
 pub(crate) fn admit<A: Alter>(conn: &mut Connection<A>, entry: &Entry) -> Result<(), NotDone>
     ensures admits { OverArchive (state A.Store conn.old) (state A.Store conn.new)
         (OnOk result (Admits entry.now (state A.Store conn.old).now (state A.Store conn.new).now)) }
@@ -240,20 +270,31 @@ pub(crate) fn admit<A: Alter>(conn: &mut Connection<A>, entry: &Entry) -> Result
     if entry.recorded != Recorded::Not {
         return Ok(());
     }
-    let Log {
-        id,
-        source,
-        name,
-        told,
-        ..
-    } = &entry.row;
-    match add_log_as(conn, *id, source, name_of(name), told) {
+    commit(conn)?;
+    add_row(conn, &entry.row)
+}
+
+/// Changes the row that is under the id of this one.
+fn change_row<A: Alter>(conn: &mut Connection<A>, row: &Log) -> Result<(), NotDone>
+    ensures changed { OverArchive (state A.Store conn.old) (state A.Store conn.new)
+        (OnOk result (HasChangedLogs (state A.Store conn.old).now (state A.Store conn.new).now
+        (row.now ∷ []))) }
+    ensures crash { Survives (state A.Store conn.old) (state A.Store conn.new)
+        (λ trees. HasArchive (state A.Store conn.old).now.schema
+        → (db : _) × HasChangedLogs (state A.Store conn.old).now db (row.now ∷ [])
+        × (trees ≡ db.trees)) }
+    ensures clean { HasCleanDisk (state A.Store conn.new) → HasCleanDisk (state A.Store conn.old) }
+    ensures fault { IfErr result EndsLog }
+    ensures caused { IfErr result FailsOnRows }
+{
+    match renew_log(conn, row) {
         Ok(()) => Ok(()),
-        Err(fault) => Err(NotDone::File(FileFault::of_log(fault))),
+        Err(error) => Err(NotDone::File(FileFault::of(error))),
     }
 }
 
-/// Changes the row of a log that has another one, behind a run that ended so.
+/// Changes the row of a log that has another one, behind a run that ended so and the commit of the
+/// group.
 pub(crate) fn renew<A: Alter>(
     conn: &mut Connection<A>,
     entry: &Entry,
@@ -268,8 +309,9 @@ pub(crate) fn renew<A: Alter>(
     // A crash leaves the row as it was, or as it is to be.
     ensures crash { HasArchive (state A.Store conn.old).now.schema
         → Survives (state A.Store conn.old) (state A.Store conn.new)
-        (λ trees. (db : _) × Renews entry.now end.now (state A.Store conn.old).now db
-        × (trees ≡ db.trees)) }
+        (λ trees. (trees ≡ (state A.Store conn.old).now.trees)
+        ⊎ ((db : _) × Renews entry.now end.now (state A.Store conn.old).now db
+        × (trees ≡ db.trees))) }
     ensures clean { HasCleanDisk (state A.Store conn.new) → HasCleanDisk (state A.Store conn.old) }
     ensures fault { IfErr result EndsLog }
     ensures caused { IfErr result FailsOnRows }
@@ -277,8 +319,6 @@ pub(crate) fn renew<A: Alter>(
     if !is_due(entry.recorded, end) {
         return Ok(());
     }
-    match renew_log(conn, &entry.row) {
-        Ok(()) => Ok(()),
-        Err(error) => Err(NotDone::File(FileFault::of(error))),
-    }
+    commit(conn)?;
+    change_row(conn, &entry.row)
 }

@@ -8,7 +8,7 @@ ghost use Rattle.bac_archive.specs.Rows.{IsAppended, stored};
 ghost use Rattle.bac_archive.specs.Schema.{OverArchive, HasArchive};
 ghost use Rattle.bac_link.specs.Path.{towards};
 ghost use Rattle.bac_ports.specs.Sockets.{socket_rules};
-ghost use Rattle.bac_fetch.specs.Causes.{EndsFetch};
+ghost use Rattle.bac_fetch.specs.Causes.{EndsFetch, LeavesUnopened};
 ghost use Rattle.bac_asked.specs.Faults.{FailsOnRows, EndsLog};
 ghost use Rattle.bac_fetch.specs.Faults.{EndsRun, IsNoInstance};
 ghost use Rattle.bac_fetch.specs.Fetched.{ComesFrom};
@@ -22,14 +22,13 @@ ghost use Rattle.bac_begin.specs.Starts.{IsBegun};
 use crate::count::Ahead;
 use crate::ending::{end_of, look_at, mark};
 use crate::entry::{Entry, admit, renew};
+use crate::group::{commit, put};
 use crate::heeding::{Heeding, end_told};
 use bac_apdu::object_type::TREND_LOG;
 use bac_archive::is_archive;
 use bac_asked::{Asking, Began, End, Ending, Fault, FileFault, NotDone};
 use bac_begin::{Hand, Start, stand_of, start_at, start_new};
-use bac_keep::{
-    Gathered, KeptStep, NotKept, Place, Progress, Word as DeviceWord, keep_gathered, keep_log,
-};
+use bac_keep::{Gathered, KeptStep, Place, Progress, Word as DeviceWord, keep_log};
 use bac_link::{LogLink, Transactions};
 use bac_ports::Sockets;
 use bac_questions::connect;
@@ -86,7 +85,7 @@ fn where_to_start<L: LogLink, A: Alter>(
     }
 }
 
-/// Keeps what is in hand in one transaction.
+/// Keeps what is in hand in the group of the run.
 fn keep_hand<A: Alter>(conn: &mut Connection<A>, gathered: Gathered) -> Result<(), NotDone>
     ensures kept { HasCleanDisk (state A.Store conn.new)
         → OnOk result (IsAppended (state A.Store conn.old).now (state A.Store conn.new).now
@@ -102,18 +101,15 @@ fn keep_hand<A: Alter>(conn: &mut Connection<A>, gathered: Gathered) -> Result<(
     if !is_archive(conn.schema()) {
         return Err(NotDone::File(FileFault::Foreign));
     }
-    let mut place = gathered.place;
-    let mut free = gathered.free;
-    match keep_gathered(conn, gathered, &mut place, &mut free) {
-        Ok(_) => Ok(()),
-        Err(NotKept::Database(error)) => Err(NotDone::File(FileFault::of(error))),
-        Err(NotKept::NoArchive) => Err(NotDone::File(FileFault::Foreign)),
-        Err(NotKept::Refused(_)) => Err(NotDone::Asking(Fault::Memory)),
+    // What brought nothing waits for no commit.
+    if gathered.rows.is_empty() {
+        return Ok(());
     }
+    put(conn, gathered.rows.as_slice())
 }
 
-/// Keeps what a walk brings from there on, behind a first step.
-fn keep_on<L: LogLink, A: Alter, P: Progress>(
+/// Keeps what a walk brings from there on, behind a first step, each reply in a transaction.
+fn keep_behind<L: LogLink, A: Alter, P: Progress>(
     alloc: Global,
     link: &mut L,
     transactions: &mut Transactions,
@@ -160,6 +156,56 @@ fn keep_on<L: LogLink, A: Alter, P: Progress>(
     end_of(run, step, began)
 }
 
+/// Keeps what a walk brings from there on, behind a first step: the group is committed with that
+/// step, and each reply behind it is a transaction of its own.
+fn keep_on<L: LogLink, A: Alter, P: Progress>(
+    alloc: Global,
+    link: &mut L,
+    transactions: &mut Transactions,
+    conn: &mut Connection<A>,
+    walk: Walk,
+    place: Place,
+    free: u64,
+    step: KeptStep,
+    began: Began,
+    steps: u32,
+    progress: &mut P,
+) -> Result<End, NotDone>
+    ensures kept { OverArchive (state A.Store conn.old) (state A.Store conn.new)
+        (IfOk result (KeepsFrom place walk step began (state A.Store conn.old).now
+        (state A.Store conn.new).now)) }
+    // In replies that came over the link.
+    ensures came { OverArchive (state A.Store conn.old) (state A.Store conn.new)
+        (IfOk result (ComesFrom L.asks (towards transactions.old.route) transactions.old.retries
+        link.old link.new place walk step steps (state A.Store conn.old).now
+        (state A.Store conn.new).now)) }
+    // Whatever comes of it, what a crash leaves then, or at any moment before, has all that was
+    // there, and the same logs.
+    ensures stays { OverArchive (state A.Store conn.old) (state A.Store conn.new)
+        (Survives (state A.Store conn.old) (state A.Store conn.new)
+        (HasSameLogs (state A.Store conn.old).now.trees)) }
+    ensures clean { HasCleanDisk (state A.Store conn.new) → HasCleanDisk (state A.Store conn.old) }
+    ensures fault { IfErr result EndsLog }
+    ensures caused { OverArchive (state A.Store conn.old) (state A.Store conn.new)
+        (IfErr result FailsOnRows) }
+{
+    commit(conn)?;
+    progress.kept(step.records);
+    keep_behind(
+        alloc,
+        link,
+        transactions,
+        conn,
+        walk,
+        place,
+        free,
+        step,
+        began,
+        steps,
+        progress,
+    )
+}
+
 /// Keeps what a log has from a start on: what is in hand, and what comes behind it in the steps
 /// that are left, unless it came to an end.
 fn keep_from<L: LogLink, A: Alter, P: Progress>(
@@ -199,7 +245,6 @@ fn keep_from<L: LogLink, A: Alter, P: Progress>(
     let place = gathered.place;
     let free = gathered.free;
     keep_hand(conn, gathered)?;
-    progress.kept(step.records);
     if let Some(why) = step.ended.why() {
         return Ok(End {
             records: step.records,
@@ -372,6 +417,10 @@ pub(crate) fn fetch<S: Sockets, A: Alter, P: Progress>(
         (Survives (state A.Store conn.old) (state A.Store conn.new)
         (HasAllOf (state A.Store conn.old).now.trees)) }
     ensures clean { HasCleanDisk (state A.Store conn.new) → HasCleanDisk (state A.Store conn.old) }
+    // Where no socket was opened, nothing was done.
+    ensures undone { OverArchive (state A.Store conn.old) (state A.Store conn.new)
+        (IfErr result
+        (LeavesUnopened (state A.Store conn.old).now (state A.Store conn.new).now)) }
     ensures fault { IfErr result (EndsRun (socket_rules S.opens S.closes S.Socket.sends
         S.Socket.receives S.Socket.receives_within)
         (IsNoInstance entry.now.row.source.instance) ⊥ sockets.new) }

@@ -1,6 +1,7 @@
 //! Logs are added to an archive, and what is new of them is kept.
 
-ghost use Rattle.std.specs.Prelude.{◌≡◌, ◌≢◌, ◌⊎◌, ◌∷◌, ◌++◌, IfErr, IfOk, OnOk, List, [], map};
+ghost use Rattle.std.specs.Prelude.{◌≡◌, ◌≢◌, ◌⊎◌, ◌∷◌, ◌++◌, IfErr, IfOk, OnOk, List, []};
+ghost use Rattle.std.specs.Prelude.{false, map};
 ghost use Rattle.std.specs.List.{All};
 ghost use Rattle.sqlite.specs.State.{HasCleanDisk, Survives};
 ghost use Rattle.sqlite.specs.Held.{state};
@@ -26,8 +27,8 @@ ghost use Rattle.bac_fetch.specs.Stays.{HasAllOf};
 ghost use Rattle.bac_asked.specs.declared.wanted.Wanted.{Wanted as WantedOf};
 
 use crate::ahead::open_ahead;
+use crate::grouped::keep_known;
 use crate::moving::settle;
-use crate::single::keep_next;
 use crate::sought::{Found, Sought, found_logs};
 use bac_absent::hear_each;
 use bac_archive::{Log, logs};
@@ -108,51 +109,6 @@ fn kept_logs<A: Alter>(
     Ok(all)
 }
 
-/// Keeps what is new of each of these logs in an archive that has these logs, where this was heard
-/// of devices before; devices may have been called at once for it.
-fn keep_known<S: Heeds, A: Alter, O: Write, E: Write>(
-    sockets: &mut S,
-    conn: &mut Connection<A>,
-    alloc: Global,
-    known: &[Log],
-    heard: Vec<Heard>,
-    all: Vec<Wanted>,
-    called: bool,
-    counts: bool,
-    output: &mut O,
-    errors: &mut E,
-) -> Result<u8, NotDone>
-    ensures told { IfOk result (AreToldBy (O.contents output.old) (O.contents output.new) all.items
-        (λ ends. OverArchive (state A.Store conn.old) (state A.Store conn.new)
-        ((last : List HeardOf) × KeepsAll (socket_rules S.opens S.closes S.Socket.sends
-        S.Socket.receives S.Socket.receives_within) known.now heard.items last
-        all.items sockets.old sockets.new (state A.Store conn.old).now
-        (state A.Store conn.new).now ends))) }
-    ensures stays { OverArchive (state A.Store conn.old) (state A.Store conn.new)
-        (Survives (state A.Store conn.old) (state A.Store conn.new)
-        (HasAllOf (state A.Store conn.old).now.trees)) }
-    ensures clean { HasCleanDisk (state A.Store conn.new) → HasCleanDisk (state A.Store conn.old) }
-    ensures fault { IfErr result (EndsRun (socket_rules S.opens S.closes S.Socket.sends
-        S.Socket.receives S.Socket.receives_within) (HasNoInstance all.items) ⊥
-        sockets.new) }
-    ensures caused { OverArchive (state A.Store conn.old) (state A.Store conn.new)
-        (IfErr result (EndsAll (socket_rules S.opens S.closes S.Socket.sends S.Socket.receives
-        S.Socket.receives_within) known.now heard.items all.items sockets.old
-        sockets.new (state A.Store conn.old).now)) }
-{
-    let mut heard = heard;
-    let mut greatest = 0u8;
-    let mut at = 0usize;
-    for wanted in all {
-        let status = keep_next(
-            sockets, conn, alloc, known, at, &mut heard, wanted, called, counts, output, errors,
-        )?;
-        greatest = greatest.max(status);
-        at = at.saturating_add(1);
-    }
-    Ok(greatest)
-}
-
 /// The logs of an archive.
 fn logs_of<A: Alter>(conn: &mut Connection<A>, alloc: Global) -> Result<Vec<Log>, NotDone>
     ensures logs { OverArchive (state A.Store conn.old) (state A.Store conn.new)
@@ -201,6 +157,8 @@ where
     ensures stays { OverArchive (state A.Store conn.old) (state A.Store conn.new)
         (Survives (state A.Store conn.old) (state A.Store conn.new)
         (HasAllOf (state A.Store conn.old).now.trees)) }
+    // Nothing waits for a commit.
+    ensures ended { all.items ≢ [] → OnOk result (conn.new.in_transaction ≡ false) }
     ensures clean { HasCleanDisk (state A.Store conn.new) → HasCleanDisk (state A.Store conn.old) }
     ensures fault { IfErr result (EndsRun (socket_rules S.opens S.closes S.Socket.sends
         S.Socket.receives S.Socket.receives_within) (HasNoInstance all.items) ⊥
@@ -222,7 +180,7 @@ where
         called,
     )?;
     keep_known(
-        sockets, conn, alloc, known, heard, all, called, counts, output, errors,
+        sockets, conn, alloc, clock, known, heard, all, called, counts, output, errors,
     )
 }
 
@@ -255,14 +213,16 @@ where
     ensures stays { OverArchive (state A.Store conn.old) (state A.Store conn.new)
         (Survives (state A.Store conn.old) (state A.Store conn.new)
         (HasAllOf (state A.Store conn.old).now.trees)) }
+    // Nothing waits for a commit.
+    ensures ended { all.items ≢ [] → OnOk result (conn.new.in_transaction ≡ false) }
     ensures clean { HasCleanDisk (state A.Store conn.new) → HasCleanDisk (state A.Store conn.old) }
     ensures fault { IfErr result (EndsRun (socket_rules S.opens S.closes S.Socket.sends
         S.Socket.receives S.Socket.receives_within) (HasNoInstance all.items) ⊥
         sockets.new) }
     ensures caused { OverArchive (state A.Store conn.old) (state A.Store conn.new)
         (IfErr result (EndsSettled (socket_rules S.opens S.closes S.Socket.sends S.Socket.receives
-        S.Socket.receives_within) (at_once S.holds C.reads clock window) heard.items all.items called
-        sockets.old sockets.new (state A.Store conn.old).now)) }
+        S.Socket.receives_within) (at_once S.holds C.reads clock window) heard.items all.items
+        called sockets.old sockets.new (state A.Store conn.old).now)) }
 {
     let known = logs_of(conn, alloc)?;
     keep_ahead(
@@ -318,12 +278,15 @@ fn settle_known<S: Sockets, A: Alter, E: Write>(
 /// A device is asked once what it says of itself: all are asked at once before the first log, if
 /// they are two or more, so many questions open, by the clock, which is read for how long each is
 /// waited for; and then for what each log begins with, one log of each device at a time. What comes
-/// answers the run over the log, in its turn, where it asks the same. A device that tells another instance than the one on
-/// record isn't asked for its logs, nor is one that gave no answer before. A device that tells at a
-/// new place the instance on record of logs at another one has moved, if nobody tells it there. The
+/// answers the run over the log, in its turn, where it asks the same. A device that tells another
+/// instance than the one on record isn't asked for its logs, nor is one that gave no answer before.
+/// A device that tells at a new place the instance on record of logs at another one has moved, if
+/// nobody tells it there. Logs are committed up to 64 at once, a log of more than one reply by
+/// itself: a crash leaves whole steps. A line is printed behind the commit of what it tells. The
 /// errors have a line for such a device, for a log that began anew, and for one whose walk failed:
 /// what came in place of the answer, or what a refusal means. If it counts, they have the number of
-/// a log's records while it is fetched: for a terminal.
+/// a log's records while it is fetched, or of two devices or more how far the run is: for a
+/// terminal.
 pub fn keep_each<S: Recalls, C: Clock + Copy, A: Alter, O: Write, E: Write>(
     sockets: &mut S,
     conn: &mut Connection<A>,
@@ -351,6 +314,8 @@ where
     ensures stays { OverArchive (state A.Store conn.old) (state A.Store conn.new)
         (Survives (state A.Store conn.old) (state A.Store conn.new)
         (HasAllOf (state A.Store conn.old).now.trees)) }
+    // Nothing waits for a commit.
+    ensures ended { all.items ≢ [] → OnOk result (conn.new.in_transaction ≡ false) }
     ensures clean { HasCleanDisk (state A.Store conn.new) → HasCleanDisk (state A.Store conn.old) }
     // Or it ends before that.
     ensures fault { IfErr result (EndsRun (socket_rules S.opens S.closes S.Socket.sends

@@ -6,7 +6,7 @@ ghost use Rattle.sqlite.specs.State.{HasCleanDisk, Survives};
 ghost use Rattle.sqlite.specs.Held.{state};
 ghost use Rattle.bac_archive.specs.Schema.{OverArchive};
 ghost use Rattle.bac_ports.specs.Sockets.{socket_rules};
-ghost use Rattle.bac_fetch.specs.Causes.{EndsAmong, EndsFetch, EndsNext, EndsOne};
+ghost use Rattle.bac_fetch.specs.Causes.{EndsAmong, EndsFetch, EndsNext, EndsOne, LeavesUnopened};
 ghost use Rattle.bac_fetch.specs.Faults.{EndsRun, IsNoInstance};
 ghost use Rattle.bac_fetch.specs.Keeps.{IsRowOf, IsToldBy, KeepsHeard, KeepsLog, KeepsNext};
 ghost use Rattle.bac_ahead.specs.Ahead.{trend_log};
@@ -20,6 +20,7 @@ use crate::count::Count;
 use crate::entry::{Entry, enter};
 use crate::fetching::fetch;
 use crate::passing::{pass_by, pass_over, print_end};
+use crate::site::Site;
 use crate::telling::{tell_anew, tell_why};
 use bac_archive::Log;
 use bac_asked::{Asking, End, Ending, NotDone, Wanted, end_status};
@@ -32,14 +33,14 @@ use sqlite::{Alter, Connection};
 use std::alloc::Global;
 use std::io::Write;
 
-/// Keeps what is new of one log; on a terminal its records are counted meanwhile.
+/// Keeps what is new of one log; on a terminal it is shown meanwhile how far the run is.
 fn fetch_counted<S: Sockets, A: Alter, E: Write>(
     sockets: &mut S,
     conn: &mut Connection<A>,
     alloc: Global,
     entry: &Entry,
     asking: Asking,
-    counts: bool,
+    site: &mut Site,
     errors: &mut E,
 ) -> Result<End, NotDone>
     ensures kept { OverArchive (state A.Store conn.old) (state A.Store conn.new)
@@ -51,6 +52,9 @@ fn fetch_counted<S: Sockets, A: Alter, E: Write>(
         (Survives (state A.Store conn.old) (state A.Store conn.new)
         (HasAllOf (state A.Store conn.old).now.trees)) }
     ensures clean { HasCleanDisk (state A.Store conn.new) → HasCleanDisk (state A.Store conn.old) }
+    ensures undone { OverArchive (state A.Store conn.old) (state A.Store conn.new)
+        (IfErr result
+        (LeavesUnopened (state A.Store conn.old).now (state A.Store conn.new).now)) }
     ensures fault { IfErr result (EndsRun (socket_rules S.opens S.closes S.Socket.sends
         S.Socket.receives S.Socket.receives_within)
         (IsNoInstance entry.now.row.source.instance) ⊥ sockets.new) }
@@ -59,7 +63,8 @@ fn fetch_counted<S: Sockets, A: Alter, E: Write>(
         S.Socket.receives_within) asking.asked entry.now.row.source.instance sockets.old
         sockets.new)) }
 {
-    let mut count = Count::new(alloc, &entry.row.source, errors, counts);
+    let mut count = Count::new(alloc, &entry.row.source, errors, site);
+    count.begin();
     let fetched = fetch(alloc, sockets, conn, entry, asking, &mut count);
     count.end();
     fetched
@@ -74,7 +79,7 @@ fn keep_one<S: Heeds, A: Alter, O: Write, E: Write>(
     heard: &mut Vec<Heard>,
     wanted: Wanted,
     said: Said,
-    counts: bool,
+    site: &mut Site,
     output: &mut O,
     errors: &mut E,
 ) -> Result<u8, NotDone>
@@ -97,6 +102,9 @@ fn keep_one<S: Heeds, A: Alter, O: Write, E: Write>(
         (Survives (state A.Store conn.old) (state A.Store conn.new)
         (HasAllOf (state A.Store conn.old).now.trees)) }
     ensures clean { HasCleanDisk (state A.Store conn.new) → HasCleanDisk (state A.Store conn.old) }
+    ensures undone { OverArchive (state A.Store conn.old) (state A.Store conn.new)
+        (IfErr result
+        (LeavesUnopened (state A.Store conn.old).now (state A.Store conn.new).now)) }
     ensures fault { IfErr result (EndsRun (socket_rules S.opens S.closes S.Socket.sends
         S.Socket.receives S.Socket.receives_within) (IsNoInstance wanted.source.instance) ⊥
         sockets.new) }
@@ -113,7 +121,8 @@ fn keep_one<S: Heeds, A: Alter, O: Write, E: Write>(
     } = wanted;
     let Said { identity, told } = said;
     let entry = enter(conn, alloc, log, source, name, told)?;
-    let end = fetch_counted(sockets, conn, alloc, &entry, asking, counts, errors)?;
+    let end = fetch_counted(sockets, conn, alloc, &entry, asking, site, errors)?;
+    site.add(end.records);
     tell_anew(alloc, &entry.row.source, end.began, errors)?;
     print_end(alloc, &entry.row.source, &end, output)?;
     let source = &entry.row.source;
@@ -140,7 +149,7 @@ fn keep_unless<S: Heeds, A: Alter, O: Write, E: Write>(
     said: Said,
     passed: Passed,
     why: Option<Ending>,
-    counts: bool,
+    site: &mut Site,
     output: &mut O,
     errors: &mut E,
 ) -> Result<u8, NotDone>
@@ -156,6 +165,9 @@ fn keep_unless<S: Heeds, A: Alter, O: Write, E: Write>(
         (Survives (state A.Store conn.old) (state A.Store conn.new)
         (HasAllOf (state A.Store conn.old).now.trees)) }
     ensures clean { HasCleanDisk (state A.Store conn.new) → HasCleanDisk (state A.Store conn.old) }
+    ensures undone { OverArchive (state A.Store conn.old) (state A.Store conn.new)
+        (IfErr result
+        (LeavesUnopened (state A.Store conn.old).now (state A.Store conn.new).now)) }
     ensures fault { IfErr result (EndsRun (socket_rules S.opens S.closes S.Socket.sends
         S.Socket.receives S.Socket.receives_within) (IsNoInstance wanted.source.instance) ⊥
         sockets.new) }
@@ -167,7 +179,7 @@ fn keep_unless<S: Heeds, A: Alter, O: Write, E: Write>(
     let log = log_among(known, at, &wanted.source);
     match why {
         None => keep_one(
-            sockets, conn, alloc, log, heard, wanted, said, counts, output, errors,
+            sockets, conn, alloc, log, heard, wanted, said, site, output, errors,
         ),
         Some(why) => {
             let address = wanted.asking.asked.address;
@@ -201,7 +213,7 @@ fn keep_heard<S: Heeds, A: Alter, O: Write, E: Write>(
     heard: &mut Vec<Heard>,
     wanted: Wanted,
     called: bool,
-    counts: bool,
+    site: &mut Site,
     output: &mut O,
     errors: &mut E,
 ) -> Result<u8, NotDone>
@@ -215,6 +227,9 @@ fn keep_heard<S: Heeds, A: Alter, O: Write, E: Write>(
         (Survives (state A.Store conn.old) (state A.Store conn.new)
         (HasAllOf (state A.Store conn.old).now.trees)) }
     ensures clean { HasCleanDisk (state A.Store conn.new) → HasCleanDisk (state A.Store conn.old) }
+    ensures undone { OverArchive (state A.Store conn.old) (state A.Store conn.new)
+        (IfErr result
+        (LeavesUnopened (state A.Store conn.old).now (state A.Store conn.new).now)) }
     ensures fault { IfErr result (EndsRun (socket_rules S.opens S.closes S.Socket.sends
         S.Socket.receives S.Socket.receives_within) (IsNoInstance wanted.source.instance) ⊥
         sockets.new) }
@@ -236,7 +251,7 @@ fn keep_heard<S: Heeds, A: Alter, O: Write, E: Write>(
     let was_heard = is_heard(heard.as_slice(), &wanted.source);
     let passed = passed_since(sockets, called && was_heard);
     keep_unless(
-        sockets, conn, alloc, known, at, heard, wanted, said, passed, why, counts, output, errors,
+        sockets, conn, alloc, known, at, heard, wanted, said, passed, why, site, output, errors,
     )
 }
 
@@ -250,7 +265,7 @@ pub(crate) fn keep_next<S: Heeds, A: Alter, O: Write, E: Write>(
     heard: &mut Vec<Heard>,
     wanted: Wanted,
     called: bool,
-    counts: bool,
+    site: &mut Site,
     output: &mut O,
     errors: &mut E,
 ) -> Result<u8, NotDone>
@@ -264,6 +279,10 @@ pub(crate) fn keep_next<S: Heeds, A: Alter, O: Write, E: Write>(
         (Survives (state A.Store conn.old) (state A.Store conn.new)
         (HasAllOf (state A.Store conn.old).now.trees)) }
     ensures clean { HasCleanDisk (state A.Store conn.new) → HasCleanDisk (state A.Store conn.old) }
+    // Where no socket was opened, nothing was done.
+    ensures undone { OverArchive (state A.Store conn.old) (state A.Store conn.new)
+        (IfErr result
+        (LeavesUnopened (state A.Store conn.old).now (state A.Store conn.new).now)) }
     ensures fault { IfErr result (EndsRun (socket_rules S.opens S.closes S.Socket.sends
         S.Socket.receives S.Socket.receives_within) (IsNoInstance wanted.source.instance) ⊥
         sockets.new) }
@@ -277,6 +296,6 @@ pub(crate) fn keep_next<S: Heeds, A: Alter, O: Write, E: Write>(
         return pass_over(conn, alloc, log, &wanted.source, Ending::NotAsked, output);
     }
     keep_heard(
-        sockets, conn, alloc, known, at, heard, wanted, called, counts, output, errors,
+        sockets, conn, alloc, known, at, heard, wanted, called, site, output, errors,
     )
 }

@@ -175,7 +175,8 @@ where
         (λ all between ends. IsHeld (state A.Store conn.new)
         → KeepsArchive (socket_rules S.opens S.closes S.Socket.sends S.Socket.receives
         S.Socket.receives_within) (at_once S.holds C.reads clock window) chosen all between
-        sockets.new (BeginsOn ⟦<FileOf<G> as Disk>⟧ (image_at G.Start) place.old.before parts.new) ends
+        sockets.new
+        (BeginsOn ⟦<FileOf<G> as Disk>⟧ (image_at G.Start) place.old.before parts.new) ends
         (state A.Store conn.old).now (state A.Store conn.new).committed)) }
     // Whatever comes of it, no item and no log is lost.
     ensures stays { IsHeld (state A.Store conn.new)

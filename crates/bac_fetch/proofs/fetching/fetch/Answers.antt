@@ -3,6 +3,8 @@ use Rattle.sqlite.specs.Held.{state}
 use Rattle.bac_ports.specs.Sockets.{socket_rules}
 use Rattle.bac_fetch.specs.Heeds.{heeding}
 use Rattle.bac_ahead.specs.Ahead.{trend_log}
+use Rattle.bac_asked.proofs.Results.{because}
+use Rattle.bac_fetch.proofs.CausesLemmas.{rows_leave}
 use Rattle.bac_fetch.proofs.KeepsLemmas.{keeps_log}
 use Rattle.bac_fetch.proofs.fetching.fetch.Goals as goal
 
@@ -18,3 +20,10 @@ returns-clause-kept g c clean has =
     c.in_ok-link.transactions.route c.in_ok-link.transactions.retries c.args.asking.steps
     c.in_ok-link.ensures.opened (c.new-link.ensures ∙ ap heeding c.in_ok-link.ensures.link) c.in_ok-link.ensures.route c.in_ok-link.ensures.retries
     refl object c.into_port.ensures c.close.ensures c.end_told.ensures (c.in_ok-end.ensures.kept clean has)
+
+pub returns-in_err-link-clause-undone : goal.returns-in_err-link-clause-undone
+returns-in_err-link-clause-undone g c clean has = because c.from_residual.result c.in_err-link.field-0.0 _ (search rules) (λ why is. refl)
+
+pub returns-in_err-end-clause-undone : goal.returns-in_err-end-clause-undone
+returns-in_err-end-clause-undone g c clean has =
+    because c.from_residual-in_err-end.result c.in_err-end.field-0.0 _ (search rules) (rows_leave _ _ _ (c.in_err-end.ensures.caused clean has))

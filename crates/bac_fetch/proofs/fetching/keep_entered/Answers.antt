@@ -1,9 +1,11 @@
-use Rattle.std.proofs.Common.{Ok, rules}
+use Rattle.std.proofs.Common.{Ok, rules, inl, inr, subst, sym}
 use Rattle.sqlite.specs.State.{HasCleanDisk}
 use Rattle.sqlite.specs.Held.{state}
 use Rattle.bac_asked.proofs.Results.{because}
 use Rattle.bac_fetch.proofs.KeepsLemmas.{admit_schema, marked_schema}
-use Rattle.bac_fetch.proofs.StaysLemmas.{admitted_keeps, admitted_stays, all_then, begun_stays, leaves_rows, marks_stay, leaves_word, rows_then, same_after, stays_then}
+use Rattle.bac_fetch.proofs.StaysLemmas.{admitted_keeps, admitted_stays, all_then, begun_stays, leaves_rows, marks_stay, leaves_word, rows_of_same, rows_then, same_after, stays_then}
+use Rattle.bac_fetch.proofs.SameLemmas.{begun_same, marks_same, same_then}
+use Rattle.bac_fetch.specs.Stays.{HasRows}
 use Rattle.bac_archive.specs.Schema.{HasArchive}
 use Rattle.bac_fetch.proofs.fetching.keep_entered.Goals as goal
 
@@ -89,9 +91,15 @@ returns-in_err-renew-clause-word g c clean has =
     let schema : HasArchive known.now.schema = admit_schema c.args.entry.now old.now known.now admits has in
     let (last, keeps, marks) = c.in_ok-end.ensures.kept late schema in
     let is : HasArchive marked.now.schema = marked_schema _ _ _ _ _ c.args.start _ known.now last marked.now c.in_ok-end.end keeps marks schema in
+    let rows = rows_of_same old.now.trees known.now.trees marked.now.trees (admitted_keeps c.args.entry.now old.now known.now admits)
+    (same_then known.now.trees last.trees marked.now.trees (begun_same _ _ _ _ _ (Ok c.args.start) _ known.now last c.in_ok-end.end keeps)
+    (marks_same c.args.start.begins_at c.in_ok-end.end last marked.now marks)) in
     leaves_word old marked new _ _
     (rows_then old known marked (admitted_keeps c.args.entry.now old.now known.now admits) (c.admit.ensures.rows has) (c.keep_and_mark.ensures.stays late schema))
-    (λ _ db left. (left.0, (c.keep_and_mark.new.link, c.in_ok-end.end, (known.now, admits, last, keeps, marked.now, marks, left.1)), left.2))
+    (λ _ db left. elim left [
+      | inl is ↦ inl (subst (HasRows old.now.trees) (sym is) rows)
+      | inr made ↦ inr (made.0, (c.keep_and_mark.new.link, c.in_ok-end.end, (known.now, admits, last, keeps, marked.now, marks, made.1)), made.2)
+    ])
     (c.renew.ensures.crash is)
 
 pub returns-clause-word : goal.returns-clause-word
@@ -106,9 +114,15 @@ returns-clause-word g c clean has =
     let schema : HasArchive known.now.schema = admit_schema c.args.entry.now old.now known.now admits has in
     let (last, keeps, marks) = c.in_ok-end.ensures.kept late schema in
     let is : HasArchive marked.now.schema = marked_schema _ _ _ _ _ c.args.start _ known.now last marked.now c.in_ok-end.end keeps marks schema in
+    let rows = rows_of_same old.now.trees known.now.trees marked.now.trees (admitted_keeps c.args.entry.now old.now known.now admits)
+    (same_then known.now.trees last.trees marked.now.trees (begun_same _ _ _ _ _ (Ok c.args.start) _ known.now last c.in_ok-end.end keeps)
+    (marks_same c.args.start.begins_at c.in_ok-end.end last marked.now marks)) in
     leaves_word old marked new _ _
     (rows_then old known marked (admitted_keeps c.args.entry.now old.now known.now admits) (c.admit.ensures.rows has) (c.keep_and_mark.ensures.stays late schema))
-    (λ _ db left. (left.0, (c.keep_and_mark.new.link, c.in_ok-end.end, (known.now, admits, last, keeps, marked.now, marks, left.1)), left.2))
+    (λ _ db left. elim left [
+      | inl is ↦ inl (subst (HasRows old.now.trees) (sym is) rows)
+      | inr made ↦ inr (made.0, (c.keep_and_mark.new.link, c.in_ok-end.end, (known.now, admits, last, keeps, marked.now, marks, made.1)), made.2)
+    ])
     (c.renew.ensures.crash is)
 
 pub returns-in_err-end-clause-caused : goal.returns-in_err-end-clause-caused

@@ -1,4 +1,4 @@
-use Rattle.std.proofs.Common.{inl, inr, rules, subst}
+use Rattle.std.proofs.Common.{inl, inr, refl, rules, subst}
 use Rattle.std.specs.Prelude.{Option}
 use Rattle.std.proofs.lemmas.Result.{IfErr-weaker, IfOk-weaker}
 use Rattle.sqlite.specs.Held.{state}
@@ -46,3 +46,6 @@ pub returns-clause-caused : goal.returns-clause-caused
 returns-clause-caused g c clean has =
     let asked = rw c.as_slice.ensures.value at c.in_ok-said.ensures.identified in
     IfErr-weaker c.keep_unless.result _ _ (λ fault it. inr (inr (c.in_ok-said.said, c.said_of.new.sockets, asked, it))) (c.keep_unless.ensures.caused clean has)
+
+pub returns-in_err-said-clause-undone : goal.returns-in_err-said-clause-undone
+returns-in_err-said-clause-undone g c clean has = because c.from_residual.result c.in_err-said.field-0.0 _ (search rules) (λ why is. refl)

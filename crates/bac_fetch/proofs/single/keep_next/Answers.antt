@@ -5,6 +5,7 @@ use Rattle.bac_ports.specs.Sockets.{socket_rules}
 use Rattle.bac_asked.specs.declared.end.Ending.TheVariants.{NotAsked}
 use Rattle.bac_fetch.specs.Keeps.{KeepsHeard, PassesOver}
 use Rattle.bac_questions.specs.Whose.{is_silent}
+use Rattle.bac_fetch.proofs.CausesLemmas.{rows_leave}
 use Rattle.bac_fetch.proofs.StaysLemmas.{quiet_stays}
 use Rattle.bac_fetch.proofs.single.keep_next.Goals as goal
 
@@ -60,3 +61,7 @@ returns-clause-told g c =
 
 pub returns-then-is_silent-clause-caused : goal.returns-then-is_silent-clause-caused
 returns-then-is_silent-clause-caused g c clean has = IfErr-weaker c.pass_over.result _ _ (λ fault it. inl it) (c.pass_over.ensures.caused clean has)
+
+pub returns-then-is_silent-clause-undone : goal.returns-then-is_silent-clause-undone
+returns-then-is_silent-clause-undone g c clean has =
+    IfErr-weaker c.pass_over.result _ _ (λ fault it. rows_leave _ _ fault it) (c.pass_over.ensures.caused clean has)

@@ -8,6 +8,7 @@ use Rattle.bac_fetch.specs.Causes.{EndsFetch}
 use Rattle.bac_ahead.specs.Ahead.{trend_log}
 use Rattle.bac_fetch.specs.Keeps.{KeepsLog}
 use Rattle.bac_asked.proofs.Results.{because}
+use Rattle.bac_fetch.proofs.CausesLemmas.{entry_leaves, leaves_behind, rows_leave}
 use Rattle.bac_fetch.proofs.StaysLemmas.{quiet_first, quiet_stays}
 use Rattle.bac_archive.specs.Schema.{HasArchive}
 use Rattle.bac_fetch.proofs.single.keep_one.Goals as goal
@@ -126,3 +127,34 @@ returns-in_err-entry-clause-fault g c =
 pub returns-in_err-print_end-clause-fault : goal.returns-in_err-print_end-clause-fault
 returns-in_err-print_end-clause-fault g c =
     because c.from_residual-in_err-print_end.result c.in_err-print_end.field-0.0 _ (search rules) (inl c.in_err-print_end.ensures.fault)
+
+pub returns-in_err-entry-clause-undone : goal.returns-in_err-entry-clause-undone
+returns-in_err-entry-clause-undone g c clean has =
+    because c.from_residual.result c.in_err-entry.field-0.0 _ (search rules) (entry_leaves _ _ _ (state g.A.Store c.args.conn.now).now.trees _ (c.in_err-entry.ensures.caused clean has))
+
+pub returns-in_err-end-clause-undone : goal.returns-in_err-end-clause-undone
+returns-in_err-end-clause-undone g c clean has =
+    let old = state g.A.Store c.args.conn.now in
+    let mid = state g.A.Store c.enter.new.conn in
+    let early : HasCleanDisk mid = c.fetch_counted.ensures.clean clean in
+    let same : mid.now ≡ old.now = c.in_ok-entry.ensures.same early has in
+    let schema : HasArchive mid.now.schema = subst (λ (d : Database). HasArchive d.schema) (sym same) has in
+    let fault = c.in_err-end.field-0.0 in
+    because c.from_residual-in_err-end.result fault _ (search rules)
+    (leaves_behind old.now mid.now (state g.A.Store c.fetch_counted.new.conn).now fault same (c.in_err-end.ensures.undone clean schema))
+
+pub returns-in_err-tell_anew-clause-undone : goal.returns-in_err-tell_anew-clause-undone
+returns-in_err-tell_anew-clause-undone g c clean has =
+    because c.from_residual-in_err-tell_anew.result c.in_err-tell_anew.field-0.0 _ (search rules) (rows_leave _ _ _ (inl c.in_err-tell_anew.ensures.fault))
+
+pub returns-in_err-print_end-clause-undone : goal.returns-in_err-print_end-clause-undone
+returns-in_err-print_end-clause-undone g c clean has =
+    because c.from_residual-in_err-print_end.result c.in_err-print_end.field-0.0 _ (search rules) (rows_leave _ _ _ c.in_err-print_end.ensures.caused)
+
+pub returns-in_err-tell_why-clause-undone : goal.returns-in_err-tell_why-clause-undone
+returns-in_err-tell_why-clause-undone g c clean has =
+    because c.from_residual-in_err-tell_why.result c.in_err-tell_why.field-0.0 _ (search rules) (rows_leave _ _ _ (inl c.in_err-tell_why.ensures.fault))
+
+pub returns-in_err-add_heard-clause-undone : goal.returns-in_err-add_heard-clause-undone
+returns-in_err-add_heard-clause-undone g c clean has =
+    because c.from_residual-in_err-add_heard.result c.in_err-add_heard.field-0.0 _ (search rules) (rows_leave _ _ _ (inl c.in_err-add_heard.ensures.fault))

@@ -4,6 +4,7 @@ use Rattle.sqlite.specs.Held.{state}
 use Rattle.bac_ports.specs.Sockets.{socket_rules}
 use Rattle.bac_asked.specs.declared.end.Ending.{Ending}
 use Rattle.bac_fetch.specs.Keeps.{KeepsUnless}
+use Rattle.bac_fetch.proofs.CausesLemmas.{rows_leave}
 use Rattle.bac_fetch.proofs.StaysLemmas.{quiet_stays}
 use Rattle.bac_fetch.proofs.single.keep_unless.Goals as goal
 
@@ -62,3 +63,7 @@ returns-in-None-clause-caused g c clean has =
 pub returns-in-Some-clause-caused : goal.returns-in-Some-clause-caused
 returns-in-Some-clause-caused g c clean has =
     IfErr-weaker c.pass_by.result _ _ (λ fault it. (_, c.log_among-log.ensures, inl (inl it))) (c.pass_by.ensures.caused clean has)
+
+pub returns-in-Some-clause-undone : goal.returns-in-Some-clause-undone
+returns-in-Some-clause-undone g c clean has =
+    IfErr-weaker c.pass_by.result _ _ (λ fault it. rows_leave _ _ fault it) (c.pass_by.ensures.caused clean has)

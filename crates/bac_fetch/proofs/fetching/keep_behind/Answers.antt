@@ -12,7 +12,7 @@ use Rattle.bac_fetch.specs.Keeps.{KeepsFrom}
 use Rattle.bac_fetch.specs.Stays.{HasSameLogs}
 use Rattle.bac_fetch.proofs.EndsLemmas.{before_left, before_steps, comes_from, either_way, keeps_from}
 use Rattle.bac_fetch.proofs.SameLemmas.{adds_same, same_quiet_last, survives_as}
-use Rattle.bac_fetch.proofs.fetching.keep_on.Goals as goal
+use Rattle.bac_fetch.proofs.fetching.keep_behind.Goals as goal
 
 pub returns-clause-kept : goal.returns-clause-kept
 returns-clause-kept g c clean has =
