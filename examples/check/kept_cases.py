@@ -21,6 +21,7 @@ from kept_clocks import clocks, either_line, questions
 from kept_devices import Device, Log, chance, lock, serve, wait_until_asked
 from kept_doubts import emptied, never_begun, told_at_once
 from kept_files import barred
+from kept_groups import groups
 from kept_holes import holes, holes_in_parts
 from kept_judge import in_use, no_use, wrongs
 from kept_limits import file_limits, part_limits
@@ -687,4 +688,4 @@ def judgements(judge, _runs):
 CASES = [judgements, run_after_run, beginnings, options, losses, line_by_line, step_limits, last_epoch, dead_devices, dead_at_once, at_once, window, lists_at_once, other_devices, asked_at_once, words_and_names, no_archive, barred, far_away, rounds, restarts, clocks, questions, cut_files, foreign_files, objects_beside, a_large_file, printed, taken_over, served,
          stopped, terminals, warehouses, names, own_words, own_rule, own_lives, first_answers, renewed, moved, moved_ways, two_of_one, told_later,
          moved_at_each_call, moved_at_random, emptied, never_begun, told_at_once, said_more, several, unlisted, listed, told_beside, told_among_others, parts, parts_refused, parts_ended,
-         file_limits, part_limits, folders, folders_damaged, checked, checked_parts, holes, holes_in_parts]
+         file_limits, part_limits, folders, folders_damaged, checked, checked_parts, groups, holes, holes_in_parts]

@@ -12,6 +12,8 @@ OTHER = r"another device answers: \d+, not \d+"
 # How the run over a log may end, and with which status.
 ENDS = (("caught up", 0), ("lost", 2), ("not asked", 2), (OTHER, 3), ("step limit", 8))
 KILLED = -9
+# What is new of so many logs of a run goes to the disk together at most.
+AT_ONCE = 64
 
 
 class Rows:
@@ -136,8 +138,8 @@ def disagreements(status, out, errors, asked, before, after):
               if after.of.get(name, [])[: len(rows)] != rows]
     wrong = [wrong_line(line, before, after) for line in logs]
     found += filter(None, [*wrong, wrong_order(logs, untold, asked, killed)])
-    # A run that was killed may have been at the log behind its last line.
-    told = {*(line[0] for line in logs), *(asked[len(logs) : len(logs) + 1] if killed else ())}
+    # A run that was killed may have committed the logs behind its last line, as many as go to the disk together.
+    told = {*(line[0] for line in logs), *(asked[len(logs) : len(logs) + AT_ONCE] if killed else ())}
     silent = [name for name in after.of if name not in told and after.new_in(before, name)]
     found += [f"{name}: rows without a line came to it" for name in silent]
     greatest = max([status_of(line[3]) or 0 for line in logs] + [2 for _ in untold], default=0)

@@ -6,10 +6,13 @@ import signal
 import sqlite3
 import subprocess
 import threading
+import time
 
+from kept_devices import Device, Log, chance, serve
 from kept_rounds import one, said
 
-SHOWN = re.compile(r"\r([\d.:]+) 1 (\d+) records")
+SHOWN = re.compile(r"\r([\d.:]+) 1 (?P<records>\d+) records")
+SITE = re.compile(r"\r(\d+) of 3 devices, (?P<records>\d+) records, (\d+) s")
 
 
 class Terminal:
@@ -54,6 +57,70 @@ def kept(judge, words, out, errors, surroundings=None):
     return (process.returncode, *(text and text.decode() for text in texts))
 
 
+def ended_at_each_call(judge, words, devices, shown, counts_of_logs):
+    """Runs that are ended before each call on files in turn: what was counted is in the file. Each log logs so many before."""
+    counted = 0
+    for call in range(1, 400):
+        for log in [log for device in devices for log in device.logs.values()]:
+            log.log(chance.choice(counts_of_logs))
+        had, screen = items(words[0]), Terminal()
+        status = kept(judge, [*words, "--timeout=5000"], screen.theirs, screen.theirs, judge.ending_at(call))[0]
+        counts = [int(each["records"]) for each in shown.finditer(screen.text())]
+        counted += len(counts)
+        now = items(words[0]) - had
+        judge.is_right(f"counted before call {call}", not counts or counts[-1] <= now, f"{counts}, and {now} rows")
+        judge.judge(f"counted before call {call}", words[0], devices)
+        if status != -signal.SIGKILL:
+            break
+    judge.is_right("calls are counted", status == 0 and call > 20 and counted > 100, (status, call, counted))
+    return f"{counted} counts in runs that were ended at {call} calls"
+
+
+def waits_late(device, answers, seconds):
+    """A device that waits so long behind so many answers with records, once."""
+    def answered():
+        nonlocal answers
+        answers -= 1
+        if answers:
+            device.then[131] = answered
+        else:
+            time.sleep(seconds)
+    device.then[131] = answered
+
+
+def of_three(judge):
+    """Over three devices those that are done are counted, the records and the seconds, and nothing of it stays."""
+    devices = [Device([Log(number, 5000) for number in (1, 2, 3)], f"plant {at}") for at in range(3)]
+    logged = (200, 300, 3000)
+    for device, count in zip(devices, logged):
+        for log in device.logs.values():
+            log.log(count)
+    serve(devices)
+    # More than are asked for at once, before the first log, and fewer than its logs have.
+    waits_late(devices[2], 150, 1.2)
+    words, screen = [f"{judge.room}/three.db"], Terminal()
+    for device in devices:
+        words += [device.address, "1", "2", "3"]
+    begun = time.monotonic()
+    judge.same("of three devices", kept(judge, words, screen.theirs, screen.theirs)[0], 0)
+    lasted, text = time.monotonic() - begun, screen.text()
+    counts = [tuple(int(number) for number in count) for count in SITE.findall(text)]
+    done, records, seconds = ([count[at] for count in counts] for at in range(3))
+    for name, numbers in (("devices", done), ("records", records), ("seconds", seconds)):
+        judge.is_right(f"{name} never fall", numbers == sorted(numbers), numbers)
+    judge.same("none is done as the first log is waited for", counts[:1], [(0, 0, 0)])
+    judge.same("how many are done", sorted(set(done)), [0, 1, 2])
+    before = [[count for count in counts if count[0] == at] for at in range(3)]
+    judge.same("the records of those that are done", [of[0][1] for of in before if of], [0, 600, 1500])
+    judge.same("all records at last", records[-1:], [10500])
+    judge.is_right("the seconds", bool(seconds) and 1 <= seconds[-1] <= lasted, f"{seconds[-1:]} of {lasted}")
+    lines = "".join(f"{device.address} {number} {count} records 0 gaps caught up, next {count + 1}\n"
+                    for device, count in zip(devices, logged) for number in (1, 2, 3))
+    judge.same("the lines that stay", re.sub(rf"(?:{SITE.pattern})+\r\x1b\[K", "", text), lines)
+    judge.judge("of three devices", words[0], devices, True)
+    return ended_at_each_call(judge, words, devices, SITE, (1, 1, 1, 50))
+
+
 def terminals(judge, _runs):
     """A count is on a terminal while a run goes on, never more than the file has, and nothing of it stays; where
     the output or the errors are no terminal there is none."""
@@ -73,18 +140,5 @@ def terminals(judge, _runs):
         line = said(device, 3 if out_is_one else 0, 0, "caught up, next 1238")
         want = (0, line, "") if out_is_one else (0, "", line)
         judge.same(name, (status, half.text(), (errors if out_is_one else out) or ""), want)
-    # Ended before each call on files in turn: what was counted is in the file.
-    counted = 0
-    for call in range(1, 400):
-        log.log(200)
-        had, screen = items(words[0]), Terminal()
-        status = kept(judge, [*words, "--timeout=5000"], screen.theirs, screen.theirs, judge.ending_at(call))[0]
-        counts = [int(count) for _, count in SHOWN.findall(screen.text())]
-        counted += len(counts)
-        now = items(words[0]) - had
-        judge.is_right(f"counted before call {call}", not counts or counts[-1] <= now, f"{counts}, and {now} rows")
-        judge.judge(f"counted before call {call}", words[0], [device])
-        if status != -signal.SIGKILL:
-            break
-    judge.is_right("calls are counted", status == 0 and call > 20 and counted > 100, (status, call, counted))
-    return f"{counted} counts in runs that were ended at {call} calls"
+    ended = ended_at_each_call(judge, words, [device], SHOWN, (200,))
+    return f"{ended}, of three devices {of_three(judge)}"

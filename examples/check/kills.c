@@ -1,7 +1,8 @@
 // Ends the program that it is loaded into (LD_PRELOAD) at one of its calls on files, for kept.py: by
 // SIGKILL before the call numbered AT, counted from 1, of write, pwrite, fsync, fdatasync, ftruncate
 // and rename; or, where FAILS is set, that call fails and nothing is done, as on a bad disk. What goes to the standard
-// streams isn't counted. Where AT is 0, the count is written to the file descriptor TOLD when the program ends.
+// streams isn't counted. Where TOLD is set, how many calls of fsync and fdatasync were made is written to that file
+// descriptor when the program ends.
 #define _GNU_SOURCE
 #include <dlfcn.h>
 #include <errno.h>
@@ -11,7 +12,7 @@
 #include <sys/types.h>
 #include <unistd.h>
 
-static long calls;
+static long calls, syncs;
 
 // Whether this call fails.
 static int counts(int file) {
@@ -42,11 +43,13 @@ ssize_t pwrite64(int file, const void *from, size_t size, off64_t at) {
 }
 
 int fsync(int file) {
+    syncs++;
     if (counts(file)) return -1;
     return NEXT(fsync)(file);
 }
 
 int fdatasync(int file) {
+    syncs++;
     if (counts(file)) return -1;
     return NEXT(fdatasync)(file);
 }
@@ -68,5 +71,5 @@ int rename(const char *from, const char *to) {
 
 __attribute__((destructor)) static void told(void) {
     const char *to = getenv("TOLD");
-    if (to) dprintf(atoi(to), "%ld\n", calls);
+    if (to) dprintf(atoi(to), "%ld\n", syncs);
 }

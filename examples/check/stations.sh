@@ -1,6 +1,7 @@
 #!/usr/bin/env bash
 # Asks 1,000 addresses of the loopback interface who is there, at each of which a station answers after
-# some milliseconds (stations.py): each answer has to be printed.
+# some milliseconds (stations.py): each answer has to be printed. And sends a server more at once than a socket of the
+# usual size holds (waiting.py).
 #
 #     examples/check/stations.sh [PROGRAM]
 #
@@ -40,5 +41,10 @@ done
 # The first 900 don't answer: no more than a second is waited for them, beside the wait at the end.
 stations 0 1 900
 is 'silent stations are not waited for long' "$([ "$took" -le 4 ] && echo yes)" yes
+
+# A socket of 212,992 octets, the usual size, holds 277 of them.
+served ../use/plant.conf
+is 'what comes at once waits in the socket' "$(./waiting.py "$port" "$server" 400)" 400
+unserved
 
 counted
