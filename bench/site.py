@@ -1,6 +1,6 @@
 #!/usr/bin/env python3
 """site.py PROGRAM ROOM DEVICES LOGS RECORDS DELAY: how long `PROGRAM keep` takes over a site whose devices answer after
-DELAY milliseconds, for site.sh."""
+DELAY milliseconds, with up to 45 records, for site.sh."""
 import heapq
 import os
 import resource
@@ -60,6 +60,8 @@ def ran(name, *words, lines=None):
 
 def main():
     site = [Device([Log(number, 1000) for number in range(1, logs + 1)], f"device {at}") for at in range(devices)]
+    for device in site:
+        device.fits = (45,)
     threading.Thread(target=answer_late, args=([device.socket for device in site],), daemon=True).start()
     for device in site:
         for log in device.logs.values():
