@@ -57,10 +57,11 @@ def kept(judge, words, out, errors, surroundings=None):
     return (process.returncode, *(text and text.decode() for text in texts))
 
 
-def ended_at_each_call(judge, words, devices, shown, counts_of_logs):
-    """Runs that are ended before each call on files in turn: what was counted is in the file. Each log logs so many before."""
+def ended_at_calls(judge, words, devices, shown, counts_of_logs, step):
+    """Runs that are ended before a call on files, so many further each time: what was counted is in the file. Each log logs so
+    many before."""
     counted = 0
-    for call in range(1, 400):
+    for call in range(1, 400, step):
         for log in [log for device in devices for log in device.logs.values()]:
             log.log(chance.choice(counts_of_logs))
         had, screen = items(words[0]), Terminal()
@@ -72,7 +73,7 @@ def ended_at_each_call(judge, words, devices, shown, counts_of_logs):
         judge.judge(f"counted before call {call}", words[0], devices)
         if status != -signal.SIGKILL:
             break
-    judge.is_right("calls are counted", status == 0 and call > 20 and counted > 100, (status, call, counted))
+    judge.is_right("calls are counted", status == 0 and call > 20 and counted > 100 // step, (status, call, counted))
     return f"{counted} counts in runs that were ended at {call} calls"
 
 
@@ -118,7 +119,7 @@ def of_three(judge):
                     for device, count in zip(devices, logged) for number in (1, 2, 3))
     judge.same("the lines that stay", re.sub(rf"(?:{SITE.pattern})+\r\x1b\[K", "", text), lines)
     judge.judge("of three devices", words[0], devices, True)
-    return ended_at_each_call(judge, words, devices, SITE, (1, 1, 1, 50))
+    return ended_at_calls(judge, words, devices, SITE, (1, 1, 1, 50), 9)
 
 
 def terminals(judge, _runs):
@@ -140,5 +141,5 @@ def terminals(judge, _runs):
         line = said(device, 3 if out_is_one else 0, 0, "caught up, next 1238")
         want = (0, line, "") if out_is_one else (0, "", line)
         judge.same(name, (status, half.text(), (errors if out_is_one else out) or ""), want)
-    ended = ended_at_each_call(judge, words, [device], SHOWN, (200,))
+    ended = ended_at_calls(judge, words, [device], SHOWN, (200,), 1)
     return f"{ended}, of three devices {of_three(judge)}"
