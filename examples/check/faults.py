@@ -413,9 +413,17 @@ def sockets_refused(program, at):
     """A socket that can't be had, bound or set; sends and receives that fail once, or each time."""
     asked = (program, ["rp", at, "8", "123", "77", "--timeout=200"])
     whole = b'"plant"\n'
-    for call in ("socket", "bind", "setsockopt"):
+
+    def unset(call, ended):
+        # The second one asks for room for what comes at once: it goes on without.
+        if call == 2:
+            ended.must(0, whole, b"")
+        else:
+            no_socket(call, ended)
+
+    for call, judge in (("socket", no_socket), ("bind", no_socket), ("setsockopt", unset)):
         for many in (1, EVERY):
-            each(no_socket, *asked, CALL=call, MANY=many, ERROR=errno.EPERM)
+            each(judge, *asked, CALL=call, MANY=many, ERROR=errno.EPERM)
     for call, lost in (("sendto", unsent_to(at)), ("recvfrom", lost_at(at))):
         # Asked again after a failure; after as many as there are asks, lost.
         for many in (1, 2, 3):
