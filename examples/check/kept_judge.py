@@ -143,10 +143,12 @@ def wrong_word(device, number, word, all_of_it):
     return None
 
 
-def first_behind(epochs, epoch):
-    """The number of the first record of the epochs behind one."""
+def goes_on_behind(epochs, epoch, last):
+    """Whether the epochs behind one begin where a gap up to `last` ends, or with a gap that has what lies there: the log may
+    have dropped it before it was asked for once more."""
     behind = min((at for at in epochs if at > epoch), default=None)
-    return next((number for number, last, _ in epochs.get(behind, ()) if last is None), None)
+    first, end, _ = epochs[behind][0] if behind is not None else (None, None, None)
+    return first == last % LAST + 1 or end is not None and first <= last % LAST + 1 <= end + 1
 
 
 def wrong_of(log, epochs, all_of_it):
@@ -155,9 +157,9 @@ def wrong_of(log, epochs, all_of_it):
     for epoch in sorted(epochs):
         rows, before, end, was_either = epochs[epoch], life, next_number, either
         # A gap goes on into the next epoch, where numbers come round. Behind another one at the end of an epoch nobody
-        # could tell whether the log went on or began anew: it goes up to the first record of the next epoch.
+        # could tell whether the log went on or began anew: it goes up to what the next epoch has.
         either = rows[-1][1] not in (None, LAST) or rows[-1][1] == LAST and epoch + 1 not in epochs
-        if either and first_behind(epochs, epoch) != rows[-1][1] % LAST + 1:
+        if either and not goes_on_behind(epochs, epoch, rows[-1][1]):
             return f"epoch {epoch} ends with a gap"
         next_number = rows[0][0]
         if either:
@@ -167,7 +169,13 @@ def wrong_of(log, epochs, all_of_it):
             if not rows:
                 continue
         # Where the first record is from: a life after that of the epoch before.
-        first, _, texts = next(row for row in rows if row[1] is None)
+        first, _, texts = next((row for row in rows if row[1] is None), (None, None, None))
+        if first is None:
+            # Where the log had nothing before, a gap is all that there is up to the next epoch.
+            if len(rows) > 1 or not goes_on_behind(epochs, epoch, rows[0][1]):
+                return f"epoch {epoch} has gaps alone: {rows[:3]}"
+            either = True
+            continue
         # Without a gap nobody could tell either, where the record behind the last one of that epoch is dated before it.
         goes_on = was_either or first == end
         found = [at for at, logged in enumerate(log.lives) if at > life - goes_on and logged.get(first) == texts]
