@@ -80,6 +80,10 @@ def main():
     for device in site[:: 10]:
         device.answers = 0
     ran("nothing new, a tenth silent", file, "--timeout=1000", "--retries=1")
+    ran("nothing new, a tenth silent, nothing said of waits", file)
+    for device in site[::2]:
+        device.answers = 0
+    ran("nothing new, a half silent, nothing said of waits", file)
 
 
 if __name__ == "__main__":

@@ -4,7 +4,7 @@ import time
 
 from kept_apart import in_file, line, unheard, untold
 from kept_devices import Device, Log, serve
-from kept_more import fed
+from kept_more import Unlisting, fed
 
 WAIT = 0.1
 
@@ -113,12 +113,62 @@ def lists_at_once(judge, _runs):
         judge.is_right(f"{name}: in the time of few", took < 5.6, took)
         judge.judge(name, file, site, True)
         judge.same(f"{name}: as alone", rows_by(file), rows_by(alone))
-    # One that gives no answer, or none any more, is waited for beside the others, and once more alone.
+    # One that gives no answer, or none any more, is waited for beside the others, and not once more.
     for answers in (0, 3):
         site[5].answers, asked = answers, site[5].asked
         told, took = timed(judge, f"{judge.room}/silent {answers}.db", *words, "--timeout=400", "--retries=1")
         judge.same(f"silent behind {answers}", told, (2, untold(site[5], "lost") + lines_of(site[:5] + site[6:], 4),
                                                        f"{site[5].address}: no answer came from {site[5].address}\n"))
-        judge.same(f"silent behind {answers}: how often it is asked", site[5].asked - asked, answers + 2 + 2)
-        judge.is_right(f"silent behind {answers}: in two waits", took < 6, took)
+        judge.same(f"silent behind {answers}: how often it is asked", site[5].asked - asked, answers + 2)
+        judge.is_right(f"silent behind {answers}: in the time of few", took < 6, took)
     site[5].answers = None
+
+
+def another_answer(ack):
+    """The answer to another question: its invoke ID is another."""
+    return ack[:1] + bytes([ack[1] ^ 1]) + ack[2:]
+
+
+def silent_lists(judge, _runs):
+    """Devices that give no answer when they are asked for their lists cost one wait together, beside those that do."""
+    dead = [Device([Log(1, 50)], f"dead{n}") for n in range(3)]
+    alive = [Unlisting([Log(1, 50), Log(2, 50)], f"alive{n}") for n in range(2)]
+    site = [dead[0], alive[0], *dead[1:], alive[1]]
+    serve(site)
+    for device in site:
+        for log in device.logs.values():
+            log.log(4)
+    for device in dead:
+        device.answers = 0
+    words = [device.address for device in site]
+    once, lost = "".join(untold(device, "lost") for device in dead), [f"{device.address}: no answer came from {device.address}\n" for device in dead]
+    file = f"{judge.room}/a.db"
+    # Each is asked twice, and waited for a second each time.
+    told, took = timed(judge, file, *words, "--timeout=1000", "--retries=1")
+    judge.same("they are lost, and the others kept", told, (2, once + lines_of(alive, 4), "".join(lost)))
+    judge.same("each is asked as often as once", [device.asked for device in dead], [2] * 3)
+    judge.is_right("in one wait", 1.9 < took < 2 * 1.7, took)
+    judge.judge("beside silent devices", file, alive, True)
+    # One that is named twice has two lines, and isn't asked more often for that.
+    quick = ("--timeout=200", "--retries=1")
+    told, _ = timed(judge, file, *words, words[0], *quick)
+    judge.same("named twice", told, (2, once + untold(dead[0], "lost") + lines_of(alive, 0), "".join([*lost, lost[0]])))
+    judge.same("named twice: how often each is asked", [device.asked for device in dead], [4] * 3)
+    # From one something came in the answer's place: it is asked alone, and that is told.
+    asked, alive[0].list_ack = alive[0].asked, another_answer
+    came = f"{words[1]}: no answer in 2 tries; 2 datagrams came that don't answer, the last from {words[1]}: an answer, but not to this question\n"
+    told, _ = timed(judge, f"{judge.room}/b.db", *words, *quick)
+    judge.same("something came", told, (2, untold(dead[0], "lost") + untold(alive[0], "lost") + untold(dead[1], "lost") + untold(dead[2], "lost")
+                                        + lines_of(alive[1:], 4), lost[0] + came + lost[1] + lost[2]))
+    judge.same("something came: how often each is asked", [alive[0].asked - asked, *(device.asked for device in dead)], [4, 6, 6, 6])
+    # One has told its list whose last log's name has no answer.
+    alive[0].list_ack, alive[0].mute = lambda ack: ack, {2}
+    told, _ = timed(judge, f"{judge.room}/c.db", *words, *quick)
+    judge.same("the last name has no answer", told, (2, once + lines_of(alive, 4), "".join(lost)))
+    judge.same("the last name has no answer: which logs have none", in_file(f"{judge.room}/c.db", "SELECT address, instance FROM logs WHERE name IS NULL"), [(words[1], 2)])
+    # They are back.
+    alive[0].mute = set()
+    for device in dead:
+        device.answers = None
+    judge.same("they are back", judge.ran(["keep", file, *words]), (0, "".join(lines_of([device], 4 * (device in dead)) for device in site), ""))
+    judge.judge("they are back", file, site, True)

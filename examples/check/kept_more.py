@@ -129,7 +129,7 @@ def unlisted(judge, _runs):
         asked = silent.asked
         words = ["keep", file, others[0].address, silent.address, others[1].address, *quick]
         judge.same(name, judge.ran(words), (status, untold(silent, end) + kept(1), told))
-        judge.same(f"{name}: it is asked beside the others, and alone where it is lost", silent.asked - asked, 4 if status == 2 else 1)
+        judge.same(f"{name}: it is asked beside the others, and not once more", silent.asked - asked, 2 if status == 2 else 1)
         judge.judge(name, file, others, True)
         judge.same(f"{name}, and it has no log", in_file(file, f"SELECT count(*) FROM logs WHERE address = '{silent.address}'"), [(0,)])
         judge.same(f"{name}, alone", judge.ran(["keep", f"{judge.room}/{name} alone.db", silent.address, *quick]), (status, untold(silent, end), told))

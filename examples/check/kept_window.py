@@ -71,7 +71,7 @@ def window(judge, _runs):
         # Each device's first question goes out before anybody's second. Those that are open together may come in any order;
         # were the first devices asked again as they answer, the last ones would come behind all of theirs.
         judge.same(f"{most} at once: each once before any twice", len(set(counted.order[: len(site) + most - 1])), len(site))
-    # The first device is silent: with one question at a time the others wait for it once, and not for its repeats.
+    # The first device is silent: with one question at a time the others wait for it a quarter of a second, and not for its repeats.
     site[0].is_gone = True
     counted.begin()
     start = time.monotonic()
@@ -84,5 +84,14 @@ def window(judge, _runs):
     # It is asked at 0, 1, 2 and 3 seconds. Eleven first questions of 50 ms lie between the second and the third time.
     judge.is_right("its repeats hold nobody up", all(any(counted.order[at] is device for at in others if at < repeats[2]) for device in site[1:]), counted.order)
     judge.is_right("one wait for it", took < 9, took)
+    judge.is_right("it gives its place up before it is asked again", others[0] < repeats[1], counted.order)
+    # Beside its waits the others are asked all that they are asked, what their logs begin with too: some 0.6 seconds of 4.
+    counted.begin()
+    status, out, _ = judge.ran(["keep", file, "--timeout=2000", "--retries=1"])
+    judge.same("one is silent, the others beside", (status, out), (2, lines_of(site, site[0])))
+    others = [at for at, device in enumerate(counted.order) if device is not site[0]]
+    repeats = [at for at, device in enumerate(counted.order) if device is site[0]]
+    judge.same("it is asked twice", len(repeats), 2)
+    judge.is_right("the others are asked while it is waited for", max(others) < repeats[1], counted.order)
     site[0].is_gone = False
     judge.same("it is back", judge.ran(["keep", file]), (0, lines_of(site), ""))

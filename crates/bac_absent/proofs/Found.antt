@@ -1,51 +1,89 @@
 -- What is done of devices that are called, from one function to the next.
-use Rattle.std.specs.Prelude.{IfErr}
-use Rattle.std.proofs.Common.{◌≡◌, ◌⊎◌, inl, inr, ◌≤◌, List, [], ◌∷◌, length, map, get_or, Result, Ok, Err, ap, sym, subst, arith}
+use Rattle.std.specs.Prelude.{IfErr, IfOk, OnOk}
+use Rattle.std.proofs.Common.{◌≡◌, ◌∙◌, ◌⊎◌, ℕ, Bool, map, inl, inr, ◌≤◌, Option, List, [], ◌∷◌, length, get_or, Result, Ok, Err, ap, sym, subst, arith}
 use Rattle.std.specs.List.{Contains}
 use denote.Ref.{Bor}
 use Rattle.bac_asked.specs.Faults.{WantsMemory}
 use Rattle.bac_asked.specs.declared.end.NotDone.{NotDone}
 use Rattle.bac_asked.specs.declared.wanted.Wanted.{Wanted}
+use Rattle.bac_hearing.specs.Beside.{EndsHearing}
 use Rattle.bac_hearing.specs.Hearing.{Pace}
+use Rattle.bac_jobs.specs.declared.job.Ending.{Ending}
 use Rattle.bac_ports.specs.Sockets.{SocketRules}
 use Rattle.bac_questions.specs.Faults.{EndsAsking, IsUnopened}
+use Rattle.bac_questions.specs.declared.said.Said.{Said}
 use Rattle.bac_questions.specs.declared.whose.Heard.{Heard}
-use Rattle.bac_absent.specs.Each.{AreCalled, CallsAll, CallsMany, EndsCalling}
+use Rattle.bac_absent.specs.Calling.{BeginsToCall, CallsMany, EndsCall, EndsCalling, IsBegunIf, seen}
+use Rattle.bac_absent.specs.Each.{AreCalled, PutsEach, late_of}
+use Rattle.bac_absent.specs.Identifying.{IsPlayed, identifying_of}
+use Rattle.bac_absent.specs.declared.calling.Calling.{Calling}
+use Rattle.bac_absent.specs.declared.identifying.Identifying.{Identifying}
+use Rattle.bac_absent.proofs.Together.{hears_last}
+
+many_of : {S P C : Type 0} (rules : SocketRules S P) (pace : Pace C) (refs : List (Bor Wanted)) (first : Bor Wanted) (heard now : List Heard)
+    (before after : S) (begun : Option (Calling P C)) → 2 ≤ length refs → first ≡ get_or refs 0 first →
+    IsBegunIf rules pace first.now.asking.asked (seen refs) heard before now after begun → CallsMany rules pace (seen refs) heard before now begun after
+many_of rules pace [] first heard now before after begun two is all = absurd (omega (arith, two))
+many_of rules pace (x ∷ []) first heard now before after begun two is all = absurd (omega (arith, two))
+many_of rules pace (x ∷ y ∷ more) first heard now before after begun two is all =
+    subst (λ (r : Bor Wanted). IsBegunIf rules pace r.now.asking.asked (seen (x ∷ y ∷ more)) heard before now after begun) is all
 
 -- two or more are called as the first is asked
-pub many : {S P C : Type 0} (rules : SocketRules S P) (clock : Pace C) (refs : List (Bor Wanted)) (first : Bor Wanted) (heard now : List Heard)
-    (before after : S) → 2 ≤ length refs → first ≡ get_or refs 0 first →
-    CallsAll rules clock first.now.asking.asked (map (λ (r : Bor Wanted). r.now) refs) heard before now after →
-    CallsMany rules clock (map (λ (r : Bor Wanted). r.now) refs) heard before now after
-many rules clock [] first heard now before after two is all = absurd (omega (arith, two))
-many rules clock (x ∷ []) first heard now before after two is all = absurd (omega (arith, two))
-many rules clock (x ∷ y ∷ more) first heard now before after two is all =
-    subst (λ (r : Bor Wanted). CallsAll rules clock r.now.asking.asked (map (λ (r : Bor Wanted). r.now) (x ∷ y ∷ more)) heard before now after) is all
+pub many : {S P C : Type 0} (rules : SocketRules S P) (pace : Pace C) (refs shown : List (Bor Wanted)) (first : Bor Wanted) (heard now : List Heard)
+    (before after : S) (result : Result (Option (Calling P C)) NotDone) → shown ≡ refs → 2 ≤ length shown → first ≡ get_or shown 0 first →
+    IfOk result (IsBegunIf rules pace first.now.asking.asked (seen refs) heard before now after) →
+    IfOk result (λ begun. CallsMany rules pace (seen refs) heard before now begun after)
+many rules pace refs shown first heard now before after (Ok begun) same two is all =
+    many_of rules pace refs first heard now before after begun (subst (λ (l : List (Bor Wanted)). 2 ≤ length l) same two)
+    (subst (λ (l : List (Bor Wanted)). first ≡ get_or l 0 first) same is) all
+many rules pace refs shown first heard now before after (Err why) same two is all = tt
+
+-- those are called that come to none before
+pub calls : {S P C : Type 0} (rules : SocketRules S P) (pace : Pace C) (all called : List Wanted) (shown heard now : List Heard) (before after : S)
+    (result : Result (Option (Calling P C)) NotDone) → shown ≡ heard → AreCalled shown all called →
+    IfOk result (λ begun. CallsMany rules pace called heard before now begun after) →
+    IfOk result (λ begun. BeginsToCall rules pace all heard before now begun after)
+calls rules pace all called shown heard now before after (Ok begun) same are many = (called, subst (λ (h : List Heard). AreCalled h all called) same are, many)
+calls rules pace all called shown heard now before after (Err why) same are many = tt
+
+-- those that were waited for are told of
+pub ended : {S P C A : Type 0} (rules : SocketRules S P) (reads : C → ℕ → C → Type 0) (calling : Calling P C) (asked shown : List (Bor Wanted)) (waiting : List Bool)
+    (jobs : List Identifying) (ends : List (Ending Said)) (heard now : List Heard) (before after : S) (result : Result A NotDone) →
+    asked ≡ calling.called.items → shown ≡ calling.called.items → waiting ≡ calling.waiting.items → jobs ≡ map (λ (one : Bor Wanted). identifying_of one.now) asked →
+    EndsHearing rules reads IsPlayed jobs calling.desks.port calling.desks.clock calling.desks.table before ends after →
+    OnOk result (PutsEach (seen shown) (late_of waiting ends) heard now) → OnOk result (EndsCall rules reads calling heard before now after)
+ended rules reads calling asked shown waiting jobs ends heard now before after (Ok done) same are waits these hears puts =
+    inl (
+      ends,
+      hears_last rules reads calling.called.items jobs calling.desks.port calling.desks.clock calling.desks.table before after ends
+          (these ∙ ap (map (λ (one : Bor Wanted). identifying_of one.now)) same) hears,
+      subst (λ (l : List (Bor Wanted)). PutsEach (seen l) (late_of calling.waiting.items ends) heard now) are
+          (subst (λ (w : List Bool). PutsEach (seen shown) (late_of w ends) heard now) waits puts),
+    )
+ended rules reads calling asked shown waiting jobs ends heard now before after (Err why) same are waits these hears puts = tt
 
 -- the first is one of them
-first_of : (refs : List (Bor Wanted)) (first : Bor Wanted) → 2 ≤ length refs → first ≡ get_or refs 0 first → Contains (map (λ (r : Bor Wanted). r.now) refs) first.now
+first_of : (refs : List (Bor Wanted)) (first : Bor Wanted) → 2 ≤ length refs → first ≡ get_or refs 0 first → Contains (seen refs) first.now
 first_of [] first two is = absurd (omega (arith, two))
 first_of (x ∷ more) first two is = (0, (omega arith), ap (λ (r : Bor Wanted). r.now) (sym is))
 
 -- why the first isn't asked is why one of them isn't
-pub fails : {S P A : Type 0} (rules : SocketRules S P) (refs : List (Bor Wanted)) (first : Bor Wanted) (before after : S) (result : Result A NotDone) (why : NotDone) →
-    result ≡ Err why → 2 ≤ length refs → first ≡ get_or refs 0 first → EndsAsking rules first.now.asking.asked before after why →
-    IfErr result (λ fault. WantsMemory fault ⊎ ((one : Wanted) × Contains (map (λ (r : Bor Wanted). r.now) refs) one × IsUnopened rules one.asking.asked before after fault))
-fails {A = A} rules refs first before after result why same two is ends =
-    subst
-    (λ (r : Result A NotDone). IfErr r (λ fault. WantsMemory fault ⊎ ((one : Wanted) × Contains (map (λ (r : Bor Wanted). r.now) refs) one × IsUnopened rules one.asking.asked before after fault)))
-    (sym same) (elim ends [
-      | inl memory ↦ inl memory
-      | inr unopened ↦ inr (first.now, first_of refs first two is, unopened)
-    ])
+pub fails : {S P A : Type 0} (rules : SocketRules S P) (refs shown : List (Bor Wanted)) (first : Bor Wanted) (before after : S) (result : Result A NotDone) →
+    shown ≡ refs → 2 ≤ length shown → first ≡ get_or shown 0 first → IfErr result (EndsAsking rules first.now.asking.asked before after) →
+    IfErr result (λ fault. WantsMemory fault ⊎ ((one : Wanted) × Contains (seen refs) one × IsUnopened rules one.asking.asked before after fault))
+fails rules refs shown first before after (Ok a) same two is ends = tt
+fails rules refs shown first before after (Err fault) same two is ends = elim ends [
+  | inl memory ↦ inl memory
+  | inr unopened ↦ inr (first.now, subst (λ (l : List (Bor Wanted)). Contains (seen l) first.now) same (first_of shown first two is), unopened)
+]
 
 -- nor are they called
-pub ends : {S P A : Type 0} (rules : SocketRules S P) (all called : List Wanted) (seen heard : List Heard) (before after : S) (result : Result A NotDone) →
-    seen ≡ heard → AreCalled seen all called →
+pub ends : {S P A : Type 0} (rules : SocketRules S P) (all called : List Wanted) (shown heard : List Heard) (before after : S) (result : Result A NotDone) →
+    shown ≡ heard → AreCalled shown all called →
     IfErr result (λ fault. WantsMemory fault ⊎ ((one : Wanted) × Contains called one × IsUnopened rules one.asking.asked before after fault)) →
     IfErr result (EndsCalling rules all heard before after)
-ends rules all called seen heard before after (Ok a) same are why = tt
-ends rules all called seen heard before after (Err fault) same are why = elim why [
+ends rules all called shown heard before after (Ok a) same are why = tt
+ends rules all called shown heard before after (Err fault) same are why = elim why [
   | inl memory ↦ inl memory
   | inr this ↦ (let among = (subst (λ (h : List Heard). AreCalled h all called) same are).among this.0 this.1 in inr (this.0, among.0, among.1, this.2))
 ]

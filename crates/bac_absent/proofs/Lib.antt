@@ -1,5 +1,6 @@
 pub mod Called
 pub mod Put
+pub mod Late
 pub mod Saying
 pub mod Taken
 pub mod Together

@@ -1,5 +1,5 @@
 -- What devices said comes behind what others said, device by device.
-use Rattle.std.proofs.Common.{◌≡◌, ℕ, List, [], ◌∷◌, ◌++◌, length, length-append, map, take, get_or, ◌<◌, ◌+◌, Bool, true, false, Result, Ok, Err, refl, ap, sym, subst, ◌∙◌, arith}
+use Rattle.std.proofs.Common.{◌≡◌, ℕ, Option, List, [], ◌∷◌, ◌++◌, length, length-append, map, take, get_or, ◌<◌, ◌+◌, Bool, true, false, Result, Ok, Err, refl, ap, sym, subst, ◌∙◌, arith}
 use Rattle.std.proofs.lemmas.List.{length-map, length-take-le, map_push, take_more}
 use Rattle.std.specs.Prelude.{MatchBool, OnOk}
 use denote.Ref.{Bor}
@@ -9,14 +9,14 @@ use Rattle.bac_jobs.specs.declared.job.Ending.{Ending}
 use Rattle.bac_questions.specs.Silent.{is_same_log}
 use Rattle.bac_questions.specs.declared.said.Said.{Said}
 use Rattle.bac_questions.specs.declared.whose.Heard.{Heard}
-use Rattle.bac_absent.specs.Each.{PutsEach, PutsHeard, PutsOne, is_left_out}
+use Rattle.bac_absent.specs.Each.{PutsEach, PutsHeard, PutsIf, PutsOne, is_left_out}
 
 -- of devices, and of one more behind them
-joined : (called : List Wanted) (endings : List (Ending Said)) (old mid new : List Heard) (one : Wanted) (ending : Ending Said) →
-    length endings ≡ length called → PutsEach called endings old mid → PutsOne one ending mid new →
+joined : (called : List Wanted) (endings : List (Option (Ending Said))) (old mid new : List Heard) (one : Wanted) (ending : Option (Ending Said)) →
+    length endings ≡ length called → PutsEach called endings old mid → PutsIf one ending mid new →
     PutsEach (called ++ one ∷ []) (endings ++ ending ∷ []) old new
 joined [] [] old mid new one ending same before put =
-    (new, subst (λ (h : List Heard). PutsOne one ending h new) before put, refl)
+    (new, subst (λ (h : List Heard). PutsIf one ending h new) before put, refl)
 joined [] (e ∷ endings) old mid new one ending same before put = absurd (omega (arith, same))
 joined (w ∷ called) [] old mid new one ending same before put = absurd (omega (arith, same))
 joined (w ∷ called) (e ∷ endings) old mid new one ending same (half, first, rest) put =
@@ -26,8 +26,9 @@ abbrev now_of : Bor Wanted → Wanted
 now_of r = r.now
 
 -- at the next place of those that are seen through references
-pub next_place : (refs : List (Bor Wanted)) (endings : List (Ending Said)) (at : ℕ) (one : Bor Wanted) (ending : Ending Said) (old mid new : List Heard) →
-    at < length refs → at ≡ length endings → one ≡ get_or refs at one → PutsEach (map now_of (take at refs)) endings old mid → PutsOne one.now ending mid new →
+pub next_place : (refs : List (Bor Wanted)) (endings : List (Option (Ending Said))) (at : ℕ) (one : Bor Wanted) (ending : Option (Ending Said))
+    (old mid new : List Heard) → at < length refs → at ≡ length endings → one ≡ get_or refs at one → PutsEach (map now_of (take at refs)) endings old mid →
+    PutsIf one.now ending mid new →
     PutsEach (map now_of (take (at + 1) refs)) (endings ++ ending ∷ []) old new
 next_place refs endings at one ending old mid new lt same is before put =
     let seen : map now_of (take (at + 1) refs) ≡ map now_of (take at refs) ++ one.now ∷ [] =

@@ -1,2 +1,3 @@
 pub mod Identifying
 pub mod Each
+pub mod Calling

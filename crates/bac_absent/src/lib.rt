@@ -2,8 +2,10 @@
 //! waits in all, and those that are gone one.
 #![tactic(auto)]
 
+mod calling;
 mod each;
 mod identifying;
+mod putting;
 
-pub use each::hear_each;
+pub use calling::{Calling, begin_calls, end_calls};
 pub use identifying::Identifying;

@@ -1,5 +1,5 @@
 -- What logs are opened by, log by log, and a run behind what is asked ahead.
-use Rattle.std.proofs.Common.{◌≡◌, ◌≢◌, ◌≤◌, ◌<◌, ◌∙◌, ◌++◌, [], ◌∷◌, ℕ, Bool, true, false, length, get_or, arith, List, Option, None, Some, is_some, option_to_list, inl, inr, refl, subst, sym, ap, append-nil, append_assoc}
+use Rattle.std.proofs.Common.{◌≡◌, ◌≢◌, ◌≤◌, ◌<◌, ◌∙◌, ◌++◌, [], ◌∷◌, ℕ, true, false, length, get_or, arith, List, Option, None, Some, is_some, option_to_list, inl, inr, refl, subst, sym, ap, append-nil, append_assoc}
 use Rattle.sqlite.specs.Effect.{Database}
 use Rattle.sqlite.specs.State.{State, Survives}
 use Rattle.sqlite.proofs.StateLemmas.{survives_then}
@@ -11,13 +11,14 @@ use Rattle.bac_asked.specs.Faults.{FailsOnRows}
 use Rattle.bac_asked.specs.declared.end.Ending.{Ending}
 use Rattle.bac_asked.specs.declared.end.NotDone.{NotDone}
 use Rattle.bac_asked.specs.declared.wanted.Wanted.{Wanted}
+use Rattle.bac_hearing.specs.Hearing.{Pace}
 use Rattle.bac_ports.specs.Sockets.{SocketRules}
 use Rattle.bac_questions.specs.Silent.{IsAmong}
 use Rattle.bac_questions.specs.Whose.{HeardAs, IsOnRecord, hindrance}
 use Rattle.bac_questions.specs.declared.said.Said.{Said}
 use Rattle.bac_questions.specs.declared.whose.Heard.{Heard}
 use Rattle.bac_recall.specs.declared.conversations.Conversation.{Conversation}
-use Rattle.bac_fetch.specs.Ahead.{AreOpenings, AtOnce, EndsOpening, IsLeftOut, IsOpenedBy, IsOpeningIf, IsOpeningOf, OpensAhead, batches_of}
+use Rattle.bac_fetch.specs.Ahead.{AreOpenings, EndsOpening, IsLeftOut, IsOpenedBy, IsOpeningIf, IsOpeningOf, OpensAhead, batches_of}
 
 -- what is no reason is none
 pub no_reason : (why : Option Ending) → is_some why ≡ false → why ≡ None
@@ -78,55 +79,31 @@ more_opened old mid same known heard batches all all' before after opening wante
     (more old.trees known heard batches all before wanted opening are
     (subst (λ (d : Database). IsOpeningIf d.trees known heard batches wanted opening) same it)))
 
-module _ {S P C : Type 0} (rules : SocketRules S P) (by : AtOnce S C) (trees : Trees) (known : List Log) (heard : List Heard) where
-  -- nothing is asked ahead
-  pub none_ahead : (all : List Wanted) (called : Bool) (before after : S) → called ≡ false → after ≡ before → OpensAhead rules by trees known heard all called before after
-  none_ahead [] called before after none same = same
-  none_ahead (first ∷ more) true before after none same = absurd (cc)
-  none_ahead (first ∷ more) false before after none same = same
-
-  -- nor of no logs
-  pub no_logs : (all : List Wanted) (called : Bool) (before after : S) → length all < 1 → after ≡ before → OpensAhead rules by trees known heard all called before after
-  no_logs [] called before after none same = same
-  no_logs (first ∷ more) called before after none same = absurd (omega (arith, none))
+module _ {S P C : Type 0} (rules : SocketRules S P) (pace : Pace C) (trees : Trees) (known : List Log) (heard : List Heard) where
+  -- nothing is asked for no logs
+  pub no_logs : (all : List Wanted) (came : List Conversation) (before after : S) → length all < 1 → came ≡ [] → after ≡ before
+      → OpensAhead rules pace trees known heard all before came after
+  no_logs [] came before after none is same = (is, same)
+  no_logs (first ∷ more) came before after none is same = absurd (omega (arith, none))
 
   -- as the first of them is asked for
-  pub ahead_by : (all : List Wanted) (called : Bool) (first : Wanted) (openings : List Opening) (came : List Conversation) (before mid after : S)
-      → called ≡ true → 1 ≤ length all → first ≡ get_or all 0 first → AreOpenings trees known heard (batches_of (length all)) all openings
-      → AsksAhead rules by.pace first.asking.asked openings before came mid → by.holds mid came after → OpensAhead rules by trees known heard all called before after
-  ahead_by [] called first openings came before mid after is some at are asks holds = absurd (omega (arith, some))
-  ahead_by (one ∷ rest) false first openings came before mid after is some at are asks holds = absurd (cc)
-  ahead_by (one ∷ rest) true first openings came before mid after is some at are asks holds =
-      (openings, are, came, mid, subst (λ (w : Wanted). AsksAhead rules by.pace w.asking.asked openings before came mid) at asks, holds)
+  pub ahead_by : (all : List Wanted) (first : Wanted) (openings : List Opening) (came : List Conversation) (before after : S)
+      → 1 ≤ length all → first ≡ get_or all 0 first → AreOpenings trees known heard (batches_of (length all)) all openings
+      → AsksAhead rules pace first.asking.asked openings before came after → OpensAhead rules pace trees known heard all before came after
+  ahead_by [] first openings came before after some at are asks = absurd (omega (arith, some))
+  ahead_by (one ∷ rest) first openings came before after some at are asks =
+      (openings, are, subst (λ (w : Wanted). AsksAhead rules pace w.asking.asked openings before came after) at asks)
 
   -- the rows aren't read, or memory is wanting
-  pub ends_on_rows : (all : List Wanted) (called : Bool) (before after : S) (fault : NotDone) → called ≡ true → 1 ≤ length all → FailsOnRows fault
-      → EndsOpening rules by trees known heard all called before after fault
-  ends_on_rows [] called before after fault is some fails = absurd (omega (arith, some))
-  ends_on_rows (one ∷ rest) false before after fault is some fails = absurd (cc)
-  ends_on_rows (one ∷ rest) true before after fault is some fails = inl fails
+  pub ends_on_rows : (all : List Wanted) (before after : S) (fault : NotDone) → 1 ≤ length all → FailsOnRows fault
+      → EndsOpening rules pace trees known heard all before after fault
+  ends_on_rows [] before after fault some fails = absurd (omega (arith, some))
+  ends_on_rows (one ∷ rest) before after fault some fails = inl fails
 
   -- or the rounds end so
-  pub ends_ahead : (all : List Wanted) (called : Bool) (first : Wanted) (openings : List Opening) (before after : S) (fault : NotDone)
-      → called ≡ true → 1 ≤ length all → first ≡ get_or all 0 first → AreOpenings trees known heard (batches_of (length all)) all openings
-      → EndsAhead rules by.pace first.asking.asked openings before after fault → EndsOpening rules by trees known heard all called before after fault
-  ends_ahead [] called first openings before after fault is some at are ends = absurd (omega (arith, some))
-  ends_ahead (one ∷ rest) false first openings before after fault is some at are ends = absurd (cc)
-  ends_ahead (one ∷ rest) true first openings before after fault is some at are ends =
-      inr (openings, are, subst (λ (w : Wanted). EndsAhead rules by.pace w.asking.asked openings before after fault) at ends)
-
--- what is asked ahead by the same logs and what was heard
-pub opens_as : {S P C : Type 0} (rules : SocketRules S P) (by : AtOnce S C) (trees : Trees) (known : List Log) (heard heard' : List Heard) (all all' : List Wanted)
-    (called : Bool) (before after : S) → heard ≡ heard' → all ≡ all' → OpensAhead rules by trees known heard all called before after
-    → OpensAhead rules by trees known heard' all' called before after
-opens_as rules by trees known heard heard' all all' called before after same is it =
-    subst (λ (h : List Heard). OpensAhead rules by trees known h all' called before after) same
-    (subst (λ (l : List Wanted). OpensAhead rules by trees known heard l called before after) is it)
-
--- so that ends a run
-pub ends_as : {S P C : Type 0} (rules : SocketRules S P) (by : AtOnce S C) (trees : Trees) (known : List Log) (heard heard' : List Heard) (all all' : List Wanted)
-    (called : Bool) (before after : S) (fault : NotDone) → heard ≡ heard' → all ≡ all' → EndsOpening rules by trees known heard all called before after fault
-    → EndsOpening rules by trees known heard' all' called before after fault
-ends_as rules by trees known heard heard' all all' called before after fault same is it =
-    subst (λ (h : List Heard). EndsOpening rules by trees known h all' called before after fault) same
-    (subst (λ (l : List Wanted). EndsOpening rules by trees known heard l called before after fault) is it)
+  pub ends_ahead : (all : List Wanted) (first : Wanted) (openings : List Opening) (before after : S) (fault : NotDone)
+      → 1 ≤ length all → first ≡ get_or all 0 first → AreOpenings trees known heard (batches_of (length all)) all openings
+      → EndsAhead rules pace first.asking.asked openings before after fault → EndsOpening rules pace trees known heard all before after fault
+  ends_ahead [] first openings before after fault some at are ends = absurd (omega (arith, some))
+  ends_ahead (one ∷ rest) first openings before after fault some at are ends =
+      inr (openings, are, subst (λ (w : Wanted). EndsAhead rules pace w.asking.asked openings before after fault) at ends)

@@ -16,7 +16,7 @@ use Rattle.bac_asked.specs.Faults.{EndsLog}
 use Rattle.bac_fetch.specs.declared.keeping.Chosen.{Chosen}
 use Rattle.bac_fetch.specs.declared.unlisted.Unlisted.{Unlisted}
 use Rattle.bac_fetch.specs.declared.keeping.Chosen.TheVariants.{Kept, Sought}
-use Rattle.bac_absent.specs.Each.{EndsCalling}
+use Rattle.bac_absent.specs.Calling.{EndsCalling}
 use Rattle.bac_asked.specs.declared.wanted.Wanted.{Wanted}
 use Rattle.bac_questions.specs.declared.whose.Heard.{Heard}
 use Rattle.bac_apdu.specs.Npdu.{Place}

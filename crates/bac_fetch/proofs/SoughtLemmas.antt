@@ -1,20 +1,25 @@
 -- Logs of one device after the other.
-use Rattle.std.proofs.Common.{◌≡◌, ◌∙◌, inl, inr, max, List, [], ◌∷◌, ◌++◌, Ok, Err, ap, append_assoc, arith, not, refl, subst, sym}
+use Rattle.std.proofs.Common.{◌≡◌, ◌∙◌, inl, inr, max, Bool, true, false, List, [], ◌∷◌, ◌++◌, Ok, Err, ap, append_assoc, arith, not, refl, subst, sym}
 use Rattle.std.proofs.lemmas.List.Elements.{All-append, All-filter, All-same}
 use Rattle.std.specs.List.{All}
+use Rattle.std.specs.Prelude.{MatchBool}
+use Rattle.bac_archive.specs.declared.trend_logs.Source.{Source}
 use Rattle.bac_asked.specs.Wanted.{AsksItsSource}
 use Rattle.bac_asked.specs.declared.end.NotDone.{NotDone}
 use Rattle.bac_asked.specs.declared.end.NotDone.TheVariants.{Asking}
 use Rattle.bac_asked.specs.declared.fault.Fault.TheVariants.{Memory, Unopened}
 use Rattle.bac_asked.specs.declared.log_words.Asking.{Asking as AskedFor}
 use Rattle.bac_asked.specs.declared.wanted.Wanted.{Wanted}
-use Rattle.bac_fetch.specs.Chosen.{AddSought, AreOfDevice, is_wanted, new_of, told_by, unlisted_by, untold_in, with_new}
+use Rattle.bac_fetch.specs.Chosen.{AddSought, AreOfDevice, IsUntold, is_wanted, new_of, told_by, unlisted_by, untold_in, with_new}
 use Rattle.bac_fetch.specs.Faults.{EndsAt, EndsDevice}
+use Rattle.bac_fetch.specs.Ahead.{AtOnce}
+use Rattle.bac_fetch.specs.Listed.{HoldsLists, was_silent}
 use Rattle.bac_fetch.specs.Unlisted.{unlisted_line, unlisted_lines, unlisted_status}
 use Rattle.bac_fetch.specs.declared.sought.Listing.{Listing}
 use Rattle.bac_fetch.specs.declared.sought.Sought.{Sought}
 use Rattle.bac_fetch.specs.declared.unlisted.Unlisted.{Unlisted}
 use Rattle.bac_link.specs.declared.exchanges.ExchangeFault.{ExchangeFault}
+use Rattle.bac_link.specs.declared.exchanges.ExchangeFault.TheVariants.{Lost}
 use Rattle.bac_ports.specs.Sockets.{SocketRules}
 use Rattle.bac_questions.specs.Faults.{EndsFinding}
 use Rattle.bac_questions.specs.Unfound.{FailsOver}
@@ -50,23 +55,40 @@ module _ {S P : Type 0} (rules : SocketRules S P) where
       let one : came ≡ why = cc in
       subst (λ (w : ExchangeFault). FailsOver rules like before w after) one fails
 
+  -- it isn't asked, since it is silent
+  pub silent_so : (silent : List Source) (like : Wanted) (before : S) → was_silent silent like.source ≡ true → IsUntold rules silent like before Lost before
+  silent_so silent like before is = subst (λ (b : Bool). MatchBool b ((Lost ≡ Lost) × (before ≡ before)) (FailsOver rules like.asking before Lost before)) (sym is) (refl, refl)
+
+  -- it isn't silent, and was asked
+  pub untold_so : (silent : List Source) (like : Wanted) (before after : S) (why : ExchangeFault) → was_silent silent like.source ≡ false → FailsOver rules like.asking before why after
+      → IsUntold rules silent like before why after
+  untold_so silent like before after why is fails =
+      subst (λ (b : Bool). MatchBool b ((why ≡ Lost) × (after ≡ before)) (FailsOver rules like.asking before why after)) (sym is) fails
+
   -- one device more
-  pub add_one : (seen : List Sought) (one : Sought) (first : List Wanted) (told : List Unlisted) (before : S) (known : List Wanted) (silent : List Unlisted) (mid : S)
+  pub add_one : (gone : List Source) (seen : List Sought) (one : Sought) (first : List Wanted) (told : List Unlisted) (before : S) (known : List Wanted) (silent : List Unlisted) (mid : S)
       (listing : Listing) (all : List Wanted) (after : S)
-      → AddSought rules seen first told before known silent mid → AreOfDevice rules one mid listing after → all ≡ with_new known (told_by listing)
-      → AddSought rules (seen ++ one ∷ []) first told before all (silent ++ unlisted_by listing) after
-  add_one [] one first told before known silent mid listing all after (same, none, still) of is = (
+      → AddSought rules gone seen first told before known silent mid → AreOfDevice rules gone one mid listing after → all ≡ with_new known (told_by listing)
+      → AddSought rules gone (seen ++ one ∷ []) first told before all (silent ++ unlisted_by listing) after
+  add_one gone [] one first told before known silent mid listing all after (same, none, still) of is = (
     listing,
     after,
-    subst (λ (s : S). AreOfDevice rules one s listing after) still of,
+    subst (λ (s : S). AreOfDevice rules gone one s listing after) still of,
     (is ∙ ap (λ (l : List Wanted). with_new l (told_by listing)) same, ap (λ (l : List Unlisted). l ++ unlisted_by listing) none, refl),
   )
-  add_one (x ∷ seen) one first told before known silent mid listing all after (l, between, of_x, more) of is =
-      (l, between, of_x, add_one seen one (with_new first (told_by l)) (told ++ unlisted_by l) between known silent mid listing all after more of is)
+  add_one gone (x ∷ seen) one first told before known silent mid listing all after (l, between, of_x, more) of is =
+      (l, between, of_x, add_one gone seen one (with_new first (told_by l)) (told ++ unlisted_by l) between known silent mid listing all after more of is)
 
   -- the next device isn't asked
-  pub ends_at : (seen : List Sought) (one : Sought) (rest : List Sought) (first : List Wanted) (told : List Unlisted) (before : S) (known : List Wanted) (silent : List Unlisted) (mid after : S) (fault : NotDone)
-      → AddSought rules seen first told before known silent mid → EndsDevice rules one mid after fault → EndsAt rules (seen ++ one ∷ rest) before after fault
-  ends_at [] one rest first told before known silent mid after fault (same, none, still) it = inl (subst (λ (s : S). EndsDevice rules one s after fault) still it)
-  ends_at (x ∷ seen) one rest first told before known silent mid after fault (l, between, of_x, more) it =
-      inr (l, between, of_x, ends_at seen one rest (with_new first (told_by l)) (told ++ unlisted_by l) between known silent mid after fault more it)
+  pub ends_at : (gone : List Source) (seen : List Sought) (one : Sought) (rest : List Sought) (first : List Wanted) (told : List Unlisted) (before : S) (known : List Wanted) (silent : List Unlisted)
+      (mid after : S) (fault : NotDone)
+      → AddSought rules gone seen first told before known silent mid → EndsDevice rules gone one mid after fault → EndsAt rules gone (seen ++ one ∷ rest) before after fault
+  ends_at gone [] one rest first told before known silent mid after fault (same, none, still) it = inl (subst (λ (s : S). EndsDevice rules gone one s after fault) still it)
+  ends_at gone (x ∷ seen) one rest first told before known silent mid after fault (l, between, of_x, more) it =
+      inr (l, between, of_x, ends_at gone seen one rest (with_new first (told_by l)) (told ++ unlisted_by l) between known silent mid after fault more it)
+
+-- the devices that are asked ahead, and those that are silent, are seen as slices
+pub holds_so : {S P C : Type 0} (rules : SocketRules S P) (by : AtOnce S C) (sought seen : List Sought) (silent those : List Source) (before held : S) → seen ≡ sought → those ≡ silent
+    → HoldsLists rules by seen before silent held → HoldsLists rules by sought before those held
+holds_so rules by sought seen silent those before held is same it =
+    subst (λ (l : List Sought). HoldsLists rules by l before those held) is (subst (λ (l : List Source). HoldsLists rules by seen before l held) (sym same) it)

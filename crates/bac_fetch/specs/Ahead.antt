@@ -1,5 +1,5 @@
--- What a run over logs asks first is asked ahead, of many devices at once. Read `OpensAhead`.
-use Rattle.std.specs.Prelude.{◌≡◌, ◌≢◌, ◌⊎◌, ℕ, ◌/◌, max, min, Bool, true, false, List, [], ◌∷◌, ◌++◌, Option, None}
+-- What a run over logs asks first is asked ahead, of many devices at once. Read `OpensAhead`; `CallsAhead` says when.
+use Rattle.std.specs.Prelude.{◌≡◌, ◌≢◌, ◌⊎◌, ℕ, ◌/◌, max, min, true, false, List, [], ◌∷◌, ◌++◌, Option, None}
 use Rattle.std.specs.Prelude.{Some, length, option_to_list}
 use Rattle.sqlite_trees.specs.Tree.{Trees}
 use Rattle.bac_ahead.specs.Rounds.{AsksAhead, EndsAhead}
@@ -93,22 +93,20 @@ AreOpenings trees known heard batches (wanted ∷ more) openings =
     × (rest : List Opening) × AreOpenings trees known heard batches more rest
     × (openings ≡ option_to_list one ++ rest)
 
--- Where many devices were called, each log that isn't left out was opened, in rounds, as the first one is asked for,
--- and the sockets hold what came, and nothing else. Else nothing is asked ahead.
-abbrev pub OpensAhead : {S P C : Type 0} → SocketRules S P → AtOnce S C → Trees → List Log → List Heard → List Wanted →
-    (called : Bool) → S → S → Type 0
-OpensAhead {S = S} rules by trees known heard (first ∷ more) true before after =
+-- Each of these logs that isn't left out was opened, in rounds, as the first one is asked for, and this came.
+abbrev pub OpensAhead : {S P C : Type 0} → SocketRules S P → Pace C → Trees → List Log → List Heard → List Wanted → S →
+    List Conversation → S → Type 0
+OpensAhead rules pace trees known heard (first ∷ more) before came after =
     (openings : List Opening)
     × AreOpenings trees known heard (batches_of (length (first ∷ more))) (first ∷ more) openings
-    × (came : List Conversation) × (mid : S)
-    × AsksAhead rules by.pace first.asking.asked openings before came mid × by.holds mid came after
-OpensAhead rules by trees known heard all called before after = after ≡ before
+    × AsksAhead rules pace first.asking.asked openings before came after
+OpensAhead rules pace trees known heard [] before came after = (came ≡ []) × (after ≡ before)
 
 -- That ends the run: the rows aren't read, memory is wanting, or no socket was opened for a round.
-abbrev pub EndsOpening : {S P C : Type 0} → SocketRules S P → AtOnce S C → Trees → List Log → List Heard →
-    List Wanted → (called : Bool) → S → S → NotDone → Type 0
-EndsOpening rules by trees known heard (first ∷ more) true before after fault = FailsOnRows fault
+abbrev pub EndsOpening : {S P C : Type 0} → SocketRules S P → Pace C → Trees → List Log → List Heard → List Wanted →
+    S → S → NotDone → Type 0
+EndsOpening rules pace trees known heard (first ∷ more) before after fault = FailsOnRows fault
     ⊎ ((openings : List Opening)
     × AreOpenings trees known heard (batches_of (length (first ∷ more))) (first ∷ more) openings
-    × EndsAhead rules by.pace first.asking.asked openings before after fault)
-EndsOpening rules by trees known heard all called before after fault = ⊥
+    × EndsAhead rules pace first.asking.asked openings before after fault)
+EndsOpening rules pace trees known heard [] before after fault = ⊥

@@ -29,8 +29,8 @@ use Rattle.bac_fetch.specs.declared.unlisted.Unlisted.{Unlisted}
 use Rattle.bac_questions.specs.declared.said.Identity.TheVariants.{Told}
 use Rattle.bac_questions.specs.declared.said.Said.{Said}
 use Rattle.bac_questions.specs.declared.whose.Heard.{Heard}
-use Rattle.bac_absent.specs.Each.{EndsCalling, HearsEach, SaysMany}
-use Rattle.bac_fetch.specs.Ahead.{AtOnce, EndsOpening, OpensAhead}
+use Rattle.bac_fetch.specs.Ahead.{AtOnce}
+use Rattle.bac_fetch.specs.Called.{CallsAhead, EndsCallsAhead}
 use Rattle.bac_ports.specs.Sockets.{SocketRules}
 use Rattle.bac_ports.specs.declared.port.OpenFault.{OpenFault}
 use Rattle.bac_words.specs.declared.job.Asked.{Asked}
@@ -95,20 +95,21 @@ pub record EndsAll {S P : Type 0} (rules : SocketRules S P) (known : List Log) (
   pub kept : KeepsAll rules known heard now front before half old mid ends
   pub cause : EndsNext rules known now wanted mid.trees half after fault
 
--- They aren't asked for ahead; or they were, and the run ends at one of them.
-abbrev pub EndsOpened : {S P C : Type 0} → SocketRules S P → AtOnce S C → List Log → List Heard → List Wanted
-    → (called : Bool) → S → S → Database → NotDone → Type 0
-EndsOpened {S = S} rules by known heard all called before after old fault =
-    EndsOpening rules by old.trees known heard all called before after fault
-    ⊎ ((held : S) × OpensAhead rules by old.trees known heard all called before held
-    × EndsAll rules known heard all held after old fault)
+-- Devices aren't called, nor their logs asked for ahead; or they were, and the run ends at one of the logs.
+abbrev pub EndsCalled : {S P C : Type 0} → SocketRules S P → AtOnce S C → List Log → List Heard → List Wanted → S → S →
+    Database → NotDone → Type 0
+EndsCalled {S = S} rules by known heard all before after old fault =
+    EndsCallsAhead rules by old.trees known all heard before after fault
+    ⊎ ((found : List Heard) × (called : Bool) × (held : S)
+    × CallsAhead rules by old.trees known all heard before found called held
+    × EndsAll rules known found all held after old fault)
 
 -- so it does in an archive that has these logs, or they aren't told
-abbrev pub EndsSettled : {S P C : Type 0} → SocketRules S P → AtOnce S C → List Heard → List Wanted → (called : Bool)
-    → S → S → Database → NotDone → Type 0
-EndsSettled rules by heard all called before after old fault = FailsOnRows fault
+abbrev pub EndsSettled : {S P C : Type 0} → SocketRules S P → AtOnce S C → List Heard → List Wanted → S → S → Database
+    → NotDone → Type 0
+EndsSettled rules by heard all before after old fault = FailsOnRows fault
     ⊎ ((known : List Log) × AreLogs old.trees known
-    × EndsOpened rules by known heard all called before after old fault)
+    × EndsCalled rules by known heard all before after old fault)
 
 -- ---- before them, whether a device has moved
 
@@ -145,19 +146,12 @@ FailsToSettle rules given all before after old fault = FailsOnRows fault
 
 -- ---- the whole run
 
--- Devices aren't called at once; or they were, and from where that left the sockets the run ends at one of the logs.
-abbrev pub EndsCalled : {S P C : Type 0} → SocketRules S P → AtOnce S C → List Heard → List Wanted → S → S
-    → Database → NotDone → Type 0
-EndsCalled {S = S} rules by heard all before after old fault = EndsCalling rules all heard before after fault
-    ⊎ ((found : List Heard) × (half : S) × HearsEach rules by.pace all heard before found half
-    × (called : Bool) × SaysMany all heard called × EndsSettled rules by found all called half after old fault)
-
 -- A run over logs ends: where the device of the first one stands isn't settled; or it was, and the run ends behind it.
 abbrev pub EndsLogs : {S P C : Type 0} → SocketRules S P → AtOnce S C → Given → List Wanted → S → S → Database
     → NotDone → Type 0
 EndsLogs {S = S} rules by given all before after old fault = FailsToSettle rules given all before after old fault
     ⊎ ((known : List Log) × AreLogs old.trees known × (heard : List Heard) × (half : S) × (mid : Database)
-    × Settles rules known all before heard half old mid × EndsCalled rules by heard all half after mid fault)
+    × Settles rules known all before heard half old mid × EndsSettled rules by heard all half after mid fault)
 
 -- A run over the logs that were chosen ends: they aren't found; or they were, and from where that left the sockets the
 -- run over them ends.

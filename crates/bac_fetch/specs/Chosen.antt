@@ -1,5 +1,6 @@
 -- Which logs are fetched.
-use Rattle.std.specs.Prelude.{◌≡◌, ◌≢◌, ℕ, Bool, List, [], ◌∷◌, ◌++◌, map, not, Option, Result, Ok, Err}
+use Rattle.std.specs.Prelude.{◌≡◌, ◌≢◌, ℕ, Bool, false, MatchBool, if◌then◌else◌, List, [], ◌∷◌, ◌++◌, map, not}
+use Rattle.std.specs.Prelude.{Option, Result, Ok, Err}
 use Rattle.std.specs.Io.KnownBytes.{Appends}
 use Rattle.std.specs.List.{All, filter, list_any}
 use Rattle.sqlite_trees.specs.Tree.{Trees}
@@ -12,7 +13,7 @@ use Rattle.bac_asked.specs.declared.end.NotDone.TheVariants.{Asking}
 use Rattle.bac_asked.specs.declared.fault.Fault.TheVariants.{Exchange}
 use Rattle.bac_asked.specs.declared.wanted.Wanted.{Wanted}
 use Rattle.bac_fetch.specs.Ahead.{AtOnce}
-use Rattle.bac_fetch.specs.Listed.{HoldsLists}
+use Rattle.bac_fetch.specs.Listed.{HoldsLists, was_silent}
 use Rattle.bac_fetch.specs.Unlisted.{unlisted_lines, unlisted_status}
 use Rattle.bac_fetch.specs.declared.keeping.Chosen.{Chosen}
 use Rattle.bac_fetch.specs.declared.keeping.Chosen.TheVariants as chosen
@@ -22,7 +23,10 @@ use Rattle.bac_fetch.specs.declared.sought.Listing.TheVariants.{Told, Untold}
 use Rattle.bac_fetch.specs.declared.sought.Sought.{Sought}
 use Rattle.bac_fetch.specs.declared.sought.Sought.TheVariants.{Device, Named}
 use Rattle.bac_fetch.specs.declared.unlisted.Unlisted.{Unlisted}
+use Rattle.bac_heeding.specs.Notes.{nothing}
+use Rattle.bac_heeding.specs.declared.notes.Passed.{Passed}
 use Rattle.bac_link.specs.declared.exchanges.ExchangeFault.{ExchangeFault}
+use Rattle.bac_link.specs.declared.exchanges.ExchangeFault.TheVariants.{Lost}
 use Rattle.bac_ports.specs.Sockets.{SocketRules}
 use Rattle.bac_questions.specs.Discovered.{FindsOver}
 use Rattle.bac_questions.specs.Silent.{is_same_log}
@@ -75,26 +79,35 @@ abbrev pub unlisted_by : Listing → List Unlisted
 unlisted_by (Told all) = []
 unlisted_by (Untold device) = device ∷ []
 
--- The logs of one device: those that it tells, each asked as this one is; or it was asked for its list and didn't tell
--- it, for this reason; or those that are named, for which no socket is opened.
-abbrev pub AreOfDevice : {S P : Type 0} → SocketRules S P → Sought → S → Listing → S → Type 0
-AreOfDevice rules (Device like) before (Told found) after = FindsOver rules like.asking before found.items after
-    × All (λ wanted. IsAskedAs like.asking wanted.asking) found.items
-AreOfDevice rules (Device like) before (Untold device) after =
-    (device.like ≡ like) × FailsOver rules like.asking before device.why after
-AreOfDevice rules (Named named) before (Told found) after = (found ≡ named) × (after ≡ before)
-AreOfDevice rules (Named named) before (Untold device) after = ⊥
+-- A device didn't tell its list, for this reason: it is one of those that are silent, and isn't asked again, so that it
+-- is lost, and no socket is opened; or it was asked.
+abbrev pub IsUntold : {S P : Type 0} → SocketRules S P → (silent : List Source) → Wanted → S → ExchangeFault → S
+    → Type 0
+IsUntold rules silent like before why after = MatchBool (was_silent silent like.source)
+    ((why ≡ Lost) × (after ≡ before))
+    (FailsOver rules like.asking before why after)
 
--- the logs of these devices come to others in their order, each once, and those that didn't tell theirs to other such
--- devices; and what was asked for that
-abbrev pub AddSought : {S P : Type 0} → SocketRules S P → List Sought → List Wanted → List Unlisted → S → List Wanted
-    → List Unlisted → S → Type 0
-AddSought rules [] before untold sockets all unlisted after =
+-- The logs of one device: those that it tells, each asked as this one is; or it didn't tell its list, for this reason;
+-- or those that are named, for which no socket is opened.
+abbrev pub AreOfDevice : {S P : Type 0} → SocketRules S P → (silent : List Source) → Sought → S → Listing → S → Type 0
+AreOfDevice rules silent (Device like) before (Told found) after = (was_silent silent like.source ≡ false)
+    × FindsOver rules like.asking before found.items after
+    × All (λ wanted. IsAskedAs like.asking wanted.asking) found.items
+AreOfDevice rules silent (Device like) before (Untold device) after =
+    (device.like ≡ like) × IsUntold rules silent like before device.why after
+AreOfDevice rules silent (Named named) before (Told found) after = (found ≡ named) × (after ≡ before)
+AreOfDevice rules silent (Named named) before (Untold device) after = ⊥
+
+-- the logs of these devices, of which these are silent, come to others in their order, each once, and those that didn't
+-- tell theirs to other such devices; and what was asked for that
+abbrev pub AddSought : {S P : Type 0} → SocketRules S P → (silent : List Source) → List Sought → List Wanted
+    → List Unlisted → S → List Wanted → List Unlisted → S → Type 0
+AddSought rules silent [] before untold sockets all unlisted after =
     (all ≡ before) × (unlisted ≡ untold) × (after ≡ sockets)
-AddSought {S = S} rules (one ∷ more) before untold sockets all unlisted after =
-    (listing : Listing) × (between : S) × AreOfDevice rules one sockets listing between
-    × AddSought rules more (with_new before (told_by listing)) (untold ++ unlisted_by listing) between all unlisted
-    after
+AddSought {S = S} rules silent (one ∷ more) before untold sockets all unlisted after =
+    (listing : Listing) × (between : S) × AreOfDevice rules silent one sockets listing between
+    × AddSought rules silent more (with_new before (told_by listing)) (untold ++ unlisted_by listing) between all
+    unlisted after
 
 -- which logs are fetched, and what was asked for that: of a file at least one, for which no socket is opened; or those
 -- of devices, some of which may not have told theirs, one after the other from where their lists were asked for ahead
@@ -102,15 +115,15 @@ abbrev pub AreFound : {S P C : Type 0} → SocketRules S P → AtOnce S C → Ch
     → Type 0
 AreFound rules by chosen.Kept before all unlisted after = (all ≢ []) × (unlisted ≡ []) × (after ≡ before)
 AreFound {S = S} rules by (chosen.Sought sought) before all unlisted after =
-    (held : S) × HoldsLists rules by sought.items before held
-    × AddSought rules sought.items [] [] held all unlisted after
+    (silent : List Source) × (held : S) × HoldsLists rules by sought.items before silent held
+    × AddSought rules silent sought.items [] [] held all unlisted after
 
 -- The logs of these devices were found so; each device that didn't tell its logs has its line, and their greatest
 -- status is known.
-abbrev pub FindsEach : {S P : Type 0} → SocketRules S P → List Sought → S → Option (List ℕ) → Found → S
-    → Option (List ℕ) → Type 0
-FindsEach rules sought before out found after out_after =
-    (unlisted : List Unlisted) × AddSought rules sought [] [] before found.all.items unlisted after
+abbrev pub FindsEach : {S P : Type 0} → SocketRules S P → (silent : List Source) → List Sought → S → Option (List ℕ)
+    → Found → S → Option (List ℕ) → Type 0
+FindsEach rules silent sought before out found after out_after =
+    (unlisted : List Unlisted) × AddSought rules silent sought [] [] before found.all.items unlisted after
     × Appends out out_after (unlisted_lines unlisted) × (found.status ≡ unlisted_status unlisted)
 
 -- so it is of those that were chosen
@@ -126,3 +139,8 @@ Finds rules by chosen before out found after out_after =
 abbrev pub untold_in : NotDone → Result ExchangeFault NotDone
 untold_in (Asking (Exchange address why)) = Ok why
 untold_in fault = Err fault
+
+-- what is told beside a device's line: what passed at the socket that was closed last, or nothing of one that is silent
+abbrev pub passed_since : List Source → Passed → Listing → Passed
+passed_since silent passed (Told all) = passed
+passed_since silent passed (Untold device) = if was_silent silent device.like.source then nothing else passed

@@ -1,9 +1,10 @@
 -- What ends a run over logs before each of them was told, and what can be seen of it.
-use Rattle.std.specs.Prelude.{◌≡◌, ◌⊎◌, ◌≤◌, ℕ, List, [], ◌∷◌}
+use Rattle.std.specs.Prelude.{◌≡◌, ◌⊎◌, ◌≤◌, ℕ, false, List, [], ◌∷◌}
 use Rattle.std.specs.List.{Contains}
 use Rattle.sqlite_trees.specs.Tree.{Trees}
 use Rattle.bac_archive.specs.Logs.{AreLogs}
 use Rattle.bac_archive.specs.declared.trend_logs.Log.{Log}
+use Rattle.bac_archive.specs.declared.trend_logs.Source.{Source}
 use Rattle.bac_asked.specs.AsLog.{Given}
 use Rattle.bac_asked.specs.Faults.{EndsLog, IsOfDatabase, RefusesLine, WantsMemory}
 use Rattle.bac_asked.specs.Wanted.{HasNoAddress}
@@ -13,7 +14,7 @@ use Rattle.bac_asked.specs.declared.fault.Fault.TheVariants.{BadValue}
 use Rattle.bac_asked.specs.declared.fault.FileFault.TheVariants.{Address, NoLogs}
 use Rattle.bac_asked.specs.declared.wanted.Wanted.{Wanted}
 use Rattle.bac_fetch.specs.Ahead.{AtOnce}
-use Rattle.bac_fetch.specs.Listed.{EndsHolding, HoldsLists}
+use Rattle.bac_fetch.specs.Listed.{EndsHolding, HoldsLists, was_silent}
 use Rattle.bac_fetch.specs.Chosen.{AreFound, AreOfDevice, not_stopped}
 use Rattle.bac_fetch.specs.declared.keeping.Chosen.{Chosen}
 use Rattle.bac_fetch.specs.declared.keeping.Chosen.TheVariants as chosen
@@ -62,28 +63,32 @@ abbrev pub EndsKept : Type 0 → Type 0 → NotDone → Type 0
 EndsKept none no_address fault = WantsMemory fault ⊎ (IsOfDatabase fault
     ⊎ (((fault ≡ File NoLogs) × none) ⊎ ((fault ≡ File Address) × no_address)))
 
--- one device isn't asked for its logs: memory is wanting, or no socket was opened for it
-abbrev pub EndsDevice : {S P : Type 0} → SocketRules S P → Sought → S → S → NotDone → Type 0
-EndsDevice rules (Device like) before after fault = EndsAsking rules like.asking.asked before after fault
-EndsDevice rules (Named all) before after fault = ⊥
+-- one device isn't asked for its logs, and isn't one of those that are silent: memory is wanting, or no socket was
+-- opened for it
+abbrev pub EndsDevice : {S P : Type 0} → SocketRules S P → (silent : List Source) → Sought → S → S → NotDone → Type 0
+EndsDevice rules silent (Device like) before after fault =
+    (was_silent silent like.source ≡ false) × EndsAsking rules like.asking.asked before after fault
+EndsDevice rules silent (Named all) before after fault = ⊥
 
 -- so it is of one of these devices; of those before it the logs were found, or they weren't told
-abbrev pub EndsAt : {S P : Type 0} → SocketRules S P → List Sought → S → S → NotDone → Type 0
-EndsAt rules [] before after fault = ⊥
-EndsAt {S = S} rules (one ∷ more) before after fault = EndsDevice rules one before after fault
-    ⊎ ((listing : Listing) × (between : S) × AreOfDevice rules one before listing between
-    × EndsAt rules more between after fault)
+abbrev pub EndsAt : {S P : Type 0} → SocketRules S P → (silent : List Source) → List Sought → S → S → NotDone → Type 0
+EndsAt rules silent [] before after fault = ⊥
+EndsAt {S = S} rules silent (one ∷ more) before after fault = EndsDevice rules silent one before after fault
+    ⊎ ((listing : Listing) × (between : S) × AreOfDevice rules silent one before listing between
+    × EndsAt rules silent more between after fault)
 
 -- the logs of these devices aren't found: memory is wanting; the output refused the line of one that didn't tell its
 -- own; or one of them isn't asked
-abbrev pub EndsSought : {S P : Type 0} → SocketRules S P → List Sought → S → S → NotDone → Type 0
-EndsSought rules sought before after fault =
-    (WantsMemory fault ⊎ RefusesLine fault) ⊎ EndsAt rules sought before after fault
+abbrev pub EndsSought : {S P : Type 0} → SocketRules S P → (silent : List Source) → List Sought → S → S → NotDone
+    → Type 0
+EndsSought rules silent sought before after fault =
+    (WantsMemory fault ⊎ RefusesLine fault) ⊎ EndsAt rules silent sought before after fault
 
 -- they aren't asked for their lists ahead; or they were, and from there on their logs aren't found
 abbrev pub EndsListed : {S P C : Type 0} → SocketRules S P → AtOnce S C → List Sought → S → S → NotDone → Type 0
 EndsListed {S = S} rules by sought before after fault = EndsHolding rules sought before after fault
-    ⊎ ((held : S) × HoldsLists rules by sought before held × EndsSought rules sought held after fault)
+    ⊎ ((silent : List Source) × (held : S) × HoldsLists rules by sought before silent held
+    × EndsSought rules silent sought held after fault)
 
 -- The logs that were chosen aren't found: those of a file aren't named, for which no socket is opened; or those of
 -- devices aren't found.

@@ -34,11 +34,11 @@ use Rattle.bac_asked.specs.declared.end.Ending.TheVariants.{NotAsked, Walk}
 use Rattle.bac_begin.specs.declared.starting.Start.{Start}
 use Rattle.bac_asked.specs.declared.log_words.Asking.{Asking}
 use Rattle.bac_asked.specs.declared.wanted.Wanted.{Wanted}
-use Rattle.bac_absent.specs.Each.{HearsEach, SaysMany}
 use Rattle.bac_ahead.specs.Ahead.{trend_log}
 use Rattle.bac_ports.specs.Sockets.{SocketRules, UsesSocket, link_over, own_address, socket_asks}
 use Rattle.bac_ports.specs.declared.udp_link.UdpLink.{UdpLink}
-use Rattle.bac_fetch.specs.Ahead.{AtOnce, OpensAhead}
+use Rattle.bac_fetch.specs.Ahead.{AtOnce}
+use Rattle.bac_fetch.specs.Called.{CallsAhead}
 use Rattle.bac_fetch.specs.Fetched.{ComesFrom}
 use Rattle.bac_fetch.specs.Heeds.{end_told, heeding, heeds}
 use Rattle.bac_fetch.specs.declared.heeding.Heeding.{Heeding}
@@ -225,19 +225,26 @@ KeepsAll {S = S} rules known heard last (wanted ∷ more) before after old new (
     × KeepsAll rules known now last more half after mid new ends
 KeepsAll rules known heard last _ before after old new _ = ⊥
 
--- So are they in a run: first it is found whether the device of the first one has moved; then what devices say of
--- themselves, all at once; then their logs are asked for ahead; and then they are kept in an archive that has these
--- logs, with what was heard of devices.
+-- So are they where devices are asked at once before what they say of themselves, and for their logs ahead.
+abbrev pub KeepsCalled : {S P C : Type 0} → SocketRules S P → AtOnce S C → List Log → List Heard → List Wanted → S → S
+    → Database → Database → List End → Type 0
+KeepsCalled {S = S} rules by known heard all before after old new ends =
+    (found : List Heard) × (called : Bool) × (held : S)
+    × CallsAhead rules by old.trees known all heard before found called held
+    × (last : List Heard) × KeepsAll rules known found last all held after old new ends
+
+-- the same in an archive that has these logs
+abbrev pub KeepsSettled : {S P C : Type 0} → SocketRules S P → AtOnce S C → List Heard → List Wanted → S → S → Database
+    → Database → List End → Type 0
+KeepsSettled rules by heard all before after old new ends =
+    (known : List Log) × AreLogs old.trees known × KeepsCalled rules by known heard all before after old new ends
+
+-- So it is in a run: first it is found whether the device of the first log has moved, and then they are kept.
 abbrev pub KeepsLogs : {S P C : Type 0} → SocketRules S P → AtOnce S C → List Wanted → S → S → Database → Database
     → List End → Type 0
 KeepsLogs {S = S} rules by all before after old new ends =
     (known : List Log) × AreLogs old.trees known × (heard : List Heard) × (half : S) × (mid : Database)
-    × Settles rules known all before heard half old mid
-    × (found : List Heard) × (told : S) × HearsEach rules by.pace all heard half found told
-    × (now : List Log) × AreLogs mid.trees now
-    × (called : Bool) × SaysMany all heard called
-    × (held : S) × OpensAhead rules by mid.trees now found all called told held
-    × (last : List Heard) × KeepsAll rules now found last all held after mid new ends
+    × Settles rules known all before heard half old mid × KeepsSettled rules by heard all half after mid new ends
 
 -- the lines of logs, in their order
 abbrev pub lines_of : List Wanted → List End → List ℕ

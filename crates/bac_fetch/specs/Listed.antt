@@ -1,5 +1,7 @@
 -- The Object_Lists of devices are asked for ahead, of many at once. Read `HoldsLists`.
-use Rattle.std.specs.Prelude.{◌⊎◌, List, [], fold}
+use Rattle.std.specs.Prelude.{◌⊎◌, Bool, List, [], fold}
+use Rattle.std.specs.List.{list_any}
+use Rattle.bac_archive.specs.declared.trend_logs.Source.{Source}
 use Rattle.bac_asked.specs.Faults.{WantsMemory}
 use Rattle.bac_asked.specs.declared.end.NotDone.{NotDone}
 use Rattle.bac_asked.specs.declared.wanted.Wanted.{Wanted}
@@ -8,6 +10,7 @@ use Rattle.bac_fetch.specs.declared.sought.Sought.{Sought}
 use Rattle.bac_fetch.specs.declared.sought.Sought.TheVariants.{Device, Named}
 use Rattle.bac_listing.specs.Devices.{EndsLists, ListsAhead, with_device}
 use Rattle.bac_ports.specs.Sockets.{SocketRules}
+use Rattle.bac_questions.specs.Silent.{is_same_device}
 use Rattle.bac_recall.specs.declared.conversations.Conversation.{Conversation}
 
 -- a device whose logs are those of its list comes behind others, unless it is one of them
@@ -20,10 +23,15 @@ abbrev pub devices_of : List Sought → List Wanted
 devices_of sought = fold with_sought [] sought
 
 -- These devices are asked for their lists ahead, if they are two or more, and the sockets hold what came, and nothing
--- else.
-abbrev pub HoldsLists : {S P C : Type 0} → SocketRules S P → AtOnce S C → List Sought → S → S → Type 0
-HoldsLists {S = S} rules by sought before held = (came : List Conversation) × (mid : S)
-    × ListsAhead rules by.pace (devices_of sought) before came mid × by.holds mid came held
+-- else; and these of them are silent, by what came.
+abbrev pub HoldsLists : {S P C : Type 0} → SocketRules S P → AtOnce S C → List Sought → S → (silent : List Source) → S
+    → Type 0
+HoldsLists {S = S} rules by sought before silent held = (came : List Conversation) × (mid : S)
+    × ListsAhead rules by.pace (devices_of sought) before came silent mid × by.holds mid came held
+
+-- a device is one of those that are silent
+abbrev pub was_silent : List Source → Source → Bool
+was_silent silent source = list_any (λ (one : Source). is_same_device one source) silent
 
 -- They aren't asked: memory is wanting, or no socket was opened as the first of them says.
 abbrev pub EndsHolding : {S P : Type 0} → SocketRules S P → List Sought → S → S → NotDone → Type 0

@@ -8,7 +8,8 @@ ghost use Rattle.bac_archive.specs.Schema.{OverArchive};
 ghost use Rattle.bac_asked.specs.Faults.{EndsLog, FailsOnRows, WantsMemory};
 ghost use Rattle.bac_ports.specs.Sockets.{socket_rules};
 ghost use Rattle.bac_fetch.specs.Ahead.{AreOpenings, EndsOpening, IsOpenedBy, IsOpeningIf};
-ghost use Rattle.bac_fetch.specs.Ahead.{OpensAhead, StandsIf, at_once, batches_of, id_of};
+ghost use Rattle.bac_fetch.specs.Ahead.{OpensAhead, StandsIf, batches_of, id_of};
+ghost use Rattle.bac_hearing.specs.Hearing.{paced};
 ghost use Rattle.bac_fetch.specs.Ahead.{word_beside};
 ghost use Rattle.bac_fetch.specs.Faults.{EndsRun};
 
@@ -19,8 +20,9 @@ use bac_asked::{Asking, Fault, NotDone, Wanted};
 use bac_begin::{Stand, stand_of};
 use bac_desks::Clock;
 use bac_keep::Word;
+use bac_ports::Sockets;
 use bac_questions::{Heard, Said, copy_source, device_on_record, heard_of, hindrance, log_among};
-use bac_recall::Recalls;
+use bac_recall::Conversation;
 use sqlite::{Alter, Connection};
 use std::alloc::Global;
 
@@ -201,9 +203,8 @@ fn openings_of<A: Alter>(
     Ok(openings)
 }
 
-/// Asks ahead for the logs that a run fetches, if many devices were called: what comes is held by
-/// the sockets, and answers the run where it asks the same.
-pub(crate) fn open_ahead<S: Recalls, C: Clock + Copy, A: Alter>(
+/// Asks ahead for those of the logs that a run fetches whose devices were heard of: what came.
+pub(crate) fn open_ahead<S: Sockets, C: Clock + Copy, A: Alter>(
     sockets: &mut S,
     conn: &mut Connection<A>,
     alloc: Global,
@@ -212,14 +213,13 @@ pub(crate) fn open_ahead<S: Recalls, C: Clock + Copy, A: Alter>(
     known: &[Log],
     heard: &[Heard],
     all: &[Wanted],
-    called: bool,
-) -> Result<(), NotDone>
+) -> Result<Vec<Conversation>, NotDone>
 where
     C: Drop,
     ensures opens { OverArchive (state A.Store conn.old) (state A.Store conn.new)
-        (OnOk result (OpensAhead (socket_rules S.opens S.closes S.Socket.sends S.Socket.receives
-        S.Socket.receives_within) (at_once S.holds C.reads clock window)
-        (state A.Store conn.old).now.trees known.now heard.now all.now called sockets.old
+        (IfOk result (λ came. OpensAhead (socket_rules S.opens S.closes S.Socket.sends
+        S.Socket.receives S.Socket.receives_within) (paced C.reads clock window)
+        (state A.Store conn.old).now.trees known.now heard.now all.now sockets.old came.items
         sockets.new)) }
     ensures same { OverArchive (state A.Store conn.old) (state A.Store conn.new)
         (OnOk result ((state A.Store conn.new).now ≡ (state A.Store conn.old).now)) }
@@ -230,18 +230,12 @@ where
         S.Socket.receives S.Socket.receives_within) ⊥ ⊥ sockets.new) }
     ensures caused { OverArchive (state A.Store conn.old) (state A.Store conn.new)
         (IfErr result (EndsOpening (socket_rules S.opens S.closes S.Socket.sends S.Socket.receives
-        S.Socket.receives_within) (at_once S.holds C.reads clock window)
-        (state A.Store conn.old).now.trees known.now heard.now all.now called sockets.old
-        sockets.new)) }
+        S.Socket.receives_within) (paced C.reads clock window) (state A.Store conn.old).now.trees
+        known.now heard.now all.now sockets.old sockets.new)) }
 {
-    if !called {
-        return Ok(());
-    }
     let [first, ..] = all else {
-        return Ok(());
+        return Ok(Vec::new(alloc));
     };
     let openings = openings_of(alloc, conn, known, heard, all)?;
-    let came = ask_ahead(sockets, alloc, clock, window, &first.asking.asked, openings)?;
-    sockets.hold(came);
-    Ok(())
+    ask_ahead(sockets, alloc, clock, window, &first.asking.asked, openings)
 }

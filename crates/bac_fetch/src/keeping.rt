@@ -7,17 +7,17 @@ ghost use Rattle.sqlite.specs.State.{HasCleanDisk, Survives};
 ghost use Rattle.sqlite.specs.Held.{state};
 ghost use Rattle.bac_archive.specs.Schema.{OverArchive, HasArchive};
 ghost use Rattle.bac_archive.specs.Logs.{AreLogs};
-ghost use Rattle.bac_fetch.specs.Ahead.{OpensAhead, at_once};
+ghost use Rattle.bac_fetch.specs.Ahead.{at_once};
 ghost use Rattle.bac_ports.specs.Sockets.{socket_rules};
 ghost use Rattle.bac_asked.specs.Faults.{WantsMemory, FailsOnRows, EndsLog};
-ghost use Rattle.bac_fetch.specs.Causes.{EndsAll, EndsLogs, EndsOpened, EndsRunOver, EndsSettled};
+ghost use Rattle.bac_fetch.specs.Causes.{EndsCalled, EndsLogs, EndsRunOver, EndsSettled};
 ghost use Rattle.bac_fetch.specs.Causes.{FailsToSettle};
 ghost use Rattle.bac_fetch.specs.Faults.{EndsChosen, EndsKeeping, EndsKept, EndsRun, HasNoInstance};
 ghost use Rattle.bac_fetch.specs.Faults.{HasNone, LacksAddress};
-ghost use Rattle.bac_fetch.specs.Keeps.{AreToldBehind, AreToldBy, KeepsAll, KeepsLogs};
+ghost use Rattle.bac_fetch.specs.Keeps.{AreToldBehind, AreToldBy, KeepsCalled, KeepsLogs};
+ghost use Rattle.bac_fetch.specs.Keeps.{KeepsSettled};
 ghost use Rattle.bac_fetch.specs.Moves.{Settles};
 ghost use Rattle.bac_archive.specs.declared.trend_logs.Log.{Log as LogOf};
-ghost use Rattle.bac_questions.specs.declared.whose.Heard.{Heard as HeardOf};
 ghost use Rattle.bac_fetch.specs.Chosen.{AreFound, AreChosen, AreKeptLogs, AskTheirSources};
 ghost use Rattle.bac_fetch.specs.Chosen.{Finds, not_stopped};
 ghost use Rattle.bac_fetch.specs.declared.unlisted.Unlisted.{Unlisted as UnlistedOf};
@@ -26,11 +26,10 @@ ghost use Rattle.bac_asked.specs.Wanted.{AsksItsSource, HasNoAddress};
 ghost use Rattle.bac_fetch.specs.Stays.{HasAllOf};
 ghost use Rattle.bac_asked.specs.declared.wanted.Wanted.{Wanted as WantedOf};
 
-use crate::ahead::open_ahead;
+use crate::called::call_ahead;
 use crate::grouped::keep_known;
 use crate::moving::settle;
 use crate::sought::{Found, Sought, found_logs};
-use bac_absent::hear_each;
 use bac_archive::{Log, logs};
 use bac_asked::{FileFault, NotDone, Options, Wanted, add_wanted, kept_log};
 use bac_desks::Clock;
@@ -127,9 +126,9 @@ fn logs_of<A: Alter>(conn: &mut Connection<A>, alloc: Global) -> Result<Vec<Log>
     }
 }
 
-/// Keeps what is new of each of these logs in an archive that has these logs, behind what is asked
-/// for ahead.
-fn keep_ahead<S: Recalls, C: Clock + Copy, A: Alter, O: Write, E: Write>(
+/// Keeps what is new of each of these logs in an archive that has these logs, behind what their
+/// devices are asked at once.
+fn keep_called<S: Recalls, C: Clock + Copy, A: Alter, O: Write, E: Write>(
     sockets: &mut S,
     conn: &mut Connection<A>,
     alloc: Global,
@@ -138,7 +137,6 @@ fn keep_ahead<S: Recalls, C: Clock + Copy, A: Alter, O: Write, E: Write>(
     known: &[Log],
     heard: Vec<Heard>,
     all: Vec<Wanted>,
-    called: bool,
     counts: bool,
     output: &mut O,
     errors: &mut E,
@@ -147,12 +145,9 @@ where
     C: Drop,
     ensures told { IfOk result (AreToldBy (O.contents output.old) (O.contents output.new) all.items
         (λ ends. OverArchive (state A.Store conn.old) (state A.Store conn.new)
-        ((held : S) × OpensAhead (socket_rules S.opens S.closes S.Socket.sends
-        S.Socket.receives S.Socket.receives_within) (at_once S.holds C.reads clock window)
-        (state A.Store conn.old).now.trees known.now heard.items all.items called sockets.old held
-        × (last : List HeardOf) × KeepsAll (socket_rules S.opens S.closes S.Socket.sends
-        S.Socket.receives S.Socket.receives_within) known.now heard.items last
-        all.items held sockets.new (state A.Store conn.old).now
+        (KeepsCalled (socket_rules S.opens S.closes S.Socket.sends S.Socket.receives
+        S.Socket.receives_within) (at_once S.holds C.reads clock window) known.now heard.items
+        all.items sockets.old sockets.new (state A.Store conn.old).now
         (state A.Store conn.new).now ends))) }
     ensures stays { OverArchive (state A.Store conn.old) (state A.Store conn.new)
         (Survives (state A.Store conn.old) (state A.Store conn.new)
@@ -164,20 +159,20 @@ where
         S.Socket.receives S.Socket.receives_within) (HasNoInstance all.items) ⊥
         sockets.new) }
     ensures caused { OverArchive (state A.Store conn.old) (state A.Store conn.new)
-        (IfErr result (EndsOpened (socket_rules S.opens S.closes S.Socket.sends S.Socket.receives
+        (IfErr result (EndsCalled (socket_rules S.opens S.closes S.Socket.sends S.Socket.receives
         S.Socket.receives_within) (at_once S.holds C.reads clock window) known.now heard.items
-        all.items called sockets.old sockets.new (state A.Store conn.old).now)) }
+        all.items sockets.old sockets.new (state A.Store conn.old).now)) }
 {
-    open_ahead(
+    let mut heard = heard;
+    let called = call_ahead(
         sockets,
         conn,
         alloc,
         clock,
         window,
         known,
-        heard.as_slice(),
         all.as_slice(),
-        called,
+        &mut heard,
     )?;
     keep_known(
         sockets, conn, alloc, clock, known, heard, all, called, counts, output, errors,
@@ -193,7 +188,6 @@ fn keep_settled<S: Recalls, C: Clock + Copy, A: Alter, O: Write, E: Write>(
     window: u32,
     heard: Vec<Heard>,
     all: Vec<Wanted>,
-    called: bool,
     counts: bool,
     output: &mut O,
     errors: &mut E,
@@ -202,14 +196,9 @@ where
     C: Drop,
     ensures told { IfOk result (AreToldBy (O.contents output.old) (O.contents output.new) all.items
         (λ ends. OverArchive (state A.Store conn.old) (state A.Store conn.new)
-        ((known : List LogOf) × AreLogs (state A.Store conn.old).now.trees known
-        × (held : S) × OpensAhead (socket_rules S.opens S.closes S.Socket.sends
-        S.Socket.receives S.Socket.receives_within) (at_once S.holds C.reads clock window)
-        (state A.Store conn.old).now.trees known heard.items all.items called sockets.old held
-        × (last : List HeardOf) × KeepsAll (socket_rules S.opens S.closes S.Socket.sends
-        S.Socket.receives S.Socket.receives_within) known heard.items last
-        all.items held sockets.new (state A.Store conn.old).now
-        (state A.Store conn.new).now ends))) }
+        (KeepsSettled (socket_rules S.opens S.closes S.Socket.sends S.Socket.receives
+        S.Socket.receives_within) (at_once S.holds C.reads clock window) heard.items all.items
+        sockets.old sockets.new (state A.Store conn.old).now (state A.Store conn.new).now ends))) }
     ensures stays { OverArchive (state A.Store conn.old) (state A.Store conn.new)
         (Survives (state A.Store conn.old) (state A.Store conn.new)
         (HasAllOf (state A.Store conn.old).now.trees)) }
@@ -222,10 +211,10 @@ where
     ensures caused { OverArchive (state A.Store conn.old) (state A.Store conn.new)
         (IfErr result (EndsSettled (socket_rules S.opens S.closes S.Socket.sends S.Socket.receives
         S.Socket.receives_within) (at_once S.holds C.reads clock window) heard.items all.items
-        called sockets.old sockets.new (state A.Store conn.old).now)) }
+        sockets.old sockets.new (state A.Store conn.old).now)) }
 {
     let known = logs_of(conn, alloc)?;
-    keep_ahead(
+    keep_called(
         sockets,
         conn,
         alloc,
@@ -234,7 +223,6 @@ where
         known.as_slice(),
         heard,
         all,
-        called,
         counts,
         output,
         errors,
@@ -276,9 +264,10 @@ fn settle_known<S: Sockets, A: Alter, E: Write>(
 
 /// Keeps what is new of each of these logs in an archive; answers the greatest of their statuses.
 /// A device is asked once what it says of itself: all are asked at once before the first log, if
-/// they are two or more, so many questions open, by the clock, which is read for how long each is
-/// waited for; and then for what each log begins with, one log of each device at a time. What comes
-/// answers the run over the log, in its turn, where it asks the same. A device that tells another
+/// they are two or more, so many questions at a time, by the clock, which is read for how long each
+/// is waited for; and then for what each log begins with, one log of each device at a time, while
+/// those that gave no answer yet are waited for. What comes answers the run over the log, in its
+/// turn, where it asks the same. A device that tells another
 /// instance than the one on record isn't asked for its logs, nor is one that gave no answer before.
 /// A device that tells at a new place the instance on record of logs at another one has moved, if
 /// nobody tells it there. Logs are committed up to 64 at once, a log of more than one reply by
@@ -328,10 +317,9 @@ where
         S.Socket.receives_within) (at_once S.holds C.reads clock window) (given_in options.now)
         all.items sockets.old sockets.new (state A.Store conn.old).now)) }
 {
-    let mut heard = settle_known(sockets, conn, alloc, all.as_slice(), options, errors)?;
-    let called = hear_each(sockets, alloc, clock, window, all.as_slice(), &mut heard)?;
+    let heard = settle_known(sockets, conn, alloc, all.as_slice(), options, errors)?;
     keep_settled(
-        sockets, conn, alloc, clock, window, heard, all, called, counts, output, errors,
+        sockets, conn, alloc, clock, window, heard, all, counts, output, errors,
     )
 }
 

@@ -3,6 +3,7 @@
 #![tactic(auto)]
 
 mod ahead;
+mod called;
 mod count;
 mod ending;
 mod entry;

@@ -3,13 +3,16 @@
 ghost use Rattle.std.specs.Prelude.{◌≡◌, IfErr, IfOk, OnOk, map};
 ghost use Rattle.bac_asked.specs.Faults.{WantsMemory};
 ghost use Rattle.bac_fetch.specs.Ahead.{at_once};
-ghost use Rattle.bac_fetch.specs.Listed.{EndsHolding, HoldsLists, devices_of, with_sought};
+ghost use Rattle.bac_fetch.specs.Listed.{EndsHolding, HoldsLists, devices_of, was_silent};
+ghost use Rattle.bac_fetch.specs.Listed.{with_sought};
 ghost use Rattle.bac_ports.specs.Sockets.{socket_rules};
 
 use crate::sought::Sought;
+use bac_archive::Source;
 use bac_asked::{NotDone, Wanted};
 use bac_desks::Clock;
-use bac_listing::{add_device, list_ahead};
+use bac_listing::{Lists, add_device, list_ahead};
+use bac_questions::is_same_device;
 use bac_recall::Recalls;
 use std::alloc::Global;
 
@@ -38,25 +41,39 @@ fn devices_of<'a>(alloc: Global, sought: &'a [Sought]) -> Result<Vec<&'a Wanted>
     Ok(devices)
 }
 
+/// Whether a device is one of those that are silent.
+pub(crate) fn was_silent(silent: &[Source], source: &Source) -> bool
+    ensures { result ≡ was_silent silent.now source.now }
+{
+    for one in silent {
+        if is_same_device(one, source) {
+            return true;
+        }
+    }
+    false
+}
+
 /// Asks these devices ahead for their lists, if they are two or more: what comes is held by the
-/// sockets, and answers where they are asked the same.
+/// sockets, and answers where they are asked the same. Answers which are silent: they were waited
+/// for beside the others, and aren't to be asked again.
 pub(crate) fn hold_lists<S: Recalls, C: Clock>(
     sockets: &mut S,
     alloc: Global,
     clock: C,
     window: u32,
     sought: &[Sought],
-) -> Result<(), NotDone>
+) -> Result<Vec<Source>, NotDone>
 where
     C: Drop,
-    ensures holds { OnOk result (HoldsLists (socket_rules S.opens S.closes S.Socket.sends
+    ensures holds { IfOk result (λ silent. HoldsLists (socket_rules S.opens S.closes S.Socket.sends
         S.Socket.receives S.Socket.receives_within) (at_once S.holds C.reads clock window)
-        sought.now sockets.old sockets.new) }
+        sought.now sockets.old silent.items sockets.new) }
     ensures fault { IfErr result (EndsHolding (socket_rules S.opens S.closes S.Socket.sends
         S.Socket.receives S.Socket.receives_within) sought.now sockets.old sockets.new) }
 {
     let devices = devices_of(alloc, sought)?;
-    let came = list_ahead(sockets, alloc, clock, window, devices.as_slice())?;
+    let lists = list_ahead(sockets, alloc, clock, window, devices.as_slice())?;
+    let Lists { came, silent } = lists;
     sockets.hold(came);
-    Ok(())
+    Ok(silent)
 }

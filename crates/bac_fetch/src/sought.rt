@@ -8,7 +8,8 @@ ghost use Rattle.std.specs.List.{All};
 ghost use Rattle.bac_asked.specs.Faults.{RefusesLine, WantsMemory};
 ghost use Rattle.bac_asked.specs.Wanted.{AsksItsSource};
 ghost use Rattle.bac_fetch.specs.Chosen.{AreOfDevice, AskOneSource, Finds, FindsEach, is_wanted};
-ghost use Rattle.bac_fetch.specs.Chosen.{new_of, told_by, unlisted_by, untold_in, with_new};
+ghost use Rattle.bac_fetch.specs.Chosen.{new_of, passed_since, told_by, unlisted_by, untold_in};
+ghost use Rattle.bac_fetch.specs.Chosen.{with_new};
 ghost use Rattle.bac_fetch.specs.Ahead.{at_once};
 ghost use Rattle.bac_fetch.specs.Faults.{EndsDevice, EndsListed, EndsSought};
 ghost use Rattle.bac_fetch.specs.Unlisted.{unlisted_lines, unlisted_status};
@@ -16,7 +17,7 @@ ghost use Rattle.bac_fetch.specs.declared.keeping.Chosen.TheVariants as chosen;
 ghost use Rattle.bac_ports.specs.Sockets.{socket_rules};
 ghost use Rattle.bac_questions.specs.Silent.{is_same_log};
 
-use crate::listed::hold_lists;
+use crate::listed::{hold_lists, was_silent};
 use crate::unlisted::{Unlisted, tell_unlisted};
 use bac_archive::Source;
 use bac_asked::{Fault, NotDone, Wanted, add_wanted};
@@ -119,17 +120,28 @@ fn untold_in(fault: NotDone) -> Result<ExchangeFault, NotDone>
     }
 }
 
-/// The logs in the list of a device, each asked as this one is.
-fn listed<S: Sockets>(sockets: &mut S, alloc: Global, like: Wanted) -> Result<Listing, NotDone>
+/// The logs in the list of a device, each asked as this one is. One that is silent isn't asked
+/// again.
+fn listed<S: Sockets>(
+    sockets: &mut S,
+    alloc: Global,
+    silent: &[Source],
+    like: Wanted,
+) -> Result<Listing, NotDone>
     requires { AsksItsSource like }
     ensures asks { IfOk result (λ listing. All AsksItsSource (told_by listing)) }
     ensures found { IfOk result (λ listing. AreOfDevice
         (socket_rules S.opens S.closes S.Socket.sends S.Socket.receives
-        S.Socket.receives_within) (Sought.Device like) sockets.old listing sockets.new) }
+        S.Socket.receives_within) silent.now (Sought.Device like) sockets.old listing
+        sockets.new) }
     ensures fault { IfErr result (EndsDevice
         (socket_rules S.opens S.closes S.Socket.sends S.Socket.receives
-        S.Socket.receives_within) (Sought.Device like) sockets.old sockets.new) }
+        S.Socket.receives_within) silent.now (Sought.Device like) sockets.old sockets.new) }
 {
+    if was_silent(silent, &like.source) {
+        let why = ExchangeFault::Lost;
+        return Ok(Listing::Untold(Unlisted { like, why }));
+    }
     let fault = match discover(sockets, alloc, &like.asking) {
         Ok(all) => return Ok(Listing::Told(all)),
         Err(fault) => fault,
@@ -138,23 +150,24 @@ fn listed<S: Sockets>(sockets: &mut S, alloc: Global, like: Wanted) -> Result<Li
     Ok(Listing::Untold(Unlisted { like, why }))
 }
 
-/// The logs of one device.
+/// The logs of one device, of which these are silent.
 fn logs_of_device<S: Sockets>(
     sockets: &mut S,
     alloc: Global,
+    silent: &[Source],
     sought: Sought,
 ) -> Result<Listing, NotDone>
     requires { AskOneSource sought }
     ensures asks { IfOk result (λ listing. All AsksItsSource (told_by listing)) }
     ensures found { IfOk result (λ listing. AreOfDevice
         (socket_rules S.opens S.closes S.Socket.sends S.Socket.receives
-        S.Socket.receives_within) sought sockets.old listing sockets.new) }
+        S.Socket.receives_within) silent.now sought sockets.old listing sockets.new) }
     ensures fault { IfErr result (EndsDevice
         (socket_rules S.opens S.closes S.Socket.sends S.Socket.receives
-        S.Socket.receives_within) sought sockets.old sockets.new) }
+        S.Socket.receives_within) silent.now sought sockets.old sockets.new) }
 {
     match sought {
-        Sought::Device(like) => listed(sockets, alloc, like),
+        Sought::Device(like) => listed(sockets, alloc, silent, like),
         Sought::Named(all) => Ok(Listing::Told(all)),
     }
 }
@@ -184,11 +197,27 @@ fn add_listing<O: Write, E: Write>(
     }
 }
 
+/// What passed since the last question to a device was first sent, by the socket that was closed
+/// last; nothing of one that is silent, since what passed stands beside what passed of others.
+fn passed_since<S: Heeds>(sockets: &S, silent: &[Source], listing: &Listing) -> Passed
+    ensures { result ≡ passed_since silent.now (S.passes sockets.now) listing.now }
+{
+    let Listing::Untold(device) = listing else {
+        return sockets.passed();
+    };
+    if was_silent(silent, &device.like.source) {
+        Passed::nothing()
+    } else {
+        sockets.passed()
+    }
+}
+
 /// The logs of these devices in their order, each once. A device that doesn't tell its own has a
-/// line, and the next one is asked.
+/// line, and the next one is asked; so has one that is silent, and isn't asked.
 fn sought_logs<S: Heeds, O: Write, E: Write>(
     sockets: &mut S,
     alloc: Global,
+    silent: &[Source],
     sought: Vec<Sought>,
     output: &mut O,
     errors: &mut E,
@@ -197,23 +226,25 @@ fn sought_logs<S: Heeds, O: Write, E: Write>(
     ensures asks { IfOk result (λ found. All AsksItsSource found.all.items) }
     ensures found { IfOk result (λ found. FindsEach
         (socket_rules S.opens S.closes S.Socket.sends S.Socket.receives
-        S.Socket.receives_within) sought.items sockets.old (O.contents output.old) found
-        sockets.new (O.contents output.new)) }
+        S.Socket.receives_within) silent.now sought.items sockets.old (O.contents output.old)
+        found sockets.new (O.contents output.new)) }
     ensures fault { IfErr result (EndsSought
         (socket_rules S.opens S.closes S.Socket.sends S.Socket.receives
-        S.Socket.receives_within) sought.items sockets.old sockets.new) }
+        S.Socket.receives_within) silent.now sought.items sockets.old sockets.new) }
 {
     let mut all = Vec::new(alloc);
     let mut status = 0u8;
     for one in sought {
-        let listing = logs_of_device(sockets, alloc, one)?;
-        let told = add_listing(alloc, &mut all, listing, sockets.passed(), output, errors)?;
+        let listing = logs_of_device(sockets, alloc, silent, one)?;
+        let passed = passed_since(sockets, silent, &listing);
+        let told = add_listing(alloc, &mut all, listing, passed, output, errors)?;
         status = status.max(told);
     }
     Ok(Found { all, status })
 }
 
-/// The same, behind what these devices are asked ahead for their lists.
+/// The same, behind what these devices are asked ahead for their lists. Those that are silent then
+/// aren't asked again.
 pub(crate) fn found_logs<S: Recalls, C: Clock, O: Write, E: Write>(
     sockets: &mut S,
     alloc: Global,
@@ -236,6 +267,6 @@ where
         S.Socket.receives_within) (at_once S.holds C.reads clock window) sought.items sockets.old
         sockets.new) }
 {
-    hold_lists(sockets, alloc, clock, window, sought.as_slice())?;
-    sought_logs(sockets, alloc, sought, output, errors)
+    let silent = hold_lists(sockets, alloc, clock, window, sought.as_slice())?;
+    sought_logs(sockets, alloc, silent.as_slice(), sought, output, errors)
 }

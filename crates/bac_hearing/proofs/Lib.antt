@@ -1,3 +1,4 @@
 pub mod Seated
 pub mod Heard
 pub mod Ended
+pub mod Parted

@@ -47,7 +47,7 @@ are_told rules peers = (refl, λ place seat at. at_one place seat (get_map fresh
 
 pub is_within : (rules : Rules) (peers : List (List ℕ)) → IsWithin (fresh rules peers)
 is_within rules peers = (
-  (let none : count_by holds_place (map fresh_seat peers) ≡ 0 = none_open holds_place (λ peer. refl) peers in omega arith),
+  (let none : count_by (λ s. holds_place rules 0 s) (map fresh_seat peers) ≡ 0 = none_open (λ s. holds_place rules 0 s) (λ peer. refl) peers in omega arith),
   (let none : count_by is_open (map fresh_seat peers) ≡ 0 = none_open is_open (λ peer. refl) peers in omega arith),
   λ q. (let none : count_by (λ s. holds_place_at q s) (map fresh_seat peers) ≡ 0 = none_open (λ s. holds_place_at q s) (λ peer. refl) peers in omega arith),
 )

@@ -18,11 +18,13 @@ use Rattle.bac_jobs.specs.declared.job.Turn.{Turn}
 use Rattle.bac_hearing.specs.declared.hearing.NotHeard.{NotHeard}
 use Rattle.bac_hearing.specs.declared.hearing.NotHeard.TheVariants.{Memory, Unfinished, Unopened}
 
--- A question waits so long and is sent so often again. So many are open at most that weren't sent again, four of them
--- at each address; and 1,024 in all.
+-- A question waits so long and is sent so often again. So many hold a place at most: they weren't sent again, and were
+-- sent less than a quarter of a second ago. At each address four are open at most that weren't sent again, and 1,024 in
+-- all.
 abbrev pub limits : ℕ → ℕ → ℕ → Rules
 limits timeout retries window =
-    record { retries = retries; wait_ms = timeout; window = window; at_station = 4; most = 1024 }
+    record
+    { retries = retries; wait_ms = timeout; window = window; hold_ms = 250; at_station = 4; most = 1024 }
 
 -- no desks yet
 abbrev pub no_desks : Rules → TableState

@@ -11,7 +11,7 @@ use bac_ports::{OpenFault, Port, Sockets};
 use std::alloc::{AllocError, Global};
 
 /// Any address of this machine, and any free port.
-const ANY: [u8; 6] = [0; 6];
+pub(crate) const ANY: [u8; 6] = [0; 6];
 
 /// Why devices aren't heard.
 #[derive(Clone, Copy, Debug, PartialEq, Eq)]
@@ -24,22 +24,24 @@ pub enum NotHeard {
     Unfinished,
 }
 
-/// How often, how long, and how many at once. What stands behind one router shares its line, and so
-/// is asked four at a time.
-fn limits(timeout: u32, retries: u8, window: u32) -> Rules
+/// How often, how long, and how many at once. A question holds its place for a quarter of a second
+/// at most, so that what gives no answer keeps nobody waiting. What stands behind one router shares
+/// its line, and so is asked four at a time.
+pub(crate) fn limits(timeout: u32, retries: u8, window: u32) -> Rules
     ensures { result ≡ limits timeout retries window }
 {
     Rules {
         retries: u32::from(retries),
         wait_ms: timeout,
         window: window as usize,
+        hold_ms: 250,
         at_station: 4,
         most: 1024,
     }
 }
 
 /// A desk for each device, in their order.
-fn seat_all<P: Port, C: Clock>(
+pub(crate) fn seat_all<P: Port, C: Clock>(
     alloc: Global,
     desks: &mut Desks<P, C>,
     peers: &[[u8; 6]],

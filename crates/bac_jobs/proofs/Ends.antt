@@ -1,11 +1,7 @@
 -- The ends of jobs, one after the other.
-use Rattle.std.proofs.Common.{◌≡◌, ◌⊎◌, inl, inr, ℕ, zero, suc, List, [], ◌∷◌, ◌++◌, Option, Some, None, IfSome, map, slice_get, length, refl, ap, sym, subst, ◌∙◌}
+use Rattle.std.proofs.Common.{◌≡◌, ◌⊎◌, inl, inr, ℕ, zero, suc, ◌+◌, List, [], ◌∷◌, ◌++◌, Option, Some, None, IfSome, map, slice_get, length, length-append, refl, ap, sym, subst, ◌∙◌, arith}
 use Rattle.std.proofs.lemmas.List.{map-append}
-use Rattle.bac_desks.specs.declared.seat.Seat.{Seat}
-use Rattle.bac_jobs.specs.Jobs.{HasEnded}
 use Rattle.bac_jobs.specs.declared.job.Ending.{Ending}
-use Rattle.bac_jobs.specs.declared.job.Turn.{Turn}
-use Rattle.bac_play.specs.declared.play.Outcome.{Outcome}
 
 -- what stands in a list behind which one is put: one of those before, or that one, at their number
 get_push : {X : Type 0} (xs : List X) (y x : X) (at : ℕ) → slice_get (xs ++ y ∷ []) at ≡ Some x →
@@ -20,19 +16,18 @@ get_push (z ∷ xs) y x (suc at) is = later (get_push xs y x at is)
     later (inl there) = inl there
     later (inr (p, q)) = inr (ap suc p, q)
 
--- one more has ended, at the place behind them
-pub pushed : {J E : Type 0} (plays : J → List Outcome → Turn E → Type 0) (jobs : List J) (seats : List Seat) (ends : List (Ending E)) (end : Ending E)
-    (place : ℕ) → length ends ≡ place →
-    ((at : ℕ) (other : Ending E) → slice_get ends at ≡ Some other → HasEnded plays jobs seats at other) →
-    HasEnded plays jobs seats place end →
-    (at : ℕ) (other : Ending E) → slice_get (ends ++ end ∷ []) at ≡ Some other → HasEnded plays jobs seats at other
-pushed {E = E} plays jobs seats ends end place are before this at other is = by (get_push ends end other at is)
+-- what holds of each in a list at its place, of one more at the place behind them, and so of all
+pub pushed : {X : Type 0} (P : ℕ → X → Type 0) (xs all : List X) (y : X) (place : ℕ) → all ≡ xs ++ y ∷ [] →
+    (length xs ≡ place) × ((at : ℕ) (x : X) → slice_get xs at ≡ Some x → P at x) → P place y →
+    (length all ≡ place + 1) × ((at : ℕ) (x : X) → slice_get all at ≡ Some x → P at x)
+pushed {X = X} P xs all y place more (are, before) this = (
+  ap length more ∙ (omega (arith, length-append xs (y ∷ []))),
+  λ at x is. by at x (get_push xs y x at (sym (ap (λ (l : List X). slice_get l at) more) ∙ is)),
+)
   where
-    by : (slice_get ends at ≡ Some other) ⊎ ((at ≡ length ends) × (other ≡ end)) → HasEnded plays jobs seats at other
-    by (inl there) = before at other there
-    by (inr (p, q)) =
-        subst (λ (n : ℕ). HasEnded plays jobs seats n other) (sym (p ∙ are))
-        (subst (λ (e : Ending E). HasEnded plays jobs seats place e) (sym q) this)
+    by : (at : ℕ) (x : X) → (slice_get xs at ≡ Some x) ⊎ ((at ≡ length xs) × (x ≡ y)) → P at x
+    by at x (inl there) = before at x there
+    by at x (inr (p, q)) = subst (λ (n : ℕ). P n x) (sym (p ∙ are)) (subst (λ (z : X). P place z) (sym q) this)
 
 -- nothing stands in an empty list
 pub none_there : {X : Type 0} (xs : List X) (at : ℕ) (x : X) → xs ≡ [] → slice_get xs at ≡ Some x → ⊥

@@ -1,5 +1,5 @@
 -- How jobs of many devices end. Read `AreEnded`.
-use Rattle.std.specs.Prelude.{◌≡◌, ℕ, List, ◌++◌, Some, count_by, length, map, slice_get}
+use Rattle.std.specs.Prelude.{◌≡◌, ℕ, List, ◌++◌, ◌⊎◌, Option, Some, None, count_by, length, map, slice_get}
 use Rattle.bac_ports.specs.Port.{Receiving, Sending}
 use Rattle.bac_desks.specs.Chain.{Chain}
 use Rattle.bac_desks.specs.Seat.{is_open}
@@ -10,7 +10,7 @@ use Rattle.bac_desks.specs.Table.{TableState, desks_of}
 use Rattle.bac_desks.specs.declared.seat.Seat.{Seat}
 use Rattle.bac_jobs.specs.declared.job.Ending.{Ending}
 use Rattle.bac_jobs.specs.declared.job.Turn.{Turn}
-use Rattle.bac_jobs.specs.declared.job.Turn.TheVariants.{Ended}
+use Rattle.bac_jobs.specs.declared.job.Turn.TheVariants.{Ended, Unfit, Wants}
 use Rattle.bac_play.specs.declared.play.Outcome.{Outcome}
 
 -- no question is open
@@ -29,6 +29,26 @@ abbrev pub AreEnded : {J E : Type 0} → (J → List Outcome → Turn E → Type
 AreEnded {E = E} plays jobs seats ends =
     (length ends ≡ length jobs)
     × ((place : ℕ) (ending : Ending E) → slice_get ends place ≡ Some ending → HasEnded plays jobs seats place ending)
+
+-- the job at a place hasn't ended by all that came to the questions of the desk at its place: it asks something next,
+-- or the record has what it doesn't ask
+abbrev pub GoesOn : {J E : Type 0} → (J → List Outcome → Turn E → Type 0) → List J → List Seat → ℕ → Type 0
+GoesOn {J = J} plays jobs seats place =
+    (job : J) × (seat : Seat) × (slice_get jobs place ≡ Some job) × (slice_get seats place ≡ Some seat)
+    × (((question : List ℕ) × plays job seat.desk.outcomes (Wants question)) ⊎ plays job seat.desk.outcomes Unfit)
+
+-- it ended so, or goes on
+abbrev pub HasEndedIf : {J E : Type 0} → (J → List Outcome → Turn E → Type 0) → List J → List Seat → ℕ →
+    Option (Ending E) → Type 0
+HasEndedIf plays jobs seats place (Some ending) = HasEnded plays jobs seats place ending
+HasEndedIf plays jobs seats place None = GoesOn plays jobs seats place
+
+-- so does each of them
+abbrev pub AreEndedSoFar : {J E : Type 0} → (J → List Outcome → Turn E → Type 0) → List J → List Seat →
+    List (Option (Ending E)) → Type 0
+AreEndedSoFar {E = E} plays jobs seats ends =
+    (length ends ≡ length jobs)
+    × ((place : ℕ) (end : Option (Ending E)) → slice_get ends place ≡ Some end → HasEndedIf plays jobs seats place end)
 
 -- questions are asked, and then a turn is made
 abbrev pub RoundStep : {P C : Type 0} → (P → List ℕ → List ℕ → Sending → P → Type 0)

@@ -85,7 +85,7 @@ fn ask_those<P: Port, C: Clock, J: Job>(
         desks.new.port desks.new.clock desks.new.table }
 {
     for place in 0..jobs.len() {
-        if is_done(done, place) || is_new(desks, place) != new {
+        if is_done(done, place) || desks.is_open(place) || is_new(desks, place) != new {
             continue;
         }
         if !desks.has_room() {
@@ -98,7 +98,7 @@ fn ask_those<P: Port, C: Clock, J: Job>(
 
 /// Asks what each job wants next that isn't done, those first that weren't asked yet. One whose
 /// address has no place left waits, and others may be asked again before it.
-fn ask_all<P: Port, C: Clock, J: Job>(
+pub(crate) fn ask_all<P: Port, C: Clock, J: Job>(
     alloc: Global,
     desks: &mut Desks<P, C>,
     jobs: &[J],
@@ -112,7 +112,7 @@ fn ask_all<P: Port, C: Clock, J: Job>(
 }
 
 /// Of none of so many jobs it is known that it is done.
-fn none_done(alloc: Global, jobs: usize) -> Result<Vec<bool>, AllocError> {
+pub(crate) fn none_done(alloc: Global, jobs: usize) -> Result<Vec<bool>, AllocError> {
     let mut done = Vec::new(alloc);
     for _place in 0..jobs {
         done.push(false)?;

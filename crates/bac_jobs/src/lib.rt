@@ -2,11 +2,13 @@
 //! one another.
 #![tactic(auto)]
 
+mod beginning;
 mod finishing;
 mod job;
 mod laws;
 mod records;
 
+pub use beginning::begin;
 pub use finishing::finish;
 pub use job::{Ending, Job, Turn, ends_in};
 pub use laws::places_stay;

@@ -10,10 +10,12 @@ use Rattle.bac_jobs.specs.declared.job.Ending.{Ending}
 use Rattle.bac_ports.specs.Sockets.{SocketRules}
 use Rattle.bac_questions.specs.Faults.{EndsAsking}
 use Rattle.bac_questions.specs.Silent.{is_same_device}
+use Rattle.bac_archive.specs.declared.trend_logs.Source.{Source}
 use Rattle.bac_recall.specs.declared.conversations.Conversation.{Conversation}
 use Rattle.bac_words.specs.declared.job.Asked.{Asked}
 use Rattle.bac_listing.specs.Devices.{AreHeard, EndsLists, ListsAhead, ListsAll, Unending, is_among, jobs_of, peers_of, questions_of, with_device}
 use Rattle.bac_listing.specs.Listing.{Plays, listing_of}
+use Rattle.bac_listing.specs.declared.listing.Came.{Came}
 use Rattle.bac_listing.specs.declared.listing.Listing.{Listing}
 
 abbrev now_of : Bor Wanted → Wanted
@@ -49,7 +51,7 @@ jobs_seen refs =
     jobs_each (questions_of (length refs)) refs ∙ ap (λ (n : ℕ). map (listing_of (questions_of n)) (map now_of refs)) (as_many refs)
 
 pub heard_all : {S P C : Type 0} (rules : SocketRules S P) (clock : Pace C) (asked : Asked) (refs : List (Bor Wanted)) (peers : List (List ℕ))
-    (jobs : List Listing) (before after : S) (ends : List (Ending Conversation)) →
+    (jobs : List Listing) (before after : S) (ends : List (Ending Came)) →
     peers ≡ map (λ (one : Bor Wanted). one.now.asking.asked.address) refs → jobs ≡ map (λ (one : Bor Wanted). listing_of (questions_of (length refs)) one.now) refs →
     HearsAll rules clock Plays peers jobs asked.local asked.timeout asked.retries before ends after →
     AreHeard rules clock asked (map now_of refs) before ends after
@@ -67,12 +69,12 @@ unending rules clock asked refs peers before after are fails =
 
 -- two or more are asked as the first one is
 pub many : {S P C : Type 0} (rules : SocketRules S P) (clock : Pace C) (refs : List (Bor Wanted)) (first : Bor Wanted) (came : List Conversation)
-    (before after : S) → 2 ≤ length refs → first ≡ get_or refs 0 first →
-    ListsAll rules clock first.now.asking.asked (map now_of refs) before came after → ListsAhead rules clock (map now_of refs) before came after
-many rules clock [] first came before after two is all = absurd (omega (arith, two))
-many rules clock (x ∷ []) first came before after two is all = absurd (omega (arith, two))
-many rules clock (x ∷ y ∷ more) first came before after two is all =
-    subst (λ (r : Bor Wanted). ListsAll rules clock r.now.asking.asked (map now_of (x ∷ y ∷ more)) before came after) is all
+    (silent : List Source) (before after : S) → 2 ≤ length refs → first ≡ get_or refs 0 first →
+    ListsAll rules clock first.now.asking.asked (map now_of refs) before came silent after → ListsAhead rules clock (map now_of refs) before came silent after
+many rules clock [] first came silent before after two is all = absurd (omega (arith, two))
+many rules clock (x ∷ []) first came silent before after two is all = absurd (omega (arith, two))
+many rules clock (x ∷ y ∷ more) first came silent before after two is all =
+    subst (λ (r : Bor Wanted). ListsAll rules clock r.now.asking.asked (map now_of (x ∷ y ∷ more)) before came silent after) is all
 
 -- nor are they if it isn't
 pub fails : {S P : Type 0} (rules : SocketRules S P) (refs : List (Bor Wanted)) (first : Bor Wanted) (before after : S) (why : NotDone) →
@@ -83,8 +85,8 @@ fails rules (x ∷ y ∷ more) first before after why two is ends =
     subst (λ (r : Bor Wanted). EndsAsking rules r.now.asking.asked before after why) is ends
 
 -- fewer aren't asked
-pub few : {S P C : Type 0} (rules : SocketRules S P) (clock : Pace C) (refs : List (Bor Wanted)) (came : List Conversation) (before after : S) →
-    length refs ≤ 1 → came ≡ [] → after ≡ before → ListsAhead rules clock (map now_of refs) before came after
-few rules clock [] came before after one none same = (none, same)
-few rules clock (x ∷ []) came before after one none same = (none, same)
-few rules clock (x ∷ y ∷ more) came before after one none same = absurd (omega (arith, one))
+pub few : {S P C : Type 0} (rules : SocketRules S P) (clock : Pace C) (refs : List (Bor Wanted)) (came : List Conversation) (silent : List Source)
+    (before after : S) → length refs ≤ 1 → came ≡ [] → silent ≡ [] → after ≡ before → ListsAhead rules clock (map now_of refs) before came silent after
+few rules clock [] came silent before after one none nobody same = (none, nobody, same)
+few rules clock (x ∷ []) came silent before after one none nobody same = (none, nobody, same)
+few rules clock (x ∷ y ∷ more) came silent before after one none nobody same = absurd (omega (arith, one))

@@ -1,6 +1,8 @@
 -- Devices are asked for their Object_Lists beside one another. Read `ListsAhead`.
-use Rattle.std.specs.Prelude.{◌≡◌, ◌⊎◌, ℕ, ◌/◌, max, min, Bool, List, [], ◌∷◌, ◌++◌, if◌then◌else◌, length, map}
+use Rattle.std.specs.Prelude.{◌≡◌, ◌⊎◌, ◌&&◌, not, ℕ, ◌/◌, max, min, Bool, true, MatchBool, List, [], ◌∷◌, ◌++◌}
+use Rattle.std.specs.Prelude.{if◌then◌else◌, length, map}
 use Rattle.std.specs.List.{list_any}
+use Rattle.bac_archive.specs.declared.trend_logs.Source.{Source}
 use Rattle.bac_asked.specs.declared.end.NotDone.{NotDone}
 use Rattle.bac_asked.specs.declared.wanted.Wanted.{Wanted}
 use Rattle.bac_hearing.specs.Hearing.{FailsToHear, HearsAll, Pace}
@@ -8,10 +10,11 @@ use Rattle.bac_hearing.specs.declared.hearing.NotHeard.TheVariants.{Unfinished}
 use Rattle.bac_jobs.specs.declared.job.Ending.{Ending}
 use Rattle.bac_ports.specs.Sockets.{SocketRules}
 use Rattle.bac_questions.specs.Faults.{EndsAsking}
-use Rattle.bac_questions.specs.Silent.{is_same_device}
+use Rattle.bac_questions.specs.Silent.{is_same_device, is_same_log}
 use Rattle.bac_recall.specs.declared.conversations.Conversation.{Conversation}
 use Rattle.bac_words.specs.declared.job.Asked.{Asked}
 use Rattle.bac_listing.specs.Listing.{Plays, listing_of}
+use Rattle.bac_listing.specs.declared.listing.Came.{Came}
 use Rattle.bac_listing.specs.declared.listing.Listing.{Listing}
 
 -- a device is one of these
@@ -37,7 +40,7 @@ jobs_of devices = map (listing_of (questions_of (length devices))) devices
 -- These devices were asked beside one another for their trend logs, each by its route, with these waits and retries,
 -- over one socket that was opened as they say, and closed behind it.
 abbrev pub AreHeard : {S P C : Type 0} → SocketRules S P → Pace C → Asked → List Wanted → S →
-    List (Ending Conversation) → S → Type 0
+    List (Ending Came) → S → Type 0
 AreHeard rules pace asked devices before endings after = HearsAll rules pace Plays (peers_of devices)
     (jobs_of devices) asked.local asked.timeout asked.retries before endings after
 
@@ -46,19 +49,38 @@ abbrev pub Unending : {S P C : Type 0} → SocketRules S P → Pace C → Asked 
 Unending rules pace asked devices before after =
     FailsToHear rules pace (peers_of devices) asked.local asked.timeout asked.retries before after Unfinished
 
--- They were asked so, and this came, a conversation for each, in their order; or that didn't end, and nothing did.
-abbrev pub ListsAll : {S P C : Type 0} → SocketRules S P → Pace C → Asked → List Wanted → S →
-    List Conversation → S → Type 0
-ListsAll rules pace asked devices before came after =
-    ((endings : List (Ending Conversation)) × AreHeard rules pace asked devices before endings after
-    × (came ≡ map (λ (e : Ending Conversation). e.end) endings))
-    ⊎ (Unending rules pace asked devices before after × (came ≡ []))
+-- A device is silent whose questions ended so: it didn't tell its list, since no answer came to the last of them, and
+-- nothing else came from its host meanwhile.
+abbrev pub is_silent : Ending Came → Bool
+is_silent ending = ending.end.is_lost && not ending.has_stray
 
--- Two devices or more were asked so, with the waits and retries of the first; fewer aren't asked.
-abbrev pub ListsAhead : {S P C : Type 0} → SocketRules S P → Pace C → List Wanted → S → List Conversation → S → Type 0
-ListsAhead rules pace (one ∷ two ∷ more) before came after =
-    ListsAll rules pace one.asking.asked (one ∷ two ∷ more) before came after
-ListsAhead rules pace devices before came after = (came ≡ []) × (after ≡ before)
+-- the source of a device comes behind those of others that are silent, if it is
+abbrev pub AddSilent : Wanted → Ending Came → List Source → List Source → Type 0
+AddSilent one ending silent now = MatchBool (is_silent ending)
+    ((source : Source) × (is_same_log source one.source ≡ true) × (now ≡ silent ++ source ∷ []))
+    (now ≡ silent)
+
+-- so do those of all, in their order, so that they are of those that are silent and of no others
+abbrev pub AreSilent : List Wanted → List (Ending Came) → List Source → List Source → Type 0
+AreSilent (one ∷ devices) (ending ∷ endings) silent now =
+    (mid : List Source) × AddSilent one ending silent mid × AreSilent devices endings mid now
+AreSilent devices endings silent now = now ≡ silent
+
+-- They were asked so, and this came, a conversation for each, in their order, and these are silent; or that didn't end,
+-- nothing did, and none is.
+abbrev pub ListsAll : {S P C : Type 0} → SocketRules S P → Pace C → Asked → List Wanted → S → (came : List Conversation)
+    → (silent : List Source) → S → Type 0
+ListsAll rules pace asked devices before came silent after =
+    ((endings : List (Ending Came)) × AreHeard rules pace asked devices before endings after
+    × (came ≡ map (λ (e : Ending Came). e.end.conversation) endings) × AreSilent devices endings [] silent)
+    ⊎ (Unending rules pace asked devices before after × (came ≡ []) × (silent ≡ []))
+
+-- Two devices or more were asked so, with the waits and retries of the first; fewer aren't asked, and none is silent.
+abbrev pub ListsAhead : {S P C : Type 0} → SocketRules S P → Pace C → List Wanted → S → (came : List Conversation)
+    → (silent : List Source) → S → Type 0
+ListsAhead rules pace (one ∷ two ∷ more) before came silent after =
+    ListsAll rules pace one.asking.asked (one ∷ two ∷ more) before came silent after
+ListsAhead rules pace devices before came silent after = (came ≡ []) × (silent ≡ []) × (after ≡ before)
 
 -- They aren't asked: memory is wanting, or no socket was opened as the first of them says.
 abbrev pub EndsLists : {S P : Type 0} → SocketRules S P → List Wanted → S → S → NotDone → Type 0

@@ -11,14 +11,14 @@ ghost use Rattle.bac_listing.specs.Devices.{AreHeard, EndsLists, ListsAhead, Lis
 ghost use Rattle.bac_listing.specs.Devices.{questions_of, with_device};
 ghost use Rattle.bac_listing.specs.Listing.{listing_of};
 
-use crate::listing::Listing;
+use crate::listing::{Came, Listing};
+use crate::lists::{Lists, lists_of};
 use bac_asked::{Fault, NotDone, Wanted};
 use bac_desks::Clock;
 use bac_hearing::{NotHeard, hear_all};
-use bac_jobs::{Ending, ends_in};
+use bac_jobs::Ending;
 use bac_ports::Sockets;
 use bac_questions::is_same_device;
-use bac_recall::Conversation;
 use bac_words::Asked;
 use std::alloc::{AllocError, Global};
 
@@ -99,13 +99,15 @@ fn hear<S: Sockets, C: Clock>(
     window: u32,
     asked: &Asked,
     devices: &[&Wanted],
-) -> Result<Option<Vec<Ending<Conversation>>>, NotDone>
+) -> Result<Option<Vec<Ending<Came>>>, NotDone>
 where
     C: Drop,
     ensures heard { IfOk result (λ ends. IfSome ends (λ all. AreHeard
         (socket_rules S.opens S.closes S.Socket.sends S.Socket.receives
         S.Socket.receives_within) (paced C.reads clock window) asked.now
         (map (λ one. one.now) devices.now) sockets.old all.items sockets.new)) }
+    ensures each { IfOk result (λ ends. IfSome ends
+        (λ all. length all.items ≡ length devices.now)) }
     ensures unending { IfOk result (λ ends. IfNone ends (Unending
         (socket_rules S.opens S.closes S.Socket.sends S.Socket.receives
         S.Socket.receives_within) (paced C.reads clock window) asked.now
@@ -134,7 +136,7 @@ where
     }
 }
 
-/// The same: what came to the questions for each; nothing if that didn't end.
+/// The same: what came of their lists; nothing if that didn't end.
 fn list_as<S: Sockets, C: Clock>(
     sockets: &mut S,
     alloc: Global,
@@ -142,29 +144,28 @@ fn list_as<S: Sockets, C: Clock>(
     window: u32,
     asked: &Asked,
     devices: &[&Wanted],
-) -> Result<Vec<Conversation>, NotDone>
+) -> Result<Lists, NotDone>
 where
     C: Drop,
-    ensures lists { IfOk result (λ came. ListsAll
+    ensures lists { IfOk result (λ lists. ListsAll
         (socket_rules S.opens S.closes S.Socket.sends S.Socket.receives
         S.Socket.receives_within) (paced C.reads clock window) asked.now
-        (map (λ one. one.now) devices.now) sockets.old came.items sockets.new) }
+        (map (λ one. one.now) devices.now) sockets.old lists.came.items lists.silent.items
+        sockets.new) }
     ensures fault { IfErr result (EndsAsking (socket_rules S.opens S.closes S.Socket.sends
         S.Socket.receives S.Socket.receives_within) asked.now sockets.old sockets.new) }
 {
-    let Some(endings) = hear(sockets, alloc, clock, window, asked, devices)? else {
-        return Ok(Vec::new(alloc));
-    };
-    match ends_in(alloc, endings) {
-        Ok(came) => Ok(came),
-        Err(_) => Err(NotDone::Asking(Fault::Memory)),
+    match hear(sockets, alloc, clock, window, asked, devices)? {
+        Some(endings) => lists_of(alloc, devices, endings),
+        None => Ok(Lists::none(alloc)),
     }
 }
 
 /// Asks these devices beside one another for their trend logs, as [`discover`] asks each, if they
-/// are two or more: what came to the questions for each, in their order, and of nothing else. The
-/// questions are waited for and repeated as the run asks the first of them. A device is asked at
-/// most 256 questions, and all of them 16,384.
+/// are two or more: what came to the questions for each, in their order, and of nothing else; and
+/// which of them gave no answer any more, while nothing came in its place either. The questions are
+/// waited for and repeated as the run asks the first of them. A device is asked at most 256
+/// questions, and all of them 16,384.
 ///
 /// [`discover`]: bac_questions::discover
 pub fn list_ahead<S: Sockets, C: Clock>(
@@ -173,19 +174,19 @@ pub fn list_ahead<S: Sockets, C: Clock>(
     clock: C,
     window: u32,
     devices: &[&Wanted],
-) -> Result<Vec<Conversation>, NotDone>
+) -> Result<Lists, NotDone>
 where
     C: Drop,
-    ensures lists { IfOk result (λ came. ListsAhead
+    ensures lists { IfOk result (λ lists. ListsAhead
         (socket_rules S.opens S.closes S.Socket.sends S.Socket.receives
         S.Socket.receives_within) (paced C.reads clock window) (map (λ one. one.now) devices.now)
-        sockets.old came.items sockets.new) }
+        sockets.old lists.came.items lists.silent.items sockets.new) }
     ensures fault { IfErr result (EndsLists (socket_rules S.opens S.closes S.Socket.sends
         S.Socket.receives S.Socket.receives_within) (map (λ one. one.now) devices.now)
         sockets.old sockets.new) }
 {
     let [first, _, ..] = devices else {
-        return Ok(Vec::new(alloc));
+        return Ok(Lists::none(alloc));
     };
     list_as(sockets, alloc, clock, window, &first.asking.asked, devices)
 }

@@ -4,6 +4,8 @@
 
 mod devices;
 mod listing;
+mod lists;
 
 pub use devices::{add_device, list_ahead};
-pub use listing::Listing;
+pub use listing::{Came, Listing};
+pub use lists::Lists;

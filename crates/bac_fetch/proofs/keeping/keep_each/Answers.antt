@@ -1,14 +1,12 @@
-use Rattle.std.proofs.Common.{List, inl, inr, rules, subst}
+use Rattle.std.proofs.Common.{inl, rules}
 use Rattle.std.proofs.lemmas.Result.{IfErr-weaker, IfOk-weaker}
 use Rattle.sqlite.specs.State.{HasCleanDisk}
 use Rattle.sqlite.specs.Held.{state}
-use Rattle.bac_absent.specs.Each.{EndsCalling, HearsEach, SaysMany}
-use Rattle.bac_asked.specs.declared.wanted.Wanted.{Wanted}
 use Rattle.bac_fetch.specs.Ahead.{at_once}
 use Rattle.bac_ports.specs.Sockets.{socket_rules}
 use Rattle.bac_asked.proofs.Results.{because}
 use Rattle.bac_fetch.specs.Faults.{HasNoInstance, LacksAddress}
-use Rattle.bac_fetch.proofs.FaultsLemmas.{all_end_so, calling_ends_run}
+use Rattle.bac_fetch.proofs.FaultsLemmas.{all_end_so}
 use Rattle.bac_asked.specs.AsLog.{given_in}
 use Rattle.bac_fetch.proofs.CalledLemmas.{logs_end, logs_kept}
 use Rattle.bac_fetch.proofs.MovesLemmas.{settles_schema, settles_stay}
@@ -19,17 +17,12 @@ use Rattle.bac_fetch.proofs.keeping.keep_each.Goals as goal
 pub returns-clause-told : goal.returns-clause-told
 returns-clause-told g c =
     let over = socket_rules g.S.Sockets.opens g.S.Sockets.closes g.S.Socket.Port.sends g.S.Socket.Port.receives g.S.Socket.Port.receives_within in
+    let by = at_once g.S.Recalls.holds g.C.Clock.reads c.args.clock c.args.window in
     let all = c.args.all.items in
+    let heard = c.in_ok-heard.heard.items in
+    let half = c.settle_known.new.sockets in
     let old = state g.A.Store c.args.conn.now in
     let mid = state g.A.Store c.settle_known.new.conn in
-    let by = at_once g.S.Recalls.holds g.C.Clock.reads c.args.clock c.args.window in
-    let time = by.pace in
-    let spoken = c.hear_each.new.heard.items in
-    let called = c.hear_each.new.sockets in
-    let found : HearsEach over time c.args.all.items c.in_ok-heard.heard.items c.settle_known.new.sockets spoken called =
-    subst (λ (l : List Wanted). HearsEach over time l c.in_ok-heard.heard.items c.settle_known.new.sockets spoken called) c.as_slice-2.ensures.value c.in_ok-called.ensures.heard in
-    let says : SaysMany all c.in_ok-heard.heard.items c.in_ok-called.called =
-    subst (λ (l : List Wanted). SaysMany l c.in_ok-heard.heard.items c.in_ok-called.called) c.as_slice-2.ensures.value c.in_ok-called.ensures.many in
     IfOk-weaker c.keep_settled.result _ _
     (λ status told. (
       told.0,
@@ -39,10 +32,9 @@ returns-clause-told g c =
       λ clean has.
           let early : HasCleanDisk mid = c.keep_settled.ensures.clean clean in
           let (known, are, settles) = rw c.as_slice.ensures.value at c.in_ok-heard.ensures.settled early has in
-          let schema = settles_schema over known all c.args.sockets.now c.in_ok-heard.heard.items c.settle_known.new.sockets old.now mid.now settles has in
-          let (now, are_now, held, opens, last, kept) = told.4 clean schema in
-          logs_kept over by all c.args.sockets.now c.settle_known.new.sockets called held c.keep_settled.new.sockets old.now mid.now (state g.A.Store c.keep_settled.new.conn).now
-          known now c.in_ok-heard.heard.items spoken last c.in_ok-called.called told.0 are settles found are_now says opens kept,
+          let schema = settles_schema over known all c.args.sockets.now heard half old.now mid.now settles has in
+          logs_kept over by all c.args.sockets.now half c.keep_settled.new.sockets old.now mid.now (state g.A.Store c.keep_settled.new.conn).now
+          known heard told.0 are settles (told.4 clean schema),
     ))
     c.keep_settled.ensures.told
 
@@ -60,51 +52,22 @@ returns-clause-stays g c clean has =
 pub returns-clause-caused : goal.returns-clause-caused
 returns-clause-caused g c clean has =
     let over = socket_rules g.S.Sockets.opens g.S.Sockets.closes g.S.Socket.Port.sends g.S.Socket.Port.receives g.S.Socket.Port.receives_within in
+    let by = at_once g.S.Recalls.holds g.C.Clock.reads c.args.clock c.args.window in
     let all = c.args.all.items in
-    let old = state g.A.Store c.args.conn.now in
-    let mid = state g.A.Store c.settle_known.new.conn in
     let heard = c.in_ok-heard.heard.items in
     let half = c.settle_known.new.sockets in
+    let old = state g.A.Store c.args.conn.now in
+    let mid = state g.A.Store c.settle_known.new.conn in
     let early : HasCleanDisk mid = c.keep_settled.ensures.clean clean in
     let (known, are, settles) = rw c.as_slice.ensures.value at c.in_ok-heard.ensures.settled early has in
     let schema = settles_schema over known all c.args.sockets.now heard half old.now mid.now settles has in
-    let by = at_once g.S.Recalls.holds g.C.Clock.reads c.args.clock c.args.window in
-    let time = by.pace in
-    let spoken = c.hear_each.new.heard.items in
-    let called = c.hear_each.new.sockets in
-    let found : HearsEach over time c.args.all.items c.in_ok-heard.heard.items c.settle_known.new.sockets spoken called =
-    subst (λ (l : List Wanted). HearsEach over time l c.in_ok-heard.heard.items c.settle_known.new.sockets spoken called) c.as_slice-2.ensures.value c.in_ok-called.ensures.heard in
-    let says : SaysMany all c.in_ok-heard.heard.items c.in_ok-called.called =
-    subst (λ (l : List Wanted). SaysMany l c.in_ok-heard.heard.items c.in_ok-called.called) c.as_slice-2.ensures.value c.in_ok-called.ensures.many in
     IfErr-weaker c.keep_settled.result _ _
-    (λ fault it. logs_end over by (given_in c.args.options.now) all c.args.sockets.now half called c.keep_settled.new.sockets old.now mid.now known heard spoken c.in_ok-called.called fault are settles found says it)
+    (λ fault it. logs_end over by (given_in c.args.options.now) all c.args.sockets.now half c.keep_settled.new.sockets old.now mid.now known heard fault are settles it)
     (c.keep_settled.ensures.caused clean schema)
 
 pub returns-in_err-heard-clause-caused : goal.returns-in_err-heard-clause-caused
 returns-in_err-heard-clause-caused g c clean has =
     because c.from_residual.result c.in_err-heard.field-0.0 _ (search rules) (inl (rw c.as_slice.ensures.value at c.in_err-heard.ensures.caused clean has))
-
-pub returns-in_err-called-clause-caused : goal.returns-in_err-called-clause-caused
-returns-in_err-called-clause-caused g c clean has =
-    let over = socket_rules g.S.Sockets.opens g.S.Sockets.closes g.S.Socket.Port.sends g.S.Socket.Port.receives g.S.Socket.Port.receives_within in
-    let mid = state g.A.Store c.settle_known.new.conn in
-    let (known, are, settles) = rw c.as_slice.ensures.value at c.in_ok-heard.ensures.settled clean has in
-    because c.from_residual-in_err-called.result c.in_err-called.field-0.0 _ (search rules)
-    (inr (
-      known,
-      are,
-      c.in_ok-heard.heard.items,
-      c.settle_known.new.sockets,
-      mid.now,
-      settles,
-      inl (subst (λ (l : List Wanted). EndsCalling over l c.in_ok-heard.heard.items c.settle_known.new.sockets c.hear_each.new.sockets c.in_err-called.field-0.0) c.as_slice-2.ensures.value c.in_err-called.ensures.fault),
-    ))
-
-pub returns-in_err-called-clause-fault : goal.returns-in_err-called-clause-fault
-returns-in_err-called-clause-fault g c =
-    let over = socket_rules g.S.Sockets.opens g.S.Sockets.closes g.S.Socket.Port.sends g.S.Socket.Port.receives g.S.Socket.Port.receives_within in
-    because c.from_residual-in_err-called.result c.in_err-called.field-0.0 _ (search rules)
-    (calling_ends_run over _ _ c.as_slice-2.result.now c.in_ok-heard.heard.items c.settle_known.new.sockets c.hear_each.new.sockets c.in_err-called.field-0.0 c.in_err-called.ensures.fault)
 
 pub returns-clause-fault : goal.returns-clause-fault
 returns-clause-fault g c =

@@ -7,9 +7,9 @@ use Rattle.sqlite.specs.Held.{state}
 use Rattle.bac_archive.specs.Logs.{AreLogs}
 use Rattle.bac_archive.specs.declared.trend_logs.Log.{Log}
 use Rattle.bac_ports.specs.Sockets.{socket_rules}
-use Rattle.bac_fetch.specs.Ahead.{OpensAhead, at_once}
-use Rattle.bac_fetch.specs.Causes.{EndsOpened}
-use Rattle.bac_fetch.specs.Keeps.{KeepsAll}
+use Rattle.bac_fetch.specs.Ahead.{at_once}
+use Rattle.bac_fetch.specs.Causes.{EndsCalled}
+use Rattle.bac_fetch.specs.Keeps.{KeepsCalled}
 use Rattle.bac_fetch.proofs.StaysLemmas.{quiet_first, quiet_stays}
 use Rattle.bac_archive.specs.Schema.{HasArchive}
 use Rattle.bac_fetch.proofs.keeping.keep_settled.Goals as goal
@@ -22,36 +22,34 @@ returns-clause-told g c =
     let heard = c.args.heard.items in
     let known = c.as_slice.result.now in
     let before = c.args.sockets.now in
-    let after = c.keep_ahead.new.sockets in
+    let after = c.keep_called.new.sockets in
     let old = state g.A.Store c.args.conn.now in
     let mid = state g.A.Store c.logs_of.new.conn in
-    let new = state g.A.Store c.keep_ahead.new.conn in
-    IfOk-weaker c.keep_ahead.result _ _
+    let new = state g.A.Store c.keep_called.new.conn in
+    IfOk-weaker c.keep_called.result _ _
     (λ status told. (
       told.0,
       told.1,
       told.2,
       told.3,
       λ clean has.
-          let early : HasCleanDisk mid = c.keep_ahead.ensures.clean clean in
+          let early : HasCleanDisk mid = c.keep_called.ensures.clean clean in
           let same : mid.now ≡ old.now = c.in_ok-known.ensures.same early has in
           let are : AreLogs old.now.trees known = subst (λ (l : List Log). AreLogs old.now.trees l) (sym c.as_slice.ensures.value) (c.in_ok-known.ensures.logs early has) in
           let schema : HasArchive mid.now.schema = subst (λ (d : Database). HasArchive d.schema) (sym same) has in
-          let it = told.4 clean schema in
-          let opens = subst (λ (d : Database). OpensAhead over by d.trees known heard all c.args.called before it.0) same it.1 in
-          (known, are, it.0, opens, it.2, subst (λ (d : Database). KeepsAll over known heard it.2 all it.0 after d new.now told.0) same it.3),
+          (known, are, subst (λ (d : Database). KeepsCalled over by known heard all before after d new.now told.0) same (told.4 clean schema)),
     ))
-    c.keep_ahead.ensures.told
+    c.keep_called.ensures.told
 
 pub returns-clause-stays : goal.returns-clause-stays
 returns-clause-stays g c clean has =
     let old = state g.A.Store c.args.conn.now in
     let mid = state g.A.Store c.logs_of.new.conn in
-    let new = state g.A.Store c.keep_ahead.new.conn in
-    let early : HasCleanDisk mid = c.keep_ahead.ensures.clean clean in
+    let new = state g.A.Store c.keep_called.new.conn in
+    let early : HasCleanDisk mid = c.keep_called.ensures.clean clean in
     let same : mid.now ≡ old.now = c.in_ok-known.ensures.same early has in
     let schema : HasArchive mid.now.schema = subst (λ (d : Database). HasArchive d.schema) (sym same) has in
-    quiet_first old mid new same (c.logs_of.ensures.crash has) (c.keep_ahead.ensures.stays clean schema)
+    quiet_first old mid new same (c.logs_of.ensures.crash has) (c.keep_called.ensures.stays clean schema)
 
 pub returns-in_err-known-clause-stays : goal.returns-in_err-known-clause-stays
 returns-in_err-known-clause-stays g c clean has = quiet_stays (state g.A.Store c.args.conn.now) (state g.A.Store c.logs_of.new.conn) (c.logs_of.ensures.crash has)
@@ -61,16 +59,16 @@ returns-clause-caused g c clean has =
     let over = socket_rules g.S.Sockets.opens g.S.Sockets.closes g.S.Socket.Port.sends g.S.Socket.Port.receives g.S.Socket.Port.receives_within in
     let known = c.as_slice.result.now in
     let before = c.args.sockets.now in
-    let after = c.keep_ahead.new.sockets in
+    let after = c.keep_called.new.sockets in
     let old = state g.A.Store c.args.conn.now in
     let mid = state g.A.Store c.logs_of.new.conn in
-    let early : HasCleanDisk mid = c.keep_ahead.ensures.clean clean in
+    let early : HasCleanDisk mid = c.keep_called.ensures.clean clean in
     let same : mid.now ≡ old.now = c.in_ok-known.ensures.same early has in
     let are : AreLogs old.now.trees known = subst (λ (l : List Log). AreLogs old.now.trees l) (sym c.as_slice.ensures.value) (c.in_ok-known.ensures.logs early has) in
     let schema : HasArchive mid.now.schema = subst (λ (d : Database). HasArchive d.schema) (sym same) has in
-    IfErr-weaker c.keep_ahead.result _ _
-    (λ fault it. inr (known, are, subst (λ (d : Database). EndsOpened over (at_once g.S.Recalls.holds g.C.Clock.reads c.args.clock c.args.window) known c.args.heard.items c.args.all.items c.args.called before after d fault) same it))
-    (c.keep_ahead.ensures.caused clean schema)
+    IfErr-weaker c.keep_called.result _ _
+    (λ fault it. inr (known, are, subst (λ (d : Database). EndsCalled over (at_once g.S.Recalls.holds g.C.Clock.reads c.args.clock c.args.window) known c.args.heard.items c.args.all.items before after d fault) same it))
+    (c.keep_called.ensures.caused clean schema)
 
 pub returns-in_err-known-clause-fault : goal.returns-in_err-known-clause-fault
 returns-in_err-known-clause-fault g c =

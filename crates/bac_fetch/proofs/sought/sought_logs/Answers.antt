@@ -36,7 +36,7 @@ loop-one-preserved g c =
       asks = all_ask c.loop-one.all.items (told_by listing) c.add_listing.new.all.items told.added asks c.in_ok-listing.ensures.asks;
       found = (
         was.0 ++ unlisted_by listing,
-        add_one over c.loop-one.yielded c.in-Some.one [] [] c.args.sockets.now c.loop-one.all.items was.0 c.loop-one.sockets listing c.add_listing.new.all.items c.logs_of_device.new.sockets
+        add_one over c.args.silent.now c.loop-one.yielded c.in-Some.one [] [] c.args.sockets.now c.loop-one.all.items was.0 c.loop-one.sockets listing c.add_listing.new.all.items c.logs_of_device.new.sockets
             was.1 c.in_ok-listing.ensures.found told.added,
         subst (Appends (g.O.Write.contents c.args.output.now) (g.O.Write.contents c.add_listing.new.output)) (sym (lines_behind was.0 (unlisted_by listing)))
             (Appends-trans _ (g.O.Write.contents c.loop-one.output) _ (unlisted_lines was.0) (unlisted_lines (unlisted_by listing)) was.2 told.printed),
@@ -51,7 +51,7 @@ returns-clause-found g c =
     ∙ c.into_iter-one-iterator.ensures.into_iter_gives.0 in
     let found = c.loop-one.invariant.found in (
       found.0,
-      subst (λ (l : List Sought). AddSought over l [] [] c.args.sockets.now c.loop-one.all.items found.0 c.loop-one.sockets) all found.1,
+      subst (λ (l : List Sought). AddSought over c.args.silent.now l [] [] c.args.sockets.now c.loop-one.all.items found.0 c.loop-one.sockets) all found.1,
       found.2,
       found.3,
     )
@@ -63,8 +63,8 @@ returns-in_err-listing-clause-fault g c =
     let (rest, is) = taken_apart c.into_iter-one-iterator.result c.loop-one.yielded c.loop-one.one-iterator c.next.new.self c.in-Some.one c.loop-one.yielded_by c.in-Some.ensures.steps in
     let found = c.loop-one.invariant.found in
     because c.from_residual.result fault _ (search rules)
-    (inr (subst (λ (l : List Sought). EndsAt over l c.args.sockets.now c.logs_of_device.new.sockets fault) (sym is ∙ c.into_iter-one-iterator.ensures.into_iter_gives.0)
-    (ends_at over c.loop-one.yielded c.in-Some.one rest [] [] c.args.sockets.now c.loop-one.all.items found.0 c.loop-one.sockets c.logs_of_device.new.sockets fault found.1 c.in_err-listing.ensures.fault)))
+    (inr (subst (λ (l : List Sought). EndsAt over c.args.silent.now l c.args.sockets.now c.logs_of_device.new.sockets fault) (sym is ∙ c.into_iter-one-iterator.ensures.into_iter_gives.0)
+    (ends_at over c.args.silent.now c.loop-one.yielded c.in-Some.one rest [] [] c.args.sockets.now c.loop-one.all.items found.0 c.loop-one.sockets c.logs_of_device.new.sockets fault found.1 c.in_err-listing.ensures.fault)))
 
 pub returns-in_err-told-clause-fault : goal.returns-in_err-told-clause-fault
 returns-in_err-told-clause-fault g c =

@@ -13,6 +13,6 @@ abbrev pub invariant-loop-one : goal.invariant-loop-one
 invariant-loop-one g l = record {
   asks : All AsksItsSource l.all.items;
   found : (unlisted : List Unlisted)
-      × AddSought (socket_rules g.S.Sockets.opens g.S.Sockets.closes g.S.Socket.Port.sends g.S.Socket.Port.receives g.S.Socket.Port.receives_within) l.yielded [] [] l.fn.sockets l.all.items unlisted l.sockets
+      × AddSought (socket_rules g.S.Sockets.opens g.S.Sockets.closes g.S.Socket.Port.sends g.S.Socket.Port.receives g.S.Socket.Port.receives_within) l.silent l.yielded [] [] l.fn.sockets l.all.items unlisted l.sockets
       × Appends (g.O.Write.contents l.fn.output) (g.O.Write.contents l.output) (unlisted_lines unlisted) × (l.status ≡ unlisted_status unlisted);
 }

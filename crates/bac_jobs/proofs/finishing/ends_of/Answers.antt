@@ -1,4 +1,4 @@
-use Rattle.std.proofs.Common.{◌≡◌, List, [], ◌∷◌, length, length-append, slice_get, ap, sym, ◌∙◌, arith}
+use Rattle.std.proofs.Common.{◌≡◌, length, ap, arith}
 use Rattle.bac_jobs.specs.Jobs.{HasEnded}
 use Rattle.bac_jobs.proofs.Ends.{got, none_there, pushed}
 use Rattle.bac_jobs.proofs.finishing.ends_of.Goals as goal
@@ -11,12 +11,9 @@ loop-place-init g c = (
 
 pub loop-place-preserved : goal.loop-place-preserved
 loop-place-preserved g c =
-    let more = c.in_ok-push.ensures.items in (
-      ap length more ∙ (let e : length c.loop-place.ends.items ≡ c.loop-place.place = c.loop-place.invariant.0 in omega (arith, length-append c.loop-place.ends.items (c.in-Some.end ∷ []))),
-      λ at end is.
-          pushed g.J.Job.plays c.args.jobs.now c.args.desks.now.table.seats c.loop-place.ends.items c.in-Some.end c.loop-place.place c.loop-place.invariant.0 c.loop-place.invariant.1
-          (got c.in_ok-end.field-0 c.in-Some.end (λ e. HasEnded g.J.Job.plays c.args.jobs.now c.args.desks.now.table.seats c.loop-place.place e) c.in-Some.is c.in_ok-end.ensures) at end (sym (ap (λ (l : List _). slice_get l at) more) ∙ is),
-    )
+    pushed (λ place end. HasEnded g.J.Job.plays c.args.jobs.now c.args.desks.now.table.seats place end) c.loop-place.ends.items c.push.new.self.items c.in-Some.end
+    c.loop-place.place c.in_ok-push.ensures.items c.loop-place.invariant
+    (got c.in_ok-end.field-0 c.in-Some.end (λ e. HasEnded g.J.Job.plays c.args.jobs.now c.args.desks.now.table.seats c.loop-place.place e) c.in-Some.is c.in_ok-end.ensures)
 
 pub returns : goal.returns
 returns g c = (

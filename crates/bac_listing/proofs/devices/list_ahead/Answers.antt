@@ -8,7 +8,7 @@ pub returns-clause-lists : goal.returns-clause-lists
 returns-clause-lists g c =
     let over = socket_rules g.S.Sockets.opens g.S.Sockets.closes g.S.Socket.Port.sends g.S.Socket.Port.receives g.S.Socket.Port.receives_within in
     IfOk-weaker c.list_as.result _ _
-    (λ came it. many over (paced g.C.Clock.reads c.args.clock c.args.window) c.args.devices.now c.first-item.result came.items c.args.sockets.now
+    (λ lists it. many over (paced g.C.Clock.reads c.args.clock c.args.window) c.args.devices.now c.first-item.result lists.came.items lists.silent.items c.args.sockets.now
     c.list_as.new.sockets c.in-len2-up.len_at_least c.first-item.is it)
     c.list_as.ensures.lists
 

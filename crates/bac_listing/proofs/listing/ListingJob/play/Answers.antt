@@ -8,9 +8,10 @@ returns c =
     IfOk-weaker c.turn_by.result _ _
     (λ turn it. (
       c.new-link.result,
-      c.in_ok-left.left,
+      c.in_ok-asked.asked.1,
+      c.in_ok-asked.asked.0,
       (c.new-link.ensures.outcomes, c.new-link.ensures.wet),
-      asks_by c.args.self.now.like.asked.route t.field-0 c.new-link.result c.in_ok-left.left t.ensures.retries t.ensures.route c.in_ok-left.ensures,
+      asks_by c.args.self.now.like.asked.route t.field-0 c.new-link.result c.in_ok-asked.asked.1 c.in_ok-asked.asked.0 t.ensures.retries t.ensures.route c.in_ok-asked.ensures,
       it,
     ))
     c.turn_by.ensures

@@ -1,7 +1,7 @@
 use Rattle.std.proofs.Common.{◌≡◌, ◌<◌, ◌∙◌, ◌∷◌, [], length, length-append, sym, arith}
 use Rattle.bac_absent.proofs.Put.{next_place, within}
 use Rattle.bac_absent.proofs.Taken.{taken_apart}
-use Rattle.bac_absent.proofs.each.put_each.Goals as goal
+use Rattle.bac_absent.proofs.putting.put_each.Goals as goal
 
 pub loop-ending-preserved : goal.loop-ending-preserved
 loop-ending-preserved c =
@@ -13,6 +13,6 @@ loop-ending-preserved c =
     within c.args.called.now yielded rest c.args.endings.items ending c.loop-ending.at (sym c.into_iter-ending-iterator.ensures.into_iter_gives.0 ∙ are) c.requires at in
     record {
       at = omega (arith, at, length-append yielded (ending ∷ []));
-      put = next_place c.args.called.now yielded c.loop-ending.at c.index-called-at.result ending c.args.heard.now.items c.loop-ending.heard.items c.put_one.new.heard.items
-          lt at c.index-called-at.is c.loop-ending.invariant.put c.in_ok-put_one.ensures.put;
+      put = next_place c.args.called.now yielded c.loop-ending.at c.index-called-at.result ending c.args.heard.now.items c.loop-ending.heard.items c.put_if.new.heard.items
+          lt at c.index-called-at.is c.loop-ending.invariant.put c.in_ok-put_if.ensures.put;
     }

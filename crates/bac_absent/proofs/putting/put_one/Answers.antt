@@ -2,7 +2,7 @@ use Rattle.std.proofs.Common.{List, ap, ◌∙◌}
 use Rattle.bac_questions.specs.declared.whose.Heard.{Heard}
 use Rattle.bac_absent.specs.Each.{is_left_out}
 use Rattle.bac_absent.proofs.Put.{alone}
-use Rattle.bac_absent.proofs.each.put_one.Goals as goal
+use Rattle.bac_absent.proofs.putting.put_one.Goals as goal
 
 pub returns-clause-put : goal.returns-clause-put
 returns-clause-put c =

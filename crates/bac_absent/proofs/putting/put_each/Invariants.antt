@@ -1,6 +1,6 @@
 use Rattle.std.proofs.Common.{◌≡◌, length, map, take}
 use Rattle.bac_absent.specs.Each.{PutsEach}
-use Rattle.bac_absent.proofs.each.put_each.Given as goal
+use Rattle.bac_absent.proofs.putting.put_each.Given as goal
 
 -- of the devices so far
 abbrev pub invariant-loop-ending : goal.invariant-loop-ending

@@ -1,0 +1,19 @@
+use Rattle.std.proofs.Common.{◌∙◌}
+use Rattle.bac_hearing.specs.Hearing.{paced}
+use Rattle.bac_ports.specs.Sockets.{socket_rules}
+use Rattle.bac_absent.proofs.Together.{hears_first, unending}
+use Rattle.bac_absent.proofs.calling.begin_called.Goals as goal
+
+pub returns-in-Ok-clause-begun : goal.returns-in-Ok-clause-begun
+returns-in-Ok-clause-begun g c =
+    let over = socket_rules g.S.Sockets.opens g.S.Sockets.closes g.S.Socket.Port.sends g.S.Socket.Port.receives g.S.Socket.Port.receives_within in
+    let begun = c.in-Ok.begun in
+    hears_first over (paced g.C.Clock.reads c.args.clock c.args.window) c.args.asked.now c.args.called.now c.as_slice.result.now c.as_slice-2.result.now c.args.sockets.now
+    c.begin_all.new.sockets begun.early.items begun.desks.port begun.desks.clock begun.desks.table (c.as_slice.ensures.value ∙ c.in-Ok-Ok.ensures)
+    (c.as_slice-2.ensures.value ∙ c.in-Ok-Ok.ensures') c.in-Ok.ensures.begun
+
+pub returns-in-Err-Unfinished-clause-unending : goal.returns-in-Err-Unfinished-clause-unending
+returns-in-Err-Unfinished-clause-unending g c =
+    let over = socket_rules g.S.Sockets.opens g.S.Sockets.closes g.S.Socket.Port.sends g.S.Socket.Port.receives g.S.Socket.Port.receives_within in
+    unending over (paced g.C.Clock.reads c.args.clock c.args.window) c.args.asked.now c.args.called.now c.as_slice.result.now c.args.sockets.now c.begin_all.new.sockets
+    (c.as_slice.ensures.value ∙ c.in-Ok-Ok.ensures) (rw c.in-Err-Unfinished.field-0-is at c.in-Err-Unfinished.ensures.fault)

@@ -1,0 +1,19 @@
+use Rattle.bac_hearing.proofs.Parted.{begins}
+use Rattle.bac_hearing.proofs.Ended.{waits, weaker, weaker_none}
+use Rattle.bac_hearing.proofs.beside.begin_seated.Goals as goal
+
+pub returns-clause-begun : goal.returns-clause-begun
+returns-clause-begun g c =
+    weaker c.begin.result _ _
+    (λ all begun. begins g.P.Port.sends g.P.Port.receives_within g.C.Clock.reads g.J.Job.plays c.args.jobs.now c.args.desks.now.port c.seat_all.new.desks.port c.begin.new.desks.port
+    c.args.desks.now.clock c.seat_all.new.desks.clock c.begin.new.desks.clock _ c.seat_all.new.desks.table c.begin.new.desks.table all.items
+    c.seat_all.ensures.port c.seat_all.ensures.clock c.in_ok-seat_all.ensures.table c.begin.ensures.serves begun)
+    c.begin.ensures.begun
+
+pub returns-clause-unfinished : goal.returns-clause-unfinished
+returns-clause-unfinished g c =
+    weaker_none c.begin.result _ _
+    (λ made. waits g.P.Port.sends g.P.Port.receives_within g.C.Clock.reads 18446744073709551615 c.args.desks.now.port c.seat_all.new.desks.port c.begin.new.desks.port
+    c.args.desks.now.clock c.seat_all.new.desks.clock c.begin.new.desks.clock _ c.seat_all.new.desks.table c.begin.new.desks.table
+    c.seat_all.ensures.port c.seat_all.ensures.clock c.in_ok-seat_all.ensures.table made)
+    c.begin.ensures.unfinished
