@@ -161,6 +161,12 @@ bac wp 127.0.0.1 5 1 85 8 5 --value=1
 wrong 'a tag that is not written' 'TAG: 0, 1, 2, 3, 4, 7 or 9'
 bac wp 127.0.0.1 5 1 85 8 9
 wrong 'no value' '--value: a value of the tag: none for 0, else one; bac wp --help has the tags'
+# A text has at most 1,400 octets. Nobody is at this address.
+text=$(printf 'x%.0s' {1..1400})
+bac wp 127.0.0.1 5 1 85 8 7 "--value=x$text"
+wrong 'a text of 1,401 octets' '--value: a value of the tag: none for 0, else one; bac wp --help has the tags'
+bac wp 127.77.77.77:9 5 1 85 8 7 "--value=$text" --timeout=1 --retries=0
+ended 'a text of 1,400 octets' 2 $'lost\nno answer came from 127.77.77.77:9\n'
 bac wi 127.0.0.1 --max=5
 wrong '--max alone' '--max: a number from 0 to 4194303, beside --min'
 bac keep a.db --stop
@@ -253,6 +259,8 @@ ended 'a server at an address of another machine' 2 "$elsewhere"
 at=127.77.77.77:$((20000 + RANDOM))
 bac serve "$at" --count=0 < ../use/plant.conf
 ended 'a server of no datagram' 0 "serving $at"$'\n'
+bac serve "127.077.0077.77:0${at#*:}" --count=0000000000 < ../use/plant.conf
+ended 'a server whose numbers begin with zeros' 0 "serving $at"$'\n'
 bac serve "${at%:*}" --count=0 < ../use/plant.conf
 ended 'a server at the port of BACnet' 0 "serving ${at%:*}:47808"$'\n'
 "$program" serve "$at" --count=0 < ../use/plant.conf > "$room/out" 2> /dev/full

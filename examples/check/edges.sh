@@ -63,6 +63,14 @@ done
 is 'a server tells that it is up before anyone asks' "$(cat "$room/alone.told")" "serving $at"
 unserved
 
+# Waits in vain aren't counted: a server of one datagram is there behind several of 200 ms each.
+at=127.77.5.$((RANDOM % 250 + 1)):47001
+"$program" serve "$at" --count=1 < ../use/plant.conf > "$room/waits.told" 2>&1 &
+server=$!
+sleep 1.5
+is 'a server waits on while nobody asks' "$(kill -0 "$server" 2> /dev/null && echo yes)" yes
+unserved
+
 # --local is the address and the port that a device sees, for each tool that asks.
 cat > "$room/seen.py" <<'P'
 import socket, subprocess, sys
@@ -154,15 +162,20 @@ me = socket.socket(socket.AF_INET, socket.SOCK_DGRAM)
 me.bind(("127.0.0.1", 0))
 me.settimeout(5)
 at = ("127.0.0.1", int(sys.argv[1]))
-# 1502 octets; a Who-Is forwarded for 0.0.127.1:0, where no answer can go; then one that is answered.
+# 1502 octets; a Who-Is forwarded for 0.0.127.1:0, where no answer can go; then one that is answered; and one that
+# another socket forwards, which is answered to the address that it names.
 me.sendto(b"\x81" * 1502, at)
 me.sendto(bytes.fromhex("81040012 00007f010000 0120ffff00ff 1008"), at)
 me.sendto(bytes.fromhex("810b000c 0120ffff00ff 1008"), at)
 octets, sender = me.recvfrom(2000)
 print(octets.hex(), sender == at)
+other = socket.socket(socket.AF_INET, socket.SOCK_DGRAM)
+other.sendto(bytes.fromhex("81040012 7f000001 %04x 0120ffff00ff 1008" % me.getsockname()[1]), at)
+print(me.recvfrom(2000)[0].hex())
 P
 python3 "$room/strange.py" "$port" > "$room/out" 2>&1
-is 'a server goes on behind datagrams that are none' "$(cat "$room/out")" '810a001401001000c40200007b2205c491032100 True'
+is 'a server goes on behind datagrams that are none' "$(cat "$room/out")" '810a001401001000c40200007b2205c491032100 True
+810a001401001000c40200007b2205c491032100'
 
 # Each low and each high octet of a port is answered. Low ports may be for the system alone.
 cat > "$room/answered.py" <<'P'

@@ -228,6 +228,10 @@ def reads_refused(program, name):
     if found != len(script) + 1:
         raise Wrong(f"{found} reads of {len(script)} octets")
     each(refused_whole(script, output), *run, CALL="read", MANY=1, ERROR=errno.EIO)
+    # A bad line is the fault, though a read behind it was refused.
+    bad = (program, ["replay"], b"device 123 plant 0 1476 2024-05-06T07:08:09.10\nrx 8\n")
+    told = b"line 2: bad line\nword 2: 2 to 3002 hexadecimal digits, an even number\n"
+    Ended(*bad, CALL="read", AT=2, MANY=1, ERROR=errno.EIO).must(1, b"", told)
     each(interrupted, *run, CALL="read", MANY=1, ERROR=errno.EINTR)
     return f"{found} reads"
 
@@ -258,6 +262,25 @@ def writes_refused(program, name):
     each(lambda _, ended: ended.must(2, b"", b"write fault\n"), *run, CALL="write", MANY=1, ERROR=errno.EIO)
     each(interrupted, *run, CALL="write", MANY=1, ERROR=errno.EINTR)
     return f"{found} writes"
+
+
+def tool_writes_refused(program, at, peer):
+    """The same of what the tools print."""
+    found = f"I-Am 123 {at} max-apdu 1476 segmentation 3 vendor 0\n".encode()
+    counts = []
+    for words, whole in (
+        (["rp", at, "8", "123", "77"], b'"plant"\n'),
+        (["log", peer, "1", "1"], WALKED),
+        (["wi", at, "--timeout=100"], found),
+    ):
+
+        def refused(call, ended, whole=whole):
+            ended.must(2, whole[: call - 1], b"write fault\n")
+
+        counts.append(each(refused, program, words, CALL="write", MANY=1, ERROR=errno.ENOSPC, SHORT=1))
+        if counts[-1] != len(whole):
+            raise Wrong(f"{words}: {counts[-1]} writes of {len(whole)} octets")
+    return f"{counts} writes"
 
 
 def version_refused(program):
@@ -435,6 +458,11 @@ def sockets_refused(program, at):
                 raise Wrong(f"{ended.refused} {call} refused, and 4 are wanted")
     # A send that took fewer octets than it was given has failed, whatever is answered to it.
     Ended(*asked, CALL="sendto", AT=1, MANY=EVERY, ERROR=0).must(2, b"", unsent_to(at))
+    # What a search has printed stays where a receive fails behind it.
+    search = (program, ["wi", at, "--timeout=200"])
+    found = f"I-Am 123 {at} max-apdu 1476 segmentation 3 vendor 0\n".encode()
+    # Of the two receives before it one brings the answer: a look at what waits, or the wait behind it.
+    Ended(*search, CALL="recvfrom", AT=3, MANY=1, ERROR=errno.EIO).must(2, found, b"socket fault\n")
     # A receive that a signal interrupts is made again, however many do: nothing is asked anew.
     once = (program, [*asked[1], "--retries=0"])
     for many in (1, 2, 3, 4, 5, 6, 300):
@@ -498,6 +526,11 @@ def server_refused(program, configuration):
         asked = ["rp", server.at, "8", "123", "77"]
         Ended(program, [*asked, "--retries=0", "--timeout=300"]).must(2, b"", lost_at(server.at))
         Ended(program, asked).must(0, b'"plant"\n', b"")
+    # What was written stays written though its acknowledgement can't be sent.
+    with Server(program, configuration, CALL="sendto", AT=2, MANY=1, ERROR=errno.EPERM) as server:
+        write = ["wp", server.at, "5", "1", "85", "8", "9", "--value=1", "--retries=0", "--timeout=300"]
+        Ended(program, write).must(2, b"", lost_at(server.at))
+        Ended(program, ["rp", server.at, "5", "1", "85"]).must(0, b"enum(1)\n", b"")
     run = (program, ["serve", "127.77.77.77:47814", "--count=1"], configuration)
     # It was up before that.
     failed = b"serving 127.77.77.77:47814\nsocket fault\n"
@@ -564,6 +597,7 @@ def main(program, vectors=os.path.join(FOLDER, "../../crates/bac_vectors/out/bac
             *words_without_memory(program),
             ("reads", reads_refused, program, "walk"),
             ("writes", writes_refused, program, "walk"),
+            ("writes of the tools", tool_writes_refused, program, server.at, Peer().at),
             ("the version", version_refused, program),
             ("lines on standard error", lines_refused, program),
             ("a configuration", configuration_refused, program),

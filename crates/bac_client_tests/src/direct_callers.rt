@@ -25,7 +25,7 @@ ghost use Rattle.bac_direct.specs.Ahead.{moments_ahead, placed, placed_all};
 ghost use Rattle.bac_client_tests.specs.Day.{day, day_moments, plant as plant_of};
 ghost use Rattle.bac_client_tests.specs.Held.{held_from};
 
-use crate::direct_link::{PURGE, absent, at, brought, gap, name, plant, purged, state};
+use crate::direct_link::{PURGE, absent, brought, clock, gap, name, purged};
 use crate::walk_callers;
 use bac_device::{Device, DeviceLine, Name, ObjectLine, questions_are_answered};
 use bac_direct::{DirectLink, LinkEvent, questions_are_the_devices, replies_are_the_devices};
@@ -189,7 +189,7 @@ fn a_day_is_delivered(rt: HostRuntime) -> Result<(), Fail> {
         name: name(a, "plant")?,
         vendor: 0,
         reply_size: 1476,
-        clock: at(8, 9)?,
+        clock: clock()?,
     };
     let source = ObjectId::new(5, 1).ok_or("no such identifier")?;
     let outcome = records_of_a_day(a, &device, name(a, "trend")?, source, 10).ok_or("no walk")?;
@@ -204,36 +204,5 @@ fn a_day_is_delivered(rt: HostRuntime) -> Result<(), Fail> {
         purged(8),
     ];
     brought(&rt, &outcome, &items, 9, Why::CaughtUp);
-    Ok(())
-}
-
-#[test]
-fn a_log_at_rest_is_delivered(rt: HostRuntime) -> Result<(), Fail> {
-    let a = rt.alloc();
-    let mut device = plant(a, 50, 3, 0, 6)?;
-    for number in 7..12u32 {
-        assert_eq!(rt; device.sample(1), Ok(number));
-    }
-    let log = ObjectId::new(20, 1).ok_or("no such identifier")?;
-    let outcome = all_records_from(a, &mut device, log, 8, 10).ok_or("no walk")?;
-    let items = [
-        gap(8, 9),
-        state(9, 8, 9, 0),
-        state(10, 8, 9, 0),
-        state(11, 8, 9, 0),
-    ];
-    brought(&rt, &outcome, &items, 12, Why::CaughtUp);
-    let outcome = all_records_from(a, &mut device, log, 11, 10).ok_or("no walk")?;
-    brought(&rt, &outcome, &items[3..], 12, Why::CaughtUp);
-    // Number 4294967000 is that of an ordinal before all that the log holds.
-    let outcome = all_records_from_any_number(a, &mut device, log, 4_294_967_000, 10);
-    let outcome = outcome.ok_or("no walk")?;
-    let items = [
-        gap(4_294_967_000, 9),
-        state(9, 8, 9, 0),
-        state(10, 8, 9, 0),
-        state(11, 8, 9, 0),
-    ];
-    brought(&rt, &outcome, &items, 12, Why::CaughtUp);
     Ok(())
 }

@@ -1,9 +1,10 @@
-//! Walks over a link straight to a device, at which events happen between the answers.
+//! Walks over a link straight to a device, at which asks are lost, and what each ask brings. Gaps,
+//! purges and logs that aren't there are in examples/scripts.
 
 use crate::walk::StopsAt;
 use bac_device::{Device, DeviceLine, Name, ObjectLine};
 use bac_direct::{DirectLink, LinkEvent};
-use bac_link::{Item, LogLink, Lost, Refusal, Transactions};
+use bac_link::{Item, LogLink, Lost, Transactions};
 use bac_log::{Datum, Entry};
 use bac_walk::{Ended, Outcome, Walk, WalkFault, Why, collect, deliver};
 use bac_wire::{Datagram, Date4, ObjectId, Stamp, Time4};
@@ -15,25 +16,20 @@ pub(crate) fn name(alloc: Global, text: &str) -> Result<Name, Fail> {
     Ok(Name::of(String::from_str(alloc, text)?))
 }
 
-/// 2024-05-06, a Monday, at 07, this minute and second, and 10 hundredths.
-pub(crate) fn at(minute: u8, second: u8) -> Result<Stamp, Fail> {
-    Ok(Stamp::new(2024, 5, 6, 7, minute, second, 10).ok_or("no such moment")?)
+/// 2024-05-06, a Monday, at 07:08:09.10.
+pub(crate) fn clock() -> Result<Stamp, Fail> {
+    Ok(Stamp::new(2024, 5, 6, 7, 8, 9, 10).ok_or("no such moment")?)
 }
 
-/// Device 123 with Binary Value 1 and Trend Log 1 of it; the clock shows 07:08:09.10.
-pub(crate) fn plant(
-    alloc: Global,
-    reply_size: u16,
-    capacity: u32,
-    interval: u32,
-    logged: u32,
-) -> Result<Device, Fail> {
+/// Device 123 with Binary Value 1 and Trend Log 1 of it, for so many records; the clock shows
+/// 07:08:09.10.
+pub(crate) fn plant(alloc: Global, capacity: u32) -> Result<Device, Fail> {
     let device = DeviceLine {
         instance: 123,
         name: name(alloc, "plant")?,
         vendor: 0,
-        reply_size,
-        clock: at(8, 9)?,
+        reply_size: 1476,
+        clock: clock()?,
     };
     let lines = [
         ObjectLine::Binary {
@@ -46,8 +42,8 @@ pub(crate) fn plant(
             name: name(alloc, "trend")?,
             source: ObjectId::new(5, 1).ok_or("no such identifier")?,
             capacity,
-            interval,
-            logged,
+            interval: 0,
+            logged: 0,
         },
     ];
     Ok(
@@ -70,11 +66,6 @@ pub(crate) const PURGE: [u8; 21] = [
     0x81, 0x0a, 0, 0x15, 1, 4, 0, 5, 9, 0x0f, 0x0c, 5, 0, 0, 1, 0x19, 0x8d, 0x3e, 0x21, 0, 0x3f,
 ];
 
-/// WriteProperty of the pump's Present_Value 1 at priority 8.
-fn start(alloc: Global) -> Result<LinkEvent, Fail> {
-    Ok(LinkEvent::Handle(datagram(alloc, "810a001701040005010f0c0140000119553e91013f4908")?))
-}
-
 /// 2024-05-06, a Monday.
 const DATE: Date4 = Date4 {
     year: 124,
@@ -83,16 +74,16 @@ const DATE: Date4 = Date4 {
     weekday: 1,
 };
 
-/// The record of this datum at 07, this minute and second, and 10 hundredths.
-fn record(number: u32, minute: u8, second: u8, datum: Datum, flags: Option<u8>) -> Item {
+/// The record of this datum at 07:08:09.10.
+fn record(number: u32, datum: Datum, flags: Option<u8>) -> Item {
     Item::Logged {
         number,
         entry: Entry {
             date: DATE,
             time: Time4 {
                 hour: 7,
-                minute,
-                second,
+                minute: 8,
+                second: 9,
                 hundredth: 10,
             },
             datum,
@@ -101,18 +92,19 @@ fn record(number: u32, minute: u8, second: u8, datum: Datum, flags: Option<u8>) 
     }
 }
 
-pub(crate) fn state(number: u32, minute: u8, second: u8, state: u32) -> Item {
-    record(number, minute, second, Datum::Enumerated(state), Some(0))
+/// The record of the pump, which doesn't run.
+pub(crate) fn state(number: u32) -> Item {
+    record(number, Datum::Enumerated(0), Some(0))
 }
 
-/// The record at 07:08:09.10 of a source that isn't there.
+/// The record of a source that isn't there.
 pub(crate) fn absent(number: u32) -> Item {
-    record(number, 8, 9, Datum::Failure { class: 1, code: 31 }, None)
+    record(number, Datum::Failure { class: 1, code: 31 }, None)
 }
 
-/// The record of a purge at 07:08:09.10.
+/// The record of a purge.
 pub(crate) fn purged(number: u32) -> Item {
-    record(number, 8, 9, Datum::LogStatus(64), None)
+    record(number, Datum::LogStatus(64), None)
 }
 
 pub(crate) fn gap(first: u32, before: u32) -> Item {
@@ -142,9 +134,9 @@ pub(crate) fn brought(rt: &impl Abort, outcome: &Outcome, items: &[Item], next: 
 #[test]
 fn retries_are_counted_for_each_request(rt: HostRuntime) -> Result<(), Fail> {
     let a = rt.alloc();
-    let mut device = plant(a, 1476, 5, 0, 0)?;
+    let mut device = plant(a, 5)?;
     assert_eq!(rt; device.sample(1), Ok(1));
-    let first = [state(1, 8, 9, 0)];
+    let first = [state(1)];
     let events = [
         LinkEvent::Lose,
         LinkEvent::Answer,
@@ -169,9 +161,9 @@ fn retries_are_counted_for_each_request(rt: HostRuntime) -> Result<(), Fail> {
 #[test]
 fn three_losses_before_each_answer_lose_nothing(rt: HostRuntime) -> Result<(), Fail> {
     let a = rt.alloc();
-    let mut device = plant(a, 1476, 5, 0, 0)?;
+    let mut device = plant(a, 5)?;
     assert_eq!(rt; device.sample(1), Ok(1));
-    let first = [state(1, 8, 9, 0)];
+    let first = [state(1)];
     let events = [
         LinkEvent::Lose,
         LinkEvent::Lose,
@@ -190,42 +182,9 @@ fn three_losses_before_each_answer_lose_nothing(rt: HostRuntime) -> Result<(), F
 }
 
 #[test]
-fn overwritten_records_are_a_gap(rt: HostRuntime) -> Result<(), Fail> {
-    let a = rt.alloc();
-    // A reply of 50 octets holds one record.
-    let mut device = plant(a, 50, 3, 0, 0)?;
-    let events = [
-        LinkEvent::Sample(1),
-        LinkEvent::Answer,
-        LinkEvent::Sample(1),
-        LinkEvent::Lose,
-        LinkEvent::Sample(1),
-        LinkEvent::Sample(1),
-        start(a)?,
-        LinkEvent::Advance(at(9, 0)?),
-        LinkEvent::Sample(1),
-        // Neither of these changes anything.
-        LinkEvent::Sample(2),
-        LinkEvent::Advance(at(8, 9)?),
-    ];
-    let outcome = walked(a, &mut device, &events, 1, 1)?;
-    let items = [
-        state(1, 8, 9, 0),
-        gap(2, 3),
-        state(3, 8, 9, 0),
-        state(4, 8, 9, 0),
-        state(5, 9, 0, 1),
-    ];
-    brought(&rt, &outcome, &items, 6, Why::CaughtUp);
-    assert_eq!(rt; device.log(1).ok_or("no log")?.total(), 5);
-    assert_eq!(rt; device.clock(), at(9, 0)?);
-    Ok(())
-}
-
-#[test]
 fn a_stopped_walk_is_resumed_after_samples(rt: HostRuntime) -> Result<(), Fail> {
     let a = rt.alloc();
-    let mut device = plant(a, 1476, 3, 0, 0)?;
+    let mut device = plant(a, 3)?;
     for number in 1..6u32 {
         assert_eq!(rt; device.sample(1), Ok(number));
     }
@@ -240,7 +199,7 @@ fn a_stopped_walk_is_resumed_after_samples(rt: HostRuntime) -> Result<(), Fail> 
     let ended = deliver(&mut link, &mut transactions, &mut walk, 10, &mut sink);
     assert_eq!(rt; ended, Ended::Stopped);
     assert_eq!(rt; walk.next_number(), 4);
-    let items = [gap(1, 3), state(3, 8, 9, 0)];
+    let items = [gap(1, 3), state(3)];
     assert_eq!(rt; sink.items.as_slice(), items.as_slice());
     assert_eq!(rt; device.sample(1), Ok(6));
     assert_eq!(rt; device.sample(1), Ok(7));
@@ -248,14 +207,7 @@ fn a_stopped_walk_is_resumed_after_samples(rt: HostRuntime) -> Result<(), Fail> 
     let ended = deliver(&mut link, &mut transactions, &mut walk, 10, &mut sink);
     assert_eq!(rt; ended, Ended::CaughtUp);
     assert_eq!(rt; walk.next_number(), 8);
-    let items = [
-        gap(1, 3),
-        state(3, 8, 9, 0),
-        gap(4, 5),
-        state(5, 8, 9, 0),
-        state(6, 8, 9, 0),
-        state(7, 8, 9, 0),
-    ];
+    let items = [gap(1, 3), state(3), gap(4, 5), state(5), state(6), state(7)];
     assert_eq!(rt; sink.items.as_slice(), items.as_slice());
     let ended = deliver(&mut link, &mut transactions, &mut walk, 0, &mut sink);
     assert_eq!(rt; ended, Ended::StepLimit);
@@ -264,62 +216,9 @@ fn a_stopped_walk_is_resumed_after_samples(rt: HostRuntime) -> Result<(), Fail> 
 }
 
 #[test]
-fn a_purge_is_a_gap_up_to_its_record(rt: HostRuntime) -> Result<(), Fail> {
-    let a = rt.alloc();
-    let mut device = plant(a, 50, 10, 0, 0)?;
-    for number in 1..6u32 {
-        assert_eq!(rt; device.sample(1), Ok(number));
-    }
-    let events = [
-        LinkEvent::Answer,
-        LinkEvent::Handle(Datagram::of(&PURGE).ok_or("too long")?),
-        LinkEvent::Answer,
-        LinkEvent::Sample(1),
-    ];
-    let outcome = walked(a, &mut device, &events, 1, 1)?;
-    let items = [state(1, 8, 9, 0), gap(2, 6), purged(6), state(7, 8, 9, 0)];
-    brought(&rt, &outcome, &items, 8, Why::CaughtUp);
-    Ok(())
-}
-
-#[test]
-fn due_samples_are_taken_between_answers(rt: HostRuntime) -> Result<(), Fail> {
-    let a = rt.alloc();
-    // A sample is due each second.
-    let mut device = plant(a, 1476, 2, 100, 41)?;
-    let events = [
-        LinkEvent::Advance(at(8, 10)?),
-        LinkEvent::Answer,
-        LinkEvent::Advance(at(8, 11)?),
-        LinkEvent::Advance(at(8, 12)?),
-        LinkEvent::Advance(at(8, 13)?),
-    ];
-    let outcome = walked(a, &mut device, &events, 1, 41)?;
-    let items = [
-        gap(41, 42),
-        state(42, 8, 10, 0),
-        gap(43, 44),
-        state(44, 8, 12, 0),
-        state(45, 8, 13, 0),
-    ];
-    brought(&rt, &outcome, &items, 46, Why::CaughtUp);
-    Ok(())
-}
-
-#[test]
-fn a_log_that_is_not_there_is_refused(rt: HostRuntime) -> Result<(), Fail> {
-    let a = rt.alloc();
-    let mut device = plant(a, 1476, 2, 0, 0)?;
-    let outcome = walked(a, &mut device, &[LinkEvent::Lose], 2, 1)?;
-    let refused = Why::Fault(WalkFault::Refused(Refusal::Error(1, 31)));
-    brought(&rt, &outcome, &[], 1, refused);
-    Ok(())
-}
-
-#[test]
 fn each_request_takes_its_answer(rt: HostRuntime) -> Result<(), Fail> {
     let a = rt.alloc();
-    let mut device = plant(a, 1476, 2, 0, 0)?;
+    let mut device = plant(a, 2)?;
     let events = [LinkEvent::Lose, LinkEvent::Answer, LinkEvent::Lose];
     let mut link = DirectLink::new(&mut device, &events);
     let who_is = datagram(a, "810b000801001008")?;

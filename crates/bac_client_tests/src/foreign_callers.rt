@@ -15,13 +15,10 @@ ghost use Rattle.bac_client_tests.specs.declared.foreign_callers.ForeignLink.{Fo
 ghost use Rattle.bac_client_tests.specs.Foreign.{all_held, held, history, log as log_one, said_to};
 ghost use Rattle.bac_client_tests.specs.Foreign.{IsSaid};
 
-use crate::direct_link::brought;
-use bac_link::{Item, LogLink, Lost, Transactions};
-use bac_log::{Datum, Entry};
-use bac_walk::{Outcome, Walk, Why, brought_is_delivered, collect, links_are_honest};
-use bac_wire::{Datagram, Date4, ObjectId, Time4};
+use bac_link::{LogLink, Lost, Transactions};
+use bac_walk::{Outcome, Walk, brought_is_delivered, collect, links_are_honest};
+use bac_wire::{Datagram, ObjectId};
 use std::alloc::Global;
-use std::test::Fail;
 
 /// Records 7 and 8; count and number have more octets than they need.
 const FROM_7: [u8; 68] = [
@@ -179,46 +176,4 @@ pub fn walk_of_another_device(
     links_are_honest::<ForeignLink>();
     let _count = walk.count();
     collect(alloc, link, transactions, walk, steps)
-}
-
-/// The record of this number, logged at the hour of that number.
-fn real(number: u8, octets: [u8; 4], flags: Option<u8>) -> Item {
-    let date = Date4 {
-        year: 124,
-        month: 5,
-        day: 6,
-        weekday: 1,
-    };
-    let time = Time4 {
-        hour: number,
-        minute: 0,
-        second: 0,
-        hundredth: 0,
-    };
-    let entry = Entry {
-        date,
-        time,
-        datum: Datum::Real4(octets),
-        flags,
-    };
-    Item::Logged {
-        number: u32::from(number),
-        entry,
-    }
-}
-
-#[test]
-fn another_device_is_walked(rt: HostRuntime) -> Result<(), Fail> {
-    let a = rt.alloc();
-    let log = ObjectId::new(20, 1).ok_or("no such identifier")?;
-    let mut link = ForeignLink { failures: 0 };
-    let outcome = records_of_another_device(a, &mut link, log, 0, 9).ok_or("no walk")?;
-    let items = [
-        real(7, [65, 200, 0, 0], None),
-        real(8, [65, 204, 0, 0], Some(0)),
-        real(9, [65, 208, 0, 0], Some(0)),
-        real(10, [65, 212, 0, 0], None),
-    ];
-    brought(&rt, &outcome, &items, 11, Why::CaughtUp);
-    Ok(())
 }

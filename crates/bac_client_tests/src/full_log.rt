@@ -10,7 +10,7 @@ use std::test::Fail;
 #[test]
 fn a_log_of_65535_records_is_collected(rt: HostRuntime) -> Result<(), Fail> {
     let a = rt.alloc();
-    let mut device = plant(a, 1476, 65_535, 0, 0)?;
+    let mut device = plant(a, 65_535)?;
     for number in 1..65_536u32 {
         assert_eq!(rt; device.sample(1), Ok(number));
     }

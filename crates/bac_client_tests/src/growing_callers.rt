@@ -12,13 +12,10 @@ ghost use Rattle.bac_client_tests.specs.declared.growing_callers.GrowingLink.{Gr
 ghost use Rattle.bac_client_tests.specs.Foreign.{log as log_one};
 ghost use Rattle.bac_client_tests.specs.Growing.{about, answer_to, logged_so_far, MayGrow};
 
-use crate::direct_link::brought;
-use bac_link::{Item, LogLink, Lost, Transactions};
-use bac_log::{Datum, Entry};
-use bac_walk::{Outcome, Walk, Why, collect};
-use bac_wire::{Datagram, Date4, ObjectId, Time4};
+use bac_link::{LogLink, Lost, Transactions};
+use bac_walk::{Outcome, Walk, collect};
+use bac_wire::Datagram;
 use std::alloc::Global;
-use std::test::Fail;
 
 /// A link to the device. It has logged so many records, one more at each ask, and loses each third
 /// ask, and those that it doesn't know.
@@ -141,48 +138,4 @@ pub fn walk_of_a_growing_log(
     // For the prover alone: how many records it may ask for.
     let _count = walk.count();
     collect(alloc, link, transactions, walk, steps)
-}
-
-/// The record of this number.
-fn real(number: u32) -> Item {
-    let date = Date4 {
-        year: 124,
-        month: 5,
-        day: 6,
-        weekday: 1,
-    };
-    let time = Time4 {
-        hour: 8,
-        minute: 0,
-        second: 0,
-        hundredth: 0,
-    };
-    let entry = Entry {
-        date,
-        time,
-        datum: Datum::Real4([65, 200, 0, 0]),
-        flags: None,
-    };
-    Item::Logged { number, entry }
-}
-
-#[test]
-fn a_growing_log_is_walked(rt: HostRuntime) -> Result<(), Fail> {
-    let log = ObjectId::new(20, 1).ok_or("no such identifier")?;
-    let mut link = GrowingLink {
-        logged: 2,
-        failures: 0,
-        turn: 0,
-    };
-    let mut walk = Walk::from_number(log, 2).ok_or("no walk")?;
-    let mut transactions = Transactions::new(1);
-    let outcome = walk_of_a_growing_log(rt.alloc(), &mut link, &mut transactions, &mut walk, 4);
-    brought(
-        &rt,
-        &outcome,
-        &[real(2), real(3), real(4), real(5)],
-        6,
-        Why::StepLimit,
-    );
-    Ok(())
 }

@@ -9,16 +9,14 @@ ghost use Rattle.bac_walk.specs.declared.outcome.WalkFault.TheVariants as fault;
 ghost use Rattle.bac_link.specs.Moments.{AreInWindow};
 ghost use Rattle.bac_direct.specs.Ahead.{history_ahead, IsThere, moments_ahead, placed_all};
 
-use crate::direct_link::{brought, gap, plant, state};
 use bac_device::Device;
 use bac_direct::{DirectLink, LinkEvent};
 use bac_link::{LogLink, Transactions};
 use bac_walk::{
-    Outcome, Walk, Why, collect, honest_is_delivered, moments_never_go_back, ours_are_honest,
+    Outcome, Walk, collect, honest_is_delivered, moments_never_go_back, ours_are_honest,
 };
 use bac_wire::ObjectId;
 use std::alloc::Global;
-use std::test::Fail;
 
 /// Over a link of ours whose moments lie within half of the count, the headline follows from what
 /// came: the records from the ordinal of number s on that the log holds
@@ -69,24 +67,4 @@ pub fn records_of_a_device(
     let mut link = DirectLink::new(device, events);
     let outcome = records_that_came(alloc, &mut link, log, s, steps)?;
     Some(outcome)
-}
-
-#[test]
-fn a_device_is_walked(rt: HostRuntime) -> Result<(), Fail> {
-    let a = rt.alloc();
-    let mut device = plant(a, 50, 3, 0, 6)?;
-    for number in 7..10u32 {
-        assert_eq!(rt; device.sample(1), Ok(number));
-    }
-    let log = ObjectId::new(20, 1).ok_or("no such identifier")?;
-    let events = [LinkEvent::Lose, LinkEvent::Answer];
-    let outcome = records_of_a_device(a, &mut device, &events, log, 6, 10).ok_or("no walk")?;
-    let items = [
-        gap(6, 7),
-        state(7, 8, 9, 0),
-        state(8, 8, 9, 0),
-        state(9, 8, 9, 0),
-    ];
-    brought(&rt, &outcome, &items, 10, Why::CaughtUp);
-    Ok(())
 }

@@ -1,15 +1,13 @@
-//! Transactions and exchanges: the octets of requests, their repeats, and answers that come late,
-//! from elsewhere or not at all.
+//! A request, sent again until it is given up, and the longest one that fits. Which answers are
+//! taken, and what comes of each, is in examples/check/asking.talk and strays.talk.
 
 ghost use Rattle.std.specs.Prelude.{IfSome};
 ghost use Rattle.bac_link.specs.Requests.{IsSendable};
 
 use bac_apdu::{Extent, ReadRange, WriteProperty};
-use bac_link::{
-    Answer, ExchangeFault, Received, Refusal, Request, Timeout, Transactions, answers, exchange,
-};
+use bac_link::{ExchangeFault, Received, Request, Timeout, Transactions, exchange};
 use bac_scripted_link::ScriptedLink;
-use bac_wire::{Datagram, ObjectId, Value};
+use bac_wire::{ObjectId, Value};
 use std::test::Fail;
 
 /// A ReadRange of Trend Log 1 by number 1, count 100, invoke ID 1.
@@ -61,128 +59,6 @@ fn a_request_is_sent_again_until_it_is_given_up(rt: HostRuntime) -> Result<(), F
     Ok(())
 }
 
-#[test]
-fn an_answer_closes_its_request(rt: HostRuntime) -> Result<(), Fail> {
-    let Some(question) = question() else {
-        return Err(Fail::from("no such request"));
-    };
-    let mut transactions = Transactions::new(0);
-    let _ = transactions.begin(&question)?;
-    // the answer to invoke ID 2
-    let mut other = REPLY;
-    other[7] = 2;
-    assert_eq!(rt; transactions.receive(&other), Received::Ignored);
-    // the same to all devices
-    let mut broadcast = REPLY;
-    broadcast[1] = 0x0b;
-    assert_eq!(rt; transactions.receive(&broadcast), Received::Ignored);
-    assert_eq!(rt;
-        transactions.receive(&REPLY),
-        Received::Done(Answer::Complex(&REPLY[9..]))
-    );
-    assert_eq!(rt; transactions.receive(&REPLY), Received::Ignored);
-    // the next request has invoke ID 2
-    let sent = transactions.begin(&question)?;
-    assert_eq!(rt; sent.octets().get(8), Some(&2));
-    Ok(())
-}
-
-#[test]
-fn what_answers_a_request(rt: HostRuntime) -> Result<(), Fail> {
-    let rows: [(&[u8], bool); 9] = [
-        (&REPLY, true),
-        // SimpleACK, Error, Reject, and the Abort of a server
-        (&[0x81, 0x0a, 0, 9, 1, 0, 0x20, 1, 0x0f], true),
-        (
-            &[0x81, 0x0a, 0, 13, 1, 0, 0x50, 1, 0x1a, 0x91, 1, 0x91, 31],
-            true,
-        ),
-        (&[0x81, 0x0a, 0, 9, 1, 0, 0x60, 1, 9], true),
-        (&[0x81, 0x0a, 0, 9, 1, 0, 0x71, 1, 4], true),
-        // the Abort of a client
-        (&[0x81, 0x0a, 0, 9, 1, 0, 0x70, 1, 4], false),
-        // another invoke ID
-        (&[0x81, 0x0a, 0, 9, 1, 0, 0x20, 2, 0x0f], false),
-        // from network 5
-        (&[0x81, 0x0a, 0, 13, 1, 8, 0, 5, 1, 7, 0x20, 1, 0x0f], false),
-        // a request
-        (&QUESTION, false),
-    ];
-    for (datagram, want) in rows {
-        assert_eq!(rt; answers(&QUESTION, datagram), want);
-    }
-    assert!(rt; !answers(&REPLY, &REPLY));
-    Ok(())
-}
-
-/// An answer that doesn't come.
-const NONE: [u8; 0] = [];
-
-/// What an exchange of the question brings over a link with these answers, with three retries, and
-/// how many failures it met.
-fn exchanged(replies: &[&[u8]]) -> Result<(Result<Datagram, ExchangeFault>, u64), Fail> {
-    let Some(question) = question() else {
-        return Err(Fail::from("no such request"));
-    };
-    let mut link = ScriptedLink::new(replies);
-    let mut transactions = Transactions::new(3);
-    let result = exchange(&mut link, &mut transactions, &question);
-    Ok((result, link.failures))
-}
-
-#[test]
-fn retries_are_counted_for_each_request(rt: HostRuntime) -> Result<(), Fail> {
-    let (result, failures) = exchanged(&[&NONE, &NONE, &NONE, &REPLY])?;
-    assert_eq!(rt; result.ok(), Datagram::of(&REPLY));
-    assert_eq!(rt; failures, 3);
-    let (result, failures) = exchanged(&[&NONE, &NONE, &NONE, &NONE, &REPLY])?;
-    assert_eq!(rt; result.err(), Some(ExchangeFault::Lost));
-    assert_eq!(rt; failures, 4);
-    Ok(())
-}
-
-#[test]
-fn what_an_exchange_makes_of_an_answer(rt: HostRuntime) -> Result<(), Fail> {
-    let rows: [(&[u8], ExchangeFault); 7] = [
-        (
-            &[0x81, 0x0a, 0, 13, 1, 0, 0x50, 1, 0x1a, 0x91, 1, 0x91, 31],
-            ExchangeFault::Refused(Refusal::Error(1, 31)),
-        ),
-        // an Error of another service refuses as well
-        (
-            &[0x81, 0x0a, 0, 13, 1, 0, 0x50, 1, 0x0c, 0x91, 2, 0x91, 32],
-            ExchangeFault::Refused(Refusal::Error(2, 32)),
-        ),
-        (
-            &[0x81, 0x0a, 0, 9, 1, 0, 0x60, 1, 9],
-            ExchangeFault::Refused(Refusal::Reject(9)),
-        ),
-        (
-            &[0x81, 0x0a, 0, 9, 1, 0, 0x71, 1, 4],
-            ExchangeFault::Refused(Refusal::Abort(4)),
-        ),
-        // the ACK of ReadProperty, a SimpleACK, and a segment
-        (
-            &[0x81, 0x0a, 0, 9, 1, 0, 0x30, 1, 0x0c],
-            ExchangeFault::BadReply,
-        ),
-        (
-            &[0x81, 0x0a, 0, 9, 1, 0, 0x20, 1, 0x1a],
-            ExchangeFault::BadReply,
-        ),
-        (
-            &[0x81, 0x0a, 0, 11, 1, 0, 0x38, 1, 0, 4, 0x1a],
-            ExchangeFault::BadReply,
-        ),
-    ];
-    for (reply, want) in rows {
-        let (result, failures) = exchanged(&[reply])?;
-        assert_eq!(rt; result.err(), Some(want));
-        assert_eq!(rt; failures, 0);
-    }
-    Ok(())
-}
-
 /// A write of so many zeros to property 85.
 fn write_of<'a>(zeros: &'a [u8]) -> Option<Request<'a>>
     ensures { IfSome result IsSendable }
@@ -195,28 +71,6 @@ fn write_of<'a>(zeros: &'a [u8]) -> Option<Request<'a>>
         value: Value::Octets(zeros),
         priority: None,
     }))
-}
-
-#[test]
-fn a_write_is_sent_again_until_it_is_acknowledged(rt: HostRuntime) -> Result<(), Fail> {
-    let Some(write) = write_of(&[1]) else {
-        return Err(Fail::from("no such request"));
-    };
-    // the SimpleACK of WriteProperty
-    let reply = [0x81, 0x0a, 0, 9, 1, 0, 0x20, 1, 0x0f];
-    let rows: [(&[&[u8]], bool, u64); 3] = [
-        (&[&reply], true, 0),
-        (&[&NONE, &NONE, &NONE, &reply], true, 3),
-        (&[&NONE, &NONE, &NONE, &NONE, &reply], false, 4),
-    ];
-    for (replies, is_done, losses) in rows {
-        let mut link = ScriptedLink::new(replies);
-        let mut transactions = Transactions::new(3);
-        let result = exchange(&mut link, &mut transactions, &write);
-        assert_eq!(rt; result.is_ok(), is_done);
-        assert_eq!(rt; link.failures, losses);
-    }
-    Ok(())
 }
 
 #[test]

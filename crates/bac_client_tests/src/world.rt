@@ -9,26 +9,15 @@ use std::alloc::Global;
 use std::process::Abort;
 use std::test::Fail;
 
-/// A walk from a number of a log with so many records, before which so many were logged.
-fn world_from(
-    alloc: Global,
-    logged: u32,
-    records: u32,
-    first: u32,
-    retries: u8,
-) -> Result<World, Fail> {
-    let mut device = plant(alloc, 1476, 10, 0, logged)?;
+/// A walk from number 1 of a log with so many records.
+fn world(alloc: Global, records: u32, retries: u8) -> Result<World, Fail> {
+    let mut device = plant(alloc, 10)?;
     for number in 0..records {
         let _ = device.sample(1);
     }
     let log = ObjectId::new(20, 1).ok_or("no such identifier")?;
-    let walk = Walk::from_number(log, first).ok_or("no walk")?;
+    let walk = Walk::from_number(log, 1).ok_or("no walk")?;
     Ok(World::new(alloc, device, walk, retries))
-}
-
-/// A walk from number 1 of a log with so many records.
-fn world(alloc: Global, records: u32, retries: u8) -> Result<World, Fail> {
-    world_from(alloc, 0, records, 1, retries)
 }
 
 /// A request that is answered twice, one that is repeated and answered in another order, and one
@@ -63,17 +52,7 @@ fn delivered(rt: &impl Abort, world: &World, items: &[Item], caught: Option<u32>
 fn repeated_and_reordered_packets_bring_a_record_once(rt: HostRuntime) -> Result<(), Fail> {
     let mut world = world(rt.alloc(), 1, 3)?;
     assert_eq!(rt; world.play_all(&LATE), Ok(11));
-    delivered(&rt, &world, &[state(1, 8, 9, 0)], Some(2));
-    Ok(())
-}
-
-#[test]
-fn events_are_played_one_by_one(rt: HostRuntime) -> Result<(), Fail> {
-    let mut world = world(rt.alloc(), 1, 3)?;
-    for place in 0..13usize {
-        assert_eq!(rt; world.play(&LATE[place]), Ok(HAPPENS[place]));
-    }
-    delivered(&rt, &world, &[state(1, 8, 9, 0)], Some(2));
+    delivered(&rt, &world, &[state(1)], Some(2));
     Ok(())
 }
 
@@ -112,26 +91,6 @@ fn a_purge_before_the_answer_is_a_gap(rt: HostRuntime) -> Result<(), Fail> {
     Ok(())
 }
 
-/// What was asked by number and found nothing comes again when the oldest are asked for: it is no
-/// answer to that, so the walk isn't caught up before a record that came in between.
-#[test]
-fn a_late_empty_answer_is_not_the_next_one(rt: HostRuntime) -> Result<(), Fail> {
-    let mut world = world(rt.alloc(), 0, 3)?;
-    let events = [
-        WorldEvent::Ask,
-        WorldEvent::Deliver(0),
-        WorldEvent::Deliver(1),
-        WorldEvent::Ask,
-        WorldEvent::Sample(1),
-        WorldEvent::Deliver(1),
-        WorldEvent::Deliver(2),
-        WorldEvent::Deliver(3),
-    ];
-    assert_eq!(rt; world.play_all(&events), Ok(7));
-    delivered(&rt, &world, &[state(1, 8, 9, 0)], None);
-    Ok(())
-}
-
 /// If memory is refused, the events before stand, and the refused one can be played again.
 #[test]
 fn refused_memory_leaves_the_events_before(rt: HostRuntime) -> Result<(), Fail> {
@@ -143,57 +102,6 @@ fn refused_memory_leaves_the_events_before(rt: HostRuntime) -> Result<(), Fail> 
         };
         assert_eq!(rt; moved, Ok(HAPPENS[place]));
     }
-    delivered(&rt, &world, &[state(1, 8, 9, 0)], Some(2));
-    Ok(())
-}
-
-/// Number 4294967294 was logged before, and isn't held: it is a gap. The records are 4294967295, 1
-/// and 2, and then 3; with 4 as the next number the oldest lies before it.
-#[test]
-fn a_walk_over_a_network_goes_round_the_count(rt: HostRuntime) -> Result<(), Fail> {
-    let mut world = world_from(rt.alloc(), 4294967294, 3, 4294967294, 3)?;
-    let events = [
-        WorldEvent::Ask,
-        WorldEvent::Deliver(0),
-        WorldEvent::Deliver(1),
-        WorldEvent::Deliver(1),
-        WorldEvent::Sample(1),
-        WorldEvent::Ask,
-        WorldEvent::Timeout,
-        WorldEvent::Deliver(3),
-        WorldEvent::Deliver(2),
-        WorldEvent::Deliver(4),
-        WorldEvent::Deliver(5),
-        WorldEvent::Ask,
-        WorldEvent::Deliver(6),
-        WorldEvent::Deliver(7),
-        WorldEvent::Ask,
-        WorldEvent::Deliver(8),
-        WorldEvent::Deliver(9),
-    ];
-    assert_eq!(rt; world.play_all(&events), Ok(15));
-    let items = [
-        gap(4294967294, 4294967295),
-        state(4294967295, 8, 9, 0),
-        state(1, 8, 9, 0),
-        state(2, 8, 9, 0),
-        state(3, 8, 9, 0),
-    ];
-    delivered(&rt, &world, &items, Some(4));
-    Ok(())
-}
-
-#[test]
-fn a_gap_goes_round_the_count(rt: HostRuntime) -> Result<(), Fail> {
-    let mut world = world_from(rt.alloc(), 4294967294, 3, 4294967294, 3)?;
-    let purge = Datagram::of(&PURGE).ok_or("too long")?;
-    let events = [
-        WorldEvent::Handle(purge),
-        WorldEvent::Ask,
-        WorldEvent::Deliver(0),
-        WorldEvent::Deliver(1),
-    ];
-    assert_eq!(rt; world.play_all(&events), Ok(4));
-    delivered(&rt, &world, &[gap(4294967294, 3), purged(3)], None);
+    delivered(&rt, &world, &[state(1)], Some(2));
     Ok(())
 }

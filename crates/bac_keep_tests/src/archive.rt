@@ -1,8 +1,9 @@
-//! Archives in memory: what is opened, what is refused, and what is kept.
+//! Archives in memory: one is made, and what is kept in it. Files that are no archives are in
+//! examples/check/kept_cases.py.
 
 use bac_archive::{
-    Refused, Row, append, append_within, commit_group, is_archive, leaves_the_last_commit, open,
-    open_group, undo_group,
+    Row, append, append_within, commit_group, is_archive, leaves_the_last_commit, open, open_group,
+    undo_group,
 };
 use sqlite::types::{FromSql, ToSql};
 use sqlite::{Connection, Constraint, Error, ErrorCode, MemStore};
@@ -81,55 +82,6 @@ fn an_empty_database_becomes_an_archive_and_stays_one(rt: HostRuntime) -> Result
 }
 
 #[test]
-fn other_databases_are_refused(rt: HostRuntime) -> Result<(), Fail> {
-    let mut conn = Connection::open_in_memory(rt.alloc())?;
-    let _ = conn.execute_batch("CREATE TABLE note (id INTEGER PRIMARY KEY) STRICT")?;
-    assert!(rt; open(&mut conn) == Err(Refused::Foreign));
-    let mut more = archive(rt.alloc())?;
-    let _ = more.execute_batch("CREATE TABLE note (id INTEGER PRIMARY KEY) STRICT")?;
-    assert!(rt; open(&mut more) == Ok(()));
-    let _ = more.execute_batch("CREATE UNIQUE INDEX one ON items (stamp)")?;
-    assert!(rt; open(&mut more) == Err(Refused::Foreign));
-    let mut later = archive(rt.alloc())?;
-    let _ = later.execute_batch("UPDATE archive SET version = 1")?;
-    assert!(rt; open(&mut later) == Err(Refused::Version));
-    let mut twice = archive(rt.alloc())?;
-    let _ = twice.execute_batch("INSERT INTO archive (version) VALUES (1)")?;
-    assert!(rt; open(&mut twice) == Err(Refused::Version));
-    Ok(())
-}
-
-#[test]
-fn items_over_one_another_are_refused(rt: HostRuntime) -> Result<(), Fail> {
-    let mut conn = archive_with(rt.alloc(), 0)?;
-    assert!(rt; add(&mut conn, &[gap(1, 4), row(rt.alloc(), 5)?])? == Ok(()));
-    assert!(rt; open(&mut conn) == Ok(()));
-    assert!(rt; add(&mut conn, &[row(rt.alloc(), 3)?])? == Ok(()));
-    assert!(rt; open(&mut conn) == Err(Refused::Overlap));
-    let mut back = archive_with(rt.alloc(), 0)?;
-    assert!(rt; add(&mut back, &[gap(7, 6)])? == Ok(()));
-    assert!(rt; open(&mut back) == Err(Refused::Overlap));
-    Ok(())
-}
-
-#[test]
-fn items_of_no_log_and_of_no_epoch_are_refused(rt: HostRuntime) -> Result<(), Fail> {
-    let mut conn = archive(rt.alloc())?;
-    assert!(rt; add(&mut conn, &[row(rt.alloc(), 5)?])? == Ok(()));
-    assert!(rt; open(&mut conn) == Err(Refused::Orphan));
-    let mut begun = archive_with(rt.alloc(), 0)?;
-    assert!(rt; add(&mut begun, &[row(rt.alloc(), 5)?, row(rt.alloc(), 6)?])? == Ok(()));
-    assert_eq!(rt;
-        first::<i64>(&mut begun, "SELECT beginning FROM epochs")?,
-        5
-    );
-    assert!(rt; open(&mut begun) == Ok(()));
-    let _ = begun.execute_batch("DELETE FROM beginnings")?;
-    assert!(rt; open(&mut begun) == Err(Refused::Orphan));
-    Ok(())
-}
-
-#[test]
 fn an_append_keeps_all_rows_or_none(rt: HostRuntime) -> Result<(), Fail> {
     let mut conn = archive_with(rt.alloc(), 0)?;
     assert!(rt; add(&mut conn, &[row(rt.alloc(), 445)?, gap(446, 449)])? == Ok(()));
@@ -154,29 +106,6 @@ fn group(conn: &mut Connection<MemStore>, first: &[Row], then: &[Row]) -> Result
     append_within(conn, first)?;
     append_within(conn, then)?;
     commit_group(conn)
-}
-
-#[test]
-fn a_group_keeps_the_rows_of_all_its_calls(rt: HostRuntime) -> Result<(), Fail> {
-    let alloc = rt.alloc();
-    let mut conn = archive_with(alloc, 0)?;
-    assert!(rt;
-        group(
-            &mut conn,
-            &[row(alloc, 445)?, gap(446, 449)],
-            &[row(alloc, 450)?]
-        ) == Ok(())
-    );
-    assert!(rt; conn.is_autocommit());
-    assert_eq!(rt; first::<i64>(&mut conn, "SELECT count(*) FROM items")?, 3);
-    assert_eq!(rt;
-        first::<i64>(&mut conn, "SELECT beginning FROM epochs")?,
-        445
-    );
-    assert!(rt; open(&mut conn) == Ok(()));
-    let none = Error::SqliteFailure(ErrorCode::TransactionState);
-    assert!(rt; append_within(&mut conn, &[row(alloc, 451)?]) == Err(none));
-    Ok(())
 }
 
 #[test]

@@ -1,19 +1,20 @@
-//! Walks over a link that answers from a list, kept in memory.
+//! Walks over a link that answers from a list, kept in memory. Numbers that come round, rows that
+//! are kept already and files that are no archives are in examples/check/kept.sh.
 
-use crate::archive::{archive, archive_with, first};
+use crate::archive::{archive_with, first};
 use bac_archive::{is_archive, open};
-use bac_keep::{KeptRun, KeptStep, NotKept, Place, Progress, Refusal, Untold, keep_log, keep_step};
+use bac_keep::{KeptRun, KeptStep, NotKept, Place, Progress, Untold, keep_log, keep_step};
 use bac_link::Transactions;
 use bac_scripted_link::ScriptedLink;
 use bac_walk::{Ended, Walk, WalkFault, Why};
 use bac_wire::ObjectId;
-use sqlite::{Connection, Constraint, Error, ErrorCode, MemStore};
+use sqlite::{Connection, MemStore};
 use std::alloc::Global;
 use std::test::Fail;
 
 /// An ACK with two records, 2024-05-06T07:08:09.10, Enumerated 0, flags 0000, the first of which
 /// has this number.
-fn two(invoke: u8, number: u8) -> [u8; 63] {
+pub(crate) fn two(invoke: u8, number: u8) -> [u8; 63] {
     [
         0x81, 0x0a, 0, 0x3f, 1, 0, 0x30, invoke, 0x1a, 0x0c, 5, 0, 0, 1, 0x19, 0x83, 0x3a, 5, 0xc0,
         0x49, 2, 0x5e, 0x0e, 0xa4, 0x7c, 5, 6, 1, 0xb4, 7, 8, 9, 0x0a, 0x0f, 0x1e, 0x39, 0, 0x1f,
@@ -35,7 +36,7 @@ pub(crate) fn walk_from(s: u32) -> Result<Walk, Fail> {
 }
 
 // `keep_step`, where there is an archive.
-pub(crate) fn keep(
+fn keep(
     alloc: Global,
     link: &mut ScriptedLink<'_>,
     transactions: &mut Transactions,
@@ -100,54 +101,6 @@ fn each_batch_is_kept_with_its_gap(rt: HostRuntime) -> Result<(), Fail> {
         "0000"
     );
     assert!(rt; open(&mut conn) == Ok(()));
-    Ok(())
-}
-
-#[test]
-fn a_number_that_is_kept_is_not_kept_again(rt: HostRuntime) -> Result<(), Fail> {
-    let mut conn = archive(rt.alloc())?;
-    let mut place = Place::new(0, 0).ok_or("no place")?;
-    let (one, again, lower_down) = (two(1, 5), two(2, 5), two(3, 5));
-    let replies: [&[u8]; 3] = [&one, &again, &lower_down];
-    let mut link = ScriptedLink::new(&replies);
-    let mut transactions = Transactions::new(0);
-    let mut free = 0;
-    let mut walk = walk_from(5)?;
-    let kept = keep(
-        rt.alloc(),
-        &mut link,
-        &mut transactions,
-        &mut walk,
-        &mut conn,
-        &mut place,
-        &mut free,
-    )?;
-    assert!(rt; kept == Ok(TWO));
-    let mut same = walk_from(5)?;
-    let mut none = 0;
-    let twice = keep(
-        rt.alloc(),
-        &mut link,
-        &mut transactions,
-        &mut same,
-        &mut conn,
-        &mut place,
-        &mut none,
-    )?;
-    let taken = Error::SqliteFailure(ErrorCode::ConstraintViolation(Constraint::PrimaryKey));
-    assert!(rt; twice == Err(NotKept::Database(taken)));
-    let mut lower = walk_from(5)?;
-    let back = keep(
-        rt.alloc(),
-        &mut link,
-        &mut transactions,
-        &mut lower,
-        &mut conn,
-        &mut place,
-        &mut free,
-    )?;
-    assert!(rt; back == Err(NotKept::Refused(Refusal::Back)));
-    assert_eq!(rt; first::<i64>(&mut conn, "SELECT count(*) FROM items")?, 2);
     Ok(())
 }
 
@@ -220,34 +173,5 @@ fn a_run_goes_on_where_one_was_lost(rt: HostRuntime) -> Result<(), Fail> {
         11
     );
     assert!(rt; open(&mut conn) == Ok(()));
-    Ok(())
-}
-
-#[test]
-fn what_is_no_archive_is_left(rt: HostRuntime) -> Result<(), Fail> {
-    let mut conn = Connection::open_in_memory(rt.alloc())?;
-    let replies: [&[u8]; 0] = [];
-    let mut link = ScriptedLink::new(&replies);
-    let mut transactions = Transactions::new(0);
-    let place = Place::new(7, 1).ok_or("no place")?;
-    let run = keep_log(
-        rt.alloc(),
-        &mut link,
-        &mut transactions,
-        walk_from(5)?,
-        &mut conn,
-        place,
-        5,
-        10,
-        &mut Untold,
-    );
-    let none = KeptRun {
-        records: 0,
-        gaps: 0,
-        next: 5,
-        place,
-        end: Err(NotKept::NoArchive),
-    };
-    assert!(rt; run == none);
     Ok(())
 }

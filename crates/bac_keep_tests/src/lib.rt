@@ -20,6 +20,4 @@ mod late_callers;
 #[cfg(test)]
 mod logs;
 #[cfg(test)]
-mod rounds;
-#[cfg(test)]
 mod up_to_date;

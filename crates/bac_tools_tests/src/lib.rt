@@ -10,17 +10,11 @@ mod memory_port;
 #[cfg(test)]
 mod ports;
 #[cfg(test)]
-mod print;
-#[cfg(test)]
 mod queries;
 #[cfg(test)]
 mod query_callers;
 #[cfg(test)]
-mod reasons;
-#[cfg(test)]
 mod refusing;
-#[cfg(test)]
-mod routes;
 #[cfg(test)]
 mod run_callers;
 #[cfg(test)]

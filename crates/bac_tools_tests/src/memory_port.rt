@@ -14,12 +14,11 @@ pub enum Coming<'a> {
 }
 
 /// Receives what comes, one after the other, and then fails. Keeps what was sent last and to whom,
-/// and how often something was sent; it can refuse to send.
+/// and how often something was sent.
 #[derive(Debug, Drop)]
 pub struct MemoryPort<'a> {
     coming: &'a [Coming<'a>],
     pub received: usize,
-    pub refuses: bool,
     pub sent: Datagram,
     pub to: [u8; 6],
     pub sends: u32,
@@ -30,7 +29,6 @@ impl<'a> MemoryPort<'a> {
         MemoryPort {
             coming,
             received: 0,
-            refuses: false,
             sent: Datagram::new(),
             to: [0; 6],
             sends: 0,
@@ -47,9 +45,6 @@ impl Port for MemoryPort<'_> {
 
     fn send(&mut self, octets: &[u8], to: [u8; 6]) -> Result<(), SocketFault> {
         self.sends = self.sends.saturating_add(1);
-        if self.refuses {
-            return Err(SocketFault::Failed);
-        }
         self.to = to;
         self.sent = Datagram::new();
         match write_octets(&mut self.sent, octets) {
@@ -99,17 +94,5 @@ impl Clock for MovingClock {
             (seconds % 60) as u8,
             (self.hundredths % 100) as u8,
         )
-    }
-}
-
-/// A clock that doesn't know the time.
-#[derive(Debug, Drop)]
-pub struct NoClock;
-
-impl Clock for NoClock {
-    ghost tells = { λ old moment new. Unit {0} };
-
-    fn now(&mut self) -> Option<Stamp> {
-        None
     }
 }

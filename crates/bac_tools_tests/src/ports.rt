@@ -1,14 +1,8 @@
-//! A link over a port in memory, and sockets of this machine. Which datagrams a link takes, and
-//! which it passes over, is in examples/check/asking.talk.
+//! Sockets of this machine, of which no contract says what they carry. Which datagrams a link over
+//! one takes, and which it passes over, is in examples/check/asking.talk.
 
-use crate::memory_port::{Coming, MemoryPort};
-use bac_link::{LogLink, Lost};
-use bac_ports::{Heard, Port, SocketFault, UdpLink, UdpPort};
+use bac_ports::{Heard, Port, SocketFault, UdpPort};
 use std::process::Abort;
-use std::test::Fail;
-
-/// 127.0.0.1:47808 and 127.0.0.1:47809.
-const PEER: [u8; 6] = [127, 0, 0, 1, 0xba, 0xc0];
 
 /// Any free port of 127.0.0.1.
 const LOOPBACK: [u8; 6] = [127, 0, 0, 1, 0, 0];
@@ -17,39 +11,6 @@ const LOOPBACK: [u8; 6] = [127, 0, 0, 1, 0, 0];
 const REQUEST: [u8; 17] = [
     0x81, 0x0a, 0, 0x11, 1, 4, 0, 5, 1, 0x0c, 0x0c, 2, 0x3f, 0xff, 0xff, 0x19, 0x4b,
 ];
-
-/// Reject 9 of invoke ID 1.
-const ANSWER: [u8; 9] = [0x81, 0x0a, 0, 9, 1, 0, 0x60, 1, 9];
-
-/// The same of invoke ID 2.
-const STRANGE: [u8; 9] = [0x81, 0x0a, 0, 9, 1, 0, 0x60, 2, 9];
-
-/// So many strange datagrams, and then the answer.
-fn after_strange(strange: usize) -> [Coming<'static>; 17] {
-    let mut coming = [Coming::From(PEER, &STRANGE); 17];
-    if let Some(place) = coming.get_mut(strange) {
-        *place = Coming::From(PEER, &ANSWER);
-    }
-    coming
-}
-
-#[test]
-fn sixteen_receives_are_made_and_no_more(rt: HostRuntime) {
-    let coming = after_strange(16);
-    let mut link = UdpLink::new(MemoryPort::new(&coming), PEER);
-    assert_eq!(rt; link.ask(&REQUEST), Err(Lost));
-    // the next ask receives the seventeenth datagram
-    let answer = link.ask(&REQUEST).expect(&rt, "an answer");
-    assert_eq!(rt; answer.octets(), ANSWER.as_slice());
-}
-
-#[test]
-fn nothing_is_received_after_a_refused_send(rt: HostRuntime) {
-    let coming = [Coming::From(PEER, &ANSWER)];
-    let mut port = MemoryPort::new(&coming);
-    port.refuses = true;
-    assert_eq!(rt; UdpLink::new(port, PEER).ask(&REQUEST), Err(Lost));
-}
 
 /// A socket of this machine, and its address.
 fn socket(rt: &(impl std::net::Net + Abort), timeout_ms: u32) -> (UdpPort, [u8; 6]) {

@@ -1,10 +1,10 @@
-//! A device that is served over a port in memory. Over sockets, and with the machine's clock, it is
-//! served by examples/check/edges.sh.
+//! A device that is served over a port in memory, by a clock that moves. Over sockets, and with the
+//! machine's clock, it is served by examples/check/edges.sh, and faults.py refuses its calls.
 
-use crate::memory_port::{Coming, MemoryPort, MovingClock, NoClock};
+use crate::memory_port::{Coming, MemoryPort, MovingClock};
 use bac_device::{Device, DeviceLine, Name, ObjectLine};
 use bac_ports::SocketFault;
-use bac_serve::{idle_wait, serve, serve_one};
+use bac_serve::{serve, serve_one};
 use bac_wire::{ObjectId, Stamp};
 use std::alloc::Global;
 use std::test::Fail;
@@ -14,29 +14,9 @@ const CLIENT: [u8; 6] = [127, 0, 0, 1, 0xba, 0xc0];
 /// Who-Is.
 const WHO_IS: [u8; 12] = [0x81, 0x0b, 0, 0x0c, 1, 0x20, 0xff, 0xff, 0, 0xff, 0x10, 8];
 
-/// The same, forwarded from 127.0.0.1:47809.
-const FORWARDED: [u8; 18] = [
-    0x81, 4, 0, 0x12, 127, 0, 0, 1, 0xba, 0xc1, 1, 0x20, 0xff, 0xff, 0, 0xff, 0x10, 8,
-];
-
 /// I-Am: device 123, 1476 octets, no segmentation, vendor 0.
 const I_AM: [u8; 20] = [
     0x81, 0x0a, 0, 0x14, 1, 0, 0x10, 0, 0xc4, 2, 0, 0, 0x7b, 0x22, 5, 0xc4, 0x91, 3, 0x21, 0,
-];
-
-/// Present_Value of Binary Value 1 is to be 1, at priority 8.
-const WRITE: [u8; 23] = [
-    0x81, 0x0a, 0, 0x17, 1, 4, 0, 5, 1, 0x0f, 0x0c, 1, 0x40, 0, 1, 0x19, 0x55, 0x3e, 0x91, 1, 0x3f,
-    0x49, 8,
-];
-
-/// Present_Value of Binary Value 1 is read, and it is 1.
-const READ: [u8; 17] = [
-    0x81, 0x0a, 0, 0x11, 1, 4, 0, 5, 2, 0x0c, 0x0c, 1, 0x40, 0, 1, 0x19, 0x55,
-];
-
-const IS_ONE: [u8; 20] = [
-    0x81, 0x0a, 0, 0x14, 1, 0, 0x30, 2, 0x0c, 0x0c, 1, 0x40, 0, 1, 0x19, 0x55, 0x3e, 0x91, 1, 0x3f,
 ];
 
 fn name(alloc: Global, text: &str) -> Result<Name, Fail> {
@@ -110,77 +90,6 @@ fn a_reply_goes_to_who_asked(rt: HostRuntime) -> Result<(), Fail> {
 }
 
 #[test]
-fn a_reply_to_a_forwarded_datagram_goes_to_its_address(rt: HostRuntime) -> Result<(), Fail> {
-    let mut device = device(rt.alloc(), 0)?;
-    let coming = [Coming::From(CLIENT, &FORWARDED)];
-    let mut port = MemoryPort::new(&coming);
-    assert_eq!(rt; serve_one(&mut port, &mut device, &mut NoClock), Ok(true));
-    assert_eq!(rt; port.sent.octets(), I_AM.as_slice());
-    assert_eq!(rt; port.to, [127, 0, 0, 1, 0xba, 0xc1]);
-    assert_eq!(rt; device.clock(), at(0)?);
-    Ok(())
-}
-
-#[test]
-fn a_datagram_that_is_too_long_is_dropped(rt: HostRuntime) -> Result<(), Fail> {
-    let mut device = device(rt.alloc(), 0)?;
-    let mut clock = MovingClock {
-        hundredths: 0,
-        step: 500,
-    };
-    let long = [0x81; 1502];
-    let coming = [Coming::From(CLIENT, &long)];
-    let mut port = MemoryPort::new(&coming);
-    assert_eq!(rt; serve_one(&mut port, &mut device, &mut clock), Ok(false));
-    assert_eq!(rt; port.sends, 0);
-    assert_eq!(rt; device.clock(), at(5)?);
-    Ok(())
-}
-
-#[test]
-fn a_refused_send_leaves_what_was_handled(rt: HostRuntime) -> Result<(), Fail> {
-    let mut device = device(rt.alloc(), 0)?;
-    let mut clock = MovingClock {
-        hundredths: 0,
-        step: 500,
-    };
-    let coming = [Coming::From(CLIENT, &WRITE), Coming::From(CLIENT, &READ)];
-    let mut port = MemoryPort::new(&coming);
-    port.refuses = true;
-    assert_eq!(rt;
-        serve_one(&mut port, &mut device, &mut clock),
-        Err(SocketFault::Failed)
-    );
-    assert_eq!(rt; device.clock(), at(5)?);
-    port.refuses = false;
-    assert_eq!(rt; serve_one(&mut port, &mut device, &mut clock), Ok(true));
-    assert_eq!(rt; port.sent.octets(), IS_ONE.as_slice());
-    Ok(())
-}
-
-#[test]
-fn a_refused_receive_leaves_all(rt: HostRuntime) -> Result<(), Fail> {
-    let mut device = device(rt.alloc(), 0)?;
-    let mut clock = MovingClock {
-        hundredths: 0,
-        step: 500,
-    };
-    let coming = [Coming::Nothing];
-    let mut port = MemoryPort::new(&coming);
-    assert_eq!(rt;
-        serve_one(&mut port, &mut device, &mut clock),
-        Err(SocketFault::Timeout)
-    );
-    assert_eq!(rt;
-        serve_one(&mut port, &mut device, &mut clock),
-        Err(SocketFault::Failed)
-    );
-    assert_eq!(rt; clock.hundredths, 0);
-    assert_eq!(rt; device.clock(), at(0)?);
-    Ok(())
-}
-
-#[test]
 fn a_clock_that_goes_back_leaves_the_device(rt: HostRuntime) -> Result<(), Fail> {
     let mut device = device(rt.alloc(), 100)?;
     let _ = device.advance(at(7)?);
@@ -215,41 +124,5 @@ fn ten_quiet_seconds_fill_a_log(rt: HostRuntime) -> Result<(), Fail> {
     assert_eq!(rt; port.received, 51);
     assert_eq!(rt; device.clock(), at(10)?);
     assert_eq!(rt; records(&device), Some(10));
-    Ok(())
-}
-
-#[test]
-fn waits_in_vain_are_not_counted(rt: HostRuntime) -> Result<(), Fail> {
-    let mut device = device(rt.alloc(), 0)?;
-    let who_is = Coming::From(CLIENT, &WHO_IS);
-    let coming = [Coming::Nothing, who_is, Coming::Nothing, who_is, who_is];
-    let mut port = MemoryPort::new(&coming);
-    assert_eq!(rt; serve(&mut port, &mut device, &mut NoClock, 2), Ok(()));
-    assert_eq!(rt; port.received, 4);
-    assert_eq!(rt; port.sends, 2);
-    assert_eq!(rt; serve(&mut port, &mut device, &mut NoClock, 0), Ok(()));
-    assert_eq!(rt; port.received, 4);
-    Ok(())
-}
-
-#[test]
-fn a_server_goes_on_after_a_refused_send(rt: HostRuntime) -> Result<(), Fail> {
-    let mut device = device(rt.alloc(), 0)?;
-    let coming = [
-        Coming::From(CLIENT, &FORWARDED),
-        Coming::From(CLIENT, &WHO_IS),
-    ];
-    let mut port = MemoryPort::new(&coming);
-    port.refuses = true;
-    assert_eq!(rt; serve(&mut port, &mut device, &mut NoClock, 2), Ok(()));
-    assert_eq!(rt; port.sends, 2);
-    Ok(())
-}
-
-#[test]
-fn a_log_with_an_interval_is_waited_for(rt: HostRuntime) -> Result<(), Fail> {
-    assert_eq!(rt; idle_wait(&lines(rt.alloc(), 100)?), 200);
-    assert_eq!(rt; idle_wait(&lines(rt.alloc(), 0)?), 0);
-    assert_eq!(rt; idle_wait(&[]), 0);
     Ok(())
 }

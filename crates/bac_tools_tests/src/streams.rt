@@ -1,6 +1,7 @@
-//! Scripts whose reader or writer fails, is interrupted, or gives and takes single octets.
+//! Scripts whose reader or writer is interrupted, or gives and takes single octets. Reads and
+//! writes that fail are in examples/check/faults.py.
 
-use bac_script::{ReplayFault, run_replay};
+use bac_script::run_replay;
 use std::io::{self, Read, Write};
 use std::process::Abort;
 use std::test::Fail;
@@ -13,27 +14,6 @@ const WHO_IS: &[u8] = b"rx 810b000c0120ffff00ff1008\n";
 const I_AM: &[u8] = b"tx 810a001401001000c40200007b2205c491032100\n";
 
 const NONE: &[u8] = b"none\n";
-
-/// A reader over memory that refuses the read after so many.
-#[derive(Drop)]
-struct Failing<'a> {
-    rest: &'a [u8],
-    reads: usize,
-}
-
-impl Read for Failing<'_> {
-    ghost use Rattle.std.specs.Prelude.{Some};
-
-    ghost remaining = { λ s. Some s.rest.now };
-
-    fn read(&mut self, buf: &mut [u8]) -> io::Result<usize> {
-        if self.reads == 0 {
-            return Err(io::Error::from(io::ErrorKind::Other));
-        }
-        self.reads -= 1;
-        self.rest.read(buf)
-    }
-}
 
 /// A writer over memory that takes so many octets, and then refuses.
 #[derive(Drop)]
@@ -60,45 +40,6 @@ impl Write for Short {
     fn flush(&mut self) -> io::Result<()> {
         Ok(())
     }
-}
-
-#[test]
-fn a_refused_read_is_answered_last(rt: HostRuntime) -> Result<(), Fail> {
-    // The last line has no line feed yet, and isn't played.
-    let script = [DEVICE, WHO_IS, b"rx 00"].concat(rt.alloc())?;
-    let mut reader = Failing {
-        rest: script.as_slice(),
-        reads: 1,
-    };
-    let mut text = Vec::new(rt.alloc());
-    let ended = run_replay(rt.alloc(), &mut reader, &mut text);
-    assert_eq!(rt; ended, Err(ReplayFault::Read));
-    assert_eq!(rt; text.as_slice(), I_AM);
-    // A bad line before it is the fault.
-    let script = [DEVICE, WHO_IS, b"rx 8\n"].concat(rt.alloc())?;
-    let mut reader = Failing {
-        rest: script.as_slice(),
-        reads: 1,
-    };
-    let mut text = Vec::new(rt.alloc());
-    let ended = run_replay(rt.alloc(), &mut reader, &mut text);
-    assert_eq!(rt; ended, Err(ReplayFault::BadLine(3)));
-    assert_eq!(rt; text.as_slice(), I_AM);
-    Ok(())
-}
-
-#[test]
-fn a_refused_write_ends_the_replay(rt: HostRuntime) -> Result<(), Fail> {
-    let script = [DEVICE, WHO_IS, b"rx 8\n"].concat(rt.alloc())?;
-    let mut reader = script.as_slice();
-    let mut writer = Short {
-        text: Vec::new(rt.alloc()),
-        room: 10,
-    };
-    let ended = run_replay(rt.alloc(), &mut reader, &mut writer);
-    assert_eq!(rt; ended, Err(ReplayFault::Write));
-    assert_eq!(rt; writer.text.as_slice(), b"tx 810a001".as_slice());
-    Ok(())
 }
 
 /// A reader over memory that gives one octet a read, as a slow pipe may.
