@@ -1,5 +1,6 @@
 -- Ports that answer from what came before. Read SendsRecalled and ReceivesRecalled, from the end.
-use Rattle.std.specs.Prelude.{◌≡◌, ℕ, ◌⊎◌, List, [], ◌∷◌, ◌++◌, Option, Some, None, Ok, Err}
+use Rattle.std.specs.Prelude.{◌≡◌, ◌<◌, ℕ, ◌⊎◌, List, [], ◌∷◌, ◌++◌, Option, Some, None, Ok, Err}
+use Rattle.std.specs.Prelude.{get_or, length, take}
 use Rattle.std.specs.List.{All}
 use Rattle.bac_ports.specs.Port.{Opening, Receiving, Sending}
 use Rattle.bac_ports.specs.declared.port.Heard.{Heard}
@@ -17,6 +18,10 @@ asked_so octets datagram = record { request = octets; answer = Ok datagram }
 abbrev pub IsOther : List ℕ → Outcome → Type 0
 IsOther octets outcome = (datagram : List ℕ) → outcome ≡ asked_so octets datagram → ⊥
 
+-- these octets were asked, and an answer came
+abbrev pub WasAsked : List ℕ → Outcome → Type 0
+WasAsked octets outcome = (datagram : List ℕ) × (outcome ≡ asked_so octets datagram)
+
 -- it is a conversation with this device, its next outcome is that of these octets, and these stand behind it
 abbrev pub HasNext : List ℕ → List ℕ → Conversation → List ℕ → List Outcome → Type 0
 HasNext octets to one datagram behind = (one.peer ≡ to) × (one.outcomes.items ≡ asked_so octets datagram ∷ behind)
@@ -25,6 +30,10 @@ HasNext octets to one datagram behind = (one.peer ≡ to) × (one.outcomes.items
 abbrev pub GoesOn : List ℕ → List ℕ → Conversation → List ℕ → Conversation → Type 0
 GoesOn octets to old datagram new = HasNext octets to old datagram new.outcomes.items × (new.peer ≡ to)
 
+-- its next outcome is an answer to these octets of this device
+abbrev pub HasAnswer : List ℕ → List ℕ → Conversation → Type 0
+HasAnswer octets to one = (datagram : List ℕ) × (behind : List Outcome) × HasNext octets to one datagram behind
+
 -- it is none with this device, or its next outcome is that of other octets, or no answer came to them
 abbrev pub HasNoAnswer : List ℕ → List ℕ → Conversation → Type 0
 HasNoAnswer octets to one = (datagram : List ℕ) (behind : List Outcome) → HasNext octets to one datagram behind → ⊥
@@ -32,6 +41,11 @@ HasNoAnswer octets to one = (datagram : List ℕ) (behind : List Outcome) → Ha
 -- so are all of these
 abbrev pub NoneAnswers : List ℕ → List ℕ → List Conversation → Type 0
 NoneAnswers octets to left = All (HasNoAnswer octets to) left
+
+-- the first of these that has an answer stands there
+abbrev pub IsFirst : List ℕ → List ℕ → List Conversation → ℕ → Type 0
+IsFirst octets to left place = (place < length left) × NoneAnswers octets to (take place left)
+    × ((default : Conversation) → HasAnswer octets to (get_or left place default))
 
 -- The first conversation with this device whose next outcome is that of these octets goes on, and the others stay.
 abbrev pub Recalls : List ℕ → List ℕ → List Conversation → List ℕ → List Conversation → Type 0

@@ -1,8 +1,8 @@
 //! What came to the questions of devices.
 
-ghost use Rattle.std.specs.Prelude.{◌≡◌, IfNone, IfSome, drop};
-ghost use Rattle.bac_recall.specs.Recall.{GoesOn, HasNext, HasNoAnswer, IsOther, NoneAnswers};
-ghost use Rattle.bac_recall.specs.Recall.{Recalls, asked_so};
+ghost use Rattle.std.specs.Prelude.{◌≡◌, IfNone, IfSome, drop, false, true};
+ghost use Rattle.bac_recall.specs.Recall.{GoesOn, HasAnswer, HasNext, HasNoAnswer, IsFirst};
+ghost use Rattle.bac_recall.specs.Recall.{IsOther, NoneAnswers, Recalls, WasAsked, asked_so};
 
 use bac_play::Outcome;
 use bac_wire::Datagram;
@@ -16,6 +16,17 @@ pub struct Conversation {
     pub peer: [u8; 6],
     /// Each question, and what came of it.
     pub outcomes: Vec<Outcome>,
+}
+
+/// Whether this was asked, and an answer came.
+fn is_answered(outcome: &Outcome, octets: &[u8]) -> bool
+    ensures yes { result ≡ true → WasAsked octets.now outcome.now }
+    ensures no { result ≡ false → IsOther octets.now outcome.now }
+{
+    match &outcome.answer {
+        Ok(_) => outcome.request.octets() == octets,
+        Err(_) => false,
+    }
 }
 
 /// The answer that came, if this was asked.
@@ -33,6 +44,21 @@ fn answer_in(outcome: &Outcome, octets: &[u8]) -> Option<Datagram>
 }
 
 impl Conversation {
+    /// Whether the next outcome is an answer to these octets of this device. What differs most from
+    /// device to device is looked at first: the last octet of the host, and that of the port.
+    fn is_next(&self, octets: &[u8], to: [u8; 6]) -> bool
+        ensures yes { result ≡ true → HasAnswer octets.now to self.now }
+        ensures no { result ≡ false → HasNoAnswer octets.now to self.now }
+    {
+        if self.peer[3] != to[3] || self.peer[5] != to[5] || self.peer != to {
+            return false;
+        }
+        if self.outcomes.is_empty() {
+            return false;
+        }
+        is_answered(&self.outcomes[0], octets)
+    }
+
     /// The answer of the next outcome, if that is of these octets and this device, and one came.
     fn answer_to(&self, octets: &[u8], to: [u8; 6]) -> Option<Datagram>
         ensures some { IfSome result (λ datagram. HasNext octets.now to self.now datagram
@@ -60,6 +86,20 @@ impl Conversation {
     }
 }
 
+/// Where the first conversation is whose next outcome is an answer to these octets of this device.
+/// No datagram is made on the way.
+fn place_of(left: &[Conversation], octets: &[u8], to: [u8; 6]) -> Option<usize>
+    ensures some { IfSome result (λ place. IsFirst octets.now to left.now place) }
+    ensures none { IfNone result (NoneAnswers octets.now to left.now) }
+{
+    for place in 0..left.len() {
+        if left[place].is_next(octets, to) {
+            return Some(place);
+        }
+    }
+    None
+}
+
 /// Takes off the next outcome of the first conversation where it is an answer to these octets of
 /// this device.
 pub(crate) fn recall(left: &mut [Conversation], octets: &[u8], to: [u8; 6]) -> Option<Datagram>
@@ -67,10 +107,6 @@ pub(crate) fn recall(left: &mut [Conversation], octets: &[u8], to: [u8; 6]) -> O
     ensures none { IfNone result (NoneAnswers octets.now to left.old) }
     ensures same { IfNone result (left.new ≡ left.old) }
 {
-    for conversation in left.iter_mut() {
-        if let Some(datagram) = conversation.recall(octets, to) {
-            return Some(datagram);
-        }
-    }
-    None
+    let place = place_of(left, octets, to)?;
+    left[place].recall(octets, to)
 }

@@ -20,6 +20,3 @@ pub use laws::{
 };
 pub use ports::RecallingPort;
 pub use sockets::{Recalling, Recalls};
-
-#[cfg(test)]
-mod tests;

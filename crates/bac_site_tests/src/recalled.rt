@@ -1,11 +1,10 @@
 //! Conversations over sockets in memory.
 
-use crate::conversations::Conversation;
-use crate::sockets::{Recalling, Recalls};
 use bac_heeding::{Heeding, Heeds};
 use bac_link::{LogLink, Lost};
 use bac_play::Outcome;
 use bac_ports::{Heard, OpenFault, Port, SocketFault, Sockets, UdpLink};
+use bac_recall::{Conversation, Recalling, Recalls};
 use bac_wire::Datagram;
 use std::alloc::Global;
 use std::test::Fail;
@@ -69,17 +68,20 @@ impl Sockets for Silences {
     }
 }
 
+/// The device was asked this, and this came.
+fn outcome(answer: Result<Datagram, Lost>) -> Result<Outcome, Fail> {
+    Ok(Outcome {
+        request: Datagram::of(&REQUEST).ok_or("too long")?,
+        answer,
+    })
+}
+
 /// The device was asked this twice, and answered the first time.
 fn conversation(alloc: Global) -> Result<Conversation, Fail> {
+    let reply = Datagram::of(&REPLY).ok_or("too long")?;
     let mut outcomes = Vec::new(alloc);
-    outcomes.push(Outcome {
-        request: Datagram::of(&REQUEST).ok_or("too long")?,
-        answer: Ok(Datagram::of(&REPLY).ok_or("too long")?),
-    })?;
-    outcomes.push(Outcome {
-        request: Datagram::of(&REQUEST).ok_or("too long")?,
-        answer: Err(Lost),
-    })?;
+    outcomes.push(outcome(Ok(reply))?)?;
+    outcomes.push(outcome(Err(Lost))?)?;
     Ok(Conversation {
         peer: DEVICE,
         outcomes,
