@@ -17,7 +17,7 @@ use std::alloc::{AllocError, Global};
 fn is_called(heard: &[Heard], wanted: &Wanted) -> bool
     ensures { result ≡ is_called heard.now wanted.now }
 {
-    !is_heard(heard, &wanted.source)
+    !is_heard(heard, 0, &wanted.source)
 }
 
 /// Whether the last of these logs is of the device of this one.

@@ -1,10 +1,10 @@
 //! Of logs the first of each device, and the rest.
 
-ghost use Rattle.std.specs.Prelude.{◌≡◌, ◌∷◌, ◌++◌, [], IfOk, OnOk, map, not, filter};
+ghost use Rattle.std.specs.Prelude.{◌≡◌, ◌∷◌, ◌++◌, [], IfOk, OnOk, filter, map, not, true};
+ghost use Rattle.std.specs.List.{list_any};
 ghost use Rattle.bac_questions.specs.Silent.{is_same_device};
 ghost use Rattle.bac_ahead.specs.Ahead.{has_lost};
-ghost use Rattle.std.specs.Prelude.{◌&&◌};
-ghost use Rattle.bac_ahead.specs.Rounds.{is_among, is_gone, left_of, parts_of, peers_of, put_in};
+ghost use Rattle.bac_ahead.specs.Rounds.{is_among, left_of, parts_of, peers_of, put_in};
 
 use crate::opening::{Opened, Opening};
 use bac_questions::is_same_device;
@@ -18,13 +18,30 @@ pub(crate) struct Split {
     pub rest: Vec<Opening>,
 }
 
-/// Whether a log is of the device of one of these.
+/// Whether the last of these logs is of the device of this one.
+fn is_last(firsts: &[Opening], one: &Opening) -> bool
+    ensures { result ≡ true → is_among firsts.now one.now ≡ true }
+{
+    match firsts.last() {
+        Some(first) => is_same_device(&first.source, &one.source),
+        None => false,
+    }
+}
+
+/// Whether a log is of the device of one of these. The last is looked at first, since the logs of
+/// a device lie beside each other.
 fn is_among(firsts: &[Opening], one: &Opening) -> bool
     ensures { result ≡ is_among firsts.now one.now }
 {
-    firsts
-        .iter()
-        .any(|first| is_same_device(&first.source, &one.source))
+    if is_last(firsts, one) {
+        return true;
+    }
+    for first in firsts {
+        if is_same_device(&first.source, &one.source) {
+            return true;
+        }
+    }
+    false
 }
 
 impl Split {
@@ -64,29 +81,49 @@ impl Split {
     }
 }
 
-/// Whether no answer came to a question for this log's device.
-fn is_gone_by(opened: &Opened, one: &Opening) -> bool
-    ensures { result ≡ (has_lost opened.now && is_same_device opened.now.source one.now.source) }
+/// Those of these to one of whose questions no answer came: seldom any.
+fn lost_among<'a>(alloc: Global, ends: &'a [Opened]) -> Result<Vec<&'a Opened>, AllocError>
+    ensures { IfOk result (λ lost. map (λ o. o.now) lost.items ≡ filter has_lost ends.now) }
 {
-    opened.has_lost() && is_same_device(&opened.source, &one.source)
+    let mut lost = Vec::new(alloc);
+    for opened in ends {
+        if opened.has_lost() {
+            lost.push(opened)?;
+        }
+    }
+    Ok(lost)
 }
 
-/// Whether a log is of the device of one that gave no answer.
-fn is_gone(ends: &[Opened], one: &Opening) -> bool
-    ensures { result ≡ is_gone ends.now one.now }
+/// Whether a log is of the device of one of these.
+fn is_of(lost: &[&Opened], one: &Opening) -> bool
+    ensures { result ≡ list_any (λ o. is_same_device o.now.source one.now.source) lost.now }
 {
-    ends.iter().any(|opened| is_gone_by(opened, one))
+    lost.iter()
+        .any(|opened| is_same_device(&opened.source, &one.source))
 }
 
-/// Puts a log behind others, unless its device gave no answer.
-fn put_unless(left: &mut Vec<Opening>, ends: &[Opened], one: Opening) -> Result<(), AllocError>
-    ensures { OnOk result (left.new.items ≡ left.old.items ++ left_of ends.now (one ∷ [])) }
+/// Puts a log behind others, unless it is of the device of one of these.
+fn put_unless(left: &mut Vec<Opening>, lost: &[&Opened], one: Opening) -> Result<(), AllocError>
+    ensures { OnOk result (left.new.items ≡ left.old.items ++ filter
+        (λ l. not (list_any (λ o. is_same_device o.now.source l.source) lost.now)) (one ∷ [])) }
 {
-    if is_gone(ends, &one) {
+    if is_of(lost, &one) {
         return Ok(());
     }
     left.push(one)?;
     Ok(())
+}
+
+/// Those of these logs that are of other devices.
+fn left_by(alloc: Global, lost: &[&Opened], rest: Vec<Opening>) -> Result<Vec<Opening>, AllocError>
+    ensures { IfOk result (λ left. left.items ≡ filter
+        (λ l. not (list_any (λ o. is_same_device o.now.source l.source) lost.now)) rest.items) }
+{
+    let mut left = Vec::new(alloc);
+    for one in rest {
+        put_unless(&mut left, lost, one)?;
+    }
+    Ok(left)
 }
 
 /// Those of these logs whose devices gave an answer to each question.
@@ -97,11 +134,8 @@ pub(crate) fn left_of(
 ) -> Result<Vec<Opening>, AllocError>
     ensures { IfOk result (λ left. left.items ≡ left_of ends.now rest.items) }
 {
-    let mut left = Vec::new(alloc);
-    for one in rest {
-        put_unless(&mut left, ends, one)?;
-    }
-    Ok(left)
+    let lost = lost_among(alloc, ends)?;
+    left_by(alloc, lost.as_slice(), rest)
 }
 
 /// The addresses of the devices of these logs.

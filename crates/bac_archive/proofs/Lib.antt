@@ -10,6 +10,7 @@ mod OrphanLemmas
 mod PartsLemmas
 pub mod FollowLemmas
 mod NewestLemmas
+mod GreatestLemmas
 pub mod ItemsLemmas
 mod StandingLemmas
 mod ChangeStatement

@@ -21,7 +21,9 @@ use bac_begin::{Stand, stand_of};
 use bac_desks::Clock;
 use bac_keep::Word;
 use bac_ports::Sockets;
-use bac_questions::{Heard, Said, copy_source, device_on_record, heard_of, hindrance, log_among};
+use bac_questions::{
+    Heard, Said, copy_source, device_on_record, heard_of, hindrance, log_among, place_near,
+};
 use bac_recall::Conversation;
 use sqlite::{Alter, Connection};
 use std::alloc::Global;
@@ -123,6 +125,7 @@ fn opening_of<A: Alter>(
     known: &[Log],
     at: usize,
     heard: &[Heard],
+    near: usize,
     batches: u32,
     wanted: &Wanted,
 ) -> Result<Option<Opening>, NotDone>
@@ -138,7 +141,7 @@ fn opening_of<A: Alter>(
     ensures caused { OverArchive (state A.Store conn.old) (state A.Store conn.new)
         (IfErr result FailsOnRows) }
 {
-    let Some(said) = heard_of(heard, &wanted.source) else {
+    let Some(said) = heard_of(heard, near, &wanted.source) else {
         return Ok(None);
     };
     let on_record = device_on_record(known, at, &wanted.source);
@@ -196,8 +199,11 @@ fn openings_of<A: Alter>(
 {
     let batches = batches_of(all.len());
     let mut openings = Vec::new(alloc);
+    let mut near = 0usize;
     for at in 0..all.len() {
-        let opening = opening_of(alloc, conn, known, at, heard, batches, &all[at])?;
+        let wanted = &all[at];
+        near = place_near(heard, near, &wanted.source);
+        let opening = opening_of(alloc, conn, known, at, heard, near, batches, wanted)?;
         add_opening(&mut openings, opening)?;
     }
     Ok(openings)

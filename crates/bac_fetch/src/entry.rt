@@ -20,7 +20,6 @@ use bac_archive::{Log, Source, Told, add_log_as, fresh_id, renew_log};
 use bac_asked::{End, FileFault, NotDone};
 use bac_keep::Word;
 use sqlite::{Alter, Connection};
-use std::alloc::Global;
 
 /// How a log is on record as a run over it begins.
 #[derive(Clone, Copy, Debug, PartialEq, Eq)]
@@ -156,7 +155,7 @@ fn is_due(recorded: Recorded, end: &End) -> bool
 }
 
 /// The id of a log that has no row.
-fn free_id<A: Alter>(conn: &mut Connection<A>, alloc: Global) -> Result<u16, NotDone>
+fn free_id<A: Alter>(conn: &mut Connection<A>) -> Result<u16, NotDone>
     ensures fresh { OverArchive (state A.Store conn.old) (state A.Store conn.new)
         (IfOk result (IsFreshId (state A.Store conn.old).now.trees)) }
     ensures same { OverArchive (state A.Store conn.old) (state A.Store conn.new)
@@ -168,7 +167,7 @@ fn free_id<A: Alter>(conn: &mut Connection<A>, alloc: Global) -> Result<u16, Not
     ensures caused { OverArchive (state A.Store conn.old) (state A.Store conn.new)
         (IfErr result (FailsToEnter None (state A.Store conn.old).now.trees)) }
 {
-    match fresh_id(alloc, conn) {
+    match fresh_id(conn) {
         Ok(id) => Ok(id),
         Err(fault) => Err(NotDone::File(FileFault::of_log(fault))),
     }
@@ -177,7 +176,6 @@ fn free_id<A: Alter>(conn: &mut Connection<A>, alloc: Global) -> Result<u16, Not
 /// A log as a run over it begins, whose device told this; of a log that has no row its id is found.
 pub(crate) fn enter<A: Alter>(
     conn: &mut Connection<A>,
-    alloc: Global,
     known: Option<&Log>,
     source: Source,
     name: Option<String>,
@@ -200,7 +198,7 @@ pub(crate) fn enter<A: Alter>(
 {
     let (id, recorded, word) = match known {
         Some(log) => (log.id, how_recorded(log, &told), word_of(&log.told, &told)),
-        None => (free_id(conn, alloc)?, Recorded::Not, Word::Untold),
+        None => (free_id(conn)?, Recorded::Not, Word::Untold),
     };
     Ok(Entry {
         row: Log {

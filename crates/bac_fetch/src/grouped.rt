@@ -164,6 +164,7 @@ where
     let mut at = 0usize;
     for wanted in all {
         site.set_seconds(&mut clock, start);
+        site.come_to(heard.as_slice(), &wanted.source);
         let status = keep_grouped(
             sockets, conn, alloc, known, at, &mut heard, wanted, called, &mut site, &mut lines,
             output, errors,

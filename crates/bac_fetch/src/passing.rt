@@ -152,6 +152,6 @@ pub(crate) fn pass_by<A: Alter, O: Write, E: Write>(
 {
     let status = pass_over(conn, alloc, log, &source, why, output)?;
     tell_why(alloc, &source, passed, address, why, errors)?;
-    add_heard(heard, source, said, why)?;
+    add_heard(heard, 0, source, said, why)?;
     Ok(status)
 }

@@ -120,7 +120,7 @@ fn keep_one<S: Heeds, A: Alter, O: Write, E: Write>(
         asking,
     } = wanted;
     let Said { identity, told } = said;
-    let entry = enter(conn, alloc, log, source, name, told)?;
+    let entry = enter(conn, log, source, name, told)?;
     let end = fetch_counted(sockets, conn, alloc, &entry, asking, site, errors)?;
     site.add(end.records);
     tell_anew(alloc, &entry.row.source, end.began, errors)?;
@@ -133,7 +133,7 @@ fn keep_one<S: Heeds, A: Alter, O: Write, E: Write>(
         word: _word,
     } = entry;
     let Log { source, told, .. } = row;
-    add_heard(heard, source, Said { identity, told }, end.why)?;
+    add_heard(heard, site.near(), source, Said { identity, told }, end.why)?;
     Ok(end_status(end.why))
 }
 
@@ -238,7 +238,8 @@ fn keep_heard<S: Heeds, A: Alter, O: Write, E: Write>(
         S.Socket.receives_within) known.now heard.old.items wanted
         (state A.Store conn.old).now.trees sockets.old sockets.new)) }
 {
-    let said = said_of(sockets, alloc, heard.as_slice(), &wanted)?;
+    let near = site.near();
+    let said = said_of(sockets, alloc, heard.as_slice(), near, &wanted)?;
     let on_record = device_on_record(known, at, &wanted.source);
     let why = hindrance(
         known,
@@ -248,7 +249,7 @@ fn keep_heard<S: Heeds, A: Alter, O: Write, E: Write>(
         said.identity,
     );
     // What passed of a device that was called at once stands beside what passed of others.
-    let was_heard = is_heard(heard.as_slice(), &wanted.source);
+    let was_heard = is_heard(heard.as_slice(), near, &wanted.source);
     let passed = passed_since(sockets, called && was_heard);
     keep_unless(
         sockets, conn, alloc, known, at, heard, wanted, said, passed, why, site, output, errors,

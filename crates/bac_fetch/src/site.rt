@@ -1,9 +1,10 @@
 //! How far a run over logs is, for a terminal.
 
+use bac_archive::Source;
 use bac_asked::Wanted;
 use bac_desks::Clock;
 use bac_print::push_number;
-use bac_questions::is_same_device;
+use bac_questions::{Heard, is_same_device, place_near};
 use std::alloc::{AllocError, Global};
 
 /// How far a run over logs is: the devices that are done, the records that are committed, and the
@@ -20,6 +21,8 @@ pub(crate) struct Site {
     /// Those that are committed: a count is never ahead of the file.
     records: u64,
     seconds: u64,
+    /// Where to look first for a log's device in what was heard of devices.
+    near: usize,
 }
 
 /// Whether no later log is of the device of the one at this place.
@@ -75,6 +78,7 @@ impl Site {
             fetched: 0,
             records: 0,
             seconds: 0,
+            near: 0,
         }
     }
 
@@ -93,6 +97,16 @@ impl Site {
         if self.is_shown {
             self.seconds = clock.now().saturating_sub(start) / 1000;
         }
+    }
+
+    /// The run comes to a log of a device, of which this may have been heard.
+    pub(crate) fn come_to(&mut self, heard: &[Heard], source: &Source) {
+        self.near = place_near(heard, self.near, source);
+    }
+
+    /// Where its device was most likely heard of.
+    pub(crate) fn near(&self) -> usize {
+        self.near
     }
 
     /// So many records of the log that is fetched are committed, and with them those before.

@@ -59,6 +59,29 @@ begun ours failures begins leaves ends retries place halfway old mid link w log 
     let there = ends place halfway mid.trees k covered.0 told same covered.3 still tells in
     (covered.0, covered.3, still, there.0, there.1)
 
+-- what is known of a number under another name of it
+under : (C : ℕ → Type 0) (name number : ℕ) → name ≡ number → (u : ℕ) × (number ≡ sequence_number u) × C u → (u : ℕ) × (name ≡ sequence_number u) × C u
+under C name number same (u, at, shown) = (u, same ∙ at, shown)
+
+-- what the second run covers, behind what the first one did
+goes_on : {K : Type 0} (ours_then : Ours K) (failures_then : K → ℕ) → RunsGoOnCovered ours_then failures_then →
+    (retries_then : ℕ) (place halfway from reached : Place) (mid new : Database) (later : K) (w_then : WalkPlace) (log : Id) (s next behind : ℕ) (told : Option NewestItem) →
+    w_then ≡ walk_at log next → halfway.log ≡ place.log → from.log ≡ place.log → from.epoch ≡ next_epoch place.epoch told → next ≡ next_number place.epoch s told → reached.log ≡ from.log →
+    AnyRun ours_then failures_then retries_then from reached mid new later w_then behind → (k : ℕ) → s ≡ sequence_number k → Begun place halfway mid k told →
+    (u : ℕ) × (behind ≡ sequence_number u) × IsCovered (era place) (era reached) new.trees k u
+goes_on ours_then failures_then goes retries_then place halfway from reached mid new later w_then log s next behind told at_then same log_is epoch_is next_is up
+    (n, half, after, ended, records, gaps, shown_then, keeps) k here (t, covers, none_later, epoch, ends_at) =
+    let epochs : from.epoch ≡ halfway.epoch = epoch_is ∙ sym epoch in
+    let logs : from.log ≡ halfway.log = log_is ∙ sym same in
+    let eras : era halfway ≡ era from = omega (arith, epochs, logs) in
+    let number : next ≡ sequence_number t = next_is ∙ ap (λ m. next_number place.epoch m told) here ∙ sym ends_at in
+    let C : ℕ → Type 0 = λ e. IsCovered (era place) e mid.trees k t in
+    let N : ℕ → Type 0 = λ e. HasNoneBehind e (era reached) (kept mid.trees) in
+    let free = subst N eras (none_up_to halfway reached mid.trees (up ∙ logs) none_later) in
+    under (λ u. IsCovered (era place) (era reached) new.trees k u) behind after.next (sym shown_then)
+    (goes (era place) from reached retries_then mid new later half w_then after n records gaps ended k t keeps (ap (λ (x : WalkPlace). x.fresh) at_then)
+    (ap (λ (x : WalkPlace). x.next) at_then ∙ number) free (subst C eras covers))
+
 pub covered_on : {L K : Type 0} (ours : Ours L) (failures : L → ℕ) (ours_then : Ours K) (failures_then : K → ℕ) →
     RunsBeginCovered ours failures → RunsLeaveNoneLater ours failures → RunsGoOnCovered ours_then failures_then → NewestEndsWhatIsKept →
     (retries retries_then : ℕ) (place halfway from reached : Place) (old mid new : Database) (link : L) (later : K) (w w_then : WalkPlace) (log : Id) (s shown next behind : ℕ) (told : Option NewestItem) →
@@ -68,17 +91,6 @@ pub covered_on : {L K : Type 0} (ours : Ours L) (failures : L → ℕ) (ours_the
     AnyRun ours_then failures_then retries_then from reached mid new later w_then behind →
     (k : ℕ) → s ≡ sequence_number k → (u : ℕ) × (behind ≡ sequence_number u) × IsCovered (era place) (era reached) new.trees k u
 covered_on ours failures ours_then failures_then begins leaves goes ends retries retries_then place halfway from reached old mid new link later w w_then log s shown next behind told at at_then same none none_later
-    first tells log_is epoch_is next_is up (n, half, after, ended, records, gaps, shown_then, keeps) k here =
-    let there = begun ours failures begins leaves ends retries place halfway old mid link w log s shown k told at here same none none_later first tells in
-    let epochs : from.epoch ≡ halfway.epoch = epoch_is ∙ sym there.3 in
-    let logs : from.log ≡ halfway.log = log_is ∙ sym same in
-    let eras : era halfway ≡ era from = omega (arith, epochs, logs) in
-    let number : next ≡ sequence_number there.0 = next_is ∙ ap (λ m. next_number place.epoch m told) here ∙ sym there.4 in
-    let C : ℕ → Type 0 = λ e. IsCovered (era place) e mid.trees k there.0 in
-    let N : ℕ → Type 0 = λ e. HasNoneBehind e (era reached) (kept mid.trees) in
-    let free = subst N eras (none_up_to halfway reached mid.trees (up ∙ logs) there.2) in
-    let on = goes (era place) from reached retries_then mid new later half w_then after n records gaps ended k there.0 keeps (ap (λ (x : WalkPlace). x.fresh) at_then)
-    (ap (λ (x : WalkPlace). x.next) at_then ∙ number) free (subst C eras there.1) in
-    let told_next : behind ≡ after.next = sym shown_then in
-    let comes : behind ≡ sequence_number on.0 = told_next ∙ on.1 in
-    (on.0, comes, on.2)
+    first tells log_is epoch_is next_is up run_then k here =
+    goes_on ours_then failures_then goes retries_then place halfway from reached mid new later w_then log s next behind told at_then same log_is epoch_is next_is up run_then k here
+    (begun ours failures begins leaves ends retries place halfway old mid link w log s shown k told at here same none none_later first tells)

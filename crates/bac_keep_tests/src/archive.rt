@@ -1,9 +1,8 @@
-//! Archives in memory: one is made, and what is kept in it. Files that are no archives are in
-//! examples/check/kept_cases.py.
+//! Archives in memory, and what is kept in one. Files that become archives, and those that are
+//! none, are in examples/check/kept_cases.py.
 
 use bac_archive::{
-    Row, append, append_within, commit_group, is_archive, leaves_the_last_commit, open, open_group,
-    undo_group,
+    Row, append, append_within, commit_group, is_archive, open, open_group, undo_group,
 };
 use sqlite::types::{FromSql, ToSql};
 use sqlite::{Connection, Constraint, Error, ErrorCode, MemStore};
@@ -41,6 +40,16 @@ pub(crate) fn first<T: FromSql>(conn: &mut Connection<MemStore>, sql: &str) -> R
     }
 }
 
+/// How many rows are kept.
+pub(crate) fn count(conn: &mut Connection<MemStore>) -> Result<i64, Fail> {
+    first(conn, "SELECT count(*) FROM items")
+}
+
+/// Whether the first row of an answer is this text.
+pub(crate) fn shows(conn: &mut Connection<MemStore>, sql: &str, text: &str) -> Result<bool, Fail> {
+    Ok(first::<String>(conn, sql)?.as_str() == text)
+}
+
 fn row(alloc: Global, id: i64) -> Result<Row, Fail> {
     Ok(Row {
         id,
@@ -71,33 +80,12 @@ fn add(conn: &mut Connection<MemStore>, rows: &[Row]) -> Result<Result<(), Error
     Ok(append(conn, rows))
 }
 
-#[test]
-fn an_empty_database_becomes_an_archive_and_stays_one(rt: HostRuntime) -> Result<(), Fail> {
-    let mut conn = archive(rt.alloc())?;
-    assert!(rt; open(&mut conn) == Ok(()));
-    leaves_the_last_commit(&conn);
-    assert_eq!(rt; first::<i64>(&mut conn, "SELECT version FROM archive")?, 2);
-    assert_eq!(rt; first::<i64>(&mut conn, "SELECT count(*) FROM items")?, 0);
-    Ok(())
-}
-
-#[test]
-fn an_append_keeps_all_rows_or_none(rt: HostRuntime) -> Result<(), Fail> {
-    let mut conn = archive_with(rt.alloc(), 0)?;
-    assert!(rt; add(&mut conn, &[row(rt.alloc(), 445)?, gap(446, 449)])? == Ok(()));
-    let taken = Error::SqliteFailure(ErrorCode::ConstraintViolation(Constraint::PrimaryKey));
-    assert!(rt; add(&mut conn, &[row(rt.alloc(), 450)?, row(rt.alloc(), 445)?])? == Err(taken));
-    assert_eq!(rt; first::<i64>(&mut conn, "SELECT count(*) FROM items")?, 2);
-    assert_eq!(rt; first::<i64>(&mut conn, "SELECT number FROM records")?, 445);
-    assert_eq!(rt;
-        first::<i64>(&mut conn, "SELECT last FROM gaps WHERE first = 446")?,
-        449
-    );
-    assert_eq!(rt;
-        first::<String>(&mut conn, "SELECT address FROM records")?.as_str(),
-        "192.0.2.1"
-    );
-    Ok(())
+fn add_two(
+    conn: &mut Connection<MemStore>,
+    one: Row,
+    other: Row,
+) -> Result<Result<(), Error>, Fail> {
+    add(conn, &[one, other])
 }
 
 // A group of two calls.
@@ -108,17 +96,31 @@ fn group(conn: &mut Connection<MemStore>, first: &[Row], then: &[Row]) -> Result
     commit_group(conn)
 }
 
+// A group whose last row is kept already.
+fn group_with_taken(
+    alloc: Global,
+    conn: &mut Connection<MemStore>,
+) -> Result<Result<(), Error>, Fail> {
+    let first = [row(alloc, 450)?];
+    let then = [row(alloc, 451)?, row(alloc, 445)?];
+    Ok(group(conn, &first, &then))
+}
+
 #[test]
-fn a_group_that_is_undone_keeps_nothing(rt: HostRuntime) -> Result<(), Fail> {
+fn an_append_or_a_group_is_kept_whole_or_not_at_all(rt: HostRuntime) -> Result<(), Fail> {
     let alloc = rt.alloc();
-    let mut conn = archive_with(alloc, 0)?;
-    assert!(rt; add(&mut conn, &[row(alloc, 445)?])? == Ok(()));
     let taken = Error::SqliteFailure(ErrorCode::ConstraintViolation(Constraint::PrimaryKey));
-    let both = [row(alloc, 447)?, row(alloc, 445)?];
-    assert!(rt; group(&mut conn, &[row(alloc, 446)?], &both) == Err(taken));
-    assert_eq!(rt; first::<i64>(&mut conn, "SELECT count(*) FROM items")?, 3);
+    let mut conn = archive_with(alloc, 0)?;
+    assert!(rt; add_two(&mut conn, row(alloc, 445)?, gap(446, 449))? == Ok(()));
+    assert!(rt; add_two(&mut conn, row(alloc, 450)?, row(alloc, 445)?)? == Err(taken));
+    assert!(rt; count(&mut conn)? == 2);
+    let record = "SELECT number || ' ' || address FROM records";
+    assert!(rt; shows(&mut conn, record, "445 192.0.2.1")?);
+    assert!(rt; first::<i64>(&mut conn, "SELECT last FROM gaps WHERE first = 446")? == 449);
+    assert!(rt; group_with_taken(alloc, &mut conn)? == Err(taken));
+    assert!(rt; count(&mut conn)? == 4);
     undo_group(&mut conn);
     assert!(rt; conn.is_autocommit());
-    assert_eq!(rt; first::<i64>(&mut conn, "SELECT count(*) FROM items")?, 1);
+    assert!(rt; count(&mut conn)? == 2);
     Ok(())
 }

@@ -3,7 +3,7 @@
 //! examples/check/kept.sh.
 
 use crate::after_a_crash::kept_after_a_crash;
-use crate::archive::{archive, first};
+use crate::archive::{archive, count};
 use crate::kept::{two, walk_from};
 use bac_keep::{KeptRun, Place, Untold, keep_log};
 use bac_link::Transactions;
@@ -40,10 +40,7 @@ fn cut_after_one(alloc: Global, place: Place) -> Result<(KeptRun, i64), Fail> {
     let run = kept_after_a_crash(
         alloc, &mut link, &mut later, log, 5, &mut conn, &mut left, place, 2,
     );
-    Ok((
-        run.ok_or("no run")?,
-        first::<i64>(&mut left, "SELECT count(*) FROM items")?,
-    ))
+    Ok((run.ok_or("no run")?, count(&mut left)?))
 }
 
 #[test]

@@ -1,7 +1,7 @@
 //! Walks over a link that answers from a list, kept in memory. Numbers that come round, rows that
 //! are kept already and files that are no archives are in examples/check/kept.sh.
 
-use crate::archive::{archive_with, first};
+use crate::archive::{archive_with, count, first, shows};
 use bac_archive::{is_archive, open};
 use bac_keep::{KeptRun, KeptStep, NotKept, Place, Progress, Untold, keep_log, keep_step};
 use bac_link::Transactions;
@@ -52,17 +52,18 @@ fn keep(
 }
 
 #[test]
-fn each_batch_is_kept_with_its_gap(rt: HostRuntime) -> Result<(), Fail> {
-    let mut conn = archive_with(rt.alloc(), 3)?;
+fn a_step_keeps_its_batch(rt: HostRuntime) -> Result<(), Fail> {
+    let alloc = rt.alloc();
     let mut place = Place::new(3, 2).ok_or("no place")?;
-    let (one, next) = (two(1, 5), two(2, 7));
-    let replies: [&[u8]; 2] = [&one, &next];
+    let mut walk = walk_from(5)?;
+    let one = two(1, 5);
+    let replies: [&[u8]; 1] = [&one];
     let mut link = ScriptedLink::new(&replies);
     let mut transactions = Transactions::new(0);
-    let mut walk = walk_from(5)?;
     let mut free = 5;
-    let first_step = keep(
-        rt.alloc(),
+    let mut conn = archive_with(alloc, 3)?;
+    let step = keep(
+        alloc,
         &mut link,
         &mut transactions,
         &mut walk,
@@ -70,37 +71,10 @@ fn each_batch_is_kept_with_its_gap(rt: HostRuntime) -> Result<(), Fail> {
         &mut place,
         &mut free,
     )?;
-    assert!(rt; first_step == Ok(TWO));
-    assert_eq!(rt; free, 7);
-    let second = keep(
-        rt.alloc(),
-        &mut link,
-        &mut transactions,
-        &mut walk,
-        &mut conn,
-        &mut place,
-        &mut free,
-    )?;
-    assert!(rt; second == Ok(TWO));
-    assert_eq!(rt; walk.next_number(), 9);
-    assert_eq!(rt; first::<i64>(&mut conn, "SELECT count(*) FROM items")?, 4);
-    assert_eq!(rt;
-        first::<i64>(&mut conn, "SELECT id FROM items ORDER BY id DESC LIMIT 1")?,
-        place.key(8)
-    );
-    assert_eq!(rt;
-        first::<String>(&mut conn, "SELECT stamp FROM items")?.as_str(),
-        "2024-05-06T07:08:09.10"
-    );
-    assert_eq!(rt;
-        first::<String>(&mut conn, "SELECT datum FROM items")?.as_str(),
-        "enum(0)"
-    );
-    assert_eq!(rt;
-        first::<String>(&mut conn, "SELECT flags FROM items")?.as_str(),
-        "0000"
-    );
-    assert!(rt; open(&mut conn) == Ok(()));
+    assert!(rt; step == Ok(TWO));
+    assert!(rt; free == 7);
+    assert!(rt; walk.next_number() == 7);
+    assert!(rt; count(&mut conn)? == 2);
     Ok(())
 }
 
@@ -116,62 +90,91 @@ impl Progress for Told {
     }
 }
 
-#[test]
-fn a_run_goes_on_where_one_was_lost(rt: HostRuntime) -> Result<(), Fail> {
-    let mut conn = archive_with(rt.alloc(), 7)?;
-    let place = Place::new(7, 1).ok_or("no place")?;
-    let (one, next, later) = (two(1, 5), two(2, 7), two(4, 12));
-    let replies: [&[u8]; 4] = [&one, &next, &[], &later];
-    let mut link = ScriptedLink::new(&replies);
-    let mut transactions = Transactions::new(0);
+// A run from number 5 on, and what it told.
+fn first_run(
+    alloc: Global,
+    link: &mut ScriptedLink<'_>,
+    transactions: &mut Transactions,
+    conn: &mut Connection<MemStore>,
+    place: Place,
+) -> Result<(KeptRun, Told), Fail> {
+    let walk = walk_from(5)?;
     let mut told = Told {
-        counts: Vec::new(rt.alloc()),
+        counts: Vec::new(alloc),
     };
-    let lost = keep_log(
-        rt.alloc(),
-        &mut link,
-        &mut transactions,
-        walk_from(5)?,
-        &mut conn,
+    let run = keep_log(
+        alloc,
+        link,
+        transactions,
+        walk,
+        conn,
         place,
         5,
         10,
         &mut told,
     );
+    Ok((run, told))
+}
+
+// One step more, from where a run ended.
+fn one_more(
+    alloc: Global,
+    link: &mut ScriptedLink<'_>,
+    transactions: &mut Transactions,
+    conn: &mut Connection<MemStore>,
+    run: KeptRun,
+) -> Result<KeptRun, Fail> {
+    let walk = walk_from(run.next)?;
+    let free = u64::from(run.next);
+    Ok(keep_log(
+        alloc,
+        link,
+        transactions,
+        walk,
+        conn,
+        run.place,
+        free,
+        1,
+        &mut Untold,
+    ))
+}
+
+#[test]
+fn a_run_goes_on_where_one_was_lost(rt: HostRuntime) -> Result<(), Fail> {
+    let alloc = rt.alloc();
+    let place = Place::new(7, 1).ok_or("no place")?;
+    let (one, next, later) = (two(1, 5), two(2, 7), two(4, 12));
+    let replies: [&[u8]; 4] = [&one, &next, &[], &later];
+    let mut link = ScriptedLink::new(&replies);
+    let mut transactions = Transactions::new(0);
+    let mut conn = archive_with(alloc, 7)?;
+    let (lost, told) = first_run(alloc, &mut link, &mut transactions, &mut conn, place)?;
     // Two records, two more, and the step that was lost.
-    assert_eq!(rt; told.counts.as_slice(), [2, 4, 4].as_slice());
-    let first_run = KeptRun {
+    assert!(rt; told.counts.as_slice() == [2, 4, 4].as_slice());
+    let run = KeptRun {
         records: 4,
         gaps: 0,
         next: 9,
         place,
         end: Ok(Why::Fault(WalkFault::Lost)),
     };
-    assert!(rt; lost == first_run);
-    let again = keep_log(
-        rt.alloc(),
-        &mut link,
-        &mut transactions,
-        walk_from(lost.next)?,
-        &mut conn,
-        lost.place,
-        9,
-        1,
-        &mut Untold,
-    );
-    let second_run = KeptRun {
+    assert!(rt; lost == run);
+    let again = one_more(alloc, &mut link, &mut transactions, &mut conn, lost)?;
+    let more = KeptRun {
         records: 2,
         gaps: 1,
         next: 14,
         place,
         end: Ok(Why::StepLimit),
     };
-    assert!(rt; again == second_run);
-    assert_eq!(rt; first::<i64>(&mut conn, "SELECT count(*) FROM items")?, 7);
-    assert_eq!(rt;
-        first::<i64>(&mut conn, "SELECT last FROM items WHERE last IS NOT NULL")?,
-        11
-    );
+    assert!(rt; again == more);
+    assert!(rt; count(&mut conn)? == 7);
+    let newest = first::<i64>(&mut conn, "SELECT id FROM items ORDER BY id DESC LIMIT 1")?;
+    assert!(rt; newest == place.key(13));
+    let gap = first::<i64>(&mut conn, "SELECT last FROM items WHERE last IS NOT NULL")?;
+    assert!(rt; gap == 11);
+    let record = "SELECT stamp || ' ' || datum || ' ' || flags FROM items";
+    assert!(rt; shows(&mut conn, record, "2024-05-06T07:08:09.10 enum(0) 0000")?);
     assert!(rt; open(&mut conn) == Ok(()));
     Ok(())
 }

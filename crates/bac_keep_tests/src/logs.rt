@@ -1,6 +1,6 @@
 //! The logs of an archive: what is added, and what changes in their rows.
 
-use crate::archive::{archive, first};
+use crate::archive::{archive, first, shows};
 use bac_archive::{Log, NotAdded, Source, Told, add_log_as, change_logs, fresh_id, open};
 use sqlite::{Connection, Constraint, Error, ErrorCode, MemStore};
 use std::alloc::Global;
@@ -38,29 +38,35 @@ fn moved(alloc: Global, id: u16, address: &str, stopped: bool) -> Result<Log, Fa
     })
 }
 
+fn add(
+    alloc: Global,
+    conn: &mut Connection<MemStore>,
+    id: u16,
+    address: &str,
+) -> Result<Result<(), NotAdded>, Fail> {
+    let at = source(alloc, address, 1)?;
+    Ok(add_log_as(conn, id, &at, Some("Zone"), &none_told()))
+}
+
+fn add_fresh(alloc: Global, conn: &mut Connection<MemStore>, address: &str) -> Result<(), Fail> {
+    let id = fresh_id(conn).ok().ok_or("no id")?;
+    match add(alloc, conn, id, address)? {
+        Ok(()) => Ok(()),
+        Err(_) => Err(Fail::from("not added")),
+    }
+}
+
 // An archive in memory with log 1 of two devices, under the ids 1 and 2.
 fn two_logs(alloc: Global) -> Result<Connection<MemStore>, Fail> {
     let mut conn = archive(alloc)?;
-    for address in ["192.0.2.1", "192.0.2.2"] {
-        let id = match fresh_id(alloc, &mut conn) {
-            Ok(id) => id,
-            Err(_) => return Err(Fail::from("no id")),
-        };
-        let at = source(alloc, address, 1)?;
-        if add_log_as(&mut conn, id, &at, Some("Zone"), &none_told()).is_err() {
-            return Err(Fail::from("not added"));
-        }
-    }
+    add_fresh(alloc, &mut conn, "192.0.2.1")?;
+    add_fresh(alloc, &mut conn, "192.0.2.2")?;
     Ok(conn)
 }
 
-fn changed_row(conn: &mut Connection<MemStore>) -> Result<String, Fail> {
-    first(
-        conn,
-        "SELECT address || ' ' || instance || ' ' || name || ' ' || device || ' ' || restart \
-         || ' ' || revision || ' ' || stopped FROM logs WHERE id = 2",
-    )
-}
+// What is kept of log 2.
+const SECOND: &str = "SELECT address || ' ' || instance || ' ' || name || ' ' || device || ' ' \
+     || restart || ' ' || revision || ' ' || stopped FROM logs WHERE id = 2";
 
 fn told_rows(conn: &mut Connection<MemStore>) -> Result<i64, Fail> {
     first(
@@ -71,47 +77,56 @@ fn told_rows(conn: &mut Connection<MemStore>) -> Result<i64, Fail> {
     )
 }
 
+// Two logs change in one call, which stop.
+fn change_two(
+    alloc: Global,
+    conn: &mut Connection<MemStore>,
+    (one, at): (u16, &str),
+    (other, there): (u16, &str),
+) -> Result<Result<(), Error>, Fail> {
+    let logs = [
+        moved(alloc, one, at, true)?,
+        moved(alloc, other, there, true)?,
+    ];
+    Ok(change_logs(conn, &logs))
+}
+
+fn change_one(
+    alloc: Global,
+    conn: &mut Connection<MemStore>,
+    id: u16,
+    address: &str,
+) -> Result<Result<(), Error>, Fail> {
+    let log = moved(alloc, id, address, false)?;
+    Ok(change_logs(conn, &[log]))
+}
+
 #[test]
 fn a_log_that_changes_keeps_its_instance_and_name(rt: HostRuntime) -> Result<(), Fail> {
-    let mut conn = two_logs(rt.alloc())?;
-    assert_eq!(rt; told_rows(&mut conn)?, 0);
-    let gone = moved(rt.alloc(), 9, "192.0.2.8", true)?;
-    let second = moved(rt.alloc(), 2, "192.0.2.9", true)?;
-    assert!(rt; change_logs(&mut conn, &[gone, second]) == Ok(()));
-    assert_eq!(rt; told_rows(&mut conn)?, 1);
-    assert_eq!(rt;
-        changed_row(&mut conn)?.as_str(),
-        "192.0.2.9 1 Zone 1234 2024-05-06T07:08:09.10 7 1"
-    );
-    let again = moved(rt.alloc(), 2, "192.0.2.3", false)?;
-    assert!(rt; change_logs(&mut conn, &[again]) == Ok(()));
-    assert_eq!(rt;
-        changed_row(&mut conn)?.as_str(),
-        "192.0.2.3 1 Zone 1234 2024-05-06T07:08:09.10 7 0"
-    );
+    let alloc = rt.alloc();
+    let mut conn = two_logs(alloc)?;
+    assert!(rt; told_rows(&mut conn)? == 0);
+    assert!(rt; change_two(alloc, &mut conn, (9, "192.0.2.8"), (2, "192.0.2.9"))? == Ok(()));
+    assert!(rt; told_rows(&mut conn)? == 1);
+    let changed = "192.0.2.9 1 Zone 1234 2024-05-06T07:08:09.10 7 1";
+    assert!(rt; shows(&mut conn, SECOND, changed)?);
+    assert!(rt; change_one(alloc, &mut conn, 2, "192.0.2.3")? == Ok(()));
+    let again = "192.0.2.3 1 Zone 1234 2024-05-06T07:08:09.10 7 0";
+    assert!(rt; shows(&mut conn, SECOND, again)?);
     assert!(rt; open(&mut conn) == Ok(()));
     Ok(())
 }
 
 #[test]
-fn where_another_log_is_none_moves(rt: HostRuntime) -> Result<(), Fail> {
-    let mut conn = two_logs(rt.alloc())?;
-    let second = moved(rt.alloc(), 2, "192.0.2.9", true)?;
-    let first = moved(rt.alloc(), 1, "192.0.2.9", true)?;
-    let taken = Error::SqliteFailure(ErrorCode::ConstraintViolation(Constraint::Unique));
-    assert!(rt; change_logs(&mut conn, &[second, first]) == Err(taken));
-    assert_eq!(rt; told_rows(&mut conn)?, 0);
-    Ok(())
-}
-
-#[test]
-fn an_id_that_a_log_has_is_taken(rt: HostRuntime) -> Result<(), Fail> {
-    let mut conn = two_logs(rt.alloc())?;
-    let at = source(rt.alloc(), "192.0.2.3", 1)?;
-    let taken = Error::SqliteFailure(ErrorCode::ConstraintViolation(Constraint::PrimaryKey));
-    assert!(rt;
-        add_log_as(&mut conn, 2, &at, None, &none_told()) == Err(NotAdded::Database(taken))
-    );
-    assert!(rt; fresh_id(rt.alloc(), &mut conn) == Ok(3));
+fn what_another_log_has_is_taken(rt: HostRuntime) -> Result<(), Fail> {
+    let alloc = rt.alloc();
+    let mut conn = two_logs(alloc)?;
+    let place = Error::SqliteFailure(ErrorCode::ConstraintViolation(Constraint::Unique));
+    let changed = change_two(alloc, &mut conn, (2, "192.0.2.9"), (1, "192.0.2.9"))?;
+    assert!(rt; changed == Err(place));
+    assert!(rt; told_rows(&mut conn)? == 0);
+    let id = Error::SqliteFailure(ErrorCode::ConstraintViolation(Constraint::PrimaryKey));
+    assert!(rt; add(alloc, &mut conn, 2, "192.0.2.3")? == Err(NotAdded::Database(id)));
+    assert!(rt; fresh_id(&mut conn) == Ok(3));
     Ok(())
 }

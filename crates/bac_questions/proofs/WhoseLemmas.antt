@@ -1,9 +1,10 @@
 -- What an ACK tells of a device, and the question for that over a socket.
-use Rattle.std.proofs.Common.{◌≡◌, ℕ, zero, suc, ◌<◌, ◌≤◌, ◌+◌, ◌++◌, ◌∷◌, [], true, None, inl, inr, take, length, get_or, List, Option, Some, Result, Ok, Err, IfOk, ap, sym, subst, ◌∙◌, arith}
+use Rattle.std.proofs.Common.{◌≡◌, ℕ, zero, suc, ◌<◌, ◌≤◌, ◌+◌, ◌++◌, ◌∷◌, [], true, None, inl, inr, take, drop, length, get_or, List, Option, Some, Result, Ok, Err, IfOk, ap, sym, subst, ◌∙◌, arith}
 use Rattle.std.specs.Int.{w32, from_be_bytes}
-use Rattle.std.specs.List.{Contains}
-use Rattle.std.proofs.lemmas.List.{take_more, take_all}
-use Rattle.std.proofs.lemmas.List.Elements.{Contains-append_cases}
+use Rattle.std.specs.List.{Contains, slice_range}
+use Rattle.std.proofs.lemmas.List.{take-append-drop, take_more, take_all}
+use Rattle.std.proofs.lemmas.List.Elements.{Contains-append_cases, Contains-append_left, Contains-append_right}
+use Rattle.std.proofs.lemmas.List.Folds.{drop_split}
 use Rattle.bac_archive.specs.declared.trend_logs.Log.{Log}
 use Rattle.bac_archive.specs.declared.trend_logs.Source.{Source}
 use Rattle.bac_questions.specs.Silent.{is_same_device}
@@ -78,3 +79,10 @@ none_more known at x source lt is here before = λ log has same.
 
 pub none_of_all : (known : List Log) (at : ℕ) (source : Source) → length known ≤ at → IsOnRecord (take at known) source None → IsOnRecord known source None
 none_of_all known at source past it = subst (λ l. IsOnRecord l source None) (take_all at known past) it
+
+-- what is among the rest from a place on is among all
+pub in_rest : (known rest : List Log) (at : ℕ) (log : Log) → at ≤ length known → rest ≡ slice_range known at (length known) → Contains rest log → Contains known log
+in_rest known rest at log within is there =
+    let behind = Contains-append_left (slice_range known at (length known)) (drop (length known) known) log (subst (λ l. Contains l log) is there) in
+    let dropped = subst (λ l. Contains l log) (sym (drop_split known at (length known) within)) behind in
+    subst (λ l. Contains l log) (take-append-drop at known) (Contains-append_right (take at known) (drop at known) log dropped)

@@ -10,10 +10,29 @@ use bac_asked::{Ending, Fault, NotDone};
 use bac_walk::{WalkFault, Why};
 use std::alloc::Global;
 
+/// Whether two addresses may be the same, by their lengths and by the two digits that differ most:
+/// the last one of the port, and that before the colon of a port of five digits. Most aren't, and a
+/// run over many devices compares each with all.
+fn may_be_same(one: &[u8], other: &[u8]) -> bool
+    ensures { one.now ≡ other.now → result ≡ true }
+{
+    let len = one.len();
+    if len != other.len() {
+        return false;
+    }
+    if len < 7 {
+        return true;
+    }
+    one[len - 1] == other[len - 1] && one[len - 7] == other[len - 7]
+}
+
 /// Whether two logs are of one device.
 pub fn is_same_device(one: &Source, other: &Source) -> bool
     ensures { result ≡ is_same_device one.now other.now }
 {
+    if !may_be_same(one.address.as_bytes(), other.address.as_bytes()) {
+        return false;
+    }
     one.address == other.address && one.dnet == other.dnet && one.dadr == other.dadr
 }
 
@@ -27,18 +46,14 @@ pub(crate) fn is_lost(why: Ending) -> bool
     }
 }
 
-/// The log at this place, if it is this one.
-fn log_at<'a>(known: &'a [Log], at: usize, source: &Source) -> Option<&'a Log>
+/// A log, if it is among these from this place on.
+fn log_from<'a>(known: &'a [Log], at: usize, source: &Source) -> Option<&'a Log>
     ensures { IfSome result (λ log. IsAmong known.now source.now (Some log.now)) }
 {
-    let Some(log) = known.get(at) else {
+    let Some(rest) = known.get(at..) else {
         return None;
     };
-    if log.source == *source {
-        Some(log)
-    } else {
-        None
-    }
+    first_log(rest, source)
 }
 
 /// A log, if it is among these.
@@ -53,11 +68,12 @@ fn first_log<'a>(known: &'a [Log], source: &Source) -> Option<&'a Log>
     None
 }
 
-/// A log, if it is among these: most likely at this place.
+/// A log, if it is among these: most likely at this place or soon behind it, since a run leaves out
+/// those that are stopped.
 pub fn log_among<'a>(known: &'a [Log], at: usize, source: &Source) -> Option<&'a Log>
     ensures { IsAmong known.now source.now (option_map (λ log. log.now) result) }
 {
-    match log_at(known, at, source) {
+    match log_from(known, at, source) {
         Some(log) => Some(log),
         None => first_log(known, source),
     }

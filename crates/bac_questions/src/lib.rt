@@ -17,5 +17,5 @@ pub use questions::{Count, read_count};
 pub use said::{Identity, OBJECT_IDENTIFIER, Said, copy_text, identify, read_said, silent};
 pub use whose::{
     Heard, add_heard, device_on_record, heard_of, hindrance, is_heard, is_silent, is_told,
-    of_device, push_heard, said_of, stands_elsewhere, told_elsewhere,
+    of_device, place_near, push_heard, said_of, stands_elsewhere, told_elsewhere,
 };

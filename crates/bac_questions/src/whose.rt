@@ -28,12 +28,30 @@ pub struct Heard {
     pub was_told: bool,
 }
 
-/// What the device of a log was heard to say in this run.
-pub fn heard_of<'a>(heard: &'a [Heard], source: &Source) -> Option<&'a Said>
+/// What the device of a log was heard to say, if it is that at this place.
+fn said_at<'a>(heard: &'a [Heard], near: usize, source: &Source) -> Option<&'a Said>
+    ensures { IfSome result
+        (λ said. (one : _) × HeardAs heard.now source.now one × (one.said ≡ said.now)) }
+{
+    let Some(one) = heard.get(near) else {
+        return None;
+    };
+    if is_same_device(&one.source, source) {
+        Some(&one.said)
+    } else {
+        None
+    }
+}
+
+/// What the device of a log was heard to say in this run: most likely at this place.
+pub fn heard_of<'a>(heard: &'a [Heard], near: usize, source: &Source) -> Option<&'a Said>
     ensures found { IfSome result
         (λ said. (one : _) × HeardAs heard.now source.now one × (one.said ≡ said.now)) }
     ensures none { IsNone result → is_heard heard.now source.now ≡ false }
 {
+    if let Some(said) = said_at(heard, near, source) {
+        return Some(said);
+    }
     for one in heard {
         if is_same_device(&one.source, source) {
             return Some(&one.said);
@@ -54,11 +72,13 @@ pub fn is_silent(heard: &[Heard], source: &Source) -> bool
     false
 }
 
-/// What the device of a log says: as it was heard to in this run, or as it does now.
+/// What the device of a log says: as it was heard to in this run, most likely at this place, or as
+/// it does now.
 pub fn said_of<S: Sockets>(
     sockets: &mut S,
     alloc: Global,
     heard: &[Heard],
+    near: usize,
     wanted: &Wanted,
 ) -> Result<Said, NotDone>
     ensures identified { IfOk result (λ said. IsIdentified
@@ -68,16 +88,48 @@ pub fn said_of<S: Sockets>(
         (socket_rules S.opens S.closes S.Socket.sends S.Socket.receives
         S.Socket.receives_within) wanted.now.asking.asked sockets.old sockets.new) }
 {
-    match heard_of(heard, &wanted.source) {
+    match heard_of(heard, near, &wanted.source) {
         Some(said) => copy_said(alloc, said),
         None => identify(sockets, alloc, &wanted.asking),
     }
 }
 
-/// Whether the device of a log was heard of.
-pub fn is_heard(heard: &[Heard], source: &Source) -> bool
+/// Whether the device of a log is the one at this place.
+fn is_at(heard: &[Heard], near: usize, source: &Source) -> bool
+    ensures { result ≡ true → is_heard heard.now source.now ≡ true }
+{
+    match heard.get(near) {
+        Some(one) => is_same_device(&one.source, source),
+        None => false,
+    }
+}
+
+/// Where the device of a log was heard of, from a place on.
+fn place_from(heard: &[Heard], from: usize, source: &Source) -> Option<usize> {
+    for at in from..heard.len() {
+        if is_at(heard, at, source) {
+            return Some(at);
+        }
+    }
+    None
+}
+
+/// Where to look first for the device of a log in what was heard, when the one before it was at
+/// this place: devices were heard of in the order of their logs.
+pub fn place_near(heard: &[Heard], near: usize, source: &Source) -> usize {
+    match place_from(heard, near, source) {
+        Some(at) => at,
+        None => place_from(heard, 0, source).unwrap_or(near),
+    }
+}
+
+/// Whether the device of a log was heard of: most likely at this place.
+pub fn is_heard(heard: &[Heard], near: usize, source: &Source) -> bool
     ensures { result ≡ is_heard heard.now source.now }
 {
+    if is_at(heard, near, source) {
+        return true;
+    }
     for one in heard {
         if is_same_device(&one.source, source) {
             return true;
@@ -86,9 +138,11 @@ pub fn is_heard(heard: &[Heard], source: &Source) -> bool
     false
 }
 
-/// Puts the device of a log behind those that were heard of, if it is new or gave no answer.
+/// Puts the device of a log behind those that were heard of, if it is new or gave no answer. It is
+/// most likely at this place, if it is there.
 pub fn add_heard(
     heard: &mut Vec<Heard>,
+    near: usize,
     source: Source,
     said: Said,
     why: Ending,
@@ -99,7 +153,7 @@ pub fn add_heard(
     if is_lost(why) {
         return push_heard(heard, source, silent(), true);
     }
-    if is_heard(heard.as_slice(), &source) {
+    if is_heard(heard.as_slice(), near, &source) {
         return Ok(());
     }
     push_heard(heard, source, said, false)
@@ -142,14 +196,14 @@ fn device_if(log: &Log, source: &Source) -> Option<u32>
     }
 }
 
-/// The instance on record of the log at this place, if it is of this device.
-fn device_at(known: &[Log], at: usize, source: &Source) -> Option<u32>
+/// The instance on record of a device, by the logs from this place on.
+fn device_from(known: &[Log], at: usize, source: &Source) -> Option<u32>
     ensures { IfSome result (λ kept. IsOnRecord known.now source.now (Some kept)) }
 {
-    let Some(log) = known.get(at) else {
+    let Some(rest) = known.get(at..) else {
         return None;
     };
-    match device_if(log, source) {
+    match first_device(rest, source) {
         Some(device) => Some(device),
         None => None,
     }
@@ -167,11 +221,12 @@ fn first_device(known: &[Log], source: &Source) -> Option<u32>
     None
 }
 
-/// The instance on record of a log's device: most likely by the log at this place.
+/// The instance on record of a log's device: most likely by the log at this place or soon behind
+/// it, since a run leaves out those that are stopped.
 pub fn device_on_record(known: &[Log], at: usize, source: &Source) -> Option<u32>
     ensures { IsOnRecord known.now source.now result }
 {
-    match device_at(known, at, source) {
+    match device_from(known, at, source) {
         Some(device) => Some(device),
         None => first_device(known, source),
     }
