@@ -25,7 +25,7 @@ ghost use Rattle.bac_direct.specs.Ahead.{moments_ahead, placed, placed_all};
 ghost use Rattle.bac_client_tests.specs.Day.{day, day_moments, plant as plant_of};
 ghost use Rattle.bac_client_tests.specs.Held.{held_from};
 
-use crate::direct_link::{PURGE, absent, brought, clock, gap, name, purged};
+use crate::direct_link::{PURGE, absent, brought, device_line, gap, name, purged};
 use crate::walk_callers;
 use bac_device::{Device, DeviceLine, Name, ObjectLine, questions_are_answered};
 use bac_direct::{DirectLink, LinkEvent, questions_are_the_devices, replies_are_the_devices};
@@ -184,13 +184,7 @@ pub fn records_of_a_day(
 #[test]
 fn a_day_is_delivered(rt: HostRuntime) -> Result<(), Fail> {
     let a = rt.alloc();
-    let device = DeviceLine {
-        instance: 123,
-        name: name(a, "plant")?,
-        vendor: 0,
-        reply_size: 1476,
-        clock: clock()?,
-    };
+    let device = device_line(a)?;
     let source = ObjectId::new(5, 1).ok_or("no such identifier")?;
     let outcome = records_of_a_day(a, &device, name(a, "trend")?, source, 10).ok_or("no walk")?;
     let items = [

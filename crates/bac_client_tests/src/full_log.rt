@@ -1,23 +1,19 @@
 //! A log with as many records as one may hold is collected whole, if there is memory.
 
-use crate::direct_link::plant;
+use crate::direct_link::plant_with;
+use crate::walk::walk_from;
 use bac_direct::DirectLink;
 use bac_link::Transactions;
-use bac_walk::{Walk, Why, collect};
-use bac_wire::ObjectId;
+use bac_walk::{Why, collect};
 use std::test::Fail;
 
 #[test]
 fn a_log_of_65535_records_is_collected(rt: HostRuntime) -> Result<(), Fail> {
-    let a = rt.alloc();
-    let mut device = plant(a, 65_535)?;
-    for number in 1..65_536u32 {
-        assert_eq!(rt; device.sample(1), Ok(number));
-    }
-    let log = ObjectId::new(20, 1).ok_or("no such identifier")?;
-    let mut walk = Walk::from_number(log, 1).ok_or("no walk")?;
+    let mut walk = walk_from(1)?;
+    let mut device = plant_with(&rt, 65_535, 65_536)?;
     let mut link = DirectLink::new(&mut device, &[]);
-    let outcome = collect(a, &mut link, &mut Transactions::new(3), &mut walk, 1000);
+    let mut transactions = Transactions::new(3);
+    let outcome = collect(rt.alloc(), &mut link, &mut transactions, &mut walk, 1000);
     assert_eq!(rt; outcome.items.len(), 65_535);
     assert_eq!(rt; outcome.next, 65_536);
     assert_eq!(rt; outcome.why, Why::CaughtUp);

@@ -2,68 +2,59 @@
 //! answers what came through one is in examples/check/lines.rows, and how one is asked in
 //! asking.talk.
 
-use crate::direct_link::{brought, gap, plant, state};
+use crate::direct_link::{brings, brought, gap, plant_with, state};
+use crate::walk::walk_from;
 use bac_apdu::Route;
-use bac_device::Device;
 use bac_direct::{DirectLink, LinkEvent, RoutedLink};
-use bac_link::{LogLink, Lost, Transactions};
-use bac_walk::{Walk, Why, collect};
-use bac_wire::{Datagram, ObjectId};
-use std::alloc::Global;
-use std::process::Abort;
+use bac_link::Transactions;
+use bac_walk::{Why, collect};
 use std::test::Fail;
 
 fn route(net: u16, address: &[u8]) -> Result<Route, Fail> {
     Ok(Route::new(net, address).ok_or("no such place")?)
 }
 
-fn datagram(alloc: Global, digits: &str) -> Result<Datagram, Fail> {
-    let octets = hex::decode(alloc, digits.as_bytes())
-        .ok()
-        .ok_or("no digits")?;
-    Ok(Datagram::of(octets.as_slice()).ok_or("too long")?)
-}
-
-/// Device 123 with three of the five records of Trend Log 1.
-fn three_of_five(rt: &impl Abort, alloc: Global) -> Result<Device, Fail> {
-    let mut device = plant(alloc, 3)?;
-    for number in 1..6u32 {
-        assert_eq!(rt; device.sample(1), Ok(number));
-    }
-    Ok(device)
+/// A link through a router to this address on network 7, from address 7f on network 5.
+fn through<'a>(direct: DirectLink<'a>, address: &[u8]) -> Result<RoutedLink<DirectLink<'a>>, Fail> {
+    let far = route(7, address)?;
+    let near = route(5, &[0x7f])?;
+    Ok(RoutedLink::new(direct, far, near))
 }
 
 #[test]
 fn a_walk_through_a_router(rt: HostRuntime) -> Result<(), Fail> {
-    let a = rt.alloc();
-    let mut device = three_of_five(&rt, a)?;
-    let log = ObjectId::new(20, 1).ok_or("no such identifier")?;
-    let mut walk = Walk::from_number(log, 1).ok_or("no walk")?;
-    let direct = DirectLink::new(&mut device, &[]);
-    let mut link = RoutedLink::new(direct, route(7, &[0x0a])?, route(5, &[0x7f])?);
+    let mut walk = walk_from(1)?;
     let mut transactions = Transactions::through(3, route(7, &[0x0a])?);
-    let outcome = collect(a, &mut link, &mut transactions, &mut walk, 10);
+    let mut device = plant_with(&rt, 3, 6)?;
+    let mut link = through(DirectLink::new(&mut device, &[]), &[0x0a])?;
+    let outcome = collect(rt.alloc(), &mut link, &mut transactions, &mut walk, 10);
     let items = [gap(1, 3), state(3), state(4), state(5)];
     brought(&rt, &outcome, &items, 6, Why::CaughtUp);
     Ok(())
 }
 
+/// ReadRange of Trend Log 1 by number 1, count 100, for address 0a on network 7.
+const THERE: [u8; 28] = [
+    0x81, 0x0a, 0, 0x1c, 1, 0x24, 0, 7, 1, 0x0a, 0xff, 0, 5, 1, 0x1a, 0x0c, 5, 0, 0, 1, 0x19, 0x83,
+    0x6e, 0x21, 1, 0x31, 0x64, 0x6f,
+];
+
+/// The same, for this network.
+const HERE: [u8; 23] = [
+    0x81, 0x0a, 0, 0x17, 1, 4, 0, 5, 1, 0x1a, 0x0c, 5, 0, 0, 1, 0x19, 0x83, 0x6e, 0x21, 1, 0x31,
+    0x64, 0x6f,
+];
+
 #[test]
 fn requests_that_a_link_does_not_carry(rt: HostRuntime) -> Result<(), Fail> {
-    let a = rt.alloc();
-    let mut device = three_of_five(&rt, a)?;
-    let asked = datagram(
-        a,
-        "810a001c01240007010aff0005011a0c0500000119836e210131646f",
-    )?;
-    let here = datagram(a, "810a001701040005011a0c0500000119836e210131646f")?;
+    let mut device = plant_with(&rt, 3, 6)?;
     let events = [LinkEvent::Sample(1), LinkEvent::Answer];
     let mut direct = DirectLink::new(&mut device, &events);
     // Nothing is played for a request to another network.
-    assert_eq!(rt; direct.ask(asked.octets()).err(), Some(Lost));
-    let mut link = RoutedLink::new(direct, route(7, &[0x0b])?, route(5, &[0x7f])?);
+    brings(&rt, &mut direct, &THERE, None);
+    let mut link = through(direct, &[0x0b])?;
     // Neither for another place nor for this network.
-    assert_eq!(rt; link.ask(asked.octets()).err(), Some(Lost));
-    assert_eq!(rt; link.ask(here.octets()).err(), Some(Lost));
+    brings(&rt, &mut link, &THERE, None);
+    brings(&rt, &mut link, &HERE, None);
     Ok(())
 }
