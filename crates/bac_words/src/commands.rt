@@ -414,7 +414,7 @@ printed with its class and its code:"
     let command = with(command, option(alloc, Word::Records, "N", help))?;
     let help = "A part is full at so many MiB: 1 to 4096";
     let command = with(command, option_or(alloc, Word::Part, "MIB", "32", help))?;
-    let help = "Questions open at once, in all: 1 to 1024";
+    let help = "New questions open at once: 1 to 1024";
     let command = with(command, option_or(alloc, Word::AtOnce, "N", "64", help))?;
     let help = "Ask these logs no more; adding them starts them again";
     let command = with(command, flag(alloc, Word::Stop, help))?;

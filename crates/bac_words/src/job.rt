@@ -80,7 +80,8 @@ pub struct Keep {
     pub stop: bool,
     /// How many MiB a part of an archive has when the next one is begun: 1 to 4,096.
     pub part: u32,
-    /// How many questions are open at once, of those that weren't sent again: 1 to 1,024.
+    /// How many questions are open at once, of those that were sent once, and not long ago: 1 to
+    /// 1,024.
     pub at_once: u32,
     /// Each datagram is told.
     pub trace: bool,
