@@ -25,10 +25,6 @@ use Rattle.bac_fetch.specs.declared.keeping.Chosen.TheVariants.{Kept, Sought}
 pub database_rows : (why : FileFault) (error : Error) → why ≡ of_error error → FailsOnRows (File why)
 database_rows why error is = inr (inr (error, ap File is))
 
--- a log that isn't added since the database answers by one
-pub not_added_rows : (why : FileFault) (fault : NotAdded) (error : Error) → why ≡ of_not_added fault → fault ≡ unadded.Database error → FailsOnRows (File why)
-not_added_rows why fault error is same = database_rows why error (is ∙ ap of_not_added same)
-
 -- a log that has no row isn't entered
 pub not_entered : (why : FileFault) (fault : NotAdded) (trees : Trees) → why ≡ of_not_added fault
     → (◌≡◌ {A = Result ℕ NotAdded} (Err fault) (Err unadded.Full) → HasNoFreshId trees) → FailsToEnter None trees (File why)

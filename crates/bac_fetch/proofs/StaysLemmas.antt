@@ -1,5 +1,5 @@
 -- A run takes nothing away.
-use Rattle.std.proofs.Common.{◌≡◌, inl, inr, ℕ, pos, true, MatchBool, List, [], ◌∷◌, Option, None, Some, Result, Ok, Err, refl, subst, sym, ◌∙◌, arith}
+use Rattle.std.proofs.Common.{◌≡◌, inl, inr, ℕ, pos, true, List, [], ◌∷◌, Option, None, Some, Result, Ok, Err, refl, subst, sym, ◌∙◌, arith}
 use Rattle.std.specs.List.{Contains}
 use Rattle.std.proofs.lemmas.List.Elements.{Contains-append_left}
 use Rattle.std.proofs.lemmas.List.Sorted.{Contains-permutation}
@@ -15,7 +15,7 @@ use Rattle.bac_link.specs.Path.{Path}
 use Rattle.bac_link.specs.declared.link.Lost.{Lost as Loss}
 use Rattle.bac_archive.specs.Changes.{ChangesLogs, HasChangedLogs, IsStill, KeepsLogs}
 use Rattle.bac_archive.proofs.ChangeLemmas.{changes_keep}
-use Rattle.bac_archive.specs.Logs.{AddsLog, HasNewLog}
+use Rattle.bac_archive.specs.Logs.{AddsLog}
 use Rattle.bac_archive.specs.declared.trend_logs.Log.{Log}
 use Rattle.bac_archive.specs.declared.trend_logs.Told.{Told}
 use Rattle.bac_ports.specs.Sockets.{SocketRules}
@@ -79,14 +79,7 @@ pub stays_then : (old mid new : State) → HasAllOf old.now.trees mid.now.trees 
 stays_then old mid new all one two = survives_then old mid new _ _ (HasAllOf old.now.trees) (λ _ db it. it)
     (λ _ db it. all_then old.now.trees mid.now.trees db all it) one two
 
--- what may be left of a log whose row comes
-pub added_stays : (old new : State) (row : Values) → HasArchive old.now.schema
-    → Survives old new (λ trees. HasArchive old.now.schema → (db : Database) × HasNewLog old.now db row × (trees ≡ db.trees))
-    → Survives old new (HasAllOf old.now.trees)
-added_stays old new row has it = survives_as old new _ (HasAllOf old.now.trees)
-    (λ _ db left. let made = left has in subst (HasAllOf old.now.trees) (sym made.2) (log_all old.now.trees made.0.trees row made.1.rows)) it
-
--- and of changes of rows of logs
+-- what may be left of changes of rows of logs
 pub changed_stays : (old new : State) (logs : List Log) → HasArchive old.now.schema
     → Survives old new (λ trees. HasArchive old.now.schema → (db : Database) × HasChangedLogs old.now db logs × (trees ≡ db.trees))
     → Survives old new (HasAllOf old.now.trees)
@@ -197,26 +190,11 @@ rows_of_new a b log it = λ row at. Contains-permutation _ (known b) row it.logs
 pub rows_itself : (a : Trees) → HasRows a a
 rows_itself a = λ row at. at
 
--- what may be left of a log whose row comes
-pub added_rows : (old new : State) (row : Values) → HasArchive old.now.schema
-    → Survives old new (λ trees. HasArchive old.now.schema → (db : Database) × HasNewLog old.now db row × (trees ≡ db.trees))
-    → Survives old new (HasRows old.now.trees)
-added_rows old new row has it = survives_as old new _ (HasRows old.now.trees)
-    (λ _ db left. let made = left has in subst (HasRows old.now.trees) (sym made.2) (rows_of_new old.now.trees made.0.trees row made.1.rows)) it
-
 admitted_rows : (recorded : Recorded) (row : Log) (old new : Database) → AdmitsRow recorded row old new → HasRows old.trees new.trees
 admitted_rows So row old new it = subst (λ (d : Database). HasRows old.trees d.trees) (sym it) (rows_itself old.trees)
 admitted_rows OldWord row old new it = subst (λ (d : Database). HasRows old.trees d.trees) (sym it) (rows_itself old.trees)
 admitted_rows Otherwise row old new it = subst (λ (d : Database). HasRows old.trees d.trees) (sym it) (rows_itself old.trees)
 admitted_rows Not row old new it = rows_of_new old.trees new.trees _ it.rows
-
--- what may be left of a row that is changed
-pub renews_crash : (entry : Entry) (end : End) (old new : State) → is_due entry.recorded end ≡ true → HasArchive old.now.schema
-    → Survives old new (λ trees. HasArchive old.now.schema → (db : Database) × HasChangedLogs old.now db (entry.row ∷ []) × (trees ≡ db.trees))
-    → Survives old new (λ trees. (db : Database) × Renews entry end old.now db × (trees ≡ db.trees))
-renews_crash entry end old new is has it = survives_as old new _ _
-    (λ _ db left. let made = left has in
-    (made.0, subst (λ b. MatchBool b (HasChangedLogs old.now made.0 (entry.row ∷ [])) (made.0 ≡ old.now)) (sym is) made.1, made.2)) it
 
 -- what a crash leaves of calls that keep each log as it was, and of one behind them that keeps all
 pub leaves_word : (old mid new : State) (keeps : Database → Type 0) (more : Trees → Type 0) → Survives old mid (HasRows old.now.trees)
