@@ -3,3 +3,4 @@ pub mod CountLemmas
 pub mod DiscoveredLemmas
 pub mod WhoseLemmas
 pub mod UnfoundLemmas
+pub mod PlaceLemmas

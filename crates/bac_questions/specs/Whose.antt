@@ -1,6 +1,6 @@
 -- Whose records these are: which device a log is of, and whether its records are fetched then.
 use Rattle.std.specs.Prelude.{◌≡◌, ◌⊎◌, ◌==◌, ◌&&◌, ◌||◌, not, ℕ, Bool, true, false, if◌then◌else◌, List, ◌∷◌, [], ◌++◌}
-use Rattle.std.specs.Prelude.{Option, None, Some, option_map}
+use Rattle.std.specs.Prelude.{◌<◌, ◌≤◌, Option, None, Some, option_map, slice_get}
 use Rattle.std.specs.List.{Contains, list_any}
 use Rattle.bac_ports.specs.Sockets.{SocketRules}
 use Rattle.bac_walk.specs.declared.outcome.WalkFault.TheVariants as walk
@@ -34,6 +34,21 @@ HeardAs heard source one = Contains heard one × (is_same_device one.source sour
 abbrev pub IsHeard : List Heard → Source → Said → Type 0
 IsHeard heard source said = (one : Heard) × HeardAs heard source one × (said.identity ≡ one.said.identity)
     × (told_values said.told ≡ told_values one.said.told)
+
+-- the device of a log was heard of at this place
+abbrev pub IsHeardAt : List Heard → ℕ → Source → Type 0
+IsHeardAt heard at source = (one : Heard) × (slice_get heard at ≡ Some one) × (is_same_device one.source source ≡ true)
+
+-- the first place from this one on where it was heard of; or that there is none
+abbrev pub IsHeardFrom : List Heard → ℕ → Source → Option ℕ → Type 0
+IsHeardFrom heard from source (Some at) = (from ≤ at) × IsHeardAt heard at source
+    × ((before : ℕ) → from ≤ before → before < at → IsHeardAt heard before source → ⊥)
+IsHeardFrom heard from source None = (at : ℕ) → from ≤ at → IsHeardAt heard at source → ⊥
+
+-- the first place from this one on where it was heard of; or if there is none, the first of all
+abbrev pub IsHeardNear : List Heard → ℕ → Source → ℕ → Type 0
+IsHeardNear heard near source at = IsHeardFrom heard near source (Some at)
+    ⊎ (IsHeardFrom heard near source None × IsHeardFrom heard 0 source (Some at))
 
 -- A device is asked once in a run what it says of itself: it was heard of before; or it is asked now.
 abbrev pub IsIdentified : {S P : Type 0} → SocketRules S P → List Heard → Wanted → S → Said → S → Type 0

@@ -1,13 +1,14 @@
 //! Whose records these are: a device is known by its instance, and asked once in a run what it
 //! says.
 
-ghost use Rattle.std.specs.Prelude.{◌≡◌, ◌++◌, ◌∷◌, [], true, false, None, Some, IsNone, IfOk};
-ghost use Rattle.std.specs.Prelude.{IfSome, OnOk, IfErr};
+ghost use Rattle.std.specs.Prelude.{◌≡◌, ◌++◌, ◌∷◌, ◌↔◌, [], true, false, None, Some, IsNone};
+ghost use Rattle.std.specs.Prelude.{IsTrue, IfOk, IfSome, OnOk, IfErr};
 ghost use Rattle.bac_ports.specs.Sockets.{socket_rules};
 ghost use Rattle.bac_asked.specs.Faults.{WantsMemory};
 ghost use Rattle.bac_questions.specs.Faults.{EndsAsking};
 ghost use Rattle.bac_questions.specs.Silent.{is_same_device};
-ghost use Rattle.bac_questions.specs.Whose.{HeardAs, IsIdentified, IsOnRecord, heard_with};
+ghost use Rattle.bac_questions.specs.Whose.{HeardAs, IsHeardAt, IsHeardFrom, IsHeardNear};
+ghost use Rattle.bac_questions.specs.Whose.{IsIdentified, IsOnRecord, heard_with};
 ghost use Rattle.bac_questions.specs.Whose.{hindrance, is_elsewhere, is_heard, is_silent, is_told};
 ghost use Rattle.bac_questions.specs.Whose.{of_device, stands_elsewhere, told_elsewhere, told_one};
 
@@ -96,7 +97,7 @@ pub fn said_of<S: Sockets>(
 
 /// Whether the device of a log is the one at this place.
 fn is_at(heard: &[Heard], near: usize, source: &Source) -> bool
-    ensures { result ≡ true → is_heard heard.now source.now ≡ true }
+    ensures { IsTrue result ↔ IsHeardAt heard.now near source.now }
 {
     match heard.get(near) {
         Some(one) => is_same_device(&one.source, source),
@@ -105,7 +106,9 @@ fn is_at(heard: &[Heard], near: usize, source: &Source) -> bool
 }
 
 /// Where the device of a log was heard of, from a place on.
-fn place_from(heard: &[Heard], from: usize, source: &Source) -> Option<usize> {
+fn place_from(heard: &[Heard], from: usize, source: &Source) -> Option<usize>
+    ensures { IsHeardFrom heard.now from source.now result }
+{
     for at in from..heard.len() {
         if is_at(heard, at, source) {
             return Some(at);
@@ -116,7 +119,11 @@ fn place_from(heard: &[Heard], from: usize, source: &Source) -> Option<usize> {
 
 /// Where to look first for the device of a log in what was heard, when the one before it was at
 /// this place: devices were heard of in the order of their logs.
-pub fn place_near(heard: &[Heard], near: usize, source: &Source) -> usize {
+pub fn place_near(heard: &[Heard], near: usize, source: &Source) -> usize
+    ensures heard { is_heard heard.now source.now ≡ true
+        → IsHeardNear heard.now near source.now result }
+    ensures unheard { is_heard heard.now source.now ≡ false → result ≡ near }
+{
     match place_from(heard, near, source) {
         Some(at) => at,
         None => place_from(heard, 0, source).unwrap_or(near),
