@@ -2,3 +2,4 @@ pub mod Gathering
 pub mod Hosting
 pub mod Answering
 pub mod OnLiterals
+pub mod Extending

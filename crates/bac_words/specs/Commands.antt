@@ -1,6 +1,6 @@
 -- The words and options that each tool takes, with their defaults, as clap's contracts see a command.
 -- Each value is kept as text.
-use Rattle.std.specs.Prelude.{◌≡◌, true, false, List, [], ◌∷◌, ◌++◌, Some, codes, ◌||◌}
+use Rattle.std.specs.Prelude.{◌≡◌, true, false, List, [], ◌∷◌, ◌++◌, Some, codes}
 use Rattle.clap.specs.Lexer.{usize_max}
 use Rattle.clap.specs.Words.{App, Rule, Text, app_of, new_app, new_rule, with_rule, with_subcommand}
 use Rattle.clap.specs.declared.builder.action.ArgAction.TheVariants.{SetTrue}
@@ -133,8 +133,3 @@ pub record IsCommand (a : App) (c : Command) : Type 0 where
 pub record Extends (old : Command) (rules : List Rule) (new : Command) : Type 0 where
   pub app : app_of new ≡ with_rules (app_of old) rules
   pub globals : (out-Command new).has_globals ≡ (out-Command old).has_globals
-
--- the same with one more tool
-pub record AddsTool (old tool new : Command) : Type 0 where
-  pub app : app_of new ≡ with_subcommand (app_of old) (app_of tool).top
-  pub globals : (out-Command new).has_globals ≡ ((out-Command old).has_globals || (out-Command tool).has_globals)

@@ -1,5 +1,6 @@
 pub mod Names
 pub mod Commands
+pub mod Entries
 pub mod Numbers
 pub mod Chains
 pub mod Addresses

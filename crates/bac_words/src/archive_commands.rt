@@ -3,12 +3,11 @@
 ghost use Rattle.std.specs.Prelude.{IfOk};
 ghost use Rattle.bac_words.specs.Commands.{kept_app, check_app, IsCommand};
 
-use crate::commands::{flag, maybe, needed, tool, with};
-use crate::word::Word;
+use crate::commands::bare;
+use crate::entries::with_entries;
+use crate::tool_entries::{CHECK, KEPT};
 use clap::Command;
 use std::alloc::{AllocError, Global};
-
-const FILE: &str = "The database file, or a folder of parts";
 
 pub(crate) fn kept<'a>(alloc: Global) -> Result<Command<'a>, AllocError>
     ensures { IfOk result (IsCommand kept_app) }
@@ -20,14 +19,8 @@ bac kept plant does so of each part of the folder plant, the oldest first.
 
 bac kept site.db --csv prints all logs as CSV: address, trend_log, name, epoch,
 number, stamp, value, datum, flags; in the row of a gap datum is gap FIRST LAST.";
-    let command = tool(alloc, "kept", about, example);
-    let command = with(command, needed(alloc, Word::File, FILE))?;
-    let help = "The device: A.B.C.D or A.B.C.D:PORT (port 47808)";
-    let command = with(command, maybe(alloc, Word::Address, help))?;
-    let help = "The trend log's instance: 0 to 4194303";
-    let command = with(command, maybe(alloc, Word::Instance, help))?;
-    let help = "As CSV, with a first row of names";
-    with(command, flag(alloc, Word::Csv, help))
+    let command = bare(alloc, "kept", about, example);
+    with_entries(alloc, command, &KEPT)
 }
 
 pub(crate) fn check<'a>(alloc: Global) -> Result<Command<'a>, AllocError>
@@ -39,6 +32,6 @@ opens site.db as bac keep does, and prints of each log its epochs, each with its
 first and last number, its records and its gaps, and each number that is missing
 from what it covers. bac check plant does so of each part of the folder plant,
 and tests that each part begins where the one before it ends.";
-    let command = tool(alloc, "check", about, example);
-    with(command, needed(alloc, Word::File, FILE))
+    let command = bare(alloc, "check", about, example);
+    with_entries(alloc, command, &CHECK)
 }

@@ -1,18 +1,17 @@
-//! The words that each tool takes, with what the help says of them.
+//! The tools, with what the help says of each.
 
-ghost use Rattle.std.specs.Prelude.{◌≡◌, ◌++◌, ◌∷◌, [], IfOk, false, codes};
+ghost use Rattle.std.specs.Prelude.{◌≡◌, ◌++◌, map, IfOk, false, codes};
 ghost use Rattle.clap.specs.declared.builder.command.Command.TheViews.{out-Command};
-ghost use Rattle.clap.specs.Words.{rule_of, new_app};
-ghost use Rattle.bac_words.specs.Commands.{needed, needed_list, maybe, maybe_list, option};
-ghost use Rattle.bac_words.specs.Commands.{option_or, flag, timeout_rules, route_rules};
-ghost use Rattle.bac_words.specs.Commands.{asking_rules, keeping_rules, property_rules, wi_app};
-ghost use Rattle.bac_words.specs.Commands.{rp_app, wp_app, log_app, logs_app, keep_app};
-ghost use Rattle.bac_words.specs.Commands.{serve_app, bac_app, top_app, IsCommand, Extends};
-ghost use Rattle.bac_words.specs.Commands.{AddsTool};
+ghost use Rattle.clap.specs.Words.{app_of, new_app, with_subcommand};
+ghost use Rattle.bac_words.specs.Commands.{asking_rules, keeping_rules, wi_app, rp_app, wp_app};
+ghost use Rattle.bac_words.specs.Commands.{log_app, logs_app, keep_app, serve_app, bac_app};
+ghost use Rattle.bac_words.specs.Commands.{top_app, IsCommand, Extends};
+ghost use Rattle.bac_words.specs.Entries.{rule_in, app_for, with_tools};
 
 use crate::archive_commands::{check, kept};
-use crate::word::Word;
-use clap::{Arg, ArgAction, Command};
+use crate::entries::{Entry, with_entries};
+use crate::tool_entries::{ASKING, KEEP, KEEPING, LOG, LOGS, RP, SERVE, WI, WP};
+use clap::Command;
 use std::alloc::{AllocError, Global};
 
 /// A text, and what the numbers of a refusal mean.
@@ -65,87 +64,8 @@ The numbers that are typed and printed, 'error' with its class and its code:
     };
 }
 
-/// A word that has to be there.
-pub(crate) fn needed<'a>(alloc: Global, word: Word, help: &'a str) -> Arg<'a>
-    ensures rule { rule_of result ≡ needed word }
-    ensures local { result.global ≡ false }
-{
-    Arg::new(alloc, word.name()).required(true).help(help)
-}
-
-/// One such word or more.
-fn needed_list<'a>(alloc: Global, word: Word, help: &'a str) -> Arg<'a>
-    ensures rule { rule_of result ≡ needed_list word }
-    ensures local { result.global ≡ false }
-{
-    Arg::new(alloc, word.name())
-        .required(true)
-        .num_args(1..)
-        .help(help)
-}
-
-/// A word that may be there.
-pub(crate) fn maybe<'a>(alloc: Global, word: Word, help: &'a str) -> Arg<'a>
-    ensures rule { rule_of result ≡ maybe word }
-    ensures local { result.global ≡ false }
-{
-    Arg::new(alloc, word.name()).help(help)
-}
-
-/// Any number of such words.
-fn maybe_list<'a>(alloc: Global, word: Word, help: &'a str) -> Arg<'a>
-    ensures rule { rule_of result ≡ maybe_list word }
-    ensures local { result.global ≡ false }
-{
-    Arg::new(alloc, word.name()).num_args(0..).help(help)
-}
-
-/// An option `--NAME`.
-pub(crate) fn flag<'a>(alloc: Global, word: Word, help: &'a str) -> Arg<'a>
-    ensures rule { rule_of result ≡ flag word }
-    ensures local { result.global ≡ false }
-{
-    Arg::new(alloc, word.name())
-        .long(word.name())
-        .action(ArgAction::SetTrue)
-        .help(help)
-}
-
-/// An option `--NAME=VALUE`.
-fn option<'a>(alloc: Global, word: Word, value: &'a str, help: &'a str) -> Arg<'a>
-    ensures rule { rule_of result ≡ option word }
-    ensures local { result.global ≡ false }
-{
-    Arg::new(alloc, word.name())
-        .long(word.name())
-        .value_name(value)
-        .help(help)
-}
-
-/// The same with a default.
-fn option_or<'a>(
-    alloc: Global,
-    word: Word,
-    value: &'a str,
-    default: &'a str,
-    help: &'a str,
-) -> Arg<'a>
-    ensures rule { rule_of result ≡ option_or word default.entry.now }
-    ensures local { result.global ≡ false }
-{
-    option(alloc, word, value, help).default_value(default)
-}
-
-/// The command with one more word.
-pub(crate) fn with<'a>(command: Command<'a>, arg: Arg<'a>) -> Result<Command<'a>, AllocError>
-    requires { arg.global ≡ false }
-    ensures { IfOk result (Extends command.entry (rule_of arg.entry ∷ [])) }
-{
-    command.arg(arg)
-}
-
 /// A tool without words.
-pub(crate) fn tool<'a>(
+pub(crate) fn bare<'a>(
     alloc: Global,
     name: &'a str,
     about: &'a str,
@@ -156,61 +76,28 @@ pub(crate) fn tool<'a>(
     Command::new(alloc, name).about(about).after_help(example)
 }
 
-fn with_timeout<'a>(alloc: Global, command: Command<'a>) -> Result<Command<'a>, AllocError>
-    ensures { IfOk result (Extends command.entry timeout_rules) }
+/// The command with these words, and those of a tool that asks a device.
+fn with_asking<'a>(
+    alloc: Global,
+    command: Command<'a>,
+    entries: &[Entry<'a>],
+) -> Result<Command<'a>, AllocError>
+    ensures { IfOk result (Extends command.entry (map rule_in entries.now ++ asking_rules)) }
 {
-    let help = "Wait for an answer: 1 to 60000 ms";
-    let command = with(command, option_or(alloc, Word::Timeout, "MS", "3000", help))?;
-    let help = "Our own address and port; any where it is left out";
-    let command = with(command, option(alloc, Word::Local, "ADDRESS", help))?;
-    let help = "Tell each datagram on standard error, in hex digits";
-    with(command, flag(alloc, Word::Trace, help))
-}
-
-fn with_route<'a>(alloc: Global, command: Command<'a>) -> Result<Command<'a>, AllocError>
-    ensures { IfOk result (Extends command.entry route_rules) }
-{
-    let help = "A network behind a router, with --dadr: 1 to 65534";
-    let command = with(command, option(alloc, Word::Dnet, "N", help))?;
-    let help = "The device's address there: 2 to 30 hex digits";
-    with(command, option(alloc, Word::Dadr, "HEX", help))
-}
-
-fn with_asking<'a>(alloc: Global, command: Command<'a>) -> Result<Command<'a>, AllocError>
-    ensures { IfOk result (Extends command.entry asking_rules) }
-{
-    let command = with_timeout(alloc, command)?;
-    let help = "How many times to ask again: 0 to 10";
-    let command = with(command, option_or(alloc, Word::Retries, "N", "3", help))?;
-    with_route(alloc, command)
+    let command = with_entries(alloc, command, entries)?;
+    with_entries(alloc, command, &ASKING)
 }
 
 /// The same without defaults.
-fn with_keeping<'a>(alloc: Global, command: Command<'a>) -> Result<Command<'a>, AllocError>
-    ensures { IfOk result (Extends command.entry keeping_rules) }
+fn with_keeping<'a>(
+    alloc: Global,
+    command: Command<'a>,
+    entries: &[Entry<'a>],
+) -> Result<Command<'a>, AllocError>
+    ensures { IfOk result (Extends command.entry (map rule_in entries.now ++ keeping_rules)) }
 {
-    let help = "Wait for an answer: 1 to 60000 ms; 3000 if left out";
-    let command = with(command, option(alloc, Word::Timeout, "MS", help))?;
-    let help = "Our own address and port; any where it is left out";
-    let command = with(command, option(alloc, Word::Local, "ADDRESS", help))?;
-    let help = "Tell each datagram on standard error, in hex digits";
-    let command = with(command, flag(alloc, Word::Trace, help))?;
-    let help = "How many times to ask again: 0 to 10; 3 if left out";
-    let command = with(command, option(alloc, Word::Retries, "N", help))?;
-    with_route(alloc, command)
-}
-
-fn with_property<'a>(alloc: Global, command: Command<'a>) -> Result<Command<'a>, AllocError>
-    ensures { IfOk result (Extends command.entry property_rules) }
-{
-    let help = "The device: A.B.C.D or A.B.C.D:PORT (port 47808)";
-    let command = with(command, needed(alloc, Word::Address, help))?;
-    let help = "The object's type, as a number: 0 to 1023";
-    let command = with(command, needed(alloc, Word::ObjectType, help))?;
-    let help = "The object's instance: 0 to 4194303";
-    let command = with(command, needed(alloc, Word::Instance, help))?;
-    let help = "The property, as a number: 85 is Present_Value";
-    with(command, needed(alloc, Word::Property, help))
+    let command = with_entries(alloc, command, entries)?;
+    with_entries(alloc, command, &KEEPING)
 }
 
 fn replay<'a>(alloc: Global) -> Command<'a>
@@ -218,7 +105,7 @@ fn replay<'a>(alloc: Global) -> Command<'a>
 {
     let about = "Run the script on standard input against a device in memory";
     let example = "Example: bac replay < examples/scripts/walk.script";
-    tool(alloc, "replay", about, example)
+    bare(alloc, "replay", about, example)
 }
 
 fn wi<'a>(alloc: Global) -> Result<Command<'a>, AllocError>
@@ -232,16 +119,8 @@ network address and no broadcast address below 31.
 bac wi - < stations asks those of a file: at most 4096, an address or a network
 a line.
 Devices that answer by broadcast are heard with --local=0.0.0.0:47808.";
-    let command = tool(alloc, "wi", about, example);
-    let help = "The stations to ask: A.B.C.D[:PORT], or with /N a network";
-    let command = with(command, needed_list(alloc, Word::Address, help))?;
-    let help = "The lowest instance that is to answer: 0 to 4194303";
-    let command = with(command, option(alloc, Word::Min, "N", help))?;
-    let help = "The highest instance that is to answer: 0 to 4194303";
-    let command = with(command, option(alloc, Word::Max, "N", help))?;
-    let help = "A network behind a router: 1 to 65534; 65535 is all";
-    let command = with(command, option(alloc, Word::Dnet, "N", help))?;
-    with_timeout(alloc, command)
+    let command = bare(alloc, "wi", about, example);
+    with_entries(alloc, command, &WI)
 }
 
 fn rp<'a>(alloc: Global) -> Result<Command<'a>, AllocError>
@@ -256,12 +135,8 @@ instance isn't known. chars(SET,HEX) is a text that isn't printed as itself:
 SET 0 is UTF-8 (with quotes or control characters), 1 DBCS, 2 JIS X 0208,
 3 UCS-4, 4 UCS-2, 5 ISO 8859-1."
     );
-    let command = with_property(alloc, tool(alloc, "rp", about, example))?;
-    let help = "An element of an array; 0 is the number of elements";
-    let command = with(command, option(alloc, Word::Index, "N", help))?;
-    let help = "A REAL or a Double as a decimal number";
-    let command = with(command, flag(alloc, Word::Numbers, help))?;
-    with_asking(alloc, command)
+    let command = bare(alloc, "rp", about, example);
+    with_asking(alloc, command, &RP)
 }
 
 fn wp<'a>(alloc: Global) -> Result<Command<'a>, AllocError>
@@ -276,16 +151,8 @@ TAG 0 in place of 9 --value=1 relinquishes it. Write --value=-5 with its '='.
 TAG is 0 Null, without a value; 1 Boolean, 0 or 1; 2 Unsigned; 3 Signed; 4 REAL,
 eight hexadecimal digits; 7 Character String, a text; 9 Enumerated."
     );
-    let command = with_property(alloc, tool(alloc, "wp", about, example))?;
-    let help = "The priority to write at: 1 to 16, or 0 for none";
-    let command = with(command, needed(alloc, Word::Priority, help))?;
-    let help = "The value's type, as a number: the list is below";
-    let command = with(command, needed(alloc, Word::Tag, help))?;
-    let help = "An element of an array";
-    let command = with(command, option(alloc, Word::Index, "N", help))?;
-    let help = "The value, as its type wants it; none for TAG 0";
-    let command = with(command, option(alloc, Word::Value, "V", help))?;
-    with_asking(alloc, command)
+    let command = bare(alloc, "wp", about, example);
+    with_asking(alloc, command, &WP)
 }
 
 fn log<'a>(alloc: Global) -> Result<Command<'a>, AllocError>
@@ -320,20 +187,8 @@ the record has none. VALUE is a number, or one of
 A refusal has a line on standard error that says what it means. 'error' is
 printed with its class and its code:"
     );
-    let command = tool(alloc, "log", about, example);
-    let help = "The device: A.B.C.D or A.B.C.D:PORT (port 47808)";
-    let command = with(command, needed(alloc, Word::Address, help))?;
-    let help = "The trend log's instance: 0 to 4194303";
-    let command = with(command, needed(alloc, Word::Instance, help))?;
-    let help = "The number of the first record to fetch, from 1, or oldest";
-    let command = with(command, needed(alloc, Word::From, help))?;
-    let help = "Batches of records to fetch, at most";
-    let command = with(command, option_or(alloc, Word::Steps, "N", "1000", help))?;
-    let help = "Records a question asks for: 1 to 100";
-    let command = with(command, option_or(alloc, Word::Records, "N", "100", help))?;
-    let help = "As CSV, with a first row of names and no last line";
-    let command = with(command, flag(alloc, Word::Csv, help))?;
-    with_asking(alloc, command)
+    let command = bare(alloc, "log", about, example);
+    with_asking(alloc, command, &LOG)
 }
 
 fn logs<'a>(alloc: Global) -> Result<Command<'a>, AllocError>
@@ -362,12 +217,8 @@ question without an answer ends the table. Where the device refuses its list,
 standard error has a line with the meaning. 'error' is printed with its class
 and its code:"
     );
-    let command = tool(alloc, "logs", about, example);
-    let help = "The device: A.B.C.D or A.B.C.D:PORT (port 47808)";
-    let command = with(command, needed(alloc, Word::Address, help))?;
-    let help = "The trend logs' instances: 0 to 4194303";
-    let command = with(command, maybe_list(alloc, Word::Instance, help))?;
-    with_asking(alloc, command)
+    let command = bare(alloc, "logs", about, example);
+    with_asking(alloc, command, &LOGS)
 }
 
 fn keep<'a>(alloc: Global) -> Result<Command<'a>, AllocError>
@@ -399,26 +250,8 @@ program has it open.
 Standard error tells why a log is lost, refused or has a bad reply. 'error' is
 printed with its class and its code:"
     );
-    let command = tool(alloc, "keep", about, example);
-    let command = with(
-        command,
-        needed(alloc, Word::File, "The database file, or a folder of parts"),
-    )?;
-    let help = "The device: A.B.C.D or A.B.C.D:PORT (port 47808), or -";
-    let command = with(command, maybe(alloc, Word::Address, help))?;
-    let help = "Its trend logs' instances: 0 to 4194303; or another ADDRESS";
-    let command = with(command, maybe_list(alloc, Word::Instance, help))?;
-    let help = "Batches of records of a log; all if left out";
-    let command = with(command, option(alloc, Word::Steps, "N", help))?;
-    let help = "Records a question asks for: 1 to 100; 100 if left out";
-    let command = with(command, option(alloc, Word::Records, "N", help))?;
-    let help = "A part is full at so many MiB: 1 to 4096";
-    let command = with(command, option_or(alloc, Word::Part, "MIB", "32", help))?;
-    let help = "New questions open at once: 1 to 1024";
-    let command = with(command, option_or(alloc, Word::AtOnce, "N", "64", help))?;
-    let help = "Ask these logs no more; adding them starts them again";
-    let command = with(command, flag(alloc, Word::Stop, help))?;
-    with_keeping(alloc, command)
+    let command = bare(alloc, "keep", about, example);
+    with_keeping(alloc, command, &KEEP)
 }
 
 fn serve<'a>(alloc: Global) -> Result<Command<'a>, AllocError>
@@ -427,14 +260,8 @@ fn serve<'a>(alloc: Global) -> Result<Command<'a>, AllocError>
     let about = "Be the device that standard input describes, with a clock in UTC";
     let example = "Example: bac serve 127.0.0.1:47809 < examples/use/plant.conf
 where plant.conf has configuration lines of a script: device, binary, log ..";
-    let command = tool(alloc, "serve", about, example);
-    let help = "Our own address: A.B.C.D or A.B.C.D:PORT (port 47808)";
-    let command = with(command, needed(alloc, Word::Address, help))?;
-    let help = "How many datagrams to serve";
-    with(
-        command,
-        option_or(alloc, Word::Count, "N", "4294967295", help),
-    )
+    let command = bare(alloc, "serve", about, example);
+    with_entries(alloc, command, &SERVE)
 }
 
 /// The program without its tools.
@@ -458,26 +285,84 @@ read or written, or is full, 7 another program has it open, 8 a step limit.",
         )
 }
 
-/// The command with one more tool.
-fn with_tool<'a>(command: Command<'a>, tool: Command<'a>) -> Result<Command<'a>, AllocError>
-    requires { (out-Command tool).has_globals ≡ false }
-    ensures { IfOk result (AddsTool command.entry tool.entry) }
+/// The tools of the program.
+#[derive(Clone, Copy)]
+enum Tool {
+    Replay,
+    Wi,
+    Rp,
+    Wp,
+    Log,
+    Logs,
+    Keep,
+    Kept,
+    Check,
+    Serve,
+}
+
+/// The command of a tool.
+fn command_of<'a>(alloc: Global, which: Tool) -> Result<Command<'a>, AllocError>
+    ensures { IfOk result (IsCommand (app_for which)) }
 {
+    match which {
+        Tool::Replay => Ok(replay(alloc)),
+        Tool::Wi => wi(alloc),
+        Tool::Rp => rp(alloc),
+        Tool::Wp => wp(alloc),
+        Tool::Log => log(alloc),
+        Tool::Logs => logs(alloc),
+        Tool::Keep => keep(alloc),
+        Tool::Kept => kept(alloc),
+        Tool::Check => check(alloc),
+        Tool::Serve => serve(alloc),
+    }
+}
+
+/// The command with one more tool.
+fn with_tool<'a>(
+    alloc: Global,
+    command: Command<'a>,
+    which: Tool,
+) -> Result<Command<'a>, AllocError>
+    requires { (out-Command command).has_globals ≡ false }
+    ensures { IfOk result (IsCommand
+        (with_subcommand (app_of command.entry) (app_for which).top)) }
+{
+    let tool = command_of(alloc, which)?;
     command.subcommand(tool)
+}
+
+/// The command with more tools, in this order.
+fn with_tools<'a>(
+    alloc: Global,
+    command: Command<'a>,
+    tools: &[Tool],
+) -> Result<Command<'a>, AllocError>
+    requires { (out-Command command).has_globals ≡ false }
+    ensures { IfOk result (IsCommand (with_tools (app_of command.entry) tools.now)) }
+{
+    let mut command = command;
+    for tool in tools {
+        command = with_tool(alloc, command, *tool)?;
+    }
+    Ok(command)
 }
 
 /// All words that the program takes.
 pub(crate) fn command<'a>(alloc: Global) -> Result<Command<'a>, AllocError>
     ensures { IfOk result (IsCommand bac_app) }
 {
-    let command = with_tool(top(alloc), replay(alloc))?;
-    let command = with_tool(command, wi(alloc)?)?;
-    let command = with_tool(command, rp(alloc)?)?;
-    let command = with_tool(command, wp(alloc)?)?;
-    let command = with_tool(command, log(alloc)?)?;
-    let command = with_tool(command, logs(alloc)?)?;
-    let command = with_tool(command, keep(alloc)?)?;
-    let command = with_tool(command, kept(alloc)?)?;
-    let command = with_tool(command, check(alloc)?)?;
-    with_tool(command, serve(alloc)?)
+    let tools = [
+        Tool::Replay,
+        Tool::Wi,
+        Tool::Rp,
+        Tool::Wp,
+        Tool::Log,
+        Tool::Logs,
+        Tool::Keep,
+        Tool::Kept,
+        Tool::Check,
+        Tool::Serve,
+    ];
+    with_tools(alloc, top(alloc), &tools)
 }

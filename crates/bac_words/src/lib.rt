@@ -8,6 +8,7 @@ mod archive_commands;
 mod commands;
 mod device_laws;
 mod devices;
+mod entries;
 mod fault;
 mod given;
 mod group;
@@ -24,6 +25,7 @@ mod read;
 mod route;
 mod rows;
 mod said;
+mod tool_entries;
 mod tools;
 mod word;
 

@@ -1,0 +1,140 @@
+//! A word that a command takes, with what the help says of it.
+
+ghost use Rattle.std.specs.Prelude.{◌≡◌, ◌∷◌, [], map, IfOk, false};
+ghost use Rattle.clap.specs.Words.{rule_of};
+ghost use Rattle.bac_words.specs.Commands.{needed, needed_list, maybe, maybe_list, option};
+ghost use Rattle.bac_words.specs.Commands.{option_or, flag, Extends};
+ghost use Rattle.bac_words.specs.Entries.{rule_in};
+
+use crate::word::Word;
+use clap::{Arg, ArgAction, Command};
+use std::alloc::{AllocError, Global};
+
+/// A word of a command, and behind it its value's name, its default and its help, as it has them.
+#[derive(Clone, Copy)]
+pub(crate) enum Entry<'a> {
+    /// A word that has to be there.
+    Needed(Word, &'a str),
+    /// One such word or more.
+    NeededList(Word, &'a str),
+    /// A word that may be there.
+    Maybe(Word, &'a str),
+    /// Any number of such words.
+    MaybeList(Word, &'a str),
+    /// An option `--NAME`.
+    Flag(Word, &'a str),
+    /// An option `--NAME=VALUE`.
+    Choice(Word, &'a str, &'a str),
+    /// The same with a default.
+    ChoiceOr(Word, &'a str, &'a str, &'a str),
+}
+
+/// A word that has to be there.
+fn needed<'a>(alloc: Global, word: Word, help: &'a str) -> Arg<'a>
+    ensures rule { rule_of result ≡ needed word }
+    ensures local { result.global ≡ false }
+{
+    Arg::new(alloc, word.name()).required(true).help(help)
+}
+
+/// One such word or more.
+fn needed_list<'a>(alloc: Global, word: Word, help: &'a str) -> Arg<'a>
+    ensures rule { rule_of result ≡ needed_list word }
+    ensures local { result.global ≡ false }
+{
+    Arg::new(alloc, word.name())
+        .required(true)
+        .num_args(1..)
+        .help(help)
+}
+
+/// A word that may be there.
+fn maybe<'a>(alloc: Global, word: Word, help: &'a str) -> Arg<'a>
+    ensures rule { rule_of result ≡ maybe word }
+    ensures local { result.global ≡ false }
+{
+    Arg::new(alloc, word.name()).help(help)
+}
+
+/// Any number of such words.
+fn maybe_list<'a>(alloc: Global, word: Word, help: &'a str) -> Arg<'a>
+    ensures rule { rule_of result ≡ maybe_list word }
+    ensures local { result.global ≡ false }
+{
+    Arg::new(alloc, word.name()).num_args(0..).help(help)
+}
+
+/// An option `--NAME`.
+fn flag<'a>(alloc: Global, word: Word, help: &'a str) -> Arg<'a>
+    ensures rule { rule_of result ≡ flag word }
+    ensures local { result.global ≡ false }
+{
+    Arg::new(alloc, word.name())
+        .long(word.name())
+        .action(ArgAction::SetTrue)
+        .help(help)
+}
+
+/// An option `--NAME=VALUE`.
+fn option<'a>(alloc: Global, word: Word, value: &'a str, help: &'a str) -> Arg<'a>
+    ensures rule { rule_of result ≡ option word }
+    ensures local { result.global ≡ false }
+{
+    Arg::new(alloc, word.name())
+        .long(word.name())
+        .value_name(value)
+        .help(help)
+}
+
+/// The same with a default.
+fn option_or<'a>(
+    alloc: Global,
+    word: Word,
+    value: &'a str,
+    default: &'a str,
+    help: &'a str,
+) -> Arg<'a>
+    ensures rule { rule_of result ≡ option_or word default.entry.now }
+    ensures local { result.global ≡ false }
+{
+    option(alloc, word, value, help).default_value(default)
+}
+
+/// The word as `clap` takes it.
+fn arg<'a>(alloc: Global, entry: Entry<'a>) -> Arg<'a>
+    ensures rule { rule_of result ≡ rule_in entry.entry }
+    ensures local { result.global ≡ false }
+{
+    match entry {
+        Entry::Needed(word, help) => needed(alloc, word, help),
+        Entry::NeededList(word, help) => needed_list(alloc, word, help),
+        Entry::Maybe(word, help) => maybe(alloc, word, help),
+        Entry::MaybeList(word, help) => maybe_list(alloc, word, help),
+        Entry::Flag(word, help) => flag(alloc, word, help),
+        Entry::Choice(word, value, help) => option(alloc, word, value, help),
+        Entry::ChoiceOr(word, value, default, help) => option_or(alloc, word, value, default, help),
+    }
+}
+
+/// The command with one more word.
+fn with<'a>(command: Command<'a>, arg: Arg<'a>) -> Result<Command<'a>, AllocError>
+    requires { arg.global ≡ false }
+    ensures { IfOk result (Extends command.entry (rule_of arg.entry ∷ [])) }
+{
+    command.arg(arg)
+}
+
+/// The command with more words, in this order.
+pub(crate) fn with_entries<'a>(
+    alloc: Global,
+    command: Command<'a>,
+    entries: &[Entry<'a>],
+) -> Result<Command<'a>, AllocError>
+    ensures { IfOk result (Extends command.entry (map rule_in entries.now)) }
+{
+    let mut command = command;
+    for entry in entries {
+        command = with(command, arg(alloc, *entry))?;
+    }
+    Ok(command)
+}

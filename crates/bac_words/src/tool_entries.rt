@@ -1,0 +1,257 @@
+//! The words that each tool takes, in the order of the help.
+
+use crate::entries::Entry;
+use crate::word::Word;
+
+/// A database.
+const FILE: Entry<'static> = Entry::Needed(Word::File, "The database file, or a folder of parts");
+
+/// The device to ask.
+const DEVICE: Entry<'static> = Entry::Needed(
+    Word::Address,
+    "The device: A.B.C.D or A.B.C.D:PORT (port 47808)",
+);
+
+/// With the instance, an object.
+const OBJECT_TYPE: Entry<'static> = Entry::Needed(
+    Word::ObjectType,
+    "The object's type, as a number: 0 to 1023",
+);
+
+/// An object's instance.
+const OBJECT: Entry<'static> = Entry::Needed(Word::Instance, "The object's instance: 0 to 4194303");
+
+/// A property.
+const PROPERTY: Entry<'static> = Entry::Needed(
+    Word::Property,
+    "The property, as a number: 85 is Present_Value",
+);
+
+/// How long to wait.
+const TIMEOUT: Entry<'static> = Entry::ChoiceOr(
+    Word::Timeout,
+    "MS",
+    "3000",
+    "Wait for an answer: 1 to 60000 ms",
+);
+
+/// Our own address.
+const LOCAL: Entry<'static> = Entry::Choice(
+    Word::Local,
+    "ADDRESS",
+    "Our own address and port; any where it is left out",
+);
+
+/// Whether datagrams are told.
+const TRACE: Entry<'static> = Entry::Flag(
+    Word::Trace,
+    "Tell each datagram on standard error, in hex digits",
+);
+
+/// With the next, a device behind a router.
+const DNET: Entry<'static> = Entry::Choice(
+    Word::Dnet,
+    "N",
+    "A network behind a router, with --dadr: 1 to 65534",
+);
+
+/// The address there.
+const DADR: Entry<'static> = Entry::Choice(
+    Word::Dadr,
+    "HEX",
+    "The device's address there: 2 to 30 hex digits",
+);
+
+/// Of a tool that asks a device.
+pub(crate) const ASKING: [Entry<'static>; 6] = [
+    TIMEOUT,
+    LOCAL,
+    TRACE,
+    Entry::ChoiceOr(
+        Word::Retries,
+        "N",
+        "3",
+        "How many times to ask again: 0 to 10",
+    ),
+    DNET,
+    DADR,
+];
+
+/// The same without defaults.
+pub(crate) const KEEPING: [Entry<'static>; 6] = [
+    Entry::Choice(
+        Word::Timeout,
+        "MS",
+        "Wait for an answer: 1 to 60000 ms; 3000 if left out",
+    ),
+    LOCAL,
+    TRACE,
+    Entry::Choice(
+        Word::Retries,
+        "N",
+        "How many times to ask again: 0 to 10; 3 if left out",
+    ),
+    DNET,
+    DADR,
+];
+
+/// Of `bac wi`.
+pub(crate) const WI: [Entry<'static>; 7] = [
+    Entry::NeededList(
+        Word::Address,
+        "The stations to ask: A.B.C.D[:PORT], or with /N a network",
+    ),
+    Entry::Choice(
+        Word::Min,
+        "N",
+        "The lowest instance that is to answer: 0 to 4194303",
+    ),
+    Entry::Choice(
+        Word::Max,
+        "N",
+        "The highest instance that is to answer: 0 to 4194303",
+    ),
+    Entry::Choice(
+        Word::Dnet,
+        "N",
+        "A network behind a router: 1 to 65534; 65535 is all",
+    ),
+    TIMEOUT,
+    LOCAL,
+    TRACE,
+];
+
+/// Of `bac rp`.
+pub(crate) const RP: [Entry<'static>; 6] = [
+    DEVICE,
+    OBJECT_TYPE,
+    OBJECT,
+    PROPERTY,
+    Entry::Choice(
+        Word::Index,
+        "N",
+        "An element of an array; 0 is the number of elements",
+    ),
+    Entry::Flag(Word::Numbers, "A REAL or a Double as a decimal number"),
+];
+
+/// Of `bac wp`.
+pub(crate) const WP: [Entry<'static>; 8] = [
+    DEVICE,
+    OBJECT_TYPE,
+    OBJECT,
+    PROPERTY,
+    Entry::Needed(
+        Word::Priority,
+        "The priority to write at: 1 to 16, or 0 for none",
+    ),
+    Entry::Needed(
+        Word::Tag,
+        "The value's type, as a number: the list is below",
+    ),
+    Entry::Choice(Word::Index, "N", "An element of an array"),
+    Entry::Choice(
+        Word::Value,
+        "V",
+        "The value, as its type wants it; none for TAG 0",
+    ),
+];
+
+/// Of `bac log`.
+pub(crate) const LOG: [Entry<'static>; 6] = [
+    DEVICE,
+    Entry::Needed(Word::Instance, "The trend log's instance: 0 to 4194303"),
+    Entry::Needed(
+        Word::From,
+        "The number of the first record to fetch, from 1, or oldest",
+    ),
+    Entry::ChoiceOr(
+        Word::Steps,
+        "N",
+        "1000",
+        "Batches of records to fetch, at most",
+    ),
+    Entry::ChoiceOr(
+        Word::Records,
+        "N",
+        "100",
+        "Records a question asks for: 1 to 100",
+    ),
+    Entry::Flag(
+        Word::Csv,
+        "As CSV, with a first row of names and no last line",
+    ),
+];
+
+/// Of `bac logs`.
+pub(crate) const LOGS: [Entry<'static>; 2] = [
+    DEVICE,
+    Entry::MaybeList(Word::Instance, "The trend logs' instances: 0 to 4194303"),
+];
+
+/// Of `bac keep`.
+pub(crate) const KEEP: [Entry<'static>; 8] = [
+    FILE,
+    Entry::Maybe(
+        Word::Address,
+        "The device: A.B.C.D or A.B.C.D:PORT (port 47808), or -",
+    ),
+    Entry::MaybeList(
+        Word::Instance,
+        "Its trend logs' instances: 0 to 4194303; or another ADDRESS",
+    ),
+    Entry::Choice(
+        Word::Steps,
+        "N",
+        "Batches of records of a log; all if left out",
+    ),
+    Entry::Choice(
+        Word::Records,
+        "N",
+        "Records a question asks for: 1 to 100; 100 if left out",
+    ),
+    Entry::ChoiceOr(
+        Word::Part,
+        "MIB",
+        "32",
+        "A part is full at so many MiB: 1 to 4096",
+    ),
+    Entry::ChoiceOr(
+        Word::AtOnce,
+        "N",
+        "64",
+        "New questions open at once: 1 to 1024",
+    ),
+    Entry::Flag(
+        Word::Stop,
+        "Ask these logs no more; adding them starts them again",
+    ),
+];
+
+/// Of `bac kept`.
+pub(crate) const KEPT: [Entry<'static>; 4] = [
+    FILE,
+    Entry::Maybe(
+        Word::Address,
+        "The device: A.B.C.D or A.B.C.D:PORT (port 47808)",
+    ),
+    Entry::Maybe(Word::Instance, "The trend log's instance: 0 to 4194303"),
+    Entry::Flag(Word::Csv, "As CSV, with a first row of names"),
+];
+
+/// Of `bac check`.
+pub(crate) const CHECK: [Entry<'static>; 1] = [FILE];
+
+/// Of `bac serve`.
+pub(crate) const SERVE: [Entry<'static>; 2] = [
+    Entry::Needed(
+        Word::Address,
+        "Our own address: A.B.C.D or A.B.C.D:PORT (port 47808)",
+    ),
+    Entry::ChoiceOr(
+        Word::Count,
+        "N",
+        "4294967295",
+        "How many datagrams to serve",
+    ),
+];
