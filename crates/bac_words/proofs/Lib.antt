@@ -3,3 +3,4 @@ pub mod Hosting
 pub mod Answering
 pub mod OnLiterals
 pub mod Extending
+pub mod Lining

@@ -1,10 +1,10 @@
 //! The jobs of `keep`, `kept` and `check`, from their matches.
 
-ghost use Rattle.std.specs.Prelude.{◌≡◌, IfOk, map, option_map};
-ghost use Rattle.clap.specs.Words.{rows_of, found_of};
+ghost use Rattle.std.specs.Prelude.{◌≡◌, ◌++◌, ◌∷◌, List, [], IfOk, OnOk, map, option_map};
+ghost use Rattle.clap.specs.Words.{Text, rows_of, found_of};
 ghost use Rattle.bac_words.specs.Steps.{Makes};
 ghost use Rattle.bac_words.specs.Rows.{text_at, texts_at};
-ghost use Rattle.bac_words.specs.Groups.{group_at, groups_at, groups_from};
+ghost use Rattle.bac_words.specs.Groups.{group_at, groups_at, groups_from, with_instance};
 ghost use Rattle.bac_words.specs.declared.word.Word.TheVariants.{Instance};
 ghost use Rattle.bac_words.specs.Jobs.{file_at, keep_options_at, keep_at, kept_at, check_at};
 ghost use Rattle.bac_words.specs.Jobs.{stop_beside};
@@ -48,6 +48,45 @@ fn group_at(alloc: Global, address: &str) -> Result<Group, AllocError>
     })
 }
 
+/// One more instance of a group.
+fn add_instance(alloc: Global, group: &mut Group, word: &str) -> Result<(), AllocError>
+    ensures { OnOk result (group.new ≡ with_instance group.old word.now) }
+{
+    group.instances.push(name_of(alloc, word)?)
+}
+
+/// Puts a group behind the others, and the next one, at an address, in its place.
+fn begin_group(
+    alloc: Global,
+    list: &mut Vec<Group>,
+    group: &mut Group,
+    address: &str,
+) -> Result<(), AllocError>
+    ensures { OnOk result ((list.new.items ≡ list.old.items ++ group.old ∷ [])
+        × (group.new ≡ group_at address.now)) }
+{
+    let next = group_at(alloc, address)?;
+    list.push(mem::replace(group, next))?;
+    Ok(())
+}
+
+/// A word behind the groups that are done and the one that has begun.
+fn add_word(
+    alloc: Global,
+    list: &mut Vec<Group>,
+    group: &mut Group,
+    word: &str,
+) -> Result<(), AllocError>
+    ensures { OnOk result ((more : List Text)
+        → list.old.items ++ groups_from group.old (word.now ∷ more)
+        ≡ list.new.items ++ groups_from group.new more) }
+{
+    if are_digits(word.as_bytes()) {
+        return add_instance(alloc, group, word);
+    }
+    begin_group(alloc, list, group, word)
+}
+
 /// The groups of a first address and the words behind it.
 fn groups_of(alloc: Global, address: &str, words: &[&str]) -> Result<Groups, AllocError>
     ensures { IfOk result (λ groups. groups
@@ -56,12 +95,7 @@ fn groups_of(alloc: Global, address: &str, words: &[&str]) -> Result<Groups, All
     let mut list = Vec::new(alloc);
     let mut group = group_at(alloc, address)?;
     for word in words {
-        if are_digits(word.as_bytes()) {
-            group.instances.push(name_of(alloc, word)?)?;
-        } else {
-            let next = group_at(alloc, word)?;
-            list.push(mem::replace(&mut group, next))?;
-        }
+        add_word(alloc, &mut list, &mut group, word)?;
     }
     list.push(group)?;
     Ok(Groups::of(list))

@@ -68,20 +68,27 @@ fn job(alloc: Global, matches: &ArgMatches) -> Result<Job, WordsFault>
     }
 }
 
+/// A job that takes no memory to make.
+fn made(job: Result<Job, Word>) -> Result<Job, WordsFault>
+    ensures { Makes job result }
+{
+    Ok(job?)
+}
+
 fn job_of_tool(alloc: Global, tool: &str, matches: &ArgMatches) -> Result<Job, WordsFault>
     ensures { Makes (job_of_tool tool.now (rows_of (found_of matches.now))) result }
 {
     match tool {
         "replay" => Ok(Job::Replay),
         "wi" => wi(alloc, matches),
-        "rp" => Ok(rp(matches)?),
+        "rp" => made(rp(matches)),
         "wp" => wp(alloc, matches),
-        "log" => Ok(log(matches)?),
+        "log" => made(log(matches)),
         "logs" => logs(alloc, matches),
         "keep" => keep(alloc, matches),
         "kept" => kept(alloc, matches),
         "check" => check(alloc, matches),
-        "serve" => Ok(serve(matches)?),
+        "serve" => made(serve(matches)),
         _ => Err(WordsFault::BadValue(Word::Tool)),
     }
 }

@@ -1,0 +1,31 @@
+-- Lines that are listed one after the other.
+use Rattle.std.proofs.Common.{◌≡◌, ℕ, ◌+◌, ◌<◌, List, Option, Result, Ok, Err, length, get_or, drop, map, ap, sym, ◌∙◌}
+use Rattle.std.proofs.lemmas.List.{at_drop_more}
+use Rattle.std.specs.Str.Lines.{strip_carriage_return}
+use Rattle.bac_words.specs.Listing.{IsListed, Lists, go_on, listed_by, with_said}
+use Rattle.bac_words.specs.declared.listing.ListFault.{ListFault}
+use Rattle.bac_words.specs.declared.listing.ListFault.TheVariants.{BadLine, TooMany, Empty, TooLong, Read, Memory}
+
+-- what lines list, by the first of them
+pub at_line : {A X : Type 0} (said : List ℕ → Option (List A)) (lines : List X) (f : X → List ℕ) (i : ℕ) (d : X) (text : List ℕ) (list : List A) (number : ℕ)
+    → i < length lines → text ≡ strip_carriage_return (f (get_or lines i d))
+    → listed_by said list number (map f (drop i lines))
+    ≡ go_on (with_said list number (said text)) (λ next. listed_by said next (number + 1) (map f (drop (i + 1) lines)))
+at_line {A} {X} said lines f i d text list number below is =
+    at_drop_more (λ (ls : List X). listed_by said list number (map f ls)) lines i d below
+    ∙ ap (λ (t : List ℕ). go_on (with_said list number (said t)) (λ (next : List A). listed_by said next (number + 1) (map f (drop (i + 1) lines)))) (sym is)
+
+-- the same if it was added
+pub added : {A : Type 0} (whole said : Result (List A) ListFault) (more : List A → Result (List A) ListFault) (new : List A)
+    → whole ≡ go_on said more → said ≡ Ok new → whole ≡ more new
+added {A} whole said more new is e = is ∙ ap (λ (r : Result (List A) ListFault). go_on r more) e
+
+-- the same if it is at fault
+pub at_fault : {A : Type 0} (whole said : Result (List A) ListFault) (more : List A → Result (List A) ListFault) (new : List A) (fault : ListFault)
+    → whole ≡ go_on said more → IsListed said (Err fault) new → Lists whole (Err fault)
+at_fault {A} whole said more new (BadLine n) is e = is ∙ ap (λ (r : Result (List A) ListFault). go_on r more) e
+at_fault {A} whole said more new (TooMany n) is e = is ∙ ap (λ (r : Result (List A) ListFault). go_on r more) e
+at_fault {A} whole said more new Empty is e = is ∙ ap (λ (r : Result (List A) ListFault). go_on r more) e
+at_fault whole said more new TooLong is e = absurd e
+at_fault whole said more new Read is e = absurd e
+at_fault whole said more new Memory is e = tt
