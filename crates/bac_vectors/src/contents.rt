@@ -12,19 +12,18 @@ use std::alloc::Global;
 use std::str::SplitWhitespace;
 
 /// The calls on octets alone.
-pub(crate) fn answer(alloc: Global, call: &str, octets: &[u8]) -> Result<Option<String>, Fault> {
-    let text = match call {
-        "read_value" => shown(alloc, &read_value(octets))?,
-        "write_value" => value_again(alloc, octets)?,
-        "as_unsigned" => shown(alloc, &as_unsigned(octets))?,
-        "as_signed" => shown(alloc, &as_signed(octets))?,
-        "as_boolean" => shown(alloc, &as_boolean(octets))?,
-        "as_enumerated" => shown(alloc, &as_enumerated(octets))?,
-        "as_bits" => shown(alloc, &as_bits(octets))?,
-        "as_object" => shown(alloc, &as_object(octets))?,
-        _ => return Ok(None),
-    };
-    Ok(Some(text))
+pub(crate) fn answer(alloc: Global, call: &str, octets: &[u8]) -> Option<Result<String, Fault>> {
+    Some(match call {
+        "read_value" => shown(alloc, &read_value(octets)),
+        "write_value" => value_again(alloc, octets),
+        "as_unsigned" => shown(alloc, &as_unsigned(octets)),
+        "as_signed" => shown(alloc, &as_signed(octets)),
+        "as_boolean" => shown(alloc, &as_boolean(octets)),
+        "as_enumerated" => shown(alloc, &as_enumerated(octets)),
+        "as_bits" => shown(alloc, &as_bits(octets)),
+        "as_object" => shown(alloc, &as_object(octets)),
+        _ => return None,
+    })
 }
 
 /// The value that is read, written.
@@ -41,31 +40,32 @@ pub(crate) fn numbered(
     alloc: Global,
     call: &str,
     words: &mut SplitWhitespace,
-) -> Result<Option<String>, Fault> {
-    if call == "is_other_type_next" {
-        let kind = kind_of(word(words)?)?;
-        let octets = octets(alloc, words)?;
-        return Ok(Some(shown(alloc, &is_other_type_next(&octets, kind))?));
-    }
-    if !is_numbered(call) {
-        return Ok(None);
-    }
-    let tag = number::<u8>(words)?;
-    let octets = octets(alloc, words)?;
-    Ok(Some(at_tag(alloc, call, tag, &octets)?))
+) -> Option<Result<String, Fault>> {
+    Some(match call {
+        "is_other_type_next" => other_type(alloc, words),
+        "read_context"
+        | "write_context"
+        | "read_open"
+        | "read_close"
+        | "octets_to_close"
+        | "is_value_next"
+        | "is_opening_next" => tagged(alloc, call, words),
+        _ => return None,
+    })
 }
 
-fn is_numbered(call: &str) -> bool {
-    matches!(
-        call,
-        "read_context"
-            | "write_context"
-            | "read_open"
-            | "read_close"
-            | "octets_to_close"
-            | "is_value_next"
-            | "is_opening_next"
-    )
+/// The name of a type, and octets.
+fn other_type(alloc: Global, words: &mut SplitWhitespace) -> Result<String, Fault> {
+    let kind = kind_of(word(words)?)?;
+    let octets = octets(alloc, words)?;
+    shown(alloc, &is_other_type_next(&octets, kind))
+}
+
+/// The number of a tag, and octets.
+fn tagged(alloc: Global, call: &str, words: &mut SplitWhitespace) -> Result<String, Fault> {
+    let tag = number::<u8>(words)?;
+    let octets = octets(alloc, words)?;
+    at_tag(alloc, call, tag, &octets)
 }
 
 fn at_tag(alloc: Global, call: &str, tag: u8, octets: &[u8]) -> Result<String, Fault> {

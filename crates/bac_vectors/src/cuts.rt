@@ -16,6 +16,10 @@ use std::str::SplitWhitespace;
 pub(crate) fn prefixes(alloc: Global, words: &mut SplitWhitespace) -> Result<String, Fault> {
     let call = word(words)?;
     let octets = octets(alloc, words)?;
+    lengths(alloc, call, &octets)
+}
+
+fn lengths(alloc: Global, call: &str, octets: &[u8]) -> Result<String, Fault> {
     let mut text = format!(in alloc; "read:")?;
     for length in 0..octets.len() {
         if is_read(call, &octets[..length])? {
@@ -26,26 +30,26 @@ pub(crate) fn prefixes(alloc: Global, words: &mut SplitWhitespace) -> Result<Str
 }
 
 fn is_read(call: &str, octets: &[u8]) -> Result<bool, Fault> {
-    Ok(match call {
-        "read_value" => read_value(octets).is_ok(),
-        "read_context" => read_context(octets, 0).is_ok(),
-        "read_frame" => read_frame(octets).is_some(),
-        "read_npdu" => read_npdu(octets).is_some(),
-        "read_apdu" => read_apdu(octets).is_some(),
-        "read_entry" => read_entry(octets).is_some(),
-        _ => return is_service(call, octets),
-    })
+    match call {
+        "read_value" => Ok(read_value(octets).is_ok()),
+        "read_context" => Ok(read_context(octets, 0).is_ok()),
+        "read_frame" => Ok(read_frame(octets).is_some()),
+        "read_npdu" => Ok(read_npdu(octets).is_some()),
+        "read_apdu" => Ok(read_apdu(octets).is_some()),
+        "read_entry" => Ok(read_entry(octets).is_some()),
+        _ => is_service(call, octets),
+    }
 }
 
 fn is_service(call: &str, octets: &[u8]) -> Result<bool, Fault> {
-    Ok(match call {
-        "who_is" => WhoIs::read(octets).is_some(),
-        "i_am" => IAm::read(octets).is_some(),
-        "read_property" => ReadProperty::read(octets).is_ok(),
-        "read_property_ack" => ReadPropertyAck::read(octets).is_some(),
-        "write_property" => WriteProperty::read(octets).is_ok(),
-        "read_range" => ReadRange::read(octets).is_ok(),
-        "read_range_ack" => ReadRangeAck::read(octets).is_some(),
-        _ => return Err(Fault::BadLine),
-    })
+    match call {
+        "who_is" => Ok(WhoIs::read(octets).is_some()),
+        "i_am" => Ok(IAm::read(octets).is_some()),
+        "read_property" => Ok(ReadProperty::read(octets).is_ok()),
+        "read_property_ack" => Ok(ReadPropertyAck::read(octets).is_some()),
+        "write_property" => Ok(WriteProperty::read(octets).is_ok()),
+        "read_range" => Ok(ReadRange::read(octets).is_ok()),
+        "read_range_ack" => Ok(ReadRangeAck::read(octets).is_some()),
+        _ => Err(Fault::BadLine),
+    }
 }

@@ -7,18 +7,17 @@ use bac_apdu::{read_apdu, read_frame, read_npdu, write_datagram, write_result};
 use bac_wire::Datagram;
 use std::alloc::Global;
 
-pub(crate) fn answer(alloc: Global, call: &str, octets: &[u8]) -> Result<Option<String>, Fault> {
-    let text = match call {
-        "read_frame" => shown(alloc, &read_frame(octets))?,
-        "read_npdu" => shown(alloc, &read_npdu(octets))?,
-        "read_apdu" => shown(alloc, &read_apdu(octets))?,
-        "apdu_in" => shown(alloc, &apdu_in(octets))?,
-        "write_apdu" => again(alloc, octets)?,
-        "write_datagram" => framed(alloc, octets)?,
-        "write_result" => nak(alloc, octets)?,
-        _ => return Ok(None),
-    };
-    Ok(Some(text))
+pub(crate) fn answer(alloc: Global, call: &str, octets: &[u8]) -> Option<Result<String, Fault>> {
+    Some(match call {
+        "read_frame" => shown(alloc, &read_frame(octets)),
+        "read_npdu" => shown(alloc, &read_npdu(octets)),
+        "read_apdu" => shown(alloc, &read_apdu(octets)),
+        "apdu_in" => shown(alloc, &apdu_in(octets)),
+        "write_apdu" => again(alloc, octets),
+        "write_datagram" => framed(alloc, octets),
+        "write_result" => nak(alloc, octets),
+        _ => return None,
+    })
 }
 
 /// A network header and what follows it, in a frame.

@@ -5,7 +5,7 @@ ghost use Rattle.std.specs.Prelude.{◌≤◌, IfOk};
 use crate::bench::Bench;
 use crate::fault::Fault;
 use crate::records::entry;
-use crate::text::digits;
+use crate::text::{digits, none};
 use crate::words::{number, octets};
 use bac_apdu::{begin_datagram, end_datagram, read_npdu};
 use bac_log::write_entry;
@@ -20,27 +20,26 @@ pub(crate) fn answer(
     call: &str,
     words: &mut SplitWhitespace,
     bench: &mut Bench,
-) -> Result<Option<String>, Fault> {
-    let text = match call {
-        "datagram" => begun(alloc, words, bench)?,
-        "put_open" | "put_close" => mark(alloc, call, words, bench)?,
-        "put_context" => context(alloc, words, bench)?,
-        "put_value" => value(alloc, words, bench)?,
-        "put_octets" => plain(alloc, words, bench)?,
-        "put_entry" => record(alloc, words, bench)?,
-        "put_frame" => frame(alloc, words, bench)?,
-        "set" => set(alloc, words, bench)?,
-        "cut" => cut(alloc, words, bench)?,
-        _ => return Ok(None),
-    };
-    Ok(Some(text))
+) -> Option<Result<String, Fault>> {
+    Some(match call {
+        "datagram" => begun(alloc, words, bench),
+        "put_open" | "put_close" => mark(alloc, call, words, bench),
+        "put_context" => context(alloc, words, bench),
+        "put_value" => value(alloc, words, bench),
+        "put_octets" => plain(alloc, words, bench),
+        "put_entry" => record(alloc, words, bench),
+        "put_frame" => frame(alloc, words, bench),
+        "set" => set(alloc, words, bench),
+        "cut" => cut(alloc, words, bench),
+        _ => return None,
+    })
 }
 
 /// The datagram begins with these octets, of which the number is told.
 fn begun(alloc: Global, words: &mut SplitWhitespace, bench: &mut Bench) -> Result<String, Fault> {
     let octets = octets(alloc, words)?;
     let Some(out) = Datagram::of(&octets) else {
-        return Ok(format!(in alloc; "None")?);
+        return none(alloc);
     };
     let len = out.octets().len();
     bench.head = out.copy();

@@ -7,8 +7,8 @@ ghost use Rattle.bac_log.specs.History.{IsLoggableOp};
 use crate::bench::Bench;
 use crate::fault::Fault;
 use crate::records::entry_text;
-use crate::text::{digits, shown};
-use crate::words::{number, word};
+use crate::text::{digits, none, shown};
+use crate::words::{number, pair, word};
 use bac_apdu::{Extent, ReadRange};
 use bac_log::{Datum, Entry, LogFault, LogOp, Selected, TrendLog, replay};
 use bac_wire::{Datagram, Date4, ObjectId, Stamp, Time4};
@@ -29,17 +29,13 @@ pub(crate) fn answer(
     call: &str,
     words: &mut SplitWhitespace,
     bench: &mut Bench,
-) -> Result<Option<String>, Fault> {
-    let text = match call {
-        "log" => made(alloc, words, bench)?,
-        "replay" => replayed(alloc, words, bench)?,
-        "replay_nothing" => nothing_replayed(alloc, words, bench)?,
-        _ => match &mut bench.log {
-            Some(log) => return on_log(alloc, call, words, log),
-            None => return Ok(None),
-        },
-    };
-    Ok(Some(text))
+) -> Option<Result<String, Fault>> {
+    Some(match call {
+        "log" => made(alloc, words, bench),
+        "replay" => replayed(alloc, words, bench),
+        "replay_nothing" => nothing_replayed(alloc, words, bench),
+        _ => return on_log(alloc, call, words, bench.log.as_mut()?),
+    })
 }
 
 /// The calls on the log that is kept.
@@ -48,20 +44,19 @@ fn on_log(
     call: &str,
     words: &mut SplitWhitespace,
     log: &mut TrendLog,
-) -> Result<Option<String>, Fault> {
-    let text = match call {
-        "append" => append(alloc, words, log)?,
-        "fill" => fill(alloc, words, log)?,
-        "purge" => shown(alloc, &log.purge(now()?))?,
-        "enable" => shown(alloc, &log.set_enabled(true, now()?))?,
-        "disable" => shown(alloc, &log.set_enabled(false, now()?))?,
-        "get" => held(alloc, words, log)?,
-        "counts" => counts(alloc, log)?,
-        "answer" => answered(alloc, words, log)?,
-        "ack" => ack(alloc, words, log)?,
-        _ => return Ok(None),
-    };
-    Ok(Some(text))
+) -> Option<Result<String, Fault>> {
+    Some(match call {
+        "append" => append(alloc, words, log),
+        "fill" => fill(alloc, words, log),
+        "purge" => purge(alloc, log),
+        "enable" => set_enabled(alloc, true, log),
+        "disable" => set_enabled(alloc, false, log),
+        "get" => held(alloc, words, log),
+        "counts" => counts(alloc, log),
+        "answer" => answered(alloc, words, log),
+        "ack" => ack(alloc, words, log),
+        _ => return None,
+    })
 }
 
 /// 2024-05-06, 07:08:09.10.
@@ -69,6 +64,13 @@ fn now() -> Result<Stamp, Fault> {
     match Stamp::new(2024, 5, 6, 7, 8, 9, 10) {
         Some(stamp) => Ok(stamp),
         None => Err(Fault::BadLine),
+    }
+}
+
+fn second_of(number: u32) -> Result<u8, Fault> {
+    match u8::try_from(number) {
+        Ok(second) => Ok(second),
+        Err(_) => Err(Fault::BadLine),
     }
 }
 
@@ -116,7 +118,7 @@ fn kept(
 
 /// Capacity, and numbers used before.
 fn made(alloc: Global, words: &mut SplitWhitespace, bench: &mut Bench) -> Result<String, Fault> {
-    let (capacity, logged) = (number::<u32>(words)?, number::<u32>(words)?);
+    let (capacity, logged) = pair::<u32>(words)?;
     kept(alloc, TrendLog::new(alloc, capacity, logged), bench)
 }
 
@@ -126,7 +128,7 @@ fn replayed(
     words: &mut SplitWhitespace,
     bench: &mut Bench,
 ) -> Result<String, Fault> {
-    let (capacity, logged) = (number::<u32>(words)?, number::<u32>(words)?);
+    let (capacity, logged) = pair::<u32>(words)?;
     let ops = [op(words)?, op(words)?, op(words)?, op(words)?, op(words)?];
     kept(alloc, replay(alloc, capacity, logged, &ops), bench)
 }
@@ -136,7 +138,7 @@ fn nothing_replayed(
     words: &mut SplitWhitespace,
     bench: &mut Bench,
 ) -> Result<String, Fault> {
-    let (capacity, logged) = (number::<u32>(words)?, number::<u32>(words)?);
+    let (capacity, logged) = pair::<u32>(words)?;
     kept(alloc, replay(alloc, capacity, logged, &[]), bench)
 }
 
@@ -144,16 +146,24 @@ fn nothing_replayed(
 fn op(words: &mut SplitWhitespace) -> Result<LogOp, Fault>
     ensures { IfOk result IsLoggableOp }
 {
-    let word = word(words)?;
-    match word {
-        "purge" => Ok(LogOp::Purge(now()?)),
-        "enable" => Ok(LogOp::SetEnabled(true, now()?)),
-        "disable" => Ok(LogOp::SetEnabled(false, now()?)),
-        _ => match word.parse::<u32>() {
+    let now = now()?;
+    match word(words)? {
+        "purge" => Ok(LogOp::Purge(now)),
+        "enable" => Ok(LogOp::SetEnabled(true, now)),
+        "disable" => Ok(LogOp::SetEnabled(false, now)),
+        word => match word.parse::<u32>() {
             Ok(value) => Ok(LogOp::Append(sample(9, value)?)),
             Err(_) => Err(Fault::BadLine),
         },
     }
+}
+
+fn purge(alloc: Global, log: &mut TrendLog) -> Result<String, Fault> {
+    shown(alloc, &log.purge(now()?))
+}
+
+fn set_enabled(alloc: Global, enabled: bool, log: &mut TrendLog) -> Result<String, Fault> {
+    shown(alloc, &log.set_enabled(enabled, now()?))
 }
 
 /// A second and a value.
@@ -164,60 +174,74 @@ fn append(alloc: Global, words: &mut SplitWhitespace, log: &mut TrendLog) -> Res
 
 /// This many samples of 0, of which so many come in each second.
 fn fill(alloc: Global, words: &mut SplitWhitespace, log: &mut TrendLog) -> Result<String, Fault> {
-    let (count, each) = (number::<u32>(words)?, number::<u32>(words)?);
+    let (count, each) = pair::<u32>(words)?;
     if each == 0 {
         return Err(Fault::BadLine);
     }
     for index in 0..count {
-        let Ok(second) = u8::try_from(index / each) else {
-            return Err(Fault::BadLine);
-        };
-        if log.append(sample(second, 0)?).is_err() {
-            return Err(Fault::BadLine);
-        }
+        add(log, index / each)?;
     }
     counts(alloc, log)
+}
+
+/// A sample of 0 at that second.
+fn add(log: &mut TrendLog, second: u32) -> Result<(), Fault> {
+    let sample = sample(second_of(second)?, 0)?;
+    match log.append(sample) {
+        Ok(_) => Ok(()),
+        Err(_) => Err(Fault::BadLine),
+    }
 }
 
 /// The record at a position.
 fn held(alloc: Global, words: &mut SplitWhitespace, log: &TrendLog) -> Result<String, Fault> {
     match log.get(number::<u32>(words)?) {
         Some(entry) => entry_text(alloc, &entry),
-        None => Ok(format!(in alloc; "None")?),
+        None => none(alloc),
     }
 }
 
 fn counts(alloc: Global, log: &TrendLog) -> Result<String, Fault> {
-    let (count, total, capacity) = (log.count(), log.total(), log.capacity());
     let state = if log.enabled() { "enabled" } else { "disabled" };
-    Ok(format!(in alloc; "count {count}, total {total}, capacity {capacity}, {state}")?)
+    Ok(format!(in alloc;
+        "count {}, total {}, capacity {}, {state}",
+        log.count(),
+        log.total(),
+        log.capacity(),
+    )?)
 }
 
+/// `all`, or a kind of reference, the reference and a count.
 fn extent(words: &mut SplitWhitespace) -> Result<Extent, Fault> {
-    Ok(match word(words)? {
-        "all" => Extent::All,
-        "position" => Extent::ByPosition {
-            reference: number::<u32>(words)?,
-            count: number::<i32>(words)?,
-        },
-        "number" => Extent::ByNumber {
-            reference: number::<u32>(words)?,
-            count: number::<i32>(words)?,
-        },
-        "time" => Extent::ByTime {
-            date: DATE,
-            time: time(number::<u8>(words)?),
-            count: number::<i32>(words)?,
-        },
-        _ => return Err(Fault::BadLine),
+    let kind = word(words)?;
+    if kind == "all" {
+        return Ok(Extent::All);
+    }
+    let reference = number::<u32>(words)?;
+    let count = number::<i32>(words)?;
+    match kind {
+        "position" => Ok(Extent::ByPosition { reference, count }),
+        "number" => Ok(Extent::ByNumber { reference, count }),
+        "time" => from_second(reference, count),
+        _ => Err(Fault::BadLine),
+    }
+}
+
+fn from_second(second: u32, count: i32) -> Result<Extent, Fault> {
+    let time = time(second_of(second)?);
+    Ok(Extent::ByTime {
+        date: DATE,
+        time,
+        count,
     })
 }
 
 /// The first position, how many records, the result flags and the first number.
 fn selected(alloc: Global, selected: &Selected) -> Result<String, Fault> {
-    let (first, how_many) = (selected.first_position, selected.how_many);
-    let (flags, number) = (selected.flags, selected.first_number);
-    Ok(format!(in alloc; "{first} {how_many} {flags:02x} {number:?}")?)
+    Ok(format!(in alloc;
+        "{} {} {:02x} {:?}",
+        selected.first_position, selected.how_many, selected.flags, selected.first_number,
+    )?)
 }
 
 fn or_fault<T: Debug + Drop>(
@@ -263,10 +287,15 @@ fn ack(alloc: Global, words: &mut SplitWhitespace, log: &TrendLog) -> Result<Str
     out.cut(before);
     let head = out.copy();
     let answered = log.answer_into(invoke, &request, limit, &mut out);
+    let octets = behind(alloc, &head, &out)?;
     let text = or_fault(alloc, answered)?;
-    let Some(behind) = out.octets().strip_prefix(head.octets()) else {
-        return Err(Fault::BadLine);
-    };
-    let octets = digits(alloc, behind)?;
     Ok(format!(in alloc; "{text} = {octets}")?)
+}
+
+/// The octets after what the datagram began with.
+fn behind(alloc: Global, head: &Datagram, out: &Datagram) -> Result<String, Fault> {
+    match out.octets().strip_prefix(head.octets()) {
+        Some(octets) => digits(alloc, octets),
+        None => Err(Fault::BadLine),
+    }
 }

@@ -25,44 +25,70 @@ use crate::fault::Fault;
 use std::alloc::Global;
 use std::io;
 use std::io::{BufRead, BufReader, BufWriter, Write};
+use std::str::SplitWhitespace;
 
 /// The answer to a line. Calls on what is kept and calls with numbers come before those on octets.
 fn answer(alloc: Global, line: &str, bench: &mut Bench) -> Result<String, Fault> {
     let mut words = line.split_whitespace();
     let call = words::word(&mut words)?;
-    if let Some(text) = kept::answer(alloc, call, &mut words, bench)? {
-        return Ok(text);
+    if let Some(text) = on_bench(alloc, call, &mut words, bench) {
+        return text;
     }
-    if let Some(text) = logs::answer(alloc, call, &mut words, bench)? {
-        return Ok(text);
+    match with_numbers(alloc, call, &mut words) {
+        Some(text) => text,
+        None => on_octets(alloc, call, &words::octets(alloc, &mut words)?),
     }
-    if let Some(text) = moments::answer(alloc, call, &mut words)? {
-        return Ok(text);
+}
+
+/// The calls on what is kept.
+fn on_bench(
+    alloc: Global,
+    call: &str,
+    words: &mut SplitWhitespace,
+    bench: &mut Bench,
+) -> Option<Result<String, Fault>> {
+    match kept::answer(alloc, call, words, bench) {
+        Some(text) => Some(text),
+        None => logs::answer(alloc, call, words, bench),
     }
-    if let Some(text) = contents::numbered(alloc, call, &mut words)? {
-        return Ok(text);
-    }
-    if let Some(text) = records::answer(alloc, call, &mut words)? {
-        return Ok(text);
-    }
+}
+
+/// The calls with numbers.
+fn with_numbers(
+    alloc: Global,
+    call: &str,
+    words: &mut SplitWhitespace,
+) -> Option<Result<String, Fault>> {
     if call == "prefixes" {
-        return cuts::prefixes(alloc, &mut words);
+        return Some(cuts::prefixes(alloc, words));
     }
-    let octets = words::octets(alloc, &mut words)?;
-    on_octets(alloc, call, &octets)
+    if let Some(text) = moments::answer(alloc, call, words) {
+        return Some(text);
+    }
+    if let Some(text) = contents::numbered(alloc, call, words) {
+        return Some(text);
+    }
+    records::answer(alloc, call, words)
 }
 
 /// The calls on octets alone.
 fn on_octets(alloc: Global, call: &str, octets: &[u8]) -> Result<String, Fault> {
-    if let Some(text) = contents::answer(alloc, call, octets)? {
-        return Ok(text);
+    if let Some(text) = contents::answer(alloc, call, octets) {
+        return text;
     }
-    if let Some(text) = headers::answer(alloc, call, octets)? {
-        return Ok(text);
+    if let Some(text) = headers::answer(alloc, call, octets) {
+        return text;
     }
-    match services::answer(alloc, call, octets)? {
-        Some(text) => Ok(text),
+    match services::answer(alloc, call, octets) {
+        Some(text) => text,
         None => Err(Fault::BadLine),
+    }
+}
+
+fn print<W: Write>(output: &mut W, answered: Result<String, Fault>) -> io::Result<()> {
+    match answered {
+        Ok(text) => writeln!(output, "{text}"),
+        Err(fault) => writeln!(output, "{fault:?}"),
     }
 }
 
@@ -70,10 +96,8 @@ fn main(rt: HostRuntime) -> io::Result<()> {
     let mut bench = Bench::new();
     let mut output = BufWriter::new(rt.alloc(), io::writer(&rt))?;
     for line in BufReader::new(rt.alloc(), rt.reader())?.lines(rt.alloc()) {
-        match answer(rt.alloc(), line?.as_str(), &mut bench) {
-            Ok(text) => writeln!(output, "{text}")?,
-            Err(fault) => writeln!(output, "{fault:?}")?,
-        }
+        let answered = answer(rt.alloc(), line?.as_str(), &mut bench);
+        print(&mut output, answered)?;
     }
     output.flush()
 }

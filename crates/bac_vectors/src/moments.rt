@@ -1,8 +1,8 @@
 //! Object identifiers, dates and times.
 
 use crate::fault::Fault;
-use crate::text::{moment, shown};
-use crate::words::number;
+use crate::text::{moment, none, shown};
+use crate::words::{number, pair};
 use bac_wire::{Date4, ObjectId, Stamp, Time4, stamp_order};
 use jiff::civil::DateTime;
 use std::alloc::Global;
@@ -12,39 +12,31 @@ pub(crate) fn answer(
     alloc: Global,
     call: &str,
     words: &mut SplitWhitespace,
-) -> Result<Option<String>, Fault> {
-    let text = match call {
-        "object_id" => object(alloc, words)?,
-        "stamp" => told(alloc, stamp(words)?)?,
-        "civil" => told(alloc, civil(words)?)?,
-        "stamps_compared" => {
-            let (left, right) = (stamp(words)?, stamp(words)?);
-            compared(alloc, left, right)?
-        }
-        "stamp_order" => {
-            let (left, right) = (date_and_time(words)?, date_and_time(words)?);
-            shown(alloc, &stamp_order(&left, &right))?
-        }
-        _ => return Ok(None),
-    };
-    Ok(Some(text))
+) -> Option<Result<String, Fault>> {
+    Some(match call {
+        "object_id" => object(alloc, words),
+        "stamp" => told(alloc, stamp(words)),
+        "civil" => told(alloc, civil(words)),
+        "stamps_compared" => compared(alloc, words),
+        "stamp_order" => ordered(alloc, words),
+        _ => return None,
+    })
 }
 
 fn object(alloc: Global, words: &mut SplitWhitespace) -> Result<String, Fault> {
     let (kind, instance) = (number::<u16>(words)?, number::<u32>(words)?);
     match ObjectId::new(kind, instance) {
         Some(object) => {
-            let (kind, instance) = (object.kind(), object.instance());
-            Ok(format!(in alloc; "type {kind} instance {instance}")?)
+            Ok(format!(in alloc; "type {} instance {}", object.kind(), object.instance())?)
         }
-        None => Ok(format!(in alloc; "None")?),
+        None => none(alloc),
     }
 }
 
 /// Year, month, day, hour, minute, second, hundredth.
 fn stamp(words: &mut SplitWhitespace) -> Result<Option<Stamp>, Fault> {
     let year = number::<u16>(words)?;
-    let (month, day) = (number::<u8>(words)?, number::<u8>(words)?);
+    let (month, day) = pair::<u8>(words)?;
     let time = time_of(words)?;
     Ok(Stamp::new(
         year,
@@ -58,23 +50,30 @@ fn stamp(words: &mut SplitWhitespace) -> Result<Option<Stamp>, Fault> {
 }
 
 fn time_of(words: &mut SplitWhitespace) -> Result<Time4, Fault> {
+    let (hour, minute) = pair::<u8>(words)?;
+    let (second, hundredth) = pair::<u8>(words)?;
     Ok(Time4 {
-        hour: number::<u8>(words)?,
-        minute: number::<u8>(words)?,
-        second: number::<u8>(words)?,
-        hundredth: number::<u8>(words)?,
+        hour,
+        minute,
+        second,
+        hundredth,
+    })
+}
+
+fn date_of(words: &mut SplitWhitespace) -> Result<Date4, Fault> {
+    let (year, month) = pair::<u8>(words)?;
+    let (day, weekday) = pair::<u8>(words)?;
+    Ok(Date4 {
+        year,
+        month,
+        day,
+        weekday,
     })
 }
 
 /// Four octets of a date and four of a time, in decimal digits.
 pub(crate) fn date_and_time(words: &mut SplitWhitespace) -> Result<(Date4, Time4), Fault> {
-    let date = Date4 {
-        year: number::<u8>(words)?,
-        month: number::<u8>(words)?,
-        day: number::<u8>(words)?,
-        weekday: number::<u8>(words)?,
-    };
-    Ok((date, time_of(words)?))
+    Ok((date_of(words)?, time_of(words)?))
 }
 
 /// Year, month, day, hour, minute, second, nanosecond.
@@ -96,25 +95,46 @@ fn civil(words: &mut SplitWhitespace) -> Result<Option<Stamp>, Fault> {
     }
 }
 
+/// The stamp that was read, if it is one.
+fn told(alloc: Global, stamp: Result<Option<Stamp>, Fault>) -> Result<String, Fault> {
+    match stamp? {
+        Some(stamp) => stamp_text(alloc, &stamp),
+        None => none(alloc),
+    }
+}
+
 /// Its fields, its date with the weekday and its time, and its ticks.
-fn told(alloc: Global, stamp: Option<Stamp>) -> Result<String, Fault> {
-    let Some(stamp) = stamp else {
-        return Ok(format!(in alloc; "None")?);
-    };
-    let date = format!(in alloc; "{}-{}-{}", stamp.year(), stamp.month(), stamp.day())?;
-    let (hour, minute, second) = (stamp.hour(), stamp.minute(), stamp.second());
-    let hundredth = stamp.hundredth();
+fn stamp_text(alloc: Global, stamp: &Stamp) -> Result<String, Fault> {
+    let fields = fields(alloc, stamp)?;
     let moment = moment(alloc, stamp.date(), stamp.time())?;
-    let ticks = stamp.ticks();
-    Ok(format!(in alloc; "{date} {hour}:{minute}:{second}.{hundredth} = {moment}, tick {ticks}")?)
+    Ok(format!(in alloc; "{fields} = {moment}, tick {}", stamp.ticks())?)
+}
+
+fn fields(alloc: Global, stamp: &Stamp) -> Result<String, Fault> {
+    Ok(format!(in alloc;
+        "{}-{}-{} {}:{}:{}.{}",
+        stamp.year(),
+        stamp.month(),
+        stamp.day(),
+        stamp.hour(),
+        stamp.minute(),
+        stamp.second(),
+        stamp.hundredth(),
+    )?)
+}
+
+/// How two dates and times are ordered.
+fn ordered(alloc: Global, words: &mut SplitWhitespace) -> Result<String, Fault> {
+    let left = date_and_time(words)?;
+    let right = date_and_time(words)?;
+    shown(alloc, &stamp_order(&left, &right))
 }
 
 /// Whether the left is before the right, and how they compare.
-fn compared(alloc: Global, left: Option<Stamp>, right: Option<Stamp>) -> Result<String, Fault> {
-    match (left, right) {
+fn compared(alloc: Global, words: &mut SplitWhitespace) -> Result<String, Fault> {
+    match (stamp(words)?, stamp(words)?) {
         (Some(left), Some(right)) => {
-            let (before, order) = (left.is_before(&right), left.cmp(&right));
-            Ok(format!(in alloc; "{before} {order:?}")?)
+            Ok(format!(in alloc; "{} {:?}", left.is_before(&right), left.cmp(&right))?)
         }
         _ => Err(Fault::BadLine),
     }

@@ -2,8 +2,8 @@
 
 use crate::fault::Fault;
 use crate::moments::date_and_time;
-use crate::text::{digits, moment, shown};
-use crate::words::{number, octets, word};
+use crate::text::{digits, moment, none, shown};
+use crate::words::{number, octets, pair, word};
 use bac_log::{Datum, Entry, entry_size, read_entry, write_entry};
 use bac_wire::Datagram;
 use hex::FromHex;
@@ -14,49 +14,50 @@ pub(crate) fn answer(
     alloc: Global,
     call: &str,
     words: &mut SplitWhitespace,
-) -> Result<Option<String>, Fault> {
-    let text = match call {
-        "read_entry" => read(alloc, &octets(alloc, words)?)?,
-        "write_entry" => write(alloc, &entry(words)?)?,
-        "entry_is" => kind(alloc, &entry(words)?)?,
-        _ => return Ok(None),
-    };
-    Ok(Some(text))
+) -> Option<Result<String, Fault>> {
+    Some(match call {
+        "read_entry" => read(alloc, words),
+        "write_entry" => write(alloc, words),
+        "entry_is" => kind(alloc, words),
+        _ => return None,
+    })
 }
 
 /// How many octets are the record at the front, and the record.
-fn read(alloc: Global, octets: &[u8]) -> Result<String, Fault> {
-    match read_entry(octets) {
+fn read(alloc: Global, words: &mut SplitWhitespace) -> Result<String, Fault> {
+    let octets = octets(alloc, words)?;
+    match read_entry(&octets) {
         Some((entry, used)) => {
             let entry = entry_text(alloc, &entry)?;
             Ok(format!(in alloc; "{used} {entry}")?)
         }
-        None => Ok(format!(in alloc; "None")?),
+        None => none(alloc),
     }
 }
 
 /// Date, time, datum and flags.
 pub(crate) fn entry_text(alloc: Global, entry: &Entry) -> Result<String, Fault> {
     let moment = moment(alloc, entry.date, entry.time)?;
-    let (datum, flags) = (entry.datum, entry.flags);
-    Ok(format!(in alloc; "{moment} {datum:?} {flags:?}")?)
+    Ok(format!(in alloc; "{moment} {:?} {:?}", entry.datum, entry.flags)?)
 }
 
 /// The size of a record that is writable, and its octets.
-fn write(alloc: Global, entry: &Entry) -> Result<String, Fault> {
+fn write(alloc: Global, words: &mut SplitWhitespace) -> Result<String, Fault> {
+    let entry = entry(words)?;
     if !entry.writable() {
         return Err(Fault::BadLine);
     }
-    let size = entry_size(entry);
+    let size = entry_size(&entry);
     let mut out = Datagram::new();
-    if let Err(full) = write_entry(&mut out, entry) {
+    if let Err(full) = write_entry(&mut out, &entry) {
         return shown(alloc, &full);
     }
     let octets = digits(alloc, out.octets())?;
     Ok(format!(in alloc; "{size} {octets}")?)
 }
 
-fn kind(alloc: Global, entry: &Entry) -> Result<String, Fault> {
+fn kind(alloc: Global, words: &mut SplitWhitespace) -> Result<String, Fault> {
+    let entry = entry(words)?;
     let writable = if entry.writable() {
         "writable"
     } else {
@@ -73,9 +74,8 @@ fn kind(alloc: Global, entry: &Entry) -> Result<String, Fault> {
 /// Date and time, flags in hexadecimal digits or `-`, and the datum by its name.
 pub(crate) fn entry(words: &mut SplitWhitespace) -> Result<Entry, Fault> {
     let (date, time) = date_and_time(words)?;
-    let flags = flags_of(word(words)?)?;
-    let name = word(words)?;
-    let datum = datum_of(name, words)?;
+    let flags = flags(words)?;
+    let datum = datum(words)?;
     Ok(Entry {
         date,
         time,
@@ -84,11 +84,11 @@ pub(crate) fn entry(words: &mut SplitWhitespace) -> Result<Entry, Fault> {
     })
 }
 
-fn flags_of(word: &str) -> Result<Option<u8>, Fault> {
-    if word == "-" {
-        return Ok(None);
+fn flags(words: &mut SplitWhitespace) -> Result<Option<u8>, Fault> {
+    match word(words)? {
+        "-" => Ok(None),
+        word => octet(word).map(Some),
     }
-    Ok(Some(octet(word)?))
 }
 
 fn octet(word: &str) -> Result<u8, Fault> {
@@ -98,33 +98,39 @@ fn octet(word: &str) -> Result<u8, Fault> {
     }
 }
 
-fn four(word: &str) -> Result<[u8; 4], Fault> {
-    match <[u8; 4] as FromHex>::from_hex(word) {
+/// The next word, which is four octets in hexadecimal digits.
+fn four(words: &mut SplitWhitespace) -> Result<[u8; 4], Fault> {
+    match <[u8; 4] as FromHex>::from_hex(word(words)?) {
         Ok(octets) => Ok(octets),
         Err(_) => Err(Fault::BadLine),
     }
 }
 
-fn datum_of(name: &str, words: &mut SplitWhitespace) -> Result<Datum, Fault> {
-    Ok(match name {
-        "LogStatus" => Datum::LogStatus(octet(word(words)?)?),
-        "Boolean" => Datum::Boolean(number::<u8>(words)? == 1),
-        "Real4" => Datum::Real4(four(word(words)?)?),
-        "Enumerated" => Datum::Enumerated(number::<u32>(words)?),
-        "Unsigned" => Datum::Unsigned(number::<u64>(words)?),
-        "Signed" => Datum::Signed(number::<i64>(words)?),
-        "Bits" => Datum::Bits {
-            count: number::<u8>(words)?,
-            bits: u32::from_be_bytes(four(word(words)?)?),
-        },
-        "LongBits" => Datum::LongBits(number::<u32>(words)?),
-        "Null" => Datum::Null,
-        "Failure" => Datum::Failure {
-            class: number::<u32>(words)?,
-            code: number::<u32>(words)?,
-        },
-        "TimeChange" => Datum::TimeChange(four(word(words)?)?),
-        "Any" => Datum::Any(number::<u32>(words)?),
-        _ => return Err(Fault::BadLine),
-    })
+fn datum(words: &mut SplitWhitespace) -> Result<Datum, Fault> {
+    match word(words)? {
+        "LogStatus" => octet(word(words)?).map(Datum::LogStatus),
+        "Boolean" => number::<u8>(words).map(|number| Datum::Boolean(number == 1)),
+        "Real4" => four(words).map(Datum::Real4),
+        "Enumerated" => number::<u32>(words).map(Datum::Enumerated),
+        "Unsigned" => number::<u64>(words).map(Datum::Unsigned),
+        "Signed" => number::<i64>(words).map(Datum::Signed),
+        "Bits" => bits(words),
+        "LongBits" => number::<u32>(words).map(Datum::LongBits),
+        "Null" => Ok(Datum::Null),
+        "Failure" => failure(words),
+        "TimeChange" => four(words).map(Datum::TimeChange),
+        "Any" => number::<u32>(words).map(Datum::Any),
+        _ => Err(Fault::BadLine),
+    }
+}
+
+fn bits(words: &mut SplitWhitespace) -> Result<Datum, Fault> {
+    let count = number::<u8>(words)?;
+    let bits = u32::from_be_bytes(four(words)?);
+    Ok(Datum::Bits { count, bits })
+}
+
+fn failure(words: &mut SplitWhitespace) -> Result<Datum, Fault> {
+    let (class, code) = pair::<u32>(words)?;
+    Ok(Datum::Failure { class, code })
 }

@@ -2,31 +2,36 @@
 //! can't be read is answered by the reason and by the Reject that carries it.
 
 use crate::fault::Fault;
-use crate::text::{shown, written};
+use crate::text::{none, written};
 use bac_apdu::{
     Apdu, IAm, ReadProperty, ReadPropertyAck, ReadRange, ReadRangeAck, Reason, WhoIs,
     WriteProperty, write_apdu,
 };
-use bac_wire::Datagram;
+use bac_wire::{Datagram, Full};
 use std::alloc::Global;
 use std::fmt::Debug;
 
-pub(crate) fn answer(alloc: Global, call: &str, octets: &[u8]) -> Result<Option<String>, Fault> {
-    let text = match call {
-        "who_is" => who_is(alloc, octets)?,
-        "i_am" => i_am(alloc, octets)?,
-        "read_property" => read_property(alloc, octets)?,
-        "read_property_ack" => read_property_ack(alloc, octets)?,
-        "write_property" => write_property(alloc, octets)?,
-        "read_range" => read_range(alloc, octets)?,
-        "read_range_ack" => read_range_ack(alloc, octets)?,
-        _ => return Ok(None),
-    };
-    Ok(Some(text))
+pub(crate) fn answer(alloc: Global, call: &str, octets: &[u8]) -> Option<Result<String, Fault>> {
+    Some(match call {
+        "who_is" => who_is(alloc, octets),
+        "i_am" => i_am(alloc, octets),
+        "read_property" => read_property(alloc, octets),
+        "read_property_ack" => read_property_ack(alloc, octets),
+        "write_property" => write_property(alloc, octets),
+        "read_range" => read_range(alloc, octets),
+        "read_range_ack" => read_range_ack(alloc, octets),
+        _ => return None,
+    })
 }
 
 /// The fields, and the octets that are written for them.
-fn both<T: Debug>(alloc: Global, fields: &T, octets: String) -> Result<String, Fault> {
+fn both<T: Debug>(
+    alloc: Global,
+    fields: &T,
+    done: Result<(), Full>,
+    out: &Datagram,
+) -> Result<String, Fault> {
+    let octets = written(alloc, done, out)?;
     Ok(format!(in alloc; "{fields:?} = {octets}")?)
 }
 
@@ -37,18 +42,18 @@ fn refused(alloc: Global, reason: Reason) -> Result<String, Fault> {
         invoke: 1,
         reason: reason.code(),
     };
-    let octets = written(alloc, write_apdu(&mut out, &reject), &out)?;
-    both(alloc, &reason, octets)
+    let done = write_apdu(&mut out, &reject);
+    both(alloc, &reason, done, &out)
 }
 
 fn who_is(alloc: Global, octets: &[u8]) -> Result<String, Fault> {
     let mut out = Datagram::new();
     match WhoIs::read(octets) {
         Some(limits) => {
-            let octets = written(alloc, limits.write(&mut out), &out)?;
-            both(alloc, &limits, octets)
+            let done = limits.write(&mut out);
+            both(alloc, &limits, done, &out)
         }
-        None => Ok(format!(in alloc; "None")?),
+        None => none(alloc),
     }
 }
 
@@ -56,10 +61,10 @@ fn i_am(alloc: Global, octets: &[u8]) -> Result<String, Fault> {
     let mut out = Datagram::new();
     match IAm::read(octets) {
         Some(announced) => {
-            let octets = written(alloc, announced.write(&mut out), &out)?;
-            both(alloc, &announced, octets)
+            let done = announced.write(&mut out);
+            both(alloc, &announced, done, &out)
         }
-        None => Ok(format!(in alloc; "None")?),
+        None => none(alloc),
     }
 }
 
@@ -67,8 +72,8 @@ fn read_property(alloc: Global, octets: &[u8]) -> Result<String, Fault> {
     let mut out = Datagram::new();
     match ReadProperty::read(octets) {
         Ok(request) => {
-            let octets = written(alloc, request.write(&mut out), &out)?;
-            both(alloc, &request, octets)
+            let done = request.write(&mut out);
+            both(alloc, &request, done, &out)
         }
         Err(reason) => refused(alloc, reason),
     }
@@ -78,10 +83,10 @@ fn read_property_ack(alloc: Global, octets: &[u8]) -> Result<String, Fault> {
     let mut out = Datagram::new();
     match ReadPropertyAck::read(octets) {
         Some(ack) => {
-            let octets = written(alloc, ack.write(&mut out), &out)?;
-            both(alloc, &ack, octets)
+            let done = ack.write(&mut out);
+            both(alloc, &ack, done, &out)
         }
-        None => Ok(format!(in alloc; "None")?),
+        None => none(alloc),
     }
 }
 
@@ -89,8 +94,8 @@ fn write_property(alloc: Global, octets: &[u8]) -> Result<String, Fault> {
     let mut out = Datagram::new();
     match WriteProperty::read(octets) {
         Ok(request) => {
-            let octets = written(alloc, request.write(&mut out), &out)?;
-            both(alloc, &request, octets)
+            let done = request.write(&mut out);
+            both(alloc, &request, done, &out)
         }
         Err(reason) => refused(alloc, reason),
     }
@@ -100,8 +105,8 @@ fn read_range(alloc: Global, octets: &[u8]) -> Result<String, Fault> {
     let mut out = Datagram::new();
     match ReadRange::read(octets) {
         Ok(request) => {
-            let octets = written(alloc, request.write(&mut out), &out)?;
-            both(alloc, &request, octets)
+            let done = request.write(&mut out);
+            both(alloc, &request, done, &out)
         }
         Err(reason) => refused(alloc, reason),
     }
@@ -111,9 +116,9 @@ fn read_range_ack(alloc: Global, octets: &[u8]) -> Result<String, Fault> {
     let mut out = Datagram::new();
     match ReadRangeAck::read(octets) {
         Some(ack) => {
-            let octets = written(alloc, ack.write(&mut out), &out)?;
-            both(alloc, &ack, octets)
+            let done = ack.write(&mut out);
+            both(alloc, &ack, done, &out)
         }
-        None => Ok(format!(in alloc; "None")?),
+        None => none(alloc),
     }
 }

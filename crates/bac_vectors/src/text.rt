@@ -12,6 +12,10 @@ pub(crate) fn shown<T: Debug>(alloc: Global, value: &T) -> Result<String, Fault>
     Ok(format!(in alloc; "{value:?}")?)
 }
 
+pub(crate) fn none(alloc: Global) -> Result<String, Fault> {
+    Ok(format!(in alloc; "None")?)
+}
+
 /// Octets in hexadecimal digits, or `-` for none.
 pub(crate) fn digits(alloc: Global, octets: &[u8]) -> Result<String, Fault> {
     let len = octets.len();
@@ -39,7 +43,15 @@ pub(crate) fn written(
 
 /// Year after 1900, month, day and weekday; hour, minute, second and hundredth.
 pub(crate) fn moment(alloc: Global, date: Date4, time: Time4) -> Result<String, Fault> {
-    let (year, month, day, weekday) = (date.year, date.month, date.day, date.weekday);
-    let (hour, minute, second, hundredth) = (time.hour, time.minute, time.second, time.hundredth);
-    Ok(format!(in alloc; "{year}-{month}-{day}-{weekday} {hour}:{minute}:{second}.{hundredth}")?)
+    Ok(format!(in alloc;
+        "{}-{}-{}-{} {}:{}:{}.{}",
+        date.year,
+        date.month,
+        date.day,
+        date.weekday,
+        time.hour,
+        time.minute,
+        time.second,
+        time.hundredth,
+    )?)
 }

@@ -24,6 +24,14 @@ where
     }
 }
 
+/// The next two words, which are numbers in decimal digits.
+pub(crate) fn pair<N: FromStr + Copy>(words: &mut SplitWhitespace) -> Result<(N, N), Fault>
+where
+    N::Err: Drop,
+{
+    Ok((number::<N>(words)?, number::<N>(words)?))
+}
+
 /// All other words: octets in hexadecimal digits, or one octet and how often it comes, as `07*253`.
 pub(crate) fn octets(alloc: Global, words: &mut SplitWhitespace) -> Result<Vec<u8>, Fault> {
     let mut octets = Vec::new(alloc);
