@@ -16,7 +16,7 @@ use Rattle.bac_hearing.specs.Beside.{Begins, BesideIsOneHearing}
 pub begins : {P C J E : Type 0} (sends : P → List ℕ → List ℕ → Sending → P → Type 0) (receives : P → ℕ → Receiving → P → Type 0)
     (reads : C → ℕ → C → Type 0) (plays : J → List Outcome → Turn E → Type 0) (jobs : List J) (port port' last : P) (start start' stop : C)
     (fresh fresh' left : TableState) (early : List (Option (Ending E))) → port' ≡ port → start' ≡ start → fresh' ≡ fresh →
-    Serves sends receives reads port' start' fresh' last stop left → (AreEndedSoFar plays jobs left.seats early × IsResting left) →
+    Serves sends receives reads port' start' fresh' last stop left → (AreEndedSoFar plays jobs left early × IsResting left) →
     Begins sends receives reads plays jobs port start fresh early last stop left
 begins {P = P} {C = C} sends receives reads plays jobs port port' last start start' stop fresh fresh' left early same_port same_clock same (events, does, keeps) begun =
     subst (λ (p : P). Begins sends receives reads plays jobs p start fresh early last stop left) same_port

@@ -21,7 +21,7 @@ abbrev pub Begins : {P C J E : Type 0} → (P → List ℕ → List ℕ → Send
     List (Option (Ending E)) → P → C → TableState → Type 0
 Begins sends receives reads plays jobs port start fresh early last stop left =
     (events : List Event) × Does sends receives reads port start fresh events last stop left
-    × AreEndedSoFar plays jobs left.seats early × IsResting left
+    × AreEndedSoFar plays jobs left early × IsResting left
 
 -- One socket was opened as asked. Over it the devices at these addresses were asked at once, from nothing on, each what
 -- the job at its place asks, up to where these had ended so, and each other question was sent again or a quarter of a

@@ -6,7 +6,7 @@ use Rattle.bac_desks.specs.Seat.{is_open}
 use Rattle.bac_site.specs.Desk.{DeskState}
 use Rattle.bac_desks.specs.Event.{Event}
 use Rattle.bac_desks.specs.Served.{Does, Keeps, TurnStep, Whole}
-use Rattle.bac_desks.specs.Table.{TableState, desks_of}
+use Rattle.bac_desks.specs.Table.{MayAsk, TableState, desks_of}
 use Rattle.bac_desks.specs.declared.seat.Seat.{Seat}
 use Rattle.bac_jobs.specs.declared.job.Ending.{Ending}
 use Rattle.bac_jobs.specs.declared.job.Turn.{Turn}
@@ -30,25 +30,26 @@ AreEnded {E = E} plays jobs seats ends =
     (length ends ≡ length jobs)
     × ((place : ℕ) (ending : Ending E) → slice_get ends place ≡ Some ending → HasEnded plays jobs seats place ending)
 
--- the job at a place hasn't ended by all that came to the questions of the desk at its place: it asks something next,
--- or the record has what it doesn't ask
-abbrev pub GoesOn : {J E : Type 0} → (J → List Outcome → Turn E → Type 0) → List J → List Seat → ℕ → Type 0
-GoesOn {J = J} plays jobs seats place =
-    (job : J) × (seat : Seat) × (slice_get jobs place ≡ Some job) × (slice_get seats place ≡ Some seat)
-    × (((question : List ℕ) × plays job seat.desk.outcomes (Wants question)) ⊎ plays job seat.desk.outcomes Unfit)
+-- the job at a place hasn't ended by all that came to the questions of the desk at its place: it wants to ask something
+-- next, and no question may be asked of that desk now, or the record has what it doesn't ask
+abbrev pub GoesOn : {J E : Type 0} → (J → List Outcome → Turn E → Type 0) → List J → TableState → ℕ → Type 0
+GoesOn {J = J} plays jobs t place =
+    (job : J) × (seat : Seat) × (slice_get jobs place ≡ Some job) × (slice_get t.seats place ≡ Some seat)
+    × (((question : List ℕ) × plays job seat.desk.outcomes (Wants question) × (MayAsk t place → ⊥))
+    ⊎ plays job seat.desk.outcomes Unfit)
 
 -- it ended so, or goes on
-abbrev pub HasEndedIf : {J E : Type 0} → (J → List Outcome → Turn E → Type 0) → List J → List Seat → ℕ →
+abbrev pub HasEndedIf : {J E : Type 0} → (J → List Outcome → Turn E → Type 0) → List J → TableState → ℕ →
     Option (Ending E) → Type 0
-HasEndedIf plays jobs seats place (Some ending) = HasEnded plays jobs seats place ending
-HasEndedIf plays jobs seats place None = GoesOn plays jobs seats place
+HasEndedIf plays jobs t place (Some ending) = HasEnded plays jobs t.seats place ending
+HasEndedIf plays jobs t place None = GoesOn plays jobs t place
 
 -- so does each of them
-abbrev pub AreEndedSoFar : {J E : Type 0} → (J → List Outcome → Turn E → Type 0) → List J → List Seat →
+abbrev pub AreEndedSoFar : {J E : Type 0} → (J → List Outcome → Turn E → Type 0) → List J → TableState →
     List (Option (Ending E)) → Type 0
-AreEndedSoFar {E = E} plays jobs seats ends =
+AreEndedSoFar {E = E} plays jobs t ends =
     (length ends ≡ length jobs)
-    × ((place : ℕ) (end : Option (Ending E)) → slice_get ends place ≡ Some end → HasEndedIf plays jobs seats place end)
+    × ((place : ℕ) (end : Option (Ending E)) → slice_get ends place ≡ Some end → HasEndedIf plays jobs t place end)
 
 -- questions are asked, and then a turn is made
 abbrev pub RoundStep : {P C : Type 0} → (P → List ℕ → List ℕ → Sending → P → Type 0)

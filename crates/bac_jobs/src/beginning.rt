@@ -5,13 +5,14 @@ ghost use Rattle.bac_desks.specs.Served.{Serves};
 ghost use Rattle.bac_desks.specs.Table.{IsResting};
 ghost use Rattle.bac_jobs.specs.Jobs.{AreEndedSoFar, HasEndedIf, MakesRounds};
 
-use crate::finishing::{ask_all, none_done};
+use crate::finishing::{Progress, ask_all};
 use crate::job::{Ending, Job, Turn};
 use bac_desks::{Clock, Desks};
 use bac_ports::Port;
 use std::alloc::{AllocError, Global};
 
-/// How the job at a place ended, if it has; nothing if there is no such desk.
+/// How the job at a place ended, if it has; nothing if there is no such desk, or it may be asked
+/// what its job wants next.
 fn end_so_far<P: Port, C: Clock, J: Job>(
     alloc: Global,
     desks: &Desks<P, C>,
@@ -20,25 +21,27 @@ fn end_so_far<P: Port, C: Clock, J: Job>(
 ) -> Result<Option<Option<Ending<J::End>>>, AllocError>
     requires { place < length jobs.now }
     ensures { IfOk result (λ end. IfSome end
-        (HasEndedIf J.plays jobs.now desks.now.table.seats place)) }
+        (HasEndedIf J.plays jobs.now desks.now.table place)) }
 {
     let (Some(outcomes), Some(has_stray)) = (desks.outcomes(place), desks.has_stray(place)) else {
         return Ok(None);
     };
     match jobs[place].play(alloc, outcomes)? {
+        Turn::Wants(_) if desks.is_free(place) => Ok(None),
         Turn::Wants(_) | Turn::Unfit => Ok(Some(None)),
         Turn::Ended(end) => Ok(Some(Some(Ending { end, has_stray }))),
     }
 }
 
-/// How the jobs ended that have, in their order; nothing if there are fewer desks than jobs.
+/// How the jobs ended that have, in their order; nothing if there are fewer desks than jobs, or one
+/// of them may be asked what its job wants next.
 fn ends_so_far<P: Port, C: Clock, J: Job>(
     alloc: Global,
     desks: &Desks<P, C>,
     jobs: &[J],
 ) -> Result<Option<Vec<Option<Ending<J::End>>>>, AllocError>
     ensures { IfOk result (λ ends. IfSome ends
-        (λ all. AreEndedSoFar J.plays jobs.now desks.now.table.seats all.items)) }
+        (λ all. AreEndedSoFar J.plays jobs.now desks.now.table all.items)) }
 {
     let mut ends = Vec::new(alloc);
     for place in 0..jobs.len() {
@@ -52,8 +55,9 @@ fn ends_so_far<P: Port, C: Clock, J: Job>(
 
 /// Brings jobs on in so many turns at most, each over the questions of the desk at its place, until
 /// no question holds a place any more: how those ended that have, in their order. The others go on
-/// by [`finish`]; one whose address has no place left may not have been asked yet. Nothing if there
-/// are fewer desks than jobs, or more turns were needed.
+/// by [`finish`]; one may not have been asked yet only where its address has no place left, or as
+/// many questions are open as may be. Nothing if there are fewer desks than jobs, or more turns
+/// were needed.
 ///
 /// [`finish`]: crate::finish
 pub fn begin<P: Port, C: Clock, J: Job>(
@@ -62,10 +66,10 @@ pub fn begin<P: Port, C: Clock, J: Job>(
     jobs: &[J],
     turns: u64,
 ) -> Result<Option<Vec<Option<Ending<J::End>>>>, AllocError>
-    // Each job ended by all that came to the questions of its desk, or hasn't by that; and what is
-    // open was sent again, or long ago.
+    // Each job ended by all that came to the questions of its desk; or it hasn't by that, and no
+    // question may be asked of its desk now. And what is open was sent again, or long ago.
     ensures begun { IfOk result (λ ends. IfSome ends
-        (λ all. AreEndedSoFar J.plays jobs.now desks.new.table.seats all.items
+        (λ all. AreEndedSoFar J.plays jobs.now desks.new.table all.items
         × IsResting desks.new.table)) }
     // Nothing only if as many turns were made, each behind what was asked then.
     ensures unfinished { IfOk result (λ ends. IfNone ends
@@ -76,9 +80,9 @@ pub fn begin<P: Port, C: Clock, J: Job>(
     ensures serves { Serves P.sends P.receives_within C.reads desks.old.port desks.old.clock
         desks.old.table desks.new.port desks.new.clock desks.new.table }
 {
-    let mut done = none_done(alloc, jobs.len())?;
+    let mut progress = Progress::new(alloc, jobs.len())?;
     for round in 0..turns {
-        ask_all(alloc, desks, jobs, done.as_mut_slice())?;
+        ask_all(alloc, desks, jobs, &mut progress)?;
         if desks.is_resting() {
             if let Some(ends) = ends_so_far(alloc, desks, jobs)? {
                 return Ok(Some(ends));

@@ -31,11 +31,6 @@ fn ask_at<P: Port, C: Clock, J: Job>(
     Ok(true)
 }
 
-/// Whether the job at a place is done. A job that ended stays so, and isn't played for nothing.
-fn is_done(done: &[bool], place: usize) -> bool {
-    matches!(done.get(place), Some(true))
-}
-
 /// Whether nothing came yet of a question of the desk at a place.
 fn is_new<P: Port, C: Clock>(desks: &Desks<P, C>, place: usize) -> bool {
     match desks.outcomes(place) {
@@ -44,10 +39,60 @@ fn is_new<P: Port, C: Clock>(desks: &Desks<P, C>, place: usize) -> bool {
     }
 }
 
-/// The job at a place is done.
-fn put_done(done: &mut [bool], place: usize) {
-    if let Some(one) = done.get_mut(place) {
-        *one = true;
+/// How far jobs are. One that is done stays so, and isn't played for nothing.
+#[derive(Drop)]
+pub(crate) struct Progress {
+    done: Vec<bool>,
+    /// Each job before this place is done.
+    first_left: usize,
+    /// Something came to each desk before this place.
+    first_new: usize,
+}
+
+impl Progress {
+    /// None of so many jobs is done.
+    pub(crate) fn new(alloc: Global, jobs: usize) -> Result<Progress, AllocError> {
+        let mut done = Vec::new(alloc);
+        for _place in 0..jobs {
+            done.push(false)?;
+        }
+        Ok(Progress {
+            done,
+            first_left: 0,
+            first_new: 0,
+        })
+    }
+
+    /// Whether the job at a place is done.
+    fn is_done(&self, place: usize) -> bool {
+        matches!(self.done.get(place), Some(true))
+    }
+
+    /// The job at a place is done.
+    fn put_done(&mut self, place: usize) {
+        if let Some(one) = self.done.get_mut(place) {
+            *one = true;
+        }
+    }
+
+    /// Passes the jobs that are done.
+    fn pass_done(&mut self) {
+        for place in self.first_left..self.done.len() {
+            if !self.is_done(place) {
+                return;
+            }
+            self.first_left = place + 1;
+        }
+    }
+
+    /// Passes the desks to which something came.
+    fn pass_old<P: Port, C: Clock>(&mut self, desks: &Desks<P, C>) {
+        for place in self.first_new..self.done.len() {
+            if is_new(desks, place) {
+                return;
+            }
+            self.first_new = place + 1;
+        }
     }
 }
 
@@ -57,7 +102,7 @@ fn ask_unless<P: Port, C: Clock, J: Job>(
     desks: &mut Desks<P, C>,
     jobs: &[J],
     place: usize,
-    done: &mut [bool],
+    progress: &mut Progress,
 ) -> Result<(), AllocError>
     requires { place < length jobs.now }
     ensures { Runs P.sends P.receives_within C.reads desks.old.port desks.old.clock desks.old.table
@@ -67,31 +112,32 @@ fn ask_unless<P: Port, C: Clock, J: Job>(
         return Ok(());
     }
     if ask_at(alloc, desks, jobs, place)? {
-        put_done(done, place);
+        progress.put_done(place);
     }
     Ok(())
 }
 
-/// Asks what each job wants next that isn't done, as long as a question more may be open: of those
-/// desks of which nothing was answered yet, or of the others.
+/// Asks what each job from a place on wants next that isn't done, as long as a question more may be
+/// open: of those desks of which nothing was answered yet, or of the others.
 fn ask_those<P: Port, C: Clock, J: Job>(
     alloc: Global,
     desks: &mut Desks<P, C>,
     jobs: &[J],
-    done: &mut [bool],
+    progress: &mut Progress,
+    from: usize,
     new: bool,
 ) -> Result<(), AllocError>
     ensures { Runs P.sends P.receives_within C.reads desks.old.port desks.old.clock desks.old.table
         desks.new.port desks.new.clock desks.new.table }
 {
-    for place in 0..jobs.len() {
-        if is_done(done, place) || desks.is_open(place) || is_new(desks, place) != new {
+    for place in from..jobs.len() {
+        if progress.is_done(place) || desks.is_open(place) || is_new(desks, place) != new {
             continue;
         }
         if !desks.has_room() {
             return Ok(());
         }
-        ask_unless(alloc, desks, jobs, place, done)?;
+        ask_unless(alloc, desks, jobs, place, progress)?;
     }
     Ok(())
 }
@@ -102,22 +148,17 @@ pub(crate) fn ask_all<P: Port, C: Clock, J: Job>(
     alloc: Global,
     desks: &mut Desks<P, C>,
     jobs: &[J],
-    done: &mut [bool],
+    progress: &mut Progress,
 ) -> Result<(), AllocError>
     ensures { Runs P.sends P.receives_within C.reads desks.old.port desks.old.clock desks.old.table
         desks.new.port desks.new.clock desks.new.table }
 {
-    ask_those(alloc, desks, jobs, done, true)?;
-    ask_those(alloc, desks, jobs, done, false)
-}
-
-/// Of none of so many jobs it is known that it is done.
-pub(crate) fn none_done(alloc: Global, jobs: usize) -> Result<Vec<bool>, AllocError> {
-    let mut done = Vec::new(alloc);
-    for _place in 0..jobs {
-        done.push(false)?;
-    }
-    Ok(done)
+    progress.pass_old(desks);
+    let first_new = progress.first_new;
+    ask_those(alloc, desks, jobs, progress, first_new, true)?;
+    progress.pass_done();
+    let first_left = progress.first_left;
+    ask_those(alloc, desks, jobs, progress, first_left, false)
 }
 
 /// How the job at a place ended, if it has.
@@ -181,14 +222,14 @@ pub fn finish<P: Port, C: Clock, J: Job>(
     ensures serves { Serves P.sends P.receives_within C.reads desks.old.port desks.old.clock
         desks.old.table desks.new.port desks.new.clock desks.new.table }
 {
-    let mut done = none_done(alloc, jobs.len())?;
+    let mut progress = Progress::new(alloc, jobs.len())?;
     for round in 0..turns {
         if desks.is_idle() {
             if let Some(ends) = ends_of(alloc, desks, jobs)? {
                 return Ok(Some(ends));
             }
         }
-        ask_all(alloc, desks, jobs, done.as_mut_slice())?;
+        ask_all(alloc, desks, jobs, &mut progress)?;
         desks.turn();
     }
     Ok(None)

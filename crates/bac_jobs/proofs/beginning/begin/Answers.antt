@@ -63,8 +63,8 @@ returns-clause-serves g c =
     serves g.P.Port.sends g.P.Port.receives_within g.C.Clock.reads c.args.desks.now.port c.loop-round.desks.port c.args.desks.now.clock c.loop-round.desks.clock c.args.desks.now.table c.loop-round.desks.table
     c.loop-round.invariant.runs
 
-pub returns-in_err-done-clause-serves : goal.returns-in_err-done-clause-serves
-returns-in_err-done-clause-serves g c =
+pub returns-in_err-progress-clause-serves : goal.returns-in_err-progress-clause-serves
+returns-in_err-progress-clause-serves g c =
     let port = c.args.desks.now.port in
     let clock = c.args.desks.now.clock in
     let t = c.args.desks.now.table in

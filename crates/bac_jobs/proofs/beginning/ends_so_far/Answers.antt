@@ -11,9 +11,9 @@ loop-place-init g c = (
 
 pub loop-place-preserved : goal.loop-place-preserved
 loop-place-preserved g c =
-    pushed (λ place end. HasEndedIf g.J.Job.plays c.args.jobs.now c.args.desks.now.table.seats place end) c.loop-place.ends.items c.push.new.self.items c.in-Some.end
+    pushed (λ place end. HasEndedIf g.J.Job.plays c.args.jobs.now c.args.desks.now.table place end) c.loop-place.ends.items c.push.new.self.items c.in-Some.end
     c.loop-place.place c.in_ok-push.ensures.items c.loop-place.invariant
-    (got c.in_ok-end.field-0 c.in-Some.end (λ e. HasEndedIf g.J.Job.plays c.args.jobs.now c.args.desks.now.table.seats c.loop-place.place e) c.in-Some.is c.in_ok-end.ensures)
+    (got c.in_ok-end.field-0 c.in-Some.end (λ e. HasEndedIf g.J.Job.plays c.args.jobs.now c.args.desks.now.table c.loop-place.place e) c.in-Some.is c.in_ok-end.ensures)
 
 pub returns : goal.returns
 returns g c = (
