@@ -15,7 +15,7 @@ use Rattle.bac_recall.specs.declared.ports.RecallingPort.{RecallingPort}
 module _ {P : Type 0} (sends : P → List ℕ → List ℕ → Sending → P → Type 0) (receives : P → Receiving → P → Type 0) (peer request : List ℕ) where
   -- the same is left, and no answer is there
   abbrev Stays : RecallingPort P → RecallingPort P → Type 0
-  Stays old new = (new.left.items ≡ old.left.items) × (new.answer ≡ None)
+  Stays old new = (new.left ≡ old.left) × (new.answer ≡ None)
 
   given : (answer : Option Heard) (port new : P) (received : Receiving) → answer ≡ None → Gives receives answer port received new → receives port received new
   given None port new received none is = is
@@ -24,7 +24,7 @@ module _ {P : Type 0} (sends : P → List ℕ → List ℕ → Sending → P →
   same_on : (mid new : RecallingPort P) → mid.answer ≡ None → new ≡ mid → (new.port ≡ mid.port) × Stays mid new
   same_on mid new none same = (
     ap (λ (p : RecallingPort P). p.port) same,
-    (ap (λ (p : RecallingPort P). p.left.items) same, ap (λ (p : RecallingPort P). p.answer) same ∙ none),
+    (ap (λ (p : RecallingPort P). p.left) same, ap (λ (p : RecallingPort P). p.answer) same ∙ none),
   )
 
   -- ---- receives where no answer is there
@@ -70,7 +70,7 @@ module _ {P : Type 0} (sends : P → List ℕ → List ℕ → Sending → P →
       (Awaits receives peer request others next.port result new.port) clear (awaits_on others next new result clear) one in
       let below = subst (λ (p : P). IsTaken (fitting peer request (heard_from peer datagram)) p result new.port (Awaits receives peer request others p result new.port)) (there.1 ∙ port) took.0 in (
         datagram,
-        subst (λ (l : List Conversation). Recalls request peer old.left.items datagram l) (sym (took.1.0 ∙ left)) recalls,
+        subst (λ (l : List Conversation). Recalls request peer old.left datagram l) (sym (took.1.0 ∙ left)) recalls,
         λ fit. taken_as datagram old.port new.port result (Awaits receives peer request others old.port result new.port) true fit below,
         λ unfit. taken_as datagram old.port new.port result (Awaits receives peer request others old.port result new.port) false unfit below,
       )

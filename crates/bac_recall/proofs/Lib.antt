@@ -3,3 +3,4 @@ pub mod Held
 pub mod Nothing
 pub mod Once
 pub mod Runs
+pub mod Marks

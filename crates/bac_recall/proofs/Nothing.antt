@@ -29,7 +29,7 @@ module _ {P : Type 0} (sends : P → List ℕ → List ℕ → Sending → P →
 
   sent_below : (old new : RecallingPort P) (octets to : List ℕ) (sent : Sending) → HoldsNothing old → SendsRecalled sends old octets to sent new →
       sends old.port octets to sent new.port × HoldsNothing new
-  sent_below old new octets to sent (empty, none) (inl (datagram, recalls, answer, is, port)) = absurd (none_recalled octets to datagram old.left.items new.left.items empty recalls)
+  sent_below old new octets to sent (empty, none) (inl (datagram, recalls, answer, is, port)) = absurd (none_recalled octets to datagram old.left new.left empty recalls)
   sent_below old new octets to sent (empty, none) (inr (others, is, left, clear)) = (is, (left ∙ empty, clear))
 
   one_below : (e : Event) (old new : RecallingPort P) → HoldsNothing old → Over e old new → Happens sends receives within e old.port new.port × HoldsNothing new

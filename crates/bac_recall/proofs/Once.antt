@@ -24,7 +24,7 @@ one_fewer octets to datagram old new (front, one, rest, behind, before, none, ((
 module _ {P : Type 0} (sends : P → List ℕ → List ℕ → Sending → P → Type 0) where
   sent_once : (old new : RecallingPort P) (octets to : List ℕ) (sent : Sending) → SendsRecalled sends old octets to sent new → TakesOne old new ⊎ TakesNone old new
   sent_once old new octets to sent (inl (datagram, recalls, answer, is, port)) =
-      inl ((heard_from to datagram, answer), one_fewer octets to datagram old.left.items new.left.items recalls)
+      inl ((heard_from to datagram, answer), one_fewer octets to datagram old.left new.left recalls)
   sent_once old new octets to sent (inr (none, is, left, clear)) = inr (clear, left)
 
 pub once : {P : Type 0} (sends : P → List ℕ → List ℕ → Sending → P → Type 0) (receives : P → Receiving → P → Type 0) (within : P → ℕ → Receiving → P → Type 0) →

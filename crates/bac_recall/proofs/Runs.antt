@@ -14,7 +14,7 @@ one_more e (one ∷ es) all among = inr among
 
 module _ {P : Type 0} (sends : P → List ℕ → List ℕ → Sending → P → Type 0) (receives : P → Receiving → P → Type 0) (within : P → ℕ → Receiving → P → Type 0) where
   abbrev held : RecallingPort P → ℕ
-  held port = outcomes_left port.left.items
+  held port = outcomes_left port.left
 
   -- what of these events is done below
   abbrev Below : List Event → RecallingPort P → RecallingPort P → Type 0
@@ -41,7 +41,7 @@ module _ {P : Type 0} (sends : P → List ℕ → List ℕ → Sending → P →
   sent_below : (octets to : List ℕ) (sent : Sending) (es : List Event) (old mid new : RecallingPort P) → SendsRecalled sends old octets to sent mid →
       Below es mid new → Below (Sent octets to sent ∷ es) old new
   sent_below octets to sent es old mid new (inl (datagram, recalls, answer, is, port)) rest =
-      let fewer : held old ≡ held mid + 1 = one_fewer octets to datagram old.left.items mid.left.items recalls in
+      let fewer : held old ≡ held mid + 1 = one_fewer octets to datagram old.left mid.left recalls in
       skipped (Sent octets to sent) es old mid new port (omega (arith, fewer)) rest
   sent_below octets to sent es old mid new (inr (none, is, left, clear)) rest = done (Sent octets to sent) es old mid new is (ap outcomes_left left) rest
 

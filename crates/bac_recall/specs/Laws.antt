@@ -16,7 +16,7 @@ use Rattle.bac_recall.specs.declared.ports.RecallingPort.{RecallingPort}
 abbrev pub IsRecalledAs : {P : Type 0} → (P → Receiving → P → Type 0) → List ℕ → List ℕ → ℕ →
     RecallingPort P → Result (List ℕ) Lost → RecallingPort P → Type 0
 IsRecalledAs receives peer request others old result new =
-    (datagram : List ℕ) × Recalls request peer old.left.items datagram new.left.items
+    (datagram : List ℕ) × Recalls request peer old.left datagram new.left
     × (answers_to request datagram ≡ true → (result ≡ Ok datagram) × (new.port ≡ old.port))
     × (answers_to request datagram ≡ false → Awaits receives peer request others old.port result new.port)
 
@@ -25,8 +25,8 @@ abbrev pub IsAskedBelow : {P : Type 0} → (P → List ℕ → List ℕ → Send
     (P → Receiving → P → Type 0) → List ℕ → List ℕ → ℕ →
     RecallingPort P → Result (List ℕ) Lost → RecallingPort P → Type 0
 IsAskedBelow sends receives peer request limit old result new =
-    NoneAnswers request peer old.left.items × Asks sends receives peer request limit old.port result new.port
-    × (new.left.items ≡ old.left.items)
+    NoneAnswers request peer old.left × Asks sends receives peer request limit old.port result new.port
+    × (new.left ≡ old.left)
 
 -- each ask over a port is one of the two
 abbrev pub AsksAreRecalledOrBelow : {P : Type 0} →
@@ -48,11 +48,11 @@ outcomes_left left = sum_by (λ one. length one.outcomes.items) left
 -- an answer is there, and one outcome fewer
 abbrev pub TakesOne : {P : Type 0} → RecallingPort P → RecallingPort P → Type 0
 TakesOne old new =
-    ((heard : Heard) × (new.answer ≡ Some heard)) × (outcomes_left old.left.items ≡ outcomes_left new.left.items + 1)
+    ((heard : Heard) × (new.answer ≡ Some heard)) × (outcomes_left old.left ≡ outcomes_left new.left + 1)
 
 -- no answer is there, and all outcomes are
 abbrev pub TakesNone : {P : Type 0} → RecallingPort P → RecallingPort P → Type 0
-TakesNone old new = (new.answer ≡ None) × (new.left.items ≡ old.left.items)
+TakesNone old new = (new.answer ≡ None) × (new.left ≡ old.left)
 
 -- a send takes one outcome or none, and a receive none
 abbrev pub NothingIsRecalledTwice : {P : Type 0} →
@@ -91,13 +91,13 @@ SendsAreRecalledOrBelow {P = P} sends receives within sends_below receives_below
     (es : List Event) (old new : RecallingPort P) → Happen sends receives within es old new →
     (below : List Event) × AreAmong below es
     × Happen sends_below receives_below within_below below old.port new.port
-    × (sends_in es + outcomes_left new.left.items ≡ sends_in below + outcomes_left old.left.items)
+    × (sends_in es + outcomes_left new.left ≡ sends_in below + outcomes_left old.left)
 
 -- ---- nothing is held
 
 -- there is nothing to answer from
 abbrev pub HoldsNothing : {P : Type 0} → RecallingPort P → Type 0
-HoldsNothing port = (port.left.items ≡ []) × (port.answer ≡ None)
+HoldsNothing port = (port.left ≡ []) × (port.answer ≡ None)
 
 -- all that is done over a port that holds nothing is done over the port below, and it holds nothing then
 abbrev pub NothingHeldIsBelow : {P : Type 0} →

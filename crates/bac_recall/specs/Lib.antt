@@ -1,2 +1,3 @@
 pub mod Recall
 pub mod Laws
+pub mod Left

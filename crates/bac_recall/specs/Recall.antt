@@ -63,15 +63,15 @@ heard_from to datagram = record { from = to; datagram = Some datagram }
 -- A conversation has an answer to what is sent: it is there, and nothing is sent below.
 abbrev pub IsRecalled : {P : Type 0} → RecallingPort P → List ℕ → List ℕ → Sending → RecallingPort P → Type 0
 IsRecalled old octets to sent new =
-    (datagram : List ℕ) × Recalls octets to old.left.items datagram new.left.items
+    (datagram : List ℕ) × Recalls octets to old.left datagram new.left
     × (new.answer ≡ Some (heard_from to datagram)) × (sent ≡ Ok tt) × (new.port ≡ old.port)
 
 -- No conversation has one: it is sent over the port below.
 abbrev pub IsPassedOn : {P : Type 0} → (P → List ℕ → List ℕ → Sending → P → Type 0) →
     RecallingPort P → List ℕ → List ℕ → Sending → RecallingPort P → Type 0
 IsPassedOn sends old octets to sent new =
-    NoneAnswers octets to old.left.items × sends old.port octets to sent new.port
-    × (new.left.items ≡ old.left.items) × (new.answer ≡ None)
+    NoneAnswers octets to old.left × sends old.port octets to sent new.port
+    × (new.left ≡ old.left) × (new.answer ≡ None)
 
 -- what is sent over a port that answers from conversations first
 abbrev pub SendsRecalled : {P : Type 0} → (P → List ℕ → List ℕ → Sending → P → Type 0) →
@@ -89,11 +89,11 @@ abbrev pub ReceivesRecalled : {P : Type 0} → (P → Receiving → P → Type 0
     RecallingPort P → Receiving → RecallingPort P → Type 0
 ReceivesRecalled receives old received new =
     Gives receives old.answer old.port received new.port
-    × (new.left.items ≡ old.left.items) × (new.answer ≡ None)
+    × (new.left ≡ old.left) × (new.answer ≡ None)
 
 -- ---- sockets
 
 -- a port that was opened has all that the sockets held; where none was opened they hold it on
 abbrev pub HandsOn : {P : Type 0} → List Conversation → Opening (RecallingPort P) → List Conversation → Type 0
-HandsOn held (Ok port) left = (port.left.items ≡ held) × (port.answer ≡ None) × (left ≡ [])
+HandsOn held (Ok port) left = (port.left ≡ held) × (port.answer ≡ None) × (left ≡ [])
 HandsOn held (Err fault) left = left ≡ held

@@ -1,8 +1,8 @@
 //! What came to the questions of devices.
 
 ghost use Rattle.std.specs.Prelude.{◌≡◌, IfNone, IfSome, drop, false, true};
-ghost use Rattle.bac_recall.specs.Recall.{GoesOn, HasAnswer, HasNext, HasNoAnswer, IsFirst};
-ghost use Rattle.bac_recall.specs.Recall.{IsOther, NoneAnswers, Recalls, WasAsked, asked_so};
+ghost use Rattle.bac_recall.specs.Recall.{GoesOn, HasAnswer, HasNext, HasNoAnswer, IsOther};
+ghost use Rattle.bac_recall.specs.Recall.{WasAsked, asked_so};
 
 use bac_play::Outcome;
 use bac_wire::Datagram;
@@ -46,7 +46,7 @@ fn answer_in(outcome: &Outcome, octets: &[u8]) -> Option<Datagram>
 impl Conversation {
     /// Whether the next outcome is an answer to these octets of this device. What differs most from
     /// device to device is looked at first: the last octet of the host, and that of the port.
-    fn is_next(&self, octets: &[u8], to: [u8; 6]) -> bool
+    pub(crate) fn is_next(&self, octets: &[u8], to: [u8; 6]) -> bool
         ensures yes { result ≡ true → HasAnswer octets.now to self.now }
         ensures no { result ≡ false → HasNoAnswer octets.now to self.now }
     {
@@ -75,7 +75,7 @@ impl Conversation {
     }
 
     /// Takes off the next outcome, if it is an answer to these octets of this device.
-    fn recall(&mut self, octets: &[u8], to: [u8; 6]) -> Option<Datagram>
+    pub(crate) fn recall(&mut self, octets: &[u8], to: [u8; 6]) -> Option<Datagram>
         ensures some { IfSome result (λ datagram. GoesOn octets.now to self.old datagram self.new) }
         ensures none { IfNone result (HasNoAnswer octets.now to self.old) }
         ensures same { IfNone result (self.new ≡ self.old) }
@@ -84,29 +84,4 @@ impl Conversation {
         self.outcomes.remove(0);
         Some(datagram)
     }
-}
-
-/// Where the first conversation is whose next outcome is an answer to these octets of this device.
-/// No datagram is made on the way.
-fn place_of(left: &[Conversation], octets: &[u8], to: [u8; 6]) -> Option<usize>
-    ensures some { IfSome result (λ place. IsFirst octets.now to left.now place) }
-    ensures none { IfNone result (NoneAnswers octets.now to left.now) }
-{
-    for place in 0..left.len() {
-        if left[place].is_next(octets, to) {
-            return Some(place);
-        }
-    }
-    None
-}
-
-/// Takes off the next outcome of the first conversation where it is an answer to these octets of
-/// this device.
-pub(crate) fn recall(left: &mut [Conversation], octets: &[u8], to: [u8; 6]) -> Option<Datagram>
-    ensures some { IfSome result (λ datagram. Recalls octets.now to left.old datagram left.new) }
-    ensures none { IfNone result (NoneAnswers octets.now to left.old) }
-    ensures same { IfNone result (left.new ≡ left.old) }
-{
-    let place = place_of(left, octets, to)?;
-    left[place].recall(octets, to)
 }

@@ -10,6 +10,7 @@
 
 mod conversations;
 mod laws;
+mod left;
 mod ports;
 mod sockets;
 

@@ -3,22 +3,22 @@
 ghost use Rattle.std.specs.Prelude.{◌≡◌, None};
 ghost use Rattle.bac_recall.specs.Recall.{ReceivesRecalled, SendsRecalled};
 
-use crate::conversations::{Conversation, recall};
+use crate::left::Left;
 use bac_ports::{Heard, Port, SocketFault};
 
 /// A port, the conversations that are left, and the answer that the last send brought.
 #[derive(Drop)]
 pub struct RecallingPort<P> {
     pub(crate) port: P,
-    pub(crate) left: Vec<Conversation>,
+    pub(crate) left: Left,
     answer: Option<Heard>,
 }
 
 impl<P> RecallingPort<P> {
     /// This port, which answers from these conversations.
-    pub(crate) fn new(port: P, left: Vec<Conversation>) -> RecallingPort<P>
+    pub(crate) fn new(port: P, left: Left) -> RecallingPort<P>
         ensures port { result.port ≡ port }
-        ensures left { result.left.items ≡ left.items }
+        ensures left { result.left ≡ left }
         ensures answer { result.answer ≡ None }
     {
         RecallingPort {
@@ -41,7 +41,7 @@ impl<P: Port> Port for RecallingPort<P> {
         ReceivesRecalled (λ a received b. P.receives_within a wait received b) old heard new };
 
     fn send(&mut self, octets: &[u8], to: [u8; 6]) -> Result<(), SocketFault> {
-        match recall(self.left.as_mut_slice(), octets, to) {
+        match self.left.recall(octets, to) {
             Some(datagram) => {
                 self.answer = Some(Heard {
                     from: to,

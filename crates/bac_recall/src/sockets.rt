@@ -6,6 +6,7 @@ ghost use Rattle.bac_recall.specs.Recall.{HandsOn};
 ghost use Rattle.bac_recall.specs.declared.conversations.Conversation.{Conversation as One};
 
 use crate::conversations::Conversation;
+use crate::left::Left;
 use crate::ports::RecallingPort;
 use bac_heeding::{Heeds, Passed};
 use bac_ports::{OpenFault, Sockets};
@@ -30,19 +31,19 @@ pub trait Recalls: Heeds {
 pub struct Recalling<S> {
     alloc: Global,
     sockets: S,
-    left: Vec<Conversation>,
+    left: Left,
 }
 
 impl<S: Sockets> Recalling<S> {
     /// These sockets, which were told nothing yet.
     pub fn new(alloc: Global, sockets: S) -> Recalling<S>
         ensures sockets { result.sockets ≡ sockets }
-        ensures left { result.left.items ≡ [] }
+        ensures left { result.left ≡ [] }
     {
         Recalling {
             alloc,
             sockets,
-            left: Vec::new(alloc),
+            left: Left::none(alloc),
         }
     }
 }
@@ -53,11 +54,11 @@ impl<S: Sockets> Sockets for Recalling<S> {
     // What the sockets below open, with all that these held; where they refuse, it stays held.
     ghost opens = { λ old local wait answer new. S.opens old.sockets local wait
         (result_map (λ recalling. recalling.port) answer) new.sockets
-        × HandsOn old.left.items answer new.left.items };
+        × HandsOn old.left answer new.left };
 
     // What the port has left is held from now on.
     ghost closes = { λ old recalling new. S.closes old.sockets recalling.port new.sockets
-        × (new.left.items ≡ recalling.left.items) };
+        × (new.left ≡ recalling.left) };
 
     fn open(
         &mut self,
@@ -66,7 +67,7 @@ impl<S: Sockets> Sockets for Recalling<S> {
     ) -> Result<RecallingPort<S::Socket>, OpenFault> {
         match self.sockets.open(local, wait_ms) {
             Ok(port) => {
-                let left = mem::replace(&mut self.left, Vec::new(self.alloc));
+                let left = mem::replace(&mut self.left, Left::none(self.alloc));
                 Ok(RecallingPort::new(port, left))
             }
             Err(fault) => Err(fault),
@@ -90,7 +91,7 @@ impl<S: Heeds> Heeds for Recalling<S> {
 impl<S: Tracing> Tracing for Recalling<S> {
     // The sockets below are switched: what is recalled isn't sent, and isn't told.
     ghost traces = { λ old on new. S.traces old.sockets on new.sockets
-        × (new.left.items ≡ old.left.items) };
+        × (new.left ≡ old.left) };
 
     fn trace(&mut self, on: bool) {
         self.sockets.trace(on);
@@ -99,9 +100,9 @@ impl<S: Tracing> Tracing for Recalling<S> {
 
 impl<S: Heeds> Recalls for Recalling<S> {
     ghost holds = { λ old conversations new. (new.sockets ≡ old.sockets)
-        × (new.left.items ≡ conversations) };
+        × (new.left ≡ conversations) };
 
     fn hold(&mut self, conversations: Vec<Conversation>) {
-        self.left = conversations;
+        self.left = Left::of(self.alloc, conversations);
     }
 }
