@@ -6,3 +6,5 @@ pub mod JoinLemmas
 pub mod AskedLemmas
 pub mod CheckedLemmas
 pub mod WholeLemmas
+pub mod MissingLemmas
+pub mod CountLemmas

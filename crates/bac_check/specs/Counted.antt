@@ -1,5 +1,5 @@
 -- What is counted of an archive, part by part.
-use Rattle.std.specs.Prelude.{◌≡◌, ◌==◌, ◌&&◌, ℕ, Bool, if◌then◌else◌, List, [], ◌∷◌, ◌++◌, None, Some, fold}
+use Rattle.std.specs.Prelude.{◌≡◌, ◌==◌, ◌&&◌, ◌+◌, ◌*◌, ◌<◌, ℕ, Bool, if◌then◌else◌, List, [], ◌∷◌, ◌++◌, None, Some, fold}
 use Rattle.std.specs.List.{list_any}
 use Rattle.sqlite_trees.specs.Tree.{Trees}
 use Rattle.bac_archive.specs.Beginnings.{AreBeginnings}
@@ -26,6 +26,14 @@ is_epoch log epoch course = course.log == log && course.epoch == epoch
 -- these epochs, and one that has begun, if it isn't among them
 abbrev pub with_begun : List Course → Beginning → List Course
 with_begun courses b = if list_any (is_epoch b.log b.epoch) courses then courses else courses ++ course_of b ∷ []
+
+-- where an epoch stands in the order of logs and their epochs
+abbrev pub rank : ℕ → ℕ → ℕ
+rank log epoch = 65536 * log + epoch
+
+-- an epoch stands before a rank
+abbrev pub IsBefore : ℕ → Course → Type 0
+IsBefore above course = rank course.log course.epoch < above
 
 -- The rows of one more part are counted.
 pub record CountsRows (part : Trees) (old new : Counts) : Type 0 where

@@ -7,7 +7,7 @@ use Rattle.bac_archive.specs.declared.trend_logs.Log.{Log}
 use Rattle.bac_asked.specs.Lines.{source_text}
 use Rattle.bac_print.specs.Output.{AppendsPart, Held}
 use Rattle.bac_check.specs.Counted.{IsCountOf}
-use Rattle.bac_check.specs.Lines.{hole_line, holes_of}
+use Rattle.bac_check.specs.Lines.{hole_line, holes_of, is_none_of}
 use Rattle.bac_check.specs.declared.counts.Counts.{Counts}
 use Rattle.bac_check.specs.declared.course.Course.{Course}
 use Rattle.bac_check.specs.declared.tally.Hole.{Hole}
@@ -41,10 +41,18 @@ abbrev pub missing_if : List ℕ → List ℕ → Bool → List Course → ℕ �
 missing_if path name follows courses log course =
     if course.log == log then missing_in path name follows courses course else []
 
--- those of the epochs of a log, in their order
+-- those of the epochs of a log that are among these few, in their order
+abbrev pub missing_among : List ℕ → Bool → List Course → List Course → Log → List ℕ
+missing_among path follows courses few log =
+    flat_map (missing_if path (source_text log.source) follows courses log.id) few
+
+-- those of all epochs of a log
 abbrev pub missing_of : List ℕ → Bool → List Course → Log → List ℕ
-missing_of path follows courses log =
-    flat_map (missing_if path (source_text log.source) follows courses log.id) courses
+missing_of path follows courses log = missing_among path follows courses courses log
+
+-- numbers may be missing in an epoch: between its rows, or from its beginning on
+abbrev pub lacks : Course → Bool
+lacks course = not (is_none_of (holes_of course.from course.tally))
 
 -- those of each log, in their order
 abbrev pub missing_text : List ℕ → Bool → Counts → List ℕ

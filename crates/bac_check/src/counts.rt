@@ -1,13 +1,13 @@
 //! What is counted of an archive, part by part.
 
 ghost use Rattle.std.specs.Prelude.{◌≡◌, IfOk, OnErr, OnOk, fold};
-ghost use Rattle.std.specs.List.{list_any};
+ghost use Rattle.std.specs.List.{All, list_any};
 ghost use Rattle.sqlite.specs.State.{HasCleanDisk, IsUnchanged};
 ghost use Rattle.sqlite.specs.Held.{state};
 ghost use Rattle.bac_archive.specs.Schema.{OverArchive};
 ghost use Rattle.bac_check.specs.Asked.{IsAsLeft};
-ghost use Rattle.bac_check.specs.Counted.{CountsPart, CountsRows, IsCountOf, IsEmpty};
-ghost use Rattle.bac_check.specs.Counted.{course_of, is_epoch, with_begun};
+ghost use Rattle.bac_check.specs.Counted.{CountsPart, CountsRows, IsBefore, IsCountOf, IsEmpty};
+ghost use Rattle.bac_check.specs.Counted.{course_of, is_epoch, rank, with_begun};
 
 use crate::course::{Course, count_each};
 use crate::joins::are_joined;
@@ -51,23 +51,47 @@ fn has_epoch(courses: &[Course], log: u16, epoch: u16) -> bool
     courses.iter().any(|course| is_epoch(course, log, epoch))
 }
 
-/// Adds an epoch that has begun, if it isn't there.
-fn add_epoch(courses: &mut Vec<Course>, begun: &Beginning) -> Result<(), AllocError>
-    ensures { OnOk result (courses.new.items ≡ with_begun courses.old.items begun.now) }
+/// Where an epoch stands in the order of logs and their epochs.
+fn rank(log: u16, epoch: u16) -> u64
+    ensures { result ≡ rank log epoch }
 {
-    if has_epoch(courses.as_slice(), begun.log, begun.epoch) {
-        return Ok(());
+    65_536 * u64::from(log) + u64::from(epoch)
+}
+
+/// A rank that each of these stands before.
+fn above(courses: &[Course]) -> u64
+    ensures { All (IsBefore result) courses.now }
+{
+    let mut above = 0u64;
+    for course in courses {
+        above = above.max(rank(course.log, course.epoch) + 1);
+    }
+    above
+}
+
+/// Adds an epoch that has begun, if it isn't there: a rank that each stands before then, if each
+/// stood before this one. Epochs mostly come in their order, so few are looked for.
+fn add_epoch(courses: &mut Vec<Course>, above: u64, begun: &Beginning) -> Result<u64, AllocError>
+    ensures added { All (IsBefore above) courses.old.items
+        → OnOk result (courses.new.items ≡ with_begun courses.old.items begun.now) }
+    ensures above { All (IsBefore above) courses.old.items
+        → IfOk result (λ next. All (IsBefore next) courses.new.items) }
+{
+    let rank = rank(begun.log, begun.epoch);
+    if rank < above && has_epoch(courses.as_slice(), begun.log, begun.epoch) {
+        return Ok(above);
     }
     courses.push(course_of(begun))?;
-    Ok(())
+    Ok(above.max(rank + 1))
 }
 
 /// Adds each of them that isn't there.
 fn add_epochs(courses: &mut Vec<Course>, all: &[Beginning]) -> Result<(), AllocError>
     ensures { OnOk result (courses.new.items ≡ fold with_begun courses.old.items all.now) }
 {
+    let mut above = above(courses.as_slice());
     for begun in all {
-        add_epoch(courses, begun)?;
+        above = add_epoch(courses, above, begun)?;
     }
     Ok(())
 }

@@ -1,13 +1,14 @@
 //! The numbers that are missing in an archive, each stretch of them in a line.
 
-ghost use Rattle.std.specs.Prelude.{◌≡◌, ◌++◌, OnErr, OnOk, flat_map};
+ghost use Rattle.std.specs.Prelude.{◌≡◌, ◌++◌, IfOk, OnErr, OnOk, filter, flat_map, map};
 ghost use Rattle.std.specs.List.{list_any};
 ghost use Rattle.sqlite.specs.State.{HasCleanDisk, IsUnchanged};
 ghost use Rattle.sqlite.specs.Held.{state};
 ghost use Rattle.bac_archive.specs.Schema.{OverArchive};
 ghost use Rattle.bac_check.specs.Asked.{IsAsLeft};
-ghost use Rattle.bac_check.specs.Missing.{TellsMissing, from_in, hole_head, is_before, missing_if};
-ghost use Rattle.bac_check.specs.Missing.{missing_in, missing_of, missing_text, told_hole};
+ghost use Rattle.bac_check.specs.Missing.{TellsMissing, from_in, hole_head, is_before, lacks};
+ghost use Rattle.bac_check.specs.Missing.{missing_among, missing_if, missing_in, missing_text};
+ghost use Rattle.bac_check.specs.Missing.{told_hole};
 ghost use Rattle.bac_print.specs.Output.{AppendsPart};
 
 use crate::counts::{Counts, count_archive};
@@ -44,6 +45,29 @@ fn from_in(follows: bool, courses: &[Course], course: &Course) -> Option<u32>
         return None;
     }
     course.from
+}
+
+/// Whether numbers may be missing in an epoch: between its rows, or from its beginning on.
+fn lacks(course: &Course) -> bool
+    ensures { result ≡ lacks course.now }
+{
+    let Some(tally) = &course.tally else {
+        return false;
+    };
+    front_hole(course.from, tally.first).is_some() || !tally.holes.is_empty()
+}
+
+/// Those of these epochs in which numbers may be missing: seldom any.
+fn lacking(alloc: Global, courses: &[Course]) -> Result<Vec<&Course>, AllocError>
+    ensures { IfOk result (λ few. map (λ c. c.now) few.items ≡ filter lacks courses.now) }
+{
+    let mut few = Vec::new(alloc);
+    for course in courses {
+        if lacks(course) {
+            few.push(course)?;
+        }
+    }
+    Ok(few)
 }
 
 /// Appends what stands before each hole of an epoch.
@@ -122,7 +146,7 @@ fn push_if(
     Ok(())
 }
 
-/// Those of the epochs of a log, whose name this is.
+/// Those of these few epochs that are of a log, whose name this is.
 fn push_epochs(
     alloc: Global,
     text: &mut Vec<u8>,
@@ -130,32 +154,43 @@ fn push_epochs(
     name: &[u8],
     follows: bool,
     courses: &[Course],
+    few: &[&Course],
     log: u16,
 ) -> Result<(), AllocError>
     ensures { OnOk result (text.new.items ≡ text.old.items
-        ++ flat_map (missing_if path.now name.now follows courses.now log) courses.now) }
+        ++ flat_map (λ c. missing_if path.now name.now follows courses.now log c.now) few.now) }
 {
-    for course in courses {
+    for course in few {
         push_if(alloc, text, path, name, follows, courses, log, course)?;
     }
     Ok(())
 }
 
-/// Those of a log.
+/// Those of a log, which are among a few of all.
 fn push_of(
     alloc: Global,
     text: &mut Vec<u8>,
     path: &[u8],
     follows: bool,
     courses: &[Course],
+    few: &[&Course],
     log: &Log,
 ) -> Result<(), AllocError>
-    ensures { OnOk result (text.new.items
-        ≡ text.old.items ++ missing_of path.now follows courses.now log.now) }
+    ensures { OnOk result (text.new.items ≡ text.old.items
+        ++ missing_among path.now follows courses.now (map (λ c. c.now) few.now) log.now) }
 {
     let mut name = Vec::new(alloc);
     push_source(&mut name, &log.source)?;
-    push_epochs(alloc, text, path, name.as_slice(), follows, courses, log.id)
+    push_epochs(
+        alloc,
+        text,
+        path,
+        name.as_slice(),
+        follows,
+        courses,
+        few,
+        log.id,
+    )
 }
 
 /// Those of each log.
@@ -169,9 +204,11 @@ fn push_missing(
     ensures { OnOk result
         (text.new.items ≡ text.old.items ++ missing_text path.now follows counts.now) }
 {
+    let courses = counts.courses.as_slice();
+    let few = lacking(alloc, courses)?;
     let logs = counts.logs.as_slice();
     for log in logs {
-        push_of(alloc, text, path, follows, counts.courses.as_slice(), log)?;
+        push_of(alloc, text, path, follows, courses, few.as_slice(), log)?;
     }
     Ok(())
 }
