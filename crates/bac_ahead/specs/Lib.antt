@@ -1,3 +1,4 @@
 pub mod Ahead
 pub mod Rounds
 pub mod Laws
+pub mod Marks

@@ -4,6 +4,7 @@ ghost use Rattle.std.specs.Prelude.{◌≡◌, ◌∷◌, ◌++◌, [], IfOk, On
 ghost use Rattle.std.specs.List.{list_any};
 ghost use Rattle.bac_questions.specs.Silent.{is_same_device};
 ghost use Rattle.bac_ahead.specs.Ahead.{has_lost};
+ghost use Rattle.bac_ahead.specs.Marks.{mark_of, marks_of};
 ghost use Rattle.bac_ahead.specs.Rounds.{is_among, left_of, parts_of, peers_of, put_in};
 
 use crate::opening::{Opened, Opening};
@@ -28,13 +29,35 @@ fn is_last(firsts: &[Opening], one: &Opening) -> bool
     }
 }
 
-/// Whether a log is of the device of one of these. The last is looked at first, since the logs of
-/// a device lie beside each other.
-fn is_among(firsts: &[Opening], one: &Opening) -> bool
-    ensures { result ≡ is_among firsts.now one.now }
+/// The characters of an address that differ most, as a number: the last five of the port, and the
+/// last three of the host before a port of five digits.
+fn mark_of(address: &[u8]) -> u64
+    ensures { result ≡ mark_of address.now }
+{
+    let len = address.len();
+    if len < 9 {
+        return 0;
+    }
+    u64::from(address[len - 1])
+        + 0x100 * u64::from(address[len - 2])
+        + 0x1_0000 * u64::from(address[len - 3])
+        + 0x100_0000 * u64::from(address[len - 4])
+        + 0x1_0000_0000 * u64::from(address[len - 5])
+        + 0x100_0000_0000 * u64::from(address[len - 7])
+        + 0x1_0000_0000_0000 * u64::from(address[len - 8])
+        + 0x100_0000_0000_0000 * u64::from(address[len - 9])
+}
+
+/// Whether a log is of the device of one of these, which have these marks. The last is looked at
+/// first, since the logs of a device lie beside each other; and all only where one has its mark.
+fn is_among(firsts: &[Opening], marks: &[u64], one: &Opening) -> bool
+    ensures { marks.now ≡ marks_of firsts.now → result ≡ is_among firsts.now one.now }
 {
     if is_last(firsts, one) {
         return true;
+    }
+    if !marks.contains(&mark_of(one.source.address.as_bytes())) {
+        return false;
     }
     for first in firsts {
         if is_same_device(&first.source, &one.source) {
@@ -45,20 +68,23 @@ fn is_among(firsts: &[Opening], one: &Opening) -> bool
 }
 
 impl Split {
-    /// One log more.
-    fn put(&mut self, one: Opening) -> Result<(), AllocError>
-        ensures { OnOk result ((record {
+    /// One log more. The first ones have these marks.
+    fn put(&mut self, marks: &mut Vec<u64>, one: Opening) -> Result<(), AllocError>
+        ensures parts { marks.old.items ≡ marks_of self.old.firsts.items → OnOk result ((record {
           firsts = self.new.firsts.items;
           rest = self.new.rest.items;
         }) ≡ put_in (record {
           firsts = self.old.firsts.items;
           rest = self.old.rest.items;
         }) one) }
+        ensures marks { marks.old.items ≡ marks_of self.old.firsts.items
+            → OnOk result (marks.new.items ≡ marks_of self.new.firsts.items) }
     {
-        if is_among(self.firsts.as_slice(), &one) {
+        if is_among(self.firsts.as_slice(), marks.as_slice(), &one) {
             self.rest.push(one)?;
             return Ok(());
         }
+        marks.push(mark_of(one.source.address.as_bytes()))?;
         self.firsts.push(one)?;
         Ok(())
     }
@@ -74,8 +100,9 @@ impl Split {
             firsts: Vec::new(alloc),
             rest: Vec::new(alloc),
         };
+        let mut marks = Vec::new(alloc);
         for one in all {
-            split.put(one)?;
+            split.put(&mut marks, one)?;
         }
         Ok(split)
     }

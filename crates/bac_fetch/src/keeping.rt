@@ -35,7 +35,7 @@ use bac_asked::{FileFault, NotDone, Options, Wanted, add_wanted, kept_log};
 use bac_desks::Clock;
 use bac_heeding::Heeds;
 use bac_ports::Sockets;
-use bac_questions::Heard;
+use bac_questions::{Heard, asked_beside};
 use bac_recall::Recalls;
 use sqlite::{Alter, Connection};
 use std::alloc::Global;
@@ -48,6 +48,33 @@ pub enum Chosen {
     Kept,
     /// Those of these devices.
     Sought(Vec<Sought>),
+}
+
+/// How a log of a file is asked for, behind others: as the one before it, if that is of the same
+/// device, or by the words of its own. So words are read once for each device.
+fn kept_beside(
+    alloc: Global,
+    all: &[Wanted],
+    log: Log,
+    options: &Options<'_>,
+) -> Result<Wanted, NotDone>
+    ensures source { IfOk result (λ wanted. wanted.source ≡ log.source) }
+    ensures asks { All AsksItsSource all.now → IfOk result AsksItsSource }
+    ensures fault { IfErr result (λ fault. WantsMemory fault
+        ⊎ ((fault ≡ NotDone.File FileFault.Address)
+        × HasNoAddress (given_in options.now) log.source)) }
+{
+    let Some(last) = all.last() else {
+        return kept_log(alloc, log, options);
+    };
+    match asked_beside(last, &log.source)? {
+        Some(asking) => Ok(Wanted {
+            source: log.source,
+            name: None,
+            asking,
+        }),
+        None => kept_log(alloc, log, options),
+    }
 }
 
 /// Puts a log of a file behind others as it is asked for, unless it is stopped.
@@ -68,7 +95,8 @@ fn add_kept(
     if log.stopped {
         return Ok(());
     }
-    add_wanted(all, kept_log(alloc, log, options)?)?;
+    let wanted = kept_beside(alloc, all.as_slice(), log, options)?;
+    add_wanted(all, wanted)?;
     Ok(())
 }
 

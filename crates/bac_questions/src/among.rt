@@ -10,9 +10,9 @@ use bac_asked::{Ending, Fault, NotDone};
 use bac_walk::{WalkFault, Why};
 use std::alloc::Global;
 
-/// Whether two addresses may be the same, by their lengths and by the two digits that differ most:
-/// the last one of the port, and that before the colon of a port of five digits. Most aren't, and a
-/// run over many devices compares each with all.
+/// Whether two addresses may be the same, by their lengths and by the digits that differ most: the
+/// last three of the port, and the last three of the host before a port of five digits. Most
+/// aren't, and a run over many devices compares each with all.
 fn may_be_same(one: &[u8], other: &[u8]) -> bool
     ensures { one.now ≡ other.now → result ≡ true }
 {
@@ -20,10 +20,15 @@ fn may_be_same(one: &[u8], other: &[u8]) -> bool
     if len != other.len() {
         return false;
     }
-    if len < 7 {
+    if len < 9 {
         return true;
     }
-    one[len - 1] == other[len - 1] && one[len - 7] == other[len - 7]
+    one[len - 1] == other[len - 1]
+        && one[len - 7] == other[len - 7]
+        && one[len - 2] == other[len - 2]
+        && one[len - 8] == other[len - 8]
+        && one[len - 3] == other[len - 3]
+        && one[len - 9] == other[len - 9]
 }
 
 /// Whether two logs are of one device.

@@ -1,6 +1,7 @@
 //! The trend logs in a device's Object_List.
 
-ghost use Rattle.std.specs.Prelude.{◌≡◌, ◌⊎◌, Some, IfErr, IfOk, OnOk};
+ghost use Rattle.std.specs.Prelude.{◌≡◌, ◌<◌, ◌⊎◌, true, Some, IfErr, IfNone, IfOk, IfSome};
+ghost use Rattle.std.specs.Prelude.{OnOk};
 ghost use Rattle.std.specs.List.{All};
 ghost use Rattle.bac_link.specs.Path.{towards};
 ghost use Rattle.bac_asked.specs.Faults.{WantsMemory};
@@ -10,11 +11,14 @@ ghost use Rattle.bac_questions.specs.Discovered.{name_of};
 ghost use Rattle.bac_questions.specs.Faults.{EndsFinding};
 ghost use Rattle.bac_questions.specs.Unfound.{FailsToFind, LacksNumber, LacksObject, LacksPlace};
 ghost use Rattle.bac_ports.specs.Sockets.{socket_rules};
-ghost use Rattle.bac_asked.specs.Wanted.{AsksItsSource, IsAskedAs};
+ghost use Rattle.bac_asked.specs.Wanted.{AsksItsSource, IsAskedAs, IsSourceOf};
+ghost use Rattle.bac_questions.specs.Silent.{is_same_device};
 
+use crate::among::is_same_device;
 use crate::connecting::connect;
 use crate::questions::{object_in, read, read_number, text_in};
 use bac_apdu::object_type::TREND_LOG;
+use bac_archive::Source;
 use bac_asked::{Asking, Fault, NotDone, Wanted, add_wanted, source_of};
 use bac_link::{ExchangeFault, LogLink, Transactions};
 use bac_ports::Sockets;
@@ -179,6 +183,25 @@ pub fn asked_like(like: &Asking, instance: u32) -> Result<Asking, NotDone>
         steps: like.steps,
         count: like.count,
     })
+}
+
+/// How a log is asked for whose device is that of another log: as that one is. Nothing if it is of
+/// another device, or no object has its instance.
+pub fn asked_beside(other: &Wanted, source: &Source) -> Result<Option<Asking>, NotDone>
+    ensures alike { IfOk result (λ found. IfSome found (IsAskedAs other.now.asking)) }
+    ensures asks { IfOk result (λ found. IfSome found (λ asking. AsksItsSource other.now
+        → IsSourceOf asking.asked asking.instance source.now)) }
+    ensures none { IfOk result (λ found. IfNone found
+        (is_same_device other.now.source source.now ≡ true → 4194303 < source.now.instance)) }
+    ensures fault { IfErr result WantsMemory }
+{
+    if ObjectId::new(TREND_LOG, source.instance).is_none() {
+        return Ok(None);
+    }
+    if !is_same_device(&other.source, source) {
+        return Ok(None);
+    }
+    Ok(Some(asked_like(&other.asking, source.instance)?))
 }
 
 /// A log of the device.
