@@ -41,8 +41,8 @@ loop-done-init g c =
       so_far = ([], 0, 0, t, link, c.args.walk, c.args.ahead.now.said_more, subst B c.requires.unsaid none, subst P (sym c.requires.none) none, omega arith, omega arith, c.next_number-told.ensures.next, laid_none y old);
     }
 
-pub returns-in-Err-Memory-clause-printed : goal.returns-in-Err-Memory-clause-printed
-returns-in-Err-Memory-clause-printed g c =
+pub returns-in-Err-Memory : goal.returns-in-Err-Memory
+returns-in-Err-Memory g c =
     let asks : Asking (UdpLink g.row.P.Denot) = port_asks g.P.Port.sends g.P.Port.receives in
     let y = c.args.ahead.now.layout in
     let t = c.args.transactions.now in
@@ -66,34 +66,14 @@ returns-in-Err-Memory-clause-printed g c =
     old out (g.W.Write.contents c.end.new.self.out.now) was c.turn.new.ahead.said_more c.turn.new.ahead.said_more first (omega (arith, sum, c.loop-done-test.true)) told rest (omega (arith, one))
     (laid_kept y items old now out printed kept.1) (rw (c.turn.ensures.layout, c.loop-done.invariant.layout) at c.end.ensures.prints) c.end.ensures.more in
     let all = subst P (sym c.end.ensures.link) both in
-    all.1
-
-pub returns-in-Err-Memory-clause-came : goal.returns-in-Err-Memory-clause-came
-returns-in-Err-Memory-clause-came g c =
-    let asks : Asking (UdpLink g.row.P.Denot) = port_asks g.P.Port.sends g.P.Port.receives in
-    let y = c.args.ahead.now.layout in
-    let t = c.args.transactions.now in
-    let link = c.args.ahead.now.link.now in
-    let failures = link.failures in
-    let old = g.W.Write.contents c.args.ahead.now.out.now in
-    let (items, n, k, u, mid, w, was, first, last, sum, one, told, printed) = c.loop-done.invariant.so_far in
-    let half = c.loop-done.ahead.link.now in
-    let left = c.loop-done.ahead.left.now.items in
-    let now = g.W.Write.contents c.loop-done.ahead.out.now in
-    let new = c.turn.new.ahead.link.now in
-    let out = g.W.Write.contents c.turn.new.ahead.out.now in
-    let (ended, brought, is, ran) = c.turn.ensures.ran in
-    let v = c.loop-done.transactions in
-    let z = c.turn.new.transactions in
-    let whole = over_joins asks t u c.loop-done.transactions link mid half c.args.walk w c.loop-done.walk n k items left StepLimit false was c.loop-done.ahead.said_more first last in
-    let kept = rw (c.in-Err-Memory.is, c.in-Err-Memory.field-0-is) at c.turn.ensures.prints in
-    let P : UdpLink g.row.P.Denot → Type 0 = λ x. Learns y asks t link c.args.walk c.args.steps c.end.result failures x.failures z x old (g.W.Write.contents c.end.new.self.out.now) in
-    let rest = over_joins asks u v z mid half new w c.loop-done.walk c.turn.new.walk k 1 left brought ended was c.loop-done.ahead.said_more c.turn.new.ahead.said_more last ran in
-    let both = without_lines y asks t u z link mid new c.args.walk w c.turn.new.walk c.args.steps n (k + 1) items (left ++ brought) ended c.loop-done.told c.end.result failures new.failures
-    old out (g.W.Write.contents c.end.new.self.out.now) was c.turn.new.ahead.said_more c.turn.new.ahead.said_more first (omega (arith, sum, c.loop-done-test.true)) told rest (omega (arith, one))
-    (laid_kept y items old now out printed kept.1) (rw (c.turn.ensures.layout, c.loop-done.invariant.layout) at c.end.ensures.prints) c.end.ensures.more in
-    let all = subst P (sym c.end.ensures.link) both in
-    all.0
+    record {
+      printed = all.1;
+      came = all.0;
+      begun = omega (arith, c.turn.ensures.begun, c.loop-done.invariant.begun, c.loop-done-test.true);
+      flaw = no_flaw c.turn.new.ahead.layout why.Memory c.loop-done.told c.end.result _ _ _ (λ e. cc) c.end.ensures.prints;
+      same_link = c.end.ensures.same_link ∙ c.turn.ensures.same_link ∙ c.loop-done.invariant.same_link;
+      same_out = c.end.ensures.same_out ∙ c.turn.ensures.same_out ∙ c.loop-done.invariant.same_out;
+    }
 
 pub returns-in-Err : goal.returns-in-Err
 returns-in-Err g c =
@@ -118,8 +98,8 @@ returns-in-Err g c =
     old now out was c.loop-done.ahead.said_more c.turn.new.ahead.said_more first last ran (omega (arith, sum, c.loop-done-test.true)) one told printed (subst L c.loop-done.invariant.layout (rw c.in-Err.is at c.turn.ensures.prints)) in
     record { printed = all.1; came = all.0; begun = omega (arith, c.turn.ensures.begun, c.loop-done.invariant.begun, c.loop-done-test.true); flaw = tt; same_link = c.turn.ensures.same_link ∙ c.loop-done.invariant.same_link; same_out = c.turn.ensures.same_out ∙ c.loop-done.invariant.same_out }
 
-pub returns-in-Stopped-clause-printed : goal.returns-in-Stopped-clause-printed
-returns-in-Stopped-clause-printed g c =
+pub returns-in-Stopped : goal.returns-in-Stopped
+returns-in-Stopped g c =
     let asks : Asking (UdpLink g.row.P.Denot) = port_asks g.P.Port.sends g.P.Port.receives in
     let y = c.args.ahead.now.layout in
     let t = c.args.transactions.now in
@@ -143,34 +123,14 @@ returns-in-Stopped-clause-printed g c =
     c.end-in-Stopped.result failures new.failures old out (g.W.Write.contents c.end-in-Stopped.new.self.out.now) c.loop-done.ahead.said_more c.turn.new.ahead.said_more c.turn.new.ahead.said_more whole (omega (arith, sum, c.loop-done-test.true)) c.next_number-before.ensures.next ran (omega arith)
     lines (rw (c.turn.ensures.layout, c.loop-done.invariant.layout) at c.end-in-Stopped.ensures.prints) c.end-in-Stopped.ensures.more in
     let all = subst P (sym c.end-in-Stopped.ensures.link) both in
-    all.1
-
-pub returns-in-Stopped-clause-came : goal.returns-in-Stopped-clause-came
-returns-in-Stopped-clause-came g c =
-    let asks : Asking (UdpLink g.row.P.Denot) = port_asks g.P.Port.sends g.P.Port.receives in
-    let y = c.args.ahead.now.layout in
-    let t = c.args.transactions.now in
-    let link = c.args.ahead.now.link.now in
-    let failures = link.failures in
-    let old = g.W.Write.contents c.args.ahead.now.out.now in
-    let (items, n, k, u, mid, w, was, first, last, sum, one, told, printed) = c.loop-done.invariant.so_far in
-    let half = c.loop-done.ahead.link.now in
-    let left = c.loop-done.ahead.left.now.items in
-    let now = g.W.Write.contents c.loop-done.ahead.out.now in
-    let new = c.turn.new.ahead.link.now in
-    let out = g.W.Write.contents c.turn.new.ahead.out.now in
-    let (ended, brought, is, ran) = c.turn.ensures.ran in
-    let v = c.loop-done.transactions in
-    let z = c.turn.new.transactions in
-    let whole = over_joins asks t u c.loop-done.transactions link mid half c.args.walk w c.loop-done.walk n k items left StepLimit false was c.loop-done.ahead.said_more first last in
-    let lines = laid_then y items left old now out printed (rw (c.in-Ok.is, c.loop-done.invariant.layout) at c.turn.ensures.prints) in
-    let ok = rw c.in-Ok.is at is in
-    let P : UdpLink g.row.P.Denot → Type 0 = λ x. Learns y asks t link c.args.walk c.args.steps c.end-in-Stopped.result failures x.failures z x old (g.W.Write.contents c.end-in-Stopped.new.self.out.now) in
-    let both = without_lines y asks t v z link half new c.args.walk c.loop-done.walk c.turn.new.walk c.args.steps (n + k) 1 (items ++ left) brought ended c.next_number-before.result
-    c.end-in-Stopped.result failures new.failures old out (g.W.Write.contents c.end-in-Stopped.new.self.out.now) c.loop-done.ahead.said_more c.turn.new.ahead.said_more c.turn.new.ahead.said_more whole (omega (arith, sum, c.loop-done-test.true)) c.next_number-before.ensures.next ran (omega arith)
-    lines (rw (c.turn.ensures.layout, c.loop-done.invariant.layout) at c.end-in-Stopped.ensures.prints) c.end-in-Stopped.ensures.more in
-    let all = subst P (sym c.end-in-Stopped.ensures.link) both in
-    all.0
+    record {
+      printed = all.1;
+      came = all.0;
+      begun = omega (arith, c.turn.ensures.begun, c.loop-done.invariant.begun, c.loop-done-test.true);
+      flaw = no_flaw c.turn.new.ahead.layout why.Memory c.next_number-before.result c.end-in-Stopped.result _ _ _ (λ e. cc) c.end-in-Stopped.ensures.prints;
+      same_link = c.end-in-Stopped.ensures.same_link ∙ c.turn.ensures.same_link ∙ c.loop-done.invariant.same_link;
+      same_out = c.end-in-Stopped.ensures.same_out ∙ c.turn.ensures.same_out ∙ c.loop-done.invariant.same_out;
+    }
 
 pub returns-in-Some : goal.returns-in-Some
 returns-in-Some g c =
@@ -263,8 +223,8 @@ loop-done-preserved g c =
       );
     }
 
-pub returns-clause-printed : goal.returns-clause-printed
-returns-clause-printed g c =
+pub returns : goal.returns
+returns g c =
     let asks : Asking (UdpLink g.row.P.Denot) = port_asks g.P.Port.sends g.P.Port.receives in
     let y = c.args.ahead.now.layout in
     let t = c.args.transactions.now in
@@ -281,33 +241,11 @@ returns-clause-printed g c =
     let both = finishes y asks t u c.loop-done.transactions link mid half c.args.walk w c.loop-done.walk c.args.steps n k (n + k) items left StepLimit why.StepLimit c.next_number-2.result c.loop-done.told
     c.finish-2.result failures half.failures old now end was c.loop-done.ahead.said_more first last limit_on whole c.finish-2.ensures.more (omega (arith, sum)) (omega (arith, sum), refl) (refl, refl) (omega (arith, sum)) one c.next_number-2.ensures.next told printed (rw c.loop-done.invariant.layout at c.finish-2.ensures.prints) in
     let all = subst P (sym c.finish-2.ensures.link) both in
-    all.1
-
-pub returns-clause-came : goal.returns-clause-came
-returns-clause-came g c =
-    let asks : Asking (UdpLink g.row.P.Denot) = port_asks g.P.Port.sends g.P.Port.receives in
-    let y = c.args.ahead.now.layout in
-    let t = c.args.transactions.now in
-    let link = c.args.ahead.now.link.now in
-    let failures = link.failures in
-    let old = g.W.Write.contents c.args.ahead.now.out.now in
-    let (items, n, k, u, mid, w, was, first, last, sum, one, told, printed) = c.loop-done.invariant.so_far in
-    let half = c.loop-done.ahead.link.now in
-    let left = c.loop-done.ahead.left.now.items in
-    let now = g.W.Write.contents c.loop-done.ahead.out.now in
-    let whole = over_joins asks t u c.loop-done.transactions link mid half c.args.walk w c.loop-done.walk n k items left StepLimit false was c.loop-done.ahead.said_more first last in
-    let end = g.W.Write.contents c.finish-2.new.self.out.now in
-    let P : UdpLink g.row.P.Denot → Type 0 = λ x. Learns y asks t link c.args.walk c.args.steps c.finish-2.result failures x.failures c.loop-done.transactions x old (g.W.Write.contents c.finish-2.new.self.out.now) in
-    let both = finishes y asks t u c.loop-done.transactions link mid half c.args.walk w c.loop-done.walk c.args.steps n k (n + k) items left StepLimit why.StepLimit c.next_number-2.result c.loop-done.told
-    c.finish-2.result failures half.failures old now end was c.loop-done.ahead.said_more first last limit_on whole c.finish-2.ensures.more (omega (arith, sum)) (omega (arith, sum), refl) (refl, refl) (omega (arith, sum)) one c.next_number-2.ensures.next told printed (rw c.loop-done.invariant.layout at c.finish-2.ensures.prints) in
-    let all = subst P (sym c.finish-2.ensures.link) both in
-    all.0
-
-pub returns-in-Err-Memory-clause-flaw : goal.returns-in-Err-Memory-clause-flaw
-returns-in-Err-Memory-clause-flaw g c = no_flaw c.turn.new.ahead.layout why.Memory c.loop-done.told c.end.result _ _ _ (λ e. cc) c.end.ensures.prints
-
-pub returns-in-Stopped-clause-flaw : goal.returns-in-Stopped-clause-flaw
-returns-in-Stopped-clause-flaw g c = no_flaw c.turn.new.ahead.layout why.Memory c.next_number-before.result c.end-in-Stopped.result _ _ _ (λ e. cc) c.end-in-Stopped.ensures.prints
-
-pub returns-clause-flaw : goal.returns-clause-flaw
-returns-clause-flaw g c = no_last_flaw c.loop-done.ahead.layout c.loop-done.ahead.left.now.items why.StepLimit c.next_number-2.result c.loop-done.told c.finish-2.result _ _ _ (λ e. cc) c.finish-2.ensures.prints
+    record {
+      printed = all.1;
+      came = all.0;
+      begun = omega (arith, c.loop-done.invariant.begun);
+      flaw = no_last_flaw c.loop-done.ahead.layout c.loop-done.ahead.left.now.items why.StepLimit c.next_number-2.result c.loop-done.told c.finish-2.result _ _ _ (λ e. cc) c.finish-2.ensures.prints;
+      same_link = c.finish-2.ensures.same_link ∙ c.loop-done.invariant.same_link;
+      same_out = c.finish-2.ensures.same_out ∙ c.loop-done.invariant.same_out;
+    }
