@@ -7,6 +7,7 @@ use crate::memory_port::{Coming, MemoryPort};
 use bac_apdu::WhoIs;
 use bac_ports::{Heard, Port, SocketFault};
 use bac_query::{FindFault, Search, find_devices};
+use std::alloc::Global;
 use std::io::{self, Write};
 
 /// 10.0.0.1:47808.
@@ -22,7 +23,9 @@ const I_AM: [u8; 20] = [
     0x81, 0x0a, 0, 20, 1, 0, 0x10, 0, 0xc4, 2, 0, 0, 0x7b, 0x22, 5, 0xc4, 0x91, 3, 0x21, 0,
 ];
 
-const I_AM_LINE: &str = "I-Am 123 10.0.0.1:47808 max-apdu 1476 segmentation 3 vendor 0\n";
+const TWO_LINES: &[u8] = b"\
+    I-Am 123 10.0.0.1:47808 max-apdu 1476 segmentation 3 vendor 0\n\
+    I-Am 123 10.0.0.1:47808 max-apdu 1476 segmentation 3 vendor 0\n";
 
 /// Takes one octet a write, and counts how often it was told to pass on what it has.
 #[derive(Drop)]
@@ -79,34 +82,40 @@ impl Port for Station {
     }
 }
 
-#[test]
-fn no_more_than_4096_datagrams_are_received(rt: HostRuntime) {
-    let mut port = Station { received: 0 };
-    let mut text = Vec::new(rt.alloc());
-    let found = find_devices(rt.alloc(), &mut port, &[FIRST], &ANY, &mut text);
-    assert_eq!(rt; found, Err(FindFault::NoAnswer));
-    assert_eq!(rt; port.received, 4096);
-    assert!(rt; text.is_empty());
+/// Finds nothing, and writes nothing.
+fn finds_nothing(alloc: Global, port: &mut Station) -> bool {
+    let mut text = Vec::new(alloc);
+    let found = find_devices(alloc, port, &[FIRST], &ANY, &mut text);
+    found == Err(FindFault::NoAnswer) && text.is_empty()
 }
 
 #[test]
-fn a_line_is_written_octet_by_octet_and_passed_on(rt: HostRuntime) {
+fn no_more_than_4096_datagrams_are_received(rt: HostRuntime) {
+    let mut port = Station { received: 0 };
+    assert!(rt; finds_nothing(rt.alloc(), &mut port));
+    assert_eq!(rt; port.received, 4096);
+}
+
+/// A device tells of itself twice, and then nothing comes: what is found, and how many receives it
+/// takes. The wait in which nothing comes is the last.
+fn find_two(alloc: Global, out: &mut Paper) -> (Result<(), FindFault>, usize) {
     let coming = [
         Coming::From(FIRST, &I_AM),
         Coming::From(FIRST, &I_AM),
         Coming::Nothing,
     ];
+    let mut port = MemoryPort::new(&coming);
+    let found = find_devices(alloc, &mut port, &[FIRST], &ANY, out);
+    (found, port.received)
+}
+
+#[test]
+fn a_line_is_written_octet_by_octet_and_passed_on(rt: HostRuntime) {
     let mut out = Paper {
         text: Vec::new(rt.alloc()),
         flushes: 0,
     };
-    let mut port = MemoryPort::new(&coming);
-    let found = find_devices(rt.alloc(), &mut port, &[FIRST], &ANY, &mut out);
-    assert_eq!(rt; found, Ok(()));
-    assert_eq!(rt; out.text.len(), 2 * I_AM_LINE.len());
-    assert!(rt; out.text.as_slice().starts_with(I_AM_LINE.as_bytes()));
-    assert!(rt; out.text.as_slice().ends_with(I_AM_LINE.as_bytes()));
+    assert_eq!(rt; find_two(rt.alloc(), &mut out), (Ok(()), 3));
+    assert_eq!(rt; out.text.as_slice(), TWO_LINES);
     assert_eq!(rt; out.flushes, 2);
-    // the wait in which nothing came was the last
-    assert_eq!(rt; port.received, 3);
 }

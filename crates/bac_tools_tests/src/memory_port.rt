@@ -5,7 +5,7 @@ use bac_serve::Clock;
 use bac_wire::{Datagram, Stamp, write_octets};
 
 /// What a receive meets.
-#[derive(Clone, Copy, Debug, PartialEq, Eq)]
+#[derive(Clone, Copy)]
 pub enum Coming<'a> {
     /// These octets from this address.
     From([u8; 6], &'a [u8]),
@@ -15,7 +15,7 @@ pub enum Coming<'a> {
 
 /// Receives what comes, one after the other, and then fails. Keeps what was sent last and to whom,
 /// and how often something was sent.
-#[derive(Debug, Drop)]
+#[derive(Drop)]
 pub struct MemoryPort<'a> {
     coming: &'a [Coming<'a>],
     pub received: usize,
@@ -73,7 +73,7 @@ impl Port for MemoryPort<'_> {
 }
 
 /// Begins at 2024-05-06T07:08:00.00 and so many hundredths, and has gone so many on at each look.
-#[derive(Debug, Drop)]
+#[derive(Drop)]
 pub struct MovingClock {
     pub hundredths: u32,
     pub step: u32,

@@ -2,12 +2,12 @@
 //! answer prints is in examples/check/*.talk, and writes that fail are in faults.py.
 
 use bac_link::Transactions;
-use bac_query::{Fetched, fetch_log};
+use bac_query::{Fetched, QueryFault, fetch_log};
 use bac_scripted_link::ScriptedLink;
 use bac_walk::{Walk, Why};
 use bac_wire::ObjectId;
+use std::alloc::Global;
 use std::io::{self, Write};
-use std::test::Fail;
 
 /// Takes what it is given, and counts the writes.
 #[derive(Drop)]
@@ -28,8 +28,14 @@ impl Write for Paper {
     }
 }
 
-/// The line of each record, after its number.
-const RECORD: &[u8] = b"2024-05-06T07:08:09.10 enum(0) 0000\n";
+/// What two replies with two records each come to, of a log that has lost its first two.
+const PRINTED: &[u8] = b"\
+    gap 1 2\n\
+    3 2024-05-06T07:08:09.10 enum(0) 0000\n\
+    4 2024-05-06T07:08:09.10 enum(0) 0000\n\
+    5 2024-05-06T07:08:09.10 enum(0) 0000\n\
+    6 2024-05-06T07:08:09.10 enum(0) 0000\n\
+    caught up, next 7\n";
 
 /// An ACK without records.
 fn empty(invoke: u8) -> [u8; 23] {
@@ -49,51 +55,37 @@ fn two(invoke: u8, number: u8) -> [u8; 63] {
     ]
 }
 
-fn walk_from(s: u32) -> Result<Walk, Fail> {
-    let log = ObjectId::new(20, 1).ok_or("no such object")?;
-    Ok(Walk::from_number(log, s).ok_or("no walk")?)
+/// Trend Log 1, from its number 1 on.
+fn from_the_first() -> Option<Walk> {
+    Walk::from_number(ObjectId::new(20, 1)?, 1)
+}
+
+/// Fetches over a link with these replies.
+fn fetch(alloc: Global, replies: &[&[u8]], out: &mut Paper) -> Option<Result<Fetched, QueryFault>> {
+    let walk = from_the_first()?;
+    let mut link = ScriptedLink::new(replies);
+    let mut transactions = Transactions::new(0);
+    Some(fetch_log(alloc, &mut link, &mut transactions, walk, 10, out))
 }
 
 #[test]
-fn records_are_printed_a_reply_at_a_time(rt: HostRuntime) -> Result<(), Fail> {
-    let (first, second) = (two(1, 3), two(2, 5));
-    let (none, oldest) = (empty(3), empty(4));
-    let replies: [&[u8]; 4] = [&first, &second, &none, &oldest];
+fn records_are_printed_a_reply_at_a_time(rt: HostRuntime) {
     let mut out = Paper {
         text: Vec::new(rt.alloc()),
         writes: 0,
     };
-    let fetched = fetch_log(
-        rt.alloc(),
-        &mut ScriptedLink::new(&replies),
-        &mut Transactions::new(0),
-        walk_from(1)?,
-        10,
-        &mut out,
-    );
+    let replies: [&[u8]; 4] = [&two(1, 3), &two(2, 5), &empty(3), &empty(4)];
+    let fetched = fetch(rt.alloc(), &replies, &mut out);
     assert_eq!(rt;
         fetched,
-        Ok(Fetched {
+        Some(Ok(Fetched {
             why: Why::CaughtUp,
             next: 7,
             flaw: None,
             said_more: false
-        })
+        }))
     );
-    let want = [
-        b"gap 1 2\n3 ",
-        RECORD,
-        b"4 ",
-        RECORD,
-        b"5 ",
-        RECORD,
-        b"6 ",
-        RECORD,
-        b"caught up, next 7\n",
-    ]
-    .concat(rt.alloc())?;
-    assert_eq!(rt; out.text.as_slice(), want.as_slice());
+    assert_eq!(rt; out.text.as_slice(), PRINTED);
     // two replies with records, and the end
     assert_eq!(rt; out.writes, 3);
-    Ok(())
 }

@@ -1,8 +1,8 @@
 //! An output that refused once takes nothing more, also from a buffer that is dropped.
 
 use bac_tools::UntilRefused;
+use std::alloc::Global;
 use std::io::{self, BufWriter, ErrorKind, Write};
-use std::test::Fail;
 
 /// Refuses its first write in this way, and takes the rest.
 #[derive(Drop)]
@@ -35,28 +35,37 @@ fn new_balky(rt: &impl AllocGlobal, refusal: ErrorKind) -> Balky {
     }
 }
 
-#[test]
-fn a_dropped_buffer_writes_nothing_behind_a_refused_write(rt: HostRuntime) -> Result<(), Fail> {
-    let mut paper = new_balky(&rt, ErrorKind::Other);
-    {
-        let mut output = BufWriter::new(rt.alloc(), UntilRefused::new(&mut paper))?;
-        output.write_all(b"lost")?;
-        assert!(rt; output.flush().is_err());
-        assert!(rt; output.flush().is_err());
-    }
-    assert!(rt; paper.text.is_empty());
-    assert_eq!(rt; paper.writes, 1);
-    Ok(())
+/// Writes to a buffer of its own, and flushes it twice, before it drops it: whether each was done.
+fn write_and_flush_twice(alloc: Global, paper: &mut Balky) -> Option<[bool; 3]> {
+    let mut output = BufWriter::new(alloc, UntilRefused::new(paper)).ok()?;
+    let written = output.write_all(b"lost").is_ok();
+    let flushed = output.flush().is_ok();
+    Some([written, flushed, output.flush().is_ok()])
 }
 
 #[test]
-fn a_signal_refuses_nothing(rt: HostRuntime) -> Result<(), Fail> {
+fn a_dropped_buffer_writes_nothing_behind_a_refused_write(rt: HostRuntime) {
+    let mut paper = new_balky(&rt, ErrorKind::Other);
+    let done = write_and_flush_twice(rt.alloc(), &mut paper);
+    assert_eq!(rt; done, Some([true, false, false]));
+    assert!(rt; paper.text.is_empty());
+    assert_eq!(rt; paper.writes, 1);
+}
+
+/// How many octets of each of four texts are taken.
+fn write_four(output: &mut impl Write) -> [Option<usize>; 4] {
+    [
+        output.write(b"kept").ok(),
+        output.write(b"kept").ok(),
+        output.write(b"").ok(),
+        output.write(b"too").ok(),
+    ]
+}
+
+#[test]
+fn a_signal_refuses_nothing(rt: HostRuntime) {
     let mut paper = new_balky(&rt, ErrorKind::Interrupted);
-    let mut output = UntilRefused::new(&mut paper);
-    assert!(rt; output.write(b"kept").is_err());
-    assert_eq!(rt; output.write(b"kept")?, 4);
-    assert_eq!(rt; output.write(b"")?, 0);
-    assert_eq!(rt; output.write(b"too")?, 3);
+    let taken = write_four(&mut UntilRefused::new(&mut paper));
+    assert_eq!(rt; taken, [None, Some(4), Some(0), Some(3)]);
     assert_eq!(rt; paper.text.as_slice(), b"kepttoo".as_slice());
-    Ok(())
 }

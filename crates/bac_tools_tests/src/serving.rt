@@ -7,7 +7,6 @@ use bac_ports::SocketFault;
 use bac_serve::{serve, serve_one};
 use bac_wire::{ObjectId, Stamp};
 use std::alloc::Global;
-use std::test::Fail;
 
 const CLIENT: [u8; 6] = [127, 0, 0, 1, 0xba, 0xc0];
 
@@ -19,49 +18,55 @@ const I_AM: [u8; 20] = [
     0x81, 0x0a, 0, 0x14, 1, 0, 0x10, 0, 0xc4, 2, 0, 0, 0x7b, 0x22, 5, 0xc4, 0x91, 3, 0x21, 0,
 ];
 
-fn name(alloc: Global, text: &str) -> Result<Name, Fail> {
-    Ok(Name::of(String::from_str(alloc, text)?))
+fn name(alloc: Global, text: &str) -> Option<Name> {
+    Some(Name::of(String::from_str(alloc, text).ok()?))
 }
 
 /// 2024-05-06T07:08 and this second.
-fn at(second: u8) -> Result<Stamp, Fail> {
-    Ok(Stamp::new(2024, 5, 6, 7, 8, second, 0).ok_or("no such moment")?)
+fn at(second: u8) -> Option<Stamp> {
+    Stamp::new(2024, 5, 6, 7, 8, second, 0)
 }
 
-/// Binary Value 1, and Trend Log 1 of it.
-fn lines(alloc: Global, interval: u32) -> Result<[ObjectLine; 2], Fail> {
-    Ok([
-        ObjectLine::Binary {
-            instance: 1,
-            name: name(alloc, "pump")?,
-            default: 0,
-        },
-        ObjectLine::Log {
-            instance: 1,
-            name: name(alloc, "trend")?,
-            source: ObjectId::new(5, 1).ok_or("no such identifier")?,
-            capacity: 100,
-            interval,
-            logged: 0,
-        },
-    ])
-}
-
-/// Device 123 with these objects, at 2024-05-06T07:08:00.00.
-fn device(alloc: Global, interval: u32) -> Result<Device, Fail> {
-    let plant = DeviceLine {
+/// Device 123, at 2024-05-06T07:08:00.00.
+fn plant(alloc: Global) -> Option<DeviceLine> {
+    let clock = at(0)?;
+    Some(DeviceLine {
         instance: 123,
         name: name(alloc, "plant")?,
         vendor: 0,
         reply_size: 1476,
-        clock: at(0)?,
-    };
-    let lines = lines(alloc, interval)?;
-    Ok(
-        Device::build(alloc, &plant, &lines)
-            .ok()
-            .ok_or("not built")?,
-    )
+        clock,
+    })
+}
+
+/// Binary Value 1.
+fn pump(alloc: Global) -> Option<ObjectLine> {
+    Some(ObjectLine::Binary {
+        instance: 1,
+        name: name(alloc, "pump")?,
+        default: 0,
+    })
+}
+
+/// Trend Log 1 of it.
+fn trend(alloc: Global, interval: u32) -> Option<ObjectLine> {
+    let source = ObjectId::new(5, 1)?;
+    Some(ObjectLine::Log {
+        instance: 1,
+        name: name(alloc, "trend")?,
+        source,
+        capacity: 100,
+        interval,
+        logged: 0,
+    })
+}
+
+/// The device with both.
+fn device(alloc: Global, interval: u32) -> Option<Device> {
+    let plant = plant(alloc)?;
+    let pump = pump(alloc)?;
+    let trend = trend(alloc, interval)?;
+    Device::build(alloc, &plant, &[pump, trend]).ok()
 }
 
 /// How many records Trend Log 1 has.
@@ -69,60 +74,85 @@ fn records(device: &Device) -> Option<u32> {
     Some(device.log(1)?.count())
 }
 
-#[test]
-fn a_reply_goes_to_who_asked(rt: HostRuntime) -> Result<(), Fail> {
-    let mut device = device(rt.alloc(), 0)?;
+/// Whether one datagram was sent, an I-Am to the client.
+fn has_told_once(port: &MemoryPort) -> bool {
+    port.sends == 1 && port.to == CLIENT && port.sent.octets() == I_AM.as_slice()
+}
+
+/// Serves a Who-Is and an I-Am, by a clock that goes on by five seconds: of each, whether it was
+/// answered, and what the device's clock shows then; and whether one I-Am was sent by then.
+fn serve_each(device: &mut Device) -> ([(Result<bool, SocketFault>, Option<Stamp>); 2], [bool; 2]) {
     let mut clock = MovingClock {
         hundredths: 0,
         step: 500,
     };
     let coming = [Coming::From(CLIENT, &WHO_IS), Coming::From(CLIENT, &I_AM)];
     let mut port = MemoryPort::new(&coming);
-    assert_eq!(rt; serve_one(&mut port, &mut device, &mut clock), Ok(true));
-    assert_eq!(rt; port.sent.octets(), I_AM.as_slice());
-    assert_eq!(rt; port.to, CLIENT);
-    assert_eq!(rt; device.clock(), at(5)?);
-    // an I-Am isn't answered
-    assert_eq!(rt; serve_one(&mut port, &mut device, &mut clock), Ok(false));
-    assert_eq!(rt; port.sends, 1);
-    assert_eq!(rt; device.clock(), at(10)?);
-    Ok(())
+    let first = serve_one(&mut port, device, &mut clock);
+    let (between, told) = (device.clock(), has_told_once(&port));
+    let second = serve_one(&mut port, device, &mut clock);
+    let served = [(first, Some(between)), (second, Some(device.clock()))];
+    (served, [told, has_told_once(&port)])
 }
 
 #[test]
-fn a_clock_that_goes_back_leaves_the_device(rt: HostRuntime) -> Result<(), Fail> {
-    let mut device = device(rt.alloc(), 100)?;
-    let _ = device.advance(at(7)?);
+fn a_reply_goes_to_who_asked(rt: HostRuntime) {
+    let mut device = device(rt.alloc(), 0).expect(&rt, "a device");
+    let served = serve_each(&mut device);
+    // an I-Am isn't answered
+    let wanted = [(Ok(true), at(5)), (Ok(false), at(10))];
+    assert_eq!(rt; served, (wanted, [true, true]));
+}
+
+/// Sets the device's clock to 2024-05-06T07:08 and this second.
+fn set_to(device: &mut Device, second: u8) {
+    if let Some(stamp) = at(second) {
+        let _ = device.advance(stamp);
+    }
+}
+
+/// Serves two questions by a clock that goes on by five seconds: what comes of each, and what the
+/// device's clock shows then; and how many answers were sent.
+fn serve_two(device: &mut Device) -> ([(Result<(), SocketFault>, Option<Stamp>); 2], u32) {
     let mut clock = MovingClock {
         hundredths: 0,
         step: 500,
     };
     let coming = [Coming::From(CLIENT, &WHO_IS), Coming::From(CLIENT, &WHO_IS)];
     let mut port = MemoryPort::new(&coming);
-    assert_eq!(rt; serve(&mut port, &mut device, &mut clock, 1), Ok(()));
-    assert_eq!(rt; device.clock(), at(7)?);
-    assert_eq!(rt; serve(&mut port, &mut device, &mut clock, 1), Ok(()));
-    assert_eq!(rt; device.clock(), at(10)?);
-    assert_eq!(rt; port.sends, 2);
-    Ok(())
+    let first = serve(&mut port, device, &mut clock, 1);
+    let between = device.clock();
+    let second = serve(&mut port, device, &mut clock, 1);
+    let served = [(first, Some(between)), (second, Some(device.clock()))];
+    (served, port.sends)
 }
 
 #[test]
-fn ten_quiet_seconds_fill_a_log(rt: HostRuntime) -> Result<(), Fail> {
-    let mut device = device(rt.alloc(), 100)?;
+fn a_clock_that_goes_back_leaves_the_device(rt: HostRuntime) {
+    let mut device = device(rt.alloc(), 100).expect(&rt, "a device");
+    set_to(&mut device, 7);
+    let served = serve_two(&mut device);
+    assert_eq!(rt; served, ([(Ok(()), at(7)), (Ok(()), at(10))], 2));
+}
+
+/// Nothing comes in fifty waits of a fifth of a second, and then the port fails: what comes of it,
+/// and how many receives there were.
+fn serve_quietly(device: &mut Device) -> (Result<(), SocketFault>, usize) {
     let mut clock = MovingClock {
         hundredths: 0,
         step: 20,
     };
-    // fifty waits of a fifth of a second
     let coming = [Coming::Nothing; 50];
     let mut port = MemoryPort::new(&coming);
-    assert_eq!(rt;
-        serve(&mut port, &mut device, &mut clock, 1),
-        Err(SocketFault::Failed)
-    );
-    assert_eq!(rt; port.received, 51);
-    assert_eq!(rt; device.clock(), at(10)?);
-    assert_eq!(rt; records(&device), Some(10));
-    Ok(())
+    let served = serve(&mut port, device, &mut clock, 1);
+    (served, port.received)
+}
+
+#[test]
+fn ten_quiet_seconds_fill_a_log(rt: HostRuntime) {
+    let mut device = device(rt.alloc(), 100).expect(&rt, "a device");
+    let served = serve_quietly(&mut device);
+    assert_eq!(rt; served, (Err(SocketFault::Failed), 51));
+    let shown = (Some(device.clock()), records(&device));
+    assert_eq!(rt; shown, (at(10), Some(10)));
 }

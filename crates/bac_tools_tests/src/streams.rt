@@ -3,17 +3,19 @@
 
 use bac_script::run_replay;
 use std::io::{self, Read, Write};
-use std::process::Abort;
-use std::test::Fail;
 
-const DEVICE: &[u8] = b"device 123 plant 0 1476 2024-05-06T07:08:09.10\n";
+/// A Who-Is, a datagram that is none, and a Who-Is again.
+const SCRIPT: &[u8] = b"\
+    device 123 plant 0 1476 2024-05-06T07:08:09.10\n\
+    rx 810b000c0120ffff00ff1008\n\
+    rx 00\n\
+    rx 810b000c0120ffff00ff1008\n";
 
-/// Who-Is, and the I-Am that answers it.
-const WHO_IS: &[u8] = b"rx 810b000c0120ffff00ff1008\n";
-
-const I_AM: &[u8] = b"tx 810a001401001000c40200007b2205c491032100\n";
-
-const NONE: &[u8] = b"none\n";
+/// The I-Am that answers each Who-Is.
+const ANSWERS: &[u8] = b"\
+    tx 810a001401001000c40200007b2205c491032100\n\
+    none\n\
+    tx 810a001401001000c40200007b2205c491032100\n";
 
 /// A writer over memory that takes so many octets, and then refuses.
 #[derive(Drop)]
@@ -82,19 +84,14 @@ impl Write for Narrow {
 }
 
 #[test]
-fn octets_may_come_and_go_one_at_a_time(rt: HostRuntime) -> Result<(), Fail> {
-    let script = [DEVICE, WHO_IS, b"rx 00\n", WHO_IS].concat(rt.alloc())?;
-    let want = [I_AM, NONE, I_AM].concat(rt.alloc())?;
-    let mut reader = Dripping {
-        rest: script.as_slice(),
-    };
+fn octets_may_come_and_go_one_at_a_time(rt: HostRuntime) {
+    let mut reader = Dripping { rest: SCRIPT };
     let mut writer = Narrow {
         text: Vec::new(rt.alloc()),
     };
     let ended = run_replay(rt.alloc(), &mut reader, &mut writer);
     assert_eq!(rt; ended, Ok(()));
-    assert_eq!(rt; writer.text.as_slice(), want.as_slice());
-    Ok(())
+    assert_eq!(rt; writer.text.as_slice(), ANSWERS);
 }
 
 /// Whether a signal interrupts the next call: it does before each call that is answered.
@@ -149,11 +146,9 @@ impl Write for Busy {
 }
 
 #[test]
-fn a_signal_is_no_fault(rt: HostRuntime) -> Result<(), Fail> {
-    let script = [DEVICE, WHO_IS, b"rx 00\n", WHO_IS].concat(rt.alloc())?;
-    let want = [I_AM, NONE, I_AM].concat(rt.alloc())?;
+fn a_signal_is_no_fault(rt: HostRuntime) {
     let mut reader = Interrupted {
-        rest: script.as_slice(),
+        rest: SCRIPT,
         signals: Signals { due: true },
     };
     let mut writer = Busy {
@@ -162,6 +157,5 @@ fn a_signal_is_no_fault(rt: HostRuntime) -> Result<(), Fail> {
     };
     let ended = run_replay(rt.alloc(), &mut reader, &mut writer);
     assert_eq!(rt; ended, Ok(()));
-    assert_eq!(rt; writer.text.as_slice(), want.as_slice());
-    Ok(())
+    assert_eq!(rt; writer.text.as_slice(), ANSWERS);
 }
