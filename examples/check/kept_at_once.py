@@ -3,7 +3,7 @@ import threading
 import time
 
 from kept_apart import in_file, line, unheard, untold
-from kept_devices import Device, Log, serve
+from kept_devices import Device, Log, chance, serve
 from kept_more import Unlisting, fed
 
 WAIT = 0.1
@@ -26,6 +26,28 @@ def timed(judge, *words):
 def lines_of(site, new):
     """The lines of all logs, where so many records are new."""
     return "".join(line(device, number, new, f"caught up, next {log.total + 1}") for device in site for number, log in device.logs.items())
+
+
+def own_address(judge, _runs):
+    """Several devices are asked from an address of our own, which one socket has at a time; then one of them is silent."""
+    site = [Device([Log(1, 50), Log(2, 50)], f"own{n}") for n in range(4)]
+    serve(site)
+    for device in site:
+        for log in device.logs.values():
+            log.log(5)
+    file, ours = f"{judge.room}/own.db", f"127.77.6.1:{20000 + chance.randrange(9000)}"
+    words = [word for device in site for word in (device.address, "1", "2")]
+    judge.same("a first run from an own address", judge.ran(["keep", file, f"--local={ours}", *words]), (0, lines_of(site, 5), ""))
+    for device in site:
+        for log in device.logs.values():
+            log.log(3)
+    judge.same("from it again", judge.ran(["keep", file, f"--local={ours}"]), (0, lines_of(site, 3), ""))
+    judge.same("from no other", {device.asker for device in site}, {ours})
+    site[2].answers = 0
+    status, out, _errors = judge.ran(["keep", file, f"--local={ours}", "--timeout=300", "--retries=1"])
+    silent = line(site[2], 1, 0, "lost, next 9") + line(site[2], 2, 0, "not asked, next 9")
+    judge.same("and one is silent", (status, out), (2, lines_of(site[:2], 0) + silent + lines_of(site[3:], 0)))
+    judge.judge("from an own address", file, site, True)
 
 
 def at_once(judge, _runs):

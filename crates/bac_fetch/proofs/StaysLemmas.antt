@@ -1,5 +1,5 @@
 -- A run takes nothing away.
-use Rattle.std.proofs.Common.{◌≡◌, inl, inr, ℕ, pos, true, List, [], ◌∷◌, Option, None, Some, Result, Ok, Err, refl, subst, sym, ◌∙◌, arith}
+use Rattle.std.proofs.Common.{◌≡◌, inl, inr, ℕ, pos, List, Option, None, Some, Result, Ok, Err, refl, subst, sym, ◌∙◌, arith}
 use Rattle.std.specs.List.{Contains}
 use Rattle.std.proofs.lemmas.List.Elements.{Contains-append_left}
 use Rattle.std.proofs.lemmas.List.Sorted.{Contains-permutation}

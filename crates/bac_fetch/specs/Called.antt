@@ -1,5 +1,6 @@
 -- What is asked of many devices at once before a run over their logs. Read `CallsAhead`.
-use Rattle.std.specs.Prelude.{◌≡◌, ◌⊎◌, Bool, true, false, List, ◌++◌, Option, None, Some, drop, length}
+use Rattle.std.specs.Prelude.{◌≡◌, ◌⊎◌, Bool, true, false, if◌then◌else◌, List, [], ◌∷◌, ◌++◌, Option, None, Some}
+use Rattle.std.specs.Prelude.{drop, is_some, length}
 use Rattle.sqlite_trees.specs.Tree.{Trees}
 use Rattle.bac_absent.specs.Calling.{BeginsToCall, EndsCall, EndsCalling}
 use Rattle.bac_absent.specs.declared.calling.Calling.{Calling}
@@ -11,6 +12,12 @@ use Rattle.bac_questions.specs.declared.whose.Heard.{Heard}
 use Rattle.bac_recall.specs.declared.conversations.Conversation.{Conversation}
 use Rattle.bac_fetch.specs.Ahead.{AtOnce, EndsOpening, OpensAhead}
 
+-- whose logs are opened while the others are waited for: all that have told what they say of themselves; but none where
+-- the words name an own address, which one socket has at a time
+abbrev pub told_early : List Wanted → List Heard → List Heard
+told_early [] heard = heard
+told_early (first ∷ more) heard = if is_some first.asking.asked.local then [] else heard
+
 -- While devices are waited for, the logs of those are opened that have told what they say of themselves. Then the
 -- others are waited for, and the logs of those that answered late are opened. The sockets hold what came, and nothing
 -- else.
@@ -19,12 +26,13 @@ pub record CallsOn {S P C : Type 0} (rules : SocketRules S P) (by : AtOnce S C) 
     : Type 0 where
   pub early : List Conversation
   pub half : S
-  pub opens : OpensAhead rules by.pace trees known heard all before early half
+  pub opens : OpensAhead rules by.pace trees known (told_early all heard) all before early half
   pub mid : S
   pub ends : EndsCall rules by.pace.reads calling heard half found mid
   pub late : List Conversation
   pub last : S
-  pub opens_late : OpensAhead rules by.pace trees known (drop (length heard) found) all mid late last
+  pub opens_late :
+      OpensAhead rules by.pace trees known (drop (length (told_early all heard)) found) all mid late last
   pub holds : by.holds last (early ++ late) after
 
 -- so it is where devices were called; where none were, nothing is opened ahead
@@ -51,10 +59,11 @@ CallsAhead {S = S} {P = P} {C = C} rules by trees known all heard before found c
 abbrev pub EndsCallsOn : {S P C : Type 0} → SocketRules S P → AtOnce S C → Trees → List Log → List Wanted →
     List Heard → Calling P C → S → S → NotDone → Type 0
 EndsCallsOn {S = S} rules by trees known all heard calling before after fault =
-    EndsOpening rules by.pace trees known heard all before after fault
-    ⊎ ((early : List Conversation) × (half : S) × OpensAhead rules by.pace trees known heard all before early half
+    EndsOpening rules by.pace trees known (told_early all heard) all before after fault
+    ⊎ ((early : List Conversation) × (half : S)
+    × OpensAhead rules by.pace trees known (told_early all heard) all before early half
     × (found : List Heard) × (mid : S) × EndsCall rules by.pace.reads calling heard half found mid
-    × EndsOpening rules by.pace trees known (drop (length heard) found) all mid after fault)
+    × EndsOpening rules by.pace trees known (drop (length (told_early all heard)) found) all mid after fault)
 
 -- Devices aren't called, or memory is wanting; or they were, and what is asked then ends so.
 abbrev pub EndsCallsAhead : {S P C : Type 0} → SocketRules S P → AtOnce S C → Trees → List Log → List Wanted →

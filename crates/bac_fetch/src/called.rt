@@ -9,6 +9,7 @@ ghost use Rattle.bac_asked.specs.Faults.{WantsMemory};
 ghost use Rattle.bac_ports.specs.Sockets.{socket_rules};
 ghost use Rattle.bac_fetch.specs.Ahead.{at_once};
 ghost use Rattle.bac_fetch.specs.Called.{CallsAhead, CallsOn, EndsCallsAhead, EndsCallsOn};
+ghost use Rattle.bac_fetch.specs.Called.{told_early};
 ghost use Rattle.bac_fetch.specs.Faults.{EndsRun};
 
 use crate::ahead::open_ahead;
@@ -28,6 +29,17 @@ fn behind(heard: &[Heard], from: usize) -> &[Heard]
     match heard.get(from..) {
         Some(late) => late,
         None => &[],
+    }
+}
+
+/// Of which devices the logs are opened while others are waited for: of all that were heard of; but
+/// of none where the words name an own address, which one socket has at a time.
+fn told_early<'a>(all: &[Wanted], heard: &'a [Heard]) -> &'a [Heard]
+    ensures { result.now ≡ told_early all.now heard.now }
+{
+    match all {
+        [first, ..] if first.asking.asked.local.is_some() => &[],
+        _ => heard,
     }
 }
 
@@ -52,8 +64,8 @@ fn hold_both<S: Recalls>(
 }
 
 /// Asks ahead for the logs of the devices that have told what they say of themselves, waits for the
-/// others, and asks ahead for theirs. The sockets hold what came, which answers the run where it
-/// asks the same.
+/// others, and asks ahead for theirs; for all of them behind the wait where the words name an own
+/// address. The sockets hold what came, which answers the run where it asks the same.
 fn call_on<S: Recalls, C: Clock + Copy, A: Alter>(
     sockets: &mut S,
     conn: &mut Connection<A>,
@@ -85,17 +97,9 @@ where
         (at_once S.holds C.reads clock window) (state A.Store conn.old).now.trees known.now all.now
         heard.old.items calling.entry sockets.old sockets.new fault)) }
 {
-    let from = heard.len();
-    let early = open_ahead(
-        sockets,
-        conn,
-        alloc,
-        clock,
-        window,
-        known,
-        heard.as_slice(),
-        all,
-    )?;
+    let told = told_early(all, heard.as_slice());
+    let from = told.len();
+    let early = open_ahead(sockets, conn, alloc, clock, window, known, told, all)?;
     end_calls(sockets, alloc, calling, heard)?;
     let rest = behind(heard.as_slice(), from);
     let late = open_ahead(sockets, conn, alloc, clock, window, known, rest, all)?;
