@@ -43,12 +43,12 @@ fn behind(log: u16, item: &NewestItem) -> Option<(Place, u32)>
 
 /// Where a log goes on whose rows begin with this number in this place: behind its newest item, if
 /// that isn't one of an older epoch.
-pub(crate) fn next_of(place: Place, s: u32, newest: &Option<NewestItem>) -> Option<(Place, u32)>
+pub(crate) fn next_of(place: Place, s: u32, newest: Option<NewestItem>) -> Option<(Place, u32)>
     ensures { IfSome result (λ it. (it.0.log ≡ place.log)
-        × (it.0.epoch ≡ next_epoch place.epoch newest.now)
-        × (it.1 ≡ next_number place.epoch s newest.now)) }
+        × (it.0.epoch ≡ next_epoch place.epoch newest)
+        × (it.1 ≡ next_number place.epoch s newest)) }
 {
-    match newest {
+    match &newest {
         Some(item) => {
             if item.epoch < place.epoch {
                 Some((place, s))
@@ -112,8 +112,8 @@ pub fn kept_after_a_crash<L: LogLink, K: LogLink, S: Alter, T: Alter>(
     honest_is_kept::<K>();
     leaves_the_last_commit(conn);
     leaves_the_last_commit(again);
-    let mut transactions = Transactions::new(3);
     let walk = Walk::from_number(log, s)?;
+    let mut transactions = Transactions::new(3);
     let free = u64::from(s);
     let _cut = keep_log(
         alloc,
@@ -130,9 +130,9 @@ pub fn kept_after_a_crash<L: LogLink, K: LogLink, S: Alter, T: Alter>(
     let Ok(told) = newest(again, place.log) else {
         return None;
     };
-    let (from, next) = next_of(place, s, &told)?;
-    let mut others = Transactions::new(3);
+    let (from, next) = next_of(place, s, told)?;
     let rest = Walk::from_number(log, next)?;
+    let mut others = Transactions::new(3);
     let behind = u64::from(next);
     Some(keep_log(
         alloc,

@@ -57,8 +57,8 @@ pub fn kept_of_any_device<L: LogLink, K: LogLink, S: Alter>(
     all_runs_are_kept();
     honest_is_kept::<L>();
     honest_is_kept::<K>();
-    let mut transactions = Transactions::new(3);
     let walk = Walk::from_number(log, s)?;
+    let mut transactions = Transactions::new(3);
     let free = u64::from(s);
     let first = keep_log(
         alloc,

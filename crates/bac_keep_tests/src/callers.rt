@@ -106,8 +106,8 @@ pub fn keep_again<L: LogLink, K: LogLink, S: Alter>(
     all_runs_are_kept();
     kept_is_delivered::<L>();
     kept_is_delivered::<K>();
-    let mut transactions = Transactions::new(3);
     let walk = Walk::from_number(log, s)?;
+    let mut transactions = Transactions::new(3);
     let first = keep_log(
         alloc,
         link,

@@ -50,8 +50,8 @@ pub fn covered_whoever_answers<L: LogLink, K: LogLink, S: Alter>(
     let Ok(None) = newest(conn, place.log) else {
         return None;
     };
-    let mut transactions = Transactions::new(3);
     let walk = Walk::from_number(log, s)?;
+    let mut transactions = Transactions::new(3);
     let free = u64::from(s);
     let first = keep_log(
         alloc,
@@ -71,7 +71,7 @@ pub fn covered_whoever_answers<L: LogLink, K: LogLink, S: Alter>(
     let Ok(told) = newest(conn, first.place.log) else {
         return None;
     };
-    let (from, next) = next_of(place, s, &told)?;
+    let (from, next) = next_of(place, s, told)?;
     let rest = Walk::from_number(log, next)?;
     let behind = u64::from(next);
     Some(keep_log(

@@ -10,43 +10,69 @@ use bac_link::Transactions;
 use bac_scripted_link::ScriptedLink;
 use bac_walk::{WalkFault, Why};
 use bac_wire::ObjectId;
+use sqlite::{Connection, MemStore};
 use std::alloc::Global;
-use std::test::Fail;
 
-// A run over a log by replies from 5 and 7 on, of which a crash left the rows of the first, and
-// another one by a reply from 7 on: what that kept, and how many rows there are then.
-fn cut_after_one(alloc: Global, place: Place) -> Result<(KeptRun, i64), Fail> {
-    let log = ObjectId::new(20, 1).ok_or("no such object")?;
-    let (one, two_more, rest) = (two(1, 5), two(2, 7), two(1, 7));
-    let replies: [&[u8]; 2] = [&one, &two_more];
-    let others: [&[u8]; 1] = [&rest];
-    let mut left = archive(alloc)?;
-    let mut early = ScriptedLink::new(&replies);
-    let mut transactions = Transactions::new(0);
+// What a crash left of a run over a log by these replies: the rows of the first, from 5 on.
+fn leave_one(
+    alloc: Global,
+    replies: &[&[u8]],
+    left: &mut Connection<MemStore>,
+    place: Place,
+) -> Option<()> {
+    let walk = walk_from(5)?;
+    let link = &mut ScriptedLink::new(replies);
+    let transactions = &mut Transactions::new(0);
     let _early = keep_log(
         alloc,
-        &mut early,
-        &mut transactions,
-        walk_from(5)?,
-        &mut left,
+        link,
+        transactions,
+        walk,
+        left,
         place,
         5,
         1,
         &mut Untold,
     );
-    let mut conn = archive(alloc)?;
-    let mut link = ScriptedLink::new(&replies);
-    let mut later = ScriptedLink::new(&others);
-    let run = kept_after_a_crash(
-        alloc, &mut link, &mut later, log, 5, &mut conn, &mut left, place, 2,
-    );
-    Ok((run.ok_or("no run")?, count(&mut left)?))
+    Some(())
+}
+
+// That run, over the archive that it had, and another one by a reply from 7 on, over what a crash
+// left: what the other kept.
+fn run_behind(
+    alloc: Global,
+    replies: &[&[u8]],
+    conn: &mut Connection<MemStore>,
+    left: &mut Connection<MemStore>,
+    place: Place,
+) -> Option<KeptRun> {
+    let log = ObjectId::new(20, 1)?;
+    let reply = two(1, 7);
+    let others: [&[u8]; 1] = [&reply];
+    let link = &mut ScriptedLink::new(replies);
+    let later = &mut ScriptedLink::new(&others);
+    kept_after_a_crash(alloc, link, later, log, 5, conn, left, place, 2)
+}
+
+// A run over a log by replies from 5 and 7 on, of which a crash left the rows of the first, and
+// the other one behind it.
+fn cut_after_one(
+    alloc: Global,
+    conn: &mut Connection<MemStore>,
+    left: &mut Connection<MemStore>,
+    place: Place,
+) -> Option<KeptRun> {
+    let replies: [&[u8]; 2] = [&two(1, 5), &two(2, 7)];
+    leave_one(alloc, &replies, left, place)?;
+    run_behind(alloc, &replies, conn, left, place)
 }
 
 #[test]
-fn a_run_goes_on_behind_what_a_crash_left(rt: HostRuntime) -> Result<(), Fail> {
-    let place = Place::new(7, 1).ok_or("no place")?;
-    let (run, rows) = cut_after_one(rt.alloc(), place)?;
+fn a_run_goes_on_behind_what_a_crash_left(rt: HostRuntime) {
+    let place = Place::new(7, 1).expect(&rt, "a place");
+    let mut left = archive(rt.alloc()).expect(&rt, "an archive");
+    let mut conn = archive(rt.alloc()).expect(&rt, "an archive");
+    let run = cut_after_one(rt.alloc(), &mut conn, &mut left, place);
     // One batch, and then the next reply was lost.
     let kept = KeptRun {
         records: 2,
@@ -55,7 +81,6 @@ fn a_run_goes_on_behind_what_a_crash_left(rt: HostRuntime) -> Result<(), Fail> {
         place,
         end: Ok(Why::Fault(WalkFault::Lost)),
     };
-    assert!(rt; run == kept);
-    assert_eq!(rt; rows, 4);
-    Ok(())
+    assert!(rt; run == Some(kept));
+    assert!(rt; count(&mut left) == Some(4));
 }

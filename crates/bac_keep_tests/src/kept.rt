@@ -1,7 +1,7 @@
 //! Walks over a link that answers from a list, kept in memory. Numbers that come round, rows that
 //! are kept already and files that are no archives are in examples/check/kept.sh.
 
-use crate::archive::{archive_with, count, first, shows};
+use crate::archive::{archive_with, count, number, shows};
 use bac_archive::{is_archive, open};
 use bac_keep::{KeptRun, KeptStep, NotKept, Place, Progress, Untold, keep_log, keep_step};
 use bac_link::Transactions;
@@ -10,7 +10,6 @@ use bac_walk::{Ended, Walk, WalkFault, Why};
 use bac_wire::ObjectId;
 use sqlite::{Connection, MemStore};
 use std::alloc::Global;
-use std::test::Fail;
 
 /// An ACK with two records, 2024-05-06T07:08:09.10, Enumerated 0, flags 0000, the first of which
 /// has this number.
@@ -30,52 +29,42 @@ const TWO: KeptStep = KeptStep {
     ended: Ended::StepLimit,
 };
 
-pub(crate) fn walk_from(s: u32) -> Result<Walk, Fail> {
-    let log = ObjectId::new(20, 1).ok_or("no such object")?;
-    Ok(Walk::from_number(log, s).ok_or("no walk")?)
+pub(crate) fn walk_from(s: u32) -> Option<Walk> {
+    Walk::from_number(ObjectId::new(20, 1)?, s)
 }
 
-// `keep_step`, where there is an archive.
-fn keep(
+// A step from number 5 on, where there is an archive, by one reply: what it kept, the number that
+// is free for a record then, and the one that comes next.
+fn one_step(
     alloc: Global,
-    link: &mut ScriptedLink<'_>,
-    transactions: &mut Transactions,
-    walk: &mut Walk,
     conn: &mut Connection<MemStore>,
-    place: &mut Place,
-    free: &mut u64,
-) -> Result<Result<KeptStep, NotKept>, Fail> {
+) -> Option<(Result<KeptStep, NotKept>, u64, u32)> {
+    let mut place = Place::new(3, 2)?;
+    let mut walk = walk_from(5)?;
     if !is_archive(conn.schema()) {
-        return Err(Fail::from("no archive"));
+        return None;
     }
-    Ok(keep_step(alloc, link, transactions, walk, conn, place, free))
+    let reply = two(1, 5);
+    let replies: [&[u8]; 1] = [&reply];
+    let mut free = 5;
+    let step = keep_step(
+        alloc,
+        &mut ScriptedLink::new(&replies),
+        &mut Transactions::new(0),
+        &mut walk,
+        conn,
+        &mut place,
+        &mut free,
+    );
+    Some((step, free, walk.next_number()))
 }
 
 #[test]
-fn a_step_keeps_its_batch(rt: HostRuntime) -> Result<(), Fail> {
-    let alloc = rt.alloc();
-    let mut place = Place::new(3, 2).ok_or("no place")?;
-    let mut walk = walk_from(5)?;
-    let one = two(1, 5);
-    let replies: [&[u8]; 1] = [&one];
-    let mut link = ScriptedLink::new(&replies);
-    let mut transactions = Transactions::new(0);
-    let mut free = 5;
-    let mut conn = archive_with(alloc, 3)?;
-    let step = keep(
-        alloc,
-        &mut link,
-        &mut transactions,
-        &mut walk,
-        &mut conn,
-        &mut place,
-        &mut free,
-    )?;
-    assert!(rt; step == Ok(TWO));
-    assert!(rt; free == 7);
-    assert!(rt; walk.next_number() == 7);
-    assert!(rt; count(&mut conn)? == 2);
-    Ok(())
+fn a_step_keeps_its_batch(rt: HostRuntime) {
+    let mut conn = archive_with(rt.alloc(), 3).expect(&rt, "an archive");
+    let step = one_step(rt.alloc(), &mut conn);
+    assert!(rt; step == Some((Ok(TWO), 7, 7)));
+    assert!(rt; count(&mut conn) == Some(2));
 }
 
 /// The counts that a run told.
@@ -90,91 +79,76 @@ impl Progress for Told {
     }
 }
 
-// A run from number 5 on, and what it told.
-fn first_run(
+// A run from number 5 on, what it told, and one step more, from where the run ended: what each of
+// the two kept.
+fn run_and_step(
     alloc: Global,
-    link: &mut ScriptedLink<'_>,
-    transactions: &mut Transactions,
     conn: &mut Connection<MemStore>,
     place: Place,
-) -> Result<(KeptRun, Told), Fail> {
+    told: &mut Told,
+) -> Option<[KeptRun; 2]> {
+    let replies: [&[u8]; 4] = [&two(1, 5), &two(2, 7), &[], &two(4, 12)];
+    let link = &mut ScriptedLink::new(&replies);
+    let transactions = &mut Transactions::new(0);
     let walk = walk_from(5)?;
-    let mut told = Told {
-        counts: Vec::new(alloc),
-    };
-    let run = keep_log(
+    let lost = keep_log(alloc, link, transactions, walk, conn, place, 5, 10, told);
+    let walk = walk_from(lost.next)?;
+    let free = u64::from(lost.next);
+    let place = lost.place;
+    let again = keep_log(
         alloc,
         link,
         transactions,
         walk,
         conn,
         place,
-        5,
-        10,
-        &mut told,
-    );
-    Ok((run, told))
-}
-
-// One step more, from where a run ended.
-fn one_more(
-    alloc: Global,
-    link: &mut ScriptedLink<'_>,
-    transactions: &mut Transactions,
-    conn: &mut Connection<MemStore>,
-    run: KeptRun,
-) -> Result<KeptRun, Fail> {
-    let walk = walk_from(run.next)?;
-    let free = u64::from(run.next);
-    Ok(keep_log(
-        alloc,
-        link,
-        transactions,
-        walk,
-        conn,
-        run.place,
         free,
         1,
         &mut Untold,
-    ))
+    );
+    Some([lost, again])
+}
+
+// How many rows there are, the id of the newest, and the last number of the gap.
+fn numbers(conn: &mut Connection<MemStore>) -> [Option<i64>; 3] {
+    [
+        count(conn),
+        number(conn, "SELECT id FROM items ORDER BY id DESC LIMIT 1"),
+        number(conn, "SELECT last FROM items WHERE last IS NOT NULL"),
+    ]
+}
+
+// Whether a record is kept as it came, and the file is an archive.
+fn is_kept(conn: &mut Connection<MemStore>) -> bool {
+    let record = "SELECT stamp || ' ' || datum || ' ' || flags FROM items";
+    shows(conn, record, "2024-05-06T07:08:09.10 enum(0) 0000") && open(conn).is_ok()
 }
 
 #[test]
-fn a_run_goes_on_where_one_was_lost(rt: HostRuntime) -> Result<(), Fail> {
-    let alloc = rt.alloc();
-    let place = Place::new(7, 1).ok_or("no place")?;
-    let (one, next, later) = (two(1, 5), two(2, 7), two(4, 12));
-    let replies: [&[u8]; 4] = [&one, &next, &[], &later];
-    let mut link = ScriptedLink::new(&replies);
-    let mut transactions = Transactions::new(0);
-    let mut conn = archive_with(alloc, 7)?;
-    let (lost, told) = first_run(alloc, &mut link, &mut transactions, &mut conn, place)?;
-    // Two records, two more, and the step that was lost.
-    assert!(rt; told.counts.as_slice() == [2, 4, 4].as_slice());
-    let run = KeptRun {
+fn a_run_goes_on_where_one_was_lost(rt: HostRuntime) {
+    let place = Place::new(7, 1).expect(&rt, "a place");
+    let mut told = Told {
+        counts: Vec::new(rt.alloc()),
+    };
+    let mut conn = archive_with(rt.alloc(), 7).expect(&rt, "an archive");
+    let runs = run_and_step(rt.alloc(), &mut conn, place, &mut told);
+    let lost = KeptRun {
         records: 4,
         gaps: 0,
         next: 9,
         place,
         end: Ok(Why::Fault(WalkFault::Lost)),
     };
-    assert!(rt; lost == run);
-    let again = one_more(alloc, &mut link, &mut transactions, &mut conn, lost)?;
-    let more = KeptRun {
+    let again = KeptRun {
         records: 2,
         gaps: 1,
         next: 14,
         place,
         end: Ok(Why::StepLimit),
     };
-    assert!(rt; again == more);
-    assert!(rt; count(&mut conn)? == 7);
-    let newest = first::<i64>(&mut conn, "SELECT id FROM items ORDER BY id DESC LIMIT 1")?;
-    assert!(rt; newest == place.key(13));
-    let gap = first::<i64>(&mut conn, "SELECT last FROM items WHERE last IS NOT NULL")?;
-    assert!(rt; gap == 11);
-    let record = "SELECT stamp || ' ' || datum || ' ' || flags FROM items";
-    assert!(rt; shows(&mut conn, record, "2024-05-06T07:08:09.10 enum(0) 0000")?);
-    assert!(rt; open(&mut conn) == Ok(()));
-    Ok(())
+    assert!(rt; runs == Some([lost, again]));
+    // Two records, two more, and the step that was lost.
+    assert!(rt; told.counts.as_slice() == [2, 4, 4].as_slice());
+    assert!(rt; numbers(&mut conn) == [Some(7), Some(place.key(13)), Some(11)]);
+    assert!(rt; is_kept(&mut conn));
 }
