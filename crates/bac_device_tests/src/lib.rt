@@ -7,4 +7,6 @@ mod commanding;
 #[cfg(test)]
 mod names;
 #[cfg(test)]
+mod plant;
+#[cfg(test)]
 mod runs;

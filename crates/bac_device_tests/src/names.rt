@@ -1,36 +1,34 @@
 //! A name that no script can give. Which other lines are refused is in examples/check/lines.rows.
 
-use bac_device::{BuildFault, Device, DeviceLine, Name, ObjectLine};
-use bac_wire::Stamp;
+use crate::plant::{name, plant};
+use bac_device::{BuildFault, Device, ObjectLine};
 use std::alloc::Global;
-use std::test::Fail;
 
-fn name(alloc: Global, text: &str) -> Result<Name, Fail> {
-    Ok(Name::of(String::from_str(alloc, text)?))
+/// What is wrong with a device without a name, and with a reply size that is none.
+fn fault_of_device(alloc: Global) -> Option<BuildFault> {
+    let line = plant(alloc, 4_194_302, "", 49)?;
+    Device::build(alloc, &line, &[]).err()
 }
 
-fn plant(alloc: Global, instance: u32, text: &str, reply_size: u16) -> Result<DeviceLine, Fail> {
-    Ok(DeviceLine {
-        instance,
-        name: name(alloc, text)?,
-        vendor: 0,
-        reply_size,
-        clock: Stamp::new(2024, 5, 6, 7, 8, 9, 10).ok_or("no such moment")?,
+/// Binary Value 4194303, which is none, without a name.
+fn binary(alloc: Global) -> Option<ObjectLine> {
+    Some(ObjectLine::Binary {
+        instance: 4_194_303,
+        name: name(alloc, "")?,
+        default: 0,
     })
 }
 
+/// What is wrong with a device that has that object.
+fn fault_of_object(alloc: Global) -> Option<BuildFault> {
+    let line = plant(alloc, 123, "plant", 1476)?;
+    let object = binary(alloc)?;
+    Device::build(alloc, &line, &[object]).err()
+}
+
 #[test]
-fn a_name_has_an_octet(rt: HostRuntime) -> Result<(), Fail> {
-    let a = rt.alloc();
+fn a_name_has_an_octet(rt: HostRuntime) {
     // The fault of the name comes before that of the reply size.
-    let built = Device::build(a, &plant(a, 4_194_302, "", 49)?, &[]);
-    assert_eq!(rt; built.err(), Some(BuildFault::BadName));
-    let lines = [ObjectLine::Binary {
-        instance: 4_194_303,
-        name: name(a, "")?,
-        default: 0,
-    }];
-    let built = Device::build(a, &plant(a, 123, "plant", 1476)?, &lines);
-    assert_eq!(rt; built.err(), Some(BuildFault::BadInstance));
-    Ok(())
+    assert_eq!(rt; fault_of_device(rt.alloc()), Some(BuildFault::BadName));
+    assert_eq!(rt; fault_of_object(rt.alloc()), Some(BuildFault::BadInstance));
 }

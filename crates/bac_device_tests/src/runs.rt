@@ -1,42 +1,34 @@
 //! A run of datagrams, samples and clock steps in one call, which no program makes. One after the
 //! other they are in examples/scripts.
 
-use bac_device::{ClockBack, Device, DeviceLine, Event, Name, ObjectLine, Outcome, SampleFault};
+use crate::plant::{name, plant};
+use bac_device::{ClockBack, Device, Event, ObjectLine, Outcome, SampleFault};
 use bac_wire::{ObjectId, Stamp};
 use std::alloc::Global;
-use std::test::Fail;
 
-fn name(alloc: Global, text: &str) -> Result<Name, Fail> {
-    Ok(Name::of(String::from_str(alloc, text)?))
+/// 2024-05-06, a Monday, at 07 and this minute.
+fn at(minute: u8, second: u8, hundredth: u8) -> Option<Stamp> {
+    Stamp::new(2024, 5, 6, 7, minute, second, hundredth)
 }
 
-/// 2024-05-06, a Monday, at 07:08 and this second, and 10 hundredths.
-fn at(minute: u8, second: u8, hundredth: u8) -> Result<Stamp, Fail> {
-    Ok(Stamp::new(2024, 5, 6, 7, minute, second, hundredth).ok_or("no such moment")?)
-}
-
-/// Device 123 with Trend Log 1 of an object that isn't there, each minute.
-fn with_trend(alloc: Global) -> Result<Device, Fail> {
-    let plant = DeviceLine {
-        instance: 123,
-        name: name(alloc, "plant")?,
-        vendor: 0,
-        reply_size: 1476,
-        clock: at(8, 9, 10)?,
-    };
-    let lines = [ObjectLine::Log {
+/// Trend Log 1 of an object that isn't there, each minute.
+fn trend(alloc: Global) -> Option<ObjectLine> {
+    let source = ObjectId::new(5, 1)?;
+    Some(ObjectLine::Log {
         instance: 1,
         name: name(alloc, "trend")?,
-        source: ObjectId::new(5, 1).ok_or("no such identifier")?,
+        source,
         capacity: 10,
         interval: 6000,
         logged: 0,
-    }];
-    Ok(
-        Device::build(alloc, &plant, &lines)
-            .ok()
-            .ok_or("not built")?,
-    )
+    })
+}
+
+/// Device 123 with it.
+fn with_trend(alloc: Global) -> Option<Device> {
+    let line = plant(alloc, 123, "plant", 1476)?;
+    let trend = trend(alloc)?;
+    Device::build(alloc, &line, &[trend]).ok()
 }
 
 /// Enable of Trend Log 1 is to be FALSE, and the SimpleACK of it.
@@ -61,9 +53,8 @@ fn are_told(outcomes: &[Outcome]) -> bool {
     }
 }
 
-#[test]
-fn a_run_has_the_outcome_of_each_event(rt: HostRuntime) -> Result<(), Fail> {
-    let mut device = with_trend(rt.alloc())?;
+/// Gives a device these events in one run: whether they are told.
+fn run(alloc: Global, device: &mut Device) -> Option<bool> {
     let events = [
         Event::Sample(1),
         Event::Advance(at(9, 9, 10)?),
@@ -71,8 +62,18 @@ fn a_run_has_the_outcome_of_each_event(rt: HostRuntime) -> Result<(), Fail> {
         Event::Sample(1),
         Event::Advance(at(0, 0, 0)?),
     ];
-    let outcomes = device.run(rt.alloc(), &events)?;
-    assert!(rt; are_told(outcomes.as_slice()));
-    assert_eq!(rt; device.log(1).ok_or("no log")?.count(), 3);
-    Ok(())
+    let outcomes = device.run(alloc, &events).ok()?;
+    Some(are_told(outcomes.as_slice()))
+}
+
+/// How many records Trend Log 1 has.
+fn records(device: &Device) -> Option<u32> {
+    Some(device.log(1)?.count())
+}
+
+#[test]
+fn a_run_has_the_outcome_of_each_event(rt: HostRuntime) {
+    let mut device = with_trend(rt.alloc()).expect(&rt, "a device");
+    assert_eq!(rt; run(rt.alloc(), &mut device), Some(true));
+    assert_eq!(rt; records(&device), Some(3));
 }
