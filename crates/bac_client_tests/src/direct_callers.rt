@@ -33,7 +33,6 @@ use bac_link::Transactions;
 use bac_walk::{Outcome, Walk, Why, collect, numbers_have_ordinals, rests_all};
 use bac_wire::{Datagram, ObjectId};
 use std::alloc::Global;
-use std::test::Fail;
 
 /// A link's question for the records of a log of a device brings the reply of that log, and
 /// changes nothing.
@@ -181,12 +180,17 @@ pub fn records_of_a_day(
     Some(outcome)
 }
 
+/// The day at device 123, of a log whose source isn't there.
+fn ten_steps_of_a_day(alloc: Global) -> Option<Outcome> {
+    let source = ObjectId::new(5, 1)?;
+    let name = name(alloc, "trend")?;
+    let device = device_line(alloc)?;
+    records_of_a_day(alloc, &device, name, source, 10)
+}
+
 #[test]
-fn a_day_is_delivered(rt: HostRuntime) -> Result<(), Fail> {
-    let a = rt.alloc();
-    let device = device_line(a)?;
-    let source = ObjectId::new(5, 1).ok_or("no such identifier")?;
-    let outcome = records_of_a_day(a, &device, name(a, "trend")?, source, 10).ok_or("no walk")?;
+fn a_day_is_delivered(rt: HostRuntime) {
+    let outcome = ten_steps_of_a_day(rt.alloc()).expect(&rt, "a walk");
     let items = [
         absent(1),
         absent(2),
@@ -198,5 +202,4 @@ fn a_day_is_delivered(rt: HostRuntime) -> Result<(), Fail> {
         purged(8),
     ];
     brought(&rt, &outcome, &items, 9, Why::CaughtUp);
-    Ok(())
 }

@@ -10,21 +10,16 @@ use bac_walk::{Outcome, Why};
 use bac_wire::{Datagram, Date4, ObjectId, Stamp, Time4};
 use std::alloc::Global;
 use std::process::Abort;
-use std::test::Fail;
 
-pub(crate) fn name(alloc: Global, text: &str) -> Result<Name, Fail> {
-    Ok(Name::of(String::from_str(alloc, text)?))
-}
-
-/// 2024-05-06, a Monday, at 07:08:09.10.
-fn clock() -> Result<Stamp, Fail> {
-    Ok(Stamp::new(2024, 5, 6, 7, 8, 9, 10).ok_or("no such moment")?)
+pub(crate) fn name(alloc: Global, text: &str) -> Option<Name> {
+    Some(Name::of(String::from_str(alloc, text).ok()?))
 }
 
 /// Device 123, whose clock shows 07:08:09.10.
-pub(crate) fn device_line(alloc: Global) -> Result<DeviceLine, Fail> {
-    let clock = clock()?;
-    Ok(DeviceLine {
+pub(crate) fn device_line(alloc: Global) -> Option<DeviceLine> {
+    // 2024-05-06, a Monday.
+    let clock = Stamp::new(2024, 5, 6, 7, 8, 9, 10)?;
+    Some(DeviceLine {
         instance: 123,
         name: name(alloc, "plant")?,
         vendor: 0,
@@ -34,8 +29,8 @@ pub(crate) fn device_line(alloc: Global) -> Result<DeviceLine, Fail> {
 }
 
 /// Binary Value 1.
-fn pump(alloc: Global) -> Result<ObjectLine, Fail> {
-    Ok(ObjectLine::Binary {
+fn pump(alloc: Global) -> Option<ObjectLine> {
+    Some(ObjectLine::Binary {
         instance: 1,
         name: name(alloc, "pump")?,
         default: 0,
@@ -43,9 +38,9 @@ fn pump(alloc: Global) -> Result<ObjectLine, Fail> {
 }
 
 /// Trend Log 1 of it, for so many records.
-fn trend(alloc: Global, capacity: u32) -> Result<ObjectLine, Fail> {
-    let source = ObjectId::new(5, 1).ok_or("no such identifier")?;
-    Ok(ObjectLine::Log {
+fn trend(alloc: Global, capacity: u32) -> Option<ObjectLine> {
+    let source = ObjectId::new(5, 1)?;
+    Some(ObjectLine::Log {
         instance: 1,
         name: name(alloc, "trend")?,
         source,
@@ -56,32 +51,28 @@ fn trend(alloc: Global, capacity: u32) -> Result<ObjectLine, Fail> {
 }
 
 /// Device 123 with both.
-fn plant(alloc: Global, capacity: u32) -> Result<Device, Fail> {
+fn plant(alloc: Global, capacity: u32) -> Option<Device> {
     let device = device_line(alloc)?;
     let pump = pump(alloc)?;
     let trend = trend(alloc, capacity)?;
-    match Device::build(alloc, &device, &[pump, trend]) {
-        Ok(built) => Ok(built),
-        Err(_) => Err("not built".into()),
-    }
+    Device::build(alloc, &device, &[pump, trend]).ok()
 }
 
-/// Trend Log 1 takes its records from 1 on, up to the one before this number.
-fn sample(rt: &impl Abort, device: &mut Device, end: u32) {
+/// Whether Trend Log 1 takes its records from 1 on, up to the one before this number.
+fn samples(device: &mut Device, end: u32) -> bool {
     for number in 1..end {
-        assert_eq!(rt; device.sample(1), Ok(number));
+        if device.sample(1) != Ok(number) {
+            return false;
+        }
     }
+    true
 }
 
 /// Device 123 whose Trend Log 1, for so many records, has taken those before this number.
-pub(crate) fn plant_with(
-    rt: &(impl Abort + AllocGlobal),
-    capacity: u32,
-    end: u32,
-) -> Result<Device, Fail> {
-    let mut device = plant(rt.alloc(), capacity)?;
-    sample(rt, &mut device, end);
-    Ok(device)
+pub(crate) fn plant_with(rt: &(impl Abort + AllocGlobal), capacity: u32, end: u32) -> Device {
+    let mut device = plant(rt.alloc(), capacity).expect(rt, "a device");
+    assert!(rt; samples(&mut device, end));
+    device
 }
 
 /// WriteProperty of Record_Count 0 of Trend Log 1, which purges it.
@@ -135,9 +126,8 @@ pub(crate) fn gap(first: u32, before: u32) -> Item {
 }
 
 pub(crate) fn brought(rt: &impl Abort, outcome: &Outcome, items: &[Item], next: u32, why: Why) {
-    assert_eq!(rt; outcome.items.as_slice(), items);
-    assert_eq!(rt; outcome.next, next);
-    assert_eq!(rt; outcome.why, why);
+    let brought = (outcome.items.as_slice(), outcome.next, outcome.why);
+    assert_eq!(rt; brought, (items, next, why));
 }
 
 /// Who-Is.
@@ -148,29 +138,31 @@ const I_AM: [u8; 20] = [
     0x81, 0x0a, 0, 0x14, 1, 0, 0x10, 0, 0xc4, 2, 0, 0, 0x7b, 0x22, 5, 0xc4, 0x91, 3, 0x21, 0,
 ];
 
-/// An ask of the link brings this answer, or is lost.
-pub(crate) fn brings(
-    rt: &impl Abort,
-    link: &mut impl LogLink,
-    request: &[u8],
-    answer: Option<&[u8]>,
-) {
+/// Whether an ask of the link brings the I-Am, unless it is lost.
+fn tells(link: &mut DirectLink, request: &[u8]) -> Option<bool> {
     match link.ask(request) {
-        Ok(reply) => assert_eq!(rt; Some(reply.octets()), answer),
-        Err(Lost) => assert!(rt; answer.is_none()),
+        Ok(reply) => Some(reply.octets() == I_AM.as_slice()),
+        Err(Lost) => None,
     }
 }
 
-#[test]
-fn each_request_takes_its_answer(rt: HostRuntime) -> Result<(), Fail> {
-    let mut device = plant(rt.alloc(), 2)?;
+/// What five asks bring over a link that loses the first answer and the third.
+fn five_asks(device: &mut Device) -> [Option<bool>; 5] {
     let events = [LinkEvent::Lose, LinkEvent::Answer, LinkEvent::Lose];
-    let mut link = DirectLink::new(&mut device, &events);
-    brings(&rt, &mut link, &WHO_IS, None);
-    // The device doesn't answer this one, and the answer is used up.
-    brings(&rt, &mut link, &[0x81], None);
-    brings(&rt, &mut link, &WHO_IS, None);
-    brings(&rt, &mut link, &WHO_IS, Some(&I_AM));
-    brings(&rt, &mut link, &WHO_IS, Some(&I_AM));
-    Ok(())
+    let mut link = DirectLink::new(device, &events);
+    [
+        tells(&mut link, &WHO_IS),
+        // The device doesn't answer this one, and the answer is used up.
+        tells(&mut link, &[0x81]),
+        tells(&mut link, &WHO_IS),
+        tells(&mut link, &WHO_IS),
+        tells(&mut link, &WHO_IS),
+    ]
+}
+
+#[test]
+fn each_request_takes_its_answer(rt: HostRuntime) {
+    let mut device = plant(rt.alloc(), 2).expect(&rt, "a device");
+    let told = five_asks(&mut device);
+    assert_eq!(rt; told, [None, None, None, Some(true), Some(true)]);
 }

@@ -54,7 +54,7 @@ const FROM_OLDEST: [u8; 69] = [
 ];
 
 /// A link to the device, which answers what it knows and loses all else.
-#[derive(Clone, Copy, Debug, Drop)]
+#[derive(Drop)]
 pub struct ForeignLink {
     failures: u64,
 }

@@ -13,7 +13,6 @@ use bac_walk::{Walk, Why, honest_is_delivered};
 use bac_wire::{Datagram, ObjectId};
 use std::alloc::Global;
 use std::io::Write;
-use std::test::Fail;
 
 /// 192.168.1.20:47808
 const DEVICE: [u8; 6] = [192, 168, 1, 20, 0xba, 0xc0];
@@ -23,7 +22,7 @@ const STRANGER: [u8; 6] = [192, 168, 1, 21, 0xba, 0xc0];
 
 /// Carries questions to the device. Before each of its answers comes a datagram of another sender
 /// that looks like one of them.
-#[derive(Debug, Drop)]
+#[derive(Drop)]
 pub struct ForeignPort {
     question: Datagram,
     is_disturbed: bool,
@@ -90,32 +89,32 @@ pub fn printed_of_another_device<W: Write>(
     Some(fetch_log(alloc, &mut link, &mut transactions, walk, steps, out))
 }
 
-#[test]
-fn another_device_is_printed(rt: HostRuntime) -> Result<(), Fail> {
-    let log = ObjectId::new(20, 1).ok_or("no such identifier")?;
+const PRINTED: &[u8] = b"\
+    7 2024-05-06T07:00:00.00 real(41c80000) -\n\
+    8 2024-05-06T08:00:00.00 real(41cc0000) 0000\n\
+    9 2024-05-06T09:00:00.00 real(41d00000) 0000\n\
+    10 2024-05-06T10:00:00.00 real(41d40000) -\n\
+    caught up, next 11\n";
+
+fn print_nine_steps(alloc: Global, out: &mut Vec<u8>) -> Option<Result<Fetched, QueryFault>> {
+    let log = ObjectId::new(20, 1)?;
     let port = ForeignPort {
         question: Datagram::new(),
         is_disturbed: false,
     };
+    printed_of_another_device(alloc, port, log, 0, 9, out)
+}
+
+#[test]
+fn another_device_is_printed(rt: HostRuntime) {
     let mut text = Vec::new(rt.alloc());
-    let fetched = printed_of_another_device(rt.alloc(), port, log, 0, 9, &mut text);
-    assert_eq!(rt;
-        fetched,
-        Some(Ok(Fetched {
-            why: Why::CaughtUp,
-            next: 11,
-            flaw: None,
-            said_more: false,
-        }))
-    );
-    let want = [
-        b"7 2024-05-06T07:00:00.00 real(41c80000) -\n",
-        b"8 2024-05-06T08:00:00.00 real(41cc0000) 0000\n".as_slice(),
-        b"9 2024-05-06T09:00:00.00 real(41d00000) 0000\n",
-        b"10 2024-05-06T10:00:00.00 real(41d40000) -\n",
-        b"caught up, next 11\n",
-    ]
-    .concat(rt.alloc())?;
-    assert_eq!(rt; text.as_slice(), want.as_slice());
-    Ok(())
+    let fetched = print_nine_steps(rt.alloc(), &mut text);
+    let wanted = Fetched {
+        why: Why::CaughtUp,
+        next: 11,
+        flaw: None,
+        said_more: false,
+    };
+    assert_eq!(rt; fetched, Some(Ok(wanted)));
+    assert_eq!(rt; text.as_slice(), PRINTED);
 }

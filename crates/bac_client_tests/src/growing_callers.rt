@@ -19,7 +19,7 @@ use std::alloc::Global;
 
 /// A link to the device. It has logged so many records, one more at each ask, and loses each third
 /// ask, and those that it doesn't know.
-#[derive(Clone, Copy, Debug, Drop)]
+#[derive(Drop)]
 pub struct GrowingLink {
     logged: u64,
     failures: u64,

@@ -2,35 +2,33 @@
 //! answers what came through one is in examples/check/lines.rows, and how one is asked in
 //! asking.talk.
 
-use crate::direct_link::{brings, brought, gap, plant_with, state};
+use crate::direct_link::{brought, gap, plant_with, state};
 use crate::walk::walk_from;
 use bac_apdu::Route;
+use bac_device::Device;
 use bac_direct::{DirectLink, LinkEvent, RoutedLink};
-use bac_link::Transactions;
-use bac_walk::{Why, collect};
-use std::test::Fail;
+use bac_link::{LogLink, Transactions};
+use bac_walk::{Outcome, Why, collect};
+use std::alloc::Global;
 
-fn route(net: u16, address: &[u8]) -> Result<Route, Fail> {
-    Ok(Route::new(net, address).ok_or("no such place")?)
-}
-
-/// A link through a router to this address on network 7, from address 7f on network 5.
-fn through<'a>(direct: DirectLink<'a>, address: &[u8]) -> Result<RoutedLink<DirectLink<'a>>, Fail> {
-    let far = route(7, address)?;
-    let near = route(5, &[0x7f])?;
-    Ok(RoutedLink::new(direct, far, near))
+/// Walks from number 1 on, through a router to address 0a on network 7, from address 7f on network
+/// 5.
+fn walk_through(alloc: Global, device: &mut Device) -> Option<Outcome> {
+    let mut walk = walk_from(1)?;
+    let there = Route::new(7, &[0x0a])?;
+    let far = Route::new(7, &[0x0a])?;
+    let near = Route::new(5, &[0x7f])?;
+    let mut transactions = Transactions::through(3, there);
+    let mut link = RoutedLink::new(DirectLink::new(device, &[]), far, near);
+    Some(collect(alloc, &mut link, &mut transactions, &mut walk, 10))
 }
 
 #[test]
-fn a_walk_through_a_router(rt: HostRuntime) -> Result<(), Fail> {
-    let mut walk = walk_from(1)?;
-    let mut transactions = Transactions::through(3, route(7, &[0x0a])?);
-    let mut device = plant_with(&rt, 3, 6)?;
-    let mut link = through(DirectLink::new(&mut device, &[]), &[0x0a])?;
-    let outcome = collect(rt.alloc(), &mut link, &mut transactions, &mut walk, 10);
+fn a_walk_through_a_router(rt: HostRuntime) {
+    let mut device = plant_with(&rt, 3, 6);
+    let outcome = walk_through(rt.alloc(), &mut device).expect(&rt, "a walk");
     let items = [gap(1, 3), state(3), state(4), state(5)];
     brought(&rt, &outcome, &items, 6, Why::CaughtUp);
-    Ok(())
 }
 
 /// ReadRange of Trend Log 1 by number 1, count 100, for address 0a on network 7.
@@ -45,16 +43,26 @@ const HERE: [u8; 23] = [
     0x64, 0x6f,
 ];
 
-#[test]
-fn requests_that_a_link_does_not_carry(rt: HostRuntime) -> Result<(), Fail> {
-    let mut device = plant_with(&rt, 3, 6)?;
+/// Whether an ask of the link is lost.
+fn loses(link: &mut impl LogLink, request: &[u8]) -> bool {
+    link.ask(request).is_err()
+}
+
+/// Whether asks are lost: one straight to the device, and two through a router to address 0b.
+fn three_asks(device: &mut Device) -> Option<[bool; 3]> {
+    let far = Route::new(7, &[0x0b])?;
+    let near = Route::new(5, &[0x7f])?;
     let events = [LinkEvent::Sample(1), LinkEvent::Answer];
-    let mut direct = DirectLink::new(&mut device, &events);
+    let mut direct = DirectLink::new(device, &events);
     // Nothing is played for a request to another network.
-    brings(&rt, &mut direct, &THERE, None);
-    let mut link = through(direct, &[0x0b])?;
+    let straight = loses(&mut direct, &THERE);
+    let mut link = RoutedLink::new(direct, far, near);
     // Neither for another place nor for this network.
-    brings(&rt, &mut link, &THERE, None);
-    brings(&rt, &mut link, &HERE, None);
-    Ok(())
+    Some([straight, loses(&mut link, &THERE), loses(&mut link, &HERE)])
+}
+
+#[test]
+fn requests_that_a_link_does_not_carry(rt: HostRuntime) {
+    let mut device = plant_with(&rt, 3, 6);
+    assert_eq!(rt; three_asks(&mut device), Some([true; 3]));
 }

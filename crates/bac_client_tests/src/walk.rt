@@ -9,7 +9,7 @@ use bac_log::{Datum, Entry};
 use bac_scripted_link::ScriptedLink;
 use bac_walk::{Ended, Gap, Numbered, Progress, Sink, Walk, stop_and_resume};
 use bac_wire::{Date4, ObjectId, Time4};
-use std::test::Fail;
+use std::alloc::Global;
 
 /// An ACK with records 1 and 2, invoke ID 1.
 const FIRST: [u8; 63] = [
@@ -58,9 +58,8 @@ fn logged(number: u32) -> Item {
 }
 
 /// A walk of Trend Log 1 from this number on.
-pub(crate) fn walk_from(s: u32) -> Result<Walk, Fail> {
-    let log = ObjectId::new(20, 1).ok_or("no such object")?;
-    Ok(Walk::from_number(log, s).ok_or("no walk")?)
+pub(crate) fn walk_from(s: u32) -> Option<Walk> {
+    Walk::from_number(ObjectId::new(20, 1)?, s)
 }
 
 /// Keeps what it is given, and wants no more after the record of this number.
@@ -88,43 +87,59 @@ impl Sink for StopsAt {
     }
 }
 
-#[test]
-fn a_restarted_walk_asks_by_number_again(rt: HostRuntime) -> Result<(), Fail> {
+/// Whether an ACK without records makes the walk ask for the oldest ones next.
+fn asks_oldest(walk: &mut Walk) -> bool {
+    matches!(walk.take(&EMPTY[9..]), Ok(Progress::AskOldest))
+}
+
+/// Whether the walk is caught up when it is given record 2.
+fn is_caught_up(walk: &mut Walk) -> bool {
+    matches!(walk.take(&SECOND[9..]), Ok(Progress::CaughtUp))
+}
+
+/// Whether each of three answers is taken so, the first again after a restart, and the number that
+/// came next before it.
+fn restart() -> Option<([bool; 3], u32)> {
     let mut walk = walk_from(5)?;
-    assert!(rt; matches!(walk.take(&EMPTY[9..]), Ok(Progress::AskOldest)));
-    assert!(rt; matches!(walk.take(&SECOND[9..]), Ok(Progress::CaughtUp)));
-    assert!(rt; walk.next_number() == 5);
+    let asks = asks_oldest(&mut walk);
+    let is_caught_up = is_caught_up(&mut walk);
+    let next = walk.next_number();
     walk.restart();
-    assert!(rt; matches!(walk.take(&EMPTY[9..]), Ok(Progress::AskOldest)));
-    Ok(())
+    Some(([asks, is_caught_up, asks_oldest(&mut walk)], next))
 }
 
 #[test]
-fn a_walk_is_resumed_into_another_sink(rt: HostRuntime) -> Result<(), Fail> {
+fn a_restarted_walk_asks_by_number_again(rt: HostRuntime) {
+    assert_eq!(rt; restart(), Some(([true; 3], 5)));
+}
+
+/// Walks from number 1 on into one sink, and then one step into another: how both ended, and the
+/// number that comes next.
+fn resume(sink: &mut StopsAt, rest: &mut StopsAt) -> Option<((Ended, Ended), u32)> {
+    let mut walk = walk_from(1)?;
     let replies: [&[u8]; 2] = [&FIRST, &SECOND];
     let mut link = ScriptedLink::new(&replies);
-    let mut walk = walk_from(1)?;
-    let mut sink = StopsAt {
-        number: 1,
-        items: Vec::new(rt.alloc()),
-    };
-    let mut rest = StopsAt {
-        number: 9,
-        items: Vec::new(rt.alloc()),
-    };
     let mut transactions = Transactions::new(0);
-    let ended = stop_and_resume(
-        &mut link,
-        &mut transactions,
-        &mut walk,
-        5,
-        &mut sink,
-        1,
-        &mut rest,
+    let ended = stop_and_resume(&mut link, &mut transactions, &mut walk, 5, sink, 1, rest);
+    Some((ended, walk.next_number()))
+}
+
+fn stops_at(alloc: Global, number: u32) -> StopsAt {
+    StopsAt {
+        number,
+        items: Vec::new(alloc),
+    }
+}
+
+#[test]
+fn a_walk_is_resumed_into_another_sink(rt: HostRuntime) {
+    let mut sink = stops_at(rt.alloc(), 1);
+    let mut rest = stops_at(rt.alloc(), 9);
+    let resumed = resume(&mut sink, &mut rest);
+    assert_eq!(rt; resumed, Some(((Ended::Stopped, Ended::StepLimit), 3)));
+    let (first, second) = (sink.items.as_slice(), rest.items.as_slice());
+    assert_eq!(rt;
+        (first, second),
+        ([logged(1)].as_slice(), [logged(2)].as_slice())
     );
-    assert_eq!(rt; ended, (Ended::Stopped, Ended::StepLimit));
-    assert_eq!(rt; sink.items.as_slice(), [logged(1)].as_slice());
-    assert_eq!(rt; rest.items.as_slice(), [logged(2)].as_slice());
-    assert_eq!(rt; walk.next_number(), 3);
-    Ok(())
 }

@@ -6,13 +6,11 @@ use bac_link::Item;
 use bac_wire::Datagram;
 use bac_world::{Memory, World, WorldEvent};
 use std::process::Abort;
-use std::test::Fail;
 
 /// A walk from number 1 of a log with the records before this number.
-fn world(rt: &(impl Abort + AllocGlobal), end: u32, retries: u8) -> Result<World, Fail> {
-    let walk = walk_from(1)?;
-    let device = plant_with(rt, 10, end)?;
-    Ok(World::new(rt.alloc(), device, walk, retries))
+fn world(rt: &(impl Abort + AllocGlobal), end: u32, retries: u8) -> World {
+    let walk = walk_from(1).expect(rt, "a walk");
+    World::new(rt.alloc(), plant_with(rt, 10, end), walk, retries)
 }
 
 /// A request that is answered twice, one that is repeated and answered in another order, and one
@@ -39,31 +37,38 @@ const HAPPENS: [bool; 13] = [
 ];
 
 fn delivered(rt: &impl Abort, world: &World, items: &[Item], caught: Option<u32>) {
-    assert_eq!(rt; world.items(), items);
-    assert_eq!(rt; world.caught_up(), caught);
+    assert_eq!(rt; (world.items(), world.caught_up()), (items, caught));
+}
+
+fn play_late(world: &mut World) -> Result<usize, Memory> {
+    world.play_all(&LATE)
 }
 
 #[test]
-fn repeated_and_reordered_packets_bring_a_record_once(rt: HostRuntime) -> Result<(), Fail> {
-    let mut world = world(&rt, 2, 3)?;
-    assert_eq!(rt; world.play_all(&LATE), Ok(11));
+fn repeated_and_reordered_packets_bring_a_record_once(rt: HostRuntime) {
+    let mut world = world(&rt, 2, 3);
+    assert_eq!(rt; play_late(&mut world), Ok(11));
     delivered(&rt, &world, &[state(1)], Some(2));
-    Ok(())
 }
 
-/// So many questions are asked and given up.
-fn give_up(rt: &impl Abort, world: &mut World, questions: u32) {
-    let events = [WorldEvent::Ask, WorldEvent::Timeout];
+/// A question is asked and given up.
+fn give_up(world: &mut World) -> Result<usize, Memory> {
+    world.play_all(&[WorldEvent::Ask, WorldEvent::Timeout])
+}
+
+/// Whether so many questions are.
+fn gives_up(world: &mut World, questions: u32) -> bool {
     for _ in 0..questions {
-        assert_eq!(rt; world.play_all(&events), Ok(2));
+        if give_up(world) != Ok(2) {
+            return false;
+        }
     }
+    true
 }
 
-#[test]
-fn a_packet_of_256_transactions_ago_never_comes(rt: HostRuntime) -> Result<(), Fail> {
-    let mut world = world(&rt, 2, 0)?;
-    give_up(&rt, &mut world, 255);
-    let events = [
+/// A question is asked, and then another. Each time the first packet of all comes, and its answer.
+fn ask_twice(world: &mut World) -> Result<usize, Memory> {
+    world.play_all(&[
         WorldEvent::Ask,
         WorldEvent::Deliver(0),
         WorldEvent::Deliver(256),
@@ -71,25 +76,34 @@ fn a_packet_of_256_transactions_ago_never_comes(rt: HostRuntime) -> Result<(), F
         WorldEvent::Ask,
         WorldEvent::Deliver(0),
         WorldEvent::Deliver(256),
-    ];
-    assert_eq!(rt; world.play_all(&events), Ok(4));
-    delivered(&rt, &world, &[], None);
-    Ok(())
+    ])
 }
 
 #[test]
-fn a_purge_before_the_answer_is_a_gap(rt: HostRuntime) -> Result<(), Fail> {
-    let purge = Datagram::of(&PURGE).ok_or("too long")?;
-    let mut world = world(&rt, 4, 3)?;
+fn a_packet_of_256_transactions_ago_never_comes(rt: HostRuntime) {
+    let mut world = world(&rt, 2, 0);
+    assert!(rt; gives_up(&mut world, 255));
+    assert_eq!(rt; ask_twice(&mut world), Ok(4));
+    delivered(&rt, &world, &[], None);
+}
+
+/// The log is purged, and then a question is asked and answered.
+fn purge_and_ask(world: &mut World) -> Option<Result<usize, Memory>> {
+    let purge = Datagram::of(&PURGE)?;
     let events = [
         WorldEvent::Handle(purge),
         WorldEvent::Ask,
         WorldEvent::Deliver(0),
         WorldEvent::Deliver(1),
     ];
-    assert_eq!(rt; world.play_all(&events), Ok(4));
+    Some(world.play_all(&events))
+}
+
+#[test]
+fn a_purge_before_the_answer_is_a_gap(rt: HostRuntime) {
+    let mut world = world(&rt, 4, 3);
+    assert_eq!(rt; purge_and_ask(&mut world), Some(Ok(4)));
     delivered(&rt, &world, &[gap(1, 4), purged(4)], None);
-    Ok(())
 }
 
 /// Plays an event, and once more if memory is refused.
@@ -100,13 +114,24 @@ fn played(world: &mut World, event: &WorldEvent) -> Result<bool, Memory> {
     }
 }
 
+/// How many events happen as they should, one after the other, up to the first that doesn't.
+fn played_so(world: &mut World, events: &[WorldEvent; 13]) -> usize {
+    for place in 0..13usize {
+        if played(world, &events[place]) != Ok(HAPPENS[place]) {
+            return place;
+        }
+    }
+    13
+}
+
+fn play_each(world: &mut World) -> usize {
+    played_so(world, &LATE)
+}
+
 /// If memory is refused, the events before stand, and the refused one can be played again.
 #[test]
-fn refused_memory_leaves_the_events_before(rt: HostRuntime) -> Result<(), Fail> {
-    let mut world = world(&rt, 2, 3)?;
-    for place in 0..13usize {
-        assert_eq!(rt; played(&mut world, &LATE[place]), Ok(HAPPENS[place]));
-    }
+fn refused_memory_leaves_the_events_before(rt: HostRuntime) {
+    let mut world = world(&rt, 2, 3);
+    assert_eq!(rt; play_each(&mut world), 13);
     delivered(&rt, &world, &[state(1)], Some(2));
-    Ok(())
 }
