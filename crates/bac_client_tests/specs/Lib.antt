@@ -3,3 +3,4 @@ pub mod Day
 pub mod Foreign
 pub mod ForeignPort
 pub mod Growing
+pub mod Apart

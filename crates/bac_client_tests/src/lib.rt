@@ -6,6 +6,8 @@
 #[cfg(test)]
 mod again_callers;
 #[cfg(test)]
+mod apart_callers;
+#[cfg(test)]
 mod came_callers;
 #[cfg(test)]
 mod direct_callers;

@@ -59,6 +59,18 @@ answered_as path i r datagram ways fits is =
     let P : Option ℕ → Type 0 = λ n. (same_id n o && way) ≡ true in
     same_number i o (and_parts (same_id (Some i) o) way (subst P asked is)).0
 
+-- a datagram that answers two requests has the invoke ID of both
+pub one_invoke : (path way : Path) (r q : Request) (i j : ℕ) (datagram : List ℕ) → AreWays path → AreWays way → (IsTooLong r → ⊥) → (IsTooLong q → ⊥) →
+    answers_to (request_octets path i r) datagram ≡ true → answers_to (request_octets way j q) datagram ≡ true → i ≡ j
+one_invoke path way r q i j datagram ways others r_fits q_fits first second =
+    let a = answered_as path i r datagram ways r_fits first in
+    let b = answered_as way j q datagram others q_fits second in
+    ap number_of (sym a.1 ∙ b.1)
+  where
+    number_of : Option (ℕ × Answer) → ℕ
+    number_of None = 0
+    number_of (Some x) = x.0
+
 pub answers_tell_apart : AnswersTellApart
 answers_tell_apart = λ path way r q early late datagram ways others r_fits q_fits le near first second.
     let a = answered_as path (early % 256) r datagram ways r_fits first in
