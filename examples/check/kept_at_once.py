@@ -16,6 +16,25 @@ class Slow(Device):
         threading.Timer(WAIT, super().answer, (port, request, asker)).start()
 
 
+class Echo:
+    """What goes out at a port goes out once more, as a network that repeats a datagram does it."""
+
+    def __init__(self, port, after):
+        self.port, self.after = port, after
+
+    def sendto(self, octets, asker):
+        self.port.sendto(octets, asker)
+        threading.Timer(self.after, self.port.sendto, (octets, asker)).start()
+
+
+class Echoing(Device):
+    """Each answer goes out 20 ms after its question came, and once more 30 ms later: two questions for a log take 40, so
+    that it comes while the same question for the next log is open."""
+
+    def answer(self, port, request, asker):
+        threading.Timer(0.02, super().answer, (Echo(port, 0.03), request, asker)).start()
+
+
 def timed(judge, *words):
     """What a run told, and how long it took."""
     start = time.monotonic()
@@ -48,6 +67,22 @@ def own_address(judge, _runs):
     silent = line(site[2], 1, 0, "lost, next 9") + line(site[2], 2, 0, "not asked, next 9")
     judge.same("and one is silent", (status, out), (2, lines_of(site[:2], 0) + silent + lines_of(site[3:], 0)))
     judge.judge("from an own address", file, site, True)
+
+
+def own_address_echoes(judge, _runs):
+    """From an address of our own, an answer that comes once more is none to a question for the next log."""
+    site = [Echoing([Log(number, 50) for number in range(1, 13)], f"echo{n}") for n in range(2)]
+    serve(site)
+    file, ours = f"{judge.room}/echo.db", f"127.77.6.2:{20000 + chance.randrange(9000)}"
+    words = [word for device in site for word in (device.address, *map(str, device.logs))]
+    for new in (5, 0, 3):
+        for device in site:
+            for log in device.logs.values():
+                log.log(new)
+        told = judge.ran(["keep", file, f"--local={ours}", *words])
+        judge.same(f"{new} new where each answer comes twice", told, (0, lines_of(site, new), ""))
+        words = []
+    judge.judge("where each answer comes twice", file, site, True)
 
 
 def at_once(judge, _runs):

@@ -1,25 +1,17 @@
 -- Which devices are called, log by log.
 use Rattle.std.proofs.Common.{◌≡◌, ℕ, ◌<◌, Bool, true, false, not, ◌&&◌, ◌||◌, true≢false, List, [], ◌∷◌, ◌++◌, if◌then◌else◌, append_assoc, length, get_or, map, inl, inr, refl, ap, sym, subst, ◌∙◌, arith}
 use Rattle.std.specs.List.{Contains, list_any}
-use Rattle.std.specs.String.{string_eq, string_eq_equiv}
-use Rattle.std.proofs.lemmas.Cmp.{nat_eq_equiv}
 use Rattle.std.proofs.lemmas.Bool.{and_from, and_parts}
 use Rattle.std.proofs.lemmas.List.{append-nil}
 use Rattle.std.proofs.lemmas.List.Elements.{Contains-append_left, Contains-push, Contains-push_cases}
 use Rattle.std.proofs.lemmas.List.Folds.{Any-from_list_any, list_any_at}
 use Rattle.std.proofs.lemmas.List.Quantifiers.{all_pairs_push}
 use denote.Ref.{Bor}
-use Rattle.bac_archive.specs.declared.trend_logs.Source.{Source}
 use Rattle.bac_asked.specs.declared.wanted.Wanted.{Wanted}
 use Rattle.bac_questions.specs.Silent.{is_same_device}
+use Rattle.bac_questions.proofs.SilentLemmas.{same_device}
 use Rattle.bac_questions.specs.declared.whose.Heard.{Heard}
 use Rattle.bac_absent.specs.Each.{AreCalled, comes_to, coming, is_called}
-
--- a device is its own
-itself : (s : Source) → is_same_device s s ≡ true
-itself s =
-    and_from (string_eq s.address s.address) _ (string_eq_equiv.refl s.address)
-    (and_from _ (string_eq s.dadr s.dadr) (nat_eq_equiv.refl s.dnet) (string_eq_equiv.refl s.dadr))
 
 -- where none passes a test, the one at a place doesn't
 none_at : {X : Type 0} (p : X → Bool) (xs : List X) (k : ℕ) (d : X) → k < length xs → list_any p xs ≡ false → p (get_or xs k d) ≡ false
@@ -83,7 +75,7 @@ one_more heard all called wanted are it none = record {
   ];
   each = λ other has so. elim (Contains-push_cases all wanted other has) [
     | inl before ↦ (let one = are.each other before so in (one.0, Contains-append_left called (wanted ∷ []) one.0 one.1, one.2))
-    | inr is ↦ (wanted, Contains-push called wanted, subst (λ (w : Wanted). is_same_device wanted.source w.source ≡ true) is (itself wanted.source))
+    | inr is ↦ (wanted, Contains-push called wanted, subst (λ (w : Wanted). is_same_device wanted.source w.source ≡ true) is (same_device.refl wanted.source))
   ];
   once = all_pairs_push (λ (one other : Wanted). is_same_device one.source other.source ≡ false) called wanted are.once
       (λ k d within. none_at (λ (one : Wanted). is_same_device one.source wanted.source) called k d within none);

@@ -1,27 +1,17 @@
 -- Of logs the first of each device.
 use Rattle.std.proofs.Common.{◌≡◌, ◌<◌, ℕ, zero, suc, Bool, not, true, false, true≢false, List, [], ◌∷◌, ◌++◌, if◌then◌else◌, ◌≤◌, ◌+◌, length, length-append, get_or, filter, fold, inl, inr, refl, ap, sym, subst, ◌∙◌, arith}
 use Rattle.std.specs.List.{Contains}
-use Rattle.std.specs.Cmp.{IsEquivalence}
-use Rattle.std.specs.String.{string_eq_equiv}
-use Rattle.std.proofs.lemmas.Cmp.{and_equiv, nat_eq_equiv, on_equiv}
 use Rattle.std.proofs.lemmas.List.{append-nil, append_assoc}
 use Rattle.std.proofs.lemmas.List.Elements.{Contains-append_left, Contains-push, Contains-push_cases}
 use Rattle.std.proofs.lemmas.List.Folds.{Any-from_list_any, list_any_at}
 use Rattle.std.proofs.lemmas.List.Quantifiers.{all_pairs_push}
 use Rattle.std.proofs.lemmas.List.Sums.{count_by-le-length, length-filter}
-use Rattle.bac_archive.specs.declared.trend_logs.Source.{Source}
 use Rattle.bac_questions.specs.Silent.{is_same_device}
+use Rattle.bac_questions.proofs.SilentLemmas.{same_device}
 use Rattle.bac_ahead.specs.Laws.{RoundsAskEachOnce}
 use Rattle.bac_ahead.specs.Rounds.{Parts, devices_of, is_among, is_gone, left_of, parts_of, put_in}
 use Rattle.bac_ahead.specs.declared.opening.Opened.{Opened}
 use Rattle.bac_ahead.specs.declared.opening.Opening.{Opening}
-
--- ---- devices
-
-same : IsEquivalence is_same_device
-same =
-    and_equiv (on_equiv (λ (s : Source). s.address) string_eq_equiv)
-    (and_equiv (on_equiv (λ (s : Source). s.dnet) nat_eq_equiv) (on_equiv (λ (s : Source). s.dadr) string_eq_equiv))
 
 -- ---- the parts
 
@@ -71,7 +61,7 @@ put all parts one false is are = record {
   each = λ other has. elim (Contains-push_cases all one other has) [
     | inl before ↦
         (let it = are.each other before in (it.0, Contains-append_left parts.firsts (one ∷ []) it.0 it.1, it.2))
-    | inr it ↦ (one, Contains-push parts.firsts one, subst (λ (o : Opening). is_same_device one.source o.source ≡ true) it (same.refl one.source))
+    | inr it ↦ (one, Contains-push parts.firsts one, subst (λ (o : Opening). is_same_device one.source o.source ≡ true) it (same_device.refl one.source))
   ];
   rest = λ other has. Contains-append_left all (one ∷ []) other (are.rest other has);
 }
@@ -126,7 +116,7 @@ two_there (x ∷ []) one other first second has has' is is' apart =
     let there : x ≡ second = only x second has' in
     let at_one : is_same_device x.source one.source ≡ true = subst (λ (o : Opening). is_same_device o.source one.source ≡ true) (sym here) is in
     let at_other : is_same_device x.source other.source ≡ true = subst (λ (o : Opening). is_same_device o.source other.source ≡ true) (sym there) is' in
-    absurd (true≢false (sym at_other ∙ same.congr x.source one.source other.source at_one ∙ apart))
+    absurd (true≢false (sym at_other ∙ same_device.congr x.source one.source other.source at_one ∙ apart))
   where
     only : (x y : Opening) → Contains (x ∷ []) y → x ≡ y
     only x y (zero, lt, at) = at

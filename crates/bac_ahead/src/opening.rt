@@ -45,6 +45,8 @@ pub struct Opening {
     /// How many batches are asked for ahead behind what the run begins with. What comes is held in
     /// memory, up to 3 kilobytes for each.
     pub batches: u32,
+    /// The invoke ID before that of its first question.
+    pub before: u8,
 }
 
 /// What came to the first questions for a log.
@@ -151,8 +153,9 @@ impl Opening {
     fn transactions(&self) -> Result<Transactions, AllocError>
         ensures retries { IfOk result (λ made. made.retries ≡ 0) }
         ensures route { IfOk result (λ made. made.route ≡ self.now.route) }
+        ensures first { IfOk result (λ made. made.invoke ≡ self.now.before) }
     {
-        Ok(transactions_by(0, self.route.clone()?))
+        Ok(transactions_by(0, self.route.clone()?).after(self.before))
     }
 
     /// What came, once nothing more is asked.

@@ -5,3 +5,4 @@ pub mod Faults
 pub mod Wanted
 pub mod Began
 pub mod Reasons
+pub mod Ids

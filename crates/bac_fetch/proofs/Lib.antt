@@ -11,3 +11,4 @@ pub mod CausesLemmas
 pub mod TakenLemmas
 pub mod SoughtLemmas
 pub mod CalledLemmas
+pub mod BesideLemmas

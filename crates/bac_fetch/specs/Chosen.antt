@@ -7,12 +7,14 @@ use Rattle.sqlite_trees.specs.Tree.{Trees}
 use Rattle.bac_archive.specs.Logs.{AreLogs}
 use Rattle.bac_archive.specs.declared.trend_logs.Log.{Log}
 use Rattle.bac_archive.specs.declared.trend_logs.Source.{Source}
+use Rattle.bac_asked.specs.AsLog.{Given}
 use Rattle.bac_asked.specs.Wanted.{AsksItsSource, IsAskedAs}
 use Rattle.bac_asked.specs.declared.end.NotDone.{NotDone}
 use Rattle.bac_asked.specs.declared.end.NotDone.TheVariants.{Asking}
 use Rattle.bac_asked.specs.declared.fault.Fault.TheVariants.{Exchange}
 use Rattle.bac_asked.specs.declared.wanted.Wanted.{Wanted}
 use Rattle.bac_fetch.specs.Ahead.{AtOnce}
+use Rattle.bac_fetch.specs.Beside.{IsAskedWith}
 use Rattle.bac_fetch.specs.Listed.{HoldsLists, was_silent}
 use Rattle.bac_fetch.specs.Unlisted.{unlisted_lines, unlisted_status}
 use Rattle.bac_fetch.specs.declared.keeping.Chosen.{Chosen}
@@ -52,10 +54,11 @@ abbrev pub AskTheirSources : Chosen → Type 0
 AskTheirSources chosen.Kept = Unit {0}
 AskTheirSources (chosen.Sought sought) = All AskOneSource sought.items
 
--- What was chosen of an archive: its logs that aren't stopped. Of devices `AreFound` tells it.
-abbrev pub AreChosen : Chosen → Trees → List Wanted → Type 0
-AreChosen chosen.Kept trees all = AreKeptLogs trees all
-AreChosen (chosen.Sought sought) trees all = Unit {0}
+-- What was chosen of an archive: its logs that aren't stopped, each asked for by the options that were given. Of devices
+-- `AreFound` tells it.
+abbrev pub AreChosen : Given → Chosen → Trees → List Wanted → Type 0
+AreChosen given chosen.Kept trees all = AreKeptLogs trees all × All (IsAskedWith given) all
+AreChosen given (chosen.Sought sought) trees all = Unit {0}
 
 -- a log is one of these
 abbrev pub is_wanted : Source → List Wanted → Bool

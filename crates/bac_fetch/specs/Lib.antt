@@ -1,4 +1,5 @@
 pub mod Ahead
+pub mod Beside
 pub mod Called
 pub mod Listed
 pub mod Unlisted

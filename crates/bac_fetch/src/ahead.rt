@@ -98,6 +98,7 @@ fn opened_by<A: Alter>(
         asked,
         steps,
         count,
+        before,
         ..
     } = &wanted.asking;
     let stand = stand_if(alloc, conn, log)?;
@@ -115,6 +116,7 @@ fn opened_by<A: Alter>(
         stand,
         steps: *steps,
         batches,
+        before: *before,
     })
 }
 

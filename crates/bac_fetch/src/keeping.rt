@@ -8,6 +8,7 @@ ghost use Rattle.sqlite.specs.Held.{state};
 ghost use Rattle.bac_archive.specs.Schema.{OverArchive, HasArchive};
 ghost use Rattle.bac_archive.specs.Logs.{AreLogs};
 ghost use Rattle.bac_fetch.specs.Ahead.{at_once};
+ghost use Rattle.bac_fetch.specs.Beside.{IsAskedWith};
 ghost use Rattle.bac_ports.specs.Sockets.{socket_rules};
 ghost use Rattle.bac_asked.specs.Faults.{WantsMemory, FailsOnRows, EndsLog};
 ghost use Rattle.bac_fetch.specs.Causes.{EndsCalled, EndsLogs, EndsRunOver, EndsSettled};
@@ -26,16 +27,17 @@ ghost use Rattle.bac_asked.specs.Wanted.{AsksItsSource, HasNoAddress};
 ghost use Rattle.bac_fetch.specs.Stays.{HasAllOf};
 ghost use Rattle.bac_asked.specs.declared.wanted.Wanted.{Wanted as WantedOf};
 
+use crate::beside::kept_beside;
 use crate::called::call_ahead;
 use crate::grouped::keep_known;
 use crate::moving::settle;
 use crate::sought::{Found, Sought, found_logs};
 use bac_archive::{Log, logs};
-use bac_asked::{FileFault, NotDone, Options, Wanted, add_wanted, kept_log};
+use bac_asked::{FileFault, NotDone, Options, Wanted, add_wanted};
 use bac_desks::Clock;
 use bac_heeding::Heeds;
 use bac_ports::Sockets;
-use bac_questions::{Heard, asked_beside};
+use bac_questions::Heard;
 use bac_recall::Recalls;
 use sqlite::{Alter, Connection};
 use std::alloc::Global;
@@ -50,33 +52,6 @@ pub enum Chosen {
     Sought(Vec<Sought>),
 }
 
-/// How a log of a file is asked for, behind others: as the one before it, if that is of the same
-/// device, or by the words of its own. So words are read once for each device.
-fn kept_beside(
-    alloc: Global,
-    all: &[Wanted],
-    log: Log,
-    options: &Options<'_>,
-) -> Result<Wanted, NotDone>
-    ensures source { IfOk result (λ wanted. wanted.source ≡ log.source) }
-    ensures asks { All AsksItsSource all.now → IfOk result AsksItsSource }
-    ensures fault { IfErr result (λ fault. WantsMemory fault
-        ⊎ ((fault ≡ NotDone.File FileFault.Address)
-        × HasNoAddress (given_in options.now) log.source)) }
-{
-    let Some(last) = all.last() else {
-        return kept_log(alloc, log, options);
-    };
-    match asked_beside(last, &log.source)? {
-        Some(asking) => Ok(Wanted {
-            source: log.source,
-            name: None,
-            asking,
-        }),
-        None => kept_log(alloc, log, options),
-    }
-}
-
 /// Puts a log of a file behind others as it is asked for, unless it is stopped.
 fn add_kept(
     alloc: Global,
@@ -85,6 +60,8 @@ fn add_kept(
     options: &Options<'_>,
 ) -> Result<(), NotDone>
     ensures asks { OnOk result (All AsksItsSource all.old.items → All AsksItsSource all.new.items) }
+    ensures by { OnOk result (All (IsAskedWith (given_in options.now)) all.old.items
+        → All (IsAskedWith (given_in options.now)) all.new.items) }
     ensures added { OnOk result (map (λ (w : WantedOf). w.source) all.new.items
         ≡ map (λ (w : WantedOf). w.source) all.old.items
         ++ map (λ (l : LogOf). l.source) (not_stopped (log ∷ []))) }
@@ -107,6 +84,7 @@ fn kept_logs<A: Alter>(
     options: &Options<'_>,
 ) -> Result<Vec<Wanted>, NotDone>
     ensures asks { IfOk result (λ all. All AsksItsSource all.items) }
+    ensures by { IfOk result (λ all. All (IsAskedWith (given_in options.now)) all.items) }
     // They are the logs of the archive that aren't stopped, one at least.
     ensures some { IfOk result (λ all. all.items ≢ []) }
     ensures logs { OverArchive (state A.Store conn.old) (state A.Store conn.new)
@@ -369,8 +347,8 @@ where
     requires { AskTheirSources chosen }
     ensures asks { IfOk result (λ found. All AsksItsSource found.all.items) }
     ensures chosen { OverArchive (state A.Store conn.old) (state A.Store conn.new)
-        (IfOk result (λ found. AreChosen chosen (state A.Store conn.old).now.trees
-        found.all.items)) }
+        (IfOk result (λ found. AreChosen (given_in options.now) chosen
+        (state A.Store conn.old).now.trees found.all.items)) }
     // Those of a file are one at least, those of a device those that are named, or those of its
     // Object_List, and no socket is opened for others.
     ensures found { IfOk result (λ found. Finds
@@ -427,7 +405,7 @@ where
         S.Socket.receives S.Socket.receives_within) (at_once S.holds C.reads clock window) chosen
         sockets.old all unlisted between
         × (OverArchive (state A.Store conn.old) (state A.Store conn.new)
-        (AreChosen chosen (state A.Store conn.old).now.trees all))
+        (AreChosen (given_in options.now) chosen (state A.Store conn.old).now.trees all))
         × AreToldBehind (O.contents output.old) (O.contents output.new) unlisted all
         (λ ends. OverArchive (state A.Store conn.old) (state A.Store conn.new)
         (KeepsLogs (socket_rules S.opens S.closes S.Socket.sends S.Socket.receives

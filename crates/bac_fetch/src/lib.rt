@@ -3,6 +3,7 @@
 #![tactic(auto)]
 
 mod ahead;
+mod beside;
 mod called;
 mod count;
 mod ending;

@@ -24,7 +24,7 @@ use Rattle.bac_files.specs.declared.disk_files.DiskFiles.{DiskFiles}
 use Rattle.bac_keeper.proofs.ArchiveLemmas.{tells_weaker}
 use Rattle.bac_keeper.specs.Archives.{IsHeld, KeepsArchive, LosesNothing}
 use Rattle.bac_asked.specs.AsLog.{Given}
-use Rattle.bac_keeper.specs.Done.{Chooses, EndsOver, KeepsIn, RefusesKeep, TellsThese}
+use Rattle.bac_keeper.specs.Done.{Chooses, EndsOver, KeepsIn, RefusesKeep, TellsThese, given_of}
 use Rattle.bac_keeper.specs.Ends.{FailsFile, IsOfSomeFile, IsUnclosedBySome, MayAsk, MayFail}
 use Rattle.bac_keeper.specs.Shown.{PrintsArchive, PrintsIn, Shows}
 use Rattle.bac_kept.specs.declared.printing.Shown.{Shown}
@@ -57,19 +57,20 @@ module _ {D : Type 0} {g : disk.Ghosts D} (image : Image) (opened last : Connect
       → IsClosedBy last closed → IfSome closed (IsDoneTo g image LosesNothing)
   loses_none stays shut = some_done LosesNothing (λ c open'. stays (c, open') (opened_settled image opened is (clean c))) shut.1
 
-  pub keeps_in : {S P C : Type 0} (rules : SocketRules S P) (by : ℕ → AtOnce S C) (begins : Database → Database → Type 0) (words : Keep) (chosen : Chosen) (sockets after : S) (out out' : Held) (result done : Result ℕ NotDone)
-      → Chooses words chosen
-      → IfOk done (TellsThese rules (by words.at_once) chosen sockets out out' (λ all between ends. IsHeld (file_state last) → KeepsArchive rules (by words.at_once) chosen all between after begins ends (file_state opened).now (file_state last).committed))
+  pub keeps_in : {S P C : Type 0} (rules : SocketRules S P) (by : ℕ → AtOnce S C) (begins : Database → Database → Type 0) (words : Keep) (given : Given) (chosen : Chosen) (sockets after : S) (out out' : Held) (result done : Result ℕ NotDone)
+      → given ≡ given_of words.options → Chooses words chosen
+      → IfOk done (TellsThese rules (by words.at_once) chosen sockets out out' (λ all between ends. IsHeld (file_state last) → KeepsArchive rules (by words.at_once) given chosen all between after begins ends (file_state opened).now (file_state last).committed))
       → IfOk result (λ v. done ≡ Ok v) → OnOk result (IsClosedBy last closed) → IfOk result (KeepsIn rules by g image begins words sockets after out out' closed)
-  keeps_in rules by begins words chosen sockets after out out' (Err e) done chooses told same shut = tt
-  keeps_in rules by begins words chosen sockets after out out' (Ok v) done chooses told same shut =
+  keeps_in rules by begins words given chosen sockets after out out' (Err e) done is chooses told same shut = tt
+  keeps_in rules by begins words given chosen sockets after out out' (Ok v) done is chooses told same shut =
       let these = subst (λ (r : Result ℕ NotDone). IfOk r (TellsThese rules (by words.at_once) chosen sockets out out' (λ all between ends. IsHeld (file_state last)
-      → KeepsArchive rules (by words.at_once) chosen all between after begins ends (file_state opened).now (file_state last).committed))) same told in (
+      → KeepsArchive rules (by words.at_once) given chosen all between after begins ends (file_state opened).now (file_state last).committed))) same told in (
         shut.0,
         chosen,
         chooses,
-        tells_weaker rules (by words.at_once) chosen sockets out out' _ (λ all between ends. IfSome closed (IsDoneTo g image (KeepsArchive rules (by words.at_once) chosen all between after begins ends))) v
-            (λ all between ends kept. some_done (KeepsArchive rules (by words.at_once) chosen all between after begins ends) (λ c open'. kept (c, open')) shut.1) these,
+        tells_weaker rules (by words.at_once) chosen sockets out out' _ (λ all between ends. IfSome closed (IsDoneTo g image (KeepsArchive rules (by words.at_once) (given_of words.options) chosen all between after begins ends))) v
+            (λ all between ends kept. some_done (KeepsArchive rules (by words.at_once) (given_of words.options) chosen all between after begins ends)
+            (λ c open'. subst (λ (o : Given). KeepsArchive rules (by words.at_once) o chosen all between after begins ends (file_state opened).now (file_state last).committed) is (kept (c, open'))) shut.1) these,
       )
 
 -- what was printed over the connection is what the files held

@@ -6,6 +6,7 @@ use Rattle.sqlite_trees.specs.Tree.{Trees}
 use Rattle.bac_archive.specs.Archive.{IsArchive}
 use Rattle.bac_archive.specs.Changes.{KeepsLogs as HasLogs}
 use Rattle.bac_archive.specs.Rows.{kept as items_in}
+use Rattle.bac_asked.specs.AsLog.{Given}
 use Rattle.bac_asked.specs.declared.end.End.{End}
 use Rattle.bac_asked.specs.declared.wanted.Wanted.{Wanted}
 use Rattle.bac_fetch.specs.Chosen.{AreChosen}
@@ -26,13 +27,13 @@ pub record IsArchiveOf (found archive : Database) : Type 0 where
   pub same : HasArchive found.schema → archive ≡ found
 
 -- these logs, of those that were chosen, were kept in the archive, which begins so, and their runs ended so
-pub record KeepsArchive {S P C : Type 0} (rules : SocketRules S P) (by : AtOnce S C) (chosen : Chosen)
-    (all : List Wanted) (before after : S) (begins : Database → Database → Type 0)
+pub record KeepsArchive {S P C : Type 0} (rules : SocketRules S P) (by : AtOnce S C) (given : Given)
+    (chosen : Chosen) (all : List Wanted) (before after : S) (begins : Database → Database → Type 0)
     (ends : List End) (found left : Database) : Type 0 where
   pub archive : Database
   pub opened : IsArchiveOf found archive
   pub begun : begins found archive
-  pub chose : AreChosen chosen archive.trees all
+  pub chose : AreChosen given chosen archive.trees all
   pub kept : KeepsLogs rules by all before after archive left ends
 
 -- of an archive that was found no item and no log is lost

@@ -93,7 +93,8 @@ KeepsIn rules by g image begins keep sockets sockets_after before after closed s
     IsSome closed × (chosen : Chosen) × Chooses keep chosen
     × TellsThese rules (by keep.at_once) chosen sockets before after
     (λ all between ends. IfSome closed
-    (IsDoneTo g image (KeepsArchive rules (by keep.at_once) chosen all between sockets_after begins ends)))
+    (IsDoneTo g image
+    (KeepsArchive rules (by keep.at_once) (given_of keep.options) chosen all between sockets_after begins ends)))
     status
 
 -- what two files held is an archive, or becomes one, and the run over the logs that were chosen ends so

@@ -174,8 +174,8 @@ where
         sockets.old (O.contents output.old) (O.contents output.new)
         (λ all between ends. IsHeld (state A.Store conn.new)
         → KeepsArchive (socket_rules S.opens S.closes S.Socket.sends S.Socket.receives
-        S.Socket.receives_within) (at_once S.holds C.reads clock window) chosen all between
-        sockets.new
+        S.Socket.receives_within) (at_once S.holds C.reads clock window)
+        (given_in options.now) chosen all between sockets.new
         (BeginsOn ⟦<FileOf<G> as Disk>⟧ (image_at G.Start) place.old.before parts.new) ends
         (state A.Store conn.old).now (state A.Store conn.new).committed)) }
     // Whatever comes of it, no item and no log is lost.

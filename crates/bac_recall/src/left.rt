@@ -122,7 +122,8 @@ impl Left {
     /// Takes off the next outcome of the first conversation where it is an answer to these octets
     /// of this device.
     pub(crate) fn recall(&mut self, octets: &[u8], to: [u8; 6]) -> Option<Datagram>
-        ensures some { IfSome result (λ datagram. Recalls octets.now to self.old datagram self.new) }
+        ensures some { IfSome result
+            (λ datagram. Recalls octets.now to self.old datagram self.new) }
         ensures none { IfNone result (NoneAnswers octets.now to self.old) }
         ensures same { IfNone result (self.new ≡ self.old) }
     {

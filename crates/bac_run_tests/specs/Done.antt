@@ -20,7 +20,7 @@ use Rattle.bac_files.specs.declared.folder.Place.{Place}
 use Rattle.bac_fetch.specs.Ahead.{AtOnce}
 use Rattle.bac_keeper.specs.Archives.{KeepsArchive}
 use Rattle.bac_keeper.specs.Begun.{BeginsOn}
-use Rattle.bac_keeper.specs.Done.{Chooses}
+use Rattle.bac_keeper.specs.Done.{Chooses, given_of}
 use Rattle.bac_ports.specs.Sockets.{SocketRules}
 use Rattle.bac_print.specs.Output.{Held}
 use Rattle.bac_tools.specs.Finding.{IsListWithin}
@@ -58,5 +58,6 @@ pub record IsAllKept {S P C D G : Type 0} {t : start.Ghosts G} (rules : SocketRu
   pub is_closed : IsSome closed
   pub place : Place
   pub placed : IsPlaced asked.file place
-  pub kept : IfSome closed (IsDoneTo g image (KeepsArchive rules (by asked.at_once) chosen all between sockets_after
+  pub kept : IfSome closed (IsDoneTo g image (KeepsArchive rules (by asked.at_once) (given_of asked.options) chosen all between
+      sockets_after
       (BeginsOn h before_image place.before parts) ends))

@@ -23,8 +23,8 @@ returns-clause-kept g c =
     let done = c.keep_in-done in
     let part = file_ghosts g.row.G g.G.Start g.G.Start-dict g.G.Destruct-dict in
     keeps_in (image_at g.F.Start) c.in_ok-conn.conn done.new.conn c.close_file.new.files.closed c.in_ok-conn.ensures.opened done.ensures.clean
-    over (at_once g.S.Recalls.holds g.C.Clock.reads c.args.clock) (BeginsOn part (image_at g.G.Start) c.args.place.now.before done.new.parts) c.args.asked.now c.in_ok-chosen.chosen c.args.sockets.now done.new.sockets (g.O.Write.contents c.args.output.now) (g.O.Write.contents done.new.output)
-    c.close_file.result done.result c.in_ok-chosen.ensures.chosen done.ensures.told c.close_file.ensures.done c.close_file.ensures.closed
+    over (at_once g.S.Recalls.holds g.C.Clock.reads c.args.clock) (BeginsOn part (image_at g.G.Start) c.args.place.now.before done.new.parts) c.args.asked.now (given_in c.options_of-options.result) c.in_ok-chosen.chosen c.args.sockets.now done.new.sockets (g.O.Write.contents c.args.output.now) (g.O.Write.contents done.new.output)
+    c.close_file.result done.result c.options_of-options.ensures c.in_ok-chosen.ensures.chosen done.ensures.told c.close_file.ensures.done c.close_file.ensures.closed
 
 pub returns-clause-named : goal.returns-clause-named
 returns-clause-named g c =

@@ -38,9 +38,9 @@ returns-clause-told g c =
     let told = c.in_ok-status.ensures.told in
     IfOk-weaker c.settled.result _ _
     (λ done is.
-    subst (λ (n : ℕ). TellsThese over (at_once g.S.Recalls.holds g.C.Clock.reads c.args.clock c.args.window) c.args.chosen c.args.sockets.now out out' (λ all between ends. IsHeld last → KeepsArchive over (at_once g.S.Recalls.holds g.C.Clock.reads c.args.clock c.args.window) c.args.chosen all between after begins ends found.now last.committed) n) (sym is.0)
+    subst (λ (n : ℕ). TellsThese over (at_once g.S.Recalls.holds g.C.Clock.reads c.args.clock c.args.window) c.args.chosen c.args.sockets.now out out' (λ all between ends. IsHeld last → KeepsArchive over (at_once g.S.Recalls.holds g.C.Clock.reads c.args.clock c.args.window) (given_in c.args.options.now) c.args.chosen all between after begins ends found.now last.committed) n) (sym is.0)
     (tells_weaker over (at_once g.S.Recalls.holds g.C.Clock.reads c.args.clock c.args.window) c.args.chosen c.args.sockets.now out out'
-    (λ all between ends. OverArchive archive last (AreChosen c.args.chosen archive.now.trees all × KeepsLogs over (at_once g.S.Recalls.holds g.C.Clock.reads c.args.clock c.args.window) all between after archive.now last.now ends)) _ _
+    (λ all between ends. OverArchive archive last (AreChosen (given_in c.args.options.now) c.args.chosen archive.now.trees all × KeepsLogs over (at_once g.S.Recalls.holds g.C.Clock.reads c.args.clock c.args.window) all between after archive.now last.now ends)) _ _
     (λ all between ends kept held.
     let early : HasCleanDisk archive = c.keep_chosen.ensures.clean held.0 in
     let opened = c.in_ok-begin_archive.ensures.archive early in
