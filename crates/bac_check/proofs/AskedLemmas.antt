@@ -1,5 +1,5 @@
 -- What an archive is as, once it was asked.
-use Rattle.std.proofs.Common.{◌≡◌, inl, inr, ap, subst, sym, ◌∙◌, arith, List, ℕ, Result, Ok, Err, IfErr, OnErr}
+use Rattle.std.proofs.Common.{◌≡◌, inl, inr, ap, subst, ◌∙◌, arith, List, ℕ, Result, Ok, Err, IfErr, OnErr}
 use Rattle.sqlite.specs.declared.error.Error.{Error}
 use Rattle.sqlite.specs.Given.{IsRefused}
 use Rattle.sqlite.specs.Held.{Held, state}
@@ -11,7 +11,7 @@ use Rattle.sqlite_trees.specs.declared.store.Store.{Ghosts}
 use Rattle.sqlite_value.specs.Order.{Row as Values}
 use Rattle.bac_archive.specs.Archive.{IsLeft}
 use Rattle.bac_archive.specs.Schema.{HasArchive}
-use Rattle.bac_check.specs.Asked.{IsAsLeft, IsAsWas, IsUnasked}
+use Rattle.bac_check.specs.Asked.{IsAsWas, IsUnasked}
 
 -- a plain query that fails changes nothing, or takes back what wasn't committed
 left_by : (sql : List ℕ) (params : Values) (old new : State) (e : Error) → IsPlain (understood old.now.schema sql) → FailsToQuery sql params old new e → IsLeft old new
@@ -38,17 +38,6 @@ unasked g text bound old new r plain it = record {
     left (Ok a) has why = tt
     left (Err e) has why = left_by text bound (state g old) (state g new) e (plain has) why
 
--- an archive that was left as it was, and then failed
-pub left_then : (a b c : State) → IsUnchanged a b → IsLeft b c → IsLeft a c
-left_then a b c same (inl still) = inl (unchanged_then a b c same still)
-left_then a b c same (inr back) = inr (record {
-  was_open = λ _. same.0.was_open;
-  undone = λ is. let it = back.undone is in (it.0 ∙ same.0.committed_is, it.1 ∙ same.0.committed_is);
-  autocommit = back.autocommit;
-  unmarked = back.unmarked;
-  counts = record { changes = back.counts.changes ∙ same.1.changes; last_rowid = back.counts.last_rowid ∙ same.1.last_rowid };
-})
-
 -- the same where it may not have been asked
 module _ {S : Type 0} (g : Ghosts S) where
   pub still : (a b : Held S) → IsAsWas g a b → (state g b).now ≡ (state g a).now
@@ -58,12 +47,3 @@ module _ {S : Type 0} (g : Ghosts S) where
   pub as_was_then : (a b c : Held S) → IsAsWas g a b → IsUnchanged (state g b) (state g c) → IsAsWas g a c
   as_was_then a b c (inl none) it = inr (subst (λ h. IsUnchanged (state g h) (state g c)) none it)
   as_was_then a b c (inr same) it = inr (unchanged_then (state g a) (state g b) (state g c) same it)
-
-  pub unchanged_as_was : (a b c : Held S) → IsUnchanged (state g a) (state g b) → IsAsWas g b c → IsUnchanged (state g a) (state g c)
-  unchanged_as_was a b c same (inl none) = subst (λ h. IsUnchanged (state g a) (state g h)) (sym none) same
-  unchanged_as_was a b c same (inr more) = unchanged_then (state g a) (state g b) (state g c) same more
-
-  pub as_left_then : (a b c : Held S) → IsAsWas g a b → IsAsLeft g b c → IsAsLeft g a c
-  as_left_then a b c (inl none) it = subst (λ h. IsAsLeft g h c) none it
-  as_left_then a b c (inr same) (inl none) = subst (λ h. IsAsLeft g a h) (sym none) (inr (inl same))
-  as_left_then a b c (inr same) (inr left) = inr (left_then (state g a) (state g b) (state g c) same left)

@@ -3,7 +3,7 @@ use Rattle.std.proofs.Common.{◌≡◌, ◌<◌, ◌≤◌, ◌+◌, ℕ, Bool,
 use Rattle.std.specs.Cmp.{unsigned_Decides}
 use Rattle.std.specs.List.{All, list_any}
 use Rattle.std.proofs.lemmas.Bool.{and_parts}
-use Rattle.std.proofs.lemmas.List.Elements.{All-more, All-push, All-same}
+use Rattle.std.proofs.lemmas.List.Elements.{All-more}
 use Rattle.std.proofs.lemmas.List.Folds.{Any-from_list_any}
 use Rattle.bac_archive.specs.declared.epochs.Beginning.{Beginning}
 use Rattle.bac_check.specs.Counted.{IsBefore, course_of, is_epoch, rank, with_begun}
@@ -43,10 +43,3 @@ pub one_more : (above next : ℕ) (courses : List Course) (i : ℕ) (one : Cours
 one_more above next courses i one lt is more last all =
     All-more (IsBefore next) courses i one lt (λ k d low. let before : rank (get_or (take i courses) k d).log (get_or (take i courses) k d).epoch < above = all k d low in omega (arith, before, more))
     (subst (IsBefore next) is last)
-
--- and each of them stands before the next rank
-pub stand_before : (above next : ℕ) (courses after : List Course) (begun : Beginning) → above ≤ next → rank begun.log begun.epoch < next →
-    All (IsBefore above) courses → after ≡ courses ++ course_of begun ∷ [] → All (IsBefore next) after
-stand_before above next courses after begun more last all is =
-    All-same (IsBefore next) after (courses ++ course_of begun ∷ []) is
-    (All-push (IsBefore next) courses (course_of begun) (λ k d lt. let before : rank (get_or courses k d).log (get_or courses k d).epoch < above = all k d lt in omega (arith, before, more)) last)

@@ -8,3 +8,4 @@ pub mod CheckedLemmas
 pub mod WholeLemmas
 pub mod MissingLemmas
 pub mod CountLemmas
+pub mod EachLemmas

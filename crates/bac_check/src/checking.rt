@@ -179,7 +179,7 @@ fn push_each(
     let mut whole = true;
     for log in logs {
         let so = push_one(alloc, text, log, courses)?;
-        whole = whole && so;
+        whole = whole & so;
     }
     Ok(whole)
 }

@@ -17,7 +17,7 @@ use sqlite::{Alter, Connection};
 use std::alloc::{AllocError, Global};
 
 /// What was counted of the parts of an archive that were read.
-#[derive(Debug, Drop)]
+#[derive(Drop)]
 pub struct Counts {
     /// The logs of the last part.
     pub logs: Vec<Log>,

@@ -19,7 +19,7 @@ use sqlite::{Alter, Connection, Error, ErrorCode, Row};
 use std::alloc::Global;
 
 /// An epoch of a log.
-#[derive(Debug, Drop)]
+#[derive(Drop)]
 pub struct Course {
     /// The id of the log's row.
     pub log: u16,

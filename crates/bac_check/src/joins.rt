@@ -14,7 +14,7 @@ use bac_archive::{items_of, read_item};
 use sqlite::{Alter, Connection, Error, Row};
 
 /// A row of a log, by its epoch and its last number.
-#[derive(Clone, Copy, Debug, PartialEq, Eq)]
+#[derive(Clone, Copy)]
 pub struct Point {
     pub epoch: u16,
     pub last: u32,

@@ -128,7 +128,7 @@ pub fn push_log(
     let mut whole = true;
     for course in courses {
         let so = push_in(text, name, log, course)?;
-        whole = whole && so;
+        whole = whole & so;
     }
     Ok(whole)
 }

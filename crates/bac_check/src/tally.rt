@@ -11,7 +11,7 @@ use sqlite::Error;
 use std::alloc::{AllocError, Global};
 
 /// The numbers that a row has: that of a record, or of a gap those up to its last.
-#[derive(Clone, Copy, Debug, PartialEq, Eq)]
+#[derive(Clone, Copy)]
 pub struct Span {
     pub number: u32,
     /// The last number of a gap.
@@ -19,14 +19,14 @@ pub struct Span {
 }
 
 /// Numbers that are in no row, from one up to another.
-#[derive(Clone, Copy, Debug, PartialEq, Eq)]
+#[derive(Clone, Copy)]
 pub struct Hole {
     pub first: u32,
     pub last: u32,
 }
 
 /// What is counted of the rows of an epoch, of which there is at least one.
-#[derive(Debug, Drop)]
+#[derive(Drop)]
 pub struct Tally {
     /// The least number that is in a row.
     pub first: u32,
@@ -41,7 +41,7 @@ pub struct Tally {
 }
 
 /// Why a row isn't counted.
-#[derive(Clone, Copy, Debug, PartialEq, Eq)]
+#[derive(Clone, Copy)]
 pub enum Uncounted {
     /// It doesn't lie behind the rows before it.
     Overlap,

@@ -1,17 +1,28 @@
 -- What is written as CSV of the items of logs.
 use Rattle.std.proofs.Common.{refl, sym, ap, subst, ◌∙◌, ℕ, List, [], ◌∷◌, ◌++◌, append_assoc, append-nil, Option, None}
+use Rattle.std.specs.List.{filter}
+use Rattle.std.proofs.lemmas.List.Elements.{filter-append}
 use Rattle.sqlite_value.specs.Order.{Row as Values}
 use Rattle.bac_archive.specs.declared.trend_logs.Log.{Log}
 use Rattle.bac_kept.specs.declared.printing.Shown.{Shown as Which}
 use Rattle.bac_kept.specs.declared.seen.Newest.{Newest}
 use Rattle.bac_kept.specs.Csv.{AreRowTexts, IsRowText, WritesBehind, WritesItems, WritesLog, WritesLogs}
+use Rattle.bac_kept.specs.Seen.{is_new}
 use Rattle.bac_kept.proofs.PrintedLemmas.{all_new}
 
 -- the text of more rows
-pub texts_more : (log : Log) (rows more : List Values) (text one : List ℕ) → AreRowTexts log rows text → AreRowTexts log more one → AreRowTexts log (rows ++ more) (text ++ one)
+texts_more : (log : Log) (rows more : List Values) (text one : List ℕ) → AreRowTexts log rows text → AreRowTexts log more one → AreRowTexts log (rows ++ more) (text ++ one)
 texts_more log [] more text one all it = subst (λ t. AreRowTexts log more (t ++ one)) (sym all) it
 texts_more log (r ∷ rows) more text one all it =
     (all.0, all.1 ++ one, ap (λ x. x ++ one) all.2 ∙ append_assoc all.0 all.1 one, all.3, texts_more log rows more all.1 one all.4 it)
+
+-- the text of those that lie behind an item, with one row more
+pub texts_next : (log : Log) (behind : Option Newest) (rows : List Values) (row : Values) (text one : List ℕ)
+    → AreRowTexts log (filter (is_new behind) rows) text → AreRowTexts log (filter (is_new behind) (row ∷ [])) one
+    → AreRowTexts log (filter (is_new behind) (rows ++ row ∷ [])) (text ++ one)
+texts_next log behind rows row text one all it =
+    subst (λ (l : List Values). AreRowTexts log l (text ++ one)) (sym (filter-append (is_new behind) rows (row ∷ [])))
+    (texts_more log (filter (is_new behind) rows) (filter (is_new behind) (row ∷ [])) text one all it)
 
 -- the text of one row
 pub one_text : (log : Log) (row : Values) (text : List ℕ) → IsRowText log row text → AreRowTexts log (row ∷ []) text

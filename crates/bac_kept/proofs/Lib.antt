@@ -1,6 +1,5 @@
 pub mod PrintedLemmas
 pub mod CsvLemmas
 pub mod LogLinesLemmas
-pub mod FaultsLemmas
 pub mod PartsLemmas
 pub mod RisingLemmas

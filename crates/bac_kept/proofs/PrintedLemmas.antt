@@ -1,19 +1,21 @@
 -- What is printed of the items of logs.
-use Rattle.std.proofs.Common.{◌≡◌, refl, sym, ap, subst, ◌∙◌, ℕ, pos, List, [], ◌∷◌, ◌++◌, append_assoc, append-nil, Option, None, Some, Result, Ok, Err, OnErr, true, false, ◌+◌, ◌<◌, length, take, get_or}
+use Rattle.std.proofs.Common.{◌≡◌, refl, sym, ap, subst, ◌∙◌, ℕ, pos, List, [], ◌∷◌, ◌++◌, append_assoc, append-nil, Option, None, Some, Result, Ok, Err, OnErr, OnOk, true, false, ◌+◌, ◌<◌, ◌≤◌, length, take, get_or, arith}
 use Rattle.std.proofs.lemmas.List.{take_more}
 use Rattle.std.proofs.lemmas.List.Elements.{filter-append}
 use Rattle.std.specs.List.{filter}
-use Rattle.std.specs.Io.KnownBytes.{Appends}
+use Rattle.std.specs.Io.KnownBytes.{Appends, Keeps}
 use Rattle.std.proofs.KnownBytes.{Appends-nil, Appends-trans}
 use Rattle.sqlite_value.specs.declared.value.Value.{Value}
 use Rattle.sqlite_value.specs.declared.value.Value.TheVariants.{Int}
 use Rattle.sqlite_value.specs.Order.{Row as Values, column}
 use Rattle.sqlite.specs.Values.{or_null}
+use Rattle.sqlite_trees.specs.View.{doubt}
 use Rattle.sqlite_trees.specs.declared.store.Store.{Ghosts}
 use Rattle.sqlite.specs.Effect.{Database}
-use Rattle.sqlite.specs.State.{State, IsUnchanged, Shown}
+use Rattle.sqlite.specs.State.{HasCleanDisk, State, IsUnchanged, Shown}
 use Rattle.sqlite.specs.Held.{Held as Connected, state}
 use Rattle.sqlite.proofs.Callers.{given_begin}
+use Rattle.bac_archive.specs.Logs.{AreLogs}
 use Rattle.bac_archive.specs.Rows.{kept}
 use Rattle.bac_archive.specs.Items.{AreFirst, AreItems, IsItem, ReadsItems, asked, epoch_in, items_text}
 use Rattle.bac_archive.proofs.ItemsLemmas.{begins_with, shows_items}
@@ -54,12 +56,12 @@ module _ (behind : Option Newest) (rows : List Values) (row : Values) where
   new_more = filter-append (is_new behind) rows (row ∷ [])
 
   -- the newest of those that lie behind an item, with one row more
-  pub newest_behind_more : newest_of behind (filter (is_new behind) (rows ++ row ∷ []))
+  newest_behind_more : newest_of behind (filter (is_new behind) (rows ++ row ∷ []))
       ≡ newest_of (newest_of behind (filter (is_new behind) rows)) (filter (is_new behind) (row ∷ []))
   newest_behind_more = ap (newest_of behind) new_more ∙ newest_more behind (filter (is_new behind) rows) (filter (is_new behind) (row ∷ []))
 
   -- and their lines
-  pub lines_behind_more : lines_behind behind (rows ++ row ∷ [])
+  lines_behind_more : lines_behind behind (rows ++ row ∷ [])
       ≡ lines_behind behind rows ++ rows_lines (epoch_of (newest_of behind (filter (is_new behind) rows))) (filter (is_new behind) (row ∷ []))
   lines_behind_more = ap (rows_lines (epoch_of behind)) new_more ∙ lines_more behind (filter (is_new behind) rows) (filter (is_new behind) (row ∷ []))
 
@@ -80,10 +82,6 @@ module _ (behind newest : Option Newest) (row : Values) (item : Item) (is : IsIt
   pub one_new : is_newer behind item.epoch item.number ≡ true → filter (is_new behind) (row ∷ []) ≡ row ∷ []
   one_new so = rw (sym same_is ∙ so) refl
 
-  -- and one that doesn't
-  pub one_old : is_newer behind item.epoch item.number ≡ false → filter (is_new behind) (row ∷ []) ≡ []
-  one_old so = rw (sym same_is ∙ so) refl
-
   -- its lines
   pub one_says : is_newer behind item.epoch item.number ≡ true
       → (anew_if (epoch_of newest) item.epoch ++ item_line item.number item.last item.stamp.now item.datum.now item.flags.now)
@@ -95,7 +93,7 @@ module _ (behind newest : Option Newest) (row : Values) (item : Item) (is : IsIt
   newest_is so = rw (is.epoch, is.number) (ap (newest_of newest) (sym (one_new so)))
 
 -- a text that was written, and then a front of another, are a front of both
-pub then_part : (a b c : Held) (text more : List ℕ) → Appends a b text → AppendsPart b c more → AppendsPart a c (text ++ more)
+then_part : (a b c : Held) (text more : List ℕ) → Appends a b text → AppendsPart b c more → AppendsPart a c (text ++ more)
 then_part a b c text more all part =
     (text ++ part.0, part.1, ap (λ l. text ++ l) part.2 ∙ sym (append_assoc text part.0 part.1), Appends-trans a b c text part.0 all part.3)
 
@@ -108,6 +106,37 @@ no_part a text = ([], text, refl, Appends-nil a)
 pub on_err : {A E : Type 0} (r : Result A E) (X : Type 0) → X → OnErr r X
 on_err (Ok a) X x = tt
 on_err (Err e) X x = x
+
+-- the newest item, behind that of one row more
+pub newest_next : (behind was now : Option Newest) (rows : List Values) (row : Values) → now ≡ newest_of was (filter (is_new behind) (row ∷ []))
+    → was ≡ newest_of behind (filter (is_new behind) rows) → now ≡ newest_of behind (filter (is_new behind) (rows ++ row ∷ []))
+newest_next behind was now rows row is before =
+    is ∙ ap (λ (n : Option Newest). newest_of n (filter (is_new behind) (row ∷ []))) before ∙ sym (newest_behind_more behind rows row)
+
+-- the lines of one row more
+lines_next : (behind was : Option Newest) (rows : List Values) (row : Values) → was ≡ newest_of behind (filter (is_new behind) rows)
+    → (lines_behind behind rows ++ rows_lines (epoch_of was) (filter (is_new behind) (row ∷ []))) ≡ lines_behind behind (rows ++ row ∷ [])
+lines_next behind was rows row before =
+    ap (λ (n : Option Newest). lines_behind behind rows ++ rows_lines (epoch_of n) (filter (is_new behind) (row ∷ []))) before ∙ sym (lines_behind_more behind rows row)
+
+-- they are written, or a front of them
+pub written_next : (behind was : Option Newest) (rows : List Values) (row : Values) (a b c : Held) → was ≡ newest_of behind (filter (is_new behind) rows)
+    → Appends a b (lines_behind behind rows) → Appends b c (rows_lines (epoch_of was) (filter (is_new behind) (row ∷ [])))
+    → Appends a c (lines_behind behind (rows ++ row ∷ []))
+written_next behind was rows row a b c before all more =
+    subst (Appends a c) (lines_next behind was rows row before)
+    (Appends-trans a b c (lines_behind behind rows) (rows_lines (epoch_of was) (filter (is_new behind) (row ∷ []))) all more)
+
+pub part_next : (behind was : Option Newest) (rows : List Values) (row : Values) (a b c : Held) → was ≡ newest_of behind (filter (is_new behind) rows)
+    → Appends a b (lines_behind behind rows) → AppendsPart b c (rows_lines (epoch_of was) (filter (is_new behind) (row ∷ [])))
+    → AppendsPart a c (lines_behind behind (rows ++ row ∷ []))
+part_next behind was rows row a b c before all more =
+    subst (AppendsPart a c) (lines_next behind was rows row before)
+    (then_part a b c (lines_behind behind rows) (rows_lines (epoch_of was) (filter (is_new behind) (row ∷ []))) all more)
+
+-- a disk that has given back what was written had done so before
+pub clean_before : (old new : State) → doubt old.is_clean ≤ doubt new.is_clean → HasCleanDisk new → HasCleanDisk old
+clean_before old new more clean = omega (arith, more, clean)
 
 module _ {S : Type 0} (g : Ghosts S) (log : ℕ) (old : State) (mid : Connected S) (rows : List Values) (has : HasArchive old.now.schema) (same : IsUnchanged old (state g mid)) where
   schema_is : HasArchive (state g mid).now.schema
@@ -131,3 +160,26 @@ log_more which items (l ∷ logs) log text one all it =
 
 pub take_one : {X : Type 0} (all : List X) (at : ℕ) (x : X) → at < length all → x ≡ get_or all at x → take (at + 1) all ≡ take at all ++ x ∷ []
 take_one all at x lt is = take_more all at x lt ∙ ap (λ z. take at all ++ z ∷ []) (sym is)
+
+-- what was written stays so where nothing more is
+appends_keeps : (a b c : Held) (text : List ℕ) → Appends a b text → Keeps b c → Appends a c text
+appends_keeps None b c text all keeps = tt
+appends_keeps (Some xs) None c text all keeps = absurd all
+appends_keeps (Some xs) (Some ys) None text all keeps = absurd keeps
+appends_keeps (Some xs) (Some ys) (Some zs) text all keeps = keeps ∙ all
+
+-- what was printed of the logs of an archive is so of the archive as it was
+pub are_shown : (Prints : List Values → List Log → List ℕ → Type 0) (whole : List ℕ → List ℕ) (old mid : Database) (all these : List Log) (a b c : Held)
+    → mid ≡ old → these ≡ all → AreLogs old.trees all → ((text : List ℕ) × Prints (kept mid.trees) these text × Appends a b (whole text)) → Keeps b c
+    → (all : List Log) × AreLogs old.trees all × (text : List ℕ) × Prints (kept old.trees) all text × Appends a c (whole text)
+are_shown Prints whole old mid all these a b c same is are (text, printed, written) keeps = (
+  all,
+  are,
+  text,
+  subst (λ (d : Database). Prints (kept d.trees) all text) same (subst (λ (l : List Log). Prints (kept mid.trees) l text) is printed),
+  appends_keeps a b c (whole text) written keeps,
+)
+
+pub on_ok : {A E : Type 0} (r : Result A E) (X : Type 0) → X → OnOk r X
+on_ok (Ok a) X x = x
+on_ok (Err e) X x = tt

@@ -180,6 +180,36 @@ fn write_logs<A: Alter, O: Write>(
     Ok(count)
 }
 
+/// Prints each of the logs that were chosen, in lines or as CSV; answers how many were.
+fn print_all<A: Alter, O: Write>(
+    alloc: Global,
+    conn: &mut Connection<A>,
+    all: &[Log],
+    shown: &Shown,
+    csv: bool,
+    output: &mut O,
+) -> Result<usize, NotDone>
+    ensures printed { OverArchive (state A.Store conn.old) (state A.Store conn.new) (csv ≡ false
+        → OnOk result ((text : List _)
+        × PrintsLogs shown.now (kept (state A.Store conn.old).now.trees) all.now text
+        × Appends (O.contents output.old) (O.contents output.new) text)) }
+    ensures written { OverArchive (state A.Store conn.old) (state A.Store conn.new) (csv ≡ true
+        → OnOk result ((text : List _)
+        × WritesLogs shown.now (kept (state A.Store conn.old).now.trees) all.now text
+        × Appends (O.contents output.old) (O.contents output.new)
+        (row_text default_writer names ++ text))) }
+    ensures clean { OnOk result
+        (HasCleanDisk (state A.Store conn.new) → HasCleanDisk (state A.Store conn.old)) }
+    ensures fault { IfErr result EndsLines }
+    ensures none { IfOk result
+        (λ count. count ≡ 0 → All (λ log. is_chosen shown.now log ≡ false) all.now) }
+{
+    if csv {
+        return write_logs(alloc, conn, all, shown, output);
+    }
+    print_logs(alloc, conn, all, shown, output)
+}
+
 /// Prints what an archive keeps of the logs that were chosen, in lines or as CSV.
 pub fn print_shown<A: Alter, O: Write>(
     alloc: Global,
@@ -217,11 +247,7 @@ pub fn print_shown<A: Alter, O: Write>(
         Ok(all) => all,
         Err(error) => return Err(NotDone::File(FileFault::of(error))),
     };
-    if csv {
-        let count = write_logs(alloc, conn, all.as_slice(), shown, output)?;
-        return ended(shown, count, output);
-    }
-    let count = print_logs(alloc, conn, all.as_slice(), shown, output)?;
+    let count = print_all(alloc, conn, all.as_slice(), shown, csv, output)?;
     ended(shown, count, output)
 }
 

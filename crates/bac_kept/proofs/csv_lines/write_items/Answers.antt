@@ -1,6 +1,4 @@
-use Rattle.std.proofs.Common.{inr, [], ◌∷◌, ◌++◌, ap, subst, sym, rules, arith, ◌∙◌}
-use Rattle.std.specs.List.{filter}
-use Rattle.std.proofs.lemmas.List.Elements.{filter-append}
+use Rattle.std.proofs.Common.{inr, [], ◌∷◌, ◌++◌, rules, ◌∙◌}
 use Rattle.std.proofs.KnownBytes.{Appends-trans}
 use Rattle.sqlite.specs.State.{HasCleanDisk, IsUnchanged}
 use Rattle.sqlite.specs.Held.{state}
@@ -8,19 +6,18 @@ use Rattle.sqlite.proofs.Callers.{unchanged_then}
 use Rattle.bac_archive.specs.Items.{asked, items_text}
 use Rattle.sqlite.specs.declared.error.Error.TheVariants.{SqliteFailure}
 use Rattle.sqlite.specs.declared.error.ErrorCode.TheVariants.{OperationInterrupted}
-use Rattle.bac_kept.specs.Csv.{AreRowTexts}
-use Rattle.bac_kept.specs.Seen.{is_new, newest_of}
-use Rattle.bac_kept.proofs.CsvLemmas.{texts_more}
-use Rattle.bac_kept.proofs.PrintedLemmas.{all_given, newest_behind_more}
+use Rattle.bac_kept.proofs.CsvLemmas.{texts_next}
+use Rattle.bac_kept.proofs.PrintedLemmas.{all_given, clean_before, newest_next}
 use Rattle.bac_kept.proofs.csv_lines.write_items.Goals as goal
 
 pub returns-in-Ok-None-clause-ok : goal.returns-in-Ok-None-clause-ok
 returns-in-Ok-None-clause-ok g c clean has =
     let old = state g.A.Store c.args.conn.now in
+    let mid = state g.A.Store c.rows.rows.conn.now in
     let moved = c.next.follows.holds-at-none in
     let now = c.next.follows.lender-at-none.conn.now in
     let late : HasCleanDisk (state g.A.Store now) = search rules in
-    let was = c.rows.invariant.3 (omega (arith, late, moved.survives.clean)) has in
+    let was = c.rows.invariant.3 (clean_before mid (state g.A.Store now) moved.survives.clean late) has in
     let shown = (rw (c.in-Ok-None.is, c.in-Ok-None.field-0-is) at (moved.ok late)) items_text (asked c.args.log.now.id) was.0 was.1 in
     (was.3, (was.0, all_given g.A.Store c.args.log.now.id old c.rows.rows.conn.now was.0 has was.2 now shown, was.4, was.5), was.6)
 
@@ -31,7 +28,7 @@ returns-in-Ok-None-clause-same g c clean has =
     let moved = c.next.follows.holds-at-none in
     let now = c.next.follows.lender-at-none.conn.now in
     let late : HasCleanDisk (state g.A.Store now) = search rules in
-    let was = c.rows.invariant.3 (omega (arith, late, moved.survives.clean)) has in
+    let was = c.rows.invariant.3 (clean_before mid (state g.A.Store now) moved.survives.clean late) has in
     let it : IsUnchanged old (state g.A.Store now) = unchanged_then old mid (state g.A.Store now) was.2 (rw (c.in-Ok-None.is) at (moved.same late)) in
     search rules
 
@@ -46,18 +43,17 @@ rows-preserved g c =
     let behind = c.args.behind in (
       moved.same_reference ∙ c.rows.invariant.0,
       c.write_row.ensures.log c.rows.invariant.1,
-      λ late. c.rows.invariant.2 (omega (arith, late, moved.survives.clean)),
+      λ late. c.rows.invariant.2 (clean_before mid (state g.A.Store now) moved.survives.clean late),
       λ late has.
-          let was = c.rows.invariant.3 (omega (arith, late, moved.survives.clean)) has in
+          let was = c.rows.invariant.3 (clean_before mid (state g.A.Store now) moved.survives.clean late) has in
           let given = (rw (c.in-Ok-Some.is, c.in-Ok-Some.field-0-is) at (moved.ok late)) items_text (asked c.args.log.now.id) was.0 was.1 in
           let step = (rw (c.in-Ok-Some.is) at (moved.same late)) in (
             was.0 ++ row ∷ [],
             given,
             unchanged_then old mid (state g.A.Store now) was.2 step,
             was.3 ++ one.0,
-            subst (λ rows. AreRowTexts c.args.log.now rows (was.3 ++ one.0)) (sym (filter-append (is_new behind) was.0 (row ∷ [])))
-                (texts_more c.args.log.now (filter (is_new behind) was.0) (filter (is_new behind) (row ∷ [])) was.3 one.0 was.4 one.1),
-            c.in_ok-written.ensures.newest ∙ ap (λ n. newest_of n (filter (is_new behind) (row ∷ []))) was.5 ∙ sym (newest_behind_more behind was.0 row),
+            texts_next c.args.log.now behind was.0 row was.3 one.0 was.4 one.1,
+            newest_next behind c.rows.written.newest _ was.0 row c.in_ok-written.ensures.newest was.5,
             Appends-trans (g.O.Write.contents c.args.output.now) (g.O.Write.contents c.rows.output) (g.O.Write.contents c.write_row.new.output) was.3 one.0 was.6 one.2,
           ),
     )

@@ -1,10 +1,12 @@
-use Rattle.std.proofs.Common.{◌≡◌, false, ◌++◌, ap, subst, sym, ◌∙◌, rules}
+use Rattle.std.proofs.Common.{◌≡◌, List, false, ◌++◌, ap, subst, sym, ◌∙◌, arith, rules}
 use Rattle.std.specs.List.{All}
+use Rattle.std.proofs.lemmas.List.{take_all}
 use Rattle.std.proofs.lemmas.List.Elements.{All-push}
 use Rattle.std.proofs.KnownBytes.{Appends-trans}
 use Rattle.sqlite.specs.Effect.{Database}
 use Rattle.sqlite.specs.Held.{state}
 use Rattle.bac_archive.specs.Rows.{kept}
+use Rattle.bac_archive.specs.declared.trend_logs.Log.{Log}
 use Rattle.bac_kept.specs.Parts.{PrintsMoreOf, PrintsPart}
 use Rattle.bac_kept.specs.Printed.{is_chosen}
 use Rattle.bac_kept.proofs.PrintedLemmas.{take_one}
@@ -36,3 +38,10 @@ loop-log-preserved g c =
           subst (λ l. All (λ log. is_chosen c.args.shown.now log ≡ false) l) (sym taken)
           (All-push (λ log. is_chosen c.args.shown.now log ≡ false) _ log (c.loop-log.invariant.2 both.0) (sym it.chosen ∙ both.1)),
     )
+
+pub returns-clause-printed : goal.returns-clause-printed
+returns-clause-printed g c late has =
+    let old = state g.A.Store c.args.conn.now in
+    let was = c.loop-log.invariant.1 late has in
+    let whole = take_all c.loop-log.log-index c.args.all.now (omega (arith, c.loop-log-test.false)) in
+    (was.1, subst (λ (l : List Log). PrintsPart c.args.shown.now c.args.csv l (kept old.now.trees) c.args.seen.now was.1 c.loop-log.seen) whole was.2, was.3)

@@ -1,12 +1,14 @@
-use Rattle.std.proofs.Common.{◌≡◌, false, ◌++◌, ap, subst, sym, append_assoc, ◌∙◌, rules}
+use Rattle.std.proofs.Common.{◌≡◌, List, false, ◌++◌, ap, subst, sym, append_assoc, ◌∙◌, arith, rules}
 use Rattle.std.specs.Io.KnownBytes.{Appends}
 use Rattle.std.specs.List.{All}
+use Rattle.std.proofs.lemmas.List.{take_all}
 use Rattle.std.proofs.lemmas.List.Elements.{All-push}
 use Rattle.std.proofs.KnownBytes.{Appends-trans}
 use Rattle.csv.specs.Writing.{default_writer, row_text}
 use Rattle.sqlite.specs.Effect.{Database}
 use Rattle.sqlite.specs.Held.{state}
 use Rattle.bac_archive.specs.Rows.{kept}
+use Rattle.bac_archive.specs.declared.trend_logs.Log.{Log}
 use Rattle.bac_kept.specs.Csv.{WritesLog, WritesLogs, names}
 use Rattle.bac_kept.specs.Printed.{is_chosen}
 use Rattle.bac_kept.proofs.CsvLemmas.{log_more}
@@ -39,3 +41,15 @@ loop-log-preserved g c =
           subst (λ l. All (λ log. is_chosen c.args.shown.now log ≡ false) l) (sym taken)
           (All-push (λ log. is_chosen c.args.shown.now log ≡ false) _ log (c.loop-log.invariant.2 before) (sym it.chosen ∙ unchosen)),
     )
+
+pub returns-clause-written : goal.returns-clause-written
+returns-clause-written g c late has =
+    let old = state g.A.Store c.args.conn.now in
+    let was = c.loop-log.invariant.1 late has in
+    let whole = take_all c.loop-log.log-index c.args.all.now (omega (arith, c.loop-log-test.false)) in
+    (was.1, subst (λ (l : List Log). WritesLogs c.args.shown.now (kept old.now.trees) l was.1) whole was.2, was.3)
+
+pub returns-clause-none : goal.returns-clause-none
+returns-clause-none g c zero =
+    let whole = take_all c.loop-log.log-index c.args.all.now (omega (arith, c.loop-log-test.false)) in
+    subst (λ (l : List Log). All (λ log. is_chosen c.args.shown.now log ≡ false) l) whole (c.loop-log.invariant.2 zero)
