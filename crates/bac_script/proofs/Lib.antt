@@ -12,3 +12,4 @@ pub mod Flaws
 pub mod Numbers
 pub mod Unbuilt
 pub mod Places
+pub mod OtherWords

@@ -40,8 +40,12 @@ Stops old new s all Memory =
     (before : List (List ℕ)) × (after : List (List ℕ)) × (t : SessionState) × (all ≡ before ++ after)
     × PlaysAll old new s before t
 
--- why the playing of a whole script stopped: one of its lines, or the device at its end
-abbrev pub ScriptStops : Option (List ℕ) → Option (List ℕ) → List ℕ → ReplayFault → Type 0
-ScriptStops old new script f = Stops old new Empty (lines script) f
-    ⊎ ((t : SessionState) × (e : BuildFault) × (f ≡ replay_fault e) × PlaysAll old new Empty (lines script) t
+-- why the playing of a whole script from this state stopped: one of its lines, or the device at its end
+abbrev pub StopsFrom : Option (List ℕ) → Option (List ℕ) → SessionState → List ℕ → ReplayFault → Type 0
+StopsFrom old new s script f = Stops old new s (lines script) f
+    ⊎ ((t : SessionState) × (e : BuildFault) × (f ≡ replay_fault e) × PlaysAll old new s (lines script) t
     × Refuses e (end_fault t))
+
+-- the same from the start
+abbrev pub ScriptStops : Option (List ℕ) → Option (List ℕ) → List ℕ → ReplayFault → Type 0
+ScriptStops old new script f = StopsFrom old new Empty script f

@@ -2,7 +2,8 @@
 ghost use Rattle.std.specs.Prelude.{◌≡◌, ◌≢◌, ◌+◌, ◌<◌, ◌≤◌, ℕ, List, [], ◌∷◌, length, None, Some};
 ghost use Rattle.std.specs.Prelude.{Ok, Err, IfOk, IfErr, OnOk, Option, take};
 ghost use Rattle.std.specs.Io.KnownBytes.{Appends, Consumes, IsAtEnd};
-ghost use Rattle.bac_script.specs.Reason.{IsExplained, IsUnbuilt, described, without_reason};
+ghost use Rattle.bac_script.specs.Reason.{IsExplained, IsReason, IsUnbuilt, described};
+ghost use Rattle.bac_script.specs.Reason.{without_reason};
 ghost use Rattle.bac_script.specs.Input.{ConsumesUpTo};
 ghost use Rattle.std.specs.Str.Lines.{lines};
 ghost use Rattle.bac_script.specs.Script.Lines.{ended_lines, open_line, last_if_any};
@@ -12,7 +13,7 @@ ghost use Rattle.bac_script.specs.Outcomes.{OfScript};
 ghost use Rattle.bac_script.specs.Replay.{PlaysAll, Replays};
 ghost use Rattle.bac_script.specs.Session.{SessionState, Empty, step, end_fault};
 ghost use Rattle.bac_script.specs.Views.{state_of};
-ghost use Rattle.bac_script.specs.Stops.{LineStops, Stops, ScriptStops};
+ghost use Rattle.bac_script.specs.Stops.{LineStops, ScriptStops, Stops, StopsFrom};
 
 pub(crate) mod fault;
 pub(crate) mod input;
@@ -89,6 +90,24 @@ fn play_ended<'a, W: Write>(
     Ok((number, rest))
 }
 
+/// The same, and nothing else is answered.
+fn play_front<W: Write>(
+    alloc: Global,
+    session: &mut Session,
+    scratch: &mut Scratch,
+    script: &[u8],
+    writer: &mut W,
+) -> Result<(), ReplayFault>
+    requires { length script.now ≤ LIMIT }
+    ensures ok { OnOk result (PlaysAll (W.contents writer.old) (W.contents writer.new)
+        (state_of session.old) (ended_lines script.now) (state_of session.new)) }
+    ensures err { IfErr result (Stops (W.contents writer.old) (W.contents writer.new)
+        (state_of session.old) (ended_lines script.now)) }
+{
+    play_ended(alloc, session, scratch, script, writer)?;
+    Ok(())
+}
+
 /// Plays the lines that a line feed ends, from the start.
 fn play_cut<W: Write>(alloc: Global, script: &[u8], writer: &mut W) -> Result<(), ReplayFault>
     requires { length script.now ≤ LIMIT }
@@ -100,8 +119,7 @@ fn play_cut<W: Write>(alloc: Global, script: &[u8], writer: &mut W) -> Result<()
 {
     let mut session = Session::Empty;
     let mut scratch = Scratch::new(alloc);
-    play_ended(alloc, &mut session, &mut scratch, script, writer)?;
-    Ok(())
+    play_front(alloc, &mut session, &mut scratch, script, writer)
 }
 
 /// Plays all the lines.
@@ -125,6 +143,29 @@ fn play_all<W: Write>(
     play_line(alloc, session, scratch, number, rest, writer)
 }
 
+/// Plays all the lines from what was made before, and builds the device at the end where no line
+/// did.
+fn play_to_end<W: Write>(
+    alloc: Global,
+    session: &mut Session,
+    scratch: &mut Scratch,
+    script: &[u8],
+    writer: &mut W,
+) -> Result<(), ReplayFault>
+    requires { length script.now ≤ LIMIT }
+    ensures ok { OnOk result (PlaysAll (W.contents writer.old) (W.contents writer.new)
+        (state_of session.old) (lines script.now) (state_of session.new)
+        × (end_fault (state_of session.new) ≡ None)) }
+    ensures err { IfErr result (StopsFrom (W.contents writer.old) (W.contents writer.new)
+        (state_of session.old) script.now) }
+{
+    play_all(alloc, session, scratch, script, writer)?;
+    match session.finish(alloc) {
+        Ok(()) => Ok(()),
+        Err(fault) => Err(ReplayFault::of_build(fault)),
+    }
+}
+
 /// Plays all the lines, and builds the device at the end where no line did.
 fn play_whole<W: Write>(alloc: Global, script: &[u8], writer: &mut W) -> Result<(), ReplayFault>
     requires { length script.now ≤ LIMIT }
@@ -136,11 +177,7 @@ fn play_whole<W: Write>(alloc: Global, script: &[u8], writer: &mut W) -> Result<
 {
     let mut session = Session::Empty;
     let mut scratch = Scratch::new(alloc);
-    play_all(alloc, &mut session, &mut scratch, script, writer)?;
-    match session.finish(alloc) {
-        Ok(()) => Ok(()),
-        Err(fault) => Err(ReplayFault::of_build(fault)),
-    }
+    play_to_end(alloc, &mut session, &mut scratch, script, writer)
 }
 
 /// Plays what was read, by how the reading ended. A script of more than `limit` octets is too long.
@@ -226,6 +263,21 @@ fn replay_within<R: Read, W: Write>(
     }
 }
 
+/// How the playing of a script that was read ended; a fault comes with what is to mend.
+fn explained(alloc: Global, text: &[u8], played: Result<(), ReplayFault>) -> Result<(), Refused>
+    requires { (f : BuildFault) → played ≡ Err (ReplayFault.Build f)
+        → IsUnbuilt (described None (lines text.now)) f }
+    ensures played { without_reason result ≡ played }
+    ensures reason { IfErr result
+        (λ refused. IsReason text.now refused.fault refused.reason) }
+{
+    match played {
+        Ok(()) => Ok(()),
+        Err(ReplayFault::Build(fault)) => Err(Refused::of_build(alloc, text, fault)),
+        Err(fault) => Err(Refused::of(text, fault)),
+    }
+}
+
 /// The same; a fault comes with what is to mend.
 fn explained_within<R: Read, W: Write>(
     alloc: Global,
@@ -249,13 +301,7 @@ fn explained_within<R: Read, W: Write>(
         });
     };
     let (filled, played) = replay_in(alloc, limit, &mut buffer, reader, writer);
-    match played {
-        Ok(()) => Ok(()),
-        Err(ReplayFault::Build(fault)) => {
-            Err(Refused::of_build(alloc, &buffer[..filled], fault))
-        }
-        Err(fault) => Err(Refused::of(&buffer[..filled], fault)),
-    }
+    explained(alloc, &buffer[..filled], played)
 }
 
 /// Plays the script that the reader has as [`run_replay`] does; a fault comes with what is to mend,

@@ -26,7 +26,7 @@ use std::io::Write;
 pub(crate) const ANY: [u8; 6] = [0; 6];
 
 /// A link to the device that is asked, and transactions with it.
-#[derive(Debug, Drop)]
+#[derive(Drop)]
 pub(crate) struct Asking<P> {
     link: UdpLink<P>,
     transactions: Transactions,

@@ -13,7 +13,7 @@ use bac_walk::{ReplyFlaw, WalkFault, Why};
 use bac_words::{ListFault, Word};
 
 /// Why a tool ends without what it was asked for.
-#[derive(Clone, Copy, Debug, PartialEq, Eq)]
+#[derive(Clone, Copy)]
 pub enum Fault {
     /// A word isn't text in UTF-8.
     NotText,

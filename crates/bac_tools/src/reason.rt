@@ -1,6 +1,6 @@
 //! What is told of a script or a configuration that isn't right: what to mend.
 
-ghost use Rattle.std.specs.Prelude.{◌≡◌, ◌++◌, codes, decimal, OnOk};
+ghost use Rattle.std.specs.Prelude.{◌≡◌, ◌++◌, codes, decimal, None, OnOk};
 ghost use Rattle.bac_tools.specs.Reasons.{blanks_text, default_text, first_word, fitting_text};
 ghost use Rattle.bac_tools.specs.Reasons.{flaw_text, form_text, in_line, line_text, list_text};
 ghost use Rattle.bac_tools.specs.Reasons.{listed_badly, misfit_text, namesake_text, number_text};
@@ -210,6 +210,24 @@ fn default_of<'a>(object_type: u16) -> &'a str
     }
 }
 
+/// What a line with this fault has to be, where no other line is known.
+fn fitting_of<'a>(fault: BuildFault, object_type: u16) -> &'a str
+    ensures { result.now ≡ fitting_text fault object_type None None }
+{
+    match fault {
+        BuildFault::DuplicateName => "its name is that of another line",
+        BuildFault::BadInstance => "an instance is a number from 0 to 4194302",
+        BuildFault::DuplicateId => "another line has this type and instance",
+        BuildFault::BadName => "a name has 1 to 64 octets and no control character",
+        BuildFault::BadStates => "STATES is a number from 1 to 65535",
+        BuildFault::BadDefault => default_of(object_type),
+        BuildFault::BadCapacity => "CAPACITY is a number from 1 to 65535",
+        BuildFault::BadInterval => "INTERVAL is 0, or a number from 100 to 4294967295",
+        BuildFault::BadReplySize => "REPLY is a number from 50 to 1476",
+        BuildFault::Memory => "out of memory",
+    }
+}
+
 /// Appends what a line with this fault has to be.
 fn push_fitting(
     text: &mut Vec<u8>,
@@ -226,24 +244,11 @@ fn push_fitting(
             text.extend_from_slice(b"its name is that of ")?;
             push_namesake(text, namesake, rival)
         }
-        BuildFault::BadInstance => {
-            text.extend_from_slice(b"an instance is a number from 0 to 4194302")
-        }
         BuildFault::DuplicateId => {
             push_some_line(text, rival)?;
             text.extend_from_slice(b" has this type and instance")
         }
-        BuildFault::BadName => {
-            text.extend_from_slice(b"a name has 1 to 64 octets and no control character")
-        }
-        BuildFault::BadStates => text.extend_from_slice(b"STATES is a number from 1 to 65535"),
-        BuildFault::BadDefault => text.extend_from_slice(default_of(object_type).as_bytes()),
-        BuildFault::BadCapacity => text.extend_from_slice(b"CAPACITY is a number from 1 to 65535"),
-        BuildFault::BadInterval => {
-            text.extend_from_slice(b"INTERVAL is 0, or a number from 100 to 4294967295")
-        }
-        BuildFault::BadReplySize => text.extend_from_slice(b"REPLY is a number from 50 to 1476"),
-        BuildFault::Memory => text.extend_from_slice(b"out of memory"),
+        alone => text.extend_from_slice(fitting_of(alone, object_type).as_bytes()),
     }
 }
 

@@ -3,7 +3,7 @@
 ghost use Rattle.std.specs.Prelude.{◌≡◌, ◌⊎◌, Ok, Err, Some, None, IfOk, IfErr, IfSome};
 ghost use Rattle.bac_objects.specs.Build.{build_fault, built as built_of};
 ghost use Rattle.bac_print.specs.Output.{AppendsPart};
-ghost use Rattle.bac_tools.specs.Serving.{IsConfigured, IsUnbuilt, Serves};
+ghost use Rattle.bac_tools.specs.Serving.{IsConfigured, IsServed, IsUnbuilt, Serves};
 ghost use Rattle.bac_ports.specs.Sockets.{socket_rules};
 ghost use Rattle.bac_tools.specs.Streams.{streams};
 ghost use Rattle.bac_tools.specs.Texts.{serving_line};
@@ -99,6 +99,33 @@ fn open_socket<S: Sockets, E: Write>(
     }
 }
 
+/// Is this device at an address, over a socket whose receives wait so long, until so many datagrams
+/// have come.
+fn serve_at<S: Sockets, E: Write, C: Clock>(
+    sockets: &mut S,
+    alloc: Global,
+    address: [u8; 6],
+    wait: u32,
+    count: u32,
+    device: &mut Device,
+    errors: &mut E,
+    clock: &mut C,
+) -> Result<u8, Fault>
+    ensures { IsServed
+        (socket_rules S.opens S.closes S.Socket.sends S.Socket.receives S.Socket.receives_within)
+        C.tells address wait count device.old
+        (streams None None (E.contents errors.old) sockets.old clock.old) result
+        (streams None None (E.contents errors.new) sockets.new clock.new) }
+{
+    let mut port = open_socket(sockets, alloc, address, wait, errors)?;
+    let served = bac_serve::serve(&mut port, device, clock, count);
+    sockets.close(port);
+    match served {
+        Ok(()) => Ok(0),
+        Err(_) => Err(Fault::Socket),
+    }
+}
+
 /// Is the device that the input describes, until so many datagrams have come.
 pub(crate) fn serve<S: Sockets, I: Read, E: Write, C: Clock>(
     sockets: &mut S,
@@ -119,11 +146,14 @@ pub(crate) fn serve<S: Sockets, I: Read, E: Write, C: Clock>(
     let (configuration, text) = read;
     let mut device = built(alloc, &configuration, text)?;
     let wait = idle_wait(&configuration.objects);
-    let mut port = open_socket(sockets, alloc, address, wait, errors)?;
-    let served = bac_serve::serve(&mut port, &mut device, clock, count);
-    sockets.close(port);
-    match served {
-        Ok(()) => Ok(0),
-        Err(_) => Err(Fault::Socket),
-    }
+    serve_at(
+        sockets,
+        alloc,
+        address,
+        wait,
+        count,
+        &mut device,
+        errors,
+        clock,
+    )
 }

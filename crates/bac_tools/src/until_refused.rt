@@ -9,7 +9,7 @@ use std::io::{Error, ErrorKind, Result, Write};
 /// Hands writes on until one is refused, and from then on refuses them itself. So what a buffer in
 /// front of it still holds isn't written when the buffer is dropped: the output ends where a write
 /// failed.
-#[derive(Debug, Drop)]
+#[derive(Drop)]
 pub struct UntilRefused<W> {
     writer: W,
     refused: bool,

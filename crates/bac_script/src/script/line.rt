@@ -14,7 +14,7 @@ ghost use Rattle.bac_script.specs.Script.Words.{words_of};
 use crate::script::hexadecimal::{LONGEST, octets_in};
 use crate::script::number::{i32_in, u16_in, u32_in};
 use crate::script::stamp::stamp_in;
-use crate::script::words::{last_word, split_word, text_in};
+use crate::script::words::{last_word, split_two, split_word, text_in, three_words};
 use bac_device::{DeviceLine, Name, ObjectLine};
 use bac_wire::{ObjectId, Stamp};
 use std::alloc::{AllocError, Global};
@@ -58,18 +58,20 @@ fn device_words(words: &[u8]) -> Option<(u32, &str, u16, u16, Stamp)>
     ensures { GivesSome (λ x. device_of x.0 x.1.now x.2 x.3 x.4) result
         (device_line (words_of words.now)) }
 {
-    let (instance, rest) = split_word(words)?;
-    let (name, rest) = split_word(rest)?;
-    let (vendor, rest) = split_word(rest)?;
-    let (reply_size, rest) = split_word(rest)?;
-    let clock = last_word(rest)?;
-    Some((
-        u32_in(instance)?,
-        text_in(name)?,
-        u16_in(vendor)?,
-        u16_in(reply_size)?,
-        stamp_in(clock)?,
-    ))
+    let (instance, name, rest) = split_two(words)?;
+    let (vendor, reply_size, clock) = three_words(rest)?;
+    match (
+        u32_in(instance),
+        text_in(name),
+        u16_in(vendor),
+        u16_in(reply_size),
+        stamp_in(clock),
+    ) {
+        (Some(instance), Some(name), Some(vendor), Some(reply_size), Some(clock)) => {
+            Some((instance, name, vendor, reply_size, clock))
+        }
+        _ => None,
+    }
 }
 
 /// The line of a device.
@@ -94,10 +96,11 @@ fn device_line<'r>(alloc: Global, words: &[u8]) -> Result<Option<Line<'r>>, Allo
 fn binary_words(words: &[u8]) -> Option<(u32, &str, u32)>
     ensures { GivesSome (λ x. binary_of x.0 x.1.now x.2) result (binary_line (words_of words.now)) }
 {
-    let (instance, rest) = split_word(words)?;
-    let (name, rest) = split_word(rest)?;
-    let default = last_word(rest)?;
-    Some((u32_in(instance)?, text_in(name)?, u32_in(default)?))
+    let (instance, name, default) = three_words(words)?;
+    match (u32_in(instance), text_in(name), u32_in(default)) {
+        (Some(instance), Some(name), Some(default)) => Some((instance, name, default)),
+        _ => None,
+    }
 }
 
 /// The line of a Binary Value.
@@ -122,15 +125,18 @@ fn multistate_words(words: &[u8]) -> Option<(u32, &str, u32, u32)>
         (multistate_line (words_of words.now)) }
 {
     let (instance, rest) = split_word(words)?;
-    let (name, rest) = split_word(rest)?;
-    let (states, rest) = split_word(rest)?;
-    let default = last_word(rest)?;
-    Some((
-        u32_in(instance)?,
-        text_in(name)?,
-        u32_in(states)?,
-        u32_in(default)?,
-    ))
+    let (name, states, default) = three_words(rest)?;
+    match (
+        u32_in(instance),
+        text_in(name),
+        u32_in(states),
+        u32_in(default),
+    ) {
+        (Some(instance), Some(name), Some(states), Some(default)) => {
+            Some((instance, name, states, default))
+        }
+        _ => None,
+    }
 }
 
 /// The line of a Multi-state Value.
@@ -155,10 +161,11 @@ fn integer_words(words: &[u8]) -> Option<(u32, &str, i32)>
     ensures { GivesSome (λ x. integer_of x.0 x.1.now x.2) result
         (integer_line (words_of words.now)) }
 {
-    let (instance, rest) = split_word(words)?;
-    let (name, rest) = split_word(rest)?;
-    let default = last_word(rest)?;
-    Some((u32_in(instance)?, text_in(name)?, i32_in(default)?))
+    let (instance, name, default) = three_words(words)?;
+    match (u32_in(instance), text_in(name), i32_in(default)) {
+        (Some(instance), Some(name), Some(default)) => Some((instance, name, default)),
+        _ => None,
+    }
 }
 
 /// The line of an Integer Value.
@@ -210,18 +217,14 @@ fn source_in(kind: &[u8], instance: &[u8]) -> Option<ObjectId>
 }
 
 /// What the words of a log line say; its name still lies in the script.
-#[tactic(auto, unfolding(crate::specs::Script::Line::log_line))]
+#[tactic(auto, using(crate::proofs::OtherWords::log_other), unfolding(crate::specs::Script::Line::log_line))]
 fn log_words(words: &[u8]) -> Option<(u32, &str, ObjectId, u32, u32, u32)>
     ensures { GivesSome (λ x. log_of x.0 x.1.now x.2 x.3 x.4 x.5) result
         (log_line (words_of words.now)) }
 {
-    let (instance, rest) = split_word(words)?;
-    let (name, rest) = split_word(rest)?;
-    let (kind, rest) = split_word(rest)?;
-    let (source, rest) = split_word(rest)?;
-    let (capacity, rest) = split_word(rest)?;
-    let (interval, rest) = split_word(rest)?;
-    let logged = last_word(rest)?;
+    let (instance, name, rest) = split_two(words)?;
+    let (kind, source, rest) = split_two(rest)?;
+    let (capacity, interval, logged) = three_words(rest)?;
     Some((
         u32_in(instance)?,
         text_in(name)?,
@@ -302,14 +305,15 @@ pub(crate) fn start_in(word: &[u8]) -> Option<Option<u32>>
 fn walk_line<'r>(words: &[u8]) -> Option<Line<'r>>
     ensures { walk_line (words_of words.now) ≡ option_map line_of result }
 {
-    let (log, rest) = split_word(words)?;
-    let (from, rest) = split_word(rest)?;
-    let steps = last_word(rest)?;
-    Some(Line::Happens(Event::Walked(WalkWords {
-        log: walked_log(log)?,
-        from: start_in(from)?,
-        steps: u32_in(steps)?,
-    })))
+    let (log, from, steps) = three_words(words)?;
+    match (walked_log(log), start_in(from), u32_in(steps)) {
+        (Some(log), Some(from), Some(steps)) => Some(Line::Happens(Event::Walked(WalkWords {
+            log,
+            from,
+            steps,
+        }))),
+        _ => None,
+    }
 }
 
 /// Whether a text is empty or a comment.

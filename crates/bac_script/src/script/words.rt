@@ -1,5 +1,5 @@
 //! The words of a line, which one space separates.
-ghost use Rattle.std.specs.Prelude.{◌≡◌, ◌∷◌, [], IfSome, IfNone};
+ghost use Rattle.std.specs.Prelude.{◌≡◌, ◌≢◌, ◌≤◌, ◌∷◌, [], length, IfSome, IfNone};
 ghost use Rattle.bac_wire.specs.OptionChain.{GivesSome};
 ghost use Rattle.bac_script.specs.Script.Words.{words_of, HasTwo, text_in};
 
@@ -22,6 +22,28 @@ pub(crate) fn last_word(line: &[u8]) -> Option<&[u8]>
         Some(_) => None,
         None => Some(line),
     }
+}
+
+/// The first two words and what follows the space after them.
+pub(crate) fn split_two(line: &[u8]) -> Option<(&[u8], &[u8], &[u8])>
+    ensures words { IfSome result
+        (λ x. words_of line.now ≡ x.0.now ∷ x.1.now ∷ words_of x.2.now) }
+    ensures few { IfNone result (length (words_of line.now) ≤ 2) }
+{
+    let (first, rest) = split_word(line)?;
+    let (second, rest) = split_word(rest)?;
+    Some((first, second, rest))
+}
+
+/// The three words of a line.
+pub(crate) fn three_words(line: &[u8]) -> Option<(&[u8], &[u8], &[u8])>
+    ensures words { IfSome result
+        (λ x. words_of line.now ≡ x.0.now ∷ x.1.now ∷ x.2.now ∷ []) }
+    ensures other { IfNone result (length (words_of line.now) ≢ 3) }
+{
+    let (first, second, rest) = split_two(line)?;
+    let third = last_word(rest)?;
+    Some((first, second, third))
 }
 
 /// A word as a text, if it has an octet and its octets are UTF-8.
