@@ -85,6 +85,30 @@ def own_address_echoes(judge, _runs):
     judge.judge("where each answer comes twice", file, site, True)
 
 
+def each_option(judge, _runs):
+    """Each option goes for all devices and logs of a run."""
+    ours = f"--local=127.77.6.3:{20000 + chance.randrange(9000)}"
+    for options, status in ((["--at-once=1"], 0), (["--count=7"], 0), (["--retries=0"], 0), (["--timeout=900"], 0), (["--trace"], 0),
+                            ([ours, "--trace"], 0), (["--steps=1"], 8), ([ours, "--steps=1", "--at-once=3"], 8)):
+        site = [Device([Log(number, 500) for number in (1, 2, 3)], f"option{n}") for n in range(4)]
+        serve(site)
+        name = " ".join(options)
+        file = f"{judge.room}/{name.replace(' ', '').replace(':', '_')}.db"
+        words = [word for device in site for word in (device.address, "1", "2", "3")]
+        for _run in range(2):
+            for device in site:
+                for log in device.logs.values():
+                    log.log(101)
+            told, out, errors = judge.ran(["keep", file, *options, *words])
+            # A reply has 45 records at most, and a step is one batch.
+            ended = {0: "101 records 0 gaps caught up", 8: "step limit"}[status]
+            judge.same(name, (told, [ended in one for one in out.splitlines()]), (status, [True] * 12))
+            judge.same(f"{name}: what is traced", bool(errors), "--trace" in options)
+            words = []
+        judge.same(f"{name}: without it", judge.ran(["keep", file])[0], 0)
+        judge.judge(name, file, site, True)
+
+
 def at_once(judge, _runs):
     """Devices are asked beside one another what they say of themselves, and then for their logs; each as often as alone."""
     site = [Slow([Log(1, 50), Log(2, 500)], f"slow{n}") for n in range(12)]
