@@ -153,7 +153,7 @@ said_here w datagram c said place is =
     let P : WalkPlace → Type 0 = λ v. IsSaidAt held history v.log (asked_by v) c.datagram in
     let Q : List ℕ → Type 0 = λ d. IsSaidAt held history w.log (asked_by w) d in subst P (sym place) (subst Q is said)
 
-same : (a b : List ℕ) → Some a ≡ Some b → a ≡ b
+pub same : (a b : List ℕ) → Some a ≡ Some b → a ≡ b
 same a b is = cc
 
 heard_as : (w : WalkPlace) (datagram came : List ℕ) (h : AckParameters) (p : Progress) (next : WalkPlace) → datagram ≡ came → heard_in w.log datagram ≡ Some h →
@@ -283,12 +283,12 @@ unfolding context_octets value_octets open_octets close_octets frame_octets plac
 asks_time invoke count = refl
 
 -- the question by number, with these contents for the number
-with_number : (invoke count : ℕ) → List ℕ → List ℕ
+unfoldable pub with_number : (invoke count : ℕ) → List ℕ → List ℕ
 with_number invoke count contents =
     frame_octets (header_octets (asking (towards None)) ++ apdu_octets (Confirmed false 1476 invoke 26
     (context_octets 0 (Object log) ++ (context_octets 1 (Enumerated 131) ++ (open_octets 6 ++ (tagged 0 2 contents ++ (value_octets (Signed (pos count)) ++ (close_octets 6 ++ []))))))))
 
-asks_with : (n invoke count : ℕ) → asked_octets (towards None) invoke log (FromNumber n count) ≡ with_number invoke count (unsigned_octets n)
+pub asks_with : (n invoke count : ℕ) → asked_octets (towards None) invoke log (FromNumber n count) ≡ with_number invoke count (unsigned_octets n)
 unfolding with_number context_octets value_octets open_octets close_octets frame_octets place_octets parameters_of request_apdu request_octets
 asks_with n invoke count = refl
 
@@ -298,7 +298,7 @@ unknown_size size number other = elim (cases_Bool (size == 33)) [
   | inr e ↦ rw e refl
 ]
 
-low_of : (n : ℕ) → 2 ≤ n → 32 + (if nat_lt n 5 then n else 5) ≡ 33 → ⊥
+pub low_of : (n : ℕ) → 2 ≤ n → 32 + (if nat_lt n 5 then n else 5) ≡ 33 → ⊥
 low_of n two is = elim (cases_Bool (nat_lt n 5)) [
   | inl e ↦ omega (arith, two, (let P : Bool → Type 0 = λ b. 32 + (if b then n else 5) ≡ 33 in subst P e is))
   | inr e ↦ let P : Bool → Type 0 = λ b. 32 + (if b then n else 5) ≡ 33 in absurd (omega (arith, subst P e is))

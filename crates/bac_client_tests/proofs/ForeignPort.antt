@@ -7,6 +7,7 @@ use Rattle.std.proofs.lemmas.List.{length-append}
 use Rattle.std.proofs.lemmas.Slice.Eq.{bytes_eq-Decides}
 use Rattle.bac_wire.specs.Primitive.{Id}
 use Rattle.bac_apdu.specs.Npdu.{Place}
+use Rattle.bac_log.proofs.Order.{same_some}
 use Rattle.bac_log.specs.declared.entry.Entry.{Entry}
 use Rattle.bac_link.specs.Datagrams.{answers_to}
 use Rattle.bac_link.specs.Delivery.{AreHeld, Brings, DeliversTo, Leads, Moment, items_of, now, later}
@@ -127,9 +128,6 @@ port_is_honest {P = P} question low = λ old new M asked invoke answer stands so
 
 -- ---- what it delivers
 
-same_entry : (a b : Entry) → Some a ≡ Some b → a ≡ b
-same_entry a b is = cc
-
 one_more_item : (shown n : ℕ) (entry e : Entry) (xs ys : List Item) → shown ≡ n → e ≡ entry → xs ≡ ys → Logged shown entry ∷ xs ≡ Logged n e ∷ ys
 one_more_item shown n entry e xs ys number same rest = cc
 
@@ -140,16 +138,16 @@ held_part j [] u small are = (j, are, small, omega arith, refl)
 held_part j (Gap first before ∷ items) u small are = absurd are
 held_part zero (Logged shown entry ∷ items) u small are =
     let rest = held_part 1 items u (omega arith) are.3 in
-    (rest.0, rest.1, rest.2, omega (arith, rest.3), one_more_item shown 7 entry record_7 (items ++ drop rest.0 all_held) (drop 1 all_held) are.0 (same_entry record_7 entry are.2.1) rest.4)
+    (rest.0, rest.1, rest.2, omega (arith, rest.3), one_more_item shown 7 entry record_7 (items ++ drop rest.0 all_held) (drop 1 all_held) are.0 (same_some record_7 entry are.2.1) rest.4)
 held_part (suc zero) (Logged shown entry ∷ items) u small are =
     let rest = held_part 2 items u (omega arith) are.3 in
-    (rest.0, rest.1, rest.2, omega (arith, rest.3), one_more_item shown 8 entry record_8 (items ++ drop rest.0 all_held) (drop 2 all_held) are.0 (same_entry record_8 entry are.2.1) rest.4)
+    (rest.0, rest.1, rest.2, omega (arith, rest.3), one_more_item shown 8 entry record_8 (items ++ drop rest.0 all_held) (drop 2 all_held) are.0 (same_some record_8 entry are.2.1) rest.4)
 held_part (suc (suc zero)) (Logged shown entry ∷ items) u small are =
     let rest = held_part 3 items u (omega arith) are.3 in
-    (rest.0, rest.1, rest.2, omega (arith, rest.3), one_more_item shown 9 entry record_9 (items ++ drop rest.0 all_held) (drop 3 all_held) are.0 (same_entry record_9 entry are.2.1) rest.4)
+    (rest.0, rest.1, rest.2, omega (arith, rest.3), one_more_item shown 9 entry record_9 (items ++ drop rest.0 all_held) (drop 3 all_held) are.0 (same_some record_9 entry are.2.1) rest.4)
 held_part (suc (suc (suc zero))) (Logged shown entry ∷ items) u small are =
     let rest = held_part 4 items u (omega arith) are.3 in
-    (rest.0, rest.1, rest.2, omega (arith, rest.3), one_more_item shown 10 entry record_10 (items ++ drop rest.0 all_held) (drop 4 all_held) are.0 (same_entry record_10 entry are.2.1) rest.4)
+    (rest.0, rest.1, rest.2, omega (arith, rest.3), one_more_item shown 10 entry record_10 (items ++ drop rest.0 all_held) (drop 4 all_held) are.0 (same_some record_10 entry are.2.1) rest.4)
 held_part (suc (suc (suc (suc j)))) (Logged shown entry ∷ items) u small are =
     let last : 7 + suc (suc (suc (suc j))) ≤ 10 = are.1.1 in absurd (omega (arith, last))
 

@@ -1,10 +1,9 @@
 -- A log that grows, behind a link that may lose any ask.
-use Rattle.std.proofs.Common.{◌≡◌, ℕ, zero, suc, ◌+◌, ◌-◌, ◌*◌, ◌^◌, ◌⊎◌, ◌<◌, ◌≤◌, ◌==◌, ◌&&◌, Bool, true, false, nat_lt, nat_le, get_or, if◌then◌else◌, Some, None, Result, Ok, Err, List, [], ◌∷◌, ◌++◌, length, slice_get, replicate, pos, refl, sym, subst, ap, ◌∙◌, inl, inr, arith}
+use Rattle.std.proofs.Common.{◌≡◌, ℕ, zero, suc, ◌+◌, ◌-◌, ◌*◌, ◌^◌, ◌⊎◌, ◌<◌, ◌≤◌, ◌==◌, ◌&&◌, Bool, true, false, nat_lt, nat_le, get_or, if◌then◌else◌, Some, None, Result, Ok, Err, List, [], ◌∷◌, ◌++◌, length, slice_get, replicate, refl, sym, subst, ap, ◌∙◌, inl, inr, arith}
 use Rattle.std.proofs.lemmas.Bool.{cases_Bool, cases_lt, eqb-true, le-leb, leb-true, lt-ltb, ltb-true}
 use Rattle.std.proofs.lemmas.List.{length-replicate, replicate-append-replicate}
-use Rattle.bac_wire.specs.Canon.{tagged, unsigned_octets}
+use Rattle.bac_wire.specs.Canon.{unsigned_octets}
 use Rattle.bac_wire.specs.Number.{number}
-use Rattle.bac_wire.specs.Primitive.{Object, Enumerated, Signed}
 use Rattle.bac_wire.proofs.Canonical.{unsigned_stands}
 use Rattle.bac_wire.specs.Level.{token_at, close_at}
 use Rattle.bac_wire.specs.Reading.{number_at as wire_number_at, length_at, value_in, tagged_at, value_at, context_at, mark_at, contents_as}
@@ -12,7 +11,7 @@ use Rattle.bac_wire.specs.Encoding.{context_octets, value_octets, open_octets, c
 use Rattle.bac_apdu.specs.Apdu.{segment_at, confirmed_at, complex_at, number_at, error_at, pair_at, unconfirmed_at, segment_ack_at, apdu_behind, apdu_at}
 use Rattle.bac_apdu.specs.FormReading.{row_at, optional_at, form_at}
 use Rattle.bac_apdu.specs.Frame.{body_at, frame_at, frame_octets}
-use Rattle.bac_apdu.specs.Npdu.{header_octets, place_at, maybe_place_at, hops_at, header_at, place_octets}
+use Rattle.bac_apdu.specs.Npdu.{place_at, maybe_place_at, hops_at, header_at, place_octets}
 use Rattle.bac_apdu.specs.Octets.{word_at, octets_at}
 use Rattle.bac_apdu.specs.Service.ReadRangeAck.{read_range_ack_at}
 use Rattle.bac_log.specs.RecordReading.{date_at, time_at, behind_at, simple_at, choice_at, chosen_at, datum_at, flags_at, entry_at, entries_at}
@@ -22,11 +21,11 @@ use Rattle.bac_link.specs.Growing.{IsGiven, IsOnward, IsStanding, StaysHonest}
 use Rattle.bac_link.specs.Heard.{heard_at, heard_in}
 use Rattle.bac_link.specs.Honest.{IsAskedIn, asked_octets}
 use Rattle.bac_link.specs.Path.{towards}
-use Rattle.bac_link.specs.Requests.{asking, parameters_of, request_apdu, request_octets}
+use Rattle.bac_link.specs.Requests.{parameters_of, request_apdu, request_octets}
 use Rattle.bac_link.specs.declared.link.Lost.{Lost}
-use Rattle.bac_apdu.specs.Apdu.{apdu_octets, Confirmed}
 use Rattle.bac_link.specs.Standard.{Asked, FromNumber, FromOldest, IsCount, IsSaidAt, SaysAt, count_asked}
 use Rattle.bac_log.specs.TrendLog.{sequence_number}
+use Rattle.bac_client_tests.proofs.Foreign.{same, with_number, asks_with, low_of}
 use Rattle.bac_client_tests.specs.Foreign.{log}
 use Rattle.bac_client_tests.specs.Growing.{about, answer_for, answer_to, logged_so_far, no_record, one_record, real, MayAnswer, MayGrow}
 
@@ -104,9 +103,6 @@ said_empty n invoke count asks none = record {
 
 -- ---- any question for its records
 
-same : (a b : List ℕ) → Some a ≡ Some b → a ≡ b
-same a b is = cc
-
 about_said : (n invoke k count : ℕ) (datagram : List ℕ) → IsCount count → k < 4294967296 → n < 2147483648 → Some (about n invoke k) ≡ Some datagram →
     IsSaidAt (logged_so_far n).moment (logged_so_far n).history log (FromNumber k count) datagram
 about_said n invoke k count datagram asks octet few is = by (nat_lt 0 k) (nat_le k n) refl refl is
@@ -135,26 +131,10 @@ asks_time : (n invoke count : ℕ) → answer_to n (asked_octets (towards None) 
 unfolding context_octets value_octets open_octets close_octets frame_octets place_octets parameters_of request_apdu request_octets
 asks_time n invoke count = refl
 
--- the question by number, with these contents for the number
-with_number : (invoke count : ℕ) → List ℕ → List ℕ
-with_number invoke count contents =
-    frame_octets (header_octets (asking (towards None)) ++ apdu_octets (Confirmed false 1476 invoke 26
-    (context_octets 0 (Object log) ++ (context_octets 1 (Enumerated 131) ++ (open_octets 6 ++ (tagged 0 2 contents ++ (value_octets (Signed (pos count)) ++ (close_octets 6 ++ []))))))))
-
-asks_with : (n invoke count : ℕ) → asked_octets (towards None) invoke log (FromNumber n count) ≡ with_number invoke count (unsigned_octets n)
-unfolding with_number context_octets value_octets open_octets close_octets frame_octets place_octets parameters_of request_apdu request_octets
-asks_with n invoke count = refl
-
 unknown_size : (n invoke size number : ℕ) → (size ≡ 33 → ⊥) → answer_for n invoke 0x6e size number ≡ None
 unknown_size n invoke size number other = elim (cases_Bool (size == 33)) [
   | inl e ↦ absurd (other (eqb-true size 33 e))
   | inr e ↦ rw e refl
-]
-
-low_of : (n : ℕ) → 2 ≤ n → 32 + (if nat_lt n 5 then n else 5) ≡ 33 → ⊥
-low_of n two is = elim (cases_Bool (nat_lt n 5)) [
-  | inl e ↦ omega (arith, two, (let P : Bool → Type 0 = λ b. 32 + (if b then n else 5) ≡ 33 in subst P e is))
-  | inr e ↦ let P : Bool → Type 0 = λ b. 32 + (if b then n else 5) ≡ 33 in absurd (omega (arith, subst P e is))
 ]
 
 none_said : (n invoke count : ℕ) → answer_to n (with_number invoke count []) ≡ None

@@ -7,7 +7,7 @@ use bac_direct::{DirectLink, LinkEvent};
 use bac_link::{Item, LogLink, Lost};
 use bac_log::{Datum, Entry};
 use bac_walk::{Outcome, Why};
-use bac_wire::{Datagram, Date4, ObjectId, Stamp, Time4};
+use bac_wire::{Date4, ObjectId, Stamp, Time4};
 use std::alloc::Global;
 use std::process::Abort;
 

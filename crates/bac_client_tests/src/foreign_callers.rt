@@ -60,7 +60,7 @@ pub struct ForeignLink {
 }
 
 /// The octet at a place, and 0 where there is none.
-fn octet_at(octets: &[u8], place: usize) -> u8
+pub(crate) fn octet_at(octets: &[u8], place: usize) -> u8
     ensures { result ≡ get_or octets.now place 0 }
 {
     match octets.get(place) {

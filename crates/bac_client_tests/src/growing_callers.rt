@@ -1,7 +1,7 @@
 //! A link that may lose any ask, to a log of REALs that grows between any two, for ever: that it
 //! stays honest, and that the headline holds over it, is proved from public contracts alone.
 
-ghost use Rattle.std.specs.Prelude.{ℕ, ◌≡◌, ◌+◌, ◌*◌, ◌<◌, ◌≤◌, false, get_or, None, Some};
+ghost use Rattle.std.specs.Prelude.{ℕ, ◌≡◌, ◌+◌, ◌*◌, ◌<◌, ◌≤◌, false, None, Some};
 ghost use Rattle.bac_log.specs.TrendLog.{sequence_number};
 ghost use Rattle.bac_link.specs.Growing.{StaysHonest};
 ghost use Rattle.bac_link.specs.Standard.{IsCount};
@@ -12,6 +12,7 @@ ghost use Rattle.bac_client_tests.specs.declared.growing_callers.GrowingLink.{Gr
 ghost use Rattle.bac_client_tests.specs.Foreign.{log as log_one};
 ghost use Rattle.bac_client_tests.specs.Growing.{about, answer_to, logged_so_far, MayGrow};
 
+use crate::foreign_callers::octet_at;
 use bac_link::{LogLink, Lost, Transactions};
 use bac_walk::{Outcome, Walk, collect};
 use bac_wire::Datagram;
@@ -24,16 +25,6 @@ pub struct GrowingLink {
     logged: u64,
     failures: u64,
     turn: u8,
-}
-
-/// The octet at a place, and 0 where there is none.
-fn octet_at(octets: &[u8], place: usize) -> u8
-    ensures { result ≡ get_or octets.now place 0 }
-{
-    match octets.get(place) {
-        Some(octet) => *octet,
-        None => 0,
-    }
 }
 
 /// The answer about a record: the record, if there are so many, or none.

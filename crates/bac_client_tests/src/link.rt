@@ -8,7 +8,6 @@ use bac_apdu::WriteProperty;
 use bac_link::{ExchangeFault, Received, Request, Timeout, Transactions, exchange};
 use bac_scripted_link::ScriptedLink;
 use bac_wire::{ObjectId, Value};
-use std::test::Fail;
 
 /// A write of one zero to property 85 of Binary Value 1, invoke ID 1.
 const WRITE: [u8; 21] = [
@@ -32,41 +31,89 @@ fn write_of<'a>(octets: &'a [u8]) -> Option<Request<'a>>
     }))
 }
 
-#[test]
-fn a_request_is_sent_again_until_it_is_given_up(rt: HostRuntime) -> Result<(), Fail> {
-    let zeros = [0];
-    let Some(write) = write_of(&zeros) else {
-        return Err(Fail::from("no such request"));
+/// Whether what is sent for the write of one zero is this write.
+fn sends(transactions: &mut Transactions) -> Option<bool> {
+    let Some(write) = write_of(&[0]) else {
+        return None;
     };
-    let mut transactions = Transactions::new(3);
-    let sent = transactions.begin(&write)?;
-    assert_eq!(rt; sent.octets(), WRITE.as_slice());
-    for _ in 0..3 {
-        match transactions.timeout() {
-            Timeout::Resend(again) => assert_eq!(rt; again.octets(), WRITE.as_slice()),
-            Timeout::GaveUp => return Err(Fail::from("given up too early")),
-        }
+    match transactions.begin(&write) {
+        Ok(sent) => Some(sent.octets() == WRITE.as_slice()),
+        Err(_) => None,
     }
-    assert!(rt; matches!(transactions.timeout(), Timeout::GaveUp));
-    assert!(rt; matches!(transactions.timeout(), Timeout::GaveUp));
-    assert_eq!(rt; transactions.receive(&REPLY), Received::Ignored);
-    Ok(())
+}
+
+/// Whether what is sent again after a timeout is this write, if anything is.
+fn sends_again(transactions: &mut Transactions) -> Option<bool> {
+    match transactions.timeout() {
+        Timeout::Resend(again) => Some(again.octets() == WRITE.as_slice()),
+        Timeout::GaveUp => None,
+    }
+}
+
+/// The same after each of five timeouts.
+fn five_timeouts(transactions: &mut Transactions) -> [Option<bool>; 5] {
+    [
+        sends_again(transactions),
+        sends_again(transactions),
+        sends_again(transactions),
+        sends_again(transactions),
+        sends_again(transactions),
+    ]
+}
+
+fn ignores_reply(transactions: &mut Transactions) -> bool {
+    matches!(transactions.receive(&REPLY), Received::Ignored)
+}
+
+/// All of these, one after the other, with three retries.
+fn send_until_given_up() -> (Option<bool>, [Option<bool>; 5], bool) {
+    let mut transactions = Transactions::new(3);
+    let first = sends(&mut transactions);
+    let again = five_timeouts(&mut transactions);
+    (first, again, ignores_reply(&mut transactions))
 }
 
 #[test]
-fn a_request_of_1476_octets_fits(rt: HostRuntime) -> Result<(), Fail> {
-    let zeros = [0; 1460];
-    let (Some(fits), Some(long)) = (write_of(&zeros[1..]), write_of(&zeros)) else {
-        return Err(Fail::from("no such request"));
+fn a_request_is_sent_again_until_it_is_given_up(rt: HostRuntime) {
+    let again = [Some(true), Some(true), Some(true), None, None];
+    assert_eq!(rt; send_until_given_up(), (Some(true), again, true));
+}
+
+/// How many octets are sent for the write of these, or none where the write is refused.
+fn sent_for(transactions: &mut Transactions, octets: &[u8]) -> Option<Option<usize>> {
+    let Some(write) = write_of(octets) else {
+        return None;
     };
-    let mut transactions = Transactions::new(0);
-    let sent = transactions.begin(&fits)?;
-    // 4 of the frame, 2 of the header, and the APDU
-    assert_eq!(rt; sent.octets().len(), 1482);
-    assert!(rt; transactions.begin(&long).is_err());
+    match transactions.begin(&write) {
+        Ok(sent) => Some(Some(sent.octets().len())),
+        Err(_) => Some(None),
+    }
+}
+
+/// Whether an exchange of the write of these is too long, and how many asks of it were lost.
+fn exchanged(transactions: &mut Transactions, octets: &[u8]) -> Option<(bool, u64)> {
+    let Some(write) = write_of(octets) else {
+        return None;
+    };
     let mut link = ScriptedLink::new(&[&REPLY]);
-    let result = exchange(&mut link, &mut transactions, &long);
-    assert_eq!(rt; result.err(), Some(ExchangeFault::TooLong));
-    assert_eq!(rt; link.failures, 0);
-    Ok(())
+    let result = exchange(&mut link, transactions, &write);
+    let is_too_long = matches!(result, Err(ExchangeFault::TooLong));
+    Some((is_too_long, link.failures))
+}
+
+/// How many octets are sent for the writes of 1459 zeros and of 1460, and how an exchange of the
+/// longer one ends.
+fn send_longest() -> ([Option<Option<usize>>; 2], Option<(bool, u64)>) {
+    let zeros = [0; 1460];
+    let mut transactions = Transactions::new(0);
+    let fits = sent_for(&mut transactions, &zeros[1..]);
+    let long = sent_for(&mut transactions, &zeros);
+    ([fits, long], exchanged(&mut transactions, &zeros))
+}
+
+#[test]
+fn a_request_of_1476_octets_fits(rt: HostRuntime) {
+    // 4 of the frame, 2 of the header, and the APDU
+    let sent = [Some(Some(1482)), Some(None)];
+    assert_eq!(rt; send_longest(), (sent, Some((true, 0))));
 }

@@ -44,36 +44,16 @@ pub fn records_over_a_network(
         (started device (walk_at log s) retries) events.now)
         (length (moments_of rounds log.instance
         (started device (walk_at log s) retries) events.now)))) }
-{
-    // For the prover alone: a law that the contract follows from.
-    windows_stay_near();
-    let Some(walk) = Walk::from_number(log, s) else {
-        return None;
-    };
-    let mut world = World::new(alloc, device, walk, retries);
-    match world.play_all(events) {
-        Ok(_) => Some(Ok(world)),
-        Err(Memory) => Some(Err(Memory)),
-    }
-}
-
-/// Whatever a network makes of the packets, what a walk from number s on takes as a reply is the
-/// device's: an event before brought the device the open request, and this is its answer to it.
-pub fn replies_of_the_device(
-    alloc: Global,
-    device: Device,
-    log: ObjectId,
-    s: u32,
-    retries: u8,
-    events: &[WorldEvent],
-) -> Option<Result<World, Memory>>
-    ensures is_some { IsSome result ↔ (0 < s) × (log.kind ≡ 20) }
+    // What the walk takes as a reply is the device's: an event before brought the device the open
+    // request, and this is its answer to it.
     ensures answered { IfSome result (λ played. IfOk played
         (λ world. IsThere device log.instance
         → (before : List WorldEvent) (k : ℕ) (after : List WorldEvent)
         → events.now ≡ before ++ Delivers k ∷ after
         → WasAnswered (started device (walk_at log s) retries) before k)) }
 {
+    // For the prover alone: a law that the contract follows from.
+    windows_stay_near();
     let Some(walk) = Walk::from_number(log, s) else {
         return None;
     };
