@@ -27,9 +27,9 @@ impl Write for Balky {
     }
 }
 
-fn new_balky(rt: &impl AllocGlobal, refusal: ErrorKind) -> Balky {
+fn new_balky(alloc: Global, refusal: ErrorKind) -> Balky {
     Balky {
-        text: Vec::new(rt.alloc()),
+        text: Vec::new(alloc),
         writes: 0,
         refusal,
     }
@@ -43,13 +43,16 @@ fn write_and_flush_twice(alloc: Global, paper: &mut Balky) -> Option<[bool; 3]> 
     Some([written, flushed, output.flush().is_ok()])
 }
 
+/// The same to a paper that refuses; and how many octets it took, of how many writes.
+fn lose(alloc: Global) -> (Option<[bool; 3]>, usize, u32) {
+    let mut paper = new_balky(alloc, ErrorKind::Other);
+    let done = write_and_flush_twice(alloc, &mut paper);
+    (done, paper.text.len(), paper.writes)
+}
+
 #[test]
 fn a_dropped_buffer_writes_nothing_behind_a_refused_write(rt: HostRuntime) {
-    let mut paper = new_balky(&rt, ErrorKind::Other);
-    let done = write_and_flush_twice(rt.alloc(), &mut paper);
-    assert_eq!(rt; done, Some([true, false, false]));
-    assert!(rt; paper.text.is_empty());
-    assert_eq!(rt; paper.writes, 1);
+    assert_eq!(rt; lose(rt.alloc()), (Some([true, false, false]), 0, 1));
 }
 
 /// How many octets of each of four texts are taken.
@@ -62,10 +65,15 @@ fn write_four(output: &mut impl Write) -> [Option<usize>; 4] {
     ]
 }
 
+/// How many are taken if the first write is interrupted, and whether these are what is kept.
+fn keep(alloc: Global) -> ([Option<usize>; 4], bool) {
+    let mut paper = new_balky(alloc, ErrorKind::Interrupted);
+    let taken = write_four(&mut UntilRefused::new(&mut paper));
+    (taken, paper.text.as_slice() == b"kepttoo".as_slice())
+}
+
 #[test]
 fn a_signal_refuses_nothing(rt: HostRuntime) {
-    let mut paper = new_balky(&rt, ErrorKind::Interrupted);
-    let taken = write_four(&mut UntilRefused::new(&mut paper));
-    assert_eq!(rt; taken, [None, Some(4), Some(0), Some(3)]);
-    assert_eq!(rt; paper.text.as_slice(), b"kepttoo".as_slice());
+    let taken = [None, Some(4), Some(0), Some(3)];
+    assert_eq!(rt; keep(rt.alloc()), (taken, true));
 }

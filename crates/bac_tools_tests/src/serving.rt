@@ -61,12 +61,24 @@ fn trend(alloc: Global, interval: u32) -> Option<ObjectLine> {
     })
 }
 
-/// The device with both.
+/// Both.
+fn lines(alloc: Global, interval: u32) -> Option<Vec<ObjectLine>> {
+    let mut lines = Vec::new(alloc);
+    lines.push(pump(alloc)?).ok()?;
+    lines.push(trend(alloc, interval)?).ok()?;
+    Some(lines)
+}
+
+/// The device of this line with both.
+fn device_of(alloc: Global, plant: &DeviceLine, interval: u32) -> Option<Device> {
+    let lines = lines(alloc, interval)?;
+    Device::build(alloc, plant, lines.as_slice()).ok()
+}
+
+/// Device 123 with both.
 fn device(alloc: Global, interval: u32) -> Option<Device> {
     let plant = plant(alloc)?;
-    let pump = pump(alloc)?;
-    let trend = trend(alloc, interval)?;
-    Device::build(alloc, &plant, &[pump, trend]).ok()
+    device_of(alloc, &plant, interval)
 }
 
 /// How many records Trend Log 1 has.
@@ -80,8 +92,8 @@ fn has_told_once(port: &MemoryPort) -> bool {
 }
 
 /// Serves a Who-Is and an I-Am, by a clock that goes on by five seconds: of each, whether it was
-/// answered, and what the device's clock shows then; and whether one I-Am was sent by then.
-fn serve_each(device: &mut Device) -> ([(Result<bool, SocketFault>, Option<Stamp>); 2], [bool; 2]) {
+/// answered, what the device's clock shows then, and whether one I-Am was sent by then.
+fn serve_each(device: &mut Device) -> [(Result<bool, SocketFault>, Option<Stamp>, bool); 2] {
     let mut clock = MovingClock {
         hundredths: 0,
         step: 500,
@@ -89,19 +101,22 @@ fn serve_each(device: &mut Device) -> ([(Result<bool, SocketFault>, Option<Stamp
     let coming = [Coming::From(CLIENT, &WHO_IS), Coming::From(CLIENT, &I_AM)];
     let mut port = MemoryPort::new(&coming);
     let first = serve_one(&mut port, device, &mut clock);
-    let (between, told) = (device.clock(), has_told_once(&port));
+    let first = (first, Some(device.clock()), has_told_once(&port));
     let second = serve_one(&mut port, device, &mut clock);
-    let served = [(first, Some(between)), (second, Some(device.clock()))];
-    (served, [told, has_told_once(&port)])
+    [first, (second, Some(device.clock()), has_told_once(&port))]
+}
+
+/// The same of a device that was built for it.
+fn serve_each_anew(alloc: Global) -> Option<[(Result<bool, SocketFault>, Option<Stamp>, bool); 2]> {
+    let mut device = device(alloc, 0)?;
+    Some(serve_each(&mut device))
 }
 
 #[test]
 fn a_reply_goes_to_who_asked(rt: HostRuntime) {
-    let mut device = device(rt.alloc(), 0).expect(&rt, "a device");
-    let served = serve_each(&mut device);
     // an I-Am isn't answered
-    let wanted = [(Ok(true), at(5)), (Ok(false), at(10))];
-    assert_eq!(rt; served, (wanted, [true, true]));
+    let wanted = [(Ok(true), at(5), true), (Ok(false), at(10), true)];
+    assert_eq!(rt; serve_each_anew(rt.alloc()), Some(wanted));
 }
 
 /// Sets the device's clock to 2024-05-06T07:08 and this second.
@@ -127,12 +142,17 @@ fn serve_two(device: &mut Device) -> ([(Result<(), SocketFault>, Option<Stamp>);
     (served, port.sends)
 }
 
+/// The same of a device whose clock shows seven seconds already.
+fn serve_two_ahead(alloc: Global) -> Option<([(Result<(), SocketFault>, Option<Stamp>); 2], u32)> {
+    let mut device = device(alloc, 100)?;
+    set_to(&mut device, 7);
+    Some(serve_two(&mut device))
+}
+
 #[test]
 fn a_clock_that_goes_back_leaves_the_device(rt: HostRuntime) {
-    let mut device = device(rt.alloc(), 100).expect(&rt, "a device");
-    set_to(&mut device, 7);
-    let served = serve_two(&mut device);
-    assert_eq!(rt; served, ([(Ok(()), at(7)), (Ok(()), at(10))], 2));
+    let wanted = [(Ok(()), at(7)), (Ok(()), at(10))];
+    assert_eq!(rt; serve_two_ahead(rt.alloc()), Some((wanted, 2)));
 }
 
 /// Nothing comes in fifty waits of a fifth of a second, and then the port fails: what comes of it,
@@ -148,11 +168,16 @@ fn serve_quietly(device: &mut Device) -> (Result<(), SocketFault>, usize) {
     (served, port.received)
 }
 
+/// The same of a device that was built for it; and what its clock shows then, and how many records
+/// Trend Log 1 has.
+fn fill(alloc: Global) -> Option<((Result<(), SocketFault>, usize), Option<Stamp>, Option<u32>)> {
+    let mut device = device(alloc, 100)?;
+    let served = serve_quietly(&mut device);
+    Some((served, Some(device.clock()), records(&device)))
+}
+
 #[test]
 fn ten_quiet_seconds_fill_a_log(rt: HostRuntime) {
-    let mut device = device(rt.alloc(), 100).expect(&rt, "a device");
-    let served = serve_quietly(&mut device);
-    assert_eq!(rt; served, (Err(SocketFault::Failed), 51));
-    let shown = (Some(device.clock()), records(&device));
-    assert_eq!(rt; shown, (at(10), Some(10)));
+    let served = (Err(SocketFault::Failed), 51);
+    assert_eq!(rt; fill(rt.alloc()), Some((served, at(10), Some(10))));
 }

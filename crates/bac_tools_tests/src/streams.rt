@@ -1,7 +1,8 @@
 //! Scripts whose reader or writer is interrupted, or gives and takes single octets. Reads and
 //! writes that fail are in examples/check/faults.py.
 
-use bac_script::run_replay;
+use bac_script::{ReplayFault, run_replay};
+use std::alloc::Global;
 use std::io::{self, Read, Write};
 
 /// A Who-Is, a datagram that is none, and a Who-Is again.
@@ -83,15 +84,19 @@ impl Write for Narrow {
     }
 }
 
-#[test]
-fn octets_may_come_and_go_one_at_a_time(rt: HostRuntime) {
+/// How the script ends between these two, and whether its answers are written.
+fn replay_drop_by_drop(alloc: Global) -> (Result<(), ReplayFault>, bool) {
     let mut reader = Dripping { rest: SCRIPT };
     let mut writer = Narrow {
-        text: Vec::new(rt.alloc()),
+        text: Vec::new(alloc),
     };
-    let ended = run_replay(rt.alloc(), &mut reader, &mut writer);
-    assert_eq!(rt; ended, Ok(()));
-    assert_eq!(rt; writer.text.as_slice(), ANSWERS);
+    let ended = run_replay(alloc, &mut reader, &mut writer);
+    (ended, writer.text.as_slice() == ANSWERS)
+}
+
+#[test]
+fn octets_may_come_and_go_one_at_a_time(rt: HostRuntime) {
+    assert_eq!(rt; replay_drop_by_drop(rt.alloc()), (Ok(()), true));
 }
 
 /// Whether a signal interrupts the next call: it does before each call that is answered.
@@ -145,17 +150,21 @@ impl Write for Busy {
     }
 }
 
-#[test]
-fn a_signal_is_no_fault(rt: HostRuntime) {
+/// How the script ends between these two, and whether its answers are written.
+fn replay_among_signals(alloc: Global) -> (Result<(), ReplayFault>, bool) {
     let mut reader = Interrupted {
         rest: SCRIPT,
         signals: Signals { due: true },
     };
     let mut writer = Busy {
-        text: Vec::new(rt.alloc()),
+        text: Vec::new(alloc),
         signals: Signals { due: true },
     };
-    let ended = run_replay(rt.alloc(), &mut reader, &mut writer);
-    assert_eq!(rt; ended, Ok(()));
-    assert_eq!(rt; writer.text.as_slice(), ANSWERS);
+    let ended = run_replay(alloc, &mut reader, &mut writer);
+    (ended, writer.text.as_slice() == ANSWERS)
+}
+
+#[test]
+fn a_signal_is_no_fault(rt: HostRuntime) {
+    assert_eq!(rt; replay_among_signals(rt.alloc()), (Ok(()), true));
 }

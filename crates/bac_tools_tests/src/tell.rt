@@ -4,6 +4,17 @@
 use bac_device::BuildFault;
 use bac_script::{Refused, ReplayFault};
 use bac_tools::{Fault, tell};
+use std::alloc::Global;
+
+/// What is told of it.
+const LINE: &[u8] = b"cannot build: duplicate object\n";
+
+/// The exit status of a fault, and whether that line is told of it.
+fn told(alloc: Global, fault: Fault) -> (u8, bool) {
+    let mut errors = Vec::new(alloc);
+    let status = tell(alloc, fault, &mut errors);
+    (status, errors.as_slice() == LINE)
+}
 
 #[test]
 fn what_cannot_be_mended_is_one_line(rt: HostRuntime) {
@@ -11,10 +22,5 @@ fn what_cannot_be_mended_is_one_line(rt: HostRuntime) {
         fault: ReplayFault::Build(BuildFault::DuplicateId),
         reason: None,
     });
-    let mut errors = Vec::new(rt.alloc());
-    assert_eq!(rt; tell(rt.alloc(), unexplained, &mut errors), 1);
-    assert_eq!(rt;
-        errors.as_slice(),
-        b"cannot build: duplicate object\n".as_slice()
-    );
+    assert_eq!(rt; told(rt.alloc(), unexplained), (1, true));
 }

@@ -6,11 +6,17 @@ use std::alloc::{AllocError, Global};
 use std::fmt::Debug;
 use std::process::Abort;
 
+/// Puts a word behind the others.
+fn push(alloc: Global, words: &mut Vec<String>, word: &str) -> Result<(), AllocError> {
+    words.push(String::from_str(alloc, word)?)?;
+    Ok(())
+}
+
 /// The words of a line, as what starts the program passes them.
 fn words_of(alloc: Global, line: &str) -> Result<Vec<String>, AllocError> {
     let mut words = Vec::new(alloc);
     for word in line.split(' ') {
-        words.push(String::from_str(alloc, word)?)?;
+        push(alloc, &mut words, word)?;
     }
     Ok(words)
 }
@@ -23,15 +29,15 @@ fn text<J: Debug + Drop, F: Drop>(alloc: Global, read: Result<J, F>) -> Option<S
     }
 }
 
-/// The text of the job that the words come to.
-fn told(alloc: Global, words: &[String]) -> Option<String> {
-    text(alloc, read_words(alloc, words))
+/// The text of the job that the words of a line come to.
+fn told(alloc: Global, line: &str) -> Option<String> {
+    let words = words_of(alloc, line).ok()?;
+    text(alloc, read_words(alloc, words.as_slice()))
 }
 
 /// The words of a line come to this.
 fn comes_to(rt: &(impl Abort + AllocGlobal), line: &str, wanted: &str) {
-    let words = words_of(rt.alloc(), line).expect(rt, "memory");
-    let told = told(rt.alloc(), words.as_slice()).expect(rt, "a job");
+    let told = told(rt.alloc(), line).expect(rt, "a job");
     assert_eq!(rt; told.as_str(), wanted);
 }
 
