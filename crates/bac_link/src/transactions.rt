@@ -141,8 +141,8 @@ impl Transactions {
     }
 
     /// Opens a request, in place of one that is open, and gives the datagram to be sent. Invoke IDs
-    /// go on by one, from 1 if none is named before; after 255 comes 0. `Full` if the request's APDU
-    /// has over 1476 octets; then nothing changes.
+    /// go on by one, from 1 if none is named before; after 255 comes 0. `Full` if the request's
+    /// APDU has over 1476 octets; then nothing changes.
     pub fn begin(&mut self, request: &Request) -> Result<Datagram, Full>
         requires { IsSendable request.now }
         ensures datagram { IfOk result (λ d. d ≡ request_octets (towards self.old.route)

@@ -58,6 +58,6 @@ pub record IsAllKept {S P C D G : Type 0} {t : start.Ghosts G} (rules : SocketRu
   pub is_closed : IsSome closed
   pub place : Place
   pub placed : IsPlaced asked.file place
-  pub kept : IfSome closed (IsDoneTo g image (KeepsArchive rules (by asked.at_once) (given_of asked.options) chosen all between
-      sockets_after
+  pub kept : IfSome closed (IsDoneTo g image
+      (KeepsArchive rules (by asked.at_once) (given_of asked.options) chosen all between sockets_after
       (BeginsOn h before_image place.before parts) ends))
