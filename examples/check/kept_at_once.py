@@ -85,6 +85,76 @@ def own_address_echoes(judge, _runs):
     judge.judge("where each answer comes twice", file, site, True)
 
 
+class Counted(Device):
+    """Notes the invoke ID of each question."""
+
+    def __init__(self, logs, name):
+        super().__init__(logs, name)
+        self.ids = []
+
+    def ack(self, apdu):
+        self.ids.append(apdu[2])
+        return super().ack(apdu)
+
+
+class Repeating(Counted, Echoing):
+    """Each answer goes out once more."""
+
+
+class Patient(Counted, Slow):
+    """Each answer goes out some time after its question came."""
+
+
+def come_again(ids, others):
+    """The IDs that come again behind no more than so many others."""
+    return [one for at, one in enumerate(ids) if one in ids[max(0, at - others) : at]]
+
+
+def new_records(site, news):
+    """Each log of the first device has so many new records, and those of the others one or none; the lines that tell it."""
+    told = []
+    for place, device in enumerate(site):
+        device.ids = []
+        for (number, log), new in zip(device.logs.items(), news):
+            new = new if place == 0 else new % 2
+            log.log(new)
+            told.append(line(device, number, new, f"caught up, next {log.total + 1}"))
+    return "".join(told)
+
+
+def ids_go_on(judge, _runs):
+    """The invoke IDs of what a device is asked go on over a run: over its list, its names, what it says of itself and each
+    of its logs, however many questions a log takes. So an answer that comes once more is none to a later question."""
+    for many in (1, 3):
+        site = [Repeating([Log(1, 4000), Log(2, 50), Log(3, 4000)], f"ids {many} {n}") for n in range(many)]
+        serve(site)
+        name = "1 device" if many == 1 else f"{many} devices"
+        file, ours = f"{judge.room}/{many}.db", f"127.77.6.{3 + many}:{20000 + chance.randrange(9000)}"
+        words = [device.address for device in site]
+        for news in ((2500, 5, 1900), (0, 1, 0), (3, 0, 2000), (1, 1, 1)):
+            site[0].fits = (45,)
+            lines = new_records(site, news)
+            judge.same(f"{name}, {news} new", judge.ran(["keep", file, f"--local={ours}", *words]), (0, lines, ""))
+            for device in site:
+                # Of several devices the IDs of one leave some out.
+                judge.same(f"{name}, {news} new: IDs that come again", come_again(device.ids, 127), [])
+            if many == 1:
+                judge.same(f"{name}, {news} new: its IDs", site[0].ids, [n % 256 for n in range(1, len(site[0].ids) + 1)])
+            words = []
+        judge.judge(name, file, site, True)
+    # Beside one whose list is longer another one is still asked for its own, so that its IDs are behind.
+    for many in (20, 140):
+        site = [Counted([Log(number, 50) for number in range(1, many + 1)], f"long {many}"), Patient([Log(1, 50), Log(2, 50)], f"short {many}")]
+        serve(site)
+        name, file, words = f"beside a list of {many}", f"{judge.room}/beside{many}.db", [device.address for device in site]
+        for news in ([3] * many, [0] * many):
+            lines = new_records(site, news)
+            judge.same(name, judge.ran(["keep", file, f"--local=127.77.6.9:{20000 + chance.randrange(9000)}", *words]), (0, lines, ""))
+            judge.same(f"{name}: IDs that come again", [come_again(device.ids, 127) for device in site], [[], []])
+            words = []
+        judge.judge(name, file, site, True)
+
+
 def each_option(judge, _runs):
     """Each option goes for all devices and logs of a run."""
     ours = f"--local=127.77.6.3:{20000 + chance.randrange(9000)}"

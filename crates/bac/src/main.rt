@@ -4,6 +4,7 @@
 
 use bac_desks::SteadyClock;
 use bac_heeding::Heeding;
+use bac_onward::Onward;
 use bac_recall::Recalling;
 use bac_run::{DiskFiles, FolderFiles, run};
 use bac_tools::{Fault, SystemClock, UdpSockets, UntilRefused, tell};
@@ -58,11 +59,11 @@ fn started(rt: &HostRuntime) -> Result<u8, Fault> {
     Ok(run(
         &mut Recalling::new(
             rt.alloc(),
-            Traced::new(
+            Onward::new(Traced::new(
                 rt.alloc(),
                 Heeding::new(UdpSockets::new(rt)),
                 StandardErrors { rt },
-            ),
+            )),
         ),
         &mut DiskFiles::new(rt, Unknown),
         &mut DiskFiles::new(rt, Unknown),

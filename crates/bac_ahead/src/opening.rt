@@ -20,7 +20,7 @@ use bac_play::{Outcome, Play};
 use bac_questions::{copy_source, transactions_by};
 use bac_recall::Conversation;
 use bac_walk::{Count, collect};
-use bac_wire::{Datagram, ObjectId};
+use bac_wire::ObjectId;
 use std::alloc::{AllocError, Global};
 
 /// A log, and what it is asked for first by.
@@ -45,8 +45,6 @@ pub struct Opening {
     /// How many batches are asked for ahead behind what the run begins with. What comes is held in
     /// memory, up to 3 kilobytes for each.
     pub batches: u32,
-    /// The invoke ID before that of its first question.
-    pub before: u8,
 }
 
 /// What came to the first questions for a log.
@@ -153,9 +151,8 @@ impl Opening {
     fn transactions(&self) -> Result<Transactions, AllocError>
         ensures retries { IfOk result (λ made. made.retries ≡ 0) }
         ensures route { IfOk result (λ made. made.route ≡ self.now.route) }
-        ensures first { IfOk result (λ made. made.invoke ≡ self.now.before) }
     {
-        Ok(transactions_by(0, self.route.clone()?).after(self.before))
+        Ok(transactions_by(0, self.route.clone()?))
     }
 
     /// What came, once nothing more is asked.

@@ -5,4 +5,3 @@ pub mod Faults
 pub mod Wanted
 pub mod Began
 pub mod Reasons
-pub mod Ids

@@ -7,7 +7,6 @@ ghost use Rattle.std.specs.String.{string_bytes};
 ghost use Rattle.bac_words.specs.Outcome.{IsRefused, job_in};
 ghost use Rattle.bac_asked.specs.AsLog.{IsAskedBy, IsAskingOf, IsUnasked, given_in, log_words};
 ghost use Rattle.bac_asked.specs.AsLog.{option_words};
-ghost use Rattle.bac_asked.specs.Ids.{IsFirst, ids_behind};
 ghost use Rattle.bac_asked.specs.declared.log_words.Asking.{Asking as AnyAsking};
 
 use crate::options::Options;
@@ -26,23 +25,6 @@ pub struct Asking {
     pub steps: u32,
     /// How many records a question asks for.
     pub count: Count,
-    /// The invoke ID before that of its first question.
-    pub before: u8,
-}
-
-/// How many invoke IDs lie between the first questions for two logs of a device that are asked for
-/// one behind the other, and before those for its first one, which the questions for the device
-/// itself have. So a reply that comes late, or twice, is none to a question for the next log. It is
-/// odd: 256 logs begin with IDs that differ.
-const IDS: u8 = 37;
-
-impl Asking {
-    /// The invoke ID before that of the first question for the next log of the device.
-    pub fn ids_behind(&self) -> u8
-        ensures { result ≡ ids_behind self.now }
-    {
-        self.before.wrapping_add(IDS)
-    }
 }
 
 fn push_word(alloc: Global, words: &mut Vec<String>, word: &str) -> Result<(), AllocError>
@@ -131,7 +113,6 @@ fn log_job(
 /// How the log of a job is asked for.
 fn asking_of(job: Job) -> Result<Asking, WordsFault>
     ensures ok { IfOk result (IsAskingOf job) }
-    ensures ids { IfOk result IsFirst }
     ensures err { IfErr result (λ fault. (fault ≡ WordsFault.BadValue Word.Tool)
         × ((asking : AnyAsking) → IsAskingOf job asking → ⊥)) }
 {
@@ -150,7 +131,6 @@ fn asking_of(job: Job) -> Result<Asking, WordsFault>
                 instance,
                 steps,
                 count,
-                before: IDS,
             }),
             None => Err(WordsFault::BadValue(Word::Tool)),
         },
@@ -167,7 +147,6 @@ pub(crate) fn ask_as_log(
 ) -> Result<Asking, WordsFault>
     ensures ok { IfOk result
         (IsAskedBy (log_words address.now instance.now (given_in options.now))) }
-    ensures ids { IfOk result IsFirst }
     ensures err { IfErr result
         (IsUnasked (log_words address.now instance.now (given_in options.now))) }
 {

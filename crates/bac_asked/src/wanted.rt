@@ -5,7 +5,6 @@ ghost use Rattle.std.specs.List.{All};
 ghost use Rattle.std.specs.String.{string_bytes};
 ghost use Rattle.bac_asked.specs.AsLog.{IsAskedBy, IsUnasked, given_in, log_words};
 ghost use Rattle.bac_asked.specs.Faults.{WantsMemory, of_words};
-ghost use Rattle.bac_asked.specs.Ids.{IsFirst};
 ghost use Rattle.bac_asked.specs.Wanted.{AddNamed, AddsOnce, AreNoOptions, AreUnnamed};
 ghost use Rattle.bac_asked.specs.Wanted.{AsksItsSource, HasNoAddress, IsSourceOf, IsUnnamed};
 ghost use Rattle.bac_asked.specs.Wanted.{has_instance, words_at};
@@ -82,7 +81,6 @@ pub fn named(
     ensures source { IfOk result AsksItsSource }
     ensures asked { IfOk result (λ wanted. IsAskedBy
         (log_words address.now instance.now (given_in options.now)) wanted.asking) }
-    ensures ids { IfOk result (λ wanted. IsFirst wanted.asking) }
     ensures unnamed { IfErr result
         (IsUnnamed (log_words address.now instance.now (given_in options.now))) }
 {
@@ -132,27 +130,6 @@ fn add_once(all: &mut Vec<Wanted>, wanted: Wanted) -> Result<(), NotDone>
     }
 }
 
-/// The log that words name, with invoke IDs behind those for the last of these of its device.
-fn named_behind(
-    alloc: Global,
-    all: &[Wanted],
-    address: &str,
-    instance: &str,
-    options: &Options<'_>,
-) -> Result<Wanted, NotDone>
-    ensures source { IfOk result AsksItsSource }
-    ensures asked { IfOk result (λ wanted. IsAskedBy
-        (log_words address.now instance.now (given_in options.now)) wanted.asking) }
-    ensures unnamed { IfErr result
-        (IsUnnamed (log_words address.now instance.now (given_in options.now))) }
-{
-    let mut wanted = named(alloc, address, instance, options)?;
-    if let Some(last) = all.last() {
-        wanted.asking.before = last.asking.ids_behind();
-    }
-    Ok(wanted)
-}
-
 /// The logs of one device that words name, each once.
 pub fn named_all(
     alloc: Global,
@@ -167,7 +144,7 @@ pub fn named_all(
 {
     let mut all = Vec::new(alloc);
     for instance in instances {
-        let wanted = named_behind(alloc, all.as_slice(), address, instance.as_str(), options)?;
+        let wanted = named(alloc, address, instance.as_str(), options)?;
         add_once(&mut all, wanted)?;
     }
     Ok(all)
@@ -185,7 +162,6 @@ fn digits(alloc: Global, n: u32) -> Result<String, AllocError>
 /// How the log of a source is asked for: by the source's own way to its device.
 fn asking_at(alloc: Global, source: &Source, options: &Options<'_>) -> Result<Asking, WordsFault>
     ensures ok { IfOk result (IsAskedBy (words_at (given_in options.now) source.now)) }
-    ensures ids { IfOk result IsFirst }
     ensures err { IfErr result (IsUnasked (words_at (given_in options.now) source.now)) }
 {
     let instance = digits(alloc, source.instance)?;
@@ -220,7 +196,6 @@ pub fn kept_log(alloc: Global, log: Log, options: &Options<'_>) -> Result<Wanted
     ensures asks { IfOk result AsksItsSource }
     ensures asked { IfOk result
         (λ wanted. IsAskedBy (words_at (given_in options.now) log.source) wanted.asking) }
-    ensures ids { IfOk result (λ wanted. IsFirst wanted.asking) }
     ensures refused { IfErr result (λ fault. WantsMemory fault
         ⊎ ((fault ≡ NotDone.File FileFault.Address)
         × HasNoAddress (given_in options.now) log.source)) }
@@ -236,7 +211,6 @@ pub fn kept_at(alloc: Global, source: Source, options: &Options<'_>) -> Result<W
     ensures asks { IfOk result AsksItsSource }
     ensures asked { IfOk result
         (λ wanted. IsAskedBy (words_at (given_in options.now) source) wanted.asking) }
-    ensures ids { IfOk result (λ wanted. IsFirst wanted.asking) }
     ensures refused { IfErr result (λ fault. WantsMemory fault
         ⊎ ((fault ≡ NotDone.File FileFault.Address)
         × HasNoAddress (given_in options.now) source)) }

@@ -1,28 +1,26 @@
-//! What a user needs who walks several logs of a device, proved from the public contracts alone.
+//! What a user needs who asks a device over one socket after another, proved from the public
+//! contracts alone.
 
-ghost use Rattle.bac_client_tests.specs.Apart.{IsApart};
+ghost use Rattle.bac_link.specs.Requests.{IsSendable};
+ghost use Rattle.bac_client_tests.specs.Apart.{IsNoneOfBefore};
 
-use bac_link::{LogLink, Transactions};
-use bac_walk::{Outcome, Walk, collect, replies_stay_apart};
-use std::alloc::Global;
+use bac_link::{Received, Request, Transactions};
+use bac_onward::late_answers_are_none;
 
-/// Whoever answers: the transactions for a second log begin 37 invoke IDs behind those for the
-/// first one. Of the first 37 replies that are taken for the second none answers one of the first
-/// 37 questions for the first, so none of these that is late, or was sent twice, is taken.
-pub fn next_log_apart<L: LogLink>(
-    alloc: Global,
-    link: &mut L,
-    retries: u8,
-    one: &mut Walk,
-    other: &mut Walk,
-    steps: u32,
-) -> Outcome
-    ensures { IsApart L.asks retries other.old result other.new link.new }
+/// Whether what came over a port is taken for the answer to the first question over it. Where
+/// invoke IDs go on, no answer to one of the last 255 questions over the ports before is.
+pub fn is_taken(question: &Request, came: &[u8], retries: u8) -> bool
+    requires { IsSendable question.now }
+    ensures { IsNoneOfBefore came.now result }
 {
     // For the prover alone: a law that the contract follows from.
-    replies_stay_apart::<L>();
-    let mut first = Transactions::new(retries);
-    let _outcome = collect(alloc, link, &mut first, one, steps);
-    let mut second = Transactions::new(retries).after(37);
-    collect(alloc, link, &mut second, other, steps)
+    late_answers_are_none();
+    let mut transactions = Transactions::new(retries);
+    match transactions.begin(question) {
+        Ok(_) => match transactions.receive(came) {
+            Received::Done(_) => true,
+            Received::Ignored => false,
+        },
+        Err(_) => false,
+    }
 }

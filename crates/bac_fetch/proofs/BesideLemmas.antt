@@ -1,16 +1,15 @@
 -- How a log of a file is asked for beside others of its device.
-use Rattle.std.proofs.Common.{◌≡◌, ◌↔◌, ◌∙◌, ℕ, ◌+◌, ◌-◌, ◌<◌, ◌≤◌, Bool, true, List, None, Some, Result, Ok, Err, IfOk, get_or, length, inr, refl, ap, sym, subst, arith}
+use Rattle.std.proofs.Common.{◌≡◌, ◌↔◌, ◌∙◌, ℕ, ◌+◌, ◌-◌, ◌<◌, ◌≤◌, Bool, true, List, Some, Result, Ok, Err, IfOk, get_or, length, refl, ap, sym, subst, arith}
 use Rattle.std.specs.List.{All, slice_get}
 use Rattle.std.proofs.lemmas.Option.{get_or_from_slice_get, slice_get_read, slice_get_within}
 use Rattle.bac_archive.specs.declared.trend_logs.Source.{Source}
 use Rattle.bac_asked.specs.AsLog.{Given, IsAskedBy}
-use Rattle.bac_asked.specs.Ids.{IsFirst}
 use Rattle.bac_asked.specs.Wanted.{IsAskedAs, words_at}
 use Rattle.bac_asked.specs.declared.end.NotDone.{NotDone}
 use Rattle.bac_asked.specs.declared.wanted.Wanted.{Wanted}
 use Rattle.bac_questions.specs.Silent.{is_same_device}
 use Rattle.bac_questions.proofs.SilentLemmas.{same_device}
-use Rattle.bac_fetch.specs.Beside.{IsAskedWith, IsLast, IsLastOf, IsOfDevice, StandsBehind}
+use Rattle.bac_fetch.specs.Beside.{IsAskedWith, IsLast, IsOfDevice}
 
 -- ---- places
 
@@ -72,9 +71,3 @@ pub by_words : (given : Given) (source : Source) (result : Result Wanted NotDone
     → IfOk result (IsAskedWith given)
 by_words given source (Ok w) is by = asked_by given w (subst (λ (s : Source). IsAskedBy (words_at given s) w.asking) (sym is) by)
 by_words given source (Err fault) is by = tt
-
--- where none is of its device, its invoke IDs are the first ones
-pub first_ids : (all : List Wanted) (source : Source) (result : Result Wanted NotDone) → IsLastOf all source None → IfOk result (λ w. w.source ≡ source) → IfOk result (λ w. IsFirst w.asking)
-    → IfOk result (StandsBehind all)
-first_ids all source (Ok w) none is first = inr (subst (λ (s : Source). IsLastOf all s None) (sym is) none, first)
-first_ids all source (Err fault) none is first = tt

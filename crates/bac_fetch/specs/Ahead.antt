@@ -60,7 +60,6 @@ pub record IsOpenedBy (trees : Trees) (log : Option Log) (told : Told) (many : �
   pub count : opening.many ≡ wanted.asking.count
   pub steps : opening.steps ≡ wanted.asking.steps
   pub batches : opening.batches ≡ many
-  pub before : opening.before ≡ wanted.asking.before
   pub id : opening.id ≡ id_of log
   pub word : opening.word ≡ word_beside log told
   pub stands : StandsIf trees log opening.stand

@@ -1,8 +1,7 @@
--- How a log of a file is asked for: by which options, and with which invoke IDs. Read `IsAskedWith`, `StandsBehind`.
-use Rattle.std.specs.Prelude.{◌≡◌, ◌<◌, ◌⊎◌, ℕ, true, List, Option, None, Some, slice_get}
+-- By which options a log of a file is asked for. Read `IsAskedWith`.
+use Rattle.std.specs.Prelude.{◌≡◌, ◌<◌, ℕ, true, List, Option, None, Some, slice_get}
 use Rattle.bac_archive.specs.declared.trend_logs.Source.{Source}
 use Rattle.bac_asked.specs.AsLog.{Given, IsAskedBy}
-use Rattle.bac_asked.specs.Ids.{IsFirst, ids_behind}
 use Rattle.bac_asked.specs.Wanted.{IsAskedAs, words_at}
 use Rattle.bac_asked.specs.declared.log_words.Asking.{Asking}
 use Rattle.bac_asked.specs.declared.wanted.Wanted.{Wanted}
@@ -21,13 +20,6 @@ IsLastOf all source None = (at : ℕ) → IsOfDevice all at source → ⊥
 -- the last one that is
 abbrev pub IsLast : List Wanted → Source → Wanted → Type 0
 IsLast all source last = (at : ℕ) × IsLastOf all source (Some at) × (slice_get all at ≡ Some last)
-
--- Its invoke IDs come behind those for the last one of these logs that is of its device; or they are the first ones,
--- and none is.
-abbrev pub StandsBehind : List Wanted → Wanted → Type 0
-StandsBehind all wanted =
-    ((last : Wanted) × IsLast all wanted.source last × (wanted.asking.before ≡ ids_behind last.asking))
-    ⊎ (IsLastOf all wanted.source None × IsFirst wanted.asking)
 
 -- A log is asked for by these options: as `bac log` with them asks for a log of its device.
 abbrev pub IsAskedWith : Given → Wanted → Type 0

@@ -54,8 +54,8 @@ abbrev pub AskTheirSources : Chosen → Type 0
 AskTheirSources chosen.Kept = Unit {0}
 AskTheirSources (chosen.Sought sought) = All AskOneSource sought.items
 
--- What was chosen of an archive: its logs that aren't stopped, each asked for by the options that were given. Of devices
--- `AreFound` tells it.
+-- What was chosen of an archive: its logs that aren't stopped, each asked for by the options that were given. Of
+-- devices `AreFound` tells it.
 abbrev pub AreChosen : Given → Chosen → Trees → List Wanted → Type 0
 AreChosen given chosen.Kept trees all = AreKeptLogs trees all × All (IsAskedWith given) all
 AreChosen given (chosen.Sought sought) trees all = Unit {0}

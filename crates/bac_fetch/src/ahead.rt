@@ -98,7 +98,6 @@ fn opened_by<A: Alter>(
         asked,
         steps,
         count,
-        before,
         ..
     } = &wanted.asking;
     let stand = stand_if(alloc, conn, log)?;
@@ -116,7 +115,6 @@ fn opened_by<A: Alter>(
         stand,
         steps: *steps,
         batches,
-        before: *before,
     })
 }
 

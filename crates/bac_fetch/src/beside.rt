@@ -1,13 +1,12 @@
 //! How a log of a file is asked for, beside the others of its device.
 
-ghost use Rattle.std.specs.Prelude.{◌≡◌, ◌≤◌, ◌⊎◌, ◌↔◌, IfErr, IfNone, IfOk, IfSome};
+ghost use Rattle.std.specs.Prelude.{◌≡◌, ◌⊎◌, ◌↔◌, IfErr, IfNone, IfOk, IfSome};
 ghost use Rattle.std.specs.Prelude.{IsTrue, None};
 ghost use Rattle.std.specs.List.{All};
 ghost use Rattle.bac_asked.specs.AsLog.{given_in};
 ghost use Rattle.bac_asked.specs.Faults.{WantsMemory};
 ghost use Rattle.bac_asked.specs.Wanted.{AsksItsSource, HasNoAddress};
 ghost use Rattle.bac_fetch.specs.Beside.{IsAskedWith, IsLast, IsLastOf, IsOfDevice};
-ghost use Rattle.bac_fetch.specs.Beside.{StandsBehind};
 
 use bac_archive::{Log, Source};
 use bac_asked::{FileFault, NotDone, Options, Wanted, kept_log};
@@ -47,8 +46,7 @@ fn last_of<'a>(all: &'a [Wanted], source: &Source) -> Option<&'a Wanted>
 }
 
 /// How a log of a file is asked for, behind others: as the last one of its device, or by the words
-/// of its own. So words are read once for each device, and the questions for each of its logs have
-/// invoke IDs of their own.
+/// of its own. So words are read once for each device.
 pub(crate) fn kept_beside(
     alloc: Global,
     all: &[Wanted],
@@ -59,7 +57,6 @@ pub(crate) fn kept_beside(
     ensures asks { All AsksItsSource all.now → IfOk result AsksItsSource }
     ensures by { All (IsAskedWith (given_in options.now)) all.now
         → IfOk result (IsAskedWith (given_in options.now)) }
-    ensures ids { log.source.instance ≤ 4194303 → IfOk result (StandsBehind all.now) }
     ensures fault { IfErr result (λ fault. WantsMemory fault
         ⊎ ((fault ≡ NotDone.File FileFault.Address)
         × HasNoAddress (given_in options.now) log.source)) }

@@ -434,13 +434,11 @@ pub(crate) fn fetch<S: Sockets, A: Alter, P: Progress>(
         instance: _instance,
         steps,
         count: many,
-        before,
     } = asking;
     let Some(log) = ObjectId::new(TREND_LOG, entry.row.source.instance) else {
         return Err(NotDone::Asking(Fault::BadValue(Word::Instance)));
     };
-    let (link, transactions) = connect(sockets, asked)?;
-    let mut transactions = transactions.after(before);
+    let (link, mut transactions) = connect(sockets, asked)?;
     let mut link = Heeding::new(link);
     let end = fetch_over(
         alloc,

@@ -89,15 +89,6 @@ impl Transactions {
         transactions
     }
 
-    /// The same, behind this invoke ID: the next request has the one after it. So requests to a
-    /// device that were begun by others before have other ones.
-    pub fn after(mut self, invoke: u8) -> Transactions
-        ensures { result ≡ record self { invoke = invoke } }
-    {
-        self.invoke = invoke;
-        self
-    }
-
     /// The same again, with what is open.
     pub fn copy(&self) -> Transactions
         ensures { result ≡ self.now }
@@ -141,8 +132,8 @@ impl Transactions {
     }
 
     /// Opens a request, in place of one that is open, and gives the datagram to be sent. Invoke IDs
-    /// go on by one, from 1 if none is named before; after 255 comes 0. `Full` if the request's
-    /// APDU has over 1476 octets; then nothing changes.
+    /// are 1, 2 and so on; after 255 comes 0. `Full` if the request's APDU has over 1476 octets;
+    /// then nothing changes.
     pub fn begin(&mut self, request: &Request) -> Result<Datagram, Full>
         requires { IsSendable request.now }
         ensures datagram { IfOk result (λ d. d ≡ request_octets (towards self.old.route)

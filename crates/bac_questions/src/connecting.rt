@@ -17,7 +17,6 @@ const ANY: [u8; 6] = [0; 6];
 pub fn transactions_by(retries: u8, route: Option<Route>) -> Transactions
     ensures retries { result.retries ≡ retries }
     ensures route { result.route ≡ route }
-    ensures first { result.invoke ≡ 0 }
 {
     match route {
         Some(route) => Transactions::through(retries, route),
@@ -36,7 +35,6 @@ pub fn connect<S: Sockets>(
     ensures link { IfOk result (λ made. made.0 ≡ link_over asked.address made.0.port) }
     ensures retries { IfOk result (λ made. made.1.retries ≡ asked.retries) }
     ensures route { IfOk result (λ made. made.1.route ≡ asked.route) }
-    ensures first { IfOk result (λ made. made.1.invoke ≡ 0) }
     ensures refused { IfErr result (IsUnopened
         (socket_rules S.opens S.closes S.Socket.sends S.Socket.receives
         S.Socket.receives_within) asked sockets.old sockets.new) }

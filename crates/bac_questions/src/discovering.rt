@@ -11,7 +11,6 @@ ghost use Rattle.bac_questions.specs.Discovered.{name_of};
 ghost use Rattle.bac_questions.specs.Faults.{EndsFinding};
 ghost use Rattle.bac_questions.specs.Unfound.{FailsToFind, LacksNumber, LacksObject, LacksPlace};
 ghost use Rattle.bac_ports.specs.Sockets.{socket_rules};
-ghost use Rattle.bac_asked.specs.Ids.{ids_behind};
 ghost use Rattle.bac_asked.specs.Wanted.{AsksItsSource, IsAskedAs, IsSourceOf};
 ghost use Rattle.bac_questions.specs.Silent.{is_same_device};
 
@@ -160,7 +159,6 @@ fn name_in(alloc: Global, answer: &Datagram) -> Result<Option<String>, NotDone>
 pub fn asked_like(like: &Asking, instance: u32) -> Result<Asking, NotDone>
     ensures alike { IfOk result (IsAskedAs like.now) }
     ensures instance { IfOk result (λ asking. asking.instance ≡ instance) }
-    ensures ids { IfOk result (λ asking. asking.before ≡ like.now.before) }
     ensures fault { IfErr result WantsMemory }
 {
     let Asked {
@@ -184,18 +182,15 @@ pub fn asked_like(like: &Asking, instance: u32) -> Result<Asking, NotDone>
         instance,
         steps: like.steps,
         count: like.count,
-        before: like.before,
     })
 }
 
-/// How a log is asked for whose device is that of another log: as that one is, with invoke IDs
-/// behind those for it. Nothing if it is of another device, or no object has its instance.
+/// How a log is asked for whose device is that of another log: as that one is. Nothing if it is of
+/// another device, or no object has its instance.
 pub fn asked_beside(other: &Wanted, source: &Source) -> Result<Option<Asking>, NotDone>
     ensures alike { IfOk result (λ found. IfSome found (IsAskedAs other.now.asking)) }
     ensures asks { IfOk result (λ found. IfSome found (λ asking. AsksItsSource other.now
         → IsSourceOf asking.asked asking.instance source.now)) }
-    ensures ids { IfOk result (λ found. IfSome found
-        (λ asking. asking.before ≡ ids_behind other.now.asking)) }
     ensures none { IfOk result (λ found. IfNone found
         (is_same_device other.now.source source.now ≡ true → 4194303 < source.now.instance)) }
     ensures fault { IfErr result WantsMemory }
@@ -206,18 +201,15 @@ pub fn asked_beside(other: &Wanted, source: &Source) -> Result<Option<Asking>, N
     if !is_same_device(&other.source, source) {
         return Ok(None);
     }
-    let mut asking = asked_like(&other.asking, source.instance)?;
-    asking.before = other.asking.ids_behind();
-    Ok(Some(asking))
+    Ok(Some(asked_like(&other.asking, source.instance)?))
 }
 
-/// A log of the device, with invoke IDs behind those for the last of these of its logs.
+/// A log of the device.
 fn wanted_of<L: LogLink>(
     alloc: Global,
     device: &mut Station<L>,
     object: ObjectId,
     like: &Asking,
-    others: &[Wanted],
 ) -> Result<Wanted, NotDone>
     ensures asks { IfOk result AsksItsSource }
     ensures alike { IfOk result (λ wanted. IsAskedAs like.now wanted.asking) }
@@ -232,10 +224,7 @@ fn wanted_of<L: LogLink>(
     ensures address { device.new.address ≡ device.old.address }
 {
     let name = device.name(alloc, object)?;
-    let mut asking = asked_like(like, object.instance())?;
-    if let Some(last) = others.last() {
-        asking.before = last.asking.ids_behind();
-    }
+    let asking = asked_like(like, object.instance())?;
     match source_of(alloc, &asking.asked, object.instance()) {
         Ok(source) => Ok(Wanted {
             source,
@@ -269,7 +258,7 @@ fn add_object<L: LogLink>(
     if object.kind() != TREND_LOG {
         return Ok(());
     }
-    let wanted = wanted_of(alloc, device, object, like, all.as_slice())?;
+    let wanted = wanted_of(alloc, device, object, like)?;
     add_wanted(all, wanted)?;
     Ok(())
 }

@@ -6,11 +6,11 @@ use Rattle.bac_link.specs.Datagrams.{answers_to}
 use Rattle.bac_link.specs.Links.{question}
 use Rattle.bac_link.specs.Path.{towards}
 use Rattle.bac_link.specs.Requests.{request_octets}
-use Rattle.bac_link.proofs.Client.{answers_tell_apart, one_invoke}
+use Rattle.bac_link.proofs.Client.{answers_tell_apart}
 use Rattle.bac_link.proofs.Verdicts.{question_fits}
 use Rattle.bac_walk.specs.Came.{Came, restarted}
 use Rattle.bac_walk.specs.Place.{WalkPlace}
-use Rattle.bac_walk.specs.Transacted.{ComesBy, LateRepliesAreLeft, RepliesAnswer, RepliesStayApart, asked as asked_at, asked_after, invoke_after}
+use Rattle.bac_walk.specs.Transacted.{ComesBy, LateRepliesAreLeft, RepliesAnswer, asked as asked_at, asked_after}
 use Rattle.bac_walk.specs.Walks.{question_of}
 use Rattle.bac_walk.proofs.Told.{Asking}
 
@@ -39,9 +39,3 @@ late_left asks = λ t last old new before after steps items ended c d earlier be
     let same = answers_tell_apart (towards t.route) (towards t.route) (question c.place.log (question_of c.place)) (question d.place.log (question_of d.place)) first second d.datagram
     (way, tt) (way, tt) (question_fits c.place.log (question_of c.place)) (question_fits d.place.log (question_of d.place)) (omega (arith, gap)) (omega (arith, gap, few)) says own in
     omega (arith, same, gap)
-
-pub apart : {S : Type 0} (asks : Asking S) → RepliesStayApart asks
-apart asks = λ t last other old new before after there steps n items ended c earlier later way far run says.
-    let own = answers_there asks c earlier later t run.half old run.mid (restarted before) run.here run.comes in
-    one_invoke (towards other.route) (towards t.route) (question there.log (question_of there)) (question c.place.log (question_of c.place)) (invoke_after other n) (invoke_after t (length earlier)) c.datagram
-    (far, tt) (way, tt) (question_fits there.log (question_of there)) (question_fits c.place.log (question_of c.place)) says own

@@ -155,15 +155,3 @@ LateRepliesAreLeft {S = S} asks =
     (ended : Ended) (c d : Came) (earlier between later : List Came) → IsWay first.route →
     BroughtBy asks first old before steps (earlier ++ c ∷ between ++ d ∷ later) items ended after last new →
     length between < 255 → answers_to (asked_after first (length earlier) c.place) d.datagram ≡ true → ⊥
-
--- Two runs with a device, each by transactions of its own: a reply that was taken in the one, and that answers a
--- question which the other asks in the transaction begun after so many others, has the invoke ID of both. So where
--- their IDs differ, no reply to a question for one log, late or sent twice, is taken for another log.
-abbrev pub RepliesStayApart : {S : Type 0} → (S → List ℕ → Result (List ℕ) Loss → S → Type 0) → Type 0
-RepliesStayApart {S = S} asks =
-    (first last other : Transactions) (old new : S) (before after there : WalkPlace) (steps n : ℕ)
-    (items : List Item) (ended : Ended) (c : Came) (earlier later : List Came) →
-    IsWay first.route → IsWay other.route →
-    BroughtBy asks first old before steps (earlier ++ c ∷ later) items ended after last new →
-    answers_to (asked_after other n there) c.datagram ≡ true →
-    invoke_after other n ≡ invoke_after first (length earlier)

@@ -14,7 +14,7 @@ ghost use Rattle.bac_walk.specs.Meant.{SaidMeans};
 ghost use Rattle.bac_walk.specs.Near.{StaysInWindow, WindowsAreNear};
 ghost use Rattle.bac_walk.specs.Rests.{RestsAll, RestResumes};
 ghost use Rattle.bac_walk.specs.Transacted.{LateRepliesAreLeft, RepliesAnswer, TransactedIsBounded};
-ghost use Rattle.bac_walk.specs.Transacted.{RepliesStayApart, TransactedIsBrought};
+ghost use Rattle.bac_walk.specs.Transacted.{TransactedIsBrought};
 ghost use Rattle.bac_walk.specs.Runs.{CollectedIsDelivered, RunsDeliver, RunsJoin};
 ghost use Rattle.bac_walk.specs.Honest.{OursAreHonest, MomentsNeverGoBack, NumbersHaveOrdinals};
 ghost use Rattle.bac_walk.specs.Honest.{RepliesAreLoggable};
@@ -111,12 +111,6 @@ pub fn replies_answer<L: LogLink>()
 /// isn't taken for a later one before 256 transactions were begun.
 pub fn late_replies_are_left<L: LogLink>()
     ensures { LateRepliesAreLeft L.asks }
-{}
-
-/// A reply that is taken in a run by transactions of its own answers no question of another run,
-/// unless both questions have the same invoke ID.
-pub fn replies_stay_apart<L: LogLink>()
-    ensures { RepliesStayApart L.asks }
 {}
 
 /// What came tells why: whoever answers, a run as `collect` and `deliver` tell it ended by its last

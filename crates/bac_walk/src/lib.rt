@@ -31,7 +31,7 @@ pub use laws::{
     came_is_delivered, collected_is_delivered, flaws_are_refused, growing_is_delivered,
     honest_is_delivered, late_replies_are_left, lost_is_asked, moments_never_go_back, nothing_came,
     numbers_have_ordinals, ours_are_honest, ours_stay_honest, own_is_said, replies_answer,
-    replies_are_loggable, replies_stay_apart, rest_resumes, rests_all, runs_deliver, runs_join,
+    replies_are_loggable, rest_resumes, rests_all, runs_deliver, runs_join,
     runs_stay_in_their_window, said_is_taken, said_means, transacted_is_bounded,
     transacted_is_brought, windows_are_near,
 };

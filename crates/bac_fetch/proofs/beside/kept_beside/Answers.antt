@@ -1,20 +1,14 @@
-use Rattle.std.proofs.Common.{◌≡◌, ◌<◌, true, Option, None, IfNone, IfSome, inl, subst, arith}
+use Rattle.std.proofs.Common.{Option, None, IfSome, subst}
 use Rattle.bac_asked.specs.AsLog.{given_in}
-use Rattle.bac_asked.specs.Ids.{ids_behind}
 use Rattle.bac_asked.specs.Wanted.{AsksItsSource, IsAskedAs, IsSourceOf}
 use Rattle.bac_asked.specs.declared.log_words.Asking.{Asking}
-use Rattle.bac_questions.specs.Silent.{is_same_device}
 use Rattle.bac_fetch.specs.Beside.{IsAskedWith}
-use Rattle.bac_fetch.proofs.BesideLemmas.{asked_as, by_words, first_ids, last_same, of_last}
+use Rattle.bac_fetch.proofs.BesideLemmas.{asked_as, by_words, last_same, of_last}
 use Rattle.bac_fetch.proofs.beside.kept_beside.Goals as goal
 
 pub returns-in_default-clause-by : goal.returns-in_default-clause-by
 returns-in_default-clause-by c all =
     by_words (given_in c.args.options.now) c.args.log.source c.kept_log.result c.kept_log.ensures.source c.kept_log.ensures.asked
-
-pub returns-in_default-clause-ids : goal.returns-in_default-clause-ids
-returns-in_default-clause-ids c few =
-    first_ids c.args.all.now c.args.log.source c.kept_log.result c.in_default.ensures.none c.kept_log.ensures.source c.kept_log.ensures.ids
 
 pub returns-in-Some-2-clause-asks : goal.returns-in-Some-2-clause-asks
 returns-in-Some-2-clause-asks c all =
@@ -30,18 +24,6 @@ returns-in-Some-2-clause-by c all =
     asked_as given last (record { source = c.args.log.source; name = None; asking = c.in-Some-2.asking }) (of_last (IsAskedWith given) c.args.all.now c.args.log.source last c.in-Some.ensures.some all)
     (last_same c.args.all.now c.args.log.source last c.in-Some.ensures.some) alike
 
-pub returns-in-Some-2-clause-ids : goal.returns-in-Some-2-clause-ids
-returns-in-Some-2-clause-ids c few =
-    let last = c.in-Some.last.now in
-    inl (last, c.in-Some.ensures.some, subst (λ (found : Option Asking). IfSome found (λ asking. asking.before ≡ ids_behind last.asking)) c.in-Some-2.is c.in_ok-asking.ensures.ids)
-
 pub returns-in-None-clause-by : goal.returns-in-None-clause-by
 returns-in-None-clause-by c all =
     by_words (given_in c.args.options.now) c.args.log.source c.kept_log-in-None.result c.kept_log-in-None.ensures.source c.kept_log-in-None.ensures.asked
-
-pub returns-in-None-clause-ids : goal.returns-in-None-clause-ids
-returns-in-None-clause-ids c few =
-    let last = c.in-Some.last.now in
-    let P : Option Asking → Type 0 = λ found. IfNone found (is_same_device last.source c.args.log.source ≡ true → 4194303 < c.args.log.source.instance) in
-    let past = subst P c.in-None.is c.in_ok-asking.ensures.none (last_same c.args.all.now c.args.log.source last c.in-Some.ensures.some) in
-    absurd (omega (arith, past, few))

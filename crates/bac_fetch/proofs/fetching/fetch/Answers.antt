@@ -1,6 +1,5 @@
 use Rattle.std.proofs.Common.{◌≡◌, ap, refl, rules, ◌∙◌}
 use Rattle.sqlite.specs.Held.{state}
-use Rattle.bac_link.specs.declared.transactions.Transactions.{Transactions}
 use Rattle.bac_ports.specs.Sockets.{socket_rules}
 use Rattle.bac_fetch.specs.Heeds.{heeding}
 use Rattle.bac_ahead.specs.Ahead.{trend_log}
@@ -14,14 +13,12 @@ returns-clause-kept g c clean has =
     let over = socket_rules g.S.Sockets.opens g.S.Sockets.closes g.S.Socket.Port.sends g.S.Socket.Port.receives g.S.Socket.Port.receives_within in
     let old = state g.A.Store c.args.conn.now in
     let new = state g.A.Store c.fetch_over-end.new.conn in
-    let by : Transactions = c.after-transactions.result in
-    let same = c.after-transactions.ensures in
     let object : c.in-Some.log ≡ trend_log c.args.entry.now.row.source.instance = search rules in
     keeps_log over c.args.asking c.args.sockets.now c.connect.new.sockets c.close.new.self c.args.entry.now
     (trend_log c.args.entry.now.row.source.instance) c.in-Some.log old.now new.now c.in_ok-end.field-0 c.end_told.result
     c.in_ok-link.link.port c.into_port.result c.new-link.result c.fetch_over-end.new.link
-    by.route by.retries c.args.asking.steps
-    c.in_ok-link.ensures.opened (c.new-link.ensures ∙ ap heeding c.in_ok-link.ensures.link) (ap (λ (t : Transactions). t.route) same ∙ c.in_ok-link.ensures.route) (ap (λ (t : Transactions). t.retries) same ∙ c.in_ok-link.ensures.retries)
+    c.in_ok-link.transactions.route c.in_ok-link.transactions.retries c.args.asking.steps
+    c.in_ok-link.ensures.opened (c.new-link.ensures ∙ ap heeding c.in_ok-link.ensures.link) c.in_ok-link.ensures.route c.in_ok-link.ensures.retries
     refl object c.into_port.ensures c.close.ensures c.end_told.ensures (c.in_ok-end.ensures.kept clean has)
 
 pub returns-in_err-link-clause-undone : goal.returns-in_err-link-clause-undone
