@@ -291,15 +291,24 @@ def broken_answers(judge, runs):
         copied(f"{judge.room}/true.db", runs.archive.name)
 
 
+def goes_beyond(log, kept):
+    """A log that began anew has more records than were kept before, if it can hold them all."""
+    if kept + 9 <= log.room_for:
+        log.log(max(0, kept + 9 - log.total))
+
+
 def fifty_judged(judge, _runs):
     """A site is kept, and goes on; and then it is broken."""
     runs = Runs(judge, OneFile(f"{judge.room}/site.db"), chance.getrandbits(32))
     runs.run("all are added", *runs.by_list(*LONG), all_of_it=True)
     for at, device in enumerate(runs.site.devices):
+        kept = [log.total for log in device.logs.values()]
         if at % 3 == 0:
             begins_anew(device)
-        for log in device.logs.values():
+        for log, before in zip(device.logs.values(), kept):
             log.log(log.room_for + 20 if at % 3 == 1 else 9)
+            if at % 3 == 0 and log.fresh and device.restart is not None:
+                goes_beyond(log, before)
     runs.run("they go on", *runs.whole(*LONG), all_of_it=True)
     broken_rows(judge, runs)
     for at, device in enumerate(runs.site.devices):
