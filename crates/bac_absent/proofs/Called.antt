@@ -1,5 +1,5 @@
 -- Which devices are called, log by log.
-use Rattle.std.proofs.Common.{◌≡◌, ℕ, ◌<◌, Bool, true, false, not, ◌&&◌, ◌||◌, true≢false, List, [], ◌∷◌, ◌++◌, if◌then◌else◌, append_assoc, length, get_or, map, inl, inr, refl, ap, sym, subst, ◌∙◌, arith}
+use Rattle.std.proofs.Common.{◌≡◌, ℕ, ◌<◌, Bool, true, false, not, ◌&&◌, ◌||◌, true≢false, List, [], ◌∷◌, ◌++◌, if◌then◌else◌, append_assoc, length, get_or, map, inl, inr, refl, ap, sym, subst, ◌∙◌}
 use Rattle.std.specs.List.{Contains, list_any}
 use Rattle.std.proofs.lemmas.Bool.{and_from, and_parts}
 use Rattle.std.proofs.lemmas.List.{append-nil}
@@ -53,15 +53,6 @@ pushes heard called (x ∷ all) wanted =
 are_more : (heard : List Heard) (all called : List Wanted) (wanted : Wanted) → called ≡ coming heard [] all →
     called ++ behind heard called wanted ≡ coming heard [] (all ++ wanted ∷ [])
 are_more heard all called wanted are = ap (λ (l : List Wanted). l ++ behind heard l wanted) are ∙ sym (pushes heard [] all wanted)
-
--- of no logs none is called
-pub none_called : (heard : List Heard) → AreCalled heard [] []
-none_called heard = record {
-  are = refl;
-  among = λ one has. absurd (omega (arith, has.1));
-  each = λ one has so. absurd (omega (arith, has.1));
-  once = λ i j d less within. absurd (omega (arith, less, within));
-}
 
 -- one more is called, of a device that none before is of
 pub one_more : (heard : List Heard) (all called : List Wanted) (wanted : Wanted) → AreCalled heard all called → is_called heard wanted ≡ true →

@@ -1,6 +1,6 @@
 //! The line that tells what was kept of a log.
 
-ghost use Rattle.std.specs.Prelude.{◌≡◌, ◌==◌, ◌++◌, if◌then◌else◌, decimal, OnOk, List, Some};
+ghost use Rattle.std.specs.Prelude.{◌≡◌, ◌==◌, ◌++◌, decimal, OnOk, List, Some};
 ghost use Rattle.std.specs.Float.Ieee.{binary64};
 ghost use Rattle.ryu.specs.Parse.{parse_float};
 ghost use Rattle.bac_asked.specs.Lines.{anew_line, both_line, counted, ending_line, moved_line};

@@ -1,6 +1,6 @@
 //! Where a log stands in an archive.
 
-ghost use Rattle.std.specs.Prelude.{◌≡◌, ◌<◌, ◌++◌, ◌∷◌, [], List, IfNone, IfOk, IfSome, OnOk};
+ghost use Rattle.std.specs.Prelude.{◌≡◌, ◌<◌, [], IfNone, IfOk, IfSome, OnOk};
 ghost use Rattle.std.specs.Prelude.{IfErr};
 ghost use Rattle.bac_archive.specs.Rows.{begun, kept};
 ghost use Rattle.bac_archive.specs.Standing.{TellsBegun};

@@ -1,5 +1,5 @@
 -- What an archive is as, once it was asked.
-use Rattle.std.proofs.Common.{◌≡◌, inl, inr, ap, subst, ◌∙◌, arith, List, ℕ, Result, Ok, Err, IfErr, OnErr}
+use Rattle.std.proofs.Common.{◌≡◌, inl, inr, ap, subst, arith, List, ℕ, Result, Ok, Err, IfErr, OnErr}
 use Rattle.sqlite.specs.declared.error.Error.{Error}
 use Rattle.sqlite.specs.Given.{IsRefused}
 use Rattle.sqlite.specs.Held.{Held, state}

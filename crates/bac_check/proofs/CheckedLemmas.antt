@@ -1,5 +1,5 @@
 -- Parts that are read, one after the other.
-use Rattle.std.proofs.Common.{◌≡◌, refl, sym, ap, subst, ◌∙◌, ℕ, suc, ◌+◌, ◌<◌, max, List, [], ◌∷◌, drop, get_or, length, Option, arith, Result, Err, IfErr}
+use Rattle.std.proofs.Common.{◌≡◌, refl, sym, ap, subst, ◌∙◌, ℕ, suc, ◌+◌, ◌<◌, max, List, [], ◌∷◌, drop, get_or, length, Option, arith}
 use Rattle.std.proofs.Math.Seq.{drop-cons}
 use Rattle.bac_asked.specs.declared.fault.FileFault.{FileFault}
 use Rattle.bac_files.specs.Parts.{PartRules}
@@ -31,7 +31,3 @@ module _ {P : Type 0} (rules : PartRules P) (old : P) (paths : List (List ℕ)) 
 pub drop_here : {X : Type 0} (all : List X) (at : ℕ) (x : X) → at < length all → x ≡ get_or all at x → drop at all ≡ x ∷ drop (at + 1) all
 drop_here {X} all at x lt is =
     drop-cons all at x lt ∙ ap (λ (y : X). y ∷ drop (suc at) all) (sym is) ∙ ap (λ n. x ∷ drop n all) (let s : suc at ≡ at + 1 = omega arith in s)
-
--- what holds of an error holds of what is handed on
-pub because : {A E : Type 0} (result : Result A E) (e : E) (P : E → Type 0) → result ≡ Err e → P e → IfErr result P
-because {A} {E} result e P is holds = subst (λ (r : Result A E). IfErr r P) (sym is) holds

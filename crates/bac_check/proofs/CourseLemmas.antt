@@ -1,7 +1,7 @@
 -- The rows of an epoch, read one after the other.
 use Rattle.std.proofs.Common.{◌≡◌, ◌⊎◌, inl, inr, refl, sym, ap, subst, ◌∙◌, ℕ, ◌<◌, ◌≤◌, nat_lt, ◌+◌, ◌&&◌, Bool, true, false, List, [], ◌∷◌, ◌++◌, map, append_assoc, get_or, set, length, subst₂, Option, None, Some, arith, Result, Ok, Err, OnOk}
 use Rattle.std.specs.List.{Contains, filter, list_all}
-use Rattle.std.proofs.lemmas.Bool.{cases_lt, lt-ltb, le-ltb}
+use Rattle.std.proofs.lemmas.Bool.{and_from, and_left, and_right, cases_lt, lt-ltb, le-ltb}
 use Rattle.std.proofs.lemmas.List.{get_or_default, get_or-set_other, get_or-set_same}
 use Rattle.std.proofs.lemmas.List.Elements.{filter-append, filter_agree}
 use Rattle.sqlite.specs.Effect.{Database}
@@ -41,24 +41,12 @@ all_given g log epoch old mid new rows has same shown =
 
 -- ---- behind all of these rows is behind the last number
 
-both : (a b : Bool) → a ≡ true → b ≡ true → (a && b) ≡ true
-both true b p q = q
-both false b p q = p
-
-one_no : (a b : Bool) → a ≡ false → (a && b) ≡ false
-one_no true b p = absurd (let both_are : true ≡ false = p in cc)
-one_no false b p = refl
-
-other_no : (a b : Bool) → b ≡ false → (a && b) ≡ false
-other_no true b p = p
-other_no false b p = refl
-
 all_up : (spans : List Span) (last n : ℕ) → ((m : ℕ) → Have spans m → m ≤ last) → ((s : Span) → Contains spans s → s.number ≤ end_of s) → last < n
     → list_all (λ old. nat_lt (end_of old) n) spans ≡ true
 all_up [] last n greatest ordered up = refl
 all_up (s ∷ spans) last n greatest ordered up =
     let first = greatest (end_of s) (s, in_head s spans, (ordered s (in_head s spans), omega arith)) in
-    both (nat_lt (end_of s) n) _ (lt-ltb (end_of s) n (omega (arith, first, up)))
+    and_from (nat_lt (end_of s) n) _ (lt-ltb (end_of s) n (omega (arith, first, up)))
     (all_up spans last n (λ m have. greatest m (have.0, in_tail have.0 s spans have.1, have.2)) (λ x there. ordered x (in_tail x s spans there)) up)
 
 one_low : (spans : List Span) (s : Span) (n : ℕ) → Contains spans s → n ≤ end_of s → list_all (λ old. nat_lt (end_of old) n) spans ≡ false
@@ -67,8 +55,8 @@ one_low (x ∷ spans) s n there le = go (in_cases s x spans there) (λ rest. one
   where
     go : (x ≡ s) ⊎ Contains spans s → (Contains spans s → list_all (λ old. nat_lt (end_of old) n) spans ≡ false)
         → (nat_lt (end_of x) n && list_all (λ old. nat_lt (end_of old) n) spans) ≡ false
-    go (inl is) more = one_no (nat_lt (end_of x) n) _ (le-ltb (end_of x) n (subst (λ (y : Span). n ≤ end_of y) (sym is) le))
-    go (inr rest) more = other_no (nat_lt (end_of x) n) _ (more rest)
+    go (inl is) more = and_left (nat_lt (end_of x) n) _ (le-ltb (end_of x) n (subst (λ (y : Span). n ≤ end_of y) (sym is) le))
+    go (inr rest) more = and_right (nat_lt (end_of x) n) _ (more rest)
 
 ordered : (free : ℕ) (spans : List Span) (s : Span) → Rise free spans → Contains spans s → s.number ≤ end_of s
 ordered free [] s rise there = absurd (in_none s there)

@@ -113,26 +113,7 @@ stretch_before from to holes rise each = go (nat_lt from to) refl
     go true is = (omega arith, omega (arith, ltb-true from to is), raised 0 ((to - 1) + 2) holes rise (λ x there. omega (arith, ltb-true from to is, each x there)))
     go false is = rise
 
--- ---- the holes of a first row, of a row more, and before the first number
-
--- between the numbers of one row none is missing
-pub first_holes : (span : Span) → AreHoles None (span ∷ []) []
-first_holes span = record {
-  apart = tt;
-  each = λ n. (λ in_holes. absurd (in_none in_holes.0 in_holes.1), λ it. absurd (none n it));
-}
-  where
-    of_one : (n : ℕ) → Have (span ∷ []) n → Has span n
-    of_one n (s, there, has) = subst (λ t. Has t n) (sym (in_one s span there)) has
-
-    early : (n : ℕ) → Begins None n ⊎ ((m : ℕ) × (m < n) × Have (span ∷ []) m) → span.number ≤ n
-    early n (inl none_of) = absurd none_of
-    early n (inr (m, lt, have)) = omega (arith, lt, (of_one m have).0)
-
-    none : (n : ℕ) → IsMissing None (span ∷ []) n → ⊥
-    none n it =
-        let up = (of_one it.later.0 it.later.2).1 in
-        it.none (span, in_head span [], (early n it.begun, omega (arith, up, it.later.1)))
+-- ---- the holes of a row more, and before the first number
 
 module _ (spans : List Span) (span : Span) (holes : List Hole) (last : ℕ) (are : AreHoles None spans holes) (have : Have spans last)
     (greatest : (n : ℕ) → Have spans n → n ≤ last) (up : last < span.number) (in_order : span.number ≤ end_of span) where

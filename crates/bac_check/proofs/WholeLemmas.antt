@@ -1,7 +1,7 @@
 -- What a status of 0 means.
-use Rattle.std.proofs.Common.{◌≡◌, ◌⊎◌, inl, inr, refl, sym, subst, ◌∙◌, ℕ, ◌==◌, ◌&&◌, if◌then◌else◌, Bool, true, false, List, [], ◌∷◌, Option, None, Some, unwrap_or, arith}
+use Rattle.std.proofs.Common.{◌≡◌, ◌⊎◌, inl, inr, refl, sym, subst, ◌∙◌, ℕ, ◌==◌, if◌then◌else◌, Bool, true, false, List, [], ◌∷◌, Option, None, Some, unwrap_or, arith}
 use Rattle.std.specs.List.{Contains, list_all}
-use Rattle.std.proofs.lemmas.Bool.{eq-eqb}
+use Rattle.std.proofs.lemmas.Bool.{and_parts, eq-eqb}
 use Rattle.sqlite.specs.declared.error.Error.{Error}
 use Rattle.bac_asked.specs.Faults.{of_error}
 use Rattle.bac_asked.specs.Status.{file_status}
@@ -97,16 +97,12 @@ module _ {P : Type 0} (rules : PartRules P) where
 
 -- ---- each number where there is no hole
 
-both_true : (a b : Bool) → (a && b) ≡ true → (a ≡ true) × (b ≡ true)
-both_true true b is = (refl, is)
-both_true false b is = absurd (let e : false ≡ true = is in cc)
-
 all_at : {X : Type 0} (p : X → Bool) (xs : List X) (x : X) → list_all p xs ≡ true → Contains xs x → p x ≡ true
 all_at p [] x all there = absurd (in_none x there)
 all_at {X = X} p (y ∷ xs) x all there = go (in_cases x y xs there) (λ rest. all_at p xs x both.1 rest)
   where
     both : (p y ≡ true) × (list_all p xs ≡ true)
-    both = both_true (p y) (list_all p xs) all
+    both = and_parts (p y) (list_all p xs) all
 
     go : (y ≡ x) ⊎ Contains xs x → (Contains xs x → p x ≡ true) → p x ≡ true
     go (inl is) more = subst (λ (z : X). p z ≡ true) is both.0

@@ -1,14 +1,13 @@
 //! The epochs of logs, and what is counted of each.
 
 ghost use Rattle.std.specs.Prelude.{◌≡◌, ◌∷◌, ◌++◌, [], List, OnErr, OnOk, map};
-ghost use Rattle.std.specs.Prelude.{option_map};
 ghost use Rattle.std.specs.List.{filter};
 ghost use Rattle.sqlite.specs.State.{HasCleanDisk, IsUnchanged};
 ghost use Rattle.sqlite.specs.Held.{state};
 ghost use Rattle.bac_archive.specs.Rows.{kept};
 ghost use Rattle.bac_archive.specs.Schema.{OverArchive};
 ghost use Rattle.bac_check.specs.Asked.{IsAsLeft, IsAsWas};
-ghost use Rattle.bac_check.specs.Epochs.{AreItemsIn, CountsCourse, CountsEach, CountsOn, is_new};
+ghost use Rattle.bac_check.specs.Epochs.{AreItemsIn, CountsCourse, CountsEach, is_new};
 ghost use Rattle.bac_check.specs.Epochs.{last_of, span_of};
 ghost use Rattle.bac_check.specs.Tallies.{IsTallied};
 ghost use Rattle.bac_check.specs.declared.tally.Span.{Span as SpanOf};

@@ -1,5 +1,6 @@
 -- The open questions stand within a span.
 use Rattle.std.proofs.Common.{◌≡◌, ◌<◌, ◌≤◌, ◌+◌, ◌-◌, ◌∙◌, ◌||◌, ◌&&◌, not, ℕ, zero, suc, Bool, true, false, All, List, [], ◌∷◌, ◌++◌, length, map, take, drop, Option, Some, None, IfNone, IfSome, is_some, slice_get, refl, ap, sym, subst, arith}
+use Rattle.std.proofs.lemmas.Bool.{false_from_ne_true}
 use Rattle.std.proofs.lemmas.List.{append_assoc, length-drop, length-map, length-take-le, take-append-drop, take_all}
 use Rattle.std.proofs.Math.Seq.{drop-nil}
 use Rattle.std.proofs.lemmas.List.Elements.{All-cons, All-drop, All-head, All-nil, All-tail, All-take}
@@ -7,6 +8,7 @@ use Rattle.std.proofs.lemmas.List.Folds.{list_any-append}
 use Rattle.std.proofs.lemmas.List.Sums.{sum_by-cons}
 use Rattle.std.specs.List.{count_by, list_any, slice_range}
 use Rattle.bac_ports.specs.declared.port.Heard.{Heard}
+use Rattle.bac_play.proofs.Nexts.{never}
 use Rattle.bac_site.specs.Desk.{DeskState, heard_by, is_taken}
 use Rattle.bac_desks.specs.declared.rules.Rules.{Rules}
 use Rattle.bac_desks.specs.declared.seat.Seat.{Seat}
@@ -21,13 +23,6 @@ use Rattle.bac_desks.proofs.Limits.{tally}
 abbrev AreOpenIn : ℕ → ℕ → List Seat → Type 0
 AreOpenIn first n seats = (place : ℕ) (seat : Seat) → slice_get seats place ≡ Some seat → is_open seat ≡ true → (first ≤ place) × (place < first + n)
 
-not_true : (b : Bool) → (b ≡ true → ⊥) → b ≡ false
-not_true true never = absurd (never refl)
-not_true false never = refl
-
-both_ways : {P : Type 0} (b : Bool) → b ≡ true → b ≡ false → P
-both_ways b opened shut = absurd (let e : true ≡ false = sym opened ∙ shut in cc)
-
 past : (first n : ℕ) (s : Seat) (seats : List Seat) → AreOpenIn (suc first) n (s ∷ seats) → AreOpenIn first n seats
 past first n s seats all place seat at opened =
     let both = all (suc place) seat at opened in (omega (arith, both.0), omega (arith, both.1))
@@ -41,10 +36,10 @@ none s seats all place seat at opened =
     let both = all (suc place) seat at opened in absurd (omega (arith, both.1))
 
 first_shut : (first n : ℕ) (s : Seat) (seats : List Seat) → AreOpenIn (suc first) n (s ∷ seats) → is_open s ≡ false
-first_shut first n s seats all = not_true (is_open s) (λ opened. let both = all 0 s refl opened in omega (arith, both.0))
+first_shut first n s seats all = false_from_ne_true (is_open s) (λ opened. let both = all 0 s refl opened in omega (arith, both.0))
 
 none_shut : (s : Seat) (seats : List Seat) → AreOpenIn 0 0 (s ∷ seats) → is_open s ≡ false
-none_shut s seats all = not_true (is_open s) (λ opened. let both = all 0 s refl opened in omega (arith, both.1))
+none_shut s seats all = false_from_ne_true (is_open s) (λ opened. let both = all 0 s refl opened in omega (arith, both.1))
 
 of_nothing : (first n : ℕ) → take n (drop first (let none : List Seat = [] in none)) ≡ []
 of_nothing zero zero = refl
@@ -152,7 +147,7 @@ each_among P shut part seats (first, behind, within, is) all =
 pub nearest_among : (rules : Rules) (now within : ℕ) (part seats : List Seat) → AreOpenAmong part seats → IsNearest rules now part (Some within) → IsNearest rules now seats (Some within)
 nearest_among rules now within part seats among (all, (place, seat, at, opened, left)) =
     let there = stands seats among.0 (among.1 - among.0) place seat (ap (λ (l : List Seat). slice_get l place) (sym among.3) ∙ at) in (
-      each_among (λ s. IsAwaited rules now within s) (λ s shut opened'. both_ways (is_open s) opened' shut) part seats among all,
+      each_among (λ s. IsAwaited rules now within s) (λ s shut opened'. never (is_open s) opened' shut) part seats among all,
       (there.0, seat, there.1, opened, left),
     )
 
@@ -193,7 +188,7 @@ known_among from part seats (first, behind, within, is) known =
 
 unheard_desk : (d : DeskState) (o : Option (List ℕ)) (heard : Heard) → is_some o ≡ false → heard_by d o heard ≡ d
 unheard_desk d None heard shut = refl
-unheard_desk d (Some request) heard shut = both_ways true refl shut
+unheard_desk d (Some request) heard shut = never true refl shut
 
 or_nothing : (b : Bool) → (b || false) ≡ b
 or_nothing true = refl

@@ -1,6 +1,6 @@
 -- A stray stays, up to the next question.
 use Rattle.std.proofs.Common.{◌≡◌, ◌⊎◌, inl, inr, ℕ, Bool, true, false, not, ◌||◌, true≢false, List, [], ◌∷◌, map, Some, slice_get, refl, ap, sym, subst, ◌∙◌}
-use Rattle.std.proofs.lemmas.Bool.{and_from, cases_eq}
+use Rattle.std.proofs.lemmas.Bool.{and_from, cases_eq, or_right}
 use Rattle.std.proofs.lemmas.Option.{slice_get-map}
 use Rattle.std.proofs.Math.ListN.{set}
 use Rattle.std.specs.Option.{option_map}
@@ -54,10 +54,6 @@ stays : (old new : TableState) (es : List Event) (place : ℕ) → Chain Step ol
 stays old new [] place same none has = subst (λ (t : TableState). Has t.seats place) (sym same) has
 stays old new (e ∷ es) place (mid, first, rest) (quiet, none) has = stays mid new es place rest none (stays_one old mid e place first quiet has)
 
-or_true : (a b : Bool) → b ≡ true → (a || b) ≡ true
-or_true true b is = refl
-or_true false b is = is
-
 pub noted : StraysAreNoted
 noted = λ old mid new within heard behind place then now step chain none there here clean opened near.
     by old mid new within heard behind place then now step chain none there here clean opened near (is_taken then.desk heard) refl
@@ -74,7 +70,7 @@ noted = λ old mid new within heard behind place then now step chain none there 
         let first : Has (map (after_heard known heard) old.seats) place = (
           after_heard known heard then,
           slice_get-map (after_heard known heard) old.seats place ∙ ap (option_map (after_heard known heard)) there,
-          or_true then.has_stray (is_stray known heard then) stray,
+          or_right then.has_stray (is_stray known heard then) stray,
         ) in
         let has = stays mid new behind place chain none (subst (λ (t : TableState). Has t.seats place) (sym at) first) in
         let e : Some has.0 ≡ Some now = sym has.1 ∙ here in

@@ -1,6 +1,6 @@
 //! Where the open questions stand.
 
-ghost use Rattle.std.specs.Prelude.{◌≡◌, ℕ, ◌+◌, ◌<◌, ◌≤◌, ◌^◌, max, length};
+ghost use Rattle.std.specs.Prelude.{ℕ, ◌+◌, ◌<◌, ◌≤◌, ◌^◌, max};
 ghost use Rattle.bac_desks.specs.Span.{AreOpenWithin};
 
 use crate::seat::Seat;

@@ -13,9 +13,9 @@ use Rattle.std.specs.Option.{option_map}
 use Rattle.std.proofs.lemmas.Bool.{lt-ltb, le-ltb}
 use Rattle.bac_apdu.specs.Frame.{unicast_head}
 use Rattle.bac_apdu.specs.Service.IAm.{i_am, i_am_parameters}
-use Rattle.bac_apdu.specs.Npdu.{Place, place_octets, header_octets}
+use Rattle.bac_apdu.specs.Npdu.{place_octets, header_octets}
 use Rattle.bac_apdu.specs.declared.service.i_am.IAm.{IAm}
-use Rattle.bac_device.specs.Reply.{Return, abort, begun, datagram_octets, datagram_to, limited, plain, receiver_of, reply, reply_octets}
+use Rattle.bac_device.specs.Reply.{Return, abort, begun, datagram_octets, limited, plain, receiver_of, reply, reply_octets}
 use Rattle.bac_device.specs.declared.reply.Receiver.{Receiver}
 use Rattle.bac_device.specs.declared.reply.Reply.{Reply}
 use Rattle.bac_wire.proofs.Sizes.{length-unsigned}
@@ -110,10 +110,6 @@ short_enough limit invoke m le = ap (λ (b : Bool). datagram_octets (cond b (abo
 -- ---- refusals of functions
 
 -- ---- replies
-
-abbrev said_to : Option Place → Option Apdu → List ℕ
-said_to place None = []
-said_to place (Some m) = datagram_to place m
 
 pub sent_to : (to : Return) (said : Option Apdu) → is_some said ≡ true → receiver_of (option_map (reply to) said) ≡ Some to.to
 sent_to to None e = absurd cc

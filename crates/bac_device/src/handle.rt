@@ -3,7 +3,7 @@
 ghost use Rattle.std.specs.Prelude.{◌≡◌, [], is_some};
 ghost use Rattle.bac_apdu.specs.Apdu.{apdu_of};
 ghost use Rattle.bac_objects.specs.Sound.{IsSound};
-ghost use Rattle.bac_device.specs.Answer.{answer, answer_apdu, answer_heard, answer_npdu};
+ghost use Rattle.bac_device.specs.Answer.{answer, answer_apdu, answer_npdu};
 ghost use Rattle.bac_device.specs.Answer.{answer_request, nak};
 ghost use Rattle.bac_device.specs.Receiving.{heard_at};
 ghost use Rattle.bac_device.specs.Reply.{datagram_octets, receiver_of, reply_octets, said_octets};

@@ -1,11 +1,11 @@
 -- What goes through all layers comes back. Each lemma takes the public laws of the crates that it needs as premises.
-use Rattle.std.proofs.Common.{◌≡◌, ℕ, ◌+◌, ◌^◌, ◌<◌, ◌≤◌, Bool, true, false, List, [], ◌∷◌, ◌++◌, length, Option, Some, None, Result, Ok, Err, refl, sym, ap, ◌∙◌, append-nil, length-append, arith, inl, inr}
+use Rattle.std.proofs.Common.{◌≡◌, ℕ, ◌+◌, ◌^◌, ◌<◌, ◌≤◌, Bool, true, false, List, [], ◌++◌, length, Some, None, Ok, refl, sym, ap, ◌∙◌, append-nil, length-append, arith, inr}
 use Rattle.bac_wire.specs.Canon.{canon, IsValid}
 use Rattle.bac_wire.specs.Encoding.{value_octets}
 use Rattle.bac_wire.specs.Level.{IsLevel}
 use Rattle.bac_wire.specs.Primitive.{Id, Primitive, Object}
 use Rattle.bac_wire.specs.Reading.{value_at}
-use Rattle.bac_apdu.specs.Apdu.{Apdu, Confirmed, Complex, IsApdu, apdu_at, apdu_octets}
+use Rattle.bac_apdu.specs.Apdu.{Apdu, Confirmed, IsApdu, apdu_at, apdu_octets}
 use Rattle.bac_apdu.specs.FormCanon.{canon_form}
 use Rattle.bac_apdu.specs.Frame.{Unicast, frame_at, frame_octets}
 use Rattle.bac_apdu.specs.Npdu.{Header, IsHeader, header_at, header_octets}
@@ -15,7 +15,6 @@ use Rattle.bac_apdu.specs.Service.ReadProperty.{IsProperty}
 use Rattle.bac_apdu.specs.Service.ReadPropertyAck.{PropertyAck, property_ack_octets, read_property_ack_at}
 use Rattle.bac_apdu.specs.Service.ReadRange.{read_range, range_parameters, read_range_at}
 use Rattle.bac_apdu.specs.declared.service.read_range.ReadRange.{ReadRange}
-use Rattle.bac_apdu.specs.declared.reason.Reason.{Reason}
 use Rattle.bac_encoding_tests.specs.Passage.{header_with, datagram_with, apdu_in, question, question_in, two_values, answer, values_in, answer_in}
 
 -- an APDU that is sent is received

@@ -1,8 +1,6 @@
 -- What logs are opened by, log by log, and a run behind what is asked ahead.
 use Rattle.std.proofs.Common.{◌≡◌, ◌≢◌, ◌≤◌, ◌<◌, ◌∙◌, ◌++◌, [], ◌∷◌, ℕ, true, false, length, get_or, arith, List, Option, None, Some, is_some, option_to_list, inl, inr, refl, subst, sym, ap, append-nil, append_assoc}
 use Rattle.sqlite.specs.Effect.{Database}
-use Rattle.sqlite.specs.State.{State, Survives}
-use Rattle.sqlite.proofs.StateLemmas.{survives_then}
 use Rattle.sqlite_trees.specs.Tree.{Trees}
 use Rattle.bac_ahead.specs.Rounds.{AsksAhead, EndsAhead}
 use Rattle.bac_ahead.specs.declared.opening.Opening.{Opening}
@@ -51,10 +49,6 @@ pub left_so : (known : List Log) (heard : List Heard) (wanted : Wanted) (one : H
     → IsLeftOut known heard wanted
 left_so known heard wanted one said on_record there is on_it some =
     inr (one, there, on_record, on_it, subst (λ (s : Said). hindrance known heard wanted.source on_record s.identity ≢ None) (sym is) some)
-
--- two calls that commit nothing
-pub quiet_then : (old mid new : State) → Survives old mid (λ _. ⊥) → Survives mid new (λ _. ⊥) → Survives old new (λ _. ⊥)
-quiet_then old mid new one two = survives_then old mid new (λ _. ⊥) (λ _. ⊥) (λ _. ⊥) (λ _ _ none. none) (λ _ _ none. none) one two
 
 -- one more is opened, or isn't
 more : (trees : Trees) (known : List Log) (heard : List Heard) (batches : ℕ) (all : List Wanted) (before : List Opening) (wanted : Wanted) (one : Option Opening)

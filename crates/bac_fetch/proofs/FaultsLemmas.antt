@@ -1,13 +1,11 @@
 -- What ends a run.
 use Rattle.std.proofs.Common.{◌≡◌, inl, inr, refl, subst, ap, ◌∙◌, ℕ, List, Option, None, Some, Result, Ok, Err, IfErr}
 use Rattle.sqlite.specs.declared.error.Error.{Error}
-use Rattle.bac_archive.specs.declared.trend_logs.NotAdded.{NotAdded}
-use Rattle.bac_archive.specs.declared.trend_logs.NotAdded.TheVariants as unadded
-use Rattle.bac_asked.specs.Faults.{RefusesLine, WantsMemory, of_error, of_not_added}
+use Rattle.bac_asked.specs.Faults.{RefusesLine, of_error}
 use Rattle.bac_asked.specs.declared.end.NotDone.{NotDone}
 use Rattle.bac_asked.specs.declared.end.NotDone.TheVariants.{File}
 use Rattle.bac_asked.specs.declared.fault.FileFault.{FileFault}
-use Rattle.bac_asked.specs.declared.fault.FileFault.TheVariants.{Foreign, Full}
+use Rattle.bac_asked.specs.declared.fault.FileFault.TheVariants.{Full}
 use Rattle.bac_fetch.specs.Ahead.{AtOnce}
 use Rattle.bac_fetch.specs.Chosen.{AreFound}
 use Rattle.bac_fetch.specs.Faults.{EndsChosen, EndsKeeping, EndsKept, EndsRun, HasNoInstance}
@@ -27,25 +25,14 @@ use Rattle.bac_asked.specs.Wanted.{HasNoAddress, IsBehind, words_at}
 use Rattle.bac_ports.specs.Sockets.{SocketRules}
 use Rattle.bac_words.specs.declared.job.Asked.{Asked}
 
-pub memory_ends : (fault : NotDone) → WantsMemory fault → EndsLog fault
-memory_ends fault it = inl it
-
 pub line_ends : (fault : NotDone) → RefusesLine fault → EndsLog fault
 line_ends fault it = inr (inl it)
-
-pub foreign_ends : (fault : NotDone) → fault ≡ File Foreign → EndsLog fault
-foreign_ends fault it = inr (inr (inl it))
 
 pub full_ends : (fault : NotDone) → fault ≡ File Full → EndsLog fault
 full_ends fault it = inr (inr (inr (inl it)))
 
 pub database_ends : (why : FileFault) (error : Error) → why ≡ of_error error → EndsLog (File why)
 database_ends why error is = inr (inr (inr (inr (error, ap File is))))
-
--- a log that isn't added
-pub not_added_ends : (why : FileFault) (fault : NotAdded) → why ≡ of_not_added fault → EndsLog (File why)
-not_added_ends why unadded.Full is = full_ends (File why) (ap File is)
-not_added_ends why (unadded.Database error) is = database_ends why error is
 
 module _ {S P : Type 0} (rules : SocketRules S P) where
   pub log_ends_run : (I A : Type 0) (after : S) (fault : NotDone) → EndsLog fault → EndsRun rules I A after fault

@@ -1,5 +1,5 @@
 -- What the commit of a group leaves, what comes behind it, and the lines that wait for it.
-use Rattle.std.proofs.Common.{◌≡◌, ◌≢◌, ◌∙◌, ◌++◌, [], ◌∷◌, ℕ, List, Option, None, Some, inl, refl, subst, sym, ap, append-nil, append_assoc, arith}
+use Rattle.std.proofs.Common.{◌≡◌, ◌≢◌, ◌∙◌, ◌++◌, [], ◌∷◌, ℕ, List, Option, None, Some, inl, refl, subst, sym, ap, append_assoc, arith}
 use Rattle.std.specs.Io.KnownBytes.{Appends, Keeps, append_known}
 use Rattle.sqlite.specs.Effect.{Database}
 use Rattle.sqlite.specs.State.{State, HasCleanDisk, Survives}
@@ -54,12 +54,6 @@ unopened_stays old mid new fault undone one two = survives_then old mid new (Has
 pub none_waits : (a : Option (List ℕ)) (xs : List ℕ) → xs ≡ [] → Appends a (append_known a xs) []
 none_waits None xs is = tt
 none_waits (Some x) xs is = ap (λ l. x ++ l) is
-
--- what waited is printed
-pub all_printed : (a b : Option (List ℕ)) (xs ys : List ℕ) → Appends a b xs → ys ≡ [] → Keeps (append_known a xs) (append_known b ys)
-all_printed None b xs ys it is = tt
-all_printed (Some x) None xs ys it is = absurd it
-all_printed (Some x) (Some y) xs ys it is = ap (λ l. y ++ l) is ∙ append-nil y ∙ it
 
 pub printed_behind : (a b c : Option (List ℕ)) (xs text : List ℕ) → Appends a (append_known b xs) text → Appends b c xs → Appends a c text
 printed_behind None b c xs text one two = tt

@@ -1,5 +1,5 @@
 -- What a run keeps leaves the logs as they are.
-use Rattle.std.proofs.Common.{◌≡◌, ◌-◌, inl, inr, ℕ, Bool, true, false, List, Option, None, Some, Result, Ok, Err, refl, subst, sym, ◌∙◌, arith}
+use Rattle.std.proofs.Common.{◌≡◌, ◌-◌, inl, inr, ℕ, Bool, true, false, List, Option, None, Some, Result, Ok, Err, refl, subst, sym, ◌∙◌}
 use Rattle.std.specs.List.{Contains}
 use Rattle.std.proofs.lemmas.List.Elements.{Contains-append_left}
 use Rattle.std.proofs.lemmas.List.Sorted.{Contains-permutation}
@@ -10,7 +10,6 @@ use Rattle.sqlite.specs.State.{State, HasCleanDisk, Survives}
 use Rattle.sqlite.proofs.StateLemmas.{survives_then}
 use Rattle.bac_archive.specs.Rows.{kept, Adds}
 use Rattle.bac_archive.specs.Beginnings.{AddsBeginnings}
-use Rattle.bac_archive.specs.Standing.{HasNewBeginning}
 use Rattle.bac_archive.specs.declared.epochs.Beginning.{Beginning}
 use Rattle.bac_link.specs.Path.{Path}
 use Rattle.bac_link.specs.declared.link.Lost.{Lost as Loss}
@@ -20,7 +19,6 @@ use Rattle.bac_asked.specs.declared.end.End.{End}
 use Rattle.bac_fetch.specs.Keeps.{KeepsBegun, KeepsOn, Marks, is_idle}
 use Rattle.bac_fetch.specs.Stays.{HasSameLogs}
 use Rattle.bac_begin.specs.declared.starting.Start.{Start}
-use Rattle.bac_archive.specs.Schema.{HasArchive}
 
 -- what a call may leave in one sense it leaves in a wider one
 pub survives_as : (old new : State) (P Q : Trees → Type 0) → (HasCleanDisk new → (db : Trees) → P db → Q db) → Survives old new P → Survives old new Q
@@ -59,13 +57,6 @@ marks_same (Some beginning) end old new it = go (is_idle end) refl
     go true is = begin_same old.trees new.trees _ (it.0 is).rows
     go false is = subst (λ (d : Database). HasSameLogs old.trees d.trees) (sym (it.1 is)) (same_itself old.trees)
 
--- with what may be left of a beginning
-pub begin_stays : (old new : State) (row : Values) → HasArchive old.now.schema
-    → Survives old new (λ trees. HasArchive old.now.schema → (db : Database) × HasNewBeginning old.now db row × (trees ≡ db.trees))
-    → Survives old new (HasSameLogs old.now.trees)
-begin_stays old new row has it = survives_as old new _ (HasSameLogs old.now.trees)
-    (λ _ db left. let made = left has in subst (HasSameLogs old.now.trees) (sym made.2) (begin_same old.now.trees made.0.trees _ made.1.rows)) it
-
 on_same : {L : Type 0} (asks : L → List ℕ → Result (List ℕ) Loss → L → Type 0) (path : Path) (retries : ℕ) (link left : L) (start : Start) (why : Option Why) (steps : ℕ)
     (old new : Database) (end : End) → KeepsOn asks path retries link left start why steps old new end → HasSameLogs old.trees new.trees
 on_same asks path retries link left start (Some why) steps old new end h = subst (λ (d : Database). HasSameLogs old.trees d.trees) (sym h.0) (same_itself old.trees)
@@ -87,14 +78,3 @@ same_stays_then old mid new all one two = survives_then old mid new _ _ (HasSame
 -- and one that commits nothing
 pub same_quiet_last : (old mid new : State) → Survives old mid (HasSameLogs old.now.trees) → Survives mid new (λ _. ⊥) → Survives old new (HasSameLogs old.now.trees)
 same_quiet_last old mid new one two = survives_then old mid new (HasSameLogs old.now.trees) (λ _. ⊥) (HasSameLogs old.now.trees) (λ _ db it. it) (λ _ db none. absurd none) one two
-
--- a call that does nothing leaves what was there
-pub same_stays : (old : State) → Survives old old (HasSameLogs old.now.trees)
-same_stays old = record {
-  clean = omega arith;
-  shield = λ on. on;
-  counts = omega arith;
-  limit = refl;
-  closes = λ clean on. inl on;
-  crash = λ clean db may. inl may;
-}

@@ -7,7 +7,7 @@ use Rattle.sqlite_value.specs.declared.value.Value.TheVariants.{Int}
 use Rattle.sqlite_value.specs.Order.{Row as Values}
 use Rattle.sqlite_trees.specs.Tree.{Trees, rowid}
 use Rattle.sqlite.specs.Effect.{Database}
-use Rattle.sqlite.specs.State.{State, HasCleanDisk, IsUnchanged, Survives}
+use Rattle.sqlite.specs.State.{State, HasCleanDisk, Survives}
 use Rattle.sqlite.proofs.StateLemmas.{survives_then}
 use Rattle.bac_archive.specs.Rows.{known}
 use Rattle.bac_archive.specs.declared.epochs.Beginning.{Beginning}
@@ -90,12 +90,6 @@ changed_stays old new logs has it = survives_as old new _ (HasAllOf old.now.tree
 pub marks_stay : (begins_at : Option Beginning) (end : End) (old new : Database) → Marks begins_at end old new → HasAllOf old.trees new.trees
 marks_stay begins_at end old new it = all_of_same old.trees new.trees (marks_same begins_at end old new it)
 
--- two calls that commit nothing
-pub none_then : (old mid new : State) → (HasCleanDisk mid → IsUnchanged old mid) → HasArchive old.now.schema
-    → Survives old mid (λ _. ⊥) → ((HasCleanDisk mid → HasArchive mid.now.schema) → Survives mid new (λ _. ⊥)) → Survives old new (λ _. ⊥)
-none_then old mid new same has one two = survives_then old mid new _ _ (λ _. ⊥) (λ _ _ none. none) (λ _ _ none. none) one
-    (two (λ clean. subst (λ (d : Database). HasArchive d.schema) (sym (same clean).0.now_is) has))
-
 pub begun_stays : {L : Type 0} (asks : L → List ℕ → Result (List ℕ) Loss → L → Type 0) (path : Path) (retries : ℕ) (link left : L) (begun : Result Start End) (steps : ℕ)
     (old new : Database) (end : End) → KeepsBegun asks path retries link left begun steps old new end → HasAllOf old.trees new.trees
 begun_stays asks path retries link left begun steps old new end it = all_of_same old.trees new.trees (begun_same asks path retries link left begun steps old new end it)
@@ -154,9 +148,6 @@ quiet_stays old new it = survives_as old new (λ _. ⊥) (HasAllOf old.now.trees
 pub quiet_first : (old mid new : State) → mid.now ≡ old.now → Survives old mid (λ _. ⊥) → Survives mid new (HasAllOf mid.now.trees) → Survives old new (HasAllOf old.now.trees)
 quiet_first old mid new same one two = survives_then old mid new (λ _. ⊥) (HasAllOf mid.now.trees) (HasAllOf old.now.trees) (λ _ db none. absurd none)
     (λ _ db it. subst (λ (d : Database). HasAllOf d.trees db) same it) one two
-
-pub quiet_last : (old mid new : State) → Survives old mid (HasAllOf old.now.trees) → Survives mid new (λ _. ⊥) → Survives old new (HasAllOf old.now.trees)
-quiet_last old mid new one two = survives_then old mid new (HasAllOf old.now.trees) (λ _. ⊥) (HasAllOf old.now.trees) (λ _ db it. it) (λ _ db none. absurd none) one two
 
 -- a call that does nothing leaves what was there
 pub does_nothing : (old : State) (P : Trees → Type 0) → Survives old old P

@@ -1,6 +1,5 @@
 -- Desks of which nothing was asked yet.
-use Rattle.std.proofs.Common.{◌≡◌, ℕ, Bool, false, cond, List, [], ◌∷◌, ◌++◌, map, Some, slice_get, refl, ap, sym, subst, ◌∙◌, append_assoc, arith}
-use Rattle.std.proofs.lemmas.List.{map-append}
+use Rattle.std.proofs.Common.{◌≡◌, ℕ, Bool, false, cond, List, [], ◌∷◌, map, Some, slice_get, refl, ap, sym, subst, arith}
 use Rattle.std.proofs.lemmas.List.Elements.{All-nil}
 use Rattle.std.proofs.lemmas.List.Sums.{sum_by-cons}
 use Rattle.std.specs.List.{count_by}
@@ -51,13 +50,3 @@ is_within rules peers = (
   (let none : count_by is_open (map fresh_seat peers) ≡ 0 = none_open is_open (λ peer. refl) peers in omega arith),
   λ q. (let none : count_by (λ s. holds_place_at q s) (map fresh_seat peers) ≡ 0 = none_open (λ s. holds_place_at q s) (λ peer. refl) peers in omega arith),
 )
-
--- one more
-pub one_more : (t : TableState) (peers : List (List ℕ)) (peer : List ℕ) (new mid : TableState) → mid ≡ with_peers t peers →
-    new ≡ record { rules = mid.rules; time = mid.time; seats = mid.seats ++ fresh_seat peer ∷ [] } → new ≡ with_peers t (peers ++ peer ∷ [])
-one_more t peers peer new mid was is =
-    let at_mid : new ≡ record { rules = t.rules; time = t.time; seats = (t.seats ++ map fresh_seat peers) ++ fresh_seat peer ∷ [] } =
-    (let Q : TableState → Type 0 = λ m. new ≡ record { rules = m.rules; time = m.time; seats = m.seats ++ fresh_seat peer ∷ [] } in subst Q was is) in
-    let seats : (t.seats ++ map fresh_seat peers) ++ fresh_seat peer ∷ [] ≡ t.seats ++ map fresh_seat (peers ++ peer ∷ []) =
-    append_assoc t.seats (map fresh_seat peers) (fresh_seat peer ∷ []) ∙ ap (λ (l : List Seat). t.seats ++ l) (sym (map-append fresh_seat peers (peer ∷ []))) in
-    at_mid ∙ ap (λ (l : List Seat). (let s : TableState = record { rules = t.rules; time = t.time; seats = l } in s)) seats

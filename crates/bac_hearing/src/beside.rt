@@ -1,7 +1,7 @@
 //! Many devices are asked at once, and something else is done with the sockets while the last of
 //! them are waited for.
 
-ghost use Rattle.std.specs.Prelude.{◌≡◌, IfErr, IfNone, IfOk, IfSome};
+ghost use Rattle.std.specs.Prelude.{IfErr, IfNone, IfOk, IfSome};
 ghost use Rattle.bac_ports.specs.Sockets.{socket_rules};
 ghost use Rattle.bac_hearing.specs.Beside.{Begins, BeginsToHear, EndsHearing, FailsToEnd};
 ghost use Rattle.bac_hearing.specs.Hearing.{FailsToHear, Waits, paced, with_peers};

@@ -1,5 +1,5 @@
 -- Counts that go up to a limit.
-use Rattle.std.proofs.Common.{◌≡◌, ℕ, ◌+◌, ◌<◌, ◌≤◌, arith, inl, inr, refl}
+use Rattle.std.proofs.Common.{◌≡◌, ℕ, ◌+◌, ◌≤◌, arith, inl, inr, refl}
 use Rattle.std.proofs.lemmas.Bool.{cases_lt, lt-ltb, le-ltb}
 use Rattle.bac_heeding.specs.Notes.{one_more, up_to}
 
@@ -9,13 +9,3 @@ counted_on n = elim (cases_lt n 4294967295) [
   | inl few ↦ rw (lt-ltb n 4294967295 few) refl
   | inr many ↦ let more : 4294967295 ≤ n + 1 = omega arith in rw (le-ltb n 4294967295 many, le-ltb (n + 1) 4294967295 more) refl
 ]
-
--- as the code counts
-pub counted_below : (n : ℕ) → n < 4294967295 → n + 1 ≡ one_more n
-counted_below n less = elim (cases_lt (n + 1) 4294967295) [
-  | inl few ↦ rw (lt-ltb (n + 1) 4294967295 few) refl
-  | inr many ↦ rw (le-ltb (n + 1) 4294967295 many) (omega arith)
-]
-
-pub counted_out : (n : ℕ) → 4294967295 ≤ n → 4294967295 ≡ one_more n
-counted_out n many = let more : 4294967295 ≤ n + 1 = omega arith in rw (le-ltb (n + 1) 4294967295 more) refl

@@ -4,7 +4,7 @@ ghost use Rattle.std.specs.Prelude.{◌≡◌};
 ghost use Rattle.bac_apdu.specs.Apdu.{apdu_at};
 ghost use Rattle.bac_apdu.specs.Frame.{frame_at};
 ghost use Rattle.bac_apdu.specs.Npdu.{header_at};
-ghost use Rattle.bac_heeding.specs.Contents.{apdu_content, content_of, frame_content};
+ghost use Rattle.bac_heeding.specs.Contents.{apdu_content, frame_content};
 ghost use Rattle.bac_heeding.specs.Contents.{message_content, npdu_content, result_content};
 ghost use Rattle.bac_heeding.specs.Contents.{stray_of};
 

@@ -1,8 +1,8 @@
 //! What a port notes of its last question.
 
 ghost use Rattle.std.specs.Prelude.{◌≡◌};
-ghost use Rattle.bac_heeding.specs.Notes.{after_receive, after_send, full_by, heard_too, is_again};
-ghost use Rattle.bac_heeding.specs.Notes.{known, no_note, nothing, one_more, passed_of, tried};
+ghost use Rattle.bac_heeding.specs.Notes.{after_receive, after_send, heard_too, is_again};
+ghost use Rattle.bac_heeding.specs.Notes.{no_note, nothing, one_more, tried};
 
 use crate::contents::Stray;
 use bac_ports::{Heard, RECEIVES, SocketFault};

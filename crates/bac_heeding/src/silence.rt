@@ -4,7 +4,6 @@ ghost use Rattle.std.specs.Prelude.{◌≡◌, ◌++◌, codes, decimal, OnOk};
 ghost use Rattle.std.specs.Int.{w16, to_be_bytes};
 ghost use Rattle.hex.specs.Hex.{encode_lower};
 ghost use Rattle.bac_print.specs.Addresses.{address_text};
-ghost use Rattle.std.specs.Str.{bytes_eq};
 ghost use Rattle.bac_heeding.specs.Silence.{answer_text, content_text, counted, counts_text};
 ghost use Rattle.bac_heeding.specs.Silence.{full_text, is_unsent, reason_text, silence_text};
 ghost use Rattle.bac_heeding.specs.Silence.{stray_text, strays_text, unconfirmed_text, waited_text};

@@ -34,7 +34,7 @@ use Rattle.bac_walk.specs.declared.outcome.Step.TheVariants as stepped
 use Rattle.bac_walk.specs.declared.outcome.WalkFault.{WalkFault}
 use Rattle.bac_walk.proofs.Asking.{asked_in}
 use Rattle.bac_walk.proofs.Brought.{full_batch}
-use Rattle.bac_walk.proofs.Came.{Asking, back_later, some_later, window_later, window_now}
+use Rattle.bac_walk.proofs.Came.{Asking, some_later, window_later, window_now}
 use Rattle.bac_walk.proofs.Honest.{honest_delivers}
 use Rattle.bac_walk.proofs.Joins.{after_answers-add}
 use Rattle.bac_walk.proofs.Shown.{ahead-number}
@@ -44,6 +44,7 @@ use Rattle.bac_keep.specs.Looks.{IsSeen, IsSeenBy, KeptAs, Looks, is_held_as, se
 use Rattle.bac_keep.specs.Resumption.{AsksOldest, CameTo, is_before}
 use Rattle.bac_keep.specs.Items.{stamp_text}
 use Rattle.bac_keep.specs.UpToDate.{AskedTellsCaughtUp, EndsByNone}
+use Rattle.bac_keep.proofs.CameLemmas.{back_after, some_after, window_after}
 use Rattle.bac_keep.proofs.UpToDateLemmas.{held_tells}
 
 -- ---- moments
@@ -51,18 +52,6 @@ use Rattle.bac_keep.proofs.UpToDateLemmas.{held_tells}
 window_at : (low n : ℕ) (M : List Moment) → 0 < length M → AreInWindow low M → IsInWindow low (moment_at M n)
 window_at low zero M some window = window_now low M some window
 window_at low (suc n) M some window = window_at low n (later M) (some_later M some) (window_later low M window)
-
-some_after : (n : ℕ) (M : List Moment) → 0 < length M → 0 < length (after_answers n M)
-some_after zero M some = some
-some_after (suc n) M some = some_after n (later M) (some_later M some)
-
-window_after : (low n : ℕ) (M : List Moment) → AreInWindow low M → AreInWindow low (after_answers n M)
-window_after low zero M window = window
-window_after low (suc n) M window = window_after low n (later M) (window_later low M window)
-
-back_after : (n : ℕ) (M : List Moment) → NeverGoesBack M → NeverGoesBack (after_answers n M)
-back_after zero M back = back
-back_after (suc n) M back = back_after n (later M) (back_later M back)
 
 -- the same number in one window is that of the same ordinal, or of none behind it
 not_behind : (low k n : ℕ) → low ≤ k → k < low + 2147483648 → low ≤ n → n < low + 2147483648 → sequence_number n ≡ sequence_number k → n ≤ k

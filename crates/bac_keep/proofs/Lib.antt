@@ -1,4 +1,4 @@
-mod Eras
+pub mod Eras
 mod Taken
 mod KeptLemmas
 mod RunLemmas

@@ -1,6 +1,6 @@
 -- What came to one question of a walk.
 use Rattle.std.proofs.Math.Seq.{drop-cons}
-use Rattle.std.proofs.Common.{◌≡◌, inl, inr, ℕ, zero, suc, ◌+◌, ◌<◌, ◌≤◌, ◌||◌, drop, get_or, nat_lt, Bool, true, false, Option, None, Some, Result, Ok, Err, List, [], ◌∷◌, ◌++◌, length, length-append, map, refl, sym, ap, subst, ◌∙◌, append_assoc, append-nil, arith}
+use Rattle.std.proofs.Common.{◌≡◌, inl, inr, ℕ, zero, suc, ◌+◌, ◌<◌, ◌≤◌, ◌||◌, drop, get_or, nat_lt, Bool, true, false, Option, None, Some, Result, Ok, Err, List, [], ◌∷◌, ◌++◌, length, length-append, map, refl, sym, ap, subst, ◌∙◌, append_assoc, arith}
 use Rattle.bac_link.specs.declared.item.Item.{Item}
 use Rattle.bac_link.specs.declared.transactions.Transactions.{Transactions}
 use Rattle.bac_link.specs.Heard.{heard_in}
@@ -10,19 +10,17 @@ use Rattle.bac_walk.specs.declared.batch.Batch.{Batch}
 use Rattle.bac_walk.specs.declared.batch.Gap.{Gap as GapOf}
 use Rattle.bac_walk.specs.declared.batch.Numbered.{Numbered}
 use Rattle.bac_archive.specs.Rows.{stored}
-use Rattle.bac_walk.specs.declared.outcome.BadReply.{BadReply as NotTaken}
 use Rattle.bac_walk.specs.declared.outcome.Ended.{Ended}
 use Rattle.bac_walk.specs.declared.outcome.Progress.{Progress}
 use Rattle.bac_walk.specs.declared.outcome.WalkFault.{WalkFault}
-use Rattle.bac_walk.specs.declared.outcome.WalkFault.TheVariants.{BadReply}
 use Rattle.bac_walk.specs.Collects.{Goes, turn_items}
 use Rattle.bac_walk.specs.Place.{WalkPlace}
 use Rattle.bac_walk.specs.Sinks.{PutAll, put_items}
-use Rattle.bac_walk.specs.Transacted.{AsksBy, TurnBy}
-use Rattle.bac_walk.specs.Walks.{IsTakenFrom, gap_items, item_of, items_in}
+use Rattle.bac_walk.specs.Transacted.{TurnBy}
+use Rattle.bac_walk.specs.Walks.{gap_items, item_of, items_in}
 use Rattle.bac_walk.proofs.Goes.{stays_goes, turn_goes}
 use Rattle.bac_walk.proofs.Handed.{calls_of, items-calls, map-append, put_up_to, put_whole}
-use Rattle.bac_walk.proofs.Told.{Asking, refused_here}
+use Rattle.bac_walk.proofs.Told.{Asking}
 use Rattle.bac_keep.specs.declared.place.Place.{Place}
 use Rattle.bac_keep.specs.declared.sink.Pending.{Pending}
 use Rattle.bac_keep.specs.declared.sink.Refusal.{Refusal}
@@ -30,7 +28,6 @@ use Rattle.bac_keep.specs.declared.sink.Refusal.TheVariants.{Memory, Back, Epoch
 use Rattle.bac_keep.specs.Items.{era, era_after, kept_rows}
 use Rattle.bac_keep.specs.Questions.{AsksOnce, HasAll, IsGatheredOf, answer_ended, pile_of}
 use Rattle.bac_keep.specs.Rising.{IsCause, first_of, free_after, free_behind, goes_back}
-use Rattle.bac_keep.specs.Sinks.{HasPut}
 use Rattle.bac_keep.proofs.Eras.{era-append, era-up}
 use Rattle.bac_keep.proofs.Taken.{Put, all_counted, all_stopped, all_taken, gaps_put, records_put}
 
@@ -76,14 +73,6 @@ put_some old new b n put =
 
 -- ---- one question
 
--- an answer that isn't taken
-pub came_bad : {S : Type 0} (asks : Asking S) (t : Transactions) (old : S) (w : WalkPlace) (datagram : List ℕ) (bad : NotTaken) (after : WalkPlace) (new : S) →
-    AsksBy asks t old w (Ok datagram) new → IsTakenFrom w (heard_in w.log datagram) (Err bad) after → TurnBy asks t old w (Err BadReply) after new
-came_bad asks t old w datagram bad after new asked taken =
-    let same = refused_here w (heard_in w.log datagram) bad after taken in
-    let P : WalkPlace → Type 0 = λ p. IsTakenFrom w (heard_in w.log datagram) (Err bad) p in
-    (Ok datagram, asked, inr (datagram, bad, refl, subst P same taken), same)
-
 -- a turn is one question, whichever the transaction
 pub asks_once : {S : Type 0} (asks : Asking S) (t : Transactions) (old : S) (w : WalkPlace) (answer : Result Progress WalkFault) (after : WalkPlace) (new : S) →
     TurnBy asks t old w answer after new → AsksOnce asks (towards t.route) t.retries old w answer after new
@@ -124,11 +113,6 @@ put_last items k d gap taken old new lt is put =
     ((get_or items k d).number, subst P (sym (drop-cons items k d lt)) (inl (subst T is put, refl)))
 
 -- ---- what is gathered
-
-pub has_none : (sink : Pending) → HasAll sink sink []
-has_none sink =
-    let none : HasPut (pile_of sink) (pile_of sink) [] = record { log = refl; era_is = refl; rises = refl; free_is = refl; rows = sym (append-nil (pile_of sink).rows) } in
-    (none, omega arith, omega arith)
 
 pub is_gathered : (place : Place) (free : ℕ) (answer : Result Progress WalkFault) (begin end : Pending) (ended : Ended) →
     begin.place ≡ place → (begin.records ≡ 0) × (begin.gaps ≡ 0) × (begin.free ≡ free) → begin.rows.items ≡ [] → HasAll begin end (turn_items answer) → ended ≡ answer_ended answer →

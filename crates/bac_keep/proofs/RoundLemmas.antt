@@ -1,7 +1,8 @@
 -- Where numbers come round, the next epoch begins at 1.
-use Rattle.std.proofs.Common.{◌≡◌, ℕ, pos, ◌+◌, ◌<◌, ◌≤◌, ◌==◌, ◌&&◌, ◌||◌, nat_le, Bool, true, false, if◌then◌else◌, List, [], ◌∷◌, ◌++◌, refl, sym, ap, subst, ◌∙◌, arith, int_cmp}
+use Rattle.std.proofs.Common.{◌≡◌, ℕ, pos, ◌+◌, ◌<◌, ◌≤◌, ◌==◌, ◌&&◌, nat_le, Bool, true, false, if◌then◌else◌, List, [], ◌∷◌, ◌++◌, refl, sym, ap, subst, ◌∙◌, arith, int_cmp}
 use Rattle.std.specs.List.{Contains, list_any}
 use Rattle.std.specs.Ordering.{is_eq}
+use Rattle.std.proofs.lemmas.Bool.{or_from}
 use Rattle.std.proofs.lemmas.Bool.Decides.{nat_tests}
 use Rattle.std.proofs.lemmas.Int.{ints}
 use Rattle.std.proofs.lemmas.List.Sorted.{list_any-IsPermutation}
@@ -28,10 +29,6 @@ only e = Int (pos e) ∷ []
 apart : (k e : ℕ) → k < e → is_eq (int_cmp (pos k) (pos e)) ≡ false
 apart k e lt = grind (arith, ints, nat_tests)
 
-or_false : (a b : Bool) → a ≡ false → b ≡ false → (a || b) ≡ false
-or_false false b p q = q
-or_false true b p q = absurd (let e = p in cc)
-
 -- the beginning of an era before this one isn't this one's
 still_none : (b : Bool) (rows : List Values) (new : Values) (k e : ℕ) → is_taken rows new ≡ b → rowid new ≡ Int (pos k) → k < e → is_taken rows (only e) ≡ false
     → is_taken (if b then rows else put_row new rows) (only e) ≡ false
@@ -40,7 +37,7 @@ still_none false rows new k e is at lt none =
     let test : Values → Bool = λ r. is_eq (value_cmp (rowid r) (Int (pos e))) in
     let moved : list_any test (new ∷ rows) ≡ list_any test (put_row new rows) = list_any-IsPermutation test (new ∷ rows) (put_row new rows) (put_permutes new rows is) in
     let first : test new ≡ false = ap (λ v. is_eq (value_cmp v (Int (pos e)))) at ∙ ap is_eq (value_cmp-Int (pos k) (pos e)) ∙ apart k e lt in
-    sym moved ∙ or_false (test new) (list_any test rows) first none
+    sym moved ∙ or_from (test new) (list_any test rows) first none
 
 none_by : (rows : List Values) (a n e : ℕ) → n < 4294967296 → a < e → is_taken rows (only e) ≡ false → is_taken (begun_by rows (Int (pos (key a n)))) (only e) ≡ false
 none_by rows a n e small lt none =

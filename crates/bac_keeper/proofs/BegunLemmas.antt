@@ -31,10 +31,6 @@ pub on_err_so : {V E : Type 0} (r : Result V E) (P Q : Type 0) → (P → Q) →
 on_err_so (Ok v) P Q f it = tt
 on_err_so (Err e) P Q f it = f it
 
-pub on_err_if : {V E : Type 0} (r : Result V E) (P : Type 0) → P → OnErr r P
-on_err_if (Ok v) P it = tt
-on_err_if (Err e) P it = it
-
 pub all_fail_so : {V : Type 0} (P Q : FileFault → Type 0) (r : Result V NotDone) → ((why : FileFault) → P why → Q why) → IfErr r (MayFail P) → IfErr r (MayFail Q)
 all_fail_so P Q (Ok v) f it = tt
 all_fail_so P Q (Err e) f it = fails_so P Q e f it

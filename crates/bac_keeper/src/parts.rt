@@ -1,12 +1,11 @@
 //! `bac kept` of a folder: what an archive in parts keeps is printed, part after part.
 
-ghost use Rattle.std.specs.Prelude.{◌≡◌, ◌≢◌, ◌⊎◌, ℕ, None, IfErr, IfOk, max, OnErr, false};
+ghost use Rattle.std.specs.Prelude.{◌≡◌, ◌≢◌, ◌⊎◌, ℕ, None, IfErr, IfOk, max, false};
 ghost use Rattle.std.specs.Prelude.{map};
 ghost use Rattle.std.specs.Io.KnownBytes.{Keeps};
 ghost use Rattle.std.specs.String.{string_bytes};
 ghost use Rattle.sqlite.specs.Held.{state};
 ghost use Rattle.sqlite.specs.declared.error.Error.{Error as ErrorOf};
-ghost use Rattle.bac_asked.specs.Faults.{of_error};
 ghost use Rattle.bac_files.specs.Parts.{reading};
 ghost use Rattle.bac_kept.specs.Seen.{newest_in};
 ghost use Rattle.bac_keeper.specs.Ends.{MayAsk, MayFail};

@@ -15,7 +15,8 @@ use Rattle.sqlite_value.specs.declared.value.Value.TheVariants.{Int}
 use Rattle.std.specs.Prelude.{decimal}
 use Rattle.bac_archive.proofs.RowsLemmas.{cast_int, cast_null}
 use Rattle.bac_archive.specs.Items.{by_id, epoch_in, item_columns}
-use Rattle.bac_keep.specs.Items.{era_after, era_behind, kept_row, kept_rows, rows_of, stamp_text}
+use Rattle.bac_keep.specs.Items.{era_after, era_behind, kept_row, kept_rows, stamp_text}
+use Rattle.bac_keep.proofs.Eras.{behind-up, era-up, one_row}
 use Rattle.bac_kept.specs.LogLines.{HasNumber, KeptLineIsThatOfLog, KeptLinesAreThoseOfLog, KeptLogIsThatOfLog}
 use Rattle.bac_kept.specs.Printed.{anew_if, item_line as printed_line, last_at, row_line, rows_lines}
 use Rattle.bac_link.specs.Laws.{CoversEach}
@@ -44,24 +45,6 @@ one_era false era is = refl
 
 within : (first before era : ℕ) → era_behind era (Gap first before) ≡ era → first < before
 within first before era is = leb-false before first (one_era (nat_le before first) era is)
-
--- eras rise
-up_if : (b : Bool) (era : ℕ) → era ≤ (if b then era + 1 else era)
-up_if true era = omega arith
-up_if false era = omega arith
-
-behind_up : (era : ℕ) (item : Item) → era ≤ era_behind era item
-behind_up era (Gap first before) = up_if (nat_le before first) era
-behind_up era (Logged number entry) = up_if (number == 4294967295) era
-
-after_up : (era : ℕ) (items : List Item) → era ≤ era_after era items
-after_up era [] = omega arith
-after_up era (x ∷ xs) = omega (arith, behind_up era x, after_up (era_behind era x) xs)
-
--- an item that ends in its era has one row
-one_row : (era : ℕ) (item : Item) → era_behind era item ≡ era → rows_of era item ≡ kept_row era item ∷ []
-one_row era (Gap first before) is = rw (one_era (nat_le before first) era is) refl
-one_row era (Logged number entry) is = refl
 
 parts_join : (a b c d e : List ℕ) → ((a ++ (84 ∷ b)) ++ (32 ∷ (c ++ (32 ∷ (d ++ e))))) ≡ (a ++ (84 ∷ (b ++ (32 ∷ (c ++ (32 ∷ d)))))) ++ e
 parts_join a b c d e =
@@ -101,7 +84,7 @@ first_row era x xs behind = ap (λ l. l ++ kept_rows (era_behind era x) xs) (one
 
 -- where all items end in the era of the first, so do this one and those behind it
 ends_here : (era : ℕ) (x : Item) (xs : List Item) → era_after era (x ∷ xs) ≡ era → era_behind era x ≡ era
-ends_here era x xs one = omega (arith, one, behind_up era x, after_up (era_behind era x) xs)
+ends_here era x xs one = omega (arith, one, behind-up era x, era-up (era_behind era x) xs)
 
 ends_later : (era : ℕ) (x : Item) (xs : List Item) → era_after era (x ∷ xs) ≡ era → era_after era xs ≡ era
 ends_later era x xs one = subst (λ n. era_after n xs ≡ era) (ends_here era x xs one) one

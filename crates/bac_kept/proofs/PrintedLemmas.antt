@@ -1,5 +1,5 @@
 -- What is printed of the items of logs.
-use Rattle.std.proofs.Common.{◌≡◌, refl, sym, ap, subst, ◌∙◌, ℕ, pos, List, [], ◌∷◌, ◌++◌, append_assoc, append-nil, Option, None, Some, Result, Ok, Err, OnErr, OnOk, true, false, ◌+◌, ◌<◌, ◌≤◌, length, take, get_or, arith}
+use Rattle.std.proofs.Common.{◌≡◌, refl, sym, ap, subst, ◌∙◌, ℕ, pos, List, [], ◌∷◌, ◌++◌, append_assoc, append-nil, Option, None, Some, true, ◌+◌, ◌<◌, ◌≤◌, length, take, get_or, arith, Result, Ok, Err, OnOk}
 use Rattle.std.proofs.lemmas.List.{take_more}
 use Rattle.std.proofs.lemmas.List.Elements.{filter-append}
 use Rattle.std.specs.List.{filter}
@@ -22,6 +22,7 @@ use Rattle.bac_archive.proofs.ItemsLemmas.{begins_with, shows_items}
 use Rattle.bac_archive.specs.declared.items.Item.{Item}
 use Rattle.bac_print.specs.Output.{AppendsPart, Held}
 use Rattle.bac_archive.specs.declared.trend_logs.Log.{Log}
+use Rattle.bac_query.proofs.Delivered.{behind_first, kept_behind}
 use Rattle.bac_kept.specs.declared.printing.Shown.{Shown as Which}
 use Rattle.bac_kept.specs.Printed.{PrintsBehind, PrintsItems, PrintsLog, PrintsLogs, anew_if, item_line, last_at, lines_behind, row_lines, rows_lines}
 use Rattle.bac_kept.specs.Seen.{epoch_of, is_new, is_newer, item_at, newest_of}
@@ -92,20 +93,11 @@ module _ (behind newest : Option Newest) (row : Values) (item : Item) (is : IsIt
       → Some (record { epoch = item.epoch; number = item.number }) ≡ newest_of newest (filter (is_new behind) (row ∷ []))
   newest_is so = rw (is.epoch, is.number) (ap (newest_of newest) (sym (one_new so)))
 
--- a text that was written, and then a front of another, are a front of both
-then_part : (a b c : Held) (text more : List ℕ) → Appends a b text → AppendsPart b c more → AppendsPart a c (text ++ more)
-then_part a b c text more all part =
-    (text ++ part.0, part.1, ap (λ l. text ++ l) part.2 ∙ sym (append_assoc text part.0 part.1), Appends-trans a b c text part.0 all part.3)
-
 pub whole_part : (a b : Held) (text : List ℕ) → Appends a b text → AppendsPart a b text
 whole_part a b text all = (text, [], sym (append-nil text), all)
 
 pub no_part : (a : Held) (text : List ℕ) → AppendsPart a a text
 no_part a text = ([], text, refl, Appends-nil a)
-
-pub on_err : {A E : Type 0} (r : Result A E) (X : Type 0) → X → OnErr r X
-on_err (Ok a) X x = tt
-on_err (Err e) X x = x
 
 -- the newest item, behind that of one row more
 pub newest_next : (behind was now : Option Newest) (rows : List Values) (row : Values) → now ≡ newest_of was (filter (is_new behind) (row ∷ []))
@@ -132,7 +124,7 @@ pub part_next : (behind was : Option Newest) (rows : List Values) (row : Values)
     → AppendsPart a c (lines_behind behind (rows ++ row ∷ []))
 part_next behind was rows row a b c before all more =
     subst (AppendsPart a c) (lines_next behind was rows row before)
-    (then_part a b c (lines_behind behind rows) (rows_lines (epoch_of was) (filter (is_new behind) (row ∷ []))) all more)
+    (behind_first a b c (lines_behind behind rows) (rows_lines (epoch_of was) (filter (is_new behind) (row ∷ []))) all more)
 
 -- a disk that has given back what was written had done so before
 pub clean_before : (old new : State) → doubt old.is_clean ≤ doubt new.is_clean → HasCleanDisk new → HasCleanDisk old
@@ -161,13 +153,6 @@ log_more which items (l ∷ logs) log text one all it =
 pub take_one : {X : Type 0} (all : List X) (at : ℕ) (x : X) → at < length all → x ≡ get_or all at x → take (at + 1) all ≡ take at all ++ x ∷ []
 take_one all at x lt is = take_more all at x lt ∙ ap (λ z. take at all ++ z ∷ []) (sym is)
 
--- what was written stays so where nothing more is
-appends_keeps : (a b c : Held) (text : List ℕ) → Appends a b text → Keeps b c → Appends a c text
-appends_keeps None b c text all keeps = tt
-appends_keeps (Some xs) None c text all keeps = absurd all
-appends_keeps (Some xs) (Some ys) None text all keeps = absurd keeps
-appends_keeps (Some xs) (Some ys) (Some zs) text all keeps = keeps ∙ all
-
 -- what was printed of the logs of an archive is so of the archive as it was
 pub are_shown : (Prints : List Values → List Log → List ℕ → Type 0) (whole : List ℕ → List ℕ) (old mid : Database) (all these : List Log) (a b c : Held)
     → mid ≡ old → these ≡ all → AreLogs old.trees all → ((text : List ℕ) × Prints (kept mid.trees) these text × Appends a b (whole text)) → Keeps b c
@@ -177,7 +162,7 @@ are_shown Prints whole old mid all these a b c same is are (text, printed, writt
   are,
   text,
   subst (λ (d : Database). Prints (kept d.trees) all text) same (subst (λ (l : List Log). Prints (kept mid.trees) l text) is printed),
-  appends_keeps a b c (whole text) written keeps,
+  kept_behind a b c (whole text) written keeps,
 )
 
 pub on_ok : {A E : Type 0} (r : Result A E) (X : Type 0) → X → OnOk r X

@@ -2,7 +2,6 @@
 //! log of the part before it, which isn't printed again.
 
 ghost use Rattle.std.specs.Prelude.{◌≡◌, ℕ, None, OnOk};
-ghost use Rattle.bac_archive.specs.declared.items.Item.{Item as ItemOf};
 ghost use Rattle.bac_kept.specs.Seen.{Notes, is_newer, newest_in};
 
 use bac_archive::Item;

@@ -83,10 +83,3 @@ fails rules [] first before after why two is ends = absurd (omega (arith, two))
 fails rules (x ∷ []) first before after why two is ends = absurd (omega (arith, two))
 fails rules (x ∷ y ∷ more) first before after why two is ends =
     subst (λ (r : Bor Wanted). EndsAsking rules r.now.asking.asked before after why) is ends
-
--- fewer aren't asked
-pub few : {S P C : Type 0} (rules : SocketRules S P) (clock : Pace C) (refs : List (Bor Wanted)) (came : List Conversation) (silent : List Source)
-    (before after : S) → length refs ≤ 1 → came ≡ [] → silent ≡ [] → after ≡ before → ListsAhead rules clock (map now_of refs) before came silent after
-few rules clock [] came silent before after one none nobody same = (none, nobody, same)
-few rules clock (x ∷ []) came silent before after one none nobody same = (none, nobody, same)
-few rules clock (x ∷ y ∷ more) came silent before after one none nobody same = absurd (omega (arith, one))

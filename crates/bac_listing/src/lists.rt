@@ -1,6 +1,6 @@
 //! What came of the lists of devices, and which of them gave no answer.
 
-ghost use Rattle.std.specs.Prelude.{◌≡◌, ◌&&◌, ◌++◌, ◌∷◌, [], IfErr, IfOk, OnOk, length, map, not};
+ghost use Rattle.std.specs.Prelude.{◌≡◌, ◌&&◌, ◌++◌, ◌∷◌, [], IfErr, IfOk, OnOk, length, map};
 ghost use Rattle.bac_asked.specs.Faults.{WantsMemory};
 ghost use Rattle.bac_listing.specs.Devices.{AddSilent, AreSilent, is_silent};
 

@@ -12,7 +12,7 @@ ghost use Rattle.bac_objects.specs.Properties.{device_table, row};
 ghost use Rattle.bac_objects.specs.Reading.{shown_of};
 ghost use Rattle.bac_objects.specs.Writing.{body_written, checked, command_written, enabled};
 ghost use Rattle.bac_objects.specs.Writing.{is_array, log_written, object_written, priority_of};
-ghost use Rattle.bac_objects.specs.Writing.{purged, records_written, refusal, setting_of, write_of};
+ghost use Rattle.bac_objects.specs.Writing.{purged, refusal, setting_of, write_of};
 
 use crate::command::{Command, Range, Setting};
 use crate::database::Database;

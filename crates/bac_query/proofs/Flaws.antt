@@ -20,7 +20,6 @@ use Rattle.bac_query.specs.declared.layout.Layout.{Layout}
 use Rattle.bac_query.specs.Fetching.{Fetching, PrintsEnd}
 use Rattle.bac_query.specs.Flaws.{IsBadlyFetched, IsFlawed, TellsFlaw, TellsFlawOf, flaw_if_bad, last_flaw, with_flaw}
 use Rattle.bac_query.specs.Reading.{Held}
-use Rattle.bac_query.specs.declared.fault.QueryFault.TheVariants.{Exchange, Write, Memory}
 use Rattle.bac_query.specs.declared.fetching.Fetched.{Fetched}
 use Rattle.bac_query.proofs.Maps.{Maps, answers_maps}
 
@@ -35,15 +34,7 @@ flaw_kept {S = S} f last asks other maps keeps path retries end w new flaw is ba
     let here : flaw ≡ flaw_in w datagram = is ∙ ap (λ e. last_flaw e w (last new)) bad ∙ ap (λ d. last_flaw (ended.Fault BadReply) w d) (keeps _ new _ datagram answers.4) in
     (wrong, here ∙ flawed, (f link, invoke, datagram, said, answers_maps f asks other maps path invoke _ retries said link datagram new answers, flawed))
 
--- the end line tells this end
-pub end_is : (layout : Layout) (cause : Why) (next : ℕ) (result : Fetching) (old new : Held) → PrintsEnd layout cause next result old new →
-    IfOk result (λ fetched. (fetched.why ≡ cause) × (fetched.next ≡ next))
-end_is layout cause next (Ok fetched) old new prints = (prints.0, prints.1)
-end_is layout cause next (Err Write) old new prints = tt
-end_is layout cause next (Err Memory) old new prints = tt
-end_is layout cause next (Err (Exchange fault)) old new prints = tt
-
--- and if that isn't out of memory, nothing is told of a bad reply
+-- behind another end than a bad reply, nothing is told of one
 pub no_flaw : (layout : Layout) (cause : Why) (next : ℕ) (result : Fetching) (old new : Held) (P : Fetched → Type 0) → (cause ≡ why.Fault BadReply → ⊥) → PrintsEnd layout cause next result old new →
     IfOk result (λ fetched. fetched.why ≡ why.Fault BadReply → P fetched)
 no_flaw layout cause next (Ok fetched) old new P other prints = λ bad. absurd (other (sym prints.0 ∙ bad))

@@ -9,25 +9,16 @@ use Rattle.bac_link.specs.Path.{towards}
 use Rattle.bac_walk.specs.Came.{AreOf, Came, answers_of, restarted}
 use Rattle.bac_walk.specs.Collects.{batches}
 use Rattle.bac_walk.specs.Place.{WalkPlace}
-use Rattle.bac_walk.specs.Transacted.{BroughtBy, ComesBy, EndsAfter, asked as asked_at}
+use Rattle.bac_walk.specs.Transacted.{BroughtBy, ComesBy, EndsAfter}
 use Rattle.bac_walk.specs.declared.outcome.Ended.{Ended}
 use Rattle.bac_walk.specs.declared.outcome.Ended.TheVariants.{CaughtUp, StepLimit, Stopped, Fault}
 use Rattle.bac_walk.proofs.Joined.{came_batches, came_items, empty_append, ends_behind, full_append, full_place}
 use Rattle.bac_walk.proofs.Told.{Asking}
 use Rattle.bac_walk.proofs.Transacted.{comes_plain}
+use Rattle.bac_walk.proofs.TransactedRuns.{comes_append}
 
 pub none_by : {S : Type 0} (asks : Asking S) (t : Transactions) (old : S) (w : WalkPlace) → BroughtBy asks t old w 0 [] [] StepLimit w t old
 none_by asks t old w = record { here = restarted w; mid = old; half = t; comes = (refl, refl, refl); ends = (tt, refl, refl, refl, refl); are = refl; few = omega arith }
-
-comes_append : {S : Type 0} (asks : Asking S) (xs ys : List Came) (t between last : Transactions) (old mid new : S) (w here after : WalkPlace) →
-    ComesBy asks t old w xs here between mid → ComesBy asks between mid here ys after last new → ComesBy asks t old w (xs ++ ys) after last new
-comes_append {S = S} asks [] ys t between last old mid new w here after first rest =
-    let P : WalkPlace → Type 0 = λ v. ComesBy asks between mid v ys after last new in
-    let Q : S → Type 0 = λ l. ComesBy asks between l w ys after last new in
-    let R : Transactions → Type 0 = λ u. ComesBy asks u old w ys after last new in
-    subst R first.2 (subst Q first.1 (subst P first.0 rest))
-comes_append asks (c ∷ xs) ys t between last old mid new w here after (half, next, p, place, asked, taken, is, more) rest =
-    (half, next, p, place, asked, taken, is, comes_append asks xs ys (asked_at w t) between last half mid new next here after more rest)
 
 -- a run whose steps were all whole, and one more: its replies are those of both
 pub joins_by : {S : Type 0} (asks : Asking S) (t between last : Transactions) (old half new : S) (w mid after : WalkPlace) (n more : ℕ) (first rest : List Came) (xs ys : List Item) (ended : Ended) →

@@ -10,7 +10,6 @@ pub mod Pending
 pub mod RunsAhead
 pub mod Requests
 pub mod Turns
-pub mod Pieces
 pub mod Told
 pub mod Flaws
 pub mod Tables

@@ -1,9 +1,7 @@
 //! Fetching the records of a trend log, and what is printed of them.
 
 ghost use Rattle.std.specs.Prelude.{◌≡◌, ◌≢◌, ◌≤◌, ℕ, false, List, length, None, IfOk};
-ghost use Rattle.std.specs.Io.KnownBytes.{Appends};
 ghost use Rattle.bac_link.specs.declared.item.Item.{Item};
-ghost use Rattle.bac_query.specs.Ends.{end_line};
 ghost use Rattle.bac_query.specs.Items.{items_text};
 ghost use Rattle.bac_link.specs.Path.{towards};
 ghost use Rattle.bac_walk.specs.Place.{WalkPlace};
@@ -14,7 +12,6 @@ ghost use Rattle.bac_walk.specs.Transacted.{BroughtBy};
 ghost use Rattle.bac_walk.specs.declared.outcome.Ended.{Ended as EndedOf};
 ghost use Rattle.bac_query.specs.Fetching.{Delivers, EndsAs, FetchesBy, FetchesOver, IsFetched};
 ghost use Rattle.bac_query.specs.Fetching.{PrintsEnd, PrintsItems};
-ghost use Rattle.bac_query.specs.Reading.{Prints};
 ghost use Rattle.bac_query.specs.declared.layout.Layout.TheVariants.{Lines as InLines};
 
 use crate::ends::push_end;

@@ -6,7 +6,6 @@ ghost use Rattle.std.specs.Prelude.{OnOk};
 ghost use Rattle.bac_link.specs.Path.{towards};
 ghost use Rattle.bac_link.specs.declared.item.Item.{Item as ItemOf};
 ghost use Rattle.bac_walk.specs.declared.outcome.Ended.{Ended as EndedOf};
-ghost use Rattle.bac_walk.specs.declared.flaw.ReplyFlaw.{ReplyFlaw as FlawOf};
 ghost use Rattle.bac_walk.specs.declared.outcome.WalkFault.{WalkFault as FaultOf};
 ghost use Rattle.bac_query.specs.Ahead.{FetchesAhead, IsRunOver, PrintsLeft, PrintsOn, PrintsRun};
 ghost use Rattle.bac_query.specs.Ahead.{pending, port_asks};

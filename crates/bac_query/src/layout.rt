@@ -1,6 +1,6 @@
 //! The layouts of what a walk brings.
 
-ghost use Rattle.std.specs.Prelude.{◌≡◌, ◌<◌, length};
+ghost use Rattle.std.specs.Prelude.{◌<◌, length};
 ghost use Rattle.bac_query.specs.Ahead.{PrintsLeft};
 ghost use Rattle.bac_query.specs.Layouts.{BeginsWith};
 

@@ -1,14 +1,11 @@
 //! ReadProperty (clause 15.5) and what is printed of its answer.
 
-ghost use Rattle.std.specs.Prelude.{◌≡◌, List, ℕ, OnOk};
 ghost use Rattle.bac_wire.specs.OptionChain.{GivesSome};
 ghost use Rattle.bac_link.specs.Datagrams.{apdu_in};
-ghost use Rattle.bac_link.specs.Exchanges.{Leaves};
 ghost use Rattle.bac_link.specs.Path.{towards};
 ghost use Rattle.bac_link.specs.Requests.{next_invoke};
 ghost use Rattle.bac_query.specs.Reading.{ReadsOver, ReadsProperty, PrintsValues, Prints, next_way};
 ghost use Rattle.bac_query.specs.Reading.{values_in};
-ghost use Rattle.bac_query.specs.Values.{IsShown};
 
 use crate::fault::QueryFault;
 use crate::reals::Reals;

@@ -1,5 +1,5 @@
 -- Why the logs of a device aren't found.
-use Rattle.std.proofs.Common.{◌≡◌, ◌⊎◌, ◌+◌, ◌<◌, inl, inr, ℕ, suc, List, Option, Some, Result, Ok, Err, IfErr, Vec, Global, refl, subst, sym, ap, ◌∙◌, add-one}
+use Rattle.std.proofs.Common.{◌≡◌, ◌⊎◌, ◌+◌, ◌<◌, inl, inr, ℕ, suc, List, Option, Some, Result, Ok, Err, IfErr, subst, sym, ap, ◌∙◌, add-one}
 use Rattle.bac_apdu.specs.Npdu.{Place}
 use Rattle.bac_asked.specs.Faults.{WantsMemory}
 use Rattle.bac_asked.specs.declared.end.NotDone.{NotDone}

@@ -1,6 +1,5 @@
 -- What an ACK tells of a device, and the question for that over a socket.
 use Rattle.std.proofs.Common.{◌≡◌, ℕ, zero, suc, ◌<◌, ◌≤◌, ◌+◌, ◌++◌, ◌∷◌, [], true, None, inl, inr, take, drop, length, get_or, List, Option, Some, Result, Ok, Err, IfOk, ap, sym, subst, ◌∙◌, arith}
-use Rattle.std.specs.Int.{w32, from_be_bytes}
 use Rattle.std.specs.List.{Contains, slice_range}
 use Rattle.std.proofs.lemmas.List.{take-append-drop, take_more, take_all}
 use Rattle.std.proofs.lemmas.List.Elements.{Contains-append_cases, Contains-append_left, Contains-append_right}
@@ -9,40 +8,18 @@ use Rattle.bac_archive.specs.declared.trend_logs.Log.{Log}
 use Rattle.bac_archive.specs.declared.trend_logs.Source.{Source}
 use Rattle.bac_questions.specs.Silent.{is_same_device}
 use Rattle.bac_apdu.specs.Npdu.{Place}
-use Rattle.bac_wire.specs.Primitive.{Id}
 use Rattle.bac_link.specs.Path.{towards}
 use Rattle.bac_ports.specs.declared.udp_link.UdpLink.{UdpLink}
 use Rattle.bac_words.specs.declared.job.Asked.{Asked}
 use Rattle.bac_asked.specs.declared.end.NotDone.{NotDone}
 use Rattle.bac_asked.specs.declared.log_words.Asking.{Asking}
 use Rattle.bac_ports.specs.Sockets.{SocketRules, link_over, own_address, socket_asks}
-use Rattle.bac_questions.specs.Discovered.{IsObject, TellsObject}
-use Rattle.bac_questions.specs.Said.{Identifies, Says, TellsDevice}
+use Rattle.bac_questions.specs.Said.{Identifies, Says}
 use Rattle.bac_questions.specs.Whose.{IsOnRecord}
 use Rattle.bac_questions.specs.declared.said.Said.{Said}
 
 pub same_octets : (a b : List ℕ) → Some a ≡ Some b → a ≡ b
 same_octets a b h = cc
-
-same_rest : (a b : List ℕ) → 196 ∷ a ≡ 196 ∷ b → a ≡ b
-same_rest a b h = cc
-
--- octets are one object identifier at most
-one_object : (a b : Id) (values : List ℕ) → IsObject a values → IsObject b values → (a.kind ≡ b.kind) × (a.instance ≡ b.instance)
-one_object a b values is other =
-    let same : is.0 ≡ other.0 = same_rest is.0 other.0 (sym is.1 ∙ other.1) in
-    let sums = sym is.3 ∙ ap (λ octets. from_be_bytes w32 octets) same ∙ other.3 in
-    (omega (arith, sums, is.4, other.4), omega (arith, sums, is.4, other.4))
-
--- and so is what an ACK tells
-pub tells_one : (datagram : List ℕ) (a b : Id) → TellsObject datagram a → TellsObject datagram b → (a.kind ≡ b.kind) × (a.instance ≡ b.instance)
-tells_one datagram a b is other =
-    let same : is.0 ≡ other.0 = same_octets is.0 other.0 (sym is.1 ∙ other.1) in
-    one_object a b other.0 (subst (λ v. IsObject a v) same is.2) other.2
-
--- a device that is told by the object identifier that an ACK has
-pub is_device : (datagram : List ℕ) (object : Id) → object.kind ≡ 8 → object.instance < 4194303 → TellsObject datagram object → TellsDevice datagram object.instance
-is_device datagram object kind less it = (less, subst (λ k. TellsObject datagram (record { kind = k; instance = object.instance })) kind it)
 
 -- what a device says over a socket that was opened as words ask that ask so, and closed behind it
 pub identifies_over : {S P : Type 0} (rules : SocketRules S P) (asking : Asking) (asked : Asked) (before middle after : S) (port last : P)

@@ -39,7 +39,7 @@ use Rattle.bac_words.specs.declared.job.Job.TheVariants as job
 use Rattle.bac_words.specs.declared.job.Keep.{Keep as KeepWords}
 use Rattle.bac_words.specs.declared.job.Check.{Check as CheckWords}
 use Rattle.bac_words.specs.declared.job.Kept.{Kept as KeptWords}
-use Rattle.bac_words.specs.declared.word.Word.{Word}
+use Rattle.bac_tools.proofs.Told.{never_both, one_job}
 
 -- a fault that is told has its status
 status_told : (ends : NotDone → Type 0) (passed : Passed) (why : KeepFault) (said errors : Held) (status : ℕ) → ends (Asking why)
@@ -170,13 +170,6 @@ groups_over g h parts waits rules passes asked true old new files left status (O
   keep_over g h parts waits rules passes (with_groups asked groups) asked.stop old new old.input new.input status left it,
 )
 groups_over g h parts waits rules passes asked true old new files left status (Err fault, list, it) = (Err fault, list, it)
-
--- words say one thing
-one_job : (said : Result Job Word) (a b : Job) → said ≡ Ok a → said ≡ Ok b → a ≡ b
-one_job said a b p q = cc
-
-pub never_both : {A : Type 0} (said : Result Job Word) (a : Job) (w : Word) → said ≡ Ok a → said ≡ Err w → A
-never_both said a w p q = absurd (cc)
 
 module _ {S P C F G T Q : Type 0} {s : start.Ghosts F} {t : start.Ghosts G} (traces : S → Bool → S → Type 0) (rules : SocketRules S P) (passes : S → Passed) (tells : C → Option CivilTime → C → Type 0) (g : disk.Ghosts (FileOf s)) (h : disk.Ghosts (FileOf t)) (parts : DiskFiles G t) (waits : ℕ → AtOnce S T) (folders : PartRules Q) (p q : Q)
     (old new : Streams S C) (files left : DiskFiles F s) (status : ℕ) where

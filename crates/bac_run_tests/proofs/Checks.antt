@@ -3,6 +3,7 @@ use Rattle.std.proofs.Common.{◌≡◌, ℕ, Bool, Option, inl, inr, subst, sym
 use Rattle.std.specs.Io.KnownBytes.{Keeps}
 use Rattle.sqlite_disk.specs.declared.Disk as disk
 use Rattle.sqlite_disk.specs.declared.start.Start as start
+use Rattle.bac_check.proofs.WholeLemmas.{told as file_is_told}
 use Rattle.bac_check.specs.Checked.{ChecksAll}
 use Rattle.bac_check.specs.Whole.{ZeroIsWhole}
 use Rattle.bac_asked.specs.Faults.{of_unopened}
@@ -14,7 +15,7 @@ use Rattle.bac_fetch.specs.Ahead.{AtOnce}
 use Rattle.bac_heeding.specs.declared.notes.Passed.{Passed}
 use Rattle.bac_ports.specs.Sockets.{SocketRules}
 use Rattle.bac_run.specs.Run.{RunsAll, RunsCheck}
-use Rattle.bac_run_tests.proofs.Ended.{fault_is_told, file_is_told}
+use Rattle.bac_run_tests.proofs.Ended.{fault_is_told}
 use Rattle.bac_run_tests.specs.Whole.{IsFoundWhole}
 use Rattle.bac_tools.specs.Streams.{Streams, streams}
 use Rattle.bac_wire.specs.Stamp.{CivilTime}

@@ -5,14 +5,14 @@ use Rattle.std.specs.Io.KnownBytes.{Appends}
 use Rattle.sqlite_disk.specs.declared.Disk as disk
 use Rattle.sqlite_disk.specs.declared.start.Start as start
 use Rattle.sqlite_wal.specs.Files.{image_at}
-use Rattle.bac_asked.specs.Status.{end_status, file_status}
+use Rattle.bac_asked.specs.Status.{end_status}
 use Rattle.bac_asked.specs.declared.end.End.{End}
 use Rattle.bac_asked.specs.declared.end.Ending.{Ending}
 use Rattle.bac_asked.specs.declared.end.Ending.TheVariants.{Walk, SaidMore, Back, Epochs, NotAsked, Other, Twice}
 use Rattle.bac_asked.specs.declared.fault.Fault.{Fault as KeepFault}
 use Rattle.bac_asked.specs.declared.fault.Fault.TheVariants as keep
-use Rattle.bac_asked.specs.declared.fault.FileFault.{FileFault}
 use Rattle.bac_asked.specs.declared.fault.FileFault.TheVariants as fault
+use Rattle.bac_check.proofs.WholeLemmas.{told as file_is_told}
 use Rattle.bac_fetch.specs.Chosen.{AreFound}
 use Rattle.bac_fetch.specs.Keeps.{greatest_status, lines_of}
 use Rattle.bac_fetch.specs.Unlisted.{fault_status, unlisted_lines, unlisted_status}
@@ -52,25 +52,6 @@ fault_is_told (keep.Exchange address (exchange.Refused refusal)) none = absurd (
 fault_is_told (keep.Exchange address exchange.BadReply) none = absurd (cc)
 fault_is_told keep.Write none = absurd (cc)
 fault_is_told keep.Memory none = absurd (cc)
-
--- no file that is no use
-pub file_is_told : (why : FileFault) → file_status why ≡ 0 → ⊥
-file_is_told fault.InUse none = absurd (cc)
-file_is_told (fault.Barred obstacle) none = absurd (cc)
-file_is_told fault.Foreign none = absurd (cc)
-file_is_told fault.First none = absurd (cc)
-file_is_told fault.Version none = absurd (cc)
-file_is_told fault.Absent none = absurd (cc)
-file_is_told fault.NoLog none = absurd (cc)
-file_is_told fault.NoLogs none = absurd (cc)
-file_is_told fault.Overlap none = absurd (cc)
-file_is_told fault.Orphan none = absurd (cc)
-file_is_told fault.Full none = absurd (cc)
-file_is_told fault.Address none = absurd (cc)
-file_is_told fault.Apart none = absurd (cc)
-file_is_told fault.Holes none = absurd (cc)
-file_is_told fault.Memory none = absurd (cc)
-file_is_told (fault.Database error) none = absurd (cc)
 
 -- no list that isn't read
 list_is_told : (why : ListFault) → exit_status (ListOf why) ≡ 0 → ⊥

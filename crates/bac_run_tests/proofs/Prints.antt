@@ -8,6 +8,7 @@ use Rattle.sqlite.specs.declared.error.Error.{Error}
 use Rattle.bac_asked.specs.declared.end.NotDone.{NotDone}
 use Rattle.bac_asked.specs.declared.end.NotDone.TheVariants as done
 use Rattle.bac_asked.specs.declared.fault.FileFault.TheVariants as fault
+use Rattle.bac_check.proofs.WholeLemmas.{told as file_is_told}
 use Rattle.bac_files.specs.Files.{FileOf}
 use Rattle.bac_files.specs.Parts.{Listing, PartRules}
 use Rattle.bac_files.specs.declared.disk_files.DiskFiles.{DiskFiles}
@@ -19,7 +20,7 @@ use Rattle.bac_keeper.specs.Parted.{At, ComesTo, PrintsAll, PrintsListed, Prints
 use Rattle.bac_ports.specs.Sockets.{SocketRules}
 use Rattle.bac_print.specs.Output.{Held}
 use Rattle.bac_run.specs.Run.{RunsAll, RunsKept}
-use Rattle.bac_run_tests.proofs.Ended.{both_none, fault_is_told, file_is_told}
+use Rattle.bac_run_tests.proofs.Ended.{both_none, fault_is_told}
 use Rattle.bac_run_tests.specs.Printed.{AreAllPrinted, ArePrinted, IsFolderPrinted, IsLastPrinted, IsPrinted}
 use Rattle.bac_tools.specs.Streams.{Streams, streams}
 use Rattle.bac_wire.specs.Stamp.{CivilTime}

@@ -19,13 +19,13 @@ unmistaken : {A : Type 0} (words : List Text) (e : _) → mistakes_of words ≡ 
 unmistaken words e none among = absurd (subst (λ kinds. IsAmong (kind_of e) kinds) none among)
 
 -- words say one thing
-one_job : (said : Result Job Word) (a b : Job) → said ≡ Ok a → said ≡ Ok b → a ≡ b
+pub one_job : (said : Result Job Word) (a b : Job) → said ≡ Ok a → said ≡ Ok b → a ≡ b
 one_job said a b p q = cc
 
 one_word : (said : Result Job Word) (v w : Word) → said ≡ Err v → said ≡ Err w → v ≡ w
 one_word said v w p q = cc
 
-never_both : {A : Type 0} (said : Result Job Word) (a : Job) (w : Word) → said ≡ Ok a → said ≡ Err w → A
+pub never_both : {A : Type 0} (said : Result Job Word) (a : Job) (w : Word) → said ≡ Ok a → said ≡ Err w → A
 never_both said a w p q = absurd (cc)
 
 -- out of memory may be told in place of any fault

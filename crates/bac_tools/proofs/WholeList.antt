@@ -1,5 +1,5 @@
 -- A list that was read to its end.
-use Rattle.std.proofs.Common.{◌≡◌, ℕ, List, Ok, Err, Result, Vec, Global, subst}
+use Rattle.std.proofs.Common.{ℕ, List, Ok, Err, Result, Vec, Global, subst}
 use Rattle.std.specs.Io.KnownBytes.{IsAtEnd}
 use Rattle.bac_query.specs.Reading.{Held}
 use Rattle.bac_tools.specs.Finding.{IsListIn, IsListWithin, IsTextWithin}

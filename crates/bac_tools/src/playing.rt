@@ -1,6 +1,5 @@
 //! The tool that plays a script.
 
-ghost use Rattle.std.specs.Prelude.{◌≡◌};
 ghost use Rattle.bac_tools.specs.Playing.{Plays};
 
 use crate::fault::Fault;

@@ -3,7 +3,6 @@
 ghost use Rattle.std.specs.Prelude.{◌≡◌, ◌++◌, ◌∷◌, codes, OnOk, IfOk};
 ghost use Rattle.bac_print.specs.Output.{AppendsPart};
 ghost use Rattle.bac_query.specs.Ends.{cause_text, refusal_text};
-ghost use Rattle.bac_heeding.specs.Silence.{silence_text};
 ghost use Rattle.bac_tools.specs.Run.{IsTold, IsToldAfter};
 ghost use Rattle.bac_tools.specs.Texts.{bad_reply, build_text, exchange_text, fault_text};
 ghost use Rattle.bac_tools.specs.Texts.{long_text, lost_text, of_address, open_text, range_text};

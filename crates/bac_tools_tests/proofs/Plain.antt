@@ -1,5 +1,5 @@
 -- What is fetched in lines: nothing stands before them.
-use Rattle.std.proofs.Common.{◌≡◌, ℕ, inl, inr, Err, sym, subst}
+use Rattle.std.proofs.Common.{ℕ, inl, inr, subst}
 use Rattle.bac_ports.specs.Sockets.{SocketRules}
 use Rattle.bac_ports.specs.declared.udp_link.UdpLink.{UdpLink}
 use Rattle.bac_print.specs.Output.{Held}

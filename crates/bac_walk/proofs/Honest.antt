@@ -229,11 +229,11 @@ into_said asks first last puts old new sink left w after steps ended (calls, tak
 
 -- ---- one run, and another from where it ended
 
-some_after : (count : ℕ) (M : List Moment) → 0 < length M → 0 < length (after_answers count M)
+pub some_after : (count : ℕ) (M : List Moment) → 0 < length M → 0 < length (after_answers count M)
 some_after zero M some = some
 some_after (suc count) M some = some_after count (later M) (some_later M some)
 
-back_after : (count : ℕ) (M : List Moment) → NeverGoesBack M → NeverGoesBack (after_answers count M)
+pub back_after : (count : ℕ) (M : List Moment) → NeverGoesBack M → NeverGoesBack (after_answers count M)
 back_after zero M back = back
 back_after (suc count) M back = back_after count (later M) (back_later M back)
 

@@ -29,7 +29,7 @@ use Rattle.bac_walk.proofs.Runs.{Takes-append, put_items-append, gaps-append}
 use Rattle.bac_walk.proofs.Told.{Asking}
 use Rattle.bac_walk.proofs.Joins.{batches-append}
 
-comes_append : {S : Type 0} (asks : Asking S) (xs ys : List Came) (t between last : Transactions) (old mid new : S) (w here after : WalkPlace) →
+pub comes_append : {S : Type 0} (asks : Asking S) (xs ys : List Came) (t between last : Transactions) (old mid new : S) (w here after : WalkPlace) →
     ComesBy asks t old w xs here between mid → ComesBy asks between mid here ys after last new → ComesBy asks t old w (xs ++ ys) after last new
 comes_append {S = S} asks [] ys t between last old mid new w here after first rest =
     let P : WalkPlace → Type 0 = λ v. ComesBy asks between mid v ys after last new in

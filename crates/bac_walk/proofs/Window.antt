@@ -14,7 +14,7 @@ use Rattle.bac_walk.proofs.Came.{some_later, window_later, window_now}
 use Rattle.bac_walk.proofs.Near.{brings_end, windows_near}
 use Rattle.bac_walk.proofs.Standard as standard
 
-after_in : (low count : ℕ) (M : List Moment) → AreInWindow low M → AreInWindow low (after_answers count M)
+pub after_in : (low count : ℕ) (M : List Moment) → AreInWindow low M → AreInWindow low (after_answers count M)
 after_in low zero M are = are
 after_in low (suc count) M are = after_in low count (later M) (window_later low M are)
 

@@ -1,6 +1,6 @@
 //! How many records a question asks for.
 
-ghost use Rattle.std.specs.Prelude.{◌≡◌, ◌↔◌, ◌<◌, ◌≤◌, IfSome, IsSome};
+ghost use Rattle.std.specs.Prelude.{◌≡◌, ◌↔◌, ◌<◌, IfSome, IsSome};
 ghost use Rattle.bac_link.specs.Standard.{IsCount};
 
 use std::marker::Model;

@@ -1,9 +1,8 @@
 -- Addresses and instances that are read one after the other.
-use Rattle.std.proofs.Common.{◌≡◌, ℕ, ◌+◌, ◌<◌, List, [], ◌∷◌, ◌++◌, None, Some, Result, Ok, Err, ◌∙◌, ap, append_assoc, drop, get_or, length, map, refl, sym}
+use Rattle.std.proofs.Common.{◌≡◌, ℕ, ◌+◌, ◌<◌, List, [], ◌∷◌, ◌++◌, Some, Result, Ok, Err, ◌∙◌, ap, append_assoc, drop, get_or, length, map, refl, sym}
 use Rattle.std.proofs.lemmas.List.{at_drop_more}
 use Rattle.clap.specs.Words.{Text}
 use Rattle.bac_words.specs.declared.word.Word.{Word}
-use Rattle.bac_words.specs.declared.word.Word.TheVariants.{Address}
 use Rattle.bac_words.specs.Networks.{stations_of}
 use Rattle.bac_words.specs.Numbers.{number_in}
 use Rattle.bac_words.specs.Rows.{addresses_in, instances_in}
@@ -39,8 +38,3 @@ stations_first text more e rest = rw e refl
 pub instance_first : (text : Text) (instance : ℕ) → number_in 0 4194303 text ≡ Some instance
     → (rest : List Text) → instances_in (text ∷ rest) ≡ (instances_in rest >>= λ items. Ok ((instance ∷ []) ++ items))
 instance_first text instance e rest = rw e refl
-
--- a text says no station
-pub wrong : (done : List (List ℕ)) (text : Text) (texts : List Text) → stations_of text ≡ None
-    → ahead done (addresses_in (text ∷ texts)) ≡ Err Address
-wrong done text texts e = rw e refl

@@ -1,6 +1,6 @@
 //! The jobs of `keep`, `kept` and `check`, from their matches.
 
-ghost use Rattle.std.specs.Prelude.{◌≡◌, ◌++◌, ◌∷◌, List, [], IfOk, OnOk, map, option_map};
+ghost use Rattle.std.specs.Prelude.{◌≡◌, ◌++◌, ◌∷◌, List, [], IfOk, OnOk, map};
 ghost use Rattle.clap.specs.Words.{Text, rows_of, found_of};
 ghost use Rattle.bac_words.specs.Steps.{Makes};
 ghost use Rattle.bac_words.specs.Rows.{text_at, texts_at};

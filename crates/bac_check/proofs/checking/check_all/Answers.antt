@@ -2,7 +2,7 @@ use Rattle.std.proofs.Common.{inl, inr, ◌∙◌, ap, max, subst, rules}
 use Rattle.std.specs.Io.KnownBytes.{Appends}
 use Rattle.bac_print.specs.Output.{AppendsPart, Held}
 use Rattle.bac_check.specs.Checked.{check_text, told_status, unless_whole}
-use Rattle.bac_check.proofs.CheckedLemmas.{because}
+use Rattle.bac_archive.proofs.RowsLemmas.{because}
 use Rattle.bac_check.proofs.checking.check_all.Goals as goal
 
 pub returns-in_err-whole-clause-refused : goal.returns-in_err-whole-clause-refused

@@ -5,7 +5,8 @@ use Rattle.sqlite.specs.State.{HasCleanDisk}
 use Rattle.sqlite.specs.Held.{state}
 use Rattle.bac_archive.specs.Schema.{HasArchive}
 use Rattle.bac_fetch.specs.Ahead.{IsOpeningIf, batches_of}
-use Rattle.bac_fetch.proofs.AheadLemmas.{more_opened, quiet_then}
+use Rattle.bac_begin.proofs.Quiet.{quiet_then}
+use Rattle.bac_fetch.proofs.AheadLemmas.{more_opened}
 use Rattle.bac_fetch.proofs.StaysLemmas.{does_nothing}
 use Rattle.bac_fetch.proofs.ahead.openings_of.Goals as goal
 

@@ -19,7 +19,8 @@ use Rattle.std.specs.List.{Contains}
 use Rattle.bac_fetch.specs.Faults.{HasNoInstance, IsNoInstance}
 use Rattle.bac_fetch.proofs.FaultsLemmas.{ends_so}
 use Rattle.bac_asked.proofs.Results.{because}
-use Rattle.bac_fetch.proofs.TakenLemmas.{has_taken, taken_apart}
+use Rattle.bac_absent.proofs.Taken.{taken_apart}
+use Rattle.bac_fetch.proofs.TakenLemmas.{has_taken}
 use Rattle.bac_archive.specs.Schema.{HasArchive}
 use Rattle.bac_fetch.proofs.grouped.keep_known.Goals as goal
 

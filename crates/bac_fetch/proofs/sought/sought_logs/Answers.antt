@@ -11,7 +11,8 @@ use Rattle.bac_fetch.specs.Unlisted.{unlisted_lines}
 use Rattle.bac_fetch.specs.declared.sought.Sought.{Sought}
 use Rattle.bac_ports.specs.Sockets.{socket_rules}
 use Rattle.bac_fetch.proofs.SoughtLemmas.{add_one, all_ask, ends_at, lines_behind, status_behind}
-use Rattle.bac_fetch.proofs.TakenLemmas.{has_taken, taken_apart}
+use Rattle.bac_absent.proofs.Taken.{taken_apart}
+use Rattle.bac_fetch.proofs.TakenLemmas.{has_taken}
 use Rattle.bac_fetch.proofs.sought.sought_logs.Goals as goal
 
 pub logs_of_device-requires : goal.logs_of_device-requires

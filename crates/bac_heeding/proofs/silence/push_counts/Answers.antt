@@ -1,4 +1,4 @@
-use Rattle.bac_heeding.proofs.Texts.{three}
+use Rattle.bac_print.proofs.Parts.{three}
 use Rattle.bac_heeding.specs.Silence.{counts_text}
 use Rattle.bac_heeding.proofs.silence.push_counts.Goals as goal
 

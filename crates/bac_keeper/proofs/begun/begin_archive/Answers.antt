@@ -5,7 +5,8 @@ use Rattle.sqlite.specs.Effect.{Database}
 use Rattle.sqlite.specs.Held.{Held, state}
 use Rattle.bac_archive.specs.Schema.{no_schema, HasArchive}
 use Rattle.bac_asked.proofs.Results.{because}
-use Rattle.bac_keeper.proofs.BegunLemmas.{all_fail_so, archive_of, bars_made, begins_opened, not_both, on_err_if, on_err_so, on_ok_so}
+use Rattle.bac_archive.proofs.RowsLemmas.{on_err}
+use Rattle.bac_keeper.proofs.BegunLemmas.{all_fail_so, archive_of, bars_made, begins_opened, not_both, on_err_so, on_ok_so}
 use Rattle.bac_keeper.proofs.FileLemmas.{fails_so}
 use Rattle.bac_keeper.specs.Ends.{IsNoArchive}
 use Rattle.bac_keeper.proofs.begun.begin_archive.Goals as goal
@@ -70,6 +71,6 @@ returns-clause-left g c held has =
 pub returns-in_err-begin_part-clause-left : goal.returns-in_err-begin_part-clause-left
 returns-in_err-begin_part-clause-left g c held has =
     elim c.begin_part.ensures.either [
-      | inl same ↦ on_err_if c.from_residual.result _ (ap (λ (h : Held _). (state g.A.Store h).committed) same)
+      | inl same ↦ on_err c.from_residual.result _ (ap (λ (h : Held _). (state g.A.Store h).committed) same)
       | inr none ↦ absurd (not_both (state g.A.Store c.args.conn.now).now.schema none.0 has)
     ]

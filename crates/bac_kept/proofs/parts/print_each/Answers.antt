@@ -1,5 +1,6 @@
-use Rattle.std.proofs.Common.{◌≡◌, List, false, ◌++◌, ap, subst, sym, ◌∙◌, arith, rules}
+use Rattle.std.proofs.Common.{◌≡◌, List, false, ◌++◌, subst, sym, ◌∙◌, arith, rules}
 use Rattle.std.specs.List.{All}
+use Rattle.std.proofs.lemmas.Bool.{or_parts}
 use Rattle.std.proofs.lemmas.List.{take_all}
 use Rattle.std.proofs.lemmas.List.Elements.{All-push}
 use Rattle.std.proofs.KnownBytes.{Appends-trans}
@@ -10,7 +11,7 @@ use Rattle.bac_archive.specs.declared.trend_logs.Log.{Log}
 use Rattle.bac_kept.specs.Parts.{PrintsMoreOf, PrintsPart}
 use Rattle.bac_kept.specs.Printed.{is_chosen}
 use Rattle.bac_kept.proofs.PrintedLemmas.{take_one}
-use Rattle.bac_kept.proofs.PartsLemmas.{log_more, or_none}
+use Rattle.bac_kept.proofs.PartsLemmas.{log_more}
 use Rattle.bac_archive.specs.Schema.{HasArchive}
 use Rattle.bac_kept.proofs.parts.print_each.Goals as goal
 
@@ -34,7 +35,7 @@ loop-log-preserved g c =
             Appends-trans (g.O.Write.contents c.args.output.now) (g.O.Write.contents c.loop-log.output) (g.O.Write.contents c.print_if.new.output) was.1 one.0 was.3 one.2,
           ),
       λ none.
-          let both = or_none c.loop-log.any c.in_ok-was.was' none in
+          let both = or_parts c.loop-log.any c.in_ok-was.was' none in
           subst (λ l. All (λ log. is_chosen c.args.shown.now log ≡ false) l) (sym taken)
           (All-push (λ log. is_chosen c.args.shown.now log ≡ false) _ log (c.loop-log.invariant.2 both.0) (sym it.chosen ∙ both.1)),
     )

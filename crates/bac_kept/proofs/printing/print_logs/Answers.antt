@@ -1,4 +1,4 @@
-use Rattle.std.proofs.Common.{◌≡◌, List, false, ◌++◌, ap, subst, sym, ◌∙◌, arith, rules}
+use Rattle.std.proofs.Common.{◌≡◌, List, false, ◌++◌, subst, sym, ◌∙◌, arith, rules}
 use Rattle.std.specs.List.{All}
 use Rattle.std.proofs.lemmas.List.{take_all}
 use Rattle.std.proofs.lemmas.List.Elements.{All-push}

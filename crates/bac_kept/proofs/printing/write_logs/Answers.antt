@@ -1,4 +1,4 @@
-use Rattle.std.proofs.Common.{◌≡◌, List, false, ◌++◌, ap, subst, sym, append_assoc, ◌∙◌, arith, rules}
+use Rattle.std.proofs.Common.{◌≡◌, List, false, ◌++◌, subst, sym, append_assoc, ◌∙◌, arith, rules}
 use Rattle.std.specs.Io.KnownBytes.{Appends}
 use Rattle.std.specs.List.{All}
 use Rattle.std.proofs.lemmas.List.{take_all}

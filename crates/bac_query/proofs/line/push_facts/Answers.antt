@@ -1,6 +1,6 @@
 use Rattle.std.proofs.Common.{◌++◌, ap, ◌∙◌, codes}
 use Rattle.bac_query.specs.Lines.{facts_text, named}
-use Rattle.bac_query.proofs.Pieces.{three}
+use Rattle.bac_print.proofs.Parts.{three}
 use Rattle.bac_query.proofs.line.push_facts.Goals as goal
 
 pub returns : goal.returns

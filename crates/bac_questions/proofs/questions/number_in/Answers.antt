@@ -1,6 +1,6 @@
 use Rattle.std.proofs.Common.{arith}
 use Rattle.bac_wire.specs.Primitive.{Unsigned}
-use Rattle.bac_questions.proofs.CountLemmas.{same_number, unsigned_value}
+use Rattle.bac_query.proofs.Tables.{same_number, unsigned_value}
 use Rattle.bac_questions.proofs.questions.number_in.Goals as goal
 
 pub returns-in_default-clause-none : goal.returns-in_default-clause-none

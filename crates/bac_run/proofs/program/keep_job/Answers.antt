@@ -1,4 +1,4 @@
-use Rattle.std.proofs.Common.{◌≡◌, ◌∙◌, Bool, false, refl, rules, sym, true}
+use Rattle.std.proofs.Common.{◌≡◌, false, refl, rules, true}
 use Rattle.bac_files.proofs.FileGhosts.{file_ghosts}
 use Rattle.bac_fetch.specs.Ahead.{at_once}
 use Rattle.bac_ports.specs.Sockets.{socket_rules}

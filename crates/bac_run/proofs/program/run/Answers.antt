@@ -5,8 +5,8 @@ use Rattle.bac_keeper.proofs.FileLemmas.{none_closed}
 use Rattle.bac_fetch.specs.Ahead.{at_once}
 use Rattle.bac_files.specs.Parts.{part_rules}
 use Rattle.bac_ports.specs.Sockets.{socket_rules}
-use Rattle.bac_run.proofs.Ran.{job_done, never_both, unread}
-use Rattle.bac_tools.proofs.Told.{explained_of, wrong_of}
+use Rattle.bac_run.proofs.Ran.{job_done, unread}
+use Rattle.bac_tools.proofs.Told.{explained_of, never_both, wrong_of}
 use Rattle.bac_tools.specs.Streams.{streams}
 use Rattle.bac_words.specs.Outcome.{job_in}
 use Rattle.bac_run.proofs.program.run.Goals as goal

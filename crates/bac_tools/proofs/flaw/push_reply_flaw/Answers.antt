@@ -1,6 +1,6 @@
 use Rattle.std.proofs.Common.{codes, decimal, sym, refl, ◌++◌}
 use Rattle.bac_tools.specs.Flaws.{around, in_all, reply_text}
-use Rattle.bac_query.proofs.Pieces.{three}
+use Rattle.bac_print.proofs.Parts.{three}
 use Rattle.bac_tools.proofs.Parts.{grown, two}
 use Rattle.bac_tools.proofs.flaw.push_reply_flaw.Goals as goal
 

@@ -1,7 +1,7 @@
 use Rattle.std.proofs.Common.{◌≡◌, Err, Ok, ap, sym, subst, rules}
+use Rattle.std.proofs.lemmas.Bool.{or_parts}
 use Rattle.sqlite.specs.Held.{state}
 use Rattle.bac_files.specs.Parts.{reading}
-use Rattle.bac_kept.proofs.PartsLemmas.{or_none}
 use Rattle.bac_keeper.proofs.PartedLemmas.{refused_read}
 use Rattle.bac_keeper.specs.Parted.{ReadsBy}
 use Rattle.bac_keeper.proofs.parts.Printer.print.Goals as goal
@@ -30,6 +30,6 @@ returns-clause-read g c = λ clean.
       printed.3,
       printed.4,
       λ none.
-          let both = or_none _ _ none in
+          let both = or_parts _ _ none in
           let un = c.in_ok-any.ensures.none clean has (ap Ok both.1) in (both.0, un.0, un.1, un.2),
     )
