@@ -163,10 +163,13 @@ def killed(runs):
         for device in runs.site.devices:
             for log in device.logs.values():
                 log.log(4)
-        run = runs.ended(words, "call", chance.randrange(runs.calls // 4, runs.calls))
+        when = chance.randrange(runs.calls // 4, runs.calls)
+        run = runs.ended(words, "call", when)
         runs.rows = Rows(rows_of(runs.archive.name))
         if run[0] == KILLED and run[1].count("\n") > 8:
             return run, names, before
+        # One that was killed too early has more calls than were thought, and one that wasn't killed fewer.
+        runs.calls = runs.calls * 3 // 2 if run[0] == KILLED else max(when, 8)
     return None
 
 
