@@ -46,19 +46,19 @@ as_many : (refs : List (Bor Wanted)) → length refs ≡ length (map now_of refs
 as_many [] = refl
 as_many (one ∷ refs) = ap suc (as_many refs)
 
-jobs_seen : (refs : List (Bor Wanted)) → map (λ (one : Bor Wanted). listing_of (questions_of (length refs)) one.now) refs ≡ jobs_of (map now_of refs)
-jobs_seen refs =
-    jobs_each (questions_of (length refs)) refs ∙ ap (λ (n : ℕ). map (listing_of (questions_of n)) (map now_of refs)) (as_many refs)
+jobs_seen : (asked : Asked) (refs : List (Bor Wanted)) → map (λ (one : Bor Wanted). listing_of (questions_of asked.local (length refs)) one.now) refs ≡ jobs_of asked (map now_of refs)
+jobs_seen asked refs =
+    jobs_each (questions_of asked.local (length refs)) refs ∙ ap (λ (n : ℕ). map (listing_of (questions_of asked.local n)) (map now_of refs)) (as_many refs)
 
 pub heard_all : {S P C : Type 0} (rules : SocketRules S P) (clock : Pace C) (asked : Asked) (refs : List (Bor Wanted)) (peers : List (List ℕ))
     (jobs : List Listing) (before after : S) (ends : List (Ending Came)) →
-    peers ≡ map (λ (one : Bor Wanted). one.now.asking.asked.address) refs → jobs ≡ map (λ (one : Bor Wanted). listing_of (questions_of (length refs)) one.now) refs →
+    peers ≡ map (λ (one : Bor Wanted). one.now.asking.asked.address) refs → jobs ≡ map (λ (one : Bor Wanted). listing_of (questions_of asked.local (length refs)) one.now) refs →
     HearsAll rules clock Plays peers jobs asked.local asked.timeout asked.retries before ends after →
     AreHeard rules clock asked (map now_of refs) before ends after
 heard_all rules clock asked refs peers jobs before after ends are these heard =
     let devices = map now_of refs in
-    subst (λ (p : List (List ℕ)). HearsAll rules clock Plays p (jobs_of devices) asked.local asked.timeout asked.retries before ends after) (are ∙ peers_seen refs)
-    (subst (λ (j : List Listing). HearsAll rules clock Plays peers j asked.local asked.timeout asked.retries before ends after) (these ∙ jobs_seen refs) heard)
+    subst (λ (p : List (List ℕ)). HearsAll rules clock Plays p (jobs_of asked devices) asked.local asked.timeout asked.retries before ends after) (are ∙ peers_seen refs)
+    (subst (λ (j : List Listing). HearsAll rules clock Plays peers j asked.local asked.timeout asked.retries before ends after) (these ∙ jobs_seen asked refs) heard)
 
 pub unending : {S P C : Type 0} (rules : SocketRules S P) (clock : Pace C) (asked : Asked) (refs : List (Bor Wanted)) (peers : List (List ℕ))
     (before after : S) → peers ≡ map (λ (one : Bor Wanted). one.now.asking.asked.address) refs →

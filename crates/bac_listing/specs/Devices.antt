@@ -1,6 +1,6 @@
 -- Devices are asked for their Object_Lists beside one another. Read `ListsAhead`.
 use Rattle.std.specs.Prelude.{◌≡◌, ◌⊎◌, ◌&&◌, not, ℕ, ◌/◌, max, min, Bool, true, MatchBool, List, [], ◌∷◌, ◌++◌}
-use Rattle.std.specs.Prelude.{if◌then◌else◌, length, map}
+use Rattle.std.specs.Prelude.{if◌then◌else◌, length, map, Option, is_some}
 use Rattle.std.specs.List.{list_any}
 use Rattle.bac_archive.specs.declared.trend_logs.Source.{Source}
 use Rattle.bac_asked.specs.declared.end.NotDone.{NotDone}
@@ -29,20 +29,21 @@ with_device devices one = if is_among devices one then devices else devices ++ o
 abbrev pub peers_of : List Wanted → List (List ℕ)
 peers_of devices = map (λ (d : Wanted). d.asking.asked.address) devices
 
--- how many questions each of so many devices is asked: 16,384 in all, and 256 at most
-abbrev pub questions_of : ℕ → ℕ
-questions_of devices = min (16384 / max devices 1) 256
+-- How many questions each of so many devices is asked: 16,384 in all, and 256 at most; from an address of our own 128,
+-- since what follows is asked over the same port then (`SeveralGoOn` of bac_onward).
+abbrev pub questions_of : Option (List ℕ) → ℕ → ℕ
+questions_of local devices = min (16384 / max devices 1) (if is_some local then 128 else 256)
 
--- what they are asked
-abbrev pub jobs_of : List Wanted → List Listing
-jobs_of devices = map (listing_of (questions_of (length devices))) devices
+-- what they are asked, as this is said of it
+abbrev pub jobs_of : Asked → List Wanted → List Listing
+jobs_of asked devices = map (listing_of (questions_of asked.local (length devices))) devices
 
 -- These devices were asked beside one another for their trend logs, each by its route, with these waits and retries,
 -- over one socket that was opened as they say, and closed behind it.
 abbrev pub AreHeard : {S P C : Type 0} → SocketRules S P → Pace C → Asked → List Wanted → S →
     List (Ending Came) → S → Type 0
 AreHeard rules pace asked devices before endings after = HearsAll rules pace Plays (peers_of devices)
-    (jobs_of devices) asked.local asked.timeout asked.retries before endings after
+    (jobs_of asked devices) asked.local asked.timeout asked.retries before endings after
 
 -- as many rounds as fit 64 bits weren't enough for that
 abbrev pub Unending : {S P C : Type 0} → SocketRules S P → Pace C → Asked → List Wanted → S → S → Type 0

@@ -64,11 +64,13 @@ fn peers_of(alloc: Global, devices: &[&Wanted]) -> Result<Vec<[u8; 6]>, AllocErr
 /// How many questions each of so many devices is asked. What comes of 16,384 is held in memory, 48
 /// megabytes at most. What came of a device is played over for each of its questions, so that the
 /// work grows with their square: so 256. Few devices have as many objects; of one that does the
-/// rest is asked in its turn.
-fn questions_of(devices: usize) -> usize
-    ensures { result ≡ questions_of devices }
+/// rest is asked in its turn. From an address of our own what follows is asked over the same port,
+/// with the invoke IDs behind these, of which half are left then: so 128.
+fn questions_of(local: Option<[u8; 6]>, devices: usize) -> usize
+    ensures { result ≡ questions_of local devices }
 {
-    (16_384 / devices.max(1)).min(256)
+    let most = if local.is_some() { 128 } else { 256 };
+    (16_384 / devices.max(1)).min(most)
 }
 
 /// What each of them is asked, so many questions at most.
@@ -82,12 +84,12 @@ fn jobs_by(alloc: Global, devices: &[&Wanted], most: usize) -> Result<Vec<Listin
     Ok(jobs)
 }
 
-/// What they are asked.
-fn jobs_of(alloc: Global, devices: &[&Wanted]) -> Result<Vec<Listing>, AllocError>
-    ensures { IfOk result (λ jobs. jobs.items
-        ≡ map (λ one. listing_of (questions_of (length devices.now)) one.now) devices.now) }
+/// What they are asked, as this is said of it.
+fn jobs_of(alloc: Global, asked: &Asked, devices: &[&Wanted]) -> Result<Vec<Listing>, AllocError>
+    ensures { IfOk result (λ jobs. jobs.items ≡ map (λ one.
+        listing_of (questions_of asked.now.local (length devices.now)) one.now) devices.now) }
 {
-    jobs_by(alloc, devices, questions_of(devices.len()))
+    jobs_by(alloc, devices, questions_of(asked.local, devices.len()))
 }
 
 /// Asks these devices beside one another, with the waits and retries of this one: how that ended
@@ -115,7 +117,7 @@ where
     ensures fault { IfErr result (EndsAsking (socket_rules S.opens S.closes S.Socket.sends
         S.Socket.receives S.Socket.receives_within) asked.now sockets.old sockets.new) }
 {
-    let (Ok(peers), Ok(jobs)) = (peers_of(alloc, devices), jobs_of(alloc, devices)) else {
+    let (Ok(peers), Ok(jobs)) = (peers_of(alloc, devices), jobs_of(alloc, asked, devices)) else {
         return Err(NotDone::Asking(Fault::Memory));
     };
     match hear_all(
@@ -165,7 +167,7 @@ where
 /// are two or more: what came to the questions for each, in their order, and of nothing else; and
 /// which of them gave no answer any more, while nothing came in its place either. The questions are
 /// waited for and repeated as the run asks the first of them. A device is asked at most 256
-/// questions, and all of them 16,384.
+/// questions, from an address of our own 128, and all of them 16,384.
 ///
 /// [`discover`]: bac_questions::discover
 pub fn list_ahead<S: Sockets, C: Clock>(

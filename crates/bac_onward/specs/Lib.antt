@@ -1,3 +1,4 @@
 pub mod Ids
 pub mod Onward
+pub mod Several
 pub mod Laws

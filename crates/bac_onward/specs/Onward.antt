@@ -21,8 +21,8 @@ behind last = record { last = last; shift = None }
 abbrev pub shift_of : Ids → ℕ → ℕ
 shift_of ids id = unwrap_or ids.shift ((ids.last + 257 - id) % 256)
 
--- The last of two IDs. Of several devices that are asked over one port some are behind others: what is less than half
--- of all IDs behind isn't the last.
+-- The last of two IDs. Of several devices that are asked over one port some are behind others, by 127 questions at
+-- most: what is half of all IDs ahead or more is behind.
 abbrev pub later : ℕ → ℕ → ℕ
 later last sent = if nat_lt ((sent + 256 - last) % 256) 128 then sent else last
 

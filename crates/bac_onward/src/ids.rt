@@ -104,7 +104,7 @@ pub(crate) fn sent_by(octets: &[u8], id: InvokeId, shift: u8) -> Datagram
 }
 
 /// The last of two invoke IDs. Of several devices that are asked over one port some are behind
-/// others: what is less than half of all IDs behind isn't the last.
+/// others, by 127 questions at most: what is half of all IDs ahead or more is behind.
 fn later(last: u8, sent: u8) -> u8
     ensures { result ≡ later last sent }
 {
@@ -115,7 +115,8 @@ fn later(last: u8, sent: u8) -> u8
     }
 }
 
-/// The invoke IDs of the questions over a port: they go on behind those over the ports before.
+/// The invoke IDs of the questions over a port: they go on behind those over the port that was
+/// closed before.
 #[derive(Clone, Copy, Debug, PartialEq, Eq)]
 pub struct Ids {
     /// That of the last question.

@@ -2,6 +2,7 @@
 
 ghost use Rattle.bac_onward.specs.Laws.{AnswersSayTheSame, AnswersStay, AsksAreBelow};
 ghost use Rattle.bac_onward.specs.Laws.{LateAnswersAreNone, QuestionsGoOn, QuestionsStay};
+ghost use Rattle.bac_onward.specs.Several.{SeveralGoOn};
 
 use crate::ports::OnwardPort;
 use bac_ports::Port;
@@ -26,6 +27,13 @@ pub fn answers_stay()
 /// question before the port was opened.
 pub fn questions_go_on()
     ensures { QuestionsGoOn }
+{}
+
+/// Several devices are asked over one port, beside one another: each of their questions is sent
+/// with the ID that is its number among those to its device behind the last one before the port was
+/// opened, and the next port goes on behind the device that was asked most.
+pub fn several_go_on()
+    ensures { SeveralGoOn }
 {}
 
 /// An answer to a question that was asked before a port was opened, which comes late or once more,

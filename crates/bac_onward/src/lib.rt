@@ -17,7 +17,7 @@ mod sockets;
 pub use ids::{Ids, InvokeId};
 pub use laws::{
     answers_say_the_same, answers_stay, asks_are_below, late_answers_are_none, questions_go_on,
-    questions_stay,
+    questions_stay, several_go_on,
 };
 pub use ports::OnwardPort;
 pub use sockets::Onward;

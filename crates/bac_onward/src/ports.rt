@@ -39,7 +39,8 @@ impl<P> OnwardPort<P> {
 }
 
 impl<P: Port> Port for OnwardPort<P> {
-    // A question has the ID behind that of the last one, whatever port it was sent over.
+    // The first question has the ID behind the last one over the port that was closed before, and
+    // the others are as far behind it as they were.
     ghost sends = { λ old octets to sent new. SendsOnward P.sends old octets to sent new };
 
     // An answer has the ID of what was asked.
