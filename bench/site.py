@@ -1,6 +1,6 @@
 #!/usr/bin/env python3
-"""site.py PROGRAM ROOM DEVICES LOGS RECORDS DELAY: how long `PROGRAM keep` takes over a site whose devices answer after
-DELAY milliseconds, with up to 45 records, for site.sh."""
+"""site.py PROGRAM ROOM DEVICES LOGS RECORDS DELAY OBJECTS: how long `PROGRAM keep` takes over a site whose devices answer
+after DELAY milliseconds, with up to 45 records, and have OBJECTS other objects beside their logs, for site.sh."""
 import heapq
 import os
 import resource
@@ -11,9 +11,16 @@ import threading
 import time
 
 program, room = sys.argv[1:3]
-devices, logs, records, delay = map(int, sys.argv[3:7])
+devices, logs, records, delay, objects = map(int, sys.argv[3:8])
 sys.path.insert(0, os.path.join(os.path.dirname(os.path.abspath(__file__)), "..", "examples", "check"))
-from kept_devices import Device, Log, answering  # noqa: E402
+from kept_devices import Device, Log, answering, application  # noqa: E402
+
+
+class Full(Device):
+    """It has Analog Values beside its logs."""
+
+    def objects(self):
+        return super().objects() + [application(12, (2 << 22 | number).to_bytes(4, "big")) for number in range(objects)]
 
 
 class Late:
@@ -59,7 +66,7 @@ def ran(name, *words, lines=None):
 
 
 def main():
-    site = [Device([Log(number, 1000) for number in range(1, logs + 1)], f"device {at}") for at in range(devices)]
+    site = [Full([Log(number, 1000) for number in range(1, logs + 1)], f"device {at}") for at in range(devices)]
     for device in site:
         device.fits = (45,)
     threading.Thread(target=answer_late, args=([device.socket for device in site],), daemon=True).start()
@@ -77,6 +84,10 @@ def main():
         for log in device.logs.values():
             log.log(8)
     ran("8 new a log", file)
+    for told, is_whole in (("whole", True), ("place by place", False)) if objects else ():
+        for device in site:
+            device.is_whole = is_whole
+        ran(f"a first run by Object_Lists, told {told}", f"{room}/{is_whole}.db", *[device.address for device in site])
     for device in site[:: 10]:
         device.answers = 0
     ran("nothing new, a tenth silent", file, "--timeout=1000", "--retries=1")

@@ -105,6 +105,24 @@ class Patient(Counted, Slow):
     """Each answer goes out some time after its question came."""
 
 
+class Holding(Counted):
+    """One answer goes out some time after its question came: that to so many questions. All devices tell the IDs to one list."""
+
+    def __init__(self, logs, name, at, after, all_ids):
+        super().__init__(logs, name)
+        self.at, self.after, self.all_ids = at, after, all_ids
+
+    def ack(self, apdu):
+        self.all_ids.append((self.name, apdu[2]))
+        return super().ack(apdu)
+
+    def answer(self, port, request, asker):
+        if len(self.ids) + 1 == self.at:
+            threading.Timer(self.after, super().answer, (port, request, asker)).start()
+        else:
+            super().answer(port, request, asker)
+
+
 def come_again(ids, others):
     """The IDs that come again behind no more than so many others."""
     return [one for at, one in enumerate(ids) if one in ids[max(0, at - others) : at]]
@@ -153,6 +171,25 @@ def ids_go_on(judge, _runs):
             judge.same(f"{name}: IDs that come again", [come_again(device.ids, 127) for device in site], [[], []])
             words = []
         judge.judge(name, file, site, True)
+
+
+def ids_go_on_behind_the_longest(judge, _runs):
+    """Three lists are asked for over one port. While one is asked for to its end, the others wait for an answer each, and
+    go on behind that: so the last questions over the port aren't those with the last IDs. What is asked next has the IDs
+    behind the last ones all the same, and no device has an ID again before 128 others are asked."""
+    ids = []
+    site = [Holding([Log(number, 50) for number in range(1, many + 1)], f"list {many}", at, after, ids)
+            for many, at, after in ((100, 0, 0), (30, 59, 1), (75, 120, 1.4))]
+    serve(site)
+    file, words = f"{judge.room}/three.db", [device.address for device in site]
+    for news in ([3] * 100, [0] * 100):
+        lines = new_records(site, news)
+        ours = f"--local=127.77.6.10:{20000 + chance.randrange(9000)}"
+        judge.same("three lists", judge.ran(["keep", file, ours, *words]), (0, lines, ""))
+        judge.same("three lists: IDs that come again", come_again(ids, 127), [])
+        ids.clear()
+        words = []
+    judge.judge("three lists", file, site, True)
 
 
 def each_option(judge, _runs):
@@ -216,8 +253,8 @@ def at_once(judge, _runs):
     judge.same("it is back", judge.ran(["keep", file])[:2], (0, lines_of(site, 0)))
 
 
-class Listed(Slow):
-    """`lists` has when it told each place of its Object_List that it was asked for."""
+class Noting(Device):
+    """`lists` has when it was asked for its Object_List, or for a place of it."""
 
     def __init__(self, logs, name):
         super().__init__(logs, name)
@@ -230,6 +267,10 @@ class Listed(Slow):
         return ack
 
 
+class Listed(Noting, Slow):
+    """Each answer goes out some time after its question came."""
+
+
 def rows_by(file):
     """What an archive has of logs and of their records, but when it was written."""
     return (in_file(file, "SELECT address, instance, name FROM logs ORDER BY id"),
@@ -239,6 +280,8 @@ def rows_by(file):
 def lists_at_once(judge, _runs):
     """Devices are asked beside one another for their Object_Lists, each place once; what is told and kept is as where they are asked alone."""
     site = [Listed([Log(1, 50), Log(2, 50)], f"listed{n}") for n in range(8)]
+    for device in site[:4]:
+        device.is_whole = True
     serve(site)
     for device in site:
         for log in device.logs.values():
@@ -256,12 +299,12 @@ def lists_at_once(judge, _runs):
         told = run(file)
         took = time.monotonic() - start
         judge.same(f"{name}: what is told", told, (0, lines_of(site, 4), ""))
-        judge.same(f"{name}: each place is asked for once", [len(device.lists) for device in site], [5] * 8)
-        # Each has told its first place before one has told its last.
+        judge.same(f"{name}: the list is asked for once, or each place", [len(device.lists) for device in site], [2] * 4 + [6] * 4)
+        # Each has told how long its list is before one has told its last.
         first, last = max(device.lists[0] for device in site), min(device.lists[-1] for device in site)
         judge.is_right(f"{name}: beside one another", first < last, (first, last))
-        # One after the other their lists alone take 5.6 seconds.
-        judge.is_right(f"{name}: in the time of few", took < 5.6, took)
+        # One after the other their lists and names alone take 4.8 seconds.
+        judge.is_right(f"{name}: in the time of few", took < 4.8, took)
         judge.judge(name, file, site, True)
         judge.same(f"{name}: as alone", rows_by(file), rows_by(alone))
     # One that gives no answer, or none any more, is waited for beside the others, and not once more.
@@ -273,6 +316,51 @@ def lists_at_once(judge, _runs):
         judge.same(f"silent behind {answers}: how often it is asked", site[5].asked - asked, answers + 2)
         judge.is_right(f"silent behind {answers}: in the time of few", took < 6, took)
     site[5].answers = None
+
+
+class Whole(Noting):
+    """It tells its list whole, and `another` makes another answer of that; None is no answer."""
+
+    def __init__(self, logs, name, another):
+        super().__init__(logs, name)
+        self.is_whole, self.another = True, another
+
+    def whole_ack(self, head):
+        return self.another(super().whole_ack(head))
+
+
+# What comes in place of the whole list, which has five octets for each object.
+NOT_WHOLE = (
+    ("an object is left out", lambda ack: ack[:-6] + ack[-1:]),
+    ("an object stands twice", lambda ack: ack[:-1] + ack[-6:]),
+    ("a number among the objects", lambda ack: ack[:-6] + b"\x24" + ack[-5:]),
+    ("no object", lambda ack: ack[: ack.index(b"\x3e") + 1] + ack[-1:]),
+    ("another service", lambda ack: ack[:2] + bytes([26]) + ack[3:]),
+    ("an Error", lambda ack: bytes([0x50, ack[1], ack[2], 0x91, 2, 0x91, 27])),
+    ("a Reject", lambda ack: bytes([0x60, ack[1], 4])),
+    ("nothing", lambda ack: None),
+)
+
+
+def whole_lists(judge, _runs):
+    """A list takes two questions, how many objects it has and which they are. Where these aren't told at once, all of them, it is
+    asked for place by place, and no log is left out."""
+    for name, another in (("whole", lambda ack: ack), *NOT_WHOLE):
+        site = [Whole([Log(number, 50) for number in range(1, 9)], f"{name} {n}", another) for n in range(2)]
+        serve(site)
+        for device in site:
+            for log in device.logs.values():
+                log.log(3)
+        quick = ("--timeout=400", "--retries=0")
+        asked = 2 if name == "whole" else 2 + 10
+        judge.same(f"{name}: alone", judge.ran(["keep", f"{judge.room}/{name} alone.db", site[0].address, *quick]), (0, lines_of(site[:1], 3), ""))
+        judge.same(f"{name}: how often its list is asked for", len(site[0].lists), asked)
+        site[0].lists = []
+        file = f"{judge.room}/{name}.db"
+        judge.same(f"{name}: beside another", judge.ran(["keep", file, *[device.address for device in site], *quick]), (0, lines_of(site, 3), ""))
+        if name != "nothing":
+            judge.same(f"{name}: how often both are", [len(device.lists) for device in site], [asked] * 2)
+        judge.judge(name, file, site, True)
 
 
 def another_answer(ack):

@@ -15,7 +15,7 @@ import time
 
 from checked import checked, checked_parts
 from kept_apart import dead_at_once, dead_devices, last_epoch
-from kept_at_once import at_once, each_option, ids_go_on, lists_at_once, own_address, own_address_echoes, silent_lists
+from kept_at_once import at_once, each_option, ids_go_on, ids_go_on_behind_the_longest, lists_at_once, own_address, own_address_echoes, silent_lists, whole_lists
 from kept_beside import objects_beside
 from kept_clocks import clocks, either_line, questions
 from kept_devices import Device, Log, chance, lock, serve, wait_until_asked
@@ -687,7 +687,7 @@ def judgements(judge, _runs):
     judge.is_right("a broken page is seen", wrongs(broken, [device], True))
 
 
-CASES = [judgements, run_after_run, beginnings, options, losses, line_by_line, step_limits, last_epoch, dead_devices, dead_at_once, at_once, own_address, own_address_echoes, ids_go_on, each_option, window, lists_at_once, silent_lists, other_devices, asked_at_once, words_and_names, no_archive, barred, far_away, rounds, restarts, clocks, questions, cut_files, foreign_files, objects_beside, a_large_file, printed, taken_over, served,
+CASES = [judgements, run_after_run, beginnings, options, losses, line_by_line, step_limits, last_epoch, dead_devices, dead_at_once, at_once, own_address, own_address_echoes, ids_go_on, ids_go_on_behind_the_longest, each_option, window, lists_at_once, whole_lists, silent_lists, other_devices, asked_at_once, words_and_names, no_archive, barred, far_away, rounds, restarts, clocks, questions, cut_files, foreign_files, objects_beside, a_large_file, printed, taken_over, served,
          stopped, terminals, warehouses, names, own_words, own_rule, own_lives, first_answers, renewed, moved, moved_ways, two_of_one, told_later,
          moved_at_each_call, moved_at_random, emptied, never_begun, told_at_once, said_more, several, unlisted, listed, told_beside, told_among_others, parts, parts_refused, parts_ended,
          file_limits, part_limits, folders, folders_damaged, checked, checked_parts, groups, holes, holes_in_parts]

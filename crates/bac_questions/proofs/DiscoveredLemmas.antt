@@ -14,7 +14,7 @@ use Rattle.bac_words.specs.declared.job.Asked.{Asked}
 use Rattle.bac_asked.specs.declared.end.NotDone.{NotDone}
 use Rattle.bac_asked.specs.declared.log_words.Asking.{Asking}
 use Rattle.bac_asked.specs.declared.wanted.Wanted.{Wanted}
-use Rattle.bac_questions.specs.Discovered.{AddsObject, Finds, FindsOver, FindsTo, Reads, ReadsNumber, ReadsObject, list_at}
+use Rattle.bac_questions.specs.Discovered.{AddsObject, Finds, FindsAmong, FindsOf, FindsOver, FindsTo, IsObject, Reads, ReadsNumber, ReadsObject, list_at, octets_at}
 use Rattle.bac_ports.specs.Sockets.{SocketRules, link_over, own_address, socket_asks}
 
 -- however an exchange ended, the transactions that follow have the retries and the way of those before
@@ -52,17 +52,28 @@ next_place {S = S} asks p q r m n o itself object place before after link mid to
     let reads₄ = subst (λ x. ReadsObject (Reads asks (towards p) m) (list_at x) mid object told) (sym one) reads₃ in
     subst (λ x. FindsTo (Reads asks (towards p) m) x link after new) one (before, mid, found, (object, told, reads₄, adds₄))
 
+-- one of a list that was told whole more
+pub next_among : {S : Type 0} (asks : S → List ℕ → Result (List ℕ) Loss → S → Type 0) (p q : Option Place) (m n : ℕ)
+    (object : Id) (values : List ℕ) (place : ℕ) (before after : List Wanted) (link mid new : S)
+    → q ≡ p → n ≡ m → FindsAmong (Reads asks (towards p) m) values place link before mid → IsObject object (octets_at place values)
+    → AddsObject (Reads asks (towards q) n) object mid before after new
+    → FindsAmong (Reads asks (towards p) m) values (place + 1) link after new
+next_among asks p q m n object values place before after link mid new qp nm found is adds =
+    let adds₁ = subst (λ x. AddsObject (Reads asks (towards x) n) object mid before after new) qp adds in
+    let adds₂ = subst (λ x. AddsObject (Reads asks (towards p) x) object mid before after new) nm adds₁ in
+    subst (λ x. FindsAmong (Reads asks (towards p) m) values x link after new) (sym (add-one place)) (before, mid, found, object, is, adds₂)
+
 -- all of them
 pub finds_all : {S : Type 0} (asks : S → List ℕ → Result (List ℕ) Loss → S → Type 0) (p q : Option Place) (n o : ℕ)
     (itself : Id) (count : ℕ) (link mid left : S) (found : Result (Vec Wanted Global) NotDone)
     → q ≡ p → o ≡ n → itself ≡ record { kind = 8; instance = 4194303 }
     → ReadsNumber (Reads asks (towards p) n) (record { object = itself; property = 76; index = Some 0 }) link count mid
-    → IfOk found (λ all. FindsTo (Reads asks (towards q) o) count mid all.items left)
+    → IfOk found (λ all. FindsOf (Reads asks (towards q) o) count mid all.items left)
     → IfOk found (λ all. Finds (Reads asks (towards p) n) link all.items left)
 finds_all asks p q n o itself count link mid left (Err fault) qp on is reads finds = tt
 finds_all asks p q n o itself count link mid left (Ok all) qp on is reads finds =
-    let finds₁ = subst (λ x. FindsTo (Reads asks (towards x) o) count mid all.items left) qp finds in
-    let finds₂ = subst (λ x. FindsTo (Reads asks (towards p) x) count mid all.items left) on finds₁ in
+    let finds₁ = subst (λ x. FindsOf (Reads asks (towards x) o) count mid all.items left) qp finds in
+    let finds₂ = subst (λ x. FindsOf (Reads asks (towards p) x) count mid all.items left) on finds₁ in
     (count, mid, subst (λ i. ReadsNumber (Reads asks (towards p) n) (record { object = i; property = 76; index = Some 0 }) link count mid) is reads, finds₂)
 
 -- the same over a socket that was opened as words ask that ask so, and closed behind it

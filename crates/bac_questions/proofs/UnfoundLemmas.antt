@@ -1,5 +1,5 @@
 -- Why the logs of a device aren't found.
-use Rattle.std.proofs.Common.{◌≡◌, ◌⊎◌, ◌+◌, ◌<◌, inl, inr, ℕ, suc, List, Option, Some, Result, Ok, Err, IfErr, subst, sym, ap, ◌∙◌, add-one}
+use Rattle.std.proofs.Common.{◌≡◌, ◌⊎◌, ◌+◌, ◌<◌, inl, inr, ℕ, suc, List, Option, Some, None, Result, Ok, Err, IfErr, IfOk, subst, sym, ap, ◌∙◌, add-one}
 use Rattle.bac_apdu.specs.Npdu.{Place}
 use Rattle.bac_asked.specs.Faults.{WantsMemory}
 use Rattle.bac_asked.specs.declared.end.NotDone.{NotDone}
@@ -7,9 +7,9 @@ use Rattle.bac_asked.specs.declared.end.NotDone.TheVariants as done
 use Rattle.bac_asked.specs.declared.fault.Fault.TheVariants.{Exchange}
 use Rattle.bac_asked.specs.declared.log_words.Asking.{Asking}
 use Rattle.bac_asked.specs.declared.wanted.Wanted.{Wanted}
-use Rattle.bac_questions.specs.Discovered.{FindsTo, Reads, ReadsNumber, list_at}
+use Rattle.bac_questions.specs.Discovered.{FindsTo, Reads, ReadsNumber, TellsObjects, list_at}
 use Rattle.bac_questions.specs.Faults.{EndsFinding}
-use Rattle.bac_questions.specs.Unfound.{FailsToFind, LacksNumber, LacksObject, LacksPlace}
+use Rattle.bac_questions.specs.Unfound.{FailsToFind, LacksNumber, LacksObject, LacksOf, LacksPlace}
 use Rattle.bac_link.specs.Path.{towards}
 use Rattle.bac_link.specs.declared.exchanges.ExchangeFault.{ExchangeFault}
 use Rattle.bac_link.specs.declared.link.Lost.{Lost as Loss}
@@ -44,15 +44,30 @@ length_lacks asks p n itself link new why is lacks = inl (subst (λ i. LacksNumb
 pub list_lacks : {S T : Type 0} (asks : S → List ℕ → Result (List ℕ) Loss → S → Type 0) (p q : Option Place) (n o : ℕ) (itself : Id) (count : ℕ) (link mid left : S)
     (a b : List ℕ) (found : Result T NotDone) → q ≡ p → o ≡ n → b ≡ a → itself ≡ record { kind = 8; instance = 4194303 }
     → ReadsNumber (Reads asks (towards p) n) (record { object = itself; property = 76; index = Some 0 }) link count mid
-    → IfErr found (FailsAt b (λ why. LacksPlace (Reads asks (towards q) o) count mid why left))
+    → IfErr found (FailsAt b (λ why. LacksOf (Reads asks (towards q) o) count mid why left))
     → IfErr found (FailsAt a (λ why. FailsToFind (Reads asks (towards p) n) link why left))
 list_lacks asks p q n o itself count link mid left a b (Ok v) qp on at is reads lacks = tt
 list_lacks asks p q n o itself count link mid left a b (Err e) qp on at is reads (inl memory) = inl memory
 list_lacks asks p q n o itself count link mid left a b (Err e) qp on at is reads (inr (why, same, lacks)) =
-    let lacks₁ = subst (λ x. LacksPlace (Reads asks (towards x) o) count mid why left) qp lacks in
-    let lacks₂ = subst (λ x. LacksPlace (Reads asks (towards p) x) count mid why left) on lacks₁ in
+    let lacks₁ = subst (λ x. LacksOf (Reads asks (towards x) o) count mid why left) qp lacks in
+    let lacks₂ = subst (λ x. LacksOf (Reads asks (towards p) x) count mid why left) on lacks₁ in
     let reads₁ = subst (λ i. ReadsNumber (Reads asks (towards p) n) (record { object = i; property = 76; index = Some 0 }) link count mid) is reads in
     inr (why, same ∙ ap (λ x. done.Asking (Exchange x why)) at, inr (count, mid, reads₁, lacks₂))
+
+-- no object at some place, where the whole list wasn't told
+pub whole_lacks : {S T : Type 0} (asks : S → List ℕ → Result (List ℕ) Loss → S → Type 0) (p q : Option Place) (n o : ℕ) (itself : Id) (count : ℕ) (link told left : S)
+    (a b : List ℕ) (answer : Result (List ℕ) ExchangeFault) (found : Result T NotDone) → q ≡ p → o ≡ n → b ≡ a → itself ≡ record { kind = 8; instance = 4194303 }
+    → Reads asks (towards p) n (record { object = itself; property = 76; index = None }) link answer told
+    → IfOk answer (λ datagram. (values : List ℕ) → TellsObjects datagram count values → ⊥)
+    → IfErr found (FailsAt b (λ why. LacksPlace (Reads asks (towards q) o) count told why left))
+    → IfErr found (FailsAt a (λ why. LacksOf (Reads asks (towards p) n) count link why left))
+whole_lacks asks p q n o itself count link told left a b answer (Ok v) qp on at is reads none lacks = tt
+whole_lacks asks p q n o itself count link told left a b answer (Err e) qp on at is reads none (inl memory) = inl memory
+whole_lacks asks p q n o itself count link told left a b answer (Err e) qp on at is reads none (inr (why, same, lacks)) =
+    let lacks₁ = subst (λ x. LacksPlace (Reads asks (towards x) o) count told why left) qp lacks in
+    let lacks₂ = subst (λ x. LacksPlace (Reads asks (towards p) x) count told why left) on lacks₁ in
+    let reads₁ = subst (λ i. Reads asks (towards p) n (record { object = i; property = 76; index = None }) link answer told) is reads in
+    inr (why, same ∙ ap (λ x. done.Asking (Exchange x why)) at, (told, (answer, reads₁, none), lacks₂))
 
 -- the same over a socket that was opened as words ask that ask so, and closed behind it
 pub finds_none_over : {S P T : Type 0} (rules : SocketRules S P) (asking : Asking) (asked : Asked) (before middle after : S) (port last : P)

@@ -1,5 +1,5 @@
 -- What an ACK tells of a device, and the question for that over a socket.
-use Rattle.std.proofs.Common.{◌≡◌, ℕ, zero, suc, ◌<◌, ◌≤◌, ◌+◌, ◌++◌, ◌∷◌, [], true, None, inl, inr, take, drop, length, get_or, List, Option, Some, Result, Ok, Err, IfOk, ap, sym, subst, ◌∙◌, arith}
+use Rattle.std.proofs.Common.{◌≡◌, ℕ, zero, suc, ◌<◌, ◌≤◌, ◌+◌, ◌++◌, ◌∷◌, [], true, None, inl, inr, take, drop, length, get_or, List, Option, Result, Ok, Err, IfOk, ap, sym, subst, ◌∙◌, arith}
 use Rattle.std.specs.List.{Contains, slice_range}
 use Rattle.std.proofs.lemmas.List.{take-append-drop, take_more, take_all}
 use Rattle.std.proofs.lemmas.List.Elements.{Contains-append_cases, Contains-append_left, Contains-append_right}
@@ -17,9 +17,6 @@ use Rattle.bac_ports.specs.Sockets.{SocketRules, link_over, own_address, socket_
 use Rattle.bac_questions.specs.Said.{Identifies, Says}
 use Rattle.bac_questions.specs.Whose.{IsOnRecord}
 use Rattle.bac_questions.specs.declared.said.Said.{Said}
-
-pub same_octets : (a b : List ℕ) → Some a ≡ Some b → a ≡ b
-same_octets a b h = cc
 
 -- what a device says over a socket that was opened as words ask that ask so, and closed behind it
 pub identifies_over : {S P : Type 0} (rules : SocketRules S P) (asking : Asking) (asked : Asked) (before middle after : S) (port last : P)

@@ -1,6 +1,6 @@
--- The trend logs that a device tells of, place by place of its Object_List.
-use Rattle.std.specs.Prelude.{◌≡◌, ◌≢◌, ◌⊎◌, ◌<◌, ◌+◌, ◌*◌, ℕ, zero, suc, List, [], ◌∷◌, ◌++◌, length, Option}
-use Rattle.std.specs.Prelude.{Some, None, Result, Ok, Err, String}
+-- The trend logs that a device tells of: those of its Object_List, told at once, or place by place.
+use Rattle.std.specs.Prelude.{◌≡◌, ◌≢◌, ◌⊎◌, ◌<◌, ◌+◌, ◌*◌, ℕ, zero, suc, List, [], ◌∷◌, ◌++◌, length, take, drop}
+use Rattle.std.specs.Prelude.{Option, Some, None, Result, Ok, Err, IfOk, String}
 use Rattle.std.specs.Int.{w32, from_be_bytes}
 use Rattle.bac_apdu.specs.declared.service.read_property.ReadProperty.{ReadProperty}
 use Rattle.bac_link.specs.declared.exchanges.ExchangeFault.{ExchangeFault}
@@ -35,6 +35,19 @@ IsObject object values =
 abbrev pub TellsObject : List ℕ → Id → Type 0
 TellsObject datagram object = (values : List ℕ) × (values_in (apdu_in datagram) ≡ Some values) × IsObject object values
 
+-- the octets at a place, from 0 on, of octets that have five for each
+abbrev pub octets_at : ℕ → List ℕ → List ℕ
+octets_at place values = take 5 (drop (5 * place) values)
+
+-- octets are so many object identifiers, one behind the other
+abbrev pub AreObjects : ℕ → List ℕ → Type 0
+AreObjects count values = (length values ≡ 5 * count)
+    × ((place : ℕ) → place < count → (object : Id) × IsObject object (octets_at place values))
+
+-- the values of an ACK are so many object identifiers: these octets
+abbrev pub TellsObjects : List ℕ → ℕ → List ℕ → Type 0
+TellsObjects datagram count values = (values_in (apdu_in datagram) ≡ Some values) × AreObjects count values
+
 -- the values of an ACK are this one value
 abbrev pub Tells : List ℕ → Primitive → Type 0
 Tells datagram value = (values : List ℕ) × (values_in (apdu_in datagram) ≡ Some values) × Spells values value
@@ -67,6 +80,10 @@ ReadsName reads asked old name new =
 abbrev pub list_at : ℕ → ReadProperty
 list_at place = record { object = record { kind = 8; instance = 4194303 }; property = 76; index = Some place }
 
+-- the whole Object_List
+abbrev pub whole_list : ReadProperty
+whole_list = record { object = record { kind = 8; instance = 4194303 }; property = 76; index = None }
+
 -- the Object_Name (77) of an object
 abbrev pub name_of : Id → ReadProperty
 name_of object = record { object = object; property = 77; index = None }
@@ -94,11 +111,38 @@ FindsTo {S = S} reads (suc place) old found new =
     (before : List Wanted) × (mid : S) × FindsTo reads place old before mid
     × AddsPlace reads (suc place) mid before found new
 
--- the logs at all places, of which the device told how many there are
+-- the logs among the first object identifiers of these octets, in their order
+abbrev pub FindsAmong : {S : Type 0} → (ReadProperty → S → Result (List ℕ) ExchangeFault → S → Type 0) → List ℕ → ℕ → S
+    → List Wanted → S → Type 0
+FindsAmong reads values zero old found new = (found ≡ []) × (new ≡ old)
+FindsAmong {S = S} reads values (suc place) old found new =
+    (before : List Wanted) × (mid : S) × FindsAmong reads values place old before mid
+    × (object : Id) × IsObject object (octets_at place values) × AddsObject reads object mid before found new
+
+-- the device told its whole list in one answer, as many objects as it has; and the logs among them
+abbrev pub FindsWhole : {S : Type 0} → (ReadProperty → S → Result (List ℕ) ExchangeFault → S → Type 0) → ℕ → S
+    → List Wanted → S → Type 0
+FindsWhole {S = S} reads count old found new =
+    (answer : List ℕ) × (values : List ℕ) × (told : S) × reads whole_list old (Ok answer) told
+    × TellsObjects answer count values × FindsAmong reads values count told found new
+
+-- it was asked for that, and told something else, or nothing
+abbrev pub LacksWhole : {S : Type 0} → (ReadProperty → S → Result (List ℕ) ExchangeFault → S → Type 0) → ℕ → S → S
+    → Type 0
+LacksWhole reads count old new = (answer : Result (List ℕ) ExchangeFault) × reads whole_list old answer new
+    × IfOk answer (λ datagram. (values : List ℕ) → TellsObjects datagram count values → ⊥)
+
+-- the logs of so many objects: as the whole list tells them; or where that isn't told, those at all places
+abbrev pub FindsOf : {S : Type 0} → (ReadProperty → S → Result (List ℕ) ExchangeFault → S → Type 0) → ℕ → S
+    → List Wanted → S → Type 0
+FindsOf {S = S} reads count old found new = FindsWhole reads count old found new
+    ⊎ ((mid : S) × LacksWhole reads count old mid × FindsTo reads count mid found new)
+
+-- the logs of a device, which told how many objects it has
 abbrev pub Finds : {S : Type 0} → (ReadProperty → S → Result (List ℕ) ExchangeFault → S → Type 0) → S → List Wanted → S
     → Type 0
 Finds {S = S} reads old found new =
-    (count : ℕ) × (mid : S) × ReadsNumber reads (list_at 0) old count mid × FindsTo reads count mid found new
+    (count : ℕ) × (mid : S) × ReadsNumber reads (list_at 0) old count mid × FindsOf reads count mid found new
 
 -- those of the device that is asked, over a socket that was opened as asked, and closed as the last question left it
 abbrev pub FindsOver : {S P : Type 0} → SocketRules S P → Asking → S → List Wanted → S → Type 0

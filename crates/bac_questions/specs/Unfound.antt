@@ -8,7 +8,7 @@ use Rattle.bac_wire.specs.Primitive.{Id}
 use Rattle.bac_wire.specs.Primitive as primitive
 use Rattle.bac_asked.specs.declared.log_words.Asking.{Asking}
 use Rattle.bac_asked.specs.declared.wanted.Wanted.{Wanted}
-use Rattle.bac_questions.specs.Discovered.{FindsTo, Reads, ReadsNumber, Tells, TellsObject, list_at}
+use Rattle.bac_questions.specs.Discovered.{FindsTo, LacksWhole, Reads, ReadsNumber, Tells, TellsObject, list_at}
 use Rattle.bac_ports.specs.Sockets.{SocketRules, UsesSocket, link_over, own_address, socket_asks}
 use Rattle.bac_ports.specs.declared.udp_link.UdpLink.{UdpLink}
 
@@ -33,11 +33,17 @@ LacksPlace {S = S} reads count old fault new =
     (place : ℕ) × (place < count) × (found : List Wanted) × (mid : S) × FindsTo reads place old found mid
     × LacksObject reads (list_at (suc place)) mid fault new
 
--- the device didn't tell how many objects it has, or not the one at some place
+-- of so many objects the whole list wasn't told, nor then the one at some place
+abbrev pub LacksOf : {S : Type 0} → (ReadProperty → S → Result (List ℕ) ExchangeFault → S → Type 0) → ℕ →
+    S → ExchangeFault → S → Type 0
+LacksOf {S = S} reads count old fault new =
+    (mid : S) × LacksWhole reads count old mid × LacksPlace reads count mid fault new
+
+-- the device didn't tell how many objects it has, or neither its whole list nor the object at some place
 abbrev pub FailsToFind : {S : Type 0} → (ReadProperty → S → Result (List ℕ) ExchangeFault → S → Type 0) →
     S → ExchangeFault → S → Type 0
 FailsToFind {S = S} reads old fault new = LacksNumber reads (list_at 0) old fault new
-    ⊎ ((count : ℕ) × (mid : S) × ReadsNumber reads (list_at 0) old count mid × LacksPlace reads count mid fault new)
+    ⊎ ((count : ℕ) × (mid : S) × ReadsNumber reads (list_at 0) old count mid × LacksOf reads count mid fault new)
 
 -- so it is over a socket that was opened as asked, and closed as the last question left it
 abbrev pub FailsOver : {S P : Type 0} → SocketRules S P → Asking → S → ExchangeFault → S → Type 0

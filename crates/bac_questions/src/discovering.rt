@@ -1,22 +1,25 @@
-//! The trend logs in a device's Object_List.
+//! The trend logs in a device's Object_List, which is asked for at once, and place by place where
+//! its answer wouldn't fit a datagram.
 
-ghost use Rattle.std.specs.Prelude.{◌≡◌, ◌<◌, ◌⊎◌, true, Some, IfErr, IfNone, IfOk, IfSome};
-ghost use Rattle.std.specs.Prelude.{OnOk};
+ghost use Rattle.std.specs.Prelude.{◌≡◌, ◌<◌, ◌⊎◌, true, Some, None, IfErr, IfNone, IfOk, IfSome};
+ghost use Rattle.std.specs.Prelude.{IsNone, List, Ok, OnOk, ℕ};
 ghost use Rattle.std.specs.List.{All};
 ghost use Rattle.bac_link.specs.Path.{towards};
 ghost use Rattle.bac_asked.specs.Faults.{WantsMemory};
-ghost use Rattle.bac_questions.specs.Discovered.{AddsObject, Finds, FindsOver, FindsTo, Reads};
-ghost use Rattle.bac_questions.specs.Discovered.{ReadsName, ReadsNumber, ReadsObject, TellsName};
+ghost use Rattle.bac_questions.specs.Discovered.{AddsObject, AreObjects, Finds, FindsAmong};
+ghost use Rattle.bac_questions.specs.Discovered.{FindsOf, FindsOver, FindsTo, Reads, ReadsName};
+ghost use Rattle.bac_questions.specs.Discovered.{ReadsNumber, ReadsObject, TellsName, TellsObjects};
 ghost use Rattle.bac_questions.specs.Discovered.{name_of};
 ghost use Rattle.bac_questions.specs.Faults.{EndsFinding};
-ghost use Rattle.bac_questions.specs.Unfound.{FailsToFind, LacksNumber, LacksObject, LacksPlace};
+ghost use Rattle.bac_questions.specs.Unfound.{FailsToFind, LacksNumber, LacksObject, LacksOf};
+ghost use Rattle.bac_questions.specs.Unfound.{LacksPlace};
 ghost use Rattle.bac_ports.specs.Sockets.{socket_rules};
 ghost use Rattle.bac_asked.specs.Wanted.{AsksItsSource, IsAskedAs, IsSourceOf};
 ghost use Rattle.bac_questions.specs.Silent.{is_same_device};
 
 use crate::among::is_same_device;
 use crate::connecting::connect;
-use crate::questions::{object_in, read, read_number, text_in};
+use crate::questions::{object_at, object_in, objects_in, read, read_number, text_in};
 use bac_apdu::object_type::TREND_LOG;
 use bac_archive::Source;
 use bac_asked::{Asking, Fault, NotDone, Wanted, add_wanted, source_of};
@@ -82,6 +85,25 @@ impl<L: LogLink> Station<L> {
             Ok(count) => Ok(count),
             Err(fault) => Err(self.fault(fault)),
         }
+    }
+
+    /// The whole list: an answer, whatever it says, or why there is none.
+    fn whole(&mut self, device: ObjectId) -> Result<Datagram, ExchangeFault>
+        ensures reads { Reads L.asks (towards self.old.transactions.route)
+            self.old.transactions.retries
+            (record { object = device; property = 76; index = None }) self.old.link result
+            self.new.link }
+        ensures retries { self.new.transactions.retries ≡ self.old.transactions.retries }
+        ensures route { self.new.transactions.route ≡ self.old.transactions.route }
+        ensures address { self.new.address ≡ self.old.address }
+    {
+        read(
+            &mut self.link,
+            &mut self.transactions,
+            device,
+            OBJECT_LIST,
+            None,
+        )
     }
 
     /// The object at a place of the list, from 1 on.
@@ -263,7 +285,7 @@ fn add_object<L: LogLink>(
     Ok(())
 }
 
-/// Adds each trend log of a device, in the order of its list.
+/// Adds each trend log of a device, in the order of its list, place by place.
 fn add_listed<L: LogLink>(
     alloc: Global,
     device: &mut Station<L>,
@@ -292,6 +314,75 @@ fn add_listed<L: LogLink>(
     Ok(all)
 }
 
+/// Adds each trend log among so many object identifiers.
+fn add_among<L: LogLink>(
+    alloc: Global,
+    device: &mut Station<L>,
+    values: &[u8],
+    count: u32,
+    like: &Asking,
+) -> Result<Vec<Wanted>, NotDone>
+    requires { AreObjects count values.now }
+    ensures asks { IfOk result (λ all. All AsksItsSource all.items) }
+    ensures alike { IfOk result
+        (λ all. All (λ wanted. IsAskedAs like.now wanted.asking) all.items) }
+    ensures finds { IfOk result (λ all. FindsAmong
+        (Reads L.asks (towards device.old.transactions.route) device.old.transactions.retries)
+        values.now count device.old.link all.items device.new.link) }
+    ensures fault { IfErr result WantsMemory }
+{
+    let mut all = Vec::new(alloc);
+    for place in 0..count {
+        let Some(object) = object_at(values, place) else {
+            unreachable!()
+        };
+        add_object(alloc, device, object, like, &mut all)?;
+    }
+    Ok(all)
+}
+
+/// The octets of so many object identifiers, if they are what was answered.
+fn listed_in(answer: &Result<Datagram, ExchangeFault>, count: u32) -> Option<&[u8]>
+    ensures found { IfSome result (λ values. (datagram : List ℕ) × (answer.now ≡ Ok datagram)
+        × TellsObjects datagram count values.now) }
+    ensures none { IsNone result → IfOk answer.now (λ datagram. (values : List ℕ)
+        → TellsObjects datagram count values → ⊥) }
+{
+    match answer {
+        Ok(datagram) => objects_in(datagram, count),
+        Err(_fault) => None,
+    }
+}
+
+/// Adds each trend log of a device that has so many objects, in the order of its list: as one
+/// answer tells it whole, which most lists fit; or else place by place.
+fn add_all<L: LogLink>(
+    alloc: Global,
+    device: &mut Station<L>,
+    itself: ObjectId,
+    count: u32,
+    like: &Asking,
+) -> Result<Vec<Wanted>, NotDone>
+    requires { itself ≡ record { kind = 8; instance = 4194303 } }
+    ensures asks { IfOk result (λ all. All AsksItsSource all.items) }
+    ensures alike { IfOk result
+        (λ all. All (λ wanted. IsAskedAs like.now wanted.asking) all.items) }
+    ensures finds { IfOk result (λ all. FindsOf
+        (Reads L.asks (towards device.old.transactions.route) device.old.transactions.retries)
+        count device.old.link all.items device.new.link) }
+    ensures lacks { IfErr result (λ fault. WantsMemory fault
+        ⊎ ((why : _) × (fault ≡ NotDone.Asking (Fault.Exchange device.old.address why))
+        × LacksOf (Reads L.asks (towards device.old.transactions.route)
+        device.old.transactions.retries) count device.old.link why
+        device.new.link)) }
+{
+    let answer = device.whole(itself);
+    match listed_in(&answer, count) {
+        Some(values) => add_among(alloc, device, values, count, like),
+        None => add_listed(alloc, device, itself, count, like),
+    }
+}
+
 /// Each trend log in the list of a device that is asked.
 fn find_all<L: LogLink>(
     alloc: Global,
@@ -313,7 +404,7 @@ fn find_all<L: LogLink>(
         return Err(NotDone::Asking(Fault::BadValue(Word::Instance)));
     };
     let count = device.count(itself)?;
-    add_listed(alloc, device, itself, count, like)
+    add_all(alloc, device, itself, count, like)
 }
 
 /// Each trend log of a device, asked as this one is over a link to it, from these transactions on;

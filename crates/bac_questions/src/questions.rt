@@ -1,7 +1,7 @@
 //! Single questions to a device.
 
-ghost use Rattle.std.specs.Prelude.{◌≡◌, Err, ◌<◌, ◌^◌, ℕ, IfErr, IfOk, IfSome, IsNone, IsSomeAnd};
-ghost use Rattle.std.specs.Prelude.{List, OnOk};
+ghost use Rattle.std.specs.Prelude.{◌≡◌, Err, ◌<◌, ◌≤◌, ◌+◌, ◌*◌, ◌^◌, ℕ, IfErr, IfOk, IfSome};
+ghost use Rattle.std.specs.Prelude.{IsNone, IsSomeAnd, List, OnOk, false, length, true};
 ghost use Rattle.bac_wire.specs.OptionChain.{GivesSome};
 ghost use Rattle.bac_wire.specs.Primitive.{Chars, Id, Primitive, Unsigned};
 ghost use Rattle.bac_wire.specs.View.{view};
@@ -9,7 +9,8 @@ ghost use Rattle.bac_wire.specs.Spelling.{Spells};
 ghost use Rattle.bac_link.specs.Datagrams.{apdu_in};
 ghost use Rattle.bac_link.specs.Path.{towards};
 ghost use Rattle.bac_query.specs.Reading.{values_in};
-ghost use Rattle.bac_questions.specs.Discovered.{IsObject, Reads, ReadsNumber, Tells, TellsObject};
+ghost use Rattle.bac_questions.specs.Discovered.{AreObjects, IsObject, Reads, ReadsNumber, Tells};
+ghost use Rattle.bac_questions.specs.Discovered.{TellsObject, TellsObjects, octets_at};
 ghost use Rattle.bac_questions.specs.Unfound.{LacksNumber};
 ghost use Rattle.bac_questions.specs.Counts.{AsksFor, Counts};
 
@@ -194,6 +195,7 @@ pub(crate) fn object_in(answer: &Datagram) -> Option<ObjectId>
     object_of(values_in(answer)?)
 }
 
+/// The object identifier that octets are.
 fn object_of(values: &[u8]) -> Option<ObjectId>
     ensures found { IfSome result (λ object. IsObject object values.now) }
     ensures none { IsNone result → (object : Id) → IsObject object values.now → ⊥ }
@@ -203,4 +205,45 @@ fn object_of(values: &[u8]) -> Option<ObjectId>
     };
     let number = u32::from_be_bytes([*a, *b, *c, *d]);
     ObjectId::new((number / 4_194_304) as u16, number % 4_194_304)
+}
+
+/// The object identifier at a place of octets that have five for each, from place 0 on.
+pub(crate) fn object_at(values: &[u8], place: u32) -> Option<ObjectId>
+    requires { 5 * place + 5 ≤ length values.now }
+    ensures found { IfSome result (λ object. IsObject object (octets_at place values.now)) }
+    ensures none { IsNone result → (object : Id)
+        → IsObject object (octets_at place values.now) → ⊥ }
+{
+    let (_before, behind) = values.split_at(5 * place as usize);
+    let (octets, _more) = behind.split_at(5);
+    object_of(octets)
+}
+
+/// Whether octets are so many object identifiers.
+fn are_objects(values: &[u8], count: u32) -> bool
+    ensures are { result ≡ true → AreObjects count values.now }
+    ensures none { result ≡ false → AreObjects count values.now → ⊥ }
+{
+    if values.len() as u64 != 5 * u64::from(count) {
+        return false;
+    }
+    for place in 0..count {
+        let Some(_object) = object_at(values, place) else {
+            return false;
+        };
+    }
+    true
+}
+
+/// The octets of so many object identifiers, if an answer has these and nothing else.
+pub(crate) fn objects_in(answer: &Datagram, count: u32) -> Option<&[u8]>
+    ensures found { IfSome result (λ values. TellsObjects answer.now count values.now) }
+    ensures none { IsNone result → (values : List ℕ) → TellsObjects answer.now count values → ⊥ }
+{
+    let values = values_in(answer)?;
+    if are_objects(values, count) {
+        Some(values)
+    } else {
+        None
+    }
 }

@@ -2,9 +2,9 @@ use Rattle.std.proofs.Common.{rules, ap, inr, ◌∙◌}
 use Rattle.bac_questions.proofs.DiscoveredLemmas.{next_place}
 use Rattle.bac_asked.specs.declared.end.NotDone.TheVariants.{Asking}
 use Rattle.bac_asked.specs.declared.fault.Fault.TheVariants.{Exchange}
-use Rattle.bac_asked.proofs.Results.{because}
 use Rattle.bac_questions.proofs.UnfoundLemmas.{place_lacks}
 use Rattle.bac_questions.proofs.discovering.add_listed.Goals as goal
+use Rattle.bac_archive.proofs.RowsLemmas.{because}
 
 pub loop-place-preserved : goal.loop-place-preserved
 loop-place-preserved g c =

@@ -1,8 +1,8 @@
 use Rattle.std.proofs.Common.{inr, rules}
 use Rattle.bac_questions.proofs.DiscoveredLemmas.{finds_all}
-use Rattle.bac_asked.proofs.Results.{because}
 use Rattle.bac_questions.proofs.UnfoundLemmas.{length_lacks, list_lacks}
 use Rattle.bac_questions.proofs.discovering.find_all.Goals as goal
+use Rattle.bac_archive.proofs.RowsLemmas.{because}
 
 pub returns-clause-finds : goal.returns-clause-finds
 returns-clause-finds g c =
@@ -10,8 +10,8 @@ returns-clause-finds g c =
     let begun = c.args.device.now.transactions in
     let then = c.count.new.self.transactions in
     finds_all g.L.LogLink.asks begun.route then.route begun.retries then.retries c.in-Some.itself c.in_ok-count.count
-    c.args.device.now.link c.count.new.self.link c.add_listed.new.device.link c.add_listed.result
-    counted.route counted.retries c.in-Some.ensures.some.0 counted.reads c.add_listed.ensures.finds
+    c.args.device.now.link c.count.new.self.link c.add_all.new.device.link c.add_all.result
+    counted.route counted.retries c.in-Some.ensures.some.0 counted.reads c.add_all.ensures.finds
 
 pub returns-in_err-count-clause-lacks : goal.returns-in_err-count-clause-lacks
 returns-in_err-count-clause-lacks g c =
@@ -26,5 +26,5 @@ returns-clause-lacks g c =
     let begun = c.args.device.now.transactions in
     let then = c.count.new.self.transactions in
     list_lacks g.L.LogLink.asks begun.route then.route begun.retries then.retries c.in-Some.itself c.in_ok-count.count
-    c.args.device.now.link c.count.new.self.link c.add_listed.new.device.link c.args.device.now.address c.count.new.self.address c.add_listed.result
-    counted.route counted.retries counted.address c.in-Some.ensures.some.0 counted.reads c.add_listed.ensures.lacks
+    c.args.device.now.link c.count.new.self.link c.add_all.new.device.link c.args.device.now.address c.count.new.self.address c.add_all.result
+    counted.route counted.retries counted.address c.in-Some.ensures.some.0 counted.reads c.add_all.ensures.lacks
