@@ -1,7 +1,7 @@
 -- Which devices are called, log by log.
 use Rattle.std.proofs.Common.{◌≡◌, ℕ, ◌<◌, Bool, true, false, not, ◌&&◌, ◌||◌, true≢false, List, [], ◌∷◌, ◌++◌, if◌then◌else◌, append_assoc, length, get_or, map, inl, inr, refl, ap, sym, subst, ◌∙◌}
 use Rattle.std.specs.List.{Contains, list_any}
-use Rattle.std.proofs.lemmas.Bool.{and_from, and_parts}
+use Rattle.std.proofs.lemmas.Bool.{and_from, and_parts, not-true}
 use Rattle.std.proofs.lemmas.List.{append-nil}
 use Rattle.std.proofs.lemmas.List.Elements.{Contains-append_left, Contains-push, Contains-push_cases}
 use Rattle.std.proofs.lemmas.List.Folds.{Any-from_list_any, list_any_at}
@@ -97,10 +97,6 @@ no_more heard all called wanted are it = record {
         let any = Any-from_list_any same called (is_there (list_any same called) refl (subst (λ (w : Wanted). is_called heard w ≡ true) (sym is) so)) in
         (any.1, (any.0, any.2, any.3), subst (λ (w : Wanted). is_same_device any.1.source w.source ≡ true) is any.4)
 
-not_true : (b : Bool) → not b ≡ true → b ≡ false
-not_true true h = absurd (true≢false (sym h))
-not_true false h = refl
-
 -- the same where those that are called are seen through references
 pub comes : (heard : List Heard) (all : List Wanted) (refs seen : List (Bor Wanted)) (new : List Wanted) (wanted : Wanted) (said : Bool) →
     AreCalled heard all (map (λ (r : Bor Wanted). r.now) refs) → seen ≡ refs →
@@ -112,7 +108,7 @@ comes heard all refs seen new wanted said are same is holds put =
     let parts = and_parts (is_called heard wanted) (not (list_any (λ (one : Bor Wanted). among one.now) seen)) (sym is ∙ holds) in
     let none : list_any among called ≡ false =
     any_seen among (λ (r : Bor Wanted). r.now) refs ∙ ap (list_any (λ (one : Bor Wanted). among one.now)) (sym same)
-    ∙ not_true (list_any (λ (one : Bor Wanted). among one.now) seen) parts.1 in
+    ∙ not-true (list_any (λ (one : Bor Wanted). among one.now) seen) parts.1 in
     subst (AreCalled heard (all ++ wanted ∷ [])) (sym put) (one_more heard all called wanted are parts.0 none)
 
 pub stays : (heard : List Heard) (all : List Wanted) (refs seen : List (Bor Wanted)) (new : List Wanted) (wanted : Wanted) (said : Bool) →

@@ -3,11 +3,11 @@ pub mod AroundLemmas
 mod BesideLemmas
 pub mod RowsLemmas
 pub mod BeginLemmas
-mod QueryLemmas
-mod SpanLemmas
+pub mod QueryLemmas
+pub mod SpanLemmas
 mod LogLemmas
 mod OrphanLemmas
-mod PartsLemmas
+pub mod PartsLemmas
 pub mod FollowLemmas
 mod NewestLemmas
 mod GreatestLemmas
@@ -15,6 +15,6 @@ pub mod ItemsLemmas
 mod StandingLemmas
 mod ChangeStatement
 pub mod ChangeLemmas
-mod CauseLemmas
+pub mod CauseLemmas
 mod CreateLemmas
 pub mod GroupLemmas

@@ -1,6 +1,5 @@
 -- Where the rows of a log go on.
-use Rattle.std.proofs.Common.{◌≡◌, refl, sym, ap, subst, ◌∙◌, ℕ, pos, List, [], ◌∷◌, ◌++◌, take, length, get_or, ◌+◌, ◌<◌, Option, None, Some, unwrap_or}
-use Rattle.std.proofs.lemmas.List.{take_more}
+use Rattle.std.proofs.Common.{◌≡◌, refl, sym, ap, subst, ℕ, pos, [], ◌∷◌, Option, None, Some, unwrap_or}
 use Rattle.sqlite.specs.Effect.{Database}
 use Rattle.sqlite.specs.Held.{Held as Connected, state}
 use Rattle.sqlite.specs.State.{State, IsUnchanged, Shown}
@@ -39,6 +38,3 @@ module _ {S : Type 0} (g : Ghosts S) (log : ℕ) (old : State) (mid : Connected 
   one_first row given =
       let (more, are) = begins_with log (state g mid) (row ∷ []) schema_is (given_begin g items_text (asked log) mid (row ∷ []) given) in
       (row ∷ more, subst (λ (d : Database). AreItems log (kept d.trees) (row ∷ more)) same.0.now_is are, refl)
-
-pub take_one : {X : Type 0} (all : List X) (at : ℕ) (x : X) → at < length all → x ≡ get_or all at x → take (at + 1) all ≡ take at all ++ x ∷ []
-take_one all at x lt is = take_more all at x lt ∙ ap (λ z. take at all ++ z ∷ []) (sym is)

@@ -1,6 +1,7 @@
 -- What comes from the device that isn't ours.
 use Rattle.std.proofs.Common.{◌≡◌, ◌⊎◌, ℕ, zero, suc, ◌+◌, ◌<◌, ◌≤◌, ◌==◌, Bool, true, false, nat_lt, get_or, if◌then◌else◌, Option, Some, None, Result, Ok, Err, List, [], ◌∷◌, ◌++◌, length, pos, refl, sym, subst, ap, ◌∙◌, inl, inr, arith}
 use Rattle.std.proofs.lemmas.Bool.{cases_Bool, cases_lt, eqb-true}
+use Rattle.std.proofs.lemmas.Option.{same_Some}
 use Rattle.bac_wire.specs.Canon.{tagged, unsigned_octets}
 use Rattle.bac_wire.specs.Number.{number}
 use Rattle.bac_wire.specs.Primitive.{Id, Object, Enumerated, Signed}
@@ -48,7 +49,7 @@ use Rattle.bac_link.specs.Standard.{Asked, FromNumber, FromOldest, IsCount, IsSa
 use Rattle.bac_walk.specs.Walks.{asked_by, question_of, IsTakenFrom}
 use Rattle.bac_walk.specs.declared.outcome.Progress.{Progress}
 use Rattle.bac_walk.specs.declared.outcome.Progress.TheVariants.{Batch as BatchOf, AskOldest, CaughtUp}
-use Rattle.bac_client_tests.proofs.Honest.{is_loss}
+use Rattle.bac_walk.proofs.Ends.{is_loss}
 use Rattle.bac_client_tests.specs.Foreign.{all_held, from_7, from_9, from_oldest, held, history, log, none_from_11, record_7, record_8, record_9, record_10, said_for, said_to, IsSaid}
 
 -- ---- what is read
@@ -153,9 +154,6 @@ said_here w datagram c said place is =
     let P : WalkPlace → Type 0 = λ v. IsSaidAt held history v.log (asked_by v) c.datagram in
     let Q : List ℕ → Type 0 = λ d. IsSaidAt held history w.log (asked_by w) d in subst P (sym place) (subst Q is said)
 
-pub same : (a b : List ℕ) → Some a ≡ Some b → a ≡ b
-same a b is = cc
-
 heard_as : (w : WalkPlace) (datagram came : List ℕ) (h : AckParameters) (p : Progress) (next : WalkPlace) → datagram ≡ came → heard_in w.log datagram ≡ Some h →
     IsTakenFrom w (heard_in w.log came) (Ok p) next → IsTakenFrom w (Some h) (Ok p) next
 heard_as w datagram came h p next is reads taken =
@@ -198,7 +196,7 @@ comes_oldest retries [] old w after new here comes = (tt, refl)
 comes_oldest retries (c ∷ came) old w after new here (mid, next, p, place, asked, taken, is, rest) =
     let A : WalkPlace → Type 0 = λ v. Asks (λ a octets answer b. IsSaid octets answer) (towards None) retries old v (Ok c.datagram) mid in
     let answer = one_answer retries old at_oldest c.datagram mid (subst A here asked) in
-    let d = same from_oldest c.datagram (sym (asks_for_oldest answer.0) ∙ answer.1) in
+    let d = same_Some from_oldest c.datagram (sym (asks_for_oldest answer.0) ∙ answer.1) in
     let T : WalkPlace → Type 0 = λ v. IsTakenFrom v (heard_in v.log c.datagram) (Ok p) next in
     let brings = taken_oldest p next (heard_as at_oldest from_oldest c.datagram (record { first = Some 7; count = 2; entries = record_7 ∷ record_8 ∷ [] }) p next d reads_oldest (subst T here taken)) in
     let more = comes_oldest retries came mid next after new brings.1 rest in
@@ -210,7 +208,7 @@ comes_11 retries [] old w after new here comes = (tt, refl)
 comes_11 retries (c ∷ came) old w after new here (mid, next, p, place, asked, taken, is, rest) =
     let A : WalkPlace → Type 0 = λ v. Asks (λ a octets answer b. IsSaid octets answer) (towards None) retries old v (Ok c.datagram) mid in
     let answer = one_answer retries old (walk_at log 11) c.datagram mid (subst A here asked) in
-    let d = same none_from_11 c.datagram (sym (asks_11 answer.0) ∙ answer.1) in
+    let d = same_Some none_from_11 c.datagram (sym (asks_11 answer.0) ∙ answer.1) in
     let T : WalkPlace → Type 0 = λ v. IsTakenFrom v (heard_in v.log c.datagram) (Ok p) next in
     let brings = taken_11 p next (heard_as (walk_at log 11) none_from_11 c.datagram (record { first = None; count = 0; entries = [] }) p next d reads_11 (subst T here taken)) in
     let more = comes_oldest retries came mid next after new brings.1 rest in
@@ -223,7 +221,7 @@ comes_9 retries [] old w after new here comes = (tt, λ empty. absurd empty)
 comes_9 retries (c ∷ came) old w after new here (mid, next, p, place, asked, taken, is, rest) =
     let A : WalkPlace → Type 0 = λ v. Asks (λ a octets answer b. IsSaid octets answer) (towards None) retries old v (Ok c.datagram) mid in
     let answer = one_answer retries old (walk_at log 9) c.datagram mid (subst A here asked) in
-    let d = same from_9 c.datagram (sym (asks_9 answer.0) ∙ answer.1) in
+    let d = same_Some from_9 c.datagram (sym (asks_9 answer.0) ∙ answer.1) in
     let T : WalkPlace → Type 0 = λ v. IsTakenFrom v (heard_in v.log c.datagram) (Ok p) next in
     let brings = taken_9 p next (heard_as (walk_at log 9) from_9 c.datagram (record { first = Some 9; count = 2; entries = record_9 ∷ record_10 ∷ [] }) p next d reads_9 (subst T here taken)) in
     let more = comes_11 retries came mid next after new brings.1 rest in
@@ -236,7 +234,7 @@ comes_7 retries [] old w after new here comes = (tt, λ empty. absurd empty)
 comes_7 retries (c ∷ came) old w after new here (mid, next, p, place, asked, taken, is, rest) =
     let A : WalkPlace → Type 0 = λ v. Asks (λ a octets answer b. IsSaid octets answer) (towards None) retries old v (Ok c.datagram) mid in
     let answer = one_answer retries old (walk_at log 7) c.datagram mid (subst A here asked) in
-    let d = same from_7 c.datagram (sym (asks_7 answer.0) ∙ answer.1) in
+    let d = same_Some from_7 c.datagram (sym (asks_7 answer.0) ∙ answer.1) in
     let T : WalkPlace → Type 0 = λ v. IsTakenFrom v (heard_in v.log c.datagram) (Ok p) next in
     let brings = taken_7 p next (heard_as (walk_at log 7) from_7 c.datagram (record { first = Some 7; count = 2; entries = record_7 ∷ record_8 ∷ [] }) p next d reads_7 (subst T here taken)) in
     let more = comes_9 retries came mid next after new brings.1 rest in (
@@ -321,15 +319,15 @@ known : (a count : ℕ) (seven nine eleven : Bool) (datagram : List ℕ) → IsC
 known a count true nine eleven datagram asks two is_7 is_9 is_11 said =
     let N : ℕ → Type 0 = λ n. IsSaidAt held history log (FromNumber n count) datagram in
     let D : List ℕ → Type 0 = λ d. IsSaidAt held history log (FromNumber 7 count) d in
-    subst N (sym (eqb-true a 7 is_7)) (subst D (same from_7 datagram said) (said_7 count asks two))
+    subst N (sym (eqb-true a 7 is_7)) (subst D (same_Some from_7 datagram said) (said_7 count asks two))
 known a count false true eleven datagram asks two is_7 is_9 is_11 said =
     let N : ℕ → Type 0 = λ n. IsSaidAt held history log (FromNumber n count) datagram in
     let D : List ℕ → Type 0 = λ d. IsSaidAt held history log (FromNumber 9 count) d in
-    subst N (sym (eqb-true a 9 is_9)) (subst D (same from_9 datagram said) (said_9 count asks two))
+    subst N (sym (eqb-true a 9 is_9)) (subst D (same_Some from_9 datagram said) (said_9 count asks two))
 known a count false false true datagram asks two is_7 is_9 is_11 said =
     let N : ℕ → Type 0 = λ n. IsSaidAt held history log (FromNumber n count) datagram in
     let D : List ℕ → Type 0 = λ d. IsSaidAt held history log (FromNumber 11 count) d in
-    subst N (sym (eqb-true a 11 is_11)) (subst D (same none_from_11 datagram said) (said_11 count asks))
+    subst N (sym (eqb-true a 11 is_11)) (subst D (same_Some none_from_11 datagram said) (said_11 count asks))
 known a count false false false datagram asks two is_7 is_9 is_11 said = absurd (cc)
 
 by_contents : (contents : List ℕ) (n count invoke : ℕ) (datagram : List ℕ) → IsCount count → 2 ≤ count → number contents ≡ n → said_to (with_number invoke count contents) ≡ Some datagram →
@@ -345,7 +343,7 @@ pub reply_said : (low count invoke : ℕ) (asked : Asked) (datagram : List ℕ) 
     IsSaidAt held history log asked datagram
 reply_said low count invoke (FromOldest asked) datagram asks two is said =
     let D : List ℕ → Type 0 = λ d. IsSaidAt held history log (FromOldest asked) d in
-    subst D (same from_oldest datagram (sym (asks_time invoke asked) ∙ said)) (said_oldest asked (subst IsCount (sym is) asks) (omega (arith, is, two)))
+    subst D (same_Some from_oldest datagram (sym (asks_time invoke asked) ∙ said)) (said_oldest asked (subst IsCount (sym is) asks) (omega (arith, is, two)))
 reply_said low count invoke (FromNumber n asked) datagram asks two (is, (s, shown, above, below)) said =
     by_contents (unsigned_octets n) n asked invoke datagram (subst IsCount (sym is) asks) (omega (arith, is, two)) (unsigned_stands n (omega (arith, shown))).1 (ap said_to (sym (asks_with n invoke asked)) ∙ said)
 

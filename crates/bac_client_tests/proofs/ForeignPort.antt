@@ -24,9 +24,9 @@ use Rattle.bac_walk.specs.Delivers.{NoneFrom}
 use Rattle.bac_walk.specs.Place.{WalkPlace, walk_at}
 use Rattle.bac_link.specs.Honest.{IsAskedIn, IsSaidOrLost, IsHonestWhere, asked_octets}
 use Rattle.bac_walk.specs.Honest.{IsHonestEnd, HonestIsDelivered}
+use Rattle.bac_walk.proofs.Ends.{ended_as, is_loss}
 use Rattle.bac_link.specs.Standard.{Asked, IsSaidAt}
 use Rattle.bac_client_tests.proofs.Foreign.{always_held, beyond, ended_up, most_asked, reply_said}
-use Rattle.bac_client_tests.proofs.Honest.{ended_as, is_loss}
 use Rattle.bac_client_tests.specs.Foreign.{all_held, held, history, log, record_7, record_8, record_9, record_10, said_to}
 use Rattle.bac_client_tests.specs.ForeignPort.{IsBrought, IsPut, PrintsHeld, device_at, moments_at}
 

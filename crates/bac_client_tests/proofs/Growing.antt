@@ -2,6 +2,7 @@
 use Rattle.std.proofs.Common.{◌≡◌, ℕ, zero, suc, ◌+◌, ◌-◌, ◌*◌, ◌^◌, ◌⊎◌, ◌<◌, ◌≤◌, ◌==◌, ◌&&◌, Bool, true, false, nat_lt, nat_le, get_or, if◌then◌else◌, Some, None, Result, Ok, Err, List, [], ◌∷◌, ◌++◌, length, slice_get, replicate, refl, sym, subst, ap, ◌∙◌, inl, inr, arith}
 use Rattle.std.proofs.lemmas.Bool.{cases_Bool, cases_lt, eqb-true, le-leb, leb-true, lt-ltb, ltb-true}
 use Rattle.std.proofs.lemmas.List.{length-replicate, replicate-append-replicate}
+use Rattle.std.proofs.lemmas.Option.{same_Some}
 use Rattle.bac_wire.specs.Canon.{unsigned_octets}
 use Rattle.bac_wire.specs.Number.{number}
 use Rattle.bac_wire.proofs.Canonical.{unsigned_stands}
@@ -25,7 +26,7 @@ use Rattle.bac_link.specs.Requests.{parameters_of, request_apdu, request_octets}
 use Rattle.bac_link.specs.declared.link.Lost.{Lost}
 use Rattle.bac_link.specs.Standard.{Asked, FromNumber, FromOldest, IsCount, IsSaidAt, SaysAt, count_asked}
 use Rattle.bac_log.specs.TrendLog.{sequence_number}
-use Rattle.bac_client_tests.proofs.Foreign.{same, with_number, asks_with, low_of}
+use Rattle.bac_client_tests.proofs.Foreign.{with_number, asks_with, low_of}
 use Rattle.bac_client_tests.specs.Foreign.{log}
 use Rattle.bac_client_tests.specs.Growing.{about, answer_for, answer_to, logged_so_far, no_record, one_record, real, MayAnswer, MayGrow}
 
@@ -109,11 +110,11 @@ about_said n invoke k count datagram asks octet few is = by (nat_lt 0 k) (nat_le
   where
     by : (some there : Bool) → nat_lt 0 k ≡ some → nat_le k n ≡ there → Some (if some && there then one_record invoke k else no_record invoke) ≡ Some datagram →
         IsSaidAt (logged_so_far n).moment (logged_so_far n).history log (FromNumber k count) datagram
-    by true true a b is = subst (λ d. IsSaidAt (logged_so_far n).moment (logged_so_far n).history log (FromNumber k count) d) (same (one_record invoke k) datagram is)
+    by true true a b is = subst (λ d. IsSaidAt (logged_so_far n).moment (logged_so_far n).history log (FromNumber k count) d) (same_Some (one_record invoke k) datagram is)
         (said_one n invoke k count (FromNumber k count) asks (ltb-true 0 k a) (leb-true k n b) octet (inl refl))
-    by true false a b is = subst (λ d. IsSaidAt (logged_so_far n).moment (logged_so_far n).history log (FromNumber k count) d) (same (no_record invoke) datagram is)
+    by true false a b is = subst (λ d. IsSaidAt (logged_so_far n).moment (logged_so_far n).history log (FromNumber k count) d) (same_Some (no_record invoke) datagram is)
         (said_none n invoke k count asks octet (λ h. absurd (let e = sym b ∙ le-leb k n h.1 in cc)) few)
-    by false there a b is = subst (λ d. IsSaidAt (logged_so_far n).moment (logged_so_far n).history log (FromNumber k count) d) (same (no_record invoke) datagram is)
+    by false there a b is = subst (λ d. IsSaidAt (logged_so_far n).moment (logged_so_far n).history log (FromNumber k count) d) (same_Some (no_record invoke) datagram is)
         (said_none n invoke k count asks octet (λ h. absurd (let e = sym a ∙ lt-ltb 0 k h.0 in cc)) few)
 
 first_said : (n invoke count : ℕ) (datagram : List ℕ) → IsCount count → Some (about n invoke 1) ≡ Some datagram →
@@ -122,9 +123,9 @@ first_said n invoke count datagram asks is = by (nat_le 1 n) refl is
   where
     by : (there : Bool) → nat_le 1 n ≡ there → Some (if there then one_record invoke 1 else no_record invoke) ≡ Some datagram →
         IsSaidAt (logged_so_far n).moment (logged_so_far n).history log (FromOldest count) datagram
-    by true b is = subst (λ d. IsSaidAt (logged_so_far n).moment (logged_so_far n).history log (FromOldest count) d) (same (one_record invoke 1) datagram is)
+    by true b is = subst (λ d. IsSaidAt (logged_so_far n).moment (logged_so_far n).history log (FromOldest count) d) (same_Some (one_record invoke 1) datagram is)
         (said_one n invoke 1 count (FromOldest count) asks (omega arith) (leb-true 1 n b) (omega arith) (inr (refl, refl)))
-    by false b is = subst (λ d. IsSaidAt (logged_so_far n).moment (logged_so_far n).history log (FromOldest count) d) (same (no_record invoke) datagram is)
+    by false b is = subst (λ d. IsSaidAt (logged_so_far n).moment (logged_so_far n).history log (FromOldest count) d) (same_Some (no_record invoke) datagram is)
         (said_empty n invoke count asks (let out : 1 ≤ n → ⊥ = λ le. absurd (let e = sym b ∙ le-leb 1 n le in cc) in elim (cases_lt 0 n) [ inl lt ↦ absurd (out (omega (arith, lt))) | inr ge ↦ omega (arith, ge) ]))
 
 asks_time : (n invoke count : ℕ) → answer_to n (asked_octets (towards None) invoke log (FromOldest count)) ≡ Some (about n invoke 1)

@@ -1,5 +1,5 @@
 -- What came over a link that is honest for a log.
-use Rattle.std.proofs.Common.{◌≡◌, ℕ, ◌+◌, ◌<◌, ◌≤◌, Option, None, Result, List, length, refl, subst}
+use Rattle.std.proofs.Common.{◌≡◌, ℕ, ◌+◌, ◌<◌, ◌≤◌, Option, None, Result, List, length, subst}
 use Rattle.bac_wire.specs.Primitive.{Id}
 use Rattle.bac_apdu.specs.Npdu.{Place}
 use Rattle.bac_log.specs.TrendLog.{sequence_number}
@@ -17,20 +17,10 @@ use Rattle.bac_walk.specs.Honest.{IsHonestEnd, HonestIsDelivered}
 use Rattle.bac_walk.specs.declared.outcome.Ended.{Ended}
 use Rattle.bac_walk.specs.declared.outcome.Ended.TheVariants.{Fault}
 use Rattle.bac_walk.specs.declared.outcome.WalkFault.{WalkFault}
-use Rattle.bac_walk.specs.declared.outcome.WalkFault.TheVariants.{Lost, Refused, BadReply}
+use Rattle.bac_walk.specs.declared.outcome.WalkFault.TheVariants.{Lost}
 use Rattle.bac_walk.specs.declared.outcome.Why.{Why}
 use Rattle.bac_walk.specs.declared.outcome.Why.TheVariants as why
-
-pub ended_as : (w : Why) (steps n : ℕ) (ended : Ended) (e : WalkFault) → IsRunOf w steps n ended → w ≡ why.Fault e → ended ≡ Fault e
-ended_as why.CaughtUp steps n ended e run is = absurd (cc)
-ended_as why.StepLimit steps n ended e run is = absurd (cc)
-ended_as (why.Fault f) steps n ended e run is = let a = run.1 in cc
-ended_as why.Memory steps n ended e run is = absurd (cc)
-
-pub is_loss : (e : WalkFault) → IsHonestEnd (Fault e) → e ≡ Lost
-is_loss Lost end = refl
-is_loss (Refused refusal) end = absurd end
-is_loss BadReply end = absurd end
+use Rattle.bac_walk.proofs.Ends.{ended_as, is_loss}
 
 pub honest_run : {S : Type 0} (asks : S → List ℕ → Result (List ℕ) Loss → S → Type 0) (stands : S → List Moment → Type 0) (old new : S) (way : Option Place) (retries : ℕ) (w after : WalkPlace)
     (steps n : ℕ) (came : List Came) (items : List Item) (ended : Ended) (reason : Why) (log : Id) (number : ℕ) (H : History) (M : List Moment) (low k : ℕ) →

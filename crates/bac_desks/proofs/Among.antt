@@ -17,6 +17,7 @@ use Rattle.bac_desks.specs.Seat.{IsAwaited, after_heard, holds_place, holds_plac
 use Rattle.bac_desks.specs.Span.{AreOpenAmong, AreOpenWithin}
 use Rattle.bac_desks.specs.Table.{IsAwaiting, IsToNextDue, TableState}
 use Rattle.bac_desks.proofs.Limits.{tally}
+use Rattle.bac_link.proofs.Flags.{or_none}
 
 -- ---- so many places from the first on
 
@@ -190,16 +191,12 @@ unheard_desk : (d : DeskState) (o : Option (List ℕ)) (heard : Heard) → is_so
 unheard_desk d None heard shut = refl
 unheard_desk d (Some request) heard shut = never true refl shut
 
-or_nothing : (b : Bool) → (b || false) ≡ b
-or_nothing true = refl
-or_nothing false = refl
-
 unheard : (known : Bool) (heard : Heard) (s : Seat) → is_open s ≡ false → after_heard known heard s ≡ s
 unheard known heard s shut =
     let near : Bool = is_from known s.desk.peer heard.from && not (is_taken s.desk heard) in
     let S : DeskState → Bool → Seat = λ d b. record { desk = d; sends = s.sends; since = s.since; has_stray = b } in
     ap (λ (d : DeskState). S d (s.has_stray || (is_open s && near))) (unheard_desk s.desk s.desk.pending heard shut)
-    ∙ ap (λ (b : Bool). S s.desk (s.has_stray || (b && near))) shut ∙ ap (λ (b : Bool). S s.desk b) (or_nothing s.has_stray)
+    ∙ ap (λ (b : Bool). S s.desk (s.has_stray || (b && near))) shut ∙ ap (λ (b : Bool). S s.desk b) (or_none s.has_stray)
 
 pub heard_among : (known : Bool) (heard : Heard) (first behind : ℕ) (seats : List Seat) → AreOpenWithin first behind seats →
     take first seats ++ (map (after_heard known heard) (slice_range seats first behind) ++ drop (behind - first) (drop first seats)) ≡ map (after_heard known heard) seats

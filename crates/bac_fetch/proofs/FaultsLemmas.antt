@@ -1,11 +1,7 @@
 -- What ends a run.
-use Rattle.std.proofs.Common.{◌≡◌, inl, inr, refl, subst, ap, ◌∙◌, ℕ, List, Option, None, Some, Result, Ok, Err, IfErr}
-use Rattle.sqlite.specs.declared.error.Error.{Error}
-use Rattle.bac_asked.specs.Faults.{RefusesLine, of_error}
+use Rattle.std.proofs.Common.{◌≡◌, inl, inr, refl, subst, ◌∙◌, ℕ, List, Option, None, Some, Result, Ok, Err, IfErr}
+use Rattle.bac_asked.specs.Faults.{RefusesLine}
 use Rattle.bac_asked.specs.declared.end.NotDone.{NotDone}
-use Rattle.bac_asked.specs.declared.end.NotDone.TheVariants.{File}
-use Rattle.bac_asked.specs.declared.fault.FileFault.{FileFault}
-use Rattle.bac_asked.specs.declared.fault.FileFault.TheVariants.{Full}
 use Rattle.bac_fetch.specs.Ahead.{AtOnce}
 use Rattle.bac_fetch.specs.Chosen.{AreFound}
 use Rattle.bac_fetch.specs.Faults.{EndsChosen, EndsKeeping, EndsKept, EndsRun, HasNoInstance}
@@ -27,12 +23,6 @@ use Rattle.bac_words.specs.declared.job.Asked.{Asked}
 
 pub line_ends : (fault : NotDone) → RefusesLine fault → EndsLog fault
 line_ends fault it = inr (inl it)
-
-pub full_ends : (fault : NotDone) → fault ≡ File Full → EndsLog fault
-full_ends fault it = inr (inr (inr (inl it)))
-
-pub database_ends : (why : FileFault) (error : Error) → why ≡ of_error error → EndsLog (File why)
-database_ends why error is = inr (inr (inr (inr (error, ap File is))))
 
 module _ {S P : Type 0} (rules : SocketRules S P) where
   pub log_ends_run : (I A : Type 0) (after : S) (fault : NotDone) → EndsLog fault → EndsRun rules I A after fault

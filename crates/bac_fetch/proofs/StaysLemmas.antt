@@ -1,5 +1,5 @@
 -- A run takes nothing away.
-use Rattle.std.proofs.Common.{◌≡◌, inl, inr, ℕ, pos, List, Option, None, Some, Result, Ok, Err, refl, subst, sym, ◌∙◌, arith}
+use Rattle.std.proofs.Common.{◌≡◌, inl, inr, ℕ, pos, List, Option, None, Some, Result, Ok, Err, refl, subst, sym, arith}
 use Rattle.std.specs.List.{Contains}
 use Rattle.std.proofs.lemmas.List.Elements.{Contains-append_left}
 use Rattle.std.proofs.lemmas.List.Sorted.{Contains-permutation}
@@ -14,7 +14,7 @@ use Rattle.bac_archive.specs.declared.epochs.Beginning.{Beginning}
 use Rattle.bac_link.specs.Path.{Path}
 use Rattle.bac_link.specs.declared.link.Lost.{Lost as Loss}
 use Rattle.bac_archive.specs.Changes.{ChangesLogs, HasChangedLogs, IsStill, KeepsLogs}
-use Rattle.bac_archive.proofs.ChangeLemmas.{changes_keep}
+use Rattle.bac_archive.proofs.ChangeLemmas.{changes_keep, keeps_then}
 use Rattle.bac_archive.specs.Logs.{AddsLog}
 use Rattle.bac_archive.specs.declared.trend_logs.Log.{Log}
 use Rattle.bac_archive.specs.declared.trend_logs.Told.{Told}
@@ -47,14 +47,8 @@ keep_logs a b all = λ row id at is. (row, all row at, still row id is)
 pub all_itself : (trees : Trees) → HasAllOf trees trees
 all_itself trees = record { items = λ row at. at; logs = keep_logs trees trees (λ row at. at) }
 
-logs_then : (a b c : Trees) → KeepsLogs a b → KeepsLogs b c → KeepsLogs a c
-logs_then a b c one two = λ row id at is.
-    let first = one row id at is in
-    let next = two first.0 id first.1 first.2.id_is in
-    (next.0, next.1, record { id_is = next.2.id_is; instance = next.2.instance ∙ first.2.instance; name = next.2.name ∙ first.2.name })
-
 pub all_then : (a b c : Trees) → HasAllOf a b → HasAllOf b c → HasAllOf a c
-all_then a b c one two = record { items = λ row at. two.items row (one.items row at); logs = logs_then a b c one.logs two.logs }
+all_then a b c one two = record { items = λ row at. two.items row (one.items row at); logs = keeps_then a b c one.logs two.logs }
 
 -- what has the same logs has them all
 pub all_of_same : (a b : Trees) → HasSameLogs a b → HasAllOf a b

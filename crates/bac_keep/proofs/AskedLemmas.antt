@@ -35,16 +35,16 @@ use Rattle.bac_walk.specs.declared.outcome.WalkFault.{WalkFault}
 use Rattle.bac_walk.proofs.Asking.{asked_in}
 use Rattle.bac_walk.proofs.Brought.{full_batch}
 use Rattle.bac_walk.proofs.Came.{Asking, some_later, window_later, window_now}
-use Rattle.bac_walk.proofs.Honest.{honest_delivers}
+use Rattle.bac_walk.proofs.Honest.{honest_delivers, some_after, back_after}
 use Rattle.bac_walk.proofs.Joins.{after_answers-add}
 use Rattle.bac_walk.proofs.Shown.{ahead-number}
 use Rattle.bac_walk.proofs.Standard.{said_means}
+use Rattle.bac_walk.proofs.Window.{after_in}
 use Rattle.bac_keep.specs.declared.look.Seen.TheVariants.{Same, Another, Later, Earlier}
 use Rattle.bac_keep.specs.Looks.{IsSeen, IsSeenBy, KeptAs, Looks, is_held_as, seen_by}
 use Rattle.bac_keep.specs.Resumption.{AsksOldest, CameTo, is_before}
 use Rattle.bac_keep.specs.Items.{stamp_text}
 use Rattle.bac_keep.specs.UpToDate.{AskedTellsCaughtUp, EndsByNone}
-use Rattle.bac_keep.proofs.CameLemmas.{back_after, some_after, window_after}
 use Rattle.bac_keep.proofs.UpToDateLemmas.{held_tells}
 
 -- ---- moments
@@ -279,7 +279,7 @@ module _ {S : Type 0} (asks : Asking S) (path : Path) (log : Id) (count : ℕ) (
           let n : ℕ = length came in
           let (others, last, oldest_brought) = more tt in
           let others_are = honest_delivers asks stands path retries half new (asking count (walk_from_oldest log)) last 1 others (items_in b) StepLimit H (after_answers n M) low 1
-          (goes_on asks path log count H low) it.2 oldest_brought refl (some_after n M some) (back_after n M back) (window_after low n M window) (λ f. absurd (let e = f in cc)) in
+          (goes_on asks path log count H low) it.2 oldest_brought refl (some_after n M some) (back_after n M back) (after_in low n M window) (λ f. absurd (let e = f in cc)) in
           let found = came_held H (after_answers n M) kept b others_are.0.0 others_are.0.1 (length others) others_are.0.5 seen in
           (n + found.0, found.1, subst (λ (N : List Moment). Holds (now N) found.1) (sym (after_answers-add n found.0 M)) found.2, found.3)
       by (Ok stepped.CaughtUp) (Ok stepped.CaughtUp) half seen first more = absurd (let e = seen in cc)
@@ -294,7 +294,7 @@ asked_tells asks = λ path retries log asked kept old mid new came after H M low
     let count : ℕ = length came in
     let N : List Moment = after_answers count M in
     let some_left = some_after count M some in
-    let window_left = window_after low count M window in
+    let window_left = after_in low count M window in
     let found = found_held asks path log asked H low retries kept N k mid new none.stood some_left (back_after count M back) window_left from (omega arith) number looks in
     let at = window_at low found.0 N some_left window_left in
     let not_later : found.1 ≤ k = not_behind low k found.1 from (omega arith) (omega (arith, at.oldest, found.2.0)) (omega (arith, at.newest, found.2.1)) (sym found.3 ∙ number) in

@@ -16,12 +16,12 @@ use Rattle.bac_walk.specs.Came.{Brought, answers_of}
 use Rattle.bac_link.specs.Honest.{IsHonest}
 use Rattle.bac_link.specs.Moments.{AreInWindow}
 use Rattle.bac_walk.specs.Place.{WalkPlace}
-use Rattle.bac_walk.proofs.Came.{Asking, back_later, brought_ran, delivered_to, some_later, start_old, window_later}
+use Rattle.bac_walk.proofs.Came.{Asking, brought_ran, delivered_to, start_old}
 use Rattle.bac_link.proofs.Honest.{goes_on}
-use Rattle.bac_walk.proofs.Honest.{honest_delivers}
+use Rattle.bac_walk.proofs.Honest.{honest_delivers, some_after, back_after}
 use Rattle.bac_walk.proofs.Joined.{no_brought, brought_joins}
 use Rattle.bac_walk.proofs.Joins.{after_answers-add}
-use Rattle.bac_walk.proofs.Window.{stays_in_window}
+use Rattle.bac_walk.proofs.Window.{stays_in_window, after_in}
 use Rattle.bac_archive.specs.Rows.{Adds, IsAppended, kept as kept_in}
 use Rattle.bac_archive.proofs.BeginLemmas.{adds_nothing}
 use Rattle.bac_keep.specs.declared.place.Place.{Place}
@@ -175,18 +175,6 @@ waits H s t count n M items d =
     let P : List Item → Type 0 = λ l. DeliversTo H s l t M (count + n) in
     subst P (append-nil items) (joined H s t t count n M items [] d (waits_for H t n (after_answers count M)))
 
-pub some_after : (count : ℕ) (M : List Moment) → 0 < length M → 0 < length (after_answers count M)
-some_after zero M some = some
-some_after (suc count) M some = some_after count (later M) (some_later M some)
-
-pub back_after : (count : ℕ) (M : List Moment) → NeverGoesBack M → NeverGoesBack (after_answers count M)
-back_after zero M back = back
-back_after (suc count) M back = back_after count (later M) (back_later M back)
-
-pub window_after : (low count : ℕ) (M : List Moment) → AreInWindow low M → AreInWindow low (after_answers count M)
-window_after low zero M window = window
-window_after low (suc count) M window = window_after low count (later M) (window_later low M window)
-
 reached-up : {S : Type 0} (asks : Asking S) (log : Id) (H : History) (low last : ℕ) (trees : Trees) (next : ℕ) (M : List Moment) (runs : List (RanOver S)) →
     GoOnOver asks log H low last trees next M runs → last ≤ reached_over last runs
 reached-up asks log H low last trees next M [] on = omega arith
@@ -210,7 +198,7 @@ honest_one asks log H low first last to b s count M next run kept was free up is
     let after : ℕ = era run.reached in
     let Q : Id → Type 0 = λ i. IsHonest asks run.path i run.before.count H low run.link N in
     let d = honest_kept asks run.path run.retries run.place run.reached run.old run.new run.link run.left run.before run.after run.steps run.ended run.records run.gaps H N s low kept
-    (subst Q (sym id) honest) (at ∙ is) (some_after count M some) (back_after count M back) (window_after low count M window) (λ f. (above, below)) in
+    (subst Q (sym id) honest) (at ∙ is) (some_after count M some) (back_after count M back) (after_in low count M window) (λ f. (above, below)) in
     let D : ℕ → Type 0 = λ x. DeliversTo H x kept.items d.1 N (length kept.came) in
     let goes = subst D (d.2 by_number) d.6 in
     let E : ℕ → Type 0 = λ e. Adds run.old.trees run.new.trees (kept_rows e kept.items) in
@@ -223,7 +211,7 @@ honest_one asks log H low first last to b s count M next run kept was free up is
     let one = subst K (sym reach) (runs_kept H first last run.old.trees run.new.trees b s d.1 count answers M kept.items was (subst F reach to_here) added (waits H s d.1 (length kept.came) run.unkept N kept.items goes)) in
     let covers = each_once H s d.1 (length kept.came) N kept.items goes in
     let later_free = subst B (sym reach) (still_none last to run.old.trees run.new.trees s d.1 kept.items free added covers) in
-    let place_is = stays_in_window H N low s d.1 (length kept.came) kept.items (some_after count M some) (window_after low count M window) above below goes in
+    let place_is = stays_in_window H N low s d.1 (length kept.came) kept.items (some_after count M some) (after_in low count M window) above below goes in
     (d.1, d.3, one, later_free, place_is.0, place_is.1)
 
 pub honest_runs : {S : Type 0} (asks : Asking S) → HonestRunsAreKept asks

@@ -12,7 +12,8 @@ use Rattle.bac_link.specs.Moments.{AreInWindow, NeverGoesBack}
 use Rattle.bac_link.specs.Path.{Path}
 use Rattle.bac_walk.specs.declared.outcome.Ended.TheVariants.{StepLimit}
 use Rattle.bac_walk.specs.Place.{WalkPlace, walk_at}
-use Rattle.bac_walk.proofs.Window.{stays_in_window}
+use Rattle.bac_walk.proofs.Window.{stays_in_window, after_in}
+use Rattle.bac_walk.proofs.Honest.{some_after, back_after}
 use Rattle.bac_archive.specs.Latest.{TellsNewest}
 use Rattle.bac_archive.specs.Rows.{kept, Adds}
 use Rattle.bac_archive.specs.declared.latest.NewestItem.{NewestItem}
@@ -22,7 +23,7 @@ use Rattle.bac_keep.specs.Honest.{HonestIsKept}
 use Rattle.bac_keep.specs.Items.{era, era_after, kept_rows}
 use Rattle.bac_keep.specs.Kept.{HasNoneBehind, IsKept, Ran, rows_at, AllRunsAreKept, BeginsEmpty}
 use Rattle.bac_keep.specs.Newest.{HasNoneLater, KeptIsCovered, NewestEndsWhatIsKept, NoneLaterStays, next_epoch, next_number}
-use Rattle.bac_keep.proofs.CameLemmas.{back_after, over_nothing, some_after, waits, window_after}
+use Rattle.bac_keep.proofs.CameLemmas.{over_nothing, waits}
 use Rattle.bac_keep_tests.proofs.CallerLemmas.{both_kept}
 use Rattle.bac_keep_tests.proofs.OverLemmas.{AnyEnd, Asking, from_any}
 
@@ -78,7 +79,7 @@ behind_crash asks asks_then law law_then begins all covers ends stays once path 
       λ wait honest_then reached new behind same second.
           let N : List Moment = after_answers (d.2 + wait) M in
           let e = from_any asks_then law_then path_then retries_then from reached mid new later w_then log next behind at_then second H N d.1 low honest_then number
-          (some_after (d.2 + wait) M some) (back_after (d.2 + wait) M back) (window_after low (d.2 + wait) M window) stay.0 stay.1 in (
+          (some_after (d.2 + wait) M some) (back_after (d.2 + wait) M back) (after_in low (d.2 + wait) M window) stay.0 stay.1 in (
             e.1,
             0 + ((d.2 + wait) + (e.2 + 0)),
             e.3,

@@ -17,7 +17,8 @@ use Rattle.bac_link.specs.Honest.{IsHonest}
 use Rattle.bac_link.specs.Moments.{AreInWindow, NeverGoesBack}
 use Rattle.bac_walk.specs.Outcomes.{IsRunOf}
 use Rattle.bac_walk.specs.Place.{WalkPlace, walk_at}
-use Rattle.bac_walk.proofs.Window.{stays_in_window}
+use Rattle.bac_walk.proofs.Window.{stays_in_window, after_in}
+use Rattle.bac_walk.proofs.Honest.{some_after, back_after}
 use Rattle.bac_archive.specs.Rows.{kept, Adds}
 use Rattle.bac_keep.specs.declared.keep.NotKept.{NotKept}
 use Rattle.bac_keep.specs.declared.place.Place.{Place}
@@ -25,7 +26,7 @@ use Rattle.bac_keep.specs.Items.{era, era_after, kept_rows}
 use Rattle.bac_keep.specs.Came.{KeepsOver}
 use Rattle.bac_keep.specs.Honest.{HonestIsKept}
 use Rattle.bac_keep.specs.Kept.{HasNoneBehind, IsKept, rows_at, AllRunsAreKept, BeginsEmpty}
-use Rattle.bac_keep.proofs.CameLemmas.{back_after, some_after, waits, window_after}
+use Rattle.bac_keep.proofs.CameLemmas.{waits}
 use Rattle.bac_keep_tests.proofs.CallerLemmas.{both_kept}
 
 abbrev pub Asking : Type 0 → Type 1
@@ -80,7 +81,7 @@ again_over asks asks_then law law_then begins all path path_then retries retries
       λ wait honest_then.
           let N : List Moment = after_answers (d.2 + wait) M in
           let e = from_any asks_then law_then path_then retries_then halfway reached mid new later w_then log next behind at_then second H N d.1 low honest_then d.3
-          (some_after (d.2 + wait) M some) (back_after (d.2 + wait) M back) (window_after low (d.2 + wait) M window) stay.0 stay.1 in (
+          (some_after (d.2 + wait) M some) (back_after (d.2 + wait) M back) (after_in low (d.2 + wait) M window) stay.0 stay.1 in (
             e.1,
             0 + ((d.2 + wait) + (e.2 + 0)),
             e.3,

@@ -22,11 +22,6 @@ use Rattle.bac_asked.specs.declared.end.NotDone.{NotDone}
 use Rattle.bac_keeper.proofs.FileLemmas.{fails_so, some_done}
 use Rattle.bac_archive.proofs.AroundLemmas.{made_is}
 
--- what holds of a result that went well, or didn't
-pub on_ok_so : {V E : Type 0} (r : Result V E) (P Q : Type 0) → (P → Q) → OnOk r P → OnOk r Q
-on_ok_so (Ok v) P Q f it = f it
-on_ok_so (Err e) P Q f it = tt
-
 pub on_err_so : {V E : Type 0} (r : Result V E) (P Q : Type 0) → (P → Q) → OnErr r P → OnErr r Q
 on_err_so (Ok v) P Q f it = tt
 on_err_so (Err e) P Q f it = f it

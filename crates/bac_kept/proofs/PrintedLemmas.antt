@@ -1,6 +1,5 @@
 -- What is printed of the items of logs.
-use Rattle.std.proofs.Common.{◌≡◌, refl, sym, ap, subst, ◌∙◌, ℕ, pos, List, [], ◌∷◌, ◌++◌, append_assoc, append-nil, Option, None, Some, true, ◌+◌, ◌<◌, ◌≤◌, length, take, get_or, arith, Result, Ok, Err, OnOk}
-use Rattle.std.proofs.lemmas.List.{take_more}
+use Rattle.std.proofs.Common.{◌≡◌, refl, sym, ap, subst, ◌∙◌, ℕ, pos, List, [], ◌∷◌, ◌++◌, append_assoc, append-nil, Option, None, Some, true, ◌+◌, ◌≤◌, arith}
 use Rattle.std.proofs.lemmas.List.Elements.{filter-append}
 use Rattle.std.specs.List.{filter}
 use Rattle.std.specs.Io.KnownBytes.{Appends, Keeps}
@@ -93,9 +92,6 @@ module _ (behind newest : Option Newest) (row : Values) (item : Item) (is : IsIt
       → Some (record { epoch = item.epoch; number = item.number }) ≡ newest_of newest (filter (is_new behind) (row ∷ []))
   newest_is so = rw (is.epoch, is.number) (ap (newest_of newest) (sym (one_new so)))
 
-pub whole_part : (a b : Held) (text : List ℕ) → Appends a b text → AppendsPart a b text
-whole_part a b text all = (text, [], sym (append-nil text), all)
-
 pub no_part : (a : Held) (text : List ℕ) → AppendsPart a a text
 no_part a text = ([], text, refl, Appends-nil a)
 
@@ -150,9 +146,6 @@ log_more which items [] log text one all it = (one, [], ap (λ l. l ++ one) all 
 log_more which items (l ∷ logs) log text one all it =
     (all.0, all.1 ++ one, ap (λ x. x ++ one) all.2 ∙ append_assoc all.0 all.1 one, all.3, log_more which items logs log all.1 one all.4 it)
 
-pub take_one : {X : Type 0} (all : List X) (at : ℕ) (x : X) → at < length all → x ≡ get_or all at x → take (at + 1) all ≡ take at all ++ x ∷ []
-take_one all at x lt is = take_more all at x lt ∙ ap (λ z. take at all ++ z ∷ []) (sym is)
-
 -- what was printed of the logs of an archive is so of the archive as it was
 pub are_shown : (Prints : List Values → List Log → List ℕ → Type 0) (whole : List ℕ → List ℕ) (old mid : Database) (all these : List Log) (a b c : Held)
     → mid ≡ old → these ≡ all → AreLogs old.trees all → ((text : List ℕ) × Prints (kept mid.trees) these text × Appends a b (whole text)) → Keeps b c
@@ -164,7 +157,3 @@ are_shown Prints whole old mid all these a b c same is are (text, printed, writt
   subst (λ (d : Database). Prints (kept d.trees) all text) same (subst (λ (l : List Log). Prints (kept mid.trees) l text) is printed),
   kept_behind a b c (whole text) written keeps,
 )
-
-pub on_ok : {A E : Type 0} (r : Result A E) (X : Type 0) → X → OnOk r X
-on_ok (Ok a) X x = x
-on_ok (Err e) X x = tt

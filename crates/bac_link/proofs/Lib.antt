@@ -5,3 +5,4 @@ pub mod Tries
 pub mod Client
 pub mod Honest
 pub mod Growing
+pub mod Flags

@@ -12,16 +12,13 @@ use Rattle.bac_query.specs.declared.find_fault.FindFault.TheVariants.{Socket, Re
 use Rattle.bac_ports.specs.Port.{Receiving, Sending}
 use Rattle.bac_ports.specs.declared.port.Heard.{Heard}
 use Rattle.bac_ports.specs.declared.port.SocketFault.TheVariants.{Timeout, Failed}
+use Rattle.bac_link.proofs.Flags.{or_none}
 
 -- ---- lists
 
 or_more : (a b c : Bool) → (a || (b || c)) ≡ ((a || b) || c)
 or_more true b c = refl
 or_more false b c = refl
-
-or_none : (a : Bool) → (a || false) ≡ a
-or_none true = refl
-or_none false = refl
 
 asked_both : (xs ys : List Turn) → asked_in (xs ++ ys) ≡ asked_in xs ++ asked_in ys
 asked_both [] ys = refl

@@ -13,6 +13,7 @@ use Rattle.bac_script.specs.Fault.{replay_fault, Refusal}
 use Rattle.bac_script.specs.Session.{step, end_fault, SessionState, Empty}
 use Rattle.bac_script.specs.Stops.{FaultStops, Stops, ScriptStops}
 use Rattle.bac_print.specs.Output.{AppendsPart}
+use Rattle.bac_print.proofs.Octets.{whole_part}
 use Rattle.bac_objects.specs.Build.{Refuses}
 use Rattle.bac_objects.specs.declared.build.BuildFault.{BuildFault}
 use Rattle.bac_objects.specs.declared.build.BuildFault.TheVariants as build
@@ -266,9 +267,6 @@ pub Replays-kept : (limit : ℕ) (have left old mid new : Option (List ℕ)) (r 
 unfolding Replays
 Replays-kept limit None left old mid new r ends kept = tt
 Replays-kept limit (Some script) left old mid new r ends kept = Ends-kept limit script left old mid new r ends kept
-
-whole_part : (old new : Option (List ℕ)) (text : List ℕ) → Appends old new text → AppendsPart old new text
-whole_part old new text written = (text, [], sym (append-nil text), written)
 
 -- the text of some first lines is a front part of that of all
 first_part : (old new : Option (List ℕ)) (all before after : List (List ℕ)) (t : SessionState) → all ≡ before ++ after → PlaysAll old new Empty before t → AppendsPart old new (play 1 Empty all).0

@@ -1,7 +1,7 @@
 -- What is printed of a link that is honest for a log.
 use Rattle.std.specs.Io.KnownBytes.{Appends}
 use Rattle.std.specs.Prelude.{IfOk}
-use Rattle.std.proofs.Common.{◌≡◌, ℕ, ◌+◌, ◌<◌, ◌≤◌, Option, None, Result, Ok, Err, List, ◌++◌, length, refl, subst, ◌∙◌}
+use Rattle.std.proofs.Common.{◌≡◌, ℕ, ◌+◌, ◌<◌, ◌≤◌, Option, None, Result, Ok, Err, List, ◌++◌, length, subst, ◌∙◌}
 use Rattle.bac_wire.specs.Primitive.{Id}
 use Rattle.bac_apdu.specs.Npdu.{Place}
 use Rattle.bac_log.specs.TrendLog.{sequence_number}
@@ -16,27 +16,14 @@ use Rattle.bac_query.specs.Ends.{end_line}
 use Rattle.bac_query.specs.Items.{items_text}
 use Rattle.bac_link.specs.Moments.{NeverGoesBack}
 use Rattle.bac_link.specs.Moments.{AreInWindow}
-use Rattle.bac_walk.specs.Outcomes.{IsRunOf}
 use Rattle.bac_walk.specs.Place.{WalkPlace, walk_at}
 use Rattle.bac_link.specs.Honest.{IsHonest, IsHonestWhere}
 use Rattle.bac_walk.specs.Honest.{IsHonestEnd, HonestIsDelivered}
-use Rattle.bac_walk.specs.declared.outcome.Ended.{Ended}
 use Rattle.bac_walk.specs.declared.outcome.Ended.TheVariants.{Fault}
 use Rattle.bac_walk.specs.declared.outcome.WalkFault.{WalkFault}
-use Rattle.bac_walk.specs.declared.outcome.WalkFault.TheVariants.{Lost, Refused, BadReply}
-use Rattle.bac_walk.specs.declared.outcome.Why.{Why}
+use Rattle.bac_walk.specs.declared.outcome.WalkFault.TheVariants.{Lost}
 use Rattle.bac_walk.specs.declared.outcome.Why.TheVariants as why
-
-ended_as : (w : Why) (steps n : ℕ) (ended : Ended) (e : WalkFault) → IsRunOf w steps n ended → w ≡ why.Fault e → ended ≡ Fault e
-ended_as why.CaughtUp steps n ended e run is = absurd (cc)
-ended_as why.StepLimit steps n ended e run is = absurd (cc)
-ended_as (why.Fault f) steps n ended e run is = let a = run.1 in cc
-ended_as why.Memory steps n ended e run is = absurd (cc)
-
-is_loss : (e : WalkFault) → IsHonestEnd (Fault e) → e ≡ Lost
-is_loss Lost end = refl
-is_loss (Refused refusal) end = absurd end
-is_loss BadReply end = absurd end
+use Rattle.bac_walk.proofs.Ends.{ended_as, is_loss}
 
 -- the lines of what such a link brought from the ordinal k on, and the end line
 abbrev pub PrintsSaid : History → List Moment → ℕ → Fetched → Held → Held → Type 0

@@ -1,6 +1,6 @@
 -- What `run` says of `bac log`: with status 0 no fault was told, so what came over the socket is printed; if the log
 -- doesn't change, all of it; and whatever is refused, a front part of it.
-use Rattle.std.proofs.Common.{Bool, ◌≡◌, ◌⊎◌, ◌∙◌, inl, inr, ℕ, ◌+◌, ◌-◌, ◌<◌, ◌≤◌, max, List, [], ◌∷◌, ◌++◌, Option, Some, Result, Ok, Err, false, refl, sym, ap, subst, append-nil, Bool, length, arith}
+use Rattle.std.proofs.Common.{Bool, ◌≡◌, ◌⊎◌, ◌∙◌, inl, inr, ℕ, ◌+◌, ◌-◌, ◌<◌, ◌≤◌, max, List, [], ◌∷◌, ◌++◌, Option, Some, Result, Ok, Err, false, refl, sym, ap, subst, Bool, length, arith}
 use Rattle.std.specs.Io.KnownBytes.{Appends, Keeps}
 use Rattle.bac_heeding.specs.Notes.{nothing as never_asked}
 use Rattle.bac_heeding.specs.declared.notes.Passed.{Passed}
@@ -17,6 +17,7 @@ use Rattle.bac_link.proofs.Delivers.{after_one}
 use Rattle.bac_log.specs.TrendLog.{sequence_number}
 use Rattle.bac_ports.specs.declared.udp_link.UdpLink.{UdpLink}
 use Rattle.bac_print.specs.Output.{AppendsPart, Held}
+use Rattle.bac_print.proofs.Octets.{whole_part}
 use Rattle.bac_query.specs.Ahead.{FetchesAhead, IsLeftAhead}
 use Rattle.bac_query.specs.Fetching.{Fetching, IsEnd, TellsRun}
 use Rattle.bac_query.specs.declared.fault.QueryFault.TheVariants as query
@@ -210,21 +211,17 @@ rested rules asked walk steps port last old new done (Ok said) end left zero is_
 
 -- ---- whatever is refused
 
--- the whole is one too
-whole : (old new : Held) (text : List ℕ) → Appends old new text → AppendsPart old new text
-whole old new text appends = (text, [], sym (append-nil text), appends)
-
 pub cut_over : {P : Type 0} (asks : UdpLink P → List ℕ → Result (List ℕ) Loss → UdpLink P → Type 0) (left : Why → Type 0)
     (items : List Item) (steps n : ℕ) (e : Ended) (after : WalkPlace) (fetching : Fetching) (old new : Held) →
     TellsRun Lines left items steps n e after fetching old new →
     (w : Why) × (next : ℕ) × AppendsPart old new (items_text items ++ end_line w next)
 cut_over asks left items steps n e after (Ok fetched) old new tells =
-    (fetched.why, fetched.next, whole old new _ tells.2)
+    (fetched.why, fetched.next, whole_part old new _ tells.2)
 cut_over asks left items steps n e after (Err query.Write) old new (inl tells) =
     (why.StepLimit, 0, part_of_longer old new (items_text items) (end_line why.StepLimit 0) tells.2)
 cut_over asks left items steps n e after (Err query.Write) old new (inr tells) = (tells.0, tells.1, tells.4)
 cut_over asks left items steps n e after (Err query.Memory) old new tells =
-    (tells.0, tells.1, part_of_longer old new (items_text items) (end_line tells.0 tells.1) (whole old new (items_text items) tells.4))
+    (tells.0, tells.1, part_of_longer old new (items_text items) (end_line tells.0 tells.1) (whole_part old new (items_text items) tells.4))
 cut_over asks left items steps n e after (Err (query.Exchange fault)) old new tells = absurd tells
 
 -- ---- over a socket

@@ -44,3 +44,4 @@ pub mod Window
 pub mod Loggable
 pub mod Follows
 pub mod Flaws
+pub mod Ends

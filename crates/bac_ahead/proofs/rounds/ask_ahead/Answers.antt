@@ -1,10 +1,10 @@
 use Rattle.std.proofs.Common.{◌<◌, ◌≤◌, [], length, rules, refl, arith}
-use Rattle.bac_asked.proofs.Results.{because}
 use Rattle.bac_hearing.specs.Hearing.{paced}
 use Rattle.bac_ports.specs.Sockets.{socket_rules}
 use Rattle.bac_ahead.proofs.Parted.{fewer}
 use Rattle.bac_ahead.proofs.Rounded.{fails, no_more, round_more, unending}
 use Rattle.bac_ahead.proofs.rounds.ask_ahead.Goals as goal
+use Rattle.bac_archive.proofs.RowsLemmas.{because}
 
 pub loop-split-init : goal.loop-split-init
 loop-split-init g c = ([], refl, search rules)

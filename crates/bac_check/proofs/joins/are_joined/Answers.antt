@@ -7,9 +7,9 @@ use Rattle.sqlite.specs.Held.{state}
 use Rattle.bac_archive.specs.Rows.{kept}
 use Rattle.bac_check.specs.Joins.{IsJoined}
 use Rattle.bac_check.specs.declared.course.Course.{Course}
-use Rattle.bac_check.proofs.JoinLemmas.{take_one}
 use Rattle.bac_archive.specs.Schema.{HasArchive}
 use Rattle.bac_check.proofs.joins.are_joined.Goals as goal
+use Rattle.bac_asked.proofs.Results.{take_one}
 
 pub loop-course-preserved : goal.loop-course-preserved
 loop-course-preserved g c =

@@ -1,9 +1,11 @@
 use Rattle.std.proofs.Common.{refl, rules, arith}
-use Rattle.bac_check.proofs.AskedLemmas.{on_err_then, unasked}
-use Rattle.bac_check.proofs.EpochLemmas.{begins_spans, if_ok, plain_at}
+use Rattle.bac_check.proofs.AskedLemmas.{unasked}
+use Rattle.bac_check.proofs.EpochLemmas.{begins_spans, plain_at}
 use Rattle.sqlite.specs.Held.{state}
 use Rattle.bac_check.specs.Epochs.{spans_text}
 use Rattle.bac_check.proofs.rows.spans_in.Goals as goal
+use Rattle.bac_archive.proofs.CauseLemmas.{on_err_then}
+use Rattle.bac_archive.proofs.QueryLemmas.{if_ok}
 
 pub returns : goal.returns
 returns g c = (

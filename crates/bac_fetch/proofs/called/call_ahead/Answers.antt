@@ -1,10 +1,10 @@
 use Rattle.std.proofs.Common.{inl, rules}
 use Rattle.sqlite.specs.Held.{state}
-use Rattle.bac_asked.proofs.Results.{because}
 use Rattle.bac_ports.specs.Sockets.{socket_rules}
 use Rattle.bac_fetch.specs.Ahead.{at_once}
 use Rattle.bac_fetch.proofs.CalledLemmas.{call_on_ends}
 use Rattle.bac_fetch.proofs.called.call_ahead.Goals as goal
+use Rattle.bac_archive.proofs.RowsLemmas.{because}
 
 pub returns-in_err-calling-clause-caused : goal.returns-in_err-calling-clause-caused
 returns-in_err-calling-clause-caused g c clean has =

@@ -3,10 +3,10 @@ use Rattle.sqlite.specs.Held.{state}
 use Rattle.bac_ports.specs.Sockets.{socket_rules}
 use Rattle.bac_fetch.specs.Heeds.{heeding}
 use Rattle.bac_ahead.specs.Ahead.{trend_log}
-use Rattle.bac_asked.proofs.Results.{because}
 use Rattle.bac_fetch.proofs.CausesLemmas.{rows_leave}
 use Rattle.bac_fetch.proofs.KeepsLemmas.{keeps_log}
 use Rattle.bac_fetch.proofs.fetching.fetch.Goals as goal
+use Rattle.bac_archive.proofs.RowsLemmas.{because}
 
 pub returns-clause-kept : goal.returns-clause-kept
 returns-clause-kept g c clean has =

@@ -2,7 +2,6 @@ use Rattle.std.proofs.Common.{◌≡◌, refl, rules, subst, sym, ◌∙◌}
 use Rattle.std.proofs.lemmas.Result.{IfOk-weaker}
 use Rattle.bac_keep.specs.declared.keep.NotKept.TheVariants.{NoArchive}
 use Rattle.bac_fetch.proofs.CausesLemmas.{never}
-use Rattle.bac_asked.proofs.Results.{because}
 use Rattle.sqlite.specs.Effect.{Database}
 use Rattle.sqlite.specs.State.{HasCleanDisk}
 use Rattle.sqlite.specs.Held.{state}
@@ -13,6 +12,7 @@ use Rattle.bac_fetch.specs.Stays.{HasSameLogs}
 use Rattle.bac_fetch.proofs.EndsLemmas.{before_left, before_steps, comes_from, either_way, keeps_from}
 use Rattle.bac_fetch.proofs.SameLemmas.{adds_same, same_quiet_last, survives_as}
 use Rattle.bac_fetch.proofs.fetching.keep_behind.Goals as goal
+use Rattle.bac_archive.proofs.RowsLemmas.{because}
 
 pub returns-clause-kept : goal.returns-clause-kept
 returns-clause-kept g c clean has =

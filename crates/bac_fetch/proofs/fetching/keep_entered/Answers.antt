@@ -1,12 +1,12 @@
 use Rattle.std.proofs.Common.{Ok, rules, inl, inr, subst, sym}
 use Rattle.sqlite.specs.State.{HasCleanDisk}
 use Rattle.sqlite.specs.Held.{state}
-use Rattle.bac_asked.proofs.Results.{because}
 use Rattle.bac_fetch.proofs.KeepsLemmas.{admit_schema, marked_schema}
 use Rattle.bac_fetch.proofs.StaysLemmas.{admitted_keeps, admitted_stays, all_then, begun_stays, leaves_rows, marks_stay, leaves_word, rows_of_same, rows_then, same_after, stays_then}
 use Rattle.bac_fetch.proofs.SameLemmas.{begun_same, marks_same, same_then}
 use Rattle.bac_fetch.specs.Stays.{HasRows}
 use Rattle.bac_archive.specs.Schema.{HasArchive}
+use Rattle.bac_archive.proofs.RowsLemmas.{because}
 use Rattle.bac_fetch.proofs.fetching.keep_entered.Goals as goal
 
 pub returns-clause-kept : goal.returns-clause-kept

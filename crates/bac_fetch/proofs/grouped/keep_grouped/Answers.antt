@@ -3,13 +3,13 @@ use Rattle.std.specs.Io.KnownBytes.{Keeps, append_known}
 use Rattle.sqlite.specs.Effect.{Database}
 use Rattle.sqlite.specs.State.{HasCleanDisk}
 use Rattle.sqlite.specs.Held.{state}
-use Rattle.bac_asked.proofs.Results.{because}
 use Rattle.bac_asked.specs.Lines.{summary_line}
 use Rattle.bac_ports.specs.Sockets.{socket_rules}
 use Rattle.bac_fetch.specs.Keeps.{KeepsNext}
 use Rattle.bac_fetch.proofs.GroupLemmas.{commit_stays, line_waits}
 use Rattle.bac_fetch.proofs.StaysLemmas.{next_stays}
 use Rattle.bac_fetch.proofs.grouped.keep_grouped.Goals as goal
+use Rattle.bac_archive.proofs.RowsLemmas.{because}
 
 pub returns-clause-told : goal.returns-clause-told
 returns-clause-told g c =

@@ -18,10 +18,10 @@ use Rattle.bac_fetch.proofs.StaysLemmas.{all_itself, all_then, itself_stays, nex
 use Rattle.std.specs.List.{Contains}
 use Rattle.bac_fetch.specs.Faults.{HasNoInstance, IsNoInstance}
 use Rattle.bac_fetch.proofs.FaultsLemmas.{ends_so}
-use Rattle.bac_asked.proofs.Results.{because}
 use Rattle.bac_absent.proofs.Taken.{taken_apart}
 use Rattle.bac_fetch.proofs.TakenLemmas.{has_taken}
 use Rattle.bac_archive.specs.Schema.{HasArchive}
+use Rattle.bac_archive.proofs.RowsLemmas.{because}
 use Rattle.bac_fetch.proofs.grouped.keep_known.Goals as goal
 
 pub loop-wanted-preserved : goal.loop-wanted-preserved

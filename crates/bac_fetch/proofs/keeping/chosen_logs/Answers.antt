@@ -1,10 +1,10 @@
 use Rattle.std.proofs.Common.{rules, subst}
-use Rattle.bac_asked.proofs.Results.{because}
 use Rattle.bac_ports.specs.Sockets.{socket_rules}
 use Rattle.bac_fetch.specs.Ahead.{at_once}
 use Rattle.bac_fetch.specs.Chosen.{AskTheirSources}
 use Rattle.bac_fetch.proofs.FaultsLemmas.{kept_there}
 use Rattle.bac_fetch.proofs.keeping.chosen_logs.Goals as goal
+use Rattle.bac_archive.proofs.RowsLemmas.{because}
 
 pub returns-in_err-all-in-Kept-clause-fault : goal.returns-in_err-all-in-Kept-clause-fault
 returns-in_err-all-in-Kept-clause-fault g c =

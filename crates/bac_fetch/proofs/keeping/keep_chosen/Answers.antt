@@ -10,10 +10,10 @@ use Rattle.bac_fetch.specs.Keeps.{KeepsLogs, lines_of}
 use Rattle.bac_fetch.specs.Unlisted.{unlisted_lines}
 use Rattle.bac_asked.specs.AsLog.{given_in}
 use Rattle.bac_archive.specs.Schema.{OverArchive, HasArchive}
+use Rattle.bac_archive.proofs.RowsLemmas.{because}
 use Rattle.bac_fetch.specs.Faults.{EndsKeeping, HasNone, LacksAddress}
 use Rattle.bac_fetch.proofs.CausesLemmas.{chosen_so}
 use Rattle.bac_fetch.proofs.FaultsLemmas.{run_of}
-use Rattle.bac_asked.proofs.Results.{because}
 use Rattle.bac_fetch.proofs.StaysLemmas.{quiet_first, quiet_stays}
 use Rattle.bac_fetch.proofs.keeping.keep_chosen.Goals as goal
 

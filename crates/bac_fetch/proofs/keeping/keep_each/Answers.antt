@@ -4,7 +4,6 @@ use Rattle.sqlite.specs.State.{HasCleanDisk}
 use Rattle.sqlite.specs.Held.{state}
 use Rattle.bac_fetch.specs.Ahead.{at_once}
 use Rattle.bac_ports.specs.Sockets.{socket_rules}
-use Rattle.bac_asked.proofs.Results.{because}
 use Rattle.bac_fetch.specs.Faults.{HasNoInstance, LacksAddress}
 use Rattle.bac_fetch.proofs.FaultsLemmas.{all_end_so}
 use Rattle.bac_asked.specs.AsLog.{given_in}
@@ -12,6 +11,7 @@ use Rattle.bac_fetch.proofs.CalledLemmas.{logs_end, logs_kept}
 use Rattle.bac_fetch.proofs.MovesLemmas.{settles_schema, settles_stay}
 use Rattle.bac_fetch.proofs.StaysLemmas.{stays_then}
 use Rattle.bac_archive.specs.Schema.{HasArchive}
+use Rattle.bac_archive.proofs.RowsLemmas.{because}
 use Rattle.bac_fetch.proofs.keeping.keep_each.Goals as goal
 
 pub returns-clause-told : goal.returns-clause-told

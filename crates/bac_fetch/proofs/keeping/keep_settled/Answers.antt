@@ -1,4 +1,3 @@
-use Rattle.bac_asked.proofs.Results.{because}
 use Rattle.std.proofs.Common.{◌≡◌, List, inr, subst, sym, rules, inl}
 use Rattle.std.proofs.lemmas.Result.{IfErr-weaker, IfOk-weaker}
 use Rattle.sqlite.specs.Effect.{Database}
@@ -12,6 +11,7 @@ use Rattle.bac_fetch.specs.Causes.{EndsCalled}
 use Rattle.bac_fetch.specs.Keeps.{KeepsCalled}
 use Rattle.bac_fetch.proofs.StaysLemmas.{quiet_first, quiet_stays}
 use Rattle.bac_archive.specs.Schema.{HasArchive}
+use Rattle.bac_archive.proofs.RowsLemmas.{because}
 use Rattle.bac_fetch.proofs.keeping.keep_settled.Goals as goal
 
 pub returns-clause-told : goal.returns-clause-told

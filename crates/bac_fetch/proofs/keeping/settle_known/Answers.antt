@@ -1,4 +1,3 @@
-use Rattle.bac_asked.proofs.Results.{because}
 use Rattle.std.proofs.Common.{◌≡◌, List, inr, subst, sym, rules, inl}
 use Rattle.std.proofs.lemmas.Result.{IfErr-weaker, IfOk-weaker}
 use Rattle.sqlite.specs.Effect.{Database}
@@ -13,6 +12,7 @@ use Rattle.bac_asked.specs.AsLog.{given_in}
 use Rattle.bac_fetch.specs.Faults.{HaveNoAddress}
 use Rattle.bac_fetch.proofs.FaultsLemmas.{all_end_so}
 use Rattle.bac_archive.specs.Schema.{HasArchive}
+use Rattle.bac_archive.proofs.RowsLemmas.{because}
 use Rattle.bac_fetch.proofs.keeping.settle_known.Goals as goal
 
 pub returns-clause-settled : goal.returns-clause-settled

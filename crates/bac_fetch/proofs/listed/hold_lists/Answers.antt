@@ -1,12 +1,12 @@
 use Rattle.std.proofs.Common.{◌≡◌, ◌∙◌, List, ap, inr, map, rules, subst}
 use denote.Ref.{Bor}
-use Rattle.bac_asked.proofs.Results.{because}
 use Rattle.bac_asked.specs.declared.wanted.Wanted.{Wanted}
 use Rattle.bac_hearing.specs.Hearing.{paced}
 use Rattle.bac_fetch.specs.Listed.{devices_of}
 use Rattle.bac_listing.specs.Devices.{EndsLists, ListsAhead}
 use Rattle.bac_ports.specs.Sockets.{socket_rules}
 use Rattle.bac_fetch.proofs.listed.hold_lists.Goals as goal
+use Rattle.bac_archive.proofs.RowsLemmas.{because}
 
 pub returns-clause-holds : goal.returns-clause-holds
 returns-clause-holds g c =

@@ -1,10 +1,10 @@
 use Rattle.std.proofs.Common.{rules, inr, inl, ◌≡◌, true, refl, sym, subst}
 use Rattle.std.proofs.lemmas.Result.{IfErr-weaker, IfOk-weaker}
 use Rattle.bac_archive.specs.declared.trend_logs.Source.{Source}
+use Rattle.bac_archive.proofs.RowsLemmas.{because}
 use Rattle.bac_questions.specs.Silent.{is_same_device}
 use Rattle.bac_asked.specs.AsLog.{given_in}
 use Rattle.bac_fetch.proofs.FaultsLemmas.{copy_no_address}
-use Rattle.bac_asked.proofs.Results.{because}
 use Rattle.bac_fetch.proofs.moving.identify_there.Goals as goal
 
 pub returns-clause-identifies : goal.returns-clause-identifies

@@ -1,6 +1,6 @@
 use Rattle.std.proofs.Common.{inl, inr, rules}
-use Rattle.bac_asked.proofs.Results.{because}
 use Rattle.bac_fetch.proofs.moving.settle_first.Goals as goal
+use Rattle.bac_archive.proofs.RowsLemmas.{because}
 
 pub returns-in_err-said-clause-caused : goal.returns-in_err-said-clause-caused
 returns-in_err-said-clause-caused g c =

@@ -1,11 +1,11 @@
-use Rattle.bac_asked.proofs.Results.{because}
 use Rattle.std.proofs.Common.{◌≡◌, ◌∙◌, MatchBool, List, refl, subst, sym, rules, inl}
 use Rattle.sqlite.specs.Held.{state}
 use Rattle.bac_archive.specs.Changes.{HasChangedLogs}
 use Rattle.bac_archive.specs.declared.trend_logs.Log.{Log}
+use Rattle.bac_archive.proofs.QueryLemmas.{on_ok}
+use Rattle.bac_archive.proofs.RowsLemmas.{because}
 use Rattle.bac_ports.specs.Sockets.{socket_rules}
 use Rattle.bac_fetch.specs.Moves.{AreMoved, AsksThere}
-use Rattle.bac_fetch.proofs.QuietLemmas.{on_ok}
 use Rattle.bac_fetch.proofs.moving.settle_from.Goals as goal
 
 pub returns-then-is_told-clause-settled : goal.returns-then-is_told-clause-settled

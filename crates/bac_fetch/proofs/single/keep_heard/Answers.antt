@@ -5,8 +5,8 @@ use Rattle.sqlite.specs.Held.{state}
 use Rattle.bac_ports.specs.Sockets.{socket_rules}
 use Rattle.bac_asked.specs.declared.end.Ending.{Ending}
 use Rattle.bac_fetch.specs.Keeps.{KeepsUnless}
-use Rattle.bac_asked.proofs.Results.{because}
 use Rattle.bac_fetch.proofs.single.keep_heard.Goals as goal
+use Rattle.bac_archive.proofs.RowsLemmas.{because}
 
 pub returns-clause-told : goal.returns-clause-told
 returns-clause-told g c =

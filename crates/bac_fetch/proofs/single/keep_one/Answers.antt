@@ -7,10 +7,10 @@ use Rattle.bac_ports.specs.Sockets.{socket_rules}
 use Rattle.bac_fetch.specs.Causes.{EndsFetch}
 use Rattle.bac_ahead.specs.Ahead.{trend_log}
 use Rattle.bac_fetch.specs.Keeps.{KeepsLog}
-use Rattle.bac_asked.proofs.Results.{because}
 use Rattle.bac_fetch.proofs.CausesLemmas.{entry_leaves, leaves_behind, rows_leave}
 use Rattle.bac_fetch.proofs.StaysLemmas.{quiet_first, quiet_stays}
 use Rattle.bac_archive.specs.Schema.{HasArchive}
+use Rattle.bac_archive.proofs.RowsLemmas.{because}
 use Rattle.bac_fetch.proofs.single.keep_one.Goals as goal
 
 pub returns-clause-told : goal.returns-clause-told

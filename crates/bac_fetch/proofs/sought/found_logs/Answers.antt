@@ -1,12 +1,12 @@
 use Rattle.std.proofs.Common.{List, inl, inr, rules, subst}
 use Rattle.std.proofs.lemmas.Result.{IfErr-weaker, IfOk-weaker}
-use Rattle.bac_asked.proofs.Results.{because}
 use Rattle.bac_fetch.specs.Ahead.{at_once}
 use Rattle.bac_fetch.specs.Listed.{EndsHolding}
 use Rattle.bac_fetch.specs.declared.sought.Sought.{Sought}
 use Rattle.bac_ports.specs.Sockets.{socket_rules}
 use Rattle.bac_fetch.proofs.SoughtLemmas.{holds_so}
 use Rattle.bac_fetch.proofs.sought.found_logs.Goals as goal
+use Rattle.bac_archive.proofs.RowsLemmas.{because}
 
 pub returns-clause-found : goal.returns-clause-found
 returns-clause-found g c =

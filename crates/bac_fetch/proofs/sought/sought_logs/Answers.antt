@@ -4,7 +4,6 @@ use Rattle.std.proofs.KnownBytes.{Appends-trans}
 use Rattle.std.proofs.lemmas.List.Elements.{All-contains}
 use Rattle.std.specs.Io.KnownBytes.{Appends}
 use Rattle.std.specs.List.{Contains}
-use Rattle.bac_asked.proofs.Results.{because}
 use Rattle.bac_fetch.specs.Chosen.{AddSought, AskOneSource, told_by, unlisted_by}
 use Rattle.bac_fetch.specs.Faults.{EndsAt}
 use Rattle.bac_fetch.specs.Unlisted.{unlisted_lines}
@@ -14,6 +13,7 @@ use Rattle.bac_fetch.proofs.SoughtLemmas.{add_one, all_ask, ends_at, lines_behin
 use Rattle.bac_absent.proofs.Taken.{taken_apart}
 use Rattle.bac_fetch.proofs.TakenLemmas.{has_taken}
 use Rattle.bac_fetch.proofs.sought.sought_logs.Goals as goal
+use Rattle.bac_archive.proofs.RowsLemmas.{because}
 
 pub logs_of_device-requires : goal.logs_of_device-requires
 logs_of_device-requires g c =

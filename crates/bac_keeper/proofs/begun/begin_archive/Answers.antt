@@ -4,9 +4,9 @@ use Rattle.sqlite_wal.specs.Files.{image_at}
 use Rattle.sqlite.specs.Effect.{Database}
 use Rattle.sqlite.specs.Held.{Held, state}
 use Rattle.bac_archive.specs.Schema.{no_schema, HasArchive}
-use Rattle.bac_asked.proofs.Results.{because}
-use Rattle.bac_archive.proofs.RowsLemmas.{on_err}
-use Rattle.bac_keeper.proofs.BegunLemmas.{all_fail_so, archive_of, bars_made, begins_opened, not_both, on_err_so, on_ok_so}
+use Rattle.bac_archive.proofs.RowsLemmas.{on_err, because}
+use Rattle.bac_archive.proofs.PartsLemmas.{on_ok_then}
+use Rattle.bac_keeper.proofs.BegunLemmas.{all_fail_so, archive_of, bars_made, begins_opened, not_both, on_err_so}
 use Rattle.bac_keeper.proofs.FileLemmas.{fails_so}
 use Rattle.bac_keeper.specs.Ends.{IsNoArchive}
 use Rattle.bac_keeper.proofs.begun.begin_archive.Goals as goal
@@ -20,7 +20,7 @@ returns-clause-archive g c clean =
       | inl same ↦ inl (ap (λ (h : Held _). (state g.A.Store h).now) same)
       | inr none ↦ inr none.0
     ] in
-    on_ok_so c.open_told.result _ _ (archive_of found mid archive either) (c.open_told.ensures.archive clean)
+    on_ok_then c.open_told.result _ _ (archive_of found mid archive either) (c.open_told.ensures.archive clean)
 
 pub returns-clause-begun : goal.returns-clause-begun
 returns-clause-begun g c clean =
@@ -28,7 +28,7 @@ returns-clause-begun g c clean =
     let found = (state g.A.Store c.args.conn.now).now in
     let mid = (state g.A.Store c.begin_part.new.conn).now in
     let archive = (state g.A.Store c.open_told.new.conn).now in
-    on_ok_so c.open_told.result _ _
+    on_ok_then c.open_told.result _ _
     (λ is. begins_opened disk (image_at g.G.Start) c.args.place.now.before c.begin_part.new.parts found mid archive is (c.in_ok-begin_part.ensures.begins (c.open_told.ensures.clean clean)))
     (c.open_told.ensures.archive clean)
 

@@ -5,11 +5,11 @@ use Rattle.std.specs.List.{AllZip, Contains}
 use Rattle.bac_asked.specs.AsLog.{Given}
 use Rattle.bac_asked.specs.Faults.{WantsMemory}
 use Rattle.bac_asked.specs.Wanted.{AreNoOptions}
-use Rattle.bac_asked.proofs.Results.{because}
 use Rattle.bac_keeper.specs.Done.{Seeks, SeeksNone, given_of}
 use Rattle.bac_keeper.proofs.SeekLemmas.{none_kept, none_these, seeks_kept, seeks_these}
 use Rattle.bac_words.specs.declared.group.Group.{Group}
 use Rattle.bac_keeper.proofs.keeping.choose.Goals as goal
+use Rattle.bac_archive.proofs.RowsLemmas.{because}
 
 pub returns-then-is_empty-clause-chosen : goal.returns-then-is_empty-clause-chosen
 returns-then-is_empty-clause-chosen c =

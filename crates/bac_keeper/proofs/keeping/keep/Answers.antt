@@ -11,11 +11,11 @@ use Rattle.bac_keeper.specs.Done.{EndsChosenKeep, EndsKeep, EndsOver, RefusesKee
 use Rattle.std.specs.String.{string_bytes}
 use Rattle.bac_keeper.specs.Begun.{BarsPart, BeginsOn}
 use Rattle.bac_keeper.specs.Ends.{IsNotOpened}
-use Rattle.bac_asked.proofs.Results.{because}
 use Rattle.bac_keeper.proofs.FileLemmas.{all_ask_so, all_fail, asks_file, ended_by, file_asks, done_named, fails_clean, fails_file, fails_so, keeps_in, loses_none, none_closed, refused_by}
 use Rattle.bac_words.specs.Groups.{are_any}
 use Rattle.bac_keeper.proofs.NamesLemmas.{asks_none, may_ask, never_fails}
 use Rattle.bac_keeper.proofs.keeping.keep.Goals as goal
+use Rattle.bac_archive.proofs.RowsLemmas.{because}
 
 pub returns-clause-kept : goal.returns-clause-kept
 returns-clause-kept g c =

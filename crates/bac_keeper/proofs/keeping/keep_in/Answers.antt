@@ -5,11 +5,11 @@ use Rattle.sqlite.specs.Held.{state}
 use Rattle.sqlite.specs.State.{HasCleanDisk}
 use Rattle.bac_fetch.specs.Chosen.{AreChosen}
 use Rattle.bac_fetch.specs.Keeps.{KeepsLogs}
-use Rattle.bac_asked.proofs.Results.{because}
 use Rattle.bac_keeper.proofs.ArchiveLemmas.{loses_nothing, tells_weaker}
 use Rattle.bac_fetch.specs.Faults.{EndsKeeping, HasNone, LacksAddress}
 use Rattle.bac_keeper.specs.Archives.{IsHeld, KeepsArchive}
 use Rattle.bac_archive.specs.Schema.{OverArchive, HasArchive}
+use Rattle.bac_archive.proofs.RowsLemmas.{because}
 use Rattle.bac_keeper.specs.Done.{EndsOver, TellsThese}
 use Rattle.bac_fetch.specs.Ahead.{at_once}
 use Rattle.bac_ports.specs.Sockets.{socket_rules}

@@ -1,8 +1,8 @@
 use Rattle.std.proofs.Common.{◌≡◌, [], inl, inr, length, arith, rules}
 use Rattle.std.proofs.lemmas.Bool.Decides.{nat_tests}
 use Rattle.std.proofs.lemmas.List.{nil_from_length}
-use Rattle.bac_asked.proofs.Results.{because}
 use Rattle.bac_keeper.proofs.keeping.seek_by.Goals as goal
+use Rattle.bac_archive.proofs.RowsLemmas.{because}
 
 pub returns-then-is_empty-clause-seeks : goal.returns-then-is_empty-clause-seeks
 returns-then-is_empty-clause-seeks c =

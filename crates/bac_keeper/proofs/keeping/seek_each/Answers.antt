@@ -3,13 +3,13 @@ use Rattle.std.proofs.lemmas.List.{take_more}
 use Rattle.std.proofs.lemmas.List.Elements.{All-push, All-same, Contains-get_or}
 use Rattle.std.specs.List.{AllZip, Contains}
 use Rattle.bac_asked.specs.AsLog.{given_in}
-use Rattle.bac_asked.proofs.Results.{because}
 use Rattle.bac_fetch.specs.Chosen.{AskOneSource}
 use Rattle.bac_fetch.specs.declared.sought.Sought.{Sought}
 use Rattle.bac_keeper.specs.Done.{Seeks}
 use Rattle.bac_keeper.proofs.SeekLemmas.{zip_push}
 use Rattle.bac_words.specs.declared.group.Group.{Group}
 use Rattle.bac_keeper.proofs.keeping.seek_each.Goals as goal
+use Rattle.bac_archive.proofs.RowsLemmas.{because}
 
 -- those that were taken and this one
 one_more : (groups : List Group) (i : ℕ) (group : Group) → i < length groups → group ≡ get_or groups i group → take (i + 1) groups ≡ take i groups ++ group ∷ []

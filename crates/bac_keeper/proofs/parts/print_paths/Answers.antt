@@ -1,10 +1,10 @@
 use Rattle.std.proofs.Common.{◌≡◌, false, ◌∷◌, [], map, take, ap, sym, subst, subst₂, ◌∙◌, rules}
 use Rattle.std.proofs.lemmas.List.{map-append}
 use Rattle.std.specs.String.{string_bytes}
-use Rattle.bac_kept.proofs.PrintedLemmas.{take_one}
 use Rattle.bac_keeper.proofs.PartedLemmas.{paths_more}
 use Rattle.bac_keeper.specs.Parted.{PrintsPath, PrintsPaths, at_part}
 use Rattle.bac_keeper.proofs.parts.print_paths.Goals as goal
+use Rattle.bac_asked.proofs.Results.{take_one}
 
 pub loop-path-preserved : goal.loop-path-preserved
 loop-path-preserved g c =

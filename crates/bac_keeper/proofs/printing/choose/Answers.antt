@@ -6,8 +6,8 @@ use Rattle.bac_asked.specs.declared.wanted.Wanted.{Wanted}
 use Rattle.bac_keeper.specs.Shown.{Shows, ShowsBy, ShowsNoneBy, none_given}
 use Rattle.bac_kept.specs.declared.printing.Shown.TheVariants.{One, Device}
 use Rattle.bac_words.specs.declared.job.Kept.{Kept}
-use Rattle.bac_asked.proofs.Results.{because}
 use Rattle.bac_keeper.proofs.printing.choose.Goals as goal
+use Rattle.bac_archive.proofs.RowsLemmas.{because}
 
 one_of : (words : Kept) (address instance : Text) (wanted : Wanted) → words.address ≡ Some address → words.instance ≡ Some instance
     → IsAskedBy (log_words address instance none_given) wanted.asking → AsksItsSource wanted → Shows words (One wanted.source)

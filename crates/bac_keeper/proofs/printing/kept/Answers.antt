@@ -5,10 +5,10 @@ use Rattle.bac_keeper.specs.Ends.{IsNotOpened}
 use Rattle.bac_asked.specs.Faults.{RefusesLine, WantsMemory}
 use Rattle.bac_asked.specs.declared.end.NotDone.{NotDone}
 use Rattle.bac_keeper.specs.Shown.{EndsPrint, RefusesPrint}
-use Rattle.bac_asked.proofs.Results.{because}
 use Rattle.bac_keeper.proofs.FileLemmas.{all_ask_so, all_fail, closed_asks, file_asks, done_named, fails_file, fails_so, prints_in}
 use Rattle.bac_keeper.proofs.NamesLemmas.{asks_unshown, may_ask, never_fails}
 use Rattle.bac_keeper.proofs.printing.kept.Goals as goal
+use Rattle.bac_archive.proofs.RowsLemmas.{because}
 
 pub returns-clause-named : goal.returns-clause-named
 returns-clause-named g c =

@@ -2,10 +2,10 @@ use Rattle.std.proofs.Common.{◌⊎◌, rules, inl, inr}
 use Rattle.bac_asked.specs.Faults.{RefusesLine, WantsMemory}
 use Rattle.bac_asked.specs.declared.end.NotDone.{NotDone}
 use Rattle.sqlite.specs.Held.{state}
-use Rattle.bac_asked.proofs.Results.{because}
 use Rattle.bac_keeper.proofs.FileLemmas.{fails_so, file_asks}
 use Rattle.bac_keeper.proofs.PrintLemmas.{all_print_ask, all_print_fails}
 use Rattle.bac_keeper.proofs.printing.print_in.Goals as goal
+use Rattle.bac_archive.proofs.RowsLemmas.{because}
 
 pub returns-in_err-open_archive-clause-fault : goal.returns-in_err-open_archive-clause-fault
 returns-in_err-open_archive-clause-fault g c =

@@ -1,8 +1,8 @@
 use Rattle.std.proofs.Common.{◌≡◌, [], inl, inr, length, refl, arith, rules}
 use Rattle.std.proofs.lemmas.Bool.Decides.{nat_tests}
 use Rattle.std.proofs.lemmas.List.{nil_from_length}
-use Rattle.bac_asked.proofs.Results.{because}
 use Rattle.bac_keeper.proofs.stopping.meant_by.Goals as goal
+use Rattle.bac_archive.proofs.RowsLemmas.{because}
 
 pub returns-then-is_empty-clause-means : goal.returns-then-is_empty-clause-means
 returns-then-is_empty-clause-means c =

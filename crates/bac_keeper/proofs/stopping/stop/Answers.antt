@@ -3,13 +3,13 @@ use Rattle.sqlite_wal.specs.Files.{image_at}
 use Rattle.bac_files.specs.Files.{IsNamed}
 use Rattle.bac_asked.specs.Faults.{RefusesLine, WantsMemory}
 use Rattle.bac_keeper.specs.Stops.{EndsStop, RefusesStop}
-use Rattle.bac_asked.proofs.Results.{because}
 use Rattle.bac_keeper.proofs.FileLemmas.{all_ask_so, all_fail, closed_asks, file_asks, done_named, fails_clean, fails_file, fails_so, none_closed}
 use Rattle.bac_keeper.proofs.StopLemmas.{items_kept, items_stay, stops_in}
 use Rattle.bac_asked.specs.declared.end.NotDone.{NotDone}
 use Rattle.bac_keeper.specs.Done.{given_of}
 use Rattle.bac_keeper.proofs.NamesLemmas.{asks_unmeant, may_ask, never_fails}
 use Rattle.bac_keeper.proofs.stopping.stop.Goals as goal
+use Rattle.bac_archive.proofs.RowsLemmas.{because}
 
 pub returns-clause-named : goal.returns-clause-named
 returns-clause-named g c =

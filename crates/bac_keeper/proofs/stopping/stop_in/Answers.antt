@@ -4,12 +4,12 @@ use Rattle.bac_asked.specs.declared.end.NotDone.{NotDone}
 use Rattle.sqlite.specs.Effect.{Database}
 use Rattle.sqlite.specs.Held.{state}
 use Rattle.sqlite.specs.State.{HasCleanDisk}
-use Rattle.bac_asked.proofs.Results.{because}
 use Rattle.bac_keeper.proofs.ArchiveLemmas.{keeps_items}
 use Rattle.bac_keeper.proofs.FileLemmas.{fails_so, file_asks}
 use Rattle.bac_keeper.proofs.NamesLemmas.{may_ask}
 use Rattle.bac_keeper.proofs.PrintLemmas.{printing_fails, stop_asks, stop_fails}
 use Rattle.bac_archive.specs.Schema.{HasArchive}
+use Rattle.bac_archive.proofs.RowsLemmas.{because}
 use Rattle.bac_keeper.proofs.stopping.stop_in.Goals as goal
 
 pub returns-in_err-these-clause-stays : goal.returns-in_err-these-clause-stays

@@ -7,8 +7,9 @@ use Rattle.sqlite.specs.declared.error.Error.TheVariants.{SqliteFailure}
 use Rattle.sqlite.specs.declared.error.ErrorCode.TheVariants.{OperationInterrupted}
 use Rattle.bac_kept.specs.Printed.{lines_behind}
 use Rattle.bac_archive.proofs.RowsLemmas.{on_err}
-use Rattle.bac_kept.proofs.PrintedLemmas.{all_given, clean_before, first_given, newest_next, part_next, whole_part, written_next}
+use Rattle.bac_kept.proofs.PrintedLemmas.{all_given, clean_before, first_given, newest_next, part_next, written_next}
 use Rattle.bac_kept.proofs.kept.print_items.Goals as goal
+use Rattle.bac_print.proofs.Octets.{whole_part}
 
 pub returns-in-Ok-None-clause-ok : goal.returns-in-Ok-None-clause-ok
 returns-in-Ok-None-clause-ok g c clean has =

@@ -10,10 +10,10 @@ use Rattle.bac_archive.specs.Rows.{kept}
 use Rattle.bac_archive.specs.declared.trend_logs.Log.{Log}
 use Rattle.bac_kept.specs.Parts.{PrintsMoreOf, PrintsPart}
 use Rattle.bac_kept.specs.Printed.{is_chosen}
-use Rattle.bac_kept.proofs.PrintedLemmas.{take_one}
 use Rattle.bac_kept.proofs.PartsLemmas.{log_more}
 use Rattle.bac_archive.specs.Schema.{HasArchive}
 use Rattle.bac_kept.proofs.parts.print_each.Goals as goal
+use Rattle.bac_asked.proofs.Results.{take_one}
 
 pub loop-log-preserved : goal.loop-log-preserved
 loop-log-preserved g c =

@@ -8,9 +8,10 @@ use Rattle.sqlite.specs.Held.{state}
 use Rattle.bac_archive.specs.Rows.{kept}
 use Rattle.bac_archive.specs.declared.trend_logs.Log.{Log}
 use Rattle.bac_kept.specs.Printed.{is_chosen, PrintsLog, PrintsLogs}
-use Rattle.bac_kept.proofs.PrintedLemmas.{log_more, take_one}
+use Rattle.bac_kept.proofs.PrintedLemmas.{log_more}
 use Rattle.bac_archive.specs.Schema.{HasArchive}
 use Rattle.bac_kept.proofs.printing.print_logs.Goals as goal
+use Rattle.bac_asked.proofs.Results.{take_one}
 
 pub loop-log-preserved : goal.loop-log-preserved
 loop-log-preserved g c =

@@ -3,9 +3,10 @@ use Rattle.csv.specs.Writing.{default_writer, row_text}
 use Rattle.sqlite.specs.Effect.{Database}
 use Rattle.sqlite.specs.Held.{state}
 use Rattle.bac_archive.specs.Schema.{HasArchive}
+use Rattle.bac_archive.proofs.QueryLemmas.{on_ok}
 use Rattle.bac_kept.specs.Csv.{WritesLogs, names}
 use Rattle.bac_kept.specs.Printed.{PrintsLogs}
-use Rattle.bac_kept.proofs.PrintedLemmas.{are_shown, on_ok}
+use Rattle.bac_kept.proofs.PrintedLemmas.{are_shown}
 use Rattle.bac_kept.proofs.printing.print_shown.Goals as goal
 
 pub returns-clause-printed : goal.returns-clause-printed

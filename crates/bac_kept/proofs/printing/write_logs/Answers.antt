@@ -12,9 +12,9 @@ use Rattle.bac_archive.specs.declared.trend_logs.Log.{Log}
 use Rattle.bac_kept.specs.Csv.{WritesLog, WritesLogs, names}
 use Rattle.bac_kept.specs.Printed.{is_chosen}
 use Rattle.bac_kept.proofs.CsvLemmas.{log_more}
-use Rattle.bac_kept.proofs.PrintedLemmas.{take_one}
 use Rattle.bac_archive.specs.Schema.{HasArchive}
 use Rattle.bac_kept.proofs.printing.write_logs.Goals as goal
+use Rattle.bac_asked.proofs.Results.{take_one}
 
 pub loop-log-preserved : goal.loop-log-preserved
 loop-log-preserved g c =
