@@ -200,6 +200,38 @@ fn ends_of<P: Port, C: Clock, J: Job>(
     Ok(Some(ends))
 }
 
+/// Whether each job has ended that wasn't done when it was last looked at. Those that were aren't
+/// played: many jobs would be, each time that no question is open.
+fn are_over<P: Port, C: Clock, J: Job>(
+    alloc: Global,
+    desks: &Desks<P, C>,
+    jobs: &[J],
+    progress: &Progress,
+) -> Result<bool, AllocError> {
+    for place in progress.first_left..jobs.len() {
+        if !progress.is_done(place) && end_at(alloc, desks, jobs, place)?.is_none() {
+            return Ok(false);
+        }
+    }
+    Ok(true)
+}
+
+/// How the jobs ended, if each has, by how far they are.
+fn ends_by<P: Port, C: Clock, J: Job>(
+    alloc: Global,
+    desks: &Desks<P, C>,
+    jobs: &[J],
+    progress: &Progress,
+) -> Result<Option<Vec<Ending<J::End>>>, AllocError>
+    ensures { IfOk result
+        (λ ends. IfSome ends (λ all. AreEnded J.plays jobs.now desks.now.table.seats all.items)) }
+{
+    if !are_over(alloc, desks, jobs, progress)? {
+        return Ok(None);
+    }
+    ends_of(alloc, desks, jobs)
+}
+
 /// Brings jobs to their ends in so many turns at most, each over the questions of the desk at its
 /// place: how they ended, in their order; nothing if there are fewer desks than jobs, a record has
 /// an outcome of what its job doesn't ask, or more turns were needed.
@@ -225,7 +257,7 @@ pub fn finish<P: Port, C: Clock, J: Job>(
     let mut progress = Progress::new(alloc, jobs.len())?;
     for round in 0..turns {
         if desks.is_idle() {
-            if let Some(ends) = ends_of(alloc, desks, jobs)? {
+            if let Some(ends) = ends_by(alloc, desks, jobs, &progress)? {
                 return Ok(Some(ends));
             }
         }
