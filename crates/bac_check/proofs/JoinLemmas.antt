@@ -1,25 +1,17 @@
 -- Where the rows of a log go on.
-use Rattle.std.proofs.Common.{◌≡◌, refl, sym, ap, subst, ℕ, pos, [], ◌∷◌, Option, None, Some, unwrap_or}
+use Rattle.std.proofs.Common.{◌≡◌, refl, sym, subst, ℕ, [], ◌∷◌, None, Some, unwrap_or}
 use Rattle.sqlite.specs.Effect.{Database}
 use Rattle.sqlite.specs.Held.{Held as Connected, state}
 use Rattle.sqlite.specs.State.{State, IsUnchanged, Shown}
-use Rattle.sqlite.specs.Values.{or_null}
 use Rattle.sqlite.proofs.Callers.{given_begin}
 use Rattle.sqlite_trees.specs.declared.store.Store.{Ghosts}
 use Rattle.sqlite_value.specs.Order.{Row as Values, column}
-use Rattle.sqlite_value.specs.declared.value.Value.{Value}
-use Rattle.sqlite_value.specs.declared.value.Value.TheVariants.{Int}
-use Rattle.bac_archive.proofs.ItemsLemmas.{begins_with, shows_items}
+use Rattle.bac_archive.proofs.ItemsLemmas.{begins_with, last_says, shows_items}
 use Rattle.bac_archive.specs.Items.{AreItems, IsItem, ReadsItems, asked, items_text}
 use Rattle.bac_archive.specs.Rows.{kept}
 use Rattle.bac_archive.specs.declared.items.Item.{Item}
-use Rattle.bac_check.specs.Epochs.{last_at}
 use Rattle.bac_check.specs.Joins.{TellsFirst, point_at}
 use Rattle.bac_archive.specs.Schema.{HasArchive}
-
-last_says : (value : Value) (last : Option ℕ) → value ≡ or_null (λ n. Int (pos n)) last → last_at value ≡ last
-last_says value None is = ap last_at is
-last_says value (Some n) is = ap last_at is
 
 -- an item says where its row is
 pub item_is_at : (row : Values) (item : Item) → IsItem row item → record { epoch = item.epoch; last = unwrap_or item.last item.number } ≡ point_at row

@@ -4,7 +4,6 @@ use Rattle.std.specs.Prelude.{◌<◌, length, get_or, option_map, Option, Some,
 use Rattle.std.specs.List.{filter, list_all}
 use Rattle.std.specs.List.Sorted.{IsPermutation, IsSorted}
 use Rattle.std.specs.Ordering.{is_ge, is_le}
-use Rattle.sqlite_value.specs.declared.value.Value.{Value}
 use Rattle.sqlite_value.specs.declared.value.Value.TheVariants.{Int}
 use Rattle.sqlite_value.specs.Order.{Row as Values, column, value_cmp}
 use Rattle.sqlite_trees.specs.Tree.{Trees, rowid}
@@ -13,7 +12,7 @@ use Rattle.sqlite.specs.Given.{HasGiven}
 use Rattle.sqlite.specs.Held.{Held}
 use Rattle.bac_archive.specs.Archive.{numbers, span}
 use Rattle.bac_archive.specs.Beginnings.{epoch_id}
-use Rattle.bac_archive.specs.Items.{by_id, number_at}
+use Rattle.bac_archive.specs.Items.{by_id, last_at, number_at}
 use Rattle.bac_archive.specs.Rows.{kept}
 use Rattle.bac_check.specs.Holes.{end_of}
 use Rattle.bac_check.specs.Tallies.{IsTallied}
@@ -50,11 +49,6 @@ pub record AreItemsIn (log epoch : ℕ) (items rows : List Values) : Type 0 wher
 -- a connection reads them, and has given these rows
 abbrev pub ReadsSpans : {S : Type 0} → Ghosts S → ℕ → ℕ → Held S → List Values → Type 0
 ReadsSpans g log epoch now rows = HasGiven g spans_text (asked log epoch) now rows
-
--- a last number that is kept, if there is one
-abbrev pub last_at : Value → Option ℕ
-last_at (Int (pos n)) = Some n
-last_at _ = None
 
 -- what such a row covers
 abbrev pub span_of : Values → Span

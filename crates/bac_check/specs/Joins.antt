@@ -3,8 +3,8 @@ use Rattle.std.specs.Prelude.{◌≡◌, ◌==◌, ◌&&◌, ℕ, nat_lt, not, B
 use Rattle.std.specs.Prelude.{MatchOption, is_some, unwrap_or}
 use Rattle.std.specs.List.{All, Contains, list_any}
 use Rattle.sqlite_value.specs.Order.{Row as Values, column}
-use Rattle.bac_archive.specs.Items.{AreItems, epoch_in, number_in}
-use Rattle.bac_check.specs.Epochs.{last_at, last_of}
+use Rattle.bac_archive.specs.Items.{AreItems, epoch_in, last_at, number_in}
+use Rattle.bac_check.specs.Epochs.{last_of}
 use Rattle.bac_check.specs.declared.course.Course.{Course}
 use Rattle.bac_check.specs.declared.joins.Point.{Point}
 

@@ -15,7 +15,7 @@ ghost use Rattle.bac_fetch.specs.Causes.{EndsFirst, EndsMoving, EndsSettling, En
 ghost use Rattle.bac_fetch.specs.Faults.{EndsRun, HaveNoAddress};
 ghost use Rattle.bac_fetch.specs.Moves.{AreMoved, AsksThere, IsElsewhere, Settles, SettlesBy};
 ghost use Rattle.bac_fetch.specs.Moves.{SettlesFirst, SettlesUnless, is_placed, moved_columns};
-ghost use Rattle.bac_fetch.specs.Moves.{moved_of, stands};
+ghost use Rattle.bac_fetch.specs.Moves.{moved_of};
 ghost use Rattle.bac_questions.specs.Said.{Identifies};
 ghost use Rattle.bac_questions.specs.Silent.{is_same_device};
 ghost use Rattle.bac_fetch.specs.Stays.{HasAllOf};

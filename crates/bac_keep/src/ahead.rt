@@ -1,6 +1,6 @@
 //! What a run of a known log finds before any of it is committed.
 
-ghost use Rattle.std.specs.Prelude.{◌≡◌, ◌≢◌, ◌≤◌, Ok, map, IfOk};
+ghost use Rattle.std.specs.Prelude.{◌≡◌, ◌≤◌, Ok, map, IfOk};
 ghost use Rattle.bac_archive.specs.Rows.{stored};
 ghost use Rattle.bac_link.specs.Path.{towards};
 ghost use Rattle.bac_keep.specs.Came.{GathersOver};

@@ -14,11 +14,11 @@ use Rattle.sqlite_value.specs.Order.{Row as Values, value_cmp}
 use Rattle.sqlite_value.specs.declared.value.Value.TheVariants.{Int}
 use Rattle.std.specs.Prelude.{decimal}
 use Rattle.bac_archive.proofs.RowsLemmas.{cast_int, cast_null}
-use Rattle.bac_archive.specs.Items.{by_id, epoch_in, item_columns}
+use Rattle.bac_archive.specs.Items.{by_id, epoch_in, item_columns, last_at}
 use Rattle.bac_keep.specs.Items.{era_after, era_behind, kept_row, kept_rows, stamp_text}
 use Rattle.bac_keep.proofs.Eras.{behind-up, era-up, one_row}
 use Rattle.bac_kept.specs.LogLines.{HasNumber, KeptLineIsThatOfLog, KeptLinesAreThoseOfLog, KeptLogIsThatOfLog}
-use Rattle.bac_kept.specs.Printed.{anew_if, item_line as printed_line, last_at, row_line, rows_lines}
+use Rattle.bac_kept.specs.Printed.{anew_if, item_line as printed_line, row_line, rows_lines}
 use Rattle.bac_link.specs.Laws.{CoversEach}
 use Rattle.bac_link.specs.declared.item.Item.{Item}
 use Rattle.bac_link.specs.declared.item.Item.TheVariants.{Gap, Logged}

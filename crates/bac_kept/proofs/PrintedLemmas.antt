@@ -1,13 +1,10 @@
 -- What is printed of the items of logs.
-use Rattle.std.proofs.Common.{◌≡◌, refl, sym, ap, subst, ◌∙◌, ℕ, pos, List, [], ◌∷◌, ◌++◌, append_assoc, append-nil, Option, None, Some, true, ◌+◌, ◌≤◌, arith}
+use Rattle.std.proofs.Common.{◌≡◌, refl, sym, ap, subst, ◌∙◌, ℕ, List, [], ◌∷◌, ◌++◌, append_assoc, append-nil, Option, None, Some, true, ◌+◌, ◌≤◌, arith}
 use Rattle.std.proofs.lemmas.List.Elements.{filter-append}
 use Rattle.std.specs.List.{filter}
 use Rattle.std.specs.Io.KnownBytes.{Appends, Keeps}
 use Rattle.std.proofs.KnownBytes.{Appends-nil, Appends-trans}
-use Rattle.sqlite_value.specs.declared.value.Value.{Value}
-use Rattle.sqlite_value.specs.declared.value.Value.TheVariants.{Int}
 use Rattle.sqlite_value.specs.Order.{Row as Values, column}
-use Rattle.sqlite.specs.Values.{or_null}
 use Rattle.sqlite_trees.specs.View.{doubt}
 use Rattle.sqlite_trees.specs.declared.store.Store.{Ghosts}
 use Rattle.sqlite.specs.Effect.{Database}
@@ -17,20 +14,16 @@ use Rattle.sqlite.proofs.Callers.{given_begin}
 use Rattle.bac_archive.specs.Logs.{AreLogs}
 use Rattle.bac_archive.specs.Rows.{kept}
 use Rattle.bac_archive.specs.Items.{AreFirst, AreItems, IsItem, ReadsItems, asked, epoch_in, items_text}
-use Rattle.bac_archive.proofs.ItemsLemmas.{begins_with, shows_items}
+use Rattle.bac_archive.proofs.ItemsLemmas.{begins_with, last_says, shows_items}
 use Rattle.bac_archive.specs.declared.items.Item.{Item}
 use Rattle.bac_print.specs.Output.{AppendsPart, Held}
 use Rattle.bac_archive.specs.declared.trend_logs.Log.{Log}
 use Rattle.bac_query.proofs.Delivered.{behind_first, kept_behind}
 use Rattle.bac_kept.specs.declared.printing.Shown.{Shown as Which}
-use Rattle.bac_kept.specs.Printed.{PrintsBehind, PrintsItems, PrintsLog, PrintsLogs, anew_if, item_line, last_at, lines_behind, row_lines, rows_lines}
+use Rattle.bac_kept.specs.Printed.{PrintsBehind, PrintsItems, PrintsLog, PrintsLogs, anew_if, item_line, lines_behind, row_lines, rows_lines}
 use Rattle.bac_kept.specs.Seen.{epoch_of, is_new, is_newer, item_at, newest_of}
 use Rattle.bac_kept.specs.declared.seen.Newest.{Newest}
 use Rattle.bac_archive.specs.Schema.{HasArchive}
-
-last_says : (value : Value) (last : Option ℕ) → value ≡ or_null (λ n. Int (pos n)) last → last_at value ≡ last
-last_says value None is = ap last_at is
-last_says value (Some n) is = ap last_at is
 
 -- the line of what was read of a row is the row's
 pub item_says : (before : Option ℕ) (row : Values) (item : Item) → IsItem row item

@@ -1,12 +1,10 @@
 -- What `bac kept` prints of an archive.
-use Rattle.std.specs.Prelude.{◌≡◌, ◌⊎◌, ◌&&◌, ◌==◌, if◌then◌else◌, ℕ, pos, Bool, true, false}
+use Rattle.std.specs.Prelude.{◌≡◌, ◌⊎◌, ◌&&◌, ◌==◌, if◌then◌else◌, ℕ, Bool, true, false}
 use Rattle.std.specs.Prelude.{List, [], ◌∷◌, ◌++◌, codes, decimal, Option, None, Some}
 use Rattle.std.specs.List.{filter}
 use Rattle.std.specs.String.{string_eq}
-use Rattle.sqlite_value.specs.declared.value.Value.{Value}
-use Rattle.sqlite_value.specs.declared.value.Value.TheVariants.{Int}
 use Rattle.sqlite_value.specs.Order.{Row as Values, column}
-use Rattle.bac_archive.specs.Items.{AreFirst, AreItems, epoch_in, number_in, text_at}
+use Rattle.bac_archive.specs.Items.{AreFirst, AreItems, epoch_in, last_at, number_in, text_at}
 use Rattle.bac_archive.specs.declared.trend_logs.Log.{Log}
 use Rattle.bac_print.specs.Entries.{gap_line}
 use Rattle.bac_print.specs.Output.{AppendsPart, Held}
@@ -21,11 +19,6 @@ unfoldable pub item_line : ℕ → Option ℕ → List ℕ → List ℕ → List
 item_line number (Some last) stamp datum flags = gap_line number last
 item_line number None stamp datum flags =
     decimal number ++ (32 ∷ (stamp ++ (32 ∷ (datum ++ (32 ∷ (flags ++ 10 ∷ []))))))
-
--- a last number that is kept, if there is one
-abbrev pub last_at : Value → Option ℕ
-last_at (Int (pos n)) = Some n
-last_at _ = None
 
 -- the line of a row of items
 abbrev pub row_line : Values → List ℕ
