@@ -12,4 +12,5 @@ pub mod Requests
 pub mod Turns
 pub mod Told
 pub mod Flaws
+pub mod AnswerLemmas
 pub mod Tables

@@ -1,17 +1,14 @@
 -- One step more of a table.
-use Rattle.std.proofs.Common.{◌≡◌, ◌<◌, ◌+◌, ◌-◌, ℕ, suc, List, [], ◌∷◌, ◌++◌, length, get_or, drop, decimal, Ok, Err, Result, inl, inr, refl, sym, subst, arith, add-one, ◌∙◌, ap}
+use Rattle.std.proofs.Common.{◌≡◌, ◌<◌, ◌+◌, ◌-◌, ℕ, suc, List, [], ◌∷◌, ◌++◌, length, get_or, drop, decimal, Ok, Err, IfOk, Result, inl, inr, refl, sym, subst, arith, add-one}
 use Rattle.std.proofs.Math.Seq.{drop-cons}
 use Rattle.bac_apdu.specs.declared.service.read_property.ReadProperty.{ReadProperty}
-use Rattle.bac_wire.specs.Primitive.{Id, Object, Unsigned}
-use Rattle.bac_wire.specs.View.{view}
-use Rattle.bac_wire.specs.declared.fault.WireFault.{WireFault}
-use Rattle.bac_wire.specs.declared.value.Value.{Value}
-use Rattle.bac_wire.specs.declared.value.Value.TheVariants as code
+use Rattle.bac_wire.specs.Primitive.{Id}
 use Rattle.bac_link.specs.declared.exchanges.ExchangeFault.{ExchangeFault}
 use Rattle.bac_link.specs.declared.exchanges.ExchangeFault.TheVariants.{BadReply}
 use Rattle.bac_query.specs.Reading.{Answer, Held, Prints}
-use Rattle.bac_query.specs.Tables.{AddsCell, AddsCells, AddsRow, Ask, Client, PrintsListed, PrintsObject, PrintsPlace, PrintsPlaces, PrintsRow, PrintsRows}
-use Rattle.bac_query.specs.Tables.{Questions, TellsCount, columns, list_at, property_of, told_object}
+use Rattle.bac_query.specs.ObjectList.{TellsObject, TellsObjects, list_at, whole_list}
+use Rattle.bac_query.specs.Tables.{AddsCell, AddsCells, AddsRow, Ask, Client, PrintsEach, PrintsListed, PrintsListedAt, PrintsObject, PrintsObjects, PrintsPlace, PrintsRow, PrintsRows}
+use Rattle.bac_query.specs.Tables.{Questions, TellsCount, columns, property_of}
 use Rattle.bac_query.specs.declared.fault.QueryFault.{QueryFault}
 use Rattle.bac_query.specs.declared.fault.QueryFault.TheVariants.{Exchange, Memory}
 
@@ -69,35 +66,27 @@ no_row {S = S} asks logs i log old new had has fault done result err e fails was
 one_left : (place count : ℕ) → place < count → count - place ≡ suc (count - (place + 1))
 one_left place count less = omega arith
 
--- a place more
-pub next_place : {S : Type 0} (asks : Ask S) (place count : ℕ) (old mid : Client S) (had held : Held)
+-- a place more, in a list that is printed from this place on
+pub next_place : {S : Type 0} (prints : ℕ → Client S → Answer → Client S → Held → Held → Type 0) (at place count : ℕ) (old mid : Client S) (had held : Held)
     (done : Answer → Client S → Held → Type 0)
     → place < count
-    → PrintsPlace asks (place + 1) old (Ok tt) mid had held
-    → ((result : Answer) (new : Client S) (has : Held) → PrintsPlaces asks (place + 1) (count - place) old result new had has → done result new has)
-    → (result : Answer) (new : Client S) (has : Held) → PrintsPlaces asks (place + 1 + 1) (count - (place + 1)) mid result new held has → done result new has
-next_place {S = S} asks place count old mid had held done less prints was result new has rest =
-    let P : ℕ → Type 0 = λ n. PrintsPlaces asks (place + 1) n old result new had has in
-    was result new has (subst P (sym (one_left place count less)) (inl (mid, held, prints, rest)))
+    → prints at old (Ok tt) mid had held
+    → ((result : Answer) (new : Client S) (has : Held) → PrintsEach prints at (count - place) old result new had has → done result new has)
+    → (result : Answer) (new : Client S) (has : Held) → PrintsEach prints (at + 1) (count - (place + 1)) mid result new held has → done result new has
+next_place {S = S} prints at place count old mid had held done less printed was result new has rest =
+    let P : ℕ → Type 0 = λ n. PrintsEach prints at n old result new had has in
+    was result new has (subst P (sym (one_left place count less)) (inl (mid, held, printed, rest)))
 
 -- a place that fails
-pub no_place : {S : Type 0} (asks : Ask S) (place count : ℕ) (old new : Client S) (had has : Held) (fault : QueryFault)
+pub no_place : {S : Type 0} (prints : ℕ → Client S → Answer → Client S → Held → Held → Type 0) (at place count : ℕ) (old new : Client S) (had has : Held) (fault : QueryFault)
     (done : Answer → Client S → Held → Type 0) (result : Answer) → result ≡ Err fault
     → place < count
-    → PrintsPlace asks (place + 1) old (Err fault) new had has
-    → ((result : Answer) (new : Client S) (has : Held) → PrintsPlaces asks (place + 1) (count - place) old result new had has → done result new has)
+    → prints at old (Err fault) new had has
+    → ((result : Answer) (new : Client S) (has : Held) → PrintsEach prints at (count - place) old result new had has → done result new has)
     → done result new has
-no_place {S = S} asks place count old new had has fault done result err less fails was =
-    let P : ℕ → Type 0 = λ n. PrintsPlaces asks (place + 1) n old result new had has in
+no_place {S = S} prints at place count old new had has fault done result err less fails was =
+    let P : ℕ → Type 0 = λ n. PrintsEach prints at n old result new had has in
     was result new has (subst P (sym (one_left place count less)) (inr (fault, err, fails)))
-
--- what is seen as an Unsigned is one
-pub unsigned_value : (v : Value) (n : ℕ) → view v ≡ Unsigned n → v ≡ code.Unsigned n
-unsigned_value (code.Unsigned m) n is = let same : m ≡ n = cc in ap (λ k. code.Unsigned k) same
-unsigned_value v n is = absurd (let e = is in cc)
-
-pub same_number : (v : Value) (m n : ℕ) → v ≡ code.Unsigned m → view v ≡ Unsigned n → m ≡ n
-same_number v m n is seen = let both : Unsigned m ≡ Unsigned n = sym (ap view is) ∙ seen in cc
 
 -- ---- a row
 
@@ -157,16 +146,16 @@ lost_place asks place question old mid answer fault had is same done =
 
 pub told_place : {S : Type 0} (asks : Ask S) (place : ℕ) (question : ReadProperty) (old mid new : Client S) (answer : Result (List ℕ) ExchangeFault)
     (datagram : List ℕ) (object : Id) (result : Answer) (had has : Held) → question ≡ list_at place → answer ≡ Ok datagram
-    → Questions asks question old answer mid → told_object datagram ≡ Ok (Object object) → PrintsObject asks object mid result new had has
+    → Questions asks question old answer mid → TellsObject datagram object → PrintsObject asks object mid result new had has
     → PrintsPlace asks place old result new had has
 told_place asks place question old mid new answer datagram object result had has is same done told prints =
     (Ok datagram, mid, asked asks place question old mid answer (Ok datagram) is same done, inl (object, told, prints))
 
 pub untold_place : {S : Type 0} (asks : Ask S) (place : ℕ) (question : ReadProperty) (old mid : Client S) (answer : Result (List ℕ) ExchangeFault)
-    (datagram : List ℕ) (fault : WireFault) (had : Held) → question ≡ list_at place → answer ≡ Ok datagram
-    → Questions asks question old answer mid → told_object datagram ≡ Err fault → PrintsPlace asks place old (Err (Exchange BadReply)) mid had had
-untold_place asks place question old mid answer datagram fault had is same done told =
-    (Ok datagram, mid, asked asks place question old mid answer (Ok datagram) is same done, inr (fault, told, (refl, refl, refl)))
+    (datagram : List ℕ) (had : Held) → question ≡ list_at place → answer ≡ Ok datagram
+    → Questions asks question old answer mid → ((object : Id) → TellsObject datagram object → ⊥) → PrintsPlace asks place old (Err (Exchange BadReply)) mid had had
+untold_place asks place question old mid answer datagram had is same done none =
+    (Ok datagram, mid, asked asks place question old mid answer (Ok datagram) is same done, inr (none, (refl, refl, refl)))
 
 pub lost_list : {S : Type 0} (asks : Ask S) (question : ReadProperty) (old mid : Client S) (answer : Result (List ℕ) ExchangeFault)
     (fault : ExchangeFault) (had : Held) → question ≡ list_at 0 → answer ≡ Err fault → Questions asks question old answer mid
@@ -176,7 +165,7 @@ lost_list asks question old mid answer fault had is same done =
 
 pub told_list : {S : Type 0} (asks : Ask S) (question : ReadProperty) (old mid new : Client S) (answer : Result (List ℕ) ExchangeFault)
     (datagram : List ℕ) (count : ℕ) (result : Answer) (had has : Held) → question ≡ list_at 0 → answer ≡ Ok datagram
-    → Questions asks question old answer mid → TellsCount datagram count → PrintsPlaces asks 1 count mid result new had has
+    → Questions asks question old answer mid → TellsCount datagram count → PrintsObjects asks count mid result new had has
     → PrintsListed asks old result new had has
 told_list asks question old mid new answer datagram count result had has is same done told prints =
     (Ok datagram, mid, asked asks 0 question old mid answer (Ok datagram) is same done, inl (count, told, prints))
@@ -186,3 +175,21 @@ pub untold_list : {S : Type 0} (asks : Ask S) (question : ReadProperty) (old mid
     → Questions asks question old answer mid → ((count : ℕ) → TellsCount datagram count → ⊥) → PrintsListed asks old (Err (Exchange BadReply)) mid had had
 untold_list asks question old mid answer datagram had is same done none =
     (Ok datagram, mid, asked asks 0 question old mid answer (Ok datagram) is same done, inr (none, (refl, refl, refl)))
+
+-- ---- the whole list
+
+-- one answer tells it
+pub told_whole : {S : Type 0} (asks : Ask S) (question : ReadProperty) (old mid new : Client S) (answer : Result (List ℕ) ExchangeFault)
+    (datagram values : List ℕ) (count : ℕ) (result : Answer) (had has : Held) → question ≡ whole_list → Questions asks question old answer mid
+    → answer ≡ Ok datagram → TellsObjects datagram count values
+    → PrintsEach (PrintsListedAt asks values) 0 count mid result new had has → PrintsObjects asks count old result new had has
+told_whole asks question old mid new answer datagram values count result had has is done said tells prints =
+    (answer, mid, subst (λ q. Questions asks q old answer mid) is done, inl (datagram, values, said, tells, prints))
+
+-- it doesn't
+pub untold_whole : {S : Type 0} (asks : Ask S) (question : ReadProperty) (old mid new : Client S) (answer : Result (List ℕ) ExchangeFault)
+    (count : ℕ) (result : Answer) (had has : Held) → question ≡ whole_list → Questions asks question old answer mid
+    → IfOk answer (λ datagram. (values : List ℕ) → TellsObjects datagram count values → ⊥)
+    → PrintsEach (PrintsPlace asks) 1 count mid result new had has → PrintsObjects asks count old result new had has
+untold_whole asks question old mid new answer count result had has is done none prints =
+    (answer, mid, subst (λ q. Questions asks q old answer mid) is done, inr (none, prints))

@@ -9,7 +9,8 @@ use Rattle.bac_link.specs.declared.exchanges.ExchangeFault.{ExchangeFault}
 use Rattle.bac_link.specs.declared.exchanges.ExchangeFault.TheVariants.{Lost, Refused, BadReply, TooLong}
 use Rattle.bac_print.specs.Numbers.{called, two_digits}
 use Rattle.bac_print.specs.Values.{value_text}
-use Rattle.bac_query.specs.Reading.{Answer, values_in}
+use Rattle.bac_query.specs.Answers.{values_in}
+use Rattle.bac_query.specs.Reading.{Answer}
 use Rattle.bac_query.specs.Sources.{reference_at, reference_of, source_text}
 use Rattle.bac_query.specs.declared.fault.QueryFault.TheVariants.{Exchange, Write, Memory}
 use Rattle.bac_query.specs.declared.source.Source.{Source}

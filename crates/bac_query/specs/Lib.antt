@@ -1,6 +1,8 @@
 pub mod Values
 pub mod Rows
 pub mod Layouts
+pub mod Answers
+pub mod ObjectList
 pub mod Reading
 pub mod Fetching
 pub mod More

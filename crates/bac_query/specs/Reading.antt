@@ -1,10 +1,6 @@
 -- What reading a property prints, over any link and any writer. Read from the end.
 use Rattle.std.specs.Prelude.{◌≡◌, ℕ, List, Option, Some, None, Result, Ok, Err}
-use Rattle.std.specs.Option.{option_map}
 use Rattle.std.specs.Io.KnownBytes.{Appends, Keeps}
-use Rattle.bac_apdu.specs.Apdu.{Apdu}
-use Rattle.bac_apdu.specs.Apdu as apdu
-use Rattle.bac_apdu.specs.Service.ReadPropertyAck.{read_property_ack_at}
 use Rattle.bac_apdu.specs.declared.service.read_property.ReadProperty.{ReadProperty}
 use Rattle.bac_link.specs.Datagrams.{apdu_in}
 use Rattle.bac_link.specs.Exchanges.{Concludes, Exchanges}
@@ -17,6 +13,7 @@ use Rattle.bac_link.specs.declared.request.Request.TheVariants as request
 use Rattle.bac_link.specs.declared.transactions.Transactions.{Transactions}
 pub use Rattle.bac_print.specs.Output.{Held}
 use Rattle.bac_print.specs.Output.{AppendsPart}
+use Rattle.bac_query.specs.Answers.{values_in}
 use Rattle.bac_query.specs.Values.{IsShown}
 use Rattle.bac_query.specs.declared.reals.Reals.{Reals}
 use Rattle.bac_query.specs.declared.fault.QueryFault.{QueryFault}
@@ -32,12 +29,6 @@ Prints text (Ok done) old new = Appends old new text
 Prints text (Err Write) old new = AppendsPart old new text
 Prints text (Err Memory) old new = ⊥
 Prints text (Err (Exchange fault)) old new = ⊥
-
--- the octets of the values in an ACK that can be read (clause 15.5)
-abbrev pub values_in : Option Apdu → Option (List ℕ)
-values_in (Some (apdu.Complex segmented invoke service parameters)) =
-    option_map (λ ack. ack.values) (read_property_ack_at parameters)
-values_in other = None
 
 -- the text of the values was written, or a front part of it; without memory for the text nothing was
 abbrev pub PrintsShown : Reals → List ℕ → Answer → Held → Held → Type 0

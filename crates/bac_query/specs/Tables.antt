@@ -1,14 +1,8 @@
 -- What a device tells of its trend logs (clause 12.25), and the table that is printed of it. Read from the end.
-use Rattle.std.specs.Prelude.{◌≡◌, ◌≢◌, ◌⊎◌, ◌<◌, ◌+◌, ◌^◌, ◌==◌, ℕ, zero, suc, if◌then◌else◌, List, [], ◌∷◌, ◌++◌}
-use Rattle.std.specs.Prelude.{codes}
-use Rattle.std.specs.Prelude.{decimal, Option, Some, None, Result, Ok, Err}
+use Rattle.std.specs.Prelude.{◌≡◌, ◌≢◌, ◌⊎◌, ◌<◌, ◌+◌, ◌^◌, ℕ, zero, suc, List, [], ◌∷◌, ◌++◌}
+use Rattle.std.specs.Prelude.{codes, decimal, None, Result, Ok, Err, IfOk}
 use Rattle.bac_apdu.specs.declared.service.read_property.ReadProperty.{ReadProperty}
-use Rattle.bac_wire.specs.Primitive.{Id, Primitive, Object, Unsigned}
-use Rattle.bac_wire.specs.Reading.{contents_as}
-use Rattle.bac_wire.specs.Spelling.{Spells}
-use Rattle.bac_wire.specs.declared.fault.WireFault.{WireFault}
-use Rattle.bac_wire.specs.declared.fault.WireFault.TheVariants.{BadTag}
-use Rattle.bac_link.specs.Datagrams.{apdu_in}
+use Rattle.bac_wire.specs.Primitive.{Id, Unsigned}
 use Rattle.bac_link.specs.Exchanges.{Exchanges, Leaves}
 use Rattle.bac_link.specs.Path.{towards}
 use Rattle.bac_link.specs.Requests.{next_invoke}
@@ -18,7 +12,9 @@ use Rattle.bac_link.specs.declared.link.Lost.{Lost as Loss}
 use Rattle.bac_link.specs.declared.request.Request.TheVariants as request
 use Rattle.bac_link.specs.declared.transactions.Transactions.{Transactions}
 use Rattle.bac_query.specs.Cells.{IsUnanswered, ShowsCell}
-use Rattle.bac_query.specs.Reading.{Answer, Held, Prints, values_in}
+use Rattle.bac_query.specs.Answers.{Tells}
+use Rattle.bac_query.specs.ObjectList.{IsObject, TellsObject, TellsObjects, list_at, octets_at, whole_list}
+use Rattle.bac_query.specs.Reading.{Answer, Held, Prints}
 use Rattle.bac_query.specs.declared.fault.QueryFault.{QueryFault}
 use Rattle.bac_query.specs.declared.fault.QueryFault.TheVariants.{Exchange, Write, Memory}
 
@@ -111,24 +107,6 @@ PrintsRows {S = S} asks (log ∷ logs) old result new had has =
 
 -- ---- logs that the device lists
 
--- a place of the Object_List (76) of the device itself, instance 4194303; at 0 it has how many there are (clause 12.11)
-abbrev pub list_at : ℕ → ReadProperty
-list_at place = record { object = record { kind = 8; instance = 4194303 }; property = 76; index = Some place }
-
--- the Object Identifier that octets are: its tag is C4 (20.2.14)
-abbrev pub object_in : List ℕ → Result Primitive WireFault
-object_in [] = Err BadTag
-object_in (tag ∷ contents) = if tag == 196 then contents_as 12 contents else Err BadTag
-
--- the same of octets that may not be there
-abbrev pub object_if : Option (List ℕ) → Result Primitive WireFault
-object_if None = Err BadTag
-object_if (Some octets) = object_in octets
-
--- the Object Identifier that an ACK has
-abbrev pub told_object : List ℕ → Result Primitive WireFault
-told_object datagram = object_if (values_in (apdu_in datagram))
-
 -- it ends so, and nothing more is asked or printed
 abbrev pub EndsSo : {S : Type 0} → Answer → Client S → Answer → Client S → Held → Held → Type 0
 EndsSo end old result new had has = (result ≡ end) × (new ≡ old) × (has ≡ had)
@@ -144,9 +122,8 @@ abbrev pub PrintsTold : {S : Type 0} → Ask S → Result (List ℕ) ExchangeFau
     → Held → Type 0
 PrintsTold asks (Err fault) old result new had has = EndsSo (Err (Exchange fault)) old result new had has
 PrintsTold asks (Ok datagram) old result new had has =
-    ((object : Id) × (told_object datagram ≡ Ok (Object object)) × PrintsObject asks object old result new had has)
-    ⊎ ((fault : WireFault) × (told_object datagram ≡ Err fault)
-    × EndsSo (Err (Exchange BadReply)) old result new had has)
+    ((object : Id) × TellsObject datagram object × PrintsObject asks object old result new had has)
+    ⊎ (((object : Id) → TellsObject datagram object → ⊥) × EndsSo (Err (Exchange BadReply)) old result new had has)
 
 -- a place is asked for, and what came to that is printed
 abbrev pub PrintsPlace : {S : Type 0} → Ask S → ℕ → Client S → Answer → Client S → Held → Held → Type 0
@@ -154,26 +131,46 @@ PrintsPlace {S = S} asks place old result new had has =
     (answer : Result (List ℕ) ExchangeFault) × (mid : Client S) × Questions asks (list_at place) old answer mid
     × PrintsTold asks answer mid result new had has
 
--- so many places from this one on, up to the first that fails
-abbrev pub PrintsPlaces : {S : Type 0} → Ask S → ℕ → ℕ → Client S → Answer → Client S → Held → Held → Type 0
-PrintsPlaces asks place zero old result new had has = EndsSo (Ok tt) old result new had has
-PrintsPlaces {S = S} asks place (suc left) old result new had has =
-    ((mid : Client S) × (held : Held) × PrintsPlace asks place old (Ok tt) mid had held
-    × PrintsPlaces asks (place + 1) left mid result new held has)
-    ⊎ ((fault : QueryFault) × (result ≡ Err fault) × PrintsPlace asks place old (Err fault) new had has)
+-- so many places from this one on, each so, up to the first that fails
+abbrev pub PrintsEach : {S : Type 0} → (ℕ → Client S → Answer → Client S → Held → Held → Type 0) → ℕ → ℕ → Client S
+    → Answer → Client S → Held → Held → Type 0
+PrintsEach prints place zero old result new had has = EndsSo (Ok tt) old result new had has
+PrintsEach {S = S} prints place (suc left) old result new had has =
+    ((mid : Client S) × (held : Held) × prints place old (Ok tt) mid had held
+    × PrintsEach prints (place + 1) left mid result new held has)
+    ⊎ ((fault : QueryFault) × (result ≡ Err fault) × prints place old (Err fault) new had has)
+
+-- the object at a place of a list that was told whole
+abbrev pub PrintsListedAt : {S : Type 0} → Ask S → List ℕ → ℕ → Client S → Answer → Client S → Held → Held → Type 0
+PrintsListedAt asks values place old result new had has =
+    (object : Id) × IsObject object (octets_at place values) × PrintsObject asks object old result new had has
+
+-- what came to the question for the whole list of so many objects: the trend logs among these have their lines; it is
+-- another answer, or there is none, and each place is asked for, from the first on
+abbrev pub PrintsAnswered : {S : Type 0} → Ask S → Result (List ℕ) ExchangeFault → ℕ → Client S → Answer → Client S
+    → Held → Held → Type 0
+PrintsAnswered asks answer count old result new had has =
+    ((datagram : List ℕ) × (values : List ℕ) × (answer ≡ Ok datagram) × TellsObjects datagram count values
+    × PrintsEach (PrintsListedAt asks values) 0 count old result new had has)
+    ⊎ (IfOk answer (λ datagram. (values : List ℕ) → TellsObjects datagram count values → ⊥)
+    × PrintsEach (PrintsPlace asks) 1 count old result new had has)
+
+-- the list of a device that has so many objects is asked for whole
+abbrev pub PrintsObjects : {S : Type 0} → Ask S → ℕ → Client S → Answer → Client S → Held → Held → Type 0
+PrintsObjects {S = S} asks count old result new had has =
+    (answer : Result (List ℕ) ExchangeFault) × (mid : Client S) × Questions asks whole_list old answer mid
+    × PrintsAnswered asks answer count mid result new had has
 
 -- an ACK tells a number of 32 bits
 abbrev pub TellsCount : List ℕ → ℕ → Type 0
-TellsCount datagram count =
-    (count < 2 ^ 32)
-    × ((octets : List ℕ) × (values_in (apdu_in datagram) ≡ Some octets) × Spells octets (Unsigned count))
+TellsCount datagram count = (count < 2 ^ 32) × Tells datagram (Unsigned count)
 
 -- what came to the question for how many places there are
 abbrev pub PrintsCounted : {S : Type 0} → Ask S → Result (List ℕ) ExchangeFault → Client S → Answer → Client S → Held
     → Held → Type 0
 PrintsCounted asks (Err fault) old result new had has = EndsSo (Err (Exchange fault)) old result new had has
 PrintsCounted asks (Ok datagram) old result new had has =
-    ((count : ℕ) × TellsCount datagram count × PrintsPlaces asks 1 count old result new had has)
+    ((count : ℕ) × TellsCount datagram count × PrintsObjects asks count old result new had has)
     ⊎ (((count : ℕ) → TellsCount datagram count → ⊥) × EndsSo (Err (Exchange BadReply)) old result new had has)
 
 -- each trend log of the device's list

@@ -1,22 +1,20 @@
 //! What is printed of the properties of a trend log (clause 12.25).
 
-ghost use Rattle.std.specs.Prelude.{◌≡◌, ◌++◌, List, ℕ, codes, decimal, IfSome, IsSomeAnd, OnOk};
+ghost use Rattle.std.specs.Prelude.{◌≡◌, ◌++◌, List, ℕ, codes, decimal, OnOk};
 ghost use Rattle.bac_print.specs.Numbers.{called};
-ghost use Rattle.bac_wire.specs.Primitive.{Primitive};
-ghost use Rattle.bac_wire.specs.Spelling.{Spells};
 ghost use Rattle.bac_wire.specs.View.{view, IsWellFormed};
 ghost use Rattle.bac_link.specs.Datagrams.{apdu_in};
 ghost use Rattle.bac_query.specs.Cells.{Answers, ShowsAck, ShowsOctets, ShowsOne, ShowsSource};
 ghost use Rattle.bac_query.specs.Cells.{cell_text, enumerated_text, seconds_text, type_text};
 ghost use Rattle.bac_query.specs.Cells.{unsigned_text};
-ghost use Rattle.bac_query.specs.Reading.{values_in};
+ghost use Rattle.bac_query.specs.Answers.{values_in};
 
+use crate::answers::{only_value, values_in};
 use crate::fault::QueryFault;
-use crate::reading::values_in;
 use crate::source::{push_source, source_in};
 use bac_link::ExchangeFault;
 use bac_print::{push_number, push_value};
-use bac_wire::{Datagram, Value, read_value};
+use bac_wire::{Datagram, Value};
 use std::alloc::AllocError;
 
 /// Log_DeviceObjectProperty: what is logged.
@@ -96,23 +94,6 @@ fn push_cell(text: &mut Vec<u8>, property: u32, value: &Value) -> Result<(), All
     }
 }
 
-/// The one value that octets are.
-pub(crate) fn only_value(octets: &[u8]) -> Option<Value<'_>>
-    ensures found { IfSome result (λ value. Spells octets.now (view value)) }
-    ensures only { (value : Primitive) → Spells octets.now value
-        → IsSomeAnd result (λ found. view found ≡ value) }
-    ensures well_formed { IfSome result IsWellFormed }
-{
-    let Ok((value, len)) = read_value(octets) else {
-        return None;
-    };
-    if len == octets.len() {
-        Some(value)
-    } else {
-        None
-    }
-}
-
 /// Appends the one value that octets are.
 fn push_one(text: &mut Vec<u8>, property: u32, octets: &[u8]) -> Result<(), AllocError>
     ensures { OnOk result ((cell : List ℕ) × ShowsOne property octets.now cell
@@ -147,12 +128,12 @@ fn push_octets(text: &mut Vec<u8>, property: u32, octets: &[u8]) -> Result<(), A
 }
 
 /// Appends the values of an ACK to the question for a property.
-fn push_ack(text: &mut Vec<u8>, property: u32, datagram: &[u8]) -> Result<(), AllocError>
+fn push_ack(text: &mut Vec<u8>, property: u32, answer: &Datagram) -> Result<(), AllocError>
     ensures { OnOk result ((cell : List ℕ)
-        × ShowsAck property (values_in (apdu_in datagram.now)) cell
+        × ShowsAck property (values_in (apdu_in answer.now)) cell
         × (text.new.items ≡ text.old.items ++ cell)) }
 {
-    match values_in(datagram) {
+    match values_in(answer) {
         Some(octets) => push_octets(text, property, octets),
         None => text.extend_from_slice(b"?"),
     }
@@ -168,7 +149,7 @@ pub(crate) fn push_answer(
 {
     match answer {
         Ok(datagram) => {
-            push_ack(text, property, datagram.octets())?;
+            push_ack(text, property, &datagram)?;
             Ok(())
         }
         Err(ExchangeFault::Refused(_)) => {

@@ -12,6 +12,7 @@
 
 mod ahead;
 mod announcement;
+mod answers;
 mod cells;
 mod csv_rows;
 mod ends;
@@ -24,6 +25,7 @@ mod items;
 mod layout;
 mod line;
 mod more;
+mod object_list;
 mod reading;
 mod reals;
 mod record_lines;
@@ -35,6 +37,7 @@ mod table;
 mod values;
 mod writing;
 
+pub use answers::{number_in, text_in, values_in};
 pub use ends::{push_cause, push_end, push_refusal};
 pub use fault::QueryFault;
 pub use fetching::{Fetched, fetch_log};
@@ -43,6 +46,7 @@ pub use find_fault::FindFault;
 pub use finding::{RECEIVES, find_devices};
 pub use items::{push_item, push_items};
 pub use layout::{Layout, begin_layout};
+pub use object_list::{DEVICE, ITSELF, OBJECT_LIST, listed_in, object_at, object_in};
 pub use reading::read_property;
 pub use reals::Reals;
 pub use search::Search;

@@ -1,18 +1,19 @@
 //! ReadProperty (clause 15.5) and what is printed of its answer.
 
-ghost use Rattle.bac_wire.specs.OptionChain.{GivesSome};
 ghost use Rattle.bac_link.specs.Datagrams.{apdu_in};
 ghost use Rattle.bac_link.specs.Path.{towards};
 ghost use Rattle.bac_link.specs.Requests.{next_invoke};
 ghost use Rattle.bac_query.specs.Reading.{ReadsOver, ReadsProperty, PrintsValues, Prints, next_way};
-ghost use Rattle.bac_query.specs.Reading.{values_in};
+ghost use Rattle.bac_query.specs.Answers.{values_in};
 
+use crate::answers::values_in;
 use crate::fault::QueryFault;
 use crate::reals::Reals;
 use crate::values::push_values;
-use bac_apdu::{Apdu, ReadProperty, ReadPropertyAck};
-use bac_link::{ExchangeFault, LogLink, Request, Transactions, exchange, read_datagram};
+use bac_apdu::ReadProperty;
+use bac_link::{ExchangeFault, LogLink, Request, Transactions, exchange};
 use bac_print::write_text;
+use bac_wire::Datagram;
 use std::alloc::Global;
 use std::io::Write;
 
@@ -39,35 +40,22 @@ pub fn read_property<L: LogLink, W: Write>(
 {
     let request = Request::ReadProperty(asked);
     match exchange(link, transactions, &request) {
-        Ok(datagram) => print_values(alloc, datagram.octets(), reals, out),
+        Ok(datagram) => print_values(alloc, &datagram, reals, out),
         Err(fault) => Err(QueryFault::Exchange(fault)),
-    }
-}
-
-/// The octets of the values that an ACK has.
-pub(crate) fn values_in(datagram: &[u8]) -> Option<&[u8]>
-    ensures { GivesSome (λ values. values.now) result (values_in (apdu_in datagram.now)) }
-{
-    match read_datagram(datagram) {
-        Some(Apdu::Complex { parameters, .. }) => match ReadPropertyAck::read(parameters) {
-            Some(ack) => Some(ack.values),
-            None => None,
-        },
-        _ => None,
     }
 }
 
 /// Prints the values of an ACK.
 fn print_values<W: Write>(
     alloc: Global,
-    datagram: &[u8],
+    answer: &Datagram,
     reals: Reals,
     out: &mut W,
 ) -> Result<(), QueryFault>
-    ensures { PrintsValues reals (values_in (apdu_in datagram.now)) result (W.contents out.old)
+    ensures { PrintsValues reals (values_in (apdu_in answer.now)) result (W.contents out.old)
         (W.contents out.new) }
 {
-    let Some(values) = values_in(datagram) else {
+    let Some(values) = values_in(answer) else {
         return Err(QueryFault::Exchange(ExchangeFault::BadReply));
     };
     let mut text = Vec::new(alloc);

@@ -1,36 +1,29 @@
 //! What a device tells of its trend logs, as a table (clause 12.25).
 
-ghost use Rattle.std.specs.Prelude.{◌≡◌, ◌<◌, ◌^◌, ℕ, IfSome, IsNone};
-ghost use Rattle.bac_wire.specs.Chain.{Gives};
-ghost use Rattle.bac_wire.specs.Primitive.{Object, Unsigned};
-ghost use Rattle.bac_wire.specs.Spelling.{Spells};
-ghost use Rattle.bac_query.specs.Tables.{AddsCell, AddsCells, AddsRow, ListsLogs, PrintsListed};
-ghost use Rattle.bac_query.specs.Tables.{PrintsLogs, PrintsObject, PrintsPlace, PrintsPlaces};
-ghost use Rattle.bac_query.specs.Tables.{PrintsRow, PrintsRows, Questions, TellsCount, client};
-ghost use Rattle.bac_query.specs.Tables.{list_at, object_in as object_of, property_of, told_object};
+ghost use Rattle.std.specs.Prelude.{◌≡◌, ◌≤◌, ◌+◌, ◌*◌, length};
+ghost use Rattle.bac_wire.specs.Primitive.{Id};
+ghost use Rattle.bac_query.specs.ObjectList.{AreObjects, IsObject, octets_at};
+ghost use Rattle.bac_query.specs.Tables.{AddsCell, AddsCells, AddsRow, ListsLogs, PrintsEach};
+ghost use Rattle.bac_query.specs.Tables.{PrintsListed, PrintsListedAt, PrintsLogs, PrintsObject};
+ghost use Rattle.bac_query.specs.Tables.{PrintsObjects, PrintsPlace, PrintsRow, PrintsRows};
+ghost use Rattle.bac_query.specs.Tables.{Questions, client, property_of};
 
-use crate::cells::{only_value, push_answer};
+use crate::answers::number_in;
+use crate::cells::push_answer;
 use crate::fault::QueryFault;
-use crate::reading::{print, values_in};
+use crate::object_list::{list_at, listed_in, object_at, object_in, whole_list};
+use crate::reading::print;
 use bac_apdu::ReadProperty;
 use bac_apdu::object_type::TREND_LOG;
 use bac_link::{ExchangeFault, LogLink, Request, Transactions, exchange};
 use bac_print::push_number;
-use bac_wire::{Datagram, ObjectId, Value, WireFault, as_object};
+use bac_wire::{Datagram, ObjectId};
 use std::alloc::Global;
 use std::io::Write;
 
 /// The properties in the order of the columns: Object_Name, Log_DeviceObjectProperty, Enable,
 /// Logging_Type, Log_Interval, Record_Count, Buffer_Size, Total_Record_Count, Stop_When_Full.
 const COLUMNS: [u32; 9] = [77, 132, 133, 197, 134, 141, 126, 145, 144];
-
-/// The type of a Device object (clause 21).
-const DEVICE: u16 = 8;
-
-const OBJECT_LIST: u32 = 76;
-
-/// The instance that stands for the device itself, whichever it has (clause 12.11).
-const ITSELF: u32 = 4_194_303;
 
 // ---- one question
 
@@ -55,20 +48,6 @@ fn property_of(object: ObjectId, property: u32) -> ReadProperty
         object,
         property,
         index: None,
-    }
-}
-
-/// A place of the Object_List of the device itself.
-fn list_at(place: u32) -> ReadProperty
-    ensures { result ≡ list_at place }
-{
-    match ObjectId::new(DEVICE, ITSELF) {
-        Some(object) => ReadProperty {
-            object,
-            property: OBJECT_LIST,
-            index: Some(place),
-        },
-        None => unreachable!(),
     }
 }
 
@@ -160,32 +139,6 @@ fn print_rows<L: LogLink, W: Write>(
 
 // ---- the logs that a device lists
 
-/// The Object Identifier that octets are (clause 20.2.14).
-fn object_in(octets: &[u8]) -> Result<ObjectId, WireFault>
-    ensures { Gives (λ object. Object object) result (object_of octets.now) }
-{
-    match octets {
-        [] => Err(WireFault::BadTag),
-        [tag, contents @ ..] => {
-            if *tag == 0xc4 {
-                as_object(contents)
-            } else {
-                Err(WireFault::BadTag)
-            }
-        }
-    }
-}
-
-/// The Object Identifier that an ACK has.
-fn told_object(datagram: &Datagram) -> Result<ObjectId, WireFault>
-    ensures { Gives (λ object. Object object) result (told_object datagram.now) }
-{
-    match values_in(datagram.octets()) {
-        Some(octets) => object_in(octets),
-        None => Err(WireFault::BadTag),
-    }
-}
-
 /// Prints the line of an object of the list, if it is a trend log.
 fn print_object<L: LogLink, W: Write>(
     alloc: Global,
@@ -218,9 +171,9 @@ fn print_place<L: LogLink, W: Write>(
         Ok(datagram) => datagram,
         Err(fault) => return Err(QueryFault::Exchange(fault)),
     };
-    match told_object(&datagram) {
-        Ok(object) => print_object(alloc, link, transactions, object, out),
-        Err(_) => Err(QueryFault::Exchange(ExchangeFault::BadReply)),
+    match object_in(&datagram) {
+        Some(object) => print_object(alloc, link, transactions, object, out),
+        None => Err(QueryFault::Exchange(ExchangeFault::BadReply)),
     }
 }
 
@@ -232,7 +185,7 @@ fn print_places<L: LogLink, W: Write>(
     count: u32,
     out: &mut W,
 ) -> Result<(), QueryFault>
-    ensures { PrintsPlaces L.asks 1 count (client link.old transactions.old) result
+    ensures { PrintsEach (PrintsPlace L.asks) 1 count (client link.old transactions.old) result
         (client link.new transactions.new) (W.contents out.old) (W.contents out.new) }
 {
     for place in 0..count {
@@ -241,30 +194,63 @@ fn print_places<L: LogLink, W: Write>(
     Ok(())
 }
 
-/// The number of 32 bits that octets are.
-fn count_in(octets: &[u8]) -> Option<u32>
-    ensures found { IfSome result (λ count. Spells octets.now (Unsigned count)) }
-    ensures none { IsNone result → (count : ℕ) → count < 2 ^ 32 → Spells octets.now (Unsigned count)
-        → ⊥ }
+/// Prints the line of the object at a place of a list that was told whole, from 0 on.
+fn print_listed_at<L: LogLink, W: Write>(
+    alloc: Global,
+    link: &mut L,
+    transactions: &mut Transactions,
+    values: &[u8],
+    place: u32,
+    out: &mut W,
+) -> Result<(), QueryFault>
+    requires within { 5 * place + 5 ≤ length values.now }
+    requires is { (object : Id) × IsObject object (octets_at place values.now) }
+    ensures { PrintsListedAt L.asks values.now place (client link.old transactions.old) result
+        (client link.new transactions.new) (W.contents out.old) (W.contents out.new) }
 {
-    let Some(value) = only_value(octets) else {
-        return None;
-    };
-    let Value::Unsigned(count) = value else {
-        return None;
-    };
-    if count > 4294967295 {
-        return None;
+    match object_at(values, place) {
+        Some(object) => print_object(alloc, link, transactions, object, out),
+        None => unreachable!(),
     }
-    Some(count as u32)
 }
 
-/// The number of 32 bits that an ACK has.
-fn told_count(datagram: &Datagram) -> Option<u32>
-    ensures found { IfSome result (λ count. TellsCount datagram.now count) }
-    ensures none { IsNone result → (count : ℕ) → TellsCount datagram.now count → ⊥ }
+/// Prints the line of each trend log among so many object identifiers.
+fn print_among<L: LogLink, W: Write>(
+    alloc: Global,
+    link: &mut L,
+    transactions: &mut Transactions,
+    values: &[u8],
+    count: u32,
+    out: &mut W,
+) -> Result<(), QueryFault>
+    requires { AreObjects count values.now }
+    ensures { PrintsEach (PrintsListedAt L.asks values.now) 0 count
+        (client link.old transactions.old) result (client link.new transactions.new)
+        (W.contents out.old) (W.contents out.new) }
 {
-    count_in(values_in(datagram.octets())?)
+    for place in 0..count {
+        print_listed_at(alloc, link, transactions, values, place, out)?;
+    }
+    Ok(())
+}
+
+/// Prints the line of each trend log of a device that has so many objects, in the order of its
+/// list: as one answer tells it whole, which most lists fit; or else place by place.
+fn print_objects<L: LogLink, W: Write>(
+    alloc: Global,
+    link: &mut L,
+    transactions: &mut Transactions,
+    count: u32,
+    out: &mut W,
+) -> Result<(), QueryFault>
+    ensures { PrintsObjects L.asks count (client link.old transactions.old) result
+        (client link.new transactions.new) (W.contents out.old) (W.contents out.new) }
+{
+    let answer = ask(link, transactions, whole_list());
+    match listed_in(&answer, count) {
+        Some(values) => print_among(alloc, link, transactions, values, count, out),
+        None => print_places(alloc, link, transactions, count, out),
+    }
 }
 
 /// Prints the line of each trend log in the device's list.
@@ -281,8 +267,8 @@ fn print_listed<L: LogLink, W: Write>(
         Ok(datagram) => datagram,
         Err(fault) => return Err(QueryFault::Exchange(fault)),
     };
-    match told_count(&datagram) {
-        Some(count) => print_places(alloc, link, transactions, count, out),
+    match number_in(&datagram) {
+        Some(count) => print_objects(alloc, link, transactions, count, out),
         None => Err(QueryFault::Exchange(ExchangeFault::BadReply)),
     }
 }

@@ -14,7 +14,8 @@ use Rattle.bac_words.specs.declared.job.Asked.{Asked}
 use Rattle.bac_asked.specs.declared.end.NotDone.{NotDone}
 use Rattle.bac_asked.specs.declared.log_words.Asking.{Asking}
 use Rattle.bac_asked.specs.declared.wanted.Wanted.{Wanted}
-use Rattle.bac_questions.specs.Discovered.{AddsObject, Finds, FindsAmong, FindsOf, FindsOver, FindsTo, IsObject, Reads, ReadsNumber, ReadsObject, list_at, octets_at}
+use Rattle.bac_questions.specs.Discovered.{AddsObject, Finds, FindsAmong, FindsOf, FindsOver, FindsTo, Reads, ReadsNumber, ReadsObject}
+use Rattle.bac_query.specs.ObjectList.{IsObject, list_at, octets_at}
 use Rattle.bac_ports.specs.Sockets.{SocketRules, link_over, own_address, socket_asks}
 
 -- however an exchange ended, the transactions that follow have the retries and the way of those before

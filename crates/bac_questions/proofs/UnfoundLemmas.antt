@@ -7,7 +7,8 @@ use Rattle.bac_asked.specs.declared.end.NotDone.TheVariants as done
 use Rattle.bac_asked.specs.declared.fault.Fault.TheVariants.{Exchange}
 use Rattle.bac_asked.specs.declared.log_words.Asking.{Asking}
 use Rattle.bac_asked.specs.declared.wanted.Wanted.{Wanted}
-use Rattle.bac_questions.specs.Discovered.{FindsTo, Reads, ReadsNumber, TellsObjects, list_at}
+use Rattle.bac_questions.specs.Discovered.{FindsTo, Reads, ReadsNumber}
+use Rattle.bac_query.specs.ObjectList.{TellsObjects, list_at}
 use Rattle.bac_questions.specs.Faults.{EndsFinding}
 use Rattle.bac_questions.specs.Unfound.{FailsToFind, LacksNumber, LacksObject, LacksOf, LacksPlace}
 use Rattle.bac_link.specs.Path.{towards}

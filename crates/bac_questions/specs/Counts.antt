@@ -6,7 +6,8 @@ use Rattle.bac_link.specs.Path.{Path}
 use Rattle.bac_link.specs.declared.exchanges.ExchangeFault.{ExchangeFault}
 use Rattle.bac_link.specs.declared.exchanges.ExchangeFault.TheVariants as fault
 use Rattle.bac_link.specs.declared.link.Lost.{Lost as Loss}
-use Rattle.bac_questions.specs.Discovered.{Reads, Tells}
+use Rattle.bac_questions.specs.Discovered.{Reads}
+use Rattle.bac_query.specs.Answers.{Tells}
 use Rattle.bac_questions.specs.declared.questions.Count.{Count}
 use Rattle.bac_questions.specs.declared.questions.Count.TheVariants.{Told, Untold, Lost}
 

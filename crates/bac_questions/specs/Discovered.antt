@@ -1,19 +1,17 @@
 -- The trend logs that a device tells of: those of its Object_List, told at once, or place by place.
-use Rattle.std.specs.Prelude.{◌≡◌, ◌≢◌, ◌⊎◌, ◌<◌, ◌+◌, ◌*◌, ℕ, zero, suc, List, [], ◌∷◌, ◌++◌, length, take, drop}
-use Rattle.std.specs.Prelude.{Option, Some, None, Result, Ok, Err, IfOk, String}
-use Rattle.std.specs.Int.{w32, from_be_bytes}
+use Rattle.std.specs.Prelude.{◌≡◌, ◌≢◌, ◌⊎◌, ℕ, zero, suc, List, [], ◌∷◌, ◌++◌, Option, None, Result, Ok, Err, IfOk}
+use Rattle.std.specs.Prelude.{String}
 use Rattle.bac_apdu.specs.declared.service.read_property.ReadProperty.{ReadProperty}
 use Rattle.bac_link.specs.declared.exchanges.ExchangeFault.{ExchangeFault}
 use Rattle.bac_link.specs.declared.link.Lost.{Lost as Loss}
 use Rattle.bac_link.specs.declared.request.Request.TheVariants as request
-use Rattle.bac_link.specs.Datagrams.{apdu_in}
 use Rattle.bac_link.specs.Exchanges.{Exchanges}
 use Rattle.bac_link.specs.Path.{Path, towards}
 use Rattle.bac_print.specs.Texts.{IsTextOf}
-use Rattle.bac_query.specs.Reading.{values_in}
-use Rattle.bac_wire.specs.Primitive.{Id, Primitive}
+use Rattle.bac_query.specs.Answers.{Tells}
+use Rattle.bac_query.specs.ObjectList.{IsObject, TellsObject, TellsObjects, list_at, octets_at, whole_list}
+use Rattle.bac_wire.specs.Primitive.{Id}
 use Rattle.bac_wire.specs.Primitive as primitive
-use Rattle.bac_wire.specs.Spelling.{Spells}
 use Rattle.bac_ports.specs.declared.udp_link.UdpLink.{UdpLink}
 use Rattle.bac_ports.specs.Sockets.{SocketRules, UsesSocket, link_over, own_address, socket_asks}
 use Rattle.bac_asked.specs.declared.log_words.Asking.{Asking}
@@ -24,33 +22,6 @@ abbrev pub Reads : {S : Type 0} → (S → List ℕ → Result (List ℕ) Loss �
     ReadProperty → S → Result (List ℕ) ExchangeFault → S → Type 0
 Reads asks path retries asked old answer new =
     (invoke : ℕ) × Exchanges asks path invoke (request.ReadProperty asked) retries old answer new
-
--- octets are an object identifier: C4, and in four octets the type in the high ten bits, then the instance (20.2.14)
-abbrev pub IsObject : Id → List ℕ → Type 0
-IsObject object values =
-    (octets : List ℕ) × (values ≡ 196 ∷ octets) × (length octets ≡ 4)
-    × (from_be_bytes w32 octets ≡ object.kind * 4194304 + object.instance) × (object.instance < 4194304)
-
--- the values of an ACK are one object identifier
-abbrev pub TellsObject : List ℕ → Id → Type 0
-TellsObject datagram object = (values : List ℕ) × (values_in (apdu_in datagram) ≡ Some values) × IsObject object values
-
--- the octets at a place, from 0 on, of octets that have five for each
-abbrev pub octets_at : ℕ → List ℕ → List ℕ
-octets_at place values = take 5 (drop (5 * place) values)
-
--- octets are so many object identifiers, one behind the other
-abbrev pub AreObjects : ℕ → List ℕ → Type 0
-AreObjects count values = (length values ≡ 5 * count)
-    × ((place : ℕ) → place < count → (object : Id) × IsObject object (octets_at place values))
-
--- the values of an ACK are so many object identifiers: these octets
-abbrev pub TellsObjects : List ℕ → ℕ → List ℕ → Type 0
-TellsObjects datagram count values = (values_in (apdu_in datagram) ≡ Some values) × AreObjects count values
-
--- the values of an ACK are this one value
-abbrev pub Tells : List ℕ → Primitive → Type 0
-Tells datagram value = (values : List ℕ) × (values_in (apdu_in datagram) ≡ Some values) × Spells values value
 
 -- a number was read: one Unsigned
 abbrev pub ReadsNumber : {S : Type 0} → (ReadProperty → S → Result (List ℕ) ExchangeFault → S → Type 0) → ReadProperty
@@ -75,14 +46,6 @@ abbrev pub ReadsName : {S A : Type 0} → (ReadProperty → S → Result (List �
 ReadsName reads asked old name new =
     ((answer : List ℕ) × reads asked old (Ok answer) new × TellsName answer name)
     ⊎ ((fault : ExchangeFault) × reads asked old (Err fault) new × (name ≡ None))
-
--- a place of the Object_List (76) of the device itself, instance 4194303; at 0 it has how many there are (clause 12.11)
-abbrev pub list_at : ℕ → ReadProperty
-list_at place = record { object = record { kind = 8; instance = 4194303 }; property = 76; index = Some place }
-
--- the whole Object_List
-abbrev pub whole_list : ReadProperty
-whole_list = record { object = record { kind = 8; instance = 4194303 }; property = 76; index = None }
 
 -- the Object_Name (77) of an object
 abbrev pub name_of : Id → ReadProperty

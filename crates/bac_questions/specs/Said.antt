@@ -12,10 +12,11 @@ use Rattle.bac_link.specs.declared.exchanges.ExchangeFault.TheVariants as fault
 use Rattle.bac_link.specs.declared.link.Lost.{Lost as Loss}
 use Rattle.bac_ports.specs.Sockets.{SocketRules, UsesSocket, link_over, own_address, socket_asks}
 use Rattle.bac_ports.specs.declared.udp_link.UdpLink.{UdpLink}
-use Rattle.bac_query.specs.Reading.{values_in}
+use Rattle.bac_query.specs.Answers.{values_in}
 use Rattle.bac_archive.specs.declared.trend_logs.Told.{Told as Kept}
 use Rattle.bac_asked.specs.declared.log_words.Asking.{Asking}
-use Rattle.bac_questions.specs.Discovered.{Reads, TellsObject}
+use Rattle.bac_questions.specs.Discovered.{Reads}
+use Rattle.bac_query.specs.ObjectList.{TellsObject}
 use Rattle.bac_questions.specs.Counts.{AsksFor}
 use Rattle.bac_questions.specs.declared.questions.Count.{Count}
 use Rattle.bac_questions.specs.declared.questions.Count.TheVariants as count

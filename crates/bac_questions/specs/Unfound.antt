@@ -8,7 +8,9 @@ use Rattle.bac_wire.specs.Primitive.{Id}
 use Rattle.bac_wire.specs.Primitive as primitive
 use Rattle.bac_asked.specs.declared.log_words.Asking.{Asking}
 use Rattle.bac_asked.specs.declared.wanted.Wanted.{Wanted}
-use Rattle.bac_questions.specs.Discovered.{FindsTo, LacksWhole, Reads, ReadsNumber, Tells, TellsObject, list_at}
+use Rattle.bac_questions.specs.Discovered.{FindsTo, LacksWhole, Reads, ReadsNumber}
+use Rattle.bac_query.specs.Answers.{Tells}
+use Rattle.bac_query.specs.ObjectList.{TellsObject, list_at}
 use Rattle.bac_ports.specs.Sockets.{SocketRules, UsesSocket, link_over, own_address, socket_asks}
 use Rattle.bac_ports.specs.declared.udp_link.UdpLink.{UdpLink}
 

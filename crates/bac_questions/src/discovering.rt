@@ -6,9 +6,10 @@ ghost use Rattle.std.specs.Prelude.{IsNone, List, Ok, OnOk, ℕ};
 ghost use Rattle.std.specs.List.{All};
 ghost use Rattle.bac_link.specs.Path.{towards};
 ghost use Rattle.bac_asked.specs.Faults.{WantsMemory};
-ghost use Rattle.bac_questions.specs.Discovered.{AddsObject, AreObjects, Finds, FindsAmong};
+ghost use Rattle.bac_questions.specs.Discovered.{AddsObject, Finds, FindsAmong};
 ghost use Rattle.bac_questions.specs.Discovered.{FindsOf, FindsOver, FindsTo, Reads, ReadsName};
-ghost use Rattle.bac_questions.specs.Discovered.{ReadsNumber, ReadsObject, TellsName, TellsObjects};
+ghost use Rattle.bac_questions.specs.Discovered.{ReadsNumber, ReadsObject, TellsName};
+ghost use Rattle.bac_query.specs.ObjectList.{AreObjects, TellsObjects};
 ghost use Rattle.bac_questions.specs.Discovered.{name_of};
 ghost use Rattle.bac_questions.specs.Faults.{EndsFinding};
 ghost use Rattle.bac_questions.specs.Unfound.{FailsToFind, LacksNumber, LacksObject, LacksOf};
@@ -19,26 +20,19 @@ ghost use Rattle.bac_questions.specs.Silent.{is_same_device};
 
 use crate::among::is_same_device;
 use crate::connecting::connect;
-use crate::questions::{object_at, object_in, objects_in, read, read_number, text_in};
+use crate::questions::{read, read_number};
 use bac_apdu::object_type::TREND_LOG;
 use bac_archive::Source;
 use bac_asked::{Asking, Fault, NotDone, Wanted, add_wanted, source_of};
 use bac_link::{ExchangeFault, LogLink, Transactions};
 use bac_ports::Sockets;
 use bac_print::text_of;
+use bac_query::{DEVICE, ITSELF, OBJECT_LIST, listed_in, object_at, object_in, text_in};
 use bac_wire::{Datagram, ObjectId};
 use bac_words::{Asked, Word};
 use std::alloc::Global;
 
-/// The type of a Device object (clause 21).
-pub const DEVICE: u16 = 8;
-
-const OBJECT_LIST: u32 = 76;
-
 const OBJECT_NAME: u32 = 77;
-
-/// The instance that stands for the device itself, whichever it has (clause 12.11).
-pub const ITSELF: u32 = 4_194_303;
 
 /// A device that is asked for its objects.
 #[derive(Drop)]
@@ -339,19 +333,6 @@ fn add_among<L: LogLink>(
         add_object(alloc, device, object, like, &mut all)?;
     }
     Ok(all)
-}
-
-/// The octets of so many object identifiers, if they are what was answered.
-fn listed_in(answer: &Result<Datagram, ExchangeFault>, count: u32) -> Option<&[u8]>
-    ensures found { IfSome result (λ values. (datagram : List ℕ) × (answer.now ≡ Ok datagram)
-        × TellsObjects datagram count values.now) }
-    ensures none { IsNone result → IfOk answer.now (λ datagram. (values : List ℕ)
-        → TellsObjects datagram count values → ⊥) }
-{
-    match answer {
-        Ok(datagram) => objects_in(datagram, count),
-        Err(_fault) => None,
-    }
 }
 
 /// Adds each trend log of a device that has so many objects, in the order of its list: as one

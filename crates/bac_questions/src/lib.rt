@@ -11,8 +11,9 @@ mod said;
 mod whose;
 
 pub use among::{copy_source, is_same_device, log_among};
+pub use bac_query::{DEVICE, ITSELF};
 pub use connecting::{connect, transactions_by};
-pub use discovering::{DEVICE, ITSELF, asked_beside, asked_like, discover, find_logs};
+pub use discovering::{asked_beside, asked_like, discover, find_logs};
 pub use questions::{Count, read_count};
 pub use said::{Identity, OBJECT_IDENTIFIER, Said, copy_text, identify, read_said, silent};
 pub use whose::{

@@ -12,12 +12,13 @@ ghost use Rattle.bac_questions.specs.Said.{SaysBehind, SaysMore, TellsDevice, co
 ghost use Rattle.bac_questions.specs.Said.{itself_of, nothing_told, says_all, silent};
 
 use crate::connecting::connect;
-use crate::discovering::{DEVICE, ITSELF, asked_like};
-use crate::questions::{Count, object_in, read, read_unsigned, values_in};
+use crate::discovering::asked_like;
+use crate::questions::{Count, read, read_unsigned};
 use bac_archive::Told;
 use bac_asked::{Asking, Fault, NotDone};
 use bac_link::{ExchangeFault, LogLink, Transactions};
 use bac_ports::Sockets;
+use bac_query::{DEVICE, ITSELF, object_in, values_in};
 use bac_wire::{Datagram, ObjectId};
 use bac_words::Word;
 use std::alloc::{AllocError, Global};

@@ -25,7 +25,8 @@ use Rattle.bac_ports.specs.declared.udp_link.UdpLink.{UdpLink}
 use Rattle.bac_print.specs.Output.{AppendsPart, Held}
 use Rattle.bac_query.specs.Ahead.{FetchesAhead}
 use Rattle.bac_query.specs.Fetching.{Fetching, IsEnd}
-use Rattle.bac_query.specs.Reading.{Answer, PrintsValues, values_in}
+use Rattle.bac_query.specs.Reading.{Answer, PrintsValues}
+use Rattle.bac_query.specs.Answers.{values_in}
 use Rattle.bac_query.specs.declared.fault.QueryFault.{QueryFault}
 use Rattle.bac_query.specs.declared.fault.QueryFault.TheVariants as query
 use Rattle.bac_query.specs.Ends.{end_line}

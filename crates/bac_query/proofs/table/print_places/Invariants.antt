@@ -1,11 +1,11 @@
 -- What is still to be printed makes the whole.
 use Rattle.std.proofs.Common.{◌+◌, ◌-◌}
 use Rattle.bac_query.specs.Reading.{Answer, Held}
-use Rattle.bac_query.specs.Tables.{PrintsPlaces, client}
+use Rattle.bac_query.specs.Tables.{PrintsEach, PrintsPlace, client}
 use Rattle.bac_query.proofs.table.print_places.Given as goal
 
 abbrev pub invariant-loop-place : goal.invariant-loop-place
 invariant-loop-place g l =
     (result : Answer) (new : _) (has : Held)
-    → PrintsPlaces g.L.LogLink.asks (l.place + 1) (l.count - l.place) (client l.link l.transactions) result new (g.W.Write.contents l.out) has
-    → PrintsPlaces g.L.LogLink.asks 1 l.count (client l.initial.link l.initial.transactions) result new (g.W.Write.contents l.initial.out) has
+    → PrintsEach (PrintsPlace g.L.LogLink.asks) (l.place + 1) (l.count - l.place) (client l.link l.transactions) result new (g.W.Write.contents l.out) has
+    → PrintsEach (PrintsPlace g.L.LogLink.asks) 1 l.count (client l.initial.link l.initial.transactions) result new (g.W.Write.contents l.initial.out) has

@@ -1,6 +1,6 @@
 use Rattle.bac_wire.specs.Primitive.{Chars}
-use Rattle.bac_questions.proofs.CountLemmas.{chars_value}
-use Rattle.bac_questions.proofs.questions.text_in.Goals as goal
+use Rattle.bac_query.proofs.AnswerLemmas.{chars_value}
+use Rattle.bac_query.proofs.answers.text_in.Goals as goal
 
 pub returns-in_default-clause-none : goal.returns-in_default-clause-none
 returns-in_default-clause-none c = λ same set octets is. c.in_default.ensures.only (Chars set octets) is

@@ -1,7 +1,7 @@
 use Rattle.std.proofs.Common.{arith}
 use Rattle.bac_wire.specs.Primitive.{Unsigned}
-use Rattle.bac_query.proofs.Tables.{same_number, unsigned_value}
-use Rattle.bac_questions.proofs.questions.number_in.Goals as goal
+use Rattle.bac_query.proofs.AnswerLemmas.{same_number, unsigned_value}
+use Rattle.bac_query.proofs.answers.number_in.Goals as goal
 
 pub returns-in_default-clause-none : goal.returns-in_default-clause-none
 returns-in_default-clause-none c = λ same number less is. c.in_default.ensures.only (Unsigned number) is
@@ -9,6 +9,7 @@ returns-in_default-clause-none c = λ same number less is. c.in_default.ensures.
 pub returns-in_default-value : goal.returns-in_default-value
 returns-in_default-value c = record {
   found = tt;
+  small = tt;
   none = λ same number less is. c.in_default-value.not-Unsigned number (unsigned_value c.in-Some.value number (c.in-Some.ensures.only (Unsigned number) is));
 }
 

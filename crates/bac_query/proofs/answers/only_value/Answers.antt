@@ -1,5 +1,5 @@
 use Rattle.std.proofs.Common.{rules, ◌≡◌, [], sym, length, append-nil}
-use Rattle.bac_query.proofs.cells.only_value.Goals as goal
+use Rattle.bac_query.proofs.answers.only_value.Goals as goal
 
 pub returns-in_default-clause-only : goal.returns-in_default-clause-only
 returns-in_default-clause-only c value spelt = c.in_default.ensures.only c.args.octets.now [] value spelt (sym (append-nil c.args.octets.now))

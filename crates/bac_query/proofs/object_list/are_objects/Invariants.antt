@@ -1,7 +1,7 @@
 use Rattle.std.specs.Prelude.{ℕ, ◌<◌}
 use Rattle.bac_wire.specs.Primitive.{Id}
-use Rattle.bac_questions.specs.Discovered.{IsObject, octets_at}
-use Rattle.bac_questions.proofs.questions.are_objects.Given as goal
+use Rattle.bac_query.specs.ObjectList.{IsObject, octets_at}
+use Rattle.bac_query.proofs.object_list.are_objects.Given as goal
 
 -- so far each is an object identifier
 abbrev pub invariant-loop-place : goal.invariant-loop-place

@@ -1,6 +1,6 @@
 use Rattle.std.proofs.Common.{◌≡◌, ap, subst, sym, take, ◌∙◌}
-use Rattle.bac_questions.specs.Discovered.{IsObject, octets_at}
-use Rattle.bac_questions.proofs.questions.object_at.Goals as goal
+use Rattle.bac_query.specs.ObjectList.{IsObject, octets_at}
+use Rattle.bac_query.proofs.object_list.object_at.Goals as goal
 
 pub returns-clause-none : goal.returns-clause-none
 returns-clause-none c = λ none object is.

@@ -1,8 +1,8 @@
 use Rattle.std.proofs.Common.{◌≡◌, inl, inr, refl, subst, arith}
 use Rattle.std.proofs.lemmas.Bool.{cases_lt}
 use Rattle.bac_wire.specs.Primitive.{Id}
-use Rattle.bac_questions.specs.Discovered.{IsObject, octets_at}
-use Rattle.bac_questions.proofs.questions.are_objects.Goals as goal
+use Rattle.bac_query.specs.ObjectList.{IsObject, octets_at}
+use Rattle.bac_query.proofs.object_list.are_objects.Goals as goal
 
 pub returns-in_default-clause-none : goal.returns-in_default-clause-none
 returns-in_default-clause-none c = λ no are.

@@ -1,7 +1,7 @@
 use Rattle.std.proofs.Common.{subst, sym, ◌∙◌}
 use Rattle.std.proofs.lemmas.Option.{same_Some}
-use Rattle.bac_questions.specs.Discovered.{AreObjects}
-use Rattle.bac_questions.proofs.questions.objects_in.Goals as goal
+use Rattle.bac_query.specs.ObjectList.{AreObjects}
+use Rattle.bac_query.proofs.object_list.objects_in.Goals as goal
 
 pub returns-then-are_objects-clause-found : goal.returns-then-are_objects-clause-found
 returns-then-are_objects-clause-found c = (c.in_ok-values.ensures, c.are_objects.ensures.are c.if-are_objects.true)

@@ -1,7 +1,7 @@
 use Rattle.std.proofs.Common.{subst, sym, ◌∙◌}
 use Rattle.std.proofs.lemmas.Option.{same_Some}
-use Rattle.bac_questions.specs.Discovered.{IsObject}
-use Rattle.bac_questions.proofs.questions.object_in.Goals as goal
+use Rattle.bac_query.specs.ObjectList.{IsObject}
+use Rattle.bac_query.proofs.object_list.object_in.Goals as goal
 
 pub returns-clause-none : goal.returns-clause-none
 returns-clause-none c = λ none object tells.
