@@ -1,4 +1,4 @@
--- The Object_List of a device (property 76, clause 12.11): how it is asked for, and the object identifiers that are told.
+-- The Object_List of a device (property 76, clause 12.11): how it is asked for, and the object identifiers told.
 use Rattle.std.specs.Prelude.{◌≡◌, ◌<◌, ◌+◌, ◌*◌, ℕ, List, ◌∷◌, length, take, drop, Some, None}
 use Rattle.std.specs.Int.{w32, from_be_bytes}
 use Rattle.bac_wire.specs.Primitive.{Id}
