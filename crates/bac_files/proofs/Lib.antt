@@ -1,2 +1,3 @@
 pub mod FileGhosts
 pub mod FilesLemmas
+mod FolderLemmas

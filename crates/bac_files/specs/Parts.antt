@@ -1,6 +1,6 @@
 -- Where an archive is kept: in a file, or in parts.
-use Rattle.std.specs.Prelude.{◌≡◌, ◌⊎◌, ◌++◌, ℕ, Bool, List, map, Option, None, option_map, Result, Ok, Err}
-use Rattle.std.specs.Prelude.{String, Vec, IfSome, codes, if◌then◌else◌, unwrap_or}
+use Rattle.std.specs.Prelude.{◌≡◌, ◌⊎◌, ◌++◌, ◌-◌, ℕ, zero, suc, Bool, List, length, map, replicate, Option, None, Some}
+use Rattle.std.specs.Prelude.{option_map, Result, Ok, Err, String, Vec, codes, decimal, if◌then◌else◌, unwrap_or}
 use Rattle.std.specs.declared.alloc.Global.{Global}
 use Rattle.std.specs.String.{string_bytes}
 use Rattle.sqlite.specs.Effect.{Database}
@@ -8,15 +8,29 @@ use Rattle.sqlite.specs.State.{State}
 use Rattle.bac_files.specs.declared.folder.Place.{Place}
 use Rattle.bac_files.specs.declared.not_opened.NotOpened.{NotOpened}
 
--- a path is that of a file in a folder
-abbrev pub IsPartOf : List ℕ → String Global → Type 0
-IsPartOf folder path = (file : List ℕ) × (string_bytes path ≡ folder ++ (codes "/" ++ file))
+-- the file of the part of this number: its number in six digits, or more where it has more, and .db
+abbrev pub part_file : ℕ → List ℕ
+part_file number = replicate (6 - length (decimal number)) 48 ++ (decimal number ++ codes ".db")
 
--- An archive of this name is kept in the file of that name; or in one of the folder, which may follow on another there.
+-- its path in a folder
+abbrev pub part_path : List ℕ → ℕ → List ℕ
+part_path folder number = folder ++ (codes "/" ++ part_file number)
+
+-- what the part behind so many others follows on: the last of these, or nothing where there are none
+abbrev pub FollowsOn : List ℕ → ℕ → Option (String Global) → Type 0
+FollowsOn folder zero before = before ≡ None
+FollowsOn folder (suc others) before =
+    (path : String Global) × (before ≡ Some path) × (string_bytes path ≡ part_path folder (suc others))
+
+-- the part of a folder behind so many others, and what it follows on
+abbrev pub IsPartBehind : List ℕ → ℕ → Place → Type 0
+IsPartBehind folder others place =
+    (string_bytes place.path ≡ part_path folder (suc others)) × FollowsOn folder others place.before
+
+-- An archive of this name is kept in the file of that name; or in a part of the folder, which follows on that before it.
 abbrev pub IsPlaced : List ℕ → Place → Type 0
 IsPlaced name place =
-    ((string_bytes place.path ≡ name) × (place.before ≡ None))
-    ⊎ (IsPartOf name place.path × IfSome place.before (IsPartOf name))
+    ((string_bytes place.path ≡ name) × (place.before ≡ None)) ⊎ ((others : ℕ) × IsPartBehind name others place)
 
 -- the path of the file that is no use: of the one that it follows on, where that is blamed
 abbrev pub blamed : Place → List ℕ

@@ -1,9 +1,11 @@
 //! A folder of parts: files with a name of six digits and `.db`, of which the greatest is the
 //! newest.
 
-ghost use Rattle.std.specs.Prelude.{◌≡◌, Bool, IfErr, IfOk, false};
+ghost use Rattle.std.specs.Prelude.{◌≡◌, ◌<◌, Bool, IfErr, IfOk, false};
+ghost use Rattle.std.specs.String.{string_bytes};
 ghost use Rattle.bac_files.specs.Files.{IsReason};
-ghost use Rattle.bac_files.specs.Parts.{IsPartOf, IsPlaced, blamed};
+ghost use Rattle.bac_files.specs.Parts.{FollowsOn, IsPartBehind, IsPlaced, blamed, part_file};
+ghost use Rattle.bac_files.specs.Parts.{part_path};
 
 use crate::not_opened::{NotOpened, Obstacle};
 use crate::obstacles::is_folder;
@@ -36,22 +38,14 @@ impl Place {
         })
     }
 
-    /// A part, and the one that it follows on.
-    fn part(
-        rt: &HostRuntime,
-        folder: &str,
-        file: u32,
-        old: Option<u32>,
-    ) -> Result<Place, AllocError>
-        ensures { IfOk result (IsPlaced folder.now) }
+    /// The part behind so many others, and the last of these, which it follows on.
+    fn part(rt: &HostRuntime, folder: &str, others: u32) -> Result<Place, AllocError>
+        requires { others < 4294967295 }
+        ensures { IfOk result (IsPartBehind folder.now others) }
     {
-        let before = match old {
-            Some(old) => Some(part_path(rt, folder, old)?),
-            None => None,
-        };
         Ok(Place {
-            path: part_path(rt, folder, file)?,
-            before,
+            path: part_path(rt, folder, others + 1)?,
+            before: last_path(rt, folder, others)?,
             blames_before: false,
         })
     }
@@ -68,7 +62,9 @@ impl Place {
 }
 
 /// The name of a part in its folder: six digits and `.db`.
-fn part_name(rt: &HostRuntime, number: u32) -> Result<String, AllocError> {
+fn part_name(rt: &HostRuntime, number: u32) -> Result<String, AllocError>
+    ensures { IfOk result (λ name. string_bytes name ≡ part_file number) }
+{
     let mut name = String::new(rt.alloc());
     match write!(name, "{number:06}.db") {
         Ok(()) => Ok(name),
@@ -78,13 +74,23 @@ fn part_name(rt: &HostRuntime, number: u32) -> Result<String, AllocError> {
 
 /// The path of a part.
 fn part_path(rt: &HostRuntime, folder: &str, number: u32) -> Result<String, AllocError>
-    ensures { IfOk result (λ path. IsPartOf folder.now path) }
+    ensures { IfOk result (λ path. string_bytes path ≡ part_path folder.now number) }
 {
     let name = part_name(rt, number)?;
     let mut path = String::from_str(rt.alloc(), folder)?;
     path.push_str("/")?;
     path.push_str(name.as_str())?;
     Ok(path)
+}
+
+/// The path of the last of so many parts, if there is one.
+fn last_path(rt: &HostRuntime, folder: &str, parts: u32) -> Result<Option<String>, AllocError>
+    ensures { IfOk result (FollowsOn folder.now parts) }
+{
+    if parts == 0 {
+        return Ok(None);
+    }
+    Ok(Some(part_path(rt, folder, parts)?))
 }
 
 /// The number of a part, by the name of its file.
@@ -153,23 +159,28 @@ fn len_of(rt: &HostRuntime, folder: &str, number: u32) -> Result<u64, AllocError
     }
 }
 
-/// Which part of a folder is opened whose newest one has this number: the next one, where that has
-/// so many octets or more. A part with nothing in it follows on the one before it, also one that
-/// was begun and isn't written.
-fn choose(rt: &HostRuntime, folder: &str, newest: u32, full: u64) -> Result<Place, AllocError>
-    ensures { IfOk result (IsPlaced folder.now) }
+/// Behind how many others the part of a folder is that is opened, where the newest one has this
+/// number: as it is, or behind it, where that has so many octets or more. A part with nothing in it
+/// follows on the one before it, also one that was begun and isn't written.
+fn choose(rt: &HostRuntime, folder: &str, newest: u32, full: u64) -> Result<u32, AllocError>
+    ensures { IfOk result (λ others. others < 4294967295) }
 {
     if newest == 0 {
-        return Place::part(rt, folder, 1, None);
+        return Ok(0);
     }
     let len = len_of(rt, folder, newest)?;
     if len >= full && newest < LAST {
-        return Place::part(rt, folder, newest + 1, Some(newest));
+        return Ok(newest);
     }
-    if newest == 1 {
-        return Place::part(rt, folder, newest, None);
-    }
-    Place::part(rt, folder, newest, Some(newest - 1))
+    Ok(newest - 1)
+}
+
+/// That part.
+fn chosen(rt: &HostRuntime, folder: &str, newest: u32, full: u64) -> Result<Place, AllocError>
+    ensures { IfOk result (IsPlaced folder.now) }
+{
+    let others = choose(rt, folder, newest, full)?;
+    Place::part(rt, folder, others)
 }
 
 /// The part of a folder that is opened.
@@ -178,7 +189,7 @@ fn place_in(rt: &HostRuntime, folder: &str, full: u64) -> Result<Place, NotOpene
     ensures why { (may : Bool) → IfErr result (IsReason may) }
 {
     match numbers_in(rt, folder) {
-        Ok(numbers) => match choose(rt, folder, numbers.greatest, full) {
+        Ok(numbers) => match chosen(rt, folder, numbers.greatest, full) {
             Ok(place) => Ok(place),
             Err(_) => Err(NotOpened::Memory),
         },
