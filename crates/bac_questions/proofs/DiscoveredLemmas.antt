@@ -1,12 +1,7 @@
 -- One place more of an Object_List, and all of them over a socket.
-use Rattle.std.proofs.Common.{◌≡◌, ℕ, ◌+◌, suc, List, Option, Some, Result, Ok, Err, IfOk, Vec, Global, ap, sym, subst, add-one}
+use Rattle.std.proofs.Common.{◌≡◌, ℕ, ◌+◌, suc, List, Option, Some, Result, Ok, Err, IfOk, Vec, Global, sym, subst, add-one}
 use Rattle.bac_apdu.specs.Npdu.{Place}
 use Rattle.bac_wire.specs.Primitive.{Id}
-use Rattle.bac_link.specs.Exchanges.{Leaves}
-use Rattle.bac_link.specs.declared.exchanges.ExchangeFault.{ExchangeFault}
-use Rattle.bac_link.specs.declared.exchanges.ExchangeFault.TheVariants as fault
-use Rattle.bac_link.specs.declared.request.Request.{Request}
-use Rattle.bac_link.specs.declared.transactions.Transactions.{Transactions}
 use Rattle.bac_link.specs.declared.link.Lost.{Lost as Loss}
 use Rattle.bac_link.specs.Path.{towards}
 use Rattle.bac_ports.specs.declared.udp_link.UdpLink.{UdpLink}
@@ -17,21 +12,6 @@ use Rattle.bac_asked.specs.declared.wanted.Wanted.{Wanted}
 use Rattle.bac_questions.specs.Discovered.{AddsObject, Finds, FindsAmong, FindsOf, FindsOver, FindsTo, Reads, ReadsNumber, ReadsObject}
 use Rattle.bac_query.specs.ObjectList.{IsObject, list_at, octets_at}
 use Rattle.bac_ports.specs.Sockets.{SocketRules, link_over, own_address, socket_asks}
-
--- however an exchange ended, the transactions that follow have the retries and the way of those before
-pub leaves_retries : (r : Request) (old new : Transactions) (result : Result (List ℕ) ExchangeFault) → Leaves r old result new → new.retries ≡ old.retries
-leaves_retries r old new (Err fault.TooLong) h = ap (λ (t : Transactions). t.retries) h
-leaves_retries r old new (Err fault.Lost) h = ap (λ (t : Transactions). t.retries) h
-leaves_retries r old new (Err fault.BadReply) h = ap (λ (t : Transactions). t.retries) h
-leaves_retries r old new (Err (fault.Refused refusal)) h = ap (λ (t : Transactions). t.retries) h
-leaves_retries r old new (Ok datagram) h = ap (λ (t : Transactions). t.retries) h
-
-pub leaves_route : (r : Request) (old new : Transactions) (result : Result (List ℕ) ExchangeFault) → Leaves r old result new → new.route ≡ old.route
-leaves_route r old new (Err fault.TooLong) h = ap (λ (t : Transactions). t.route) h
-leaves_route r old new (Err fault.Lost) h = ap (λ (t : Transactions). t.route) h
-leaves_route r old new (Err fault.BadReply) h = ap (λ (t : Transactions). t.route) h
-leaves_route r old new (Err (fault.Refused refusal)) h = ap (λ (t : Transactions). t.route) h
-leaves_route r old new (Ok datagram) h = ap (λ (t : Transactions). t.route) h
 
 -- one place more
 pub next_place : {S : Type 0} (asks : S → List ℕ → Result (List ℕ) Loss → S → Type 0) (p q r : Option Place) (m n o : ℕ)

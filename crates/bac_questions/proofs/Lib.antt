@@ -1,5 +1,6 @@
 pub mod SilentLemmas
 pub mod CountLemmas
+pub mod Left
 pub mod DiscoveredLemmas
 pub mod WhoseLemmas
 pub mod UnfoundLemmas

@@ -15,7 +15,7 @@ use bac_wire::{Datagram, ObjectId};
 const TOTAL_RECORD_COUNT: u32 = 145;
 
 /// Reads a property.
-#[tactic(auto, using(crate::proofs::DiscoveredLemmas::leaves_retries, crate::proofs::DiscoveredLemmas::leaves_route))]
+#[tactic(auto, using(crate::proofs::Left::retries_left, crate::proofs::Left::route_left))]
 pub(crate) fn read<L: LogLink>(
     link: &mut L,
     transactions: &mut Transactions,
