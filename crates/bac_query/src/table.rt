@@ -295,7 +295,8 @@ fn print_logs<L: LogLink, W: Write>(
 /// Prints a table of these trend logs of a device, or of each in its Object_List if there are none
 /// (clause 12.25): a line of names, and a line for each log, whose cells are parted by tabs. Each
 /// property is asked for by itself. A cell is `-` if the device refuses, and `?` if what came can't
-/// be read; the first question without an answer ends the table.
+/// be read. The first question without an answer ends the table, but for the one for the whole
+/// list: behind that each place is asked for.
 pub fn list_logs<L: LogLink, W: Write>(
     alloc: Global,
     link: &mut L,

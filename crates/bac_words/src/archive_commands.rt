@@ -17,8 +17,9 @@ pub(crate) fn kept<'a>(alloc: Global) -> Result<Command<'a>, AllocError>
 prints each record and each gap of trend log 1, in the lines of bac log.
 bac kept plant does so of each part of the folder plant, the oldest first.
 
-bac kept site.db --csv prints all logs as CSV: address, trend_log, name, epoch,
-number, stamp, value, datum, flags; in the row of a gap datum is gap FIRST LAST.";
+bac kept site.db --csv prints all logs as CSV: address, device, trend_log, name,
+epoch, number, stamp, value, datum, flags; in the row of a gap datum is gap
+FIRST LAST.";
     let command = bare(alloc, "kept", about, example);
     with_entries(alloc, command, &KEPT)
 }

@@ -213,9 +213,10 @@ bac logs 192.168.1.20 1 2 asks trend logs 1 and 2 alone.
   stop      true: it stops when it is full; false: the oldest record is dropped
 
 A cell is - if the device refuses, and ? if its answer can't be read. The first
-question without an answer ends the table. Where the device refuses its list,
-standard error has a line with the meaning. 'error' is printed with its class
-and its code:"
+question without an answer ends the table, but for the one for the whole list:
+behind that each place is asked for. Where the device refuses its list, standard
+error has a line with the meaning. 'error' is printed with its class and its
+code:"
     );
     let command = bare(alloc, "logs", about, example);
     with_asking(alloc, command, &LOGS)
