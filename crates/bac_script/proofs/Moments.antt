@@ -4,7 +4,7 @@ use Rattle.std.specs.Prelude.{nat_le, nat_lt}
 use Rattle.std.specs.Option.{SomeIff}
 use Rattle.std.proofs.lemmas.Bool.{and_parts, and_from, leb-true, ltb-true, le-leb, lt-ltb}
 use Rattle.std.proofs.lemmas.Int.{ints}
-use Rattle.jiff.specs.Words.{IsDate, days_in_month}
+use Rattle.jiff_core.specs.Calendar.{IsDate, days_in_month}
 use Rattle.bac_wire.specs.Stamp.{CivilTime, IsCivilTime}
 use Rattle.bac_script.specs.Script.Stamp.{is_day, is_time, is_moment, checked}
 

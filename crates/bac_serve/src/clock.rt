@@ -35,6 +35,6 @@ impl<R: std::time::Clock> Clock for SystemClock<R> {
 
     fn now(&mut self) -> Option<Stamp> {
         let now = Timestamp::now(&self.rt).ok()?;
-        Stamp::of_civil(TimeZone::UTC.to_datetime(now))
+        Stamp::of_civil(TimeZone::UTC.to_datetime(now).to_plain())
     }
 }

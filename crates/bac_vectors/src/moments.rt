@@ -90,7 +90,7 @@ fn civil(words: &mut SplitWhitespace) -> Result<Option<Stamp>, Fault> {
     );
     let nanosecond = number::<i32>(words)?;
     match DateTime::new(year, month, day, hour, minute, second, nanosecond) {
-        Ok(civil) => Ok(Stamp::of_civil(civil)),
+        Ok(civil) => Ok(Stamp::of_civil(civil.to_plain())),
         Err(_) => Err(Fault::BadLine),
     }
 }

@@ -1,9 +1,8 @@
--- The days since 1990 against the day numbers of jiff, which begin in 1970.
+-- The days since 1990 against the day numbers of jiff_core, which begin in 1970.
 use Rattle.std.proofs.Common.{◌≡◌, ℕ, zero, suc, ◌+◌, ◌-◌, ◌≤◌, ap, ◌∙◌, arith, ℤ, pos, neg_ℤ, ◌+ℤ◌, ◌-ℤ◌, ◌≤ℤ◌, ◌<◌, w32, to_z, of_z}
 use Rattle.jiff_core.specs.Calendar.{days_in_year, day_count, days_from_civil, weekday_number}
 use Rattle.jiff_core.proofs.CalendarLemmas.{day_count-epoch, days_from_civil-day_count, day_count-next_year, day_count-next_month, day_count-day, weekday_number-parts}
-use Rattle.jiff_core.proofs.SignedLemmas.{back_small}
-use Rattle.jiff.proofs.SpanFacts.{signed_arith}
+use Rattle.jiff_core.proofs.SignedLemmas.{back_small, signed_arith}
 use Rattle.bac_wire.specs.declared.stamp.Date4.{Date4}
 use Rattle.bac_wire.specs.Stamp.{date_of, CivilTime, IsCivilTime, days_of_years, days_of_months, day_number, weekday_of}
 
@@ -44,7 +43,7 @@ day_count-day_number m is =
     let month : m.month - 1 + 1 ≡ m.month = omega arith in
     omega (arith, ap (λ y. day_count (pos y) 1 1) year, years_from_1990 (m.year - 1990), months m.year (m.month - 1), ap (λ k. day_count (pos m.year) k 1) month, day_count-day (pos m.year) m.month m.day 1 first (omega arith))
 
--- 1990-01-01 was a Monday in jiff too
+-- 1990-01-01 was a Monday in jiff_core too
 pub weekday_number-day_number : (m : CivilTime) → IsCivilTime m → weekday_number (days_from_civil (pos m.year) m.month m.day) + 1 ≡ weekday_of m
 weekday_number-day_number m is =
     omega (arith, weekday_number-parts (days_from_civil (pos m.year) m.month m.day), days_from_civil-day_count (pos m.year) m.month m.day, day_count-day_number m is)
@@ -67,7 +66,7 @@ dated m w = record { year = m.year - 1900; month = m.month; day = m.day; weekday
 pub date_is : (m now : CivilTime) (w : ℕ) → m ≡ now → w ≡ weekday_of now → dated m w ≡ date_of now
 date_is m now w same_moment same_day = ap (λ x. dated x w) same_moment ∙ ap (λ x. dated now x) same_day
 
--- what the code computes of jiff's day number
+-- what the code computes of jiff_core's day number
 pub since_1990 : (r : ℤ) (n : ℕ) → r ≡ pos (7305 + n) → n < 3000000 → to_z w32 (of_z w32 (to_z w32 (of_z w32 r) -ℤ pos 7305)) ≡ pos n
 since_1990 r n e lt =
     let a : to_z w32 (of_z w32 (pos (7305 + n))) ≡ pos (7305 + n) = back_small w32 (pos (7305 + n)) (omega arith) in

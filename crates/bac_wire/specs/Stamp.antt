@@ -3,7 +3,7 @@ use Rattle.std.specs.Prelude.{ℕ, zero, suc, pos, unsigned_abs, ◌+◌, ◌-�
 use Rattle.std.specs.declared.cmp.Ordering.{Ordering}
 use Rattle.std.specs.Ordering.{nat_cmp, ordering_then}
 use Rattle.jiff_core.specs.declared.civil.datetime.DateTime.{DateTime}
-use Rattle.jiff.specs.Words.{IsDate, days_in_month, days_in_year}
+use Rattle.jiff_core.specs.Calendar.{IsDate, days_in_month, days_in_year}
 use Rattle.bac_wire.specs.declared.stamp.Date4.{Date4}
 use Rattle.bac_wire.specs.declared.stamp.Time4.{Time4}
 

@@ -1,5 +1,5 @@
 use Rattle.std.proofs.Common.{arith}
-use Rattle.jiff.proofs.SpanFacts.{signed_arith}
+use Rattle.jiff_core.proofs.SignedLemmas.{signed_arith}
 use Rattle.bac_wire.proofs.Calendar.{weekday_is, date_is}
 use Rattle.bac_wire.proofs.stamp.Stamp.date.Goals as goal
 

@@ -1,6 +1,6 @@
 use Rattle.std.proofs.Common.{◌≡◌, pos, ◌+◌, ◌-ℤ◌, ◌<◌, ◌∙◌, ap, w32, to_z, of_z, arith}
-use Rattle.jiff.proofs.SpanFacts.{signed_arith}
-use Rattle.jiff.specs.Words.{epoch_day}
+use Rattle.jiff_core.proofs.SignedLemmas.{signed_arith}
+use Rattle.jiff_core.specs.Date.{epoch_day}
 use Rattle.bac_wire.specs.Stamp.{day_number}
 use Rattle.bac_wire.proofs.Calendar.{days_is, since_1990}
 use Rattle.bac_wire.proofs.stamp.Stamp.days.Goals as goal
@@ -9,7 +9,7 @@ later : (c : goal.After-to_unix_epoch_day) → c.to_unix_epoch_day.result ≡ po
 later c =
     let e = c.civil.ensures.value in
     let d = c.civil.result in
-    c.to_unix_epoch_day.ensures.value ∙ ap epoch_day c.to_plain.ensures ∙ days_is c.args.self.now d.year d.month d.day c.civil.ensures.exists e.0 e.1 e.2
+    c.to_unix_epoch_day.ensures.value ∙ days_is c.args.self.now d.year d.month d.day c.civil.ensures.exists e.0 e.1 e.2
 
 few : (c : goal.After-to_unix_epoch_day) → day_number c.args.self.now < 3000000
 few c = omega (arith, signed_arith, later c, c.to_unix_epoch_day.ensures.bound)
