@@ -22,8 +22,7 @@ use Rattle.bac_archive.specs.Rows.{stored}
 use Rattle.bac_archive.specs.declared.epochs.Beginning.{Beginning}
 use Rattle.bac_keep.specs.Courses.{beginning_of, course_of}
 use Rattle.bac_keep.specs.Items.{era, era_after, kept_rows}
-use Rattle.bac_keep.specs.Looks.{Looks}
-use Rattle.bac_keep.specs.Resumption.{CameTo}
+use Rattle.bac_keep.specs.Looks.{CameTo, Looks}
 use Rattle.bac_keep.specs.Runs.{gaps_among}
 use Rattle.bac_keep.specs.declared.courses.Course.{Course}
 use Rattle.bac_keep.specs.declared.courses.Course.TheVariants.{GoOn, Anew, Both}

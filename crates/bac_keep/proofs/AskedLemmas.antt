@@ -41,8 +41,7 @@ use Rattle.bac_walk.proofs.Shown.{ahead-number}
 use Rattle.bac_walk.proofs.Standard.{said_means}
 use Rattle.bac_walk.proofs.Window.{after_in}
 use Rattle.bac_keep.specs.declared.look.Seen.TheVariants.{Same, Another, Later, Earlier}
-use Rattle.bac_keep.specs.Looks.{IsSeen, IsSeenBy, KeptAs, Looks, is_held_as, seen_by}
-use Rattle.bac_keep.specs.Resumption.{AsksOldest, CameTo, is_before}
+use Rattle.bac_keep.specs.Looks.{AsksOldest, CameTo, IsSeen, IsSeenBy, KeptAs, Looks, is_before, is_held_as, seen_by}
 use Rattle.bac_keep.specs.Items.{stamp_text}
 use Rattle.bac_keep.specs.UpToDate.{AskedTellsCaughtUp, EndsByNone}
 use Rattle.bac_keep.proofs.UpToDateLemmas.{held_tells}

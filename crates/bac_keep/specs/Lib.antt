@@ -8,7 +8,6 @@ pub mod Runs
 pub mod Gathers
 pub mod Came
 pub mod Honest
-pub mod Resumption
 pub mod Questions
 pub mod Looks
 pub mod Courses

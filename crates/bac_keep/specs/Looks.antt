@@ -1,6 +1,9 @@
 -- What a device still holds of a log, by the record of it that was kept last.
-use Rattle.std.specs.Prelude.{◌≡◌, ℕ, ◌<◌, ◌==◌, ◌&&◌, Bool, if◌then◌else◌, List, [], ◌∷◌, Result, Ok, Err}
+use Rattle.std.specs.Prelude.{◌≡◌, ℕ, ◌<◌, ◌==◌, ◌&&◌, not, Bool, if◌then◌else◌, List, [], ◌∷◌, Result, Ok, Err}
+use Rattle.std.specs.List.{list_any}
 use Rattle.std.specs.Str.{bytes_eq}
+use Rattle.std.specs.Ordering.{is_lt, nat_cmp}
+use Rattle.std.specs.Cmp.Lexicographic.{slice_cmp}
 use Rattle.bac_print.specs.Entries.{datum_text, flags_text}
 use Rattle.bac_link.specs.Ordinals.{is_ahead}
 use Rattle.bac_walk.specs.declared.batch.Numbered.{Numbered}
@@ -12,9 +15,10 @@ use Rattle.bac_keep.specs.declared.look.Seen.TheVariants.{Same, Another, Later, 
 use Rattle.bac_keep.specs.Items.{stamp_text}
 use Rattle.bac_link.specs.declared.link.Lost.{Lost as Loss}
 use Rattle.bac_link.specs.Path.{Path}
-use Rattle.bac_walk.specs.Place.{asking, walk_at, walk_from_oldest}
+use Rattle.bac_walk.specs.Place.{WalkPlace, asking, walk_at, walk_from_oldest}
+use Rattle.bac_walk.specs.Came.{Brought, Came}
+use Rattle.bac_walk.specs.Collects.{step_ended, step_items}
 use Rattle.bac_wire.specs.Primitive.{Id}
-use Rattle.bac_keep.specs.Resumption.{AsksOldest, CameTo, is_before}
 
 -- a record as it is kept: its number, and the texts of its date and time, of its datum and of its status flags
 pub record KeptAs : Type 0 where
@@ -28,6 +32,28 @@ abbrev pub is_held_as : KeptAs → Numbered → Bool
 is_held_as kept held =
     bytes_eq (stamp_text held.entry) kept.stamp
     && (bytes_eq (datum_text held.entry.datum) kept.datum && bytes_eq (flags_text held.entry.flags) kept.flags)
+
+-- a date and time with each part: no star
+abbrev pub is_dated : List ℕ → Bool
+is_dated text = not (list_any (λ c. c == 42) text)
+
+-- whether a date and time lies before another, both with each part; texts of one length are in the order of what they
+-- say
+abbrev pub is_before : List ℕ → List ℕ → Bool
+is_before stamp other = is_dated stamp && (is_dated other && is_lt (slice_cmp nat_cmp stamp other))
+
+-- the oldest records are asked for, since none was found from a number on
+abbrev pub AsksOldest : Result Step WalkFault → Type 0
+AsksOldest (Err fault) = ⊥
+AsksOldest (Ok CaughtUp) = Unit {0}
+AsksOldest (Ok (BatchOf batch)) = ⊥
+
+-- one step of a walk over a link, and what replies came to it, whoever answered
+abbrev pub CameTo : {S : Type 0} → (S → List ℕ → Result (List ℕ) Loss → S → Type 0) → Path → ℕ → S → WalkPlace →
+    Result Step WalkFault → S → Type 0
+CameTo {S = S} asks path retries old walk answer new =
+    (came : List Came) × (after : WalkPlace)
+    × Brought asks path retries old walk 1 came (step_items answer) (step_ended answer) after new
 
 -- What the first record that is held says of the kept one: it is that one, or another one of its number; or it lies
 -- behind it, which half of the numbers do; or before it.

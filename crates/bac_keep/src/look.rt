@@ -5,11 +5,10 @@ ghost use Rattle.bac_link.specs.Path.{towards};
 ghost use Rattle.bac_walk.specs.Place.{asking, walk_at, walk_from_oldest};
 ghost use Rattle.bac_walk.specs.declared.outcome.Step.{Step as StepOf};
 ghost use Rattle.bac_walk.specs.declared.outcome.WalkFault.{WalkFault as FaultOf};
-ghost use Rattle.bac_keep.specs.Looks.{IsSeen, IsSeenBy, IsSeenLast, is_held_as, seen_by};
-ghost use Rattle.bac_keep.specs.Resumption.{AsksOldest, CameTo};
+ghost use Rattle.bac_keep.specs.Looks.{AsksOldest, CameTo, IsSeen, IsSeenBy, IsSeenLast, is_before};
+ghost use Rattle.bac_keep.specs.Looks.{is_dated, is_held_as, seen_by};
 
 use crate::courses::is_ahead;
-use crate::resumption::{is_before, oldest_of};
 use crate::texts::{datum_of, flags_of, stamp_of};
 use bac_link::{LogLink, Transactions};
 use bac_walk::{Batch, Count, Numbered, Step, Walk, WalkFault};
@@ -176,4 +175,29 @@ fn is_held_as(alloc: Global, last: LastKept<'_>, held: &Numbered) -> Result<bool
             && datum.as_slice() == last.datum
             && flags.as_slice() == last.flags,
     )
+}
+
+// A walk from the oldest record on.
+fn oldest_of(log: ObjectId, count: Count) -> Walk
+    requires { log.kind ≡ 20 }
+    ensures { result ≡ asking count (walk_from_oldest log) }
+{
+    let Some(walk) = Walk::oldest(log) else {
+        unreachable!()
+    };
+    walk.asking_for(count)
+}
+
+// Whether a date and time lies before another, both with each part.
+fn is_before(stamp: &[u8], other: &[u8]) -> bool
+    ensures { result ≡ is_before stamp.now other.now }
+{
+    is_dated(stamp) && is_dated(other) && stamp.cmp(other).is_lt()
+}
+
+// Whether a date and time has each part.
+fn is_dated(text: &[u8]) -> bool
+    ensures { result ≡ is_dated text.now }
+{
+    !text.contains(&b'*')
 }

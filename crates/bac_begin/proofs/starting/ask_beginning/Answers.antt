@@ -3,7 +3,7 @@ use Rattle.bac_link.specs.Path.{towards}
 use Rattle.bac_walk.specs.declared.outcome.Step.{Step}
 use Rattle.bac_walk.specs.declared.outcome.WalkFault.{WalkFault}
 use Rattle.bac_walk.specs.Place.{WalkPlace, asking}
-use Rattle.bac_keep.specs.Resumption.{CameTo}
+use Rattle.bac_keep.specs.Looks.{CameTo}
 use Rattle.bac_begin.specs.Starts.{IsBeginning}
 use Rattle.bac_begin.proofs.starting.ask_beginning.Goals as goal
 

@@ -3,8 +3,7 @@ use Rattle.bac_link.specs.Path.{towards}
 use Rattle.bac_walk.specs.declared.outcome.Step.{Step}
 use Rattle.bac_walk.specs.declared.outcome.WalkFault.{WalkFault}
 use Rattle.bac_walk.specs.Place.{WalkPlace}
-use Rattle.bac_keep.specs.Resumption.{CameTo}
-use Rattle.bac_keep.specs.Looks.{IsSeenLast}
+use Rattle.bac_keep.specs.Looks.{CameTo, IsSeenLast}
 use Rattle.bac_keep.proofs.look.look_at_oldest.Goals as goal
 
 pub returns-in-Err-clause-seen : goal.returns-in-Err-clause-seen

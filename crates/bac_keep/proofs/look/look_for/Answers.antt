@@ -5,8 +5,7 @@ use Rattle.bac_walk.specs.declared.outcome.Step.{Step}
 use Rattle.bac_walk.specs.declared.outcome.Step.TheVariants.{CaughtUp}
 use Rattle.bac_walk.specs.declared.outcome.WalkFault.{WalkFault}
 use Rattle.bac_walk.specs.Place.{WalkPlace, asking, walk_from_oldest}
-use Rattle.bac_keep.specs.Resumption.{AsksOldest, CameTo}
-use Rattle.bac_keep.specs.Looks.{IsSeen}
+use Rattle.bac_keep.specs.Looks.{AsksOldest, CameTo, IsSeen}
 use Rattle.bac_keep.proofs.look.look_for.Goals as goal
 
 pub returns-in-Ok-CaughtUp-clause-seen : goal.returns-in-Ok-CaughtUp-clause-seen
