@@ -5,17 +5,18 @@
 #
 #     bench/gate.sh [CRATE..]
 #
-# With names, those crates and the libraries below them. What an earlier run on the machine passed is kept, and has no
-# prover: so it says what the gate costs from nothing only where nothing is kept, as in CI. `rt` is on the PATH. It takes
-# more than an hour on four processors; several provers that share them cost more than one after the other.
+# With names, where the kit's `rt ci` takes some, those crates and the libraries below them. RT_JOBS is how many provers run
+# at a time, of one job each: without it as many as there are processors. Where the kit keeps what an earlier run on the
+# machine passed, that has no prover: so it says what the gate costs from nothing only where nothing is kept. `rt` is on the
+# PATH. It takes about an hour on four processors; several provers that share them cost more than one after the other.
 set -eu
 cd "$(dirname "$0")/.."
-room=$(mktemp -d)
+room=$(mktemp -d -t rt-gate.XXXXXX)
 watcher=
 trap '[ -z "$watcher" ] || kill "$watcher"; rm -rf "$room"' EXIT
 git clone -q . "$room/clone"
 python3 bench/provers.py watch "$room/provers" &
 watcher=$!
-(cd "$room/clone" && rt ci "$@") | tail -n 1
+(cd "$room/clone" && RT_JOBS=${RT_JOBS:-$(nproc)} rt ci "$@") | tail -n 1
 sleep 1
 python3 bench/provers.py page "$room/provers"
