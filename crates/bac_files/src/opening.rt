@@ -80,7 +80,8 @@ fn options(rt: &HostRuntime) -> Result<Options, Error>
     }
 }
 
-/// Opens the database at a path, or makes it. If it can't be, its files are closed.
+/// Opens the database at a path, or makes it. If it can't be, its files are closed. It has no clock:
+/// no statement that reads or writes an archive asks for the time.
 pub(crate) fn connect<F: Start>(
     rt: &HostRuntime,
     path: &str,
@@ -98,10 +99,7 @@ pub(crate) fn connect<F: Start>(
         Err(error) => return Err(error),
     };
     match Connection::open_files_with(rt.alloc(), files, options, false) {
-        Ok(mut conn) => {
-            conn.set_clock(rt);
-            Ok(conn)
-        }
+        Ok(conn) => Ok(conn),
         Err((error, _)) => Err(error),
     }
 }

@@ -12,7 +12,7 @@ abbrev seen : List ℕ → List ℕ → Bool → List Event → List ℕ
 seen log db is_log history = (replay (cond is_log log db) history).seen
 
 pub returns-in-Ok-open_files_with-clause-opened : goal.returns-in-Ok-open_files_with-clause-opened
-returns-in-Ok-open_files_with-clause-opened g c = rw c.set_clock.ensures
+returns-in-Ok-open_files_with-clause-opened g c =
     let is = c.in-Ok-open_files_with.ensures in
     record {
       fresh = is.fresh;
