@@ -1,8 +1,10 @@
 //! The files of the machine.
 
 ghost use Rattle.std.specs.Prelude.{◌≡◌, ◌≢◌, IfErr, IfOk, IsTrue, None, OnErr, OnOk};
+ghost use Rattle.sqlite.specs.Closing.{IsCopied};
 ghost use Rattle.sqlite.specs.Opening.{is_open_error};
 ghost use Rattle.sqlite_wal.specs.Files.{image_at};
+ghost use Rattle.sqlite_wal.specs.Reads.{AreClean};
 ghost use Rattle.bac_files.specs.Files.{IsClosedBy, IsNamed, IsOpenedBy, IsReason, IsReasonFor};
 ghost use Rattle.bac_files.specs.Files.{IsUnasked, IsUnclosed, IsUnopened, IsUnused};
 ghost use Rattle.bac_files.specs.Parts.{IsPlaced};
@@ -12,6 +14,7 @@ use crate::not_opened::NotOpened;
 use crate::obstacles::obstacle_of;
 use crate::opening::{FileOf, connect};
 use sqlite::{Connection, Error, ErrorCode, FileStore, Files, Start};
+use sqlite_disk::Disk;
 use std::alloc::AllocError;
 use std::fs::{Files as _, exists, metadata};
 
@@ -95,6 +98,19 @@ fn open_from<F: Start>(
                 remove_empty(rt, log);
             }
             Err(why(rt, path, log, error))
+        }
+    }
+}
+
+/// Closes a database, and gives its files back; if it can't be closed, they are closed.
+fn close_files<D: Disk + Drop>(conn: Connection<FileStore<D>>) -> Result<Files<D>, Error>
+    ensures { IfOk result (λ files. AreClean D.Disk files.log files.db → IsCopied conn files) }
+{
+    match conn.close_files() {
+        Ok(files) => Ok(files),
+        Err((error, store)) => {
+            drop(store.close());
+            Err(error)
         }
     }
 }
@@ -219,13 +235,12 @@ impl<'a, F: Start> DiskFiles<'a, F> {
         ensures named { (path : _) (may : _) → IsNamed path may self.old
             → IsNamed path may self.new }
     {
-        match conn.close_files() {
+        match close_files(conn) {
             Ok(files) => {
                 self.closed = Some(files);
                 Ok(())
             }
-            Err((error, store)) => {
-                drop(store.close());
+            Err(error) => {
                 self.unclosed = Some(error);
                 Err(error)
             }
