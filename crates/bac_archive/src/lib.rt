@@ -38,5 +38,5 @@ pub use parts::{
 pub use row::Row;
 pub use rows::{adds_join, append, leaves_the_last_commit};
 pub use shape::{is_archive, is_nothing, others_may_stand};
-pub use standing::{Standing, part_stands, standing_of};
-pub use trend_logs::{Log, NotAdded, Source, Told, add_log, add_log_as, logs};
+pub use standing::{Standing, part_stands};
+pub use trend_logs::{Log, NotAdded, Source, Told, add_log_as, logs};
