@@ -17,4 +17,5 @@ mod ChangeStatement
 pub mod ChangeLemmas
 pub mod CauseLemmas
 mod CreateLemmas
+mod EndLemmas
 pub mod GroupLemmas

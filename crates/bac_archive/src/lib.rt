@@ -9,6 +9,7 @@
 
 mod changes;
 mod creation;
+mod ending;
 mod epochs;
 mod fresh;
 mod group;
