@@ -45,12 +45,5 @@ stands path log count H low = λ old new M asked invoke answer are some window i
         subst (λ (x : Result (List ℕ) Loss). IsSaidOrLost (λ N. AreSaid path log count H low new.outcomes.now N) M H log asked (asked_octets path invoke log asked) x) (sym lost.1)
         (subst (λ (xs : List Outcome). AreSaid path log count H low xs M) (sym same) are)
 
--- so is the record by itself
-pub taken_honest : (path : Path) (log : Id) (count : ℕ) (H : History) (low : ℕ) (outcomes : List Outcome) (M : List Moment) → AreSaid path log count H low outcomes M → IsHonest Takes path log count H low outcomes M
-taken_honest path log count H low outcomes M are = stands_honest Takes (λ xs N. AreSaid path log count H low xs N) path log count H low outcomes M (takes path log count H low) are
-  where
-    takes : (path : Path) (log : Id) (count : ℕ) (H : History) (low : ℕ) → IsHonestWhere Takes path log count H low (λ xs N. AreSaid path log count H low xs N)
-    takes path log count H low = λ old new N asked invoke answer are some window is took. said path log count H low old new N asked invoke answer are some window is took
-
 pub honest : RecordsAreHonest
 honest = λ path log count H low link M are. stands_honest Plays (λ l N. AreSaid path log count H low l.outcomes.now N) path log count H low link M (stands path log count H low) are

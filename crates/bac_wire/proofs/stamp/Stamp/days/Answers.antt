@@ -1,6 +1,5 @@
-use Rattle.std.proofs.Common.{◌≡◌, pos, ◌+◌, ◌-ℤ◌, ◌<◌, ◌∙◌, ap, w32, to_z, of_z, arith}
+use Rattle.std.proofs.Common.{◌≡◌, pos, ◌+◌, ◌-ℤ◌, ◌<◌, ◌∙◌, w32, to_z, of_z, arith}
 use Rattle.jiff_core.proofs.SignedLemmas.{signed_arith}
-use Rattle.jiff_core.specs.Date.{epoch_day}
 use Rattle.bac_wire.specs.Stamp.{day_number}
 use Rattle.bac_wire.proofs.Calendar.{days_is, since_1990}
 use Rattle.bac_wire.proofs.stamp.Stamp.days.Goals as goal
