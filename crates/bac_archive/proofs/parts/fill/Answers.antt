@@ -4,6 +4,7 @@ use Rattle.sqlite.specs.Held.{state}
 use Rattle.sqlite.proofs.InsideLemmas.{keeps_then}
 use Rattle.bac_archive.proofs.AroundLemmas.{has_still, made_is}
 use Rattle.bac_archive.proofs.PartsLemmas.{filled, on_ok_then}
+use Rattle.sqlite.proofs.StateLemmas.{survives_then}
 use Rattle.bac_archive.proofs.parts.fill.Goals as goal
 
 pub returns-in_err-put_logs-clause-kept : goal.returns-in_err-put_logs-clause-kept
@@ -63,3 +64,21 @@ returns-clause-kept g c clean inside none =
     let laid = keeps_then old one two (c.lay_all.ensures.kept first inside none) (c.put_logs.ensures.kept second made.mode has) in
     keeps_then old three four (keeps_then old two three laid (c.put_beginnings.ensures.kept third known.mode has_then))
     (c.put_each.ensures.kept clean begun.mode (has_still _ _ has_then begun.schema))
+
+pub returns-in_err-put_logs-clause-crash : goal.returns-in_err-put_logs-clause-crash
+returns-in_err-put_logs-clause-crash g c =
+    survives_then (state g.S.Store c.args.tx.now.conn.now) (state g.S.Store c.lay_all.new.tx.conn.now) (state g.S.Store c.put_logs.new.tx.conn.now) _ _ _ (λ _ db none. none) (λ _ db none. none)
+    c.lay_all.ensures.crash c.put_logs.ensures.crash
+
+pub returns-in_err-put_beginnings-clause-crash : goal.returns-in_err-put_beginnings-clause-crash
+returns-in_err-put_beginnings-clause-crash g c =
+    survives_then (state g.S.Store c.args.tx.now.conn.now) (state g.S.Store c.put_logs.new.tx.conn.now) (state g.S.Store c.put_beginnings.new.tx.conn.now) _ _ _ (λ _ db none. none) (λ _ db none. none)
+    (survives_then (state g.S.Store c.args.tx.now.conn.now) (state g.S.Store c.lay_all.new.tx.conn.now) (state g.S.Store c.put_logs.new.tx.conn.now) _ _ _ (λ _ db none. none) (λ _ db none. none)
+    c.lay_all.ensures.crash c.put_logs.ensures.crash) c.put_beginnings.ensures.crash
+
+pub returns-clause-crash : goal.returns-clause-crash
+returns-clause-crash g c =
+    survives_then (state g.S.Store c.args.tx.now.conn.now) (state g.S.Store c.put_beginnings.new.tx.conn.now) (state g.S.Store c.put_each.new.tx.conn.now) _ _ _ (λ _ db none. none) (λ _ db none. none)
+    (survives_then (state g.S.Store c.args.tx.now.conn.now) (state g.S.Store c.put_logs.new.tx.conn.now) (state g.S.Store c.put_beginnings.new.tx.conn.now) _ _ _ (λ _ db none. none) (λ _ db none. none)
+    (survives_then (state g.S.Store c.args.tx.now.conn.now) (state g.S.Store c.lay_all.new.tx.conn.now) (state g.S.Store c.put_logs.new.tx.conn.now) _ _ _ (λ _ db none. none) (λ _ db none. none)
+    c.lay_all.ensures.crash c.put_logs.ensures.crash) c.put_beginnings.ensures.crash) c.put_each.ensures.crash
