@@ -16,7 +16,7 @@ use Rattle.bac_ports.specs.Sockets.{SocketRules}
 use Rattle.bac_fetch.specs.Ahead.{AtOnce}
 use Rattle.bac_fetch.specs.Causes.{EndsFirst, EndsSettling, FailsToEnter, LeavesUnopened}
 use Rattle.sqlite.specs.Effect.{Database}
-use Rattle.bac_asked.specs.Faults.{FailsOnRows}
+use Rattle.bac_asked.specs.Faults.{EndsLog, FailsOnRows}
 use Rattle.bac_fetch.specs.Faults.{EndsChosen}
 use Rattle.bac_fetch.specs.declared.keeping.Chosen.{Chosen}
 use Rattle.bac_fetch.specs.declared.keeping.Chosen.TheVariants.{Kept, Sought}
@@ -24,6 +24,11 @@ use Rattle.bac_fetch.specs.declared.keeping.Chosen.TheVariants.{Kept, Sought}
 -- a database answers by an error
 pub database_rows : (why : FileFault) (error : Error) → why ≡ of_error error → FailsOnRows (File why)
 database_rows why error is = inr (inr (error, ap File is))
+
+-- an archive takes no further log
+pub log_ends : (why : FileFault) (fault : NotAdded) → why ≡ of_not_added fault → EndsLog (File why)
+log_ends why unadded.Full is = inr (inr (inr (inl (ap File is))))
+log_ends why (unadded.Database error) is = inr (inr (inr (inr (error, ap File is))))
 
 -- a log that has no row isn't entered
 pub not_entered : (why : FileFault) (fault : NotAdded) (trees : Trees) → why ≡ of_not_added fault

@@ -1,10 +1,13 @@
 //! One log of a run is kept, or it is told why it isn't.
 
-ghost use Rattle.std.specs.Prelude.{◌≡◌, if◌then◌else◌, IfErr, IfOk, option_map};
+ghost use Rattle.std.specs.Prelude.{◌≡◌, if◌then◌else◌, IfErr, IfOk, OnOk, option_map};
+ghost use Rattle.std.specs.Io.KnownBytes.{Appends};
 ghost use Rattle.bac_heeding.specs.Notes.{nothing};
 ghost use Rattle.sqlite.specs.State.{HasCleanDisk, Survives};
 ghost use Rattle.sqlite.specs.Held.{state};
 ghost use Rattle.bac_archive.specs.Schema.{OverArchive};
+ghost use Rattle.bac_asked.specs.Faults.{EndsLog, FailsOnRows};
+ghost use Rattle.bac_asked.specs.Lines.{summary_line};
 ghost use Rattle.bac_ports.specs.Sockets.{socket_rules};
 ghost use Rattle.bac_fetch.specs.Causes.{EndsAmong, EndsFetch, EndsNext, EndsOne, LeavesUnopened};
 ghost use Rattle.bac_fetch.specs.Faults.{EndsRun, IsNoInstance};
@@ -22,7 +25,7 @@ use crate::fetching::fetch;
 use crate::passing::{pass_by, pass_over, print_end};
 use crate::site::Site;
 use crate::telling::{tell_anew, tell_why};
-use bac_archive::Log;
+use bac_archive::{Log, Source};
 use bac_asked::{Asking, End, Ending, NotDone, Wanted, end_status};
 use bac_heeding::{Heeds, Passed};
 use bac_ports::Sockets;
@@ -70,6 +73,76 @@ fn fetch_counted<S: Sockets, A: Alter, E: Write>(
     fetched
 }
 
+/// Tells how a run over a log ended: whether its device began anew, the log's line, and why its
+/// walk failed.
+fn tell_end<O: Write, E: Write>(
+    alloc: Global,
+    source: &Source,
+    passed: Passed,
+    address: [u8; 6],
+    end: &End,
+    output: &mut O,
+    errors: &mut E,
+) -> Result<(), NotDone>
+    ensures printed { OnOk result (Appends (O.contents output.old) (O.contents output.new)
+        (summary_line source.now end.now)) }
+    ensures fault { IfErr result EndsLog }
+    ensures caused { IfErr result FailsOnRows }
+{
+    tell_anew(alloc, source, end.began, errors)?;
+    print_end(alloc, source, end, output)?;
+    tell_why(alloc, source, passed, address, end.why, errors)
+}
+
+/// Keeps what is new of one log, and tells how that ended.
+fn fetch_told<S: Heeds, A: Alter, O: Write, E: Write>(
+    sockets: &mut S,
+    conn: &mut Connection<A>,
+    alloc: Global,
+    entry: &Entry,
+    asking: Asking,
+    site: &mut Site,
+    output: &mut O,
+    errors: &mut E,
+) -> Result<End, NotDone>
+    ensures kept { OverArchive (state A.Store conn.old) (state A.Store conn.new)
+        (IfOk result (KeepsLog (socket_rules S.opens S.closes S.Socket.sends S.Socket.receives
+        S.Socket.receives_within) asking sockets.old sockets.new entry.now
+        (trend_log entry.now.row.source.instance) (state A.Store conn.old).now
+        (state A.Store conn.new).now)) }
+    ensures printed { IfOk result (λ end. Appends (O.contents output.old) (O.contents output.new)
+        (summary_line entry.now.row.source end)) }
+    ensures stays { OverArchive (state A.Store conn.old) (state A.Store conn.new)
+        (Survives (state A.Store conn.old) (state A.Store conn.new)
+        (HasAllOf (state A.Store conn.old).now.trees)) }
+    ensures clean { HasCleanDisk (state A.Store conn.new) → HasCleanDisk (state A.Store conn.old) }
+    ensures undone { OverArchive (state A.Store conn.old) (state A.Store conn.new)
+        (IfErr result
+        (LeavesUnopened (state A.Store conn.old).now (state A.Store conn.new).now)) }
+    ensures fault { IfErr result (EndsRun (socket_rules S.opens S.closes S.Socket.sends
+        S.Socket.receives S.Socket.receives_within)
+        (IsNoInstance entry.now.row.source.instance) ⊥ sockets.new) }
+    ensures caused { OverArchive (state A.Store conn.old) (state A.Store conn.new)
+        (IfErr result (EndsFetch (socket_rules S.opens S.closes S.Socket.sends S.Socket.receives
+        S.Socket.receives_within) asking.asked entry.now.row.source.instance sockets.old
+        sockets.new)) }
+{
+    let address = asking.asked.address;
+    let end = fetch_counted(sockets, conn, alloc, entry, asking, site, errors)?;
+    site.add(end.records);
+    let source = &entry.row.source;
+    tell_end(
+        alloc,
+        source,
+        sockets.passed(),
+        address,
+        &end,
+        output,
+        errors,
+    )?;
+    Ok(end)
+}
+
 /// Keeps what is new of one log, and prints its line; answers its status.
 fn keep_one<S: Heeds, A: Alter, O: Write, E: Write>(
     sockets: &mut S,
@@ -113,7 +186,6 @@ fn keep_one<S: Heeds, A: Alter, O: Write, E: Write>(
         S.Socket.receives_within) (option_map (λ it. it.now) log.entry) wanted
         (state A.Store conn.old).now.trees sockets.old sockets.new)) }
 {
-    let address = wanted.asking.asked.address;
     let Wanted {
         source,
         name,
@@ -121,12 +193,7 @@ fn keep_one<S: Heeds, A: Alter, O: Write, E: Write>(
     } = wanted;
     let Said { identity, told } = said;
     let entry = enter(conn, log, source, name, told)?;
-    let end = fetch_counted(sockets, conn, alloc, &entry, asking, site, errors)?;
-    site.add(end.records);
-    tell_anew(alloc, &entry.row.source, end.began, errors)?;
-    print_end(alloc, &entry.row.source, &end, output)?;
-    let source = &entry.row.source;
-    tell_why(alloc, source, sockets.passed(), address, end.why, errors)?;
+    let end = fetch_told(sockets, conn, alloc, &entry, asking, site, output, errors)?;
     let Entry {
         row,
         recorded: _recorded,

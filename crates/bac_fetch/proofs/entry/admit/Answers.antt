@@ -1,12 +1,16 @@
-use Rattle.std.proofs.Common.{◌≡◌, subst, sym}
+use Rattle.std.proofs.Common.{◌≡◌, rules, subst, sym}
 use Rattle.sqlite.specs.Effect.{Database}
+use Rattle.sqlite.specs.State.{HasCleanDisk}
 use Rattle.sqlite.specs.Held.{state}
 use Rattle.sqlite_trees.specs.Tree.{Trees}
+use Rattle.bac_archive.specs.Schema.{HasArchive}
 use Rattle.bac_fetch.specs.Entries.{AdmitsRow}
 use Rattle.bac_fetch.specs.Stays.{HasAllOf, HasRows}
+use Rattle.bac_fetch.specs.declared.entry.Recorded.{Recorded}
 use Rattle.bac_fetch.specs.declared.entry.Recorded.TheVariants.{Not}
-use Rattle.bac_fetch.proofs.GroupLemmas.{commit_then}
-use Rattle.bac_fetch.proofs.StaysLemmas.{all_itself, log_all, rows_itself, rows_of_new}
+use Rattle.bac_fetch.proofs.GroupLemmas.{commit_leaves, commit_then}
+use Rattle.bac_fetch.proofs.QuietLemmas.{then_on_ok}
+use Rattle.bac_fetch.proofs.StaysLemmas.{all_itself, does_nothing, itself_stays, log_all, rows_itself, rows_of_new}
 use Rattle.bac_fetch.proofs.entry.admit.Goals as goal
 
 pub returns-clause-stays : goal.returns-clause-stays
@@ -28,3 +32,33 @@ returns-clause-rows g c has =
     commit_then P Q old (state g.A.Store c.commit.new.conn) (state g.A.Store c.add_row.new.conn) has (λ d. rows_itself d.trees)
     (λ db left. subst (HasRows old.now.trees) (sym left.2) (rows_of_new old.now.trees left.0.trees _ left.1.rows))
     c.in_ok-commit.ensures.same c.commit.ensures.crash c.add_row.ensures.crash
+
+pub returns-clause-admits : goal.returns-clause-admits
+returns-clause-admits g c clean has =
+    let row = c.args.entry.now.row in
+    let old = state g.A.Store c.args.conn.now in
+    let mid = state g.A.Store c.commit.new.conn in
+    let new = state g.A.Store c.add_row.new.conn in
+    let early : HasCleanDisk mid = c.add_row.ensures.clean clean in
+    let same : mid.now ≡ old.now = c.in_ok-commit.ensures.same early in
+    let schema : HasArchive mid.now.schema = subst (λ (d : Database). HasArchive d.schema) (sym same) has in
+    let is : c.args.entry.now.recorded ≡ Not = search rules in
+    then_on_ok c.add_row.result (AdmitsRow Not row mid.now new.now) (AdmitsRow c.args.entry.now.recorded row old.now new.now)
+    (λ it. subst (λ (r : Recorded). AdmitsRow r row old.now new.now) (sym is) (subst (λ (d : Database). AdmitsRow Not row d new.now) same it))
+    (c.add_row.ensures.added clean schema)
+
+pub returns-in_err-commit-clause-stays : goal.returns-in_err-commit-clause-stays
+returns-in_err-commit-clause-stays g c has =
+    commit_leaves (λ d. HasAllOf d.trees) (state g.A.Store c.args.conn.now) (state g.A.Store c.commit.new.conn) (λ d. all_itself d.trees) c.commit.ensures.crash
+
+pub returns-in_err-commit-clause-rows : goal.returns-in_err-commit-clause-rows
+returns-in_err-commit-clause-rows g c has =
+    commit_leaves (λ d. HasRows d.trees) (state g.A.Store c.args.conn.now) (state g.A.Store c.commit.new.conn) (λ d. rows_itself d.trees) c.commit.ensures.crash
+
+pub returns-then-ne-clause-stays : goal.returns-then-ne-clause-stays
+returns-then-ne-clause-stays g c has = itself_stays (state g.A.Store c.args.conn.now)
+
+pub returns-then-ne-clause-rows : goal.returns-then-ne-clause-rows
+returns-then-ne-clause-rows g c has =
+    let old = state g.A.Store c.args.conn.now in
+    does_nothing old (HasRows old.now.trees)

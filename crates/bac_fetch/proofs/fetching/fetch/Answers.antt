@@ -1,10 +1,13 @@
-use Rattle.std.proofs.Common.{◌≡◌, ap, refl, rules, ◌∙◌}
+use Rattle.std.proofs.Common.{◌≡◌, ap, arith, inl, inr, refl, rules, ◌∙◌}
+use Rattle.std.proofs.lemmas.Grind.{common_steps}
 use Rattle.sqlite.specs.Held.{state}
 use Rattle.bac_ports.specs.Sockets.{socket_rules}
 use Rattle.bac_fetch.specs.Heeds.{heeding}
 use Rattle.bac_ahead.specs.Ahead.{trend_log}
 use Rattle.bac_fetch.proofs.CausesLemmas.{rows_leave}
 use Rattle.bac_fetch.proofs.KeepsLemmas.{keeps_log}
+use Rattle.bac_fetch.proofs.StaysLemmas.{itself_stays}
+use Rattle.bac_fetch.specs.Faults.{IsNoInstance}
 use Rattle.bac_fetch.proofs.fetching.fetch.Goals as goal
 use Rattle.bac_archive.proofs.RowsLemmas.{because}
 
@@ -27,3 +30,35 @@ returns-in_err-link-clause-undone g c clean has = because c.from_residual.result
 pub returns-in_err-end-clause-undone : goal.returns-in_err-end-clause-undone
 returns-in_err-end-clause-undone g c clean has =
     because c.from_residual-in_err-end.result c.in_err-end.field-0.0 _ (search rules) (rows_leave _ _ _ (c.in_err-end.ensures.caused clean has))
+
+pub returns-in_default-clause-fault : goal.returns-in_default-clause-fault
+returns-in_default-clause-fault g c =
+    let none : IsNoInstance c.args.entry.now.row.source.instance = first_of (search rules, grind (arith, common_steps)) in
+    inr (inr (inl (refl, none)))
+
+pub returns-in_default-clause-caused : goal.returns-in_default-clause-caused
+returns-in_default-clause-caused g c clean has =
+    let none : IsNoInstance c.args.entry.now.row.source.instance = first_of (search rules, grind (arith, common_steps)) in
+    inr (inr (refl, none, refl))
+
+pub returns-in_default-clause-stays : goal.returns-in_default-clause-stays
+returns-in_default-clause-stays g c clean has = itself_stays (state g.A.Store c.args.conn.now)
+
+pub returns-in_err-link-clause-stays : goal.returns-in_err-link-clause-stays
+returns-in_err-link-clause-stays g c clean has = itself_stays (state g.A.Store c.args.conn.now)
+
+pub returns-in_err-link-clause-fault : goal.returns-in_err-link-clause-fault
+returns-in_err-link-clause-fault g c =
+    because c.from_residual.result c.in_err-link.field-0.0 _ (search rules) (inr (inl (c.args.sockets.now, c.args.asking.asked, c.in_err-link.ensures.refused)))
+
+pub returns-in_err-link-clause-caused : goal.returns-in_err-link-clause-caused
+returns-in_err-link-clause-caused g c clean has =
+    because c.from_residual.result c.in_err-link.field-0.0 _ (search rules) (inr (inl c.in_err-link.ensures.refused))
+
+pub returns-in_err-end-clause-fault : goal.returns-in_err-end-clause-fault
+returns-in_err-end-clause-fault g c =
+    because c.from_residual-in_err-end.result c.in_err-end.field-0.0 _ (search rules) (inl c.in_err-end.ensures.fault)
+
+pub returns-in_err-end-clause-caused : goal.returns-in_err-end-clause-caused
+returns-in_err-end-clause-caused g c clean has =
+    because c.from_residual-in_err-end.result c.in_err-end.field-0.0 _ (search rules) (inl (c.in_err-end.ensures.caused clean has))

@@ -6,7 +6,7 @@ use Rattle.sqlite.specs.Held.{state}
 use Rattle.bac_link.specs.Path.{towards}
 use Rattle.bac_begin.specs.Starts.{IsBegun}
 use Rattle.bac_fetch.proofs.KeepsLemmas.{keeps_begun}
-use Rattle.bac_fetch.proofs.StaysLemmas.{quiet_rows, quiet_word}
+use Rattle.bac_fetch.proofs.StaysLemmas.{quiet_first, quiet_rows, quiet_stays, quiet_word}
 use Rattle.bac_archive.specs.Schema.{HasArchive}
 use Rattle.bac_fetch.proofs.fetching.fetch_over.Goals as goal
 
@@ -66,3 +66,19 @@ pub returns-in-Ok-clause-caused : goal.returns-in-Ok-clause-caused
 returns-in-Ok-clause-caused g c clean has =
     let same = c.in_ok-start.ensures.same (c.keep_entered.ensures.clean clean) has in
     c.keep_entered.ensures.caused clean (subst (λ (d : Database). HasArchive d.schema) (sym same) has)
+
+pub returns-in-Ok-clause-stays : goal.returns-in-Ok-clause-stays
+returns-in-Ok-clause-stays g c clean has =
+    let old = state g.A.Store c.args.conn.now in
+    let mid = state g.A.Store c.where_to_start.new.conn in
+    let same = c.in_ok-start.ensures.same (c.keep_entered.ensures.clean clean) has in
+    quiet_first old mid (state g.A.Store c.keep_entered.new.conn) same (c.where_to_start.ensures.crash has)
+    (c.keep_entered.ensures.stays clean (subst (λ (d : Database). HasArchive d.schema) (sym same) has))
+
+pub returns-in-Err-clause-stays : goal.returns-in-Err-clause-stays
+returns-in-Err-clause-stays g c clean has =
+    quiet_stays (state g.A.Store c.args.conn.now) (state g.A.Store c.where_to_start.new.conn) (c.where_to_start.ensures.crash has)
+
+pub returns-in_err-start-clause-stays : goal.returns-in_err-start-clause-stays
+returns-in_err-start-clause-stays g c clean has =
+    quiet_stays (state g.A.Store c.args.conn.now) (state g.A.Store c.where_to_start.new.conn) (c.where_to_start.ensures.crash has)

@@ -1,9 +1,10 @@
-use Rattle.std.proofs.Common.{Ok}
+use Rattle.std.proofs.Common.{Ok, rules}
 use Rattle.sqlite.specs.State.{HasCleanDisk}
 use Rattle.sqlite.specs.Held.{state}
 use Rattle.bac_fetch.proofs.KeepsLemmas.{log_schema}
 use Rattle.bac_fetch.proofs.SameLemmas.{begun_same, same_stays_then}
 use Rattle.bac_archive.specs.Schema.{HasArchive}
+use Rattle.bac_archive.proofs.RowsLemmas.{because}
 use Rattle.bac_fetch.proofs.fetching.keep_and_mark.Goals as goal
 
 pub returns-in_err-mark-clause-stays : goal.returns-in_err-mark-clause-stays
@@ -25,3 +26,20 @@ returns-clause-stays g c clean has =
     let kept = c.in_ok-end.ensures.kept early has in
     let schema : HasArchive mid.now.schema = log_schema _ _ _ _ _ (Ok c.args.start) _ old.now mid.now c.in_ok-end.end kept has in
     same_stays_then old mid new (begun_same _ _ _ _ _ (Ok c.args.start) _ old.now mid.now c.in_ok-end.end kept) (c.keep_from.ensures.stays early has) (c.mark.ensures.stays clean schema)
+
+pub returns-clause-kept : goal.returns-clause-kept
+returns-clause-kept g c clean has =
+    let old = state g.A.Store c.args.conn.now in
+    let mid = state g.A.Store c.keep_from.new.conn in
+    let early : HasCleanDisk mid = c.mark.ensures.clean clean in
+    let kept = c.in_ok-end.ensures.kept early has in
+    let schema : HasArchive mid.now.schema = log_schema _ _ _ _ _ (Ok c.args.start) _ old.now mid.now c.in_ok-end.end kept has in
+    (mid.now, kept, c.in_ok-mark.ensures.marks clean schema)
+
+pub returns-in_err-end-clause-caused : goal.returns-in_err-end-clause-caused
+returns-in_err-end-clause-caused g c clean has =
+    because c.from_residual.result c.in_err-end.field-0.0 _ (search rules) (c.in_err-end.ensures.caused clean has)
+
+pub returns-in_err-mark-clause-caused : goal.returns-in_err-mark-clause-caused
+returns-in_err-mark-clause-caused g c clean has =
+    because c.from_residual-in_err-mark.result c.in_err-mark.field-0.0 _ (search rules) c.in_err-mark.ensures.caused

@@ -132,3 +132,26 @@ returns-in_err-end-clause-caused g c clean has =
     let early : HasCleanDisk known = c.keep_and_mark.ensures.clean clean in
     let schema : HasArchive known.now.schema = admit_schema c.args.entry.now old.now known.now (c.in_ok-admit.ensures.admits early has) has in
     because c.from_residual-in_err-end.result c.in_err-end.field-0.0 _ (search rules) (c.in_err-end.ensures.caused clean schema)
+
+pub returns-in_err-admit-clause-stays : goal.returns-in_err-admit-clause-stays
+returns-in_err-admit-clause-stays g c clean has = c.admit.ensures.stays has
+
+pub returns-in_err-admit-clause-fault : goal.returns-in_err-admit-clause-fault
+returns-in_err-admit-clause-fault g c =
+    because c.from_residual.result c.in_err-admit.field-0.0 _ (search rules) c.in_err-admit.ensures.fault
+
+pub returns-in_err-admit-clause-caused : goal.returns-in_err-admit-clause-caused
+returns-in_err-admit-clause-caused g c clean has =
+    because c.from_residual.result c.in_err-admit.field-0.0 _ (search rules) (c.in_err-admit.ensures.caused clean has)
+
+pub returns-in_err-end-clause-fault : goal.returns-in_err-end-clause-fault
+returns-in_err-end-clause-fault g c =
+    because c.from_residual-in_err-end.result c.in_err-end.field-0.0 _ (search rules) c.in_err-end.ensures.fault
+
+pub returns-in_err-renew-clause-fault : goal.returns-in_err-renew-clause-fault
+returns-in_err-renew-clause-fault g c =
+    because c.from_residual-in_err-renew.result c.in_err-renew.field-0.0 _ (search rules) c.in_err-renew.ensures.fault
+
+pub returns-in_err-renew-clause-caused : goal.returns-in_err-renew-clause-caused
+returns-in_err-renew-clause-caused g c clean has =
+    because c.from_residual-in_err-renew.result c.in_err-renew.field-0.0 _ (search rules) c.in_err-renew.ensures.caused

@@ -1,6 +1,7 @@
 use Rattle.std.proofs.Common.{None, Some, inl, inr}
-use Rattle.std.proofs.lemmas.Result.{IfOk-weaker}
+use Rattle.std.proofs.lemmas.Result.{IfErr-weaker, IfOk-weaker}
 use Rattle.sqlite.specs.Held.{state}
+use Rattle.bac_archive.proofs.QueryLemmas.{on_ok}
 use Rattle.bac_begin.specs.Stands.{IsStand}
 use Rattle.bac_fetch.proofs.fetching.where_to_start.Goals as goal
 
@@ -13,3 +14,21 @@ pub returns-in-None-clause-begun : goal.returns-in-None-clause-begun
 returns-in-None-clause-begun g c clean has =
     let is : IsStand c.args.id (state g.A.Store c.args.conn.now).now.trees None = rw c.in-None.is at c.in_ok-stand.ensures.stands clean has in
     IfOk-weaker c.start_new.result _ _ (λ begun it. inl (is, it)) c.start_new.ensures.starts
+
+pub returns-in-Some-clause-same : goal.returns-in-Some-clause-same
+returns-in-Some-clause-same g c clean has = on_ok c.start_at.result _ (c.in_ok-stand.ensures.same clean has)
+
+pub returns-in-Some-clause-fault : goal.returns-in-Some-clause-fault
+returns-in-Some-clause-fault g c = IfErr-weaker c.start_at.result _ _ (λ fault memory. inl memory) c.start_at.ensures.fault
+
+pub returns-in-Some-clause-caused : goal.returns-in-Some-clause-caused
+returns-in-Some-clause-caused g c clean has = IfErr-weaker c.start_at.result _ _ (λ fault memory. inl memory) c.start_at.ensures.fault
+
+pub returns-in-None-clause-same : goal.returns-in-None-clause-same
+returns-in-None-clause-same g c clean has = on_ok c.start_new.result _ (c.in_ok-stand.ensures.same clean has)
+
+pub returns-in-None-clause-fault : goal.returns-in-None-clause-fault
+returns-in-None-clause-fault g c = IfErr-weaker c.start_new.result _ _ (λ fault memory. inl memory) c.start_new.ensures.fault
+
+pub returns-in-None-clause-caused : goal.returns-in-None-clause-caused
+returns-in-None-clause-caused g c clean has = IfErr-weaker c.start_new.result _ _ (λ fault memory. inl memory) c.start_new.ensures.fault

@@ -58,3 +58,14 @@ returns-in_err-end_if_due-clause-fault g c =
 pub returns-in_err-end_if_due-clause-caused : goal.returns-in_err-end_if_due-clause-caused
 returns-in_err-end_if_due-clause-caused g c clean has =
     because c.from_residual-in_err-end_if_due.result c.in_err-end_if_due.field-0.0 _ (search rules) (inl c.in_err-end_if_due.ensures.caused)
+
+pub returns-in_err-status-clause-stays : goal.returns-in_err-status-clause-stays
+returns-in_err-status-clause-stays g c = c.keep_waiting.ensures.stays
+
+pub returns-in_err-status-clause-fault : goal.returns-in_err-status-clause-fault
+returns-in_err-status-clause-fault g c =
+    because c.from_residual.result c.in_err-status.field-0.0 _ (search rules) c.in_err-status.ensures.fault
+
+pub returns-in_err-status-clause-caused : goal.returns-in_err-status-clause-caused
+returns-in_err-status-clause-caused g c clean has =
+    because c.from_residual.result c.in_err-status.field-0.0 _ (search rules) (c.in_err-status.ensures.caused clean has)

@@ -179,3 +179,20 @@ returns-in_err-status-clause-caused g c clean has =
       kept = kept;
       cause = c.in_err-status.ensures.caused clean schema;
     })
+
+pub returns-then-is_empty-clause-ended : goal.returns-then-is_empty-clause-ended
+returns-then-is_empty-clause-ended g c some =
+    let zero : length c.args.all.items ≡ 0 = first_of (omega arith, grind (arith, nat_tests)) in
+    absurd (some (nil_from_length _ zero))
+
+pub returns-clause-ended : goal.returns-clause-ended
+returns-clause-ended g c some = c.in_ok-end_group.ensures.ended
+
+pub returns-clause-clean : goal.returns-clause-clean
+returns-clause-clean g c late = c.loop-wanted.invariant.clean (c.end_group.ensures.clean late)
+
+pub returns-in_err-end_group-clause-clean : goal.returns-in_err-end_group-clause-clean
+returns-in_err-end_group-clause-clean g c late = c.loop-wanted.invariant.clean (c.end_group.ensures.clean late)
+
+pub returns-in_err-status-clause-clean : goal.returns-in_err-status-clause-clean
+returns-in_err-status-clause-clean g c late = c.loop-wanted.invariant.clean (c.keep_grouped.ensures.clean late)

@@ -1,8 +1,11 @@
-use Rattle.std.proofs.Common.{rules, subst}
+use Rattle.std.proofs.Common.{refl, rules, subst}
 use Rattle.bac_ports.specs.Sockets.{socket_rules}
 use Rattle.bac_fetch.specs.Ahead.{at_once}
 use Rattle.bac_fetch.specs.Chosen.{AskTheirSources}
 use Rattle.bac_fetch.proofs.FaultsLemmas.{kept_there}
+use Rattle.sqlite.specs.Held.{state}
+use Rattle.bac_archive.proofs.QueryLemmas.{on_ok}
+use Rattle.bac_fetch.proofs.StaysLemmas.{does_nothing}
 use Rattle.bac_fetch.proofs.keeping.chosen_logs.Goals as goal
 use Rattle.bac_archive.proofs.RowsLemmas.{because}
 
@@ -14,3 +17,9 @@ returns-in_err-all-in-Kept-clause-fault g c =
 
 pub found_logs-requires : goal.found_logs-requires
 found_logs-requires g c = subst AskTheirSources c.in-Sought.is c.requires
+
+pub returns-in-Sought-clause-crash : goal.returns-in-Sought-clause-crash
+returns-in-Sought-clause-crash g c has = does_nothing (state g.A.Store c.args.conn.now) (λ _. ⊥)
+
+pub returns-in-Sought-clause-same : goal.returns-in-Sought-clause-same
+returns-in-Sought-clause-same g c clean has = on_ok c.found_logs.result _ refl

@@ -8,8 +8,10 @@ use Rattle.bac_archive.proofs.RowsLemmas.{because}
 use Rattle.bac_ports.specs.Sockets.{socket_rules}
 use Rattle.bac_fetch.specs.Ahead.{at_once}
 use Rattle.bac_fetch.specs.Causes.{EndsAll}
+use Rattle.bac_fetch.specs.Faults.{HasNoInstance}
 use Rattle.bac_fetch.specs.Keeps.{KeepsAll}
 use Rattle.bac_fetch.proofs.CalledLemmas.{call_ends_as, calls_as}
+use Rattle.bac_fetch.proofs.FaultsLemmas.{ends_so}
 use Rattle.bac_fetch.proofs.StaysLemmas.{quiet_first, quiet_stays}
 use Rattle.bac_fetch.proofs.keeping.keep_called.Goals as goal
 
@@ -85,3 +87,10 @@ returns-in_err-called-clause-caused g c clean has =
     because c.from_residual.result c.in_err-called.field-0.0 _ (search rules)
     (inl (call_ends_as over by (state g.A.Store c.args.conn.now).now.trees c.args.known.now _ c.args.all.items c.args.heard.items c.args.sockets.now
     c.call_ahead.new.sockets c.in_err-called.field-0.0 c.as_slice.ensures.value (c.in_err-called.ensures.caused clean has)))
+
+pub returns-in_err-called-clause-fault : goal.returns-in_err-called-clause-fault
+returns-in_err-called-clause-fault g c =
+    let over = socket_rules g.S.Sockets.opens g.S.Sockets.closes g.S.Socket.Port.sends g.S.Socket.Port.receives g.S.Socket.Port.receives_within in
+    because c.from_residual.result c.in_err-called.field-0.0 _ (search rules)
+    (ends_so over ⊥ (HasNoInstance c.args.all.items) ⊥ ⊥ c.call_ahead.new.sockets c.in_err-called.field-0.0 (λ none. absurd none) (λ none. none)
+    c.in_err-called.ensures.fault)

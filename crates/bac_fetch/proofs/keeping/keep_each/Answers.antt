@@ -5,7 +5,7 @@ use Rattle.sqlite.specs.Held.{state}
 use Rattle.bac_fetch.specs.Ahead.{at_once}
 use Rattle.bac_ports.specs.Sockets.{socket_rules}
 use Rattle.bac_fetch.specs.Faults.{HasNoInstance, LacksAddress}
-use Rattle.bac_fetch.proofs.FaultsLemmas.{all_end_so}
+use Rattle.bac_fetch.proofs.FaultsLemmas.{all_end_so, ends_so}
 use Rattle.bac_asked.specs.AsLog.{given_in}
 use Rattle.bac_fetch.proofs.CalledLemmas.{logs_end, logs_kept}
 use Rattle.bac_fetch.proofs.MovesLemmas.{settles_schema, settles_stay}
@@ -77,3 +77,12 @@ returns-clause-fault g c =
     let new = state g.A.Store c.keep_settled.new.conn in
     all_end_so over (HasNoInstance all) (HasNoInstance all) ⊥ (HasCleanDisk new → HasArchive old.now.schema → LacksAddress (given_in c.args.options.now) old.now.trees)
     c.keep_settled.new.sockets c.keep_settled.result (λ none. none) (λ never. absurd never) c.keep_settled.ensures.fault
+
+pub returns-in_err-heard-clause-fault : goal.returns-in_err-heard-clause-fault
+returns-in_err-heard-clause-fault g c =
+    let over = socket_rules g.S.Sockets.opens g.S.Sockets.closes g.S.Socket.Port.sends g.S.Socket.Port.receives g.S.Socket.Port.receives_within in
+    let old = state g.A.Store c.args.conn.now in
+    let lacks = HasCleanDisk (state g.A.Store c.settle_known.new.conn) → HasArchive old.now.schema → LacksAddress (given_in c.args.options.now) old.now.trees in
+    because c.from_residual.result c.in_err-heard.field-0.0 _ (search rules)
+    (ends_so over ⊥ (HasNoInstance c.args.all.items) lacks lacks c.settle_known.new.sockets c.in_err-heard.field-0.0 (λ none. absurd none) (λ it. it)
+    c.in_err-heard.ensures.fault)

@@ -63,3 +63,7 @@ returns-clause-caused g c clean has =
 pub returns-in_err-known-clause-fault : goal.returns-in_err-known-clause-fault
 returns-in_err-known-clause-fault g c =
     because c.from_residual.result c.in_err-known.field-0.0 _ (search rules) (inl c.in_err-known.ensures.fault)
+
+pub returns-in_err-known-clause-caused : goal.returns-in_err-known-clause-caused
+returns-in_err-known-clause-caused g c clean has =
+    because c.from_residual.result c.in_err-known.field-0.0 _ (search rules) (inl c.in_err-known.ensures.caused)

@@ -1,4 +1,6 @@
 use Rattle.std.proofs.Common.{inl, inr, rules}
+use Rattle.sqlite.specs.Held.{state}
+use Rattle.bac_fetch.proofs.StaysLemmas.{itself_stays}
 use Rattle.bac_fetch.proofs.moving.settle_first.Goals as goal
 use Rattle.bac_archive.proofs.RowsLemmas.{because}
 
@@ -18,3 +20,9 @@ returns-in_err-settle_by-clause-caused g c =
 pub returns-in_err-settle_by-clause-fault : goal.returns-in_err-settle_by-clause-fault
 returns-in_err-settle_by-clause-fault g c =
     because c.from_residual-in_err-settle_by.result c.in_err-settle_by.field-0.0 _ (search rules) c.in_err-settle_by.ensures.fault
+
+pub returns-in_err-source-clause-stays : goal.returns-in_err-source-clause-stays
+returns-in_err-source-clause-stays g c has = itself_stays (state g.A.Store c.args.conn.now)
+
+pub returns-in_err-said-clause-stays : goal.returns-in_err-said-clause-stays
+returns-in_err-said-clause-stays g c has = itself_stays (state g.A.Store c.args.conn.now)

@@ -1,4 +1,5 @@
 use Rattle.std.proofs.Common.{◌≡◌, ◌∙◌, MatchBool, List, refl, subst, sym, rules, inl}
+use Rattle.std.proofs.lemmas.Result.{IfErr-weaker}
 use Rattle.sqlite.specs.Held.{state}
 use Rattle.bac_archive.specs.Changes.{HasChangedLogs}
 use Rattle.bac_archive.specs.declared.trend_logs.Log.{Log}
@@ -6,6 +7,7 @@ use Rattle.bac_archive.proofs.QueryLemmas.{on_ok}
 use Rattle.bac_archive.proofs.RowsLemmas.{because}
 use Rattle.bac_ports.specs.Sockets.{socket_rules}
 use Rattle.bac_fetch.specs.Moves.{AreMoved, AsksThere}
+use Rattle.bac_fetch.proofs.StaysLemmas.{itself_stays}
 use Rattle.bac_fetch.proofs.moving.settle_from.Goals as goal
 
 pub returns-then-is_told-clause-settled : goal.returns-then-is_told-clause-settled
@@ -48,3 +50,21 @@ returns-in_err-move_logs-clause-fault g c =
 pub returns-in_err-move_logs-clause-caused : goal.returns-in_err-move_logs-clause-caused
 returns-in_err-move_logs-clause-caused g c =
     because c.from_residual-in_err-move_logs.result c.in_err-move_logs.field-0.0 _ (search rules) (inl c.in_err-move_logs.ensures.caused)
+
+pub returns-in_err-said-clause-stays : goal.returns-in_err-said-clause-stays
+returns-in_err-said-clause-stays g c has = itself_stays (state g.A.Store c.args.conn.now)
+
+pub returns-then-is_told-clause-stays : goal.returns-then-is_told-clause-stays
+returns-then-is_told-clause-stays g c has = itself_stays (state g.A.Store c.args.conn.now)
+
+pub returns-then-is_told-clause-fault : goal.returns-then-is_told-clause-fault
+returns-then-is_told-clause-fault g c = IfErr-weaker c.tell_place.result _ _ (λ fault memory. inl (inl memory)) c.tell_place.ensures.fault
+
+pub returns-then-is_told-clause-caused : goal.returns-then-is_told-clause-caused
+returns-then-is_told-clause-caused g c = IfErr-weaker c.tell_place.result _ _ (λ fault memory. inl (inl memory)) c.tell_place.ensures.fault
+
+pub returns-clause-fault : goal.returns-clause-fault
+returns-clause-fault g c = IfErr-weaker c.tell_place-2.result _ _ (λ fault memory. inl (inl memory)) c.tell_place-2.ensures.fault
+
+pub returns-clause-caused : goal.returns-clause-caused
+returns-clause-caused g c = IfErr-weaker c.tell_place-2.result _ _ (λ fault memory. inl (inl memory)) c.tell_place-2.ensures.fault

@@ -3,6 +3,7 @@ use Rattle.sqlite.specs.Held.{state}
 use Rattle.bac_ports.specs.Sockets.{socket_rules}
 use Rattle.bac_fetch.specs.Moves.{SettlesFirst}
 use Rattle.bac_questions.specs.declared.whose.Heard.{Heard}
+use Rattle.bac_fetch.proofs.StaysLemmas.{itself_stays}
 use Rattle.bac_fetch.proofs.moving.settle_unless.Goals as goal
 
 pub returns-then-is_placed-clause-settled : goal.returns-then-is_placed-clause-settled
@@ -27,3 +28,6 @@ returns-in-Ok-clause-settled g c clean has =
     subst (λ b. MatchBool b ((heard ≡ []) × (after ≡ before) × (new ≡ old))
     ((one : Heard) × (heard ≡ one ∷ []) × SettlesFirst over c.args.known.now c.args.first.now before one after old new))
     (sym (sym c.is_placed.ensures ∙ c.if-is_placed.false)) (c.in_ok-one.one, one, c.in_ok-one.ensures.settled clean has)
+
+pub returns-then-is_placed-clause-stays : goal.returns-then-is_placed-clause-stays
+returns-then-is_placed-clause-stays g c has = itself_stays (state g.A.Store c.args.conn.now)

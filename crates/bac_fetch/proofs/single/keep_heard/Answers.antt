@@ -7,6 +7,8 @@ use Rattle.bac_asked.specs.declared.end.Ending.{Ending}
 use Rattle.bac_fetch.specs.Keeps.{KeepsUnless}
 use Rattle.bac_fetch.proofs.single.keep_heard.Goals as goal
 use Rattle.bac_archive.proofs.RowsLemmas.{because}
+use Rattle.bac_fetch.proofs.FaultsLemmas.{asking_ends_run}
+use Rattle.bac_fetch.proofs.StaysLemmas.{itself_stays}
 
 pub returns-clause-told : goal.returns-clause-told
 returns-clause-told g c =
@@ -49,3 +51,12 @@ returns-clause-caused g c clean has =
 
 pub returns-in_err-said-clause-undone : goal.returns-in_err-said-clause-undone
 returns-in_err-said-clause-undone g c clean has = because c.from_residual.result c.in_err-said.field-0.0 _ (search rules) (λ why is. refl)
+
+pub returns-in_err-said-clause-fault : goal.returns-in_err-said-clause-fault
+returns-in_err-said-clause-fault g c =
+    let over = socket_rules g.S.Sockets.opens g.S.Sockets.closes g.S.Socket.Port.sends g.S.Socket.Port.receives g.S.Socket.Port.receives_within in
+    because c.from_residual.result c.in_err-said.field-0.0 _ (search rules)
+    (asking_ends_run over _ _ c.args.wanted.asking.asked c.args.sockets.now c.said_of.new.sockets c.in_err-said.field-0.0 c.in_err-said.ensures.fault)
+
+pub returns-in_err-said-clause-stays : goal.returns-in_err-said-clause-stays
+returns-in_err-said-clause-stays g c clean has = itself_stays (state g.A.Store c.args.conn.now)

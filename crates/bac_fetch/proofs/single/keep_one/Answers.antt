@@ -1,10 +1,15 @@
 use Rattle.std.proofs.Common.{◌≡◌, inl, inr, refl, rules, subst, sym}
+use Rattle.std.specs.Io.KnownBytes.{Appends}
 use Rattle.sqlite.specs.Effect.{Database}
 use Rattle.sqlite.specs.State.{HasCleanDisk}
 use Rattle.sqlite.specs.Held.{state}
 use Rattle.bac_archive.specs.declared.trend_logs.Source.{Source}
+use Rattle.bac_archive.specs.declared.trend_logs.Told.{Told}
+use Rattle.bac_asked.specs.Lines.{summary_line}
+use Rattle.bac_questions.specs.Whose.{heard_with}
 use Rattle.bac_ports.specs.Sockets.{socket_rules}
 use Rattle.bac_fetch.specs.Causes.{EndsFetch}
+use Rattle.bac_fetch.specs.Faults.{EndsRun, IsNoInstance}
 use Rattle.bac_ahead.specs.Ahead.{trend_log}
 use Rattle.bac_fetch.specs.Keeps.{KeepsLog}
 use Rattle.bac_fetch.proofs.CausesLemmas.{entry_leaves, leaves_behind, rows_leave}
@@ -16,25 +21,32 @@ use Rattle.bac_fetch.proofs.single.keep_one.Goals as goal
 pub returns-clause-told : goal.returns-clause-told
 returns-clause-told g c =
     let over = socket_rules g.S.Sockets.opens g.S.Sockets.closes g.S.Socket.Port.sends g.S.Socket.Port.receives g.S.Socket.Port.receives_within in
-    let row = c.in_ok-entry.ensures.row in (
-      c.in_ok-end.end,
+    let row = c.in_ok-entry.ensures.row in
+    let end = c.in_ok-end.end in
+    let entry = c.in_ok-entry.entry in
+    let was = c.args.heard.now.items in
+    let is = c.add_heard.new.heard.items in
+    let before = g.O.Write.contents c.args.output.now in
+    let after = g.O.Write.contents c.fetch_told.new.output in (
+      end,
       c.end_status.ensures,
-      rw row.0 at c.in_ok-print_end.ensures.printed,
+      subst (λ (s : Source). Appends before after (summary_line s end)) row.0 c.in_ok-end.ensures.printed,
       (
-        rw (row.0, row.2) at c.in_ok-add_heard.ensures.heard,
+        subst (λ (s : Source). is ≡ heard_with was s c.args.said end.why) row.0
+            (subst (λ (t : Told). is ≡ heard_with was entry.row.source (record { identity = c.args.said.identity; told = t }) end.why) row.2 c.in_ok-add_heard.ensures.heard),
         λ clean has.
             let old = state g.A.Store c.args.conn.now in
             let mid = state g.A.Store c.enter.new.conn in
-            let new = state g.A.Store c.fetch_counted.new.conn in
-            let early : HasCleanDisk mid = c.fetch_counted.ensures.clean clean in
+            let new = state g.A.Store c.fetch_told.new.conn in
+            let early : HasCleanDisk mid = c.fetch_told.ensures.clean clean in
             let same : mid.now ≡ old.now = c.in_ok-entry.ensures.same early has in
             let schema : HasArchive mid.now.schema = subst (λ (d : Database). HasArchive d.schema) (sym same) has in
             let kept = c.in_ok-end.ensures.kept clean schema in
-            let kept₁ = subst (λ (s : Source). KeepsLog over c.args.wanted.asking c.args.sockets.now c.fetch_counted.new.sockets c.in_ok-entry.entry (trend_log s.instance) mid.now new.now c.in_ok-end.end) row.0 kept in (
-              c.in_ok-entry.entry,
+            let kept₁ = subst (λ (s : Source). KeepsLog over c.args.wanted.asking c.args.sockets.now c.fetch_told.new.sockets entry (trend_log s.instance) mid.now new.now end) row.0 kept in (
+              entry,
               c.in_ok-entry.ensures.entry early has,
               row,
-              subst (λ (d : Database). KeepsLog over c.args.wanted.asking c.args.sockets.now c.fetch_counted.new.sockets c.in_ok-entry.entry (trend_log c.args.wanted.source.instance) d new.now c.in_ok-end.end) same kept₁,
+              subst (λ (d : Database). KeepsLog over c.args.wanted.asking c.args.sockets.now c.fetch_told.new.sockets entry (trend_log c.args.wanted.source.instance) d new.now end) same kept₁,
             ),
       ),
     )
@@ -46,55 +58,28 @@ pub returns-in_err-end-clause-stays : goal.returns-in_err-end-clause-stays
 returns-in_err-end-clause-stays g c clean has =
     let old = state g.A.Store c.args.conn.now in
     let mid = state g.A.Store c.enter.new.conn in
-    let early : HasCleanDisk mid = c.fetch_counted.ensures.clean clean in
+    let early : HasCleanDisk mid = c.fetch_told.ensures.clean clean in
     let same : mid.now ≡ old.now = c.in_ok-entry.ensures.same early has in
     let schema : HasArchive mid.now.schema = subst (λ (d : Database). HasArchive d.schema) (sym same) has in
-    quiet_first old mid (state g.A.Store c.fetch_counted.new.conn) same (c.enter.ensures.crash has) (c.fetch_counted.ensures.stays clean schema)
-
-pub returns-in_err-tell_anew-clause-stays : goal.returns-in_err-tell_anew-clause-stays
-returns-in_err-tell_anew-clause-stays g c clean has =
-    let old = state g.A.Store c.args.conn.now in
-    let mid = state g.A.Store c.enter.new.conn in
-    let early : HasCleanDisk mid = c.fetch_counted.ensures.clean clean in
-    let same : mid.now ≡ old.now = c.in_ok-entry.ensures.same early has in
-    let schema : HasArchive mid.now.schema = subst (λ (d : Database). HasArchive d.schema) (sym same) has in
-    quiet_first old mid (state g.A.Store c.fetch_counted.new.conn) same (c.enter.ensures.crash has) (c.fetch_counted.ensures.stays clean schema)
-
-pub returns-in_err-print_end-clause-stays : goal.returns-in_err-print_end-clause-stays
-returns-in_err-print_end-clause-stays g c clean has =
-    let old = state g.A.Store c.args.conn.now in
-    let mid = state g.A.Store c.enter.new.conn in
-    let early : HasCleanDisk mid = c.fetch_counted.ensures.clean clean in
-    let same : mid.now ≡ old.now = c.in_ok-entry.ensures.same early has in
-    let schema : HasArchive mid.now.schema = subst (λ (d : Database). HasArchive d.schema) (sym same) has in
-    quiet_first old mid (state g.A.Store c.fetch_counted.new.conn) same (c.enter.ensures.crash has) (c.fetch_counted.ensures.stays clean schema)
-
-pub returns-in_err-tell_why-clause-stays : goal.returns-in_err-tell_why-clause-stays
-returns-in_err-tell_why-clause-stays g c clean has =
-    let old = state g.A.Store c.args.conn.now in
-    let mid = state g.A.Store c.enter.new.conn in
-    let early : HasCleanDisk mid = c.fetch_counted.ensures.clean clean in
-    let same : mid.now ≡ old.now = c.in_ok-entry.ensures.same early has in
-    let schema : HasArchive mid.now.schema = subst (λ (d : Database). HasArchive d.schema) (sym same) has in
-    quiet_first old mid (state g.A.Store c.fetch_counted.new.conn) same (c.enter.ensures.crash has) (c.fetch_counted.ensures.stays clean schema)
+    quiet_first old mid (state g.A.Store c.fetch_told.new.conn) same (c.enter.ensures.crash has) (c.fetch_told.ensures.stays clean schema)
 
 pub returns-in_err-add_heard-clause-stays : goal.returns-in_err-add_heard-clause-stays
 returns-in_err-add_heard-clause-stays g c clean has =
     let old = state g.A.Store c.args.conn.now in
     let mid = state g.A.Store c.enter.new.conn in
-    let early : HasCleanDisk mid = c.fetch_counted.ensures.clean clean in
+    let early : HasCleanDisk mid = c.fetch_told.ensures.clean clean in
     let same : mid.now ≡ old.now = c.in_ok-entry.ensures.same early has in
     let schema : HasArchive mid.now.schema = subst (λ (d : Database). HasArchive d.schema) (sym same) has in
-    quiet_first old mid (state g.A.Store c.fetch_counted.new.conn) same (c.enter.ensures.crash has) (c.fetch_counted.ensures.stays clean schema)
+    quiet_first old mid (state g.A.Store c.fetch_told.new.conn) same (c.enter.ensures.crash has) (c.fetch_told.ensures.stays clean schema)
 
 pub returns-clause-stays : goal.returns-clause-stays
 returns-clause-stays g c clean has =
     let old = state g.A.Store c.args.conn.now in
     let mid = state g.A.Store c.enter.new.conn in
-    let early : HasCleanDisk mid = c.fetch_counted.ensures.clean clean in
+    let early : HasCleanDisk mid = c.fetch_told.ensures.clean clean in
     let same : mid.now ≡ old.now = c.in_ok-entry.ensures.same early has in
     let schema : HasArchive mid.now.schema = subst (λ (d : Database). HasArchive d.schema) (sym same) has in
-    quiet_first old mid (state g.A.Store c.fetch_counted.new.conn) same (c.enter.ensures.crash has) (c.fetch_counted.ensures.stays clean schema)
+    quiet_first old mid (state g.A.Store c.fetch_told.new.conn) same (c.enter.ensures.crash has) (c.fetch_told.ensures.stays clean schema)
 
 pub returns-in_err-entry-clause-caused : goal.returns-in_err-entry-clause-caused
 returns-in_err-entry-clause-caused g c clean has =
@@ -108,25 +93,17 @@ returns-in_err-end-clause-caused g c clean has =
     let over = socket_rules g.S.Sockets.opens g.S.Sockets.closes g.S.Socket.Port.sends g.S.Socket.Port.receives g.S.Socket.Port.receives_within in
     let old = state g.A.Store c.args.conn.now in
     let mid = state g.A.Store c.enter.new.conn in
-    let early : HasCleanDisk mid = c.fetch_counted.ensures.clean clean in
+    let early : HasCleanDisk mid = c.fetch_told.ensures.clean clean in
     let same : mid.now ≡ old.now = c.in_ok-entry.ensures.same early has in
     let schema : HasArchive mid.now.schema = subst (λ (d : Database). HasArchive d.schema) (sym same) has in
     let fault = c.in_err-end.field-0.0 in
     let it = c.in_err-end.ensures.caused clean schema in
     because c.from_residual-in_err-end.result fault _ (search rules)
-    (inl (subst (λ (s : Source). EndsFetch over c.args.wanted.asking.asked s.instance c.args.sockets.now c.fetch_counted.new.sockets fault) c.in_ok-entry.ensures.row.0 it))
-
-pub returns-in_err-print_end-clause-caused : goal.returns-in_err-print_end-clause-caused
-returns-in_err-print_end-clause-caused g c clean has =
-    because c.from_residual-in_err-print_end.result c.in_err-print_end.field-0.0 _ (search rules) (inl (inl c.in_err-print_end.ensures.caused))
+    (inl (subst (λ (s : Source). EndsFetch over c.args.wanted.asking.asked s.instance c.args.sockets.now c.fetch_told.new.sockets fault) c.in_ok-entry.ensures.row.0 it))
 
 pub returns-in_err-entry-clause-fault : goal.returns-in_err-entry-clause-fault
 returns-in_err-entry-clause-fault g c =
     because c.from_residual.result c.in_err-entry.field-0.0 _ (search rules) (inl c.in_err-entry.ensures.fault)
-
-pub returns-in_err-print_end-clause-fault : goal.returns-in_err-print_end-clause-fault
-returns-in_err-print_end-clause-fault g c =
-    because c.from_residual-in_err-print_end.result c.in_err-print_end.field-0.0 _ (search rules) (inl c.in_err-print_end.ensures.fault)
 
 pub returns-in_err-entry-clause-undone : goal.returns-in_err-entry-clause-undone
 returns-in_err-entry-clause-undone g c clean has =
@@ -136,25 +113,28 @@ pub returns-in_err-end-clause-undone : goal.returns-in_err-end-clause-undone
 returns-in_err-end-clause-undone g c clean has =
     let old = state g.A.Store c.args.conn.now in
     let mid = state g.A.Store c.enter.new.conn in
-    let early : HasCleanDisk mid = c.fetch_counted.ensures.clean clean in
+    let early : HasCleanDisk mid = c.fetch_told.ensures.clean clean in
     let same : mid.now ≡ old.now = c.in_ok-entry.ensures.same early has in
     let schema : HasArchive mid.now.schema = subst (λ (d : Database). HasArchive d.schema) (sym same) has in
     let fault = c.in_err-end.field-0.0 in
     because c.from_residual-in_err-end.result fault _ (search rules)
-    (leaves_behind old.now mid.now (state g.A.Store c.fetch_counted.new.conn).now fault same (c.in_err-end.ensures.undone clean schema))
-
-pub returns-in_err-tell_anew-clause-undone : goal.returns-in_err-tell_anew-clause-undone
-returns-in_err-tell_anew-clause-undone g c clean has =
-    because c.from_residual-in_err-tell_anew.result c.in_err-tell_anew.field-0.0 _ (search rules) (rows_leave _ _ _ (inl c.in_err-tell_anew.ensures.fault))
-
-pub returns-in_err-print_end-clause-undone : goal.returns-in_err-print_end-clause-undone
-returns-in_err-print_end-clause-undone g c clean has =
-    because c.from_residual-in_err-print_end.result c.in_err-print_end.field-0.0 _ (search rules) (rows_leave _ _ _ c.in_err-print_end.ensures.caused)
-
-pub returns-in_err-tell_why-clause-undone : goal.returns-in_err-tell_why-clause-undone
-returns-in_err-tell_why-clause-undone g c clean has =
-    because c.from_residual-in_err-tell_why.result c.in_err-tell_why.field-0.0 _ (search rules) (rows_leave _ _ _ (inl c.in_err-tell_why.ensures.fault))
+    (leaves_behind old.now mid.now (state g.A.Store c.fetch_told.new.conn).now fault same (c.in_err-end.ensures.undone clean schema))
 
 pub returns-in_err-add_heard-clause-undone : goal.returns-in_err-add_heard-clause-undone
 returns-in_err-add_heard-clause-undone g c clean has =
     because c.from_residual-in_err-add_heard.result c.in_err-add_heard.field-0.0 _ (search rules) (rows_leave _ _ _ (inl c.in_err-add_heard.ensures.fault))
+
+pub returns-in_err-end-clause-fault : goal.returns-in_err-end-clause-fault
+returns-in_err-end-clause-fault g c =
+    let over = socket_rules g.S.Sockets.opens g.S.Sockets.closes g.S.Socket.Port.sends g.S.Socket.Port.receives g.S.Socket.Port.receives_within in
+    let fault = c.in_err-end.field-0.0 in
+    because c.from_residual-in_err-end.result fault _ (search rules)
+    (subst (λ (s : Source). EndsRun over (IsNoInstance s.instance) ⊥ c.fetch_told.new.sockets fault) c.in_ok-entry.ensures.row.0 c.in_err-end.ensures.fault)
+
+pub returns-in_err-add_heard-clause-fault : goal.returns-in_err-add_heard-clause-fault
+returns-in_err-add_heard-clause-fault g c =
+    because c.from_residual-in_err-add_heard.result c.in_err-add_heard.field-0.0 _ (search rules) (inl (inl c.in_err-add_heard.ensures.fault))
+
+pub returns-in_err-add_heard-clause-caused : goal.returns-in_err-add_heard-clause-caused
+returns-in_err-add_heard-clause-caused g c clean has =
+    because c.from_residual-in_err-add_heard.result c.in_err-add_heard.field-0.0 _ (search rules) (inl (inl (inl c.in_err-add_heard.ensures.fault)))

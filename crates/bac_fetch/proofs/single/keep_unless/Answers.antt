@@ -67,3 +67,6 @@ returns-in-Some-clause-caused g c clean has =
 pub returns-in-Some-clause-undone : goal.returns-in-Some-clause-undone
 returns-in-Some-clause-undone g c clean has =
     IfErr-weaker c.pass_by.result _ _ (λ fault it. rows_leave _ _ fault it) (c.pass_by.ensures.caused clean has)
+
+pub returns-in-Some-clause-fault : goal.returns-in-Some-clause-fault
+returns-in-Some-clause-fault g c = IfErr-weaker c.pass_by.result _ _ (λ fault it. inl it) c.pass_by.ensures.fault
