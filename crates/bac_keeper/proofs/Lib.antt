@@ -8,3 +8,4 @@ pub mod KeepLemmas
 pub mod PrintLemmas
 pub mod BegunLemmas
 pub mod PartedLemmas
+pub mod WorkLemmas

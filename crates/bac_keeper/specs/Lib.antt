@@ -6,3 +6,4 @@ pub mod Shown
 pub mod Stops
 pub mod Places
 pub mod Parted
+pub mod Works

@@ -13,8 +13,10 @@ ghost use Rattle.bac_files.specs.Files.{IsNamed};
 ghost use Rattle.bac_keeper.specs.Archives.{IsArchiveOf, IsHeld};
 ghost use Rattle.bac_keeper.specs.Begun.{BarsPart, BeginsOn, FollowsFiles};
 ghost use Rattle.bac_keeper.specs.Ends.{FailsFile, IsNoArchive, IsOfSomeFile, MayFail};
+ghost use Rattle.bac_keeper.specs.Works.{FollowsOver};
 
-use crate::archives::{close_file, open_archive, open_file, open_told};
+use crate::archives::{open_archive, open_told};
+use crate::works::{Work, work_in};
 use bac_archive::{follow_on, is_nothing};
 use bac_asked::{FileFault, NotDone};
 use bac_files::{DiskFiles, FileOf, Place};
@@ -47,6 +49,27 @@ fn follow<A: Alter, B: Alter>(
     }
 }
 
+/// A database that has nothing follows on another.
+#[derive(Drop)]
+struct Following {
+    alloc: Global,
+}
+
+impl<A: Alter> Work<Connection<A>> for Following {
+    ghost can_work = { λ it conn. (state A.Store conn).now.schema ≡ no_schema };
+
+    ghost does = { λ it found last part made. FollowsOver found last (state A.Store part)
+        (state A.Store made) };
+
+    fn work<B: Alter>(
+        &self,
+        conn: &mut Connection<B>,
+        with: &mut Connection<A>,
+    ) -> Result<u8, NotDone> {
+        follow(self.alloc, conn, with)
+    }
+}
+
 /// Makes of a database that has nothing the part that follows on the archive of this name.
 fn fill<A: Alter, G: Start>(
     alloc: Global,
@@ -64,9 +87,7 @@ fn fill<A: Alter, G: Start>(
     ensures fault { IfErr result (MayFail (FailsFile ⟦<FileOf<G> as Disk>⟧ (image_at G.Start)
         before.now false IsNoArchive parts.new)) }
 {
-    let mut base = open_file(parts, before, false)?;
-    let done = follow(alloc, &mut base, conn);
-    close_file(parts, base, done)
+    work_in(parts, before, &Following { alloc }, conn)
 }
 
 /// The same where there is a part before it, and it has nothing.

@@ -13,6 +13,7 @@ mod parts;
 mod printing;
 mod program;
 mod stopping;
+mod works;
 
 pub use bac_asked::Fault;
 pub use bac_files::{DiskFiles, FolderFiles, Parts};

@@ -10,9 +10,11 @@ ghost use Rattle.bac_keeper.specs.Archives.{IsHeld};
 ghost use Rattle.bac_keeper.specs.Ends.{MayAsk, MayFail};
 ghost use Rattle.bac_keeper.specs.Shown.{EndsPrint, FailsToPrint, PrintsArchive, PrintsIn};
 ghost use Rattle.bac_keeper.specs.Shown.{RefusesPrint, Shows, ShowsNoneBy};
+ghost use Rattle.bac_keeper.specs.Works.{PrintsOver};
 
-use crate::archives::{close_file, open_archive, open_file};
+use crate::archives::open_archive;
 use crate::keeping::text_of;
+use crate::works::{Work, work_in};
 use bac_asked::{NotDone, Options, named};
 use bac_files::{DiskFiles, FileOf};
 use bac_kept::{Shown, print_shown};
@@ -69,6 +71,25 @@ fn print_in<A: Alter, O: Write>(
     print_shown(alloc, conn, shown, csv, output)
 }
 
+/// What an archive keeps of these logs is printed, as CSV or not.
+#[derive(Drop)]
+struct Printing {
+    alloc: Global,
+    shown: Shown,
+    csv: bool,
+}
+
+impl<O: Write> Work<O> for Printing {
+    ghost can_work = { λ it output. Unit {0} };
+
+    ghost does = { λ it old new before after. PrintsOver it.shown it.csv old new
+        (O.contents before) (O.contents after) };
+
+    fn work<A: Alter>(&self, conn: &mut Connection<A>, with: &mut O) -> Result<u8, NotDone> {
+        print_in(conn, self.alloc, &self.shown, self.csv, with)
+    }
+}
+
 /// `bac kept`: opens the archive, prints what it keeps of the logs that the words name, and closes
 /// it.
 pub(crate) fn kept<F: Start, O: Write>(
@@ -85,7 +106,10 @@ pub(crate) fn kept<F: Start, O: Write>(
     ensures ends { IfErr result (MayAsk (EndsPrint asked.now)) }
 {
     let shown = choose(alloc, asked)?;
-    let mut conn = open_file(files, asked.file.as_str(), false)?;
-    let done = print_in(&mut conn, alloc, &shown, asked.csv, output);
-    close_file(files, conn, done)
+    let printing = Printing {
+        alloc,
+        shown,
+        csv: asked.csv,
+    };
+    work_in(files, asked.file.as_str(), &printing, output)
 }

@@ -22,9 +22,11 @@ ghost use Rattle.bac_keeper.specs.Ends.{MayAsk, MayFail};
 ghost use Rattle.bac_keeper.specs.Stops.{EndsStop, FailsToStop, Means, MeansAt, MeansNone, MeansOf};
 ghost use Rattle.bac_keeper.specs.Stops.{RefusesStop, StopsArchive, StopsIn, are_there, is_meant};
 ghost use Rattle.bac_keeper.specs.Stops.{stopped_lines, stopped_logs};
+ghost use Rattle.bac_keeper.specs.Works.{StopsOver};
 
-use crate::archives::{close_file, open_archive, open_file};
+use crate::archives::open_archive;
 use crate::keeping::{options_for, options_of};
+use crate::works::{Work, work_in};
 use bac_archive::{Log, Source, change_logs, logs};
 use bac_asked::{
     Fault, FileFault, NotDone, Options, Wanted, named, named_all, of_error, push_stopped,
@@ -250,6 +252,24 @@ fn stop_in<A: Alter, O: Write>(
     Ok(0)
 }
 
+/// The logs that are meant are stopped.
+#[derive(Drop)]
+struct Stopping {
+    alloc: Global,
+    meant: Meant,
+}
+
+impl<O: Write> Work<O> for Stopping {
+    ghost can_work = { λ it output. Unit {0} };
+
+    ghost does = { λ it old new before after. StopsOver it.meant old new
+        (O.contents before) (O.contents after) };
+
+    fn work<A: Alter>(&self, conn: &mut Connection<A>, with: &mut O) -> Result<u8, NotDone> {
+        stop_in(conn, self.alloc, &self.meant, with)
+    }
+}
+
 /// `bac keep --stop`: opens the archive in this file, stops the logs that the words name, and
 /// closes it.
 pub(crate) fn stop<F: Start, O: Write>(
@@ -272,7 +292,5 @@ pub(crate) fn stop<F: Start, O: Write>(
 {
     let options = options_of(&asked.options);
     let meant = choose(alloc, asked, &options)?;
-    let mut conn = open_file(files, path, false)?;
-    let done = stop_in(&mut conn, alloc, &meant, output);
-    close_file(files, conn, done)
+    work_in(files, path, &Stopping { alloc, meant }, output)
 }

@@ -1,29 +1,34 @@
-use Rattle.std.proofs.Common.{false}
+use Rattle.std.proofs.Common.{refl}
 use Rattle.sqlite_wal.specs.Files.{image_at}
 use Rattle.sqlite.specs.Held.{state}
-use Rattle.bac_files.specs.Files.{IsNamed}
 use Rattle.bac_keeper.specs.Ends.{IsNoArchive}
-use Rattle.bac_keeper.proofs.BegunLemmas.{file_of, follows_in}
-use Rattle.bac_keeper.proofs.FileLemmas.{done_named, fails_clean, fails_file}
+use Rattle.bac_keeper.specs.Works.{FollowsOver}
+use Rattle.bac_keeper.proofs.FileLemmas.{fails_clean}
+use Rattle.bac_keeper.proofs.WorkLemmas.{follows_clean, follows_file, work_fails, work_follows, work_named}
 use Rattle.bac_keeper.proofs.begun.fill.Goals as goal
 
 pub returns-clause-followed : goal.returns-clause-followed
-returns-clause-followed g c clean =
-    let done = c.follow-done in
-    follows_in (image_at g.G.Start) c.in_ok-base.base done.new.old c.close_file.new.files.closed c.in_ok-base.ensures.opened done.ensures.read
-    (state g.A.Store done.new.conn).now c.close_file.result done.result (λ read. done.ensures.followed read clean) c.close_file.ensures.done c.close_file.ensures.closed
+returns-clause-followed g c =
+    work_follows (image_at g.G.Start) c.args.before.now c.args.parts.now c.work_in.new.files c.args.conn.now c.work_in.new.with c.work_in.result
+    (state g.A.Store) c.work_in.ensures
+
+pub returns-clause-clean : goal.returns-clause-clean
+returns-clause-clean g c =
+    follows_clean (image_at g.G.Start) c.args.before.now c.args.parts.now c.work_in.new.files c.args.conn.now c.work_in.new.with c.work_in.result
+    (state g.A.Store) c.work_in.ensures
+
+pub returns-clause-file : goal.returns-clause-file
+returns-clause-file g c =
+    follows_file (image_at g.G.Start) c.args.before.now c.args.parts.now c.work_in.new.files c.args.conn.now c.work_in.new.with c.work_in.result
+    (state g.A.Store) c.work_in.ensures
 
 pub returns-clause-named : goal.returns-clause-named
 returns-clause-named g c =
-    done_named (IsNamed c.args.before.now false c.close_file.new.files) c.close_file.result
-    (c.close_file.ensures.named c.args.before.now false c.in_ok-base.ensures.named)
-
-pub returns-clause-file : goal.returns-clause-file
-returns-clause-file g c = file_of _ c.follow-done.result c.close_file.result c.follow-done.ensures.file c.close_file.ensures.fault
+    work_named (image_at g.G.Start) c.args.before.now c.args.parts.now c.work_in.new.files c.args.conn.now c.work_in.new.with c.work_in.result
+    (λ found last part made. FollowsOver found last (state g.A.Store part) (state g.A.Store made)) c.args.before.now refl c.work_in.ensures
 
 pub returns-clause-fault : goal.returns-clause-fault
 returns-clause-fault g c =
-    let done = c.follow-done in
-    let named = c.close_file.ensures.named c.args.before.now false c.in_ok-base.ensures.named in
-    fails_file (image_at g.G.Start) c.in_ok-base.base done.new.old c.close_file.new.files c.in_ok-base.ensures.opened c.args.before.now false named
-    IsNoArchive done.result c.close_file.result (fails_clean _ _ _ done.result done.ensures.read done.ensures.refused) c.close_file.ensures.fault c.close_file.ensures.shut
+    work_fails (image_at g.G.Start) c.args.before.now c.args.parts.now c.work_in.new.files c.args.conn.now c.work_in.new.with c.work_in.result
+    (λ found last part made. FollowsOver found last (state g.A.Store part) (state g.A.Store made)) c.args.before.now refl
+    IsNoArchive (λ found last done did. fails_clean _ _ _ done did.read did.refused) c.work_in.ensures
