@@ -80,8 +80,8 @@ fn options(rt: &HostRuntime) -> Result<Options, Error>
     }
 }
 
-/// Opens the database at a path, or makes it. If it can't be, its files are closed. It has no clock:
-/// no statement that reads or writes an archive asks for the time.
+/// Opens the database at a path, or makes it. If it can't be, its files are closed. It has no
+/// clock: no statement that reads or writes an archive asks for the time.
 pub(crate) fn connect<F: Start>(
     rt: &HostRuntime,
     path: &str,

@@ -25,7 +25,8 @@ use Rattle.bac_print.specs.Output.{Held}
 abbrev pub Ended : Type 0
 Ended = Result ℕ NotDone
 
--- what a work is: the database as it was opened and as it is left, what it is done with before and behind it, how it ends
+-- what a work is: the database as it was opened and as it is left, what it is done with before it and behind it, and
+-- how it ends
 abbrev pub Does : Type 0 → Type 1
 Does X = State → State → X → X → Ended → Type 0
 
@@ -55,8 +56,8 @@ module _ {F X : Type 0} {s : start.Ghosts F} where
     pub either : (new.closed ≡ old.closed) ⊎ IsClosedBy last new.closed
 
   -- a work was done over the database in the file of this name, if that is opened
-  abbrev pub Works : disk.Ghosts (FileOf s) → Image → Does X → List ℕ → DiskFiles F s → DiskFiles F s → X → X → Ended
-      → Type 0
+  abbrev pub Works : disk.Ghosts (FileOf s) → Image → Does X → List ℕ → DiskFiles F s → DiskFiles F s → X → X →
+      Ended → Type 0
   Works g image does path old new before after ended =
       IsUndone path old new before after ended ⊎ IsDone g image does path old new before after ended
 
