@@ -1,6 +1,7 @@
 //! The files of a database, opened at a path: no file gets longer than the process may make one.
 
 ghost use Rattle.std.specs.Prelude.{◌≡◌, false, IfErr, IfOk, IsTrue, true};
+ghost use Rattle.sqlite.specs.Files.{image_of};
 ghost use Rattle.sqlite.specs.Opening.{is_open_error};
 ghost use Rattle.sqlite_std_file.specs.File.{IsFresh};
 ghost use Rattle.sqlite_wal.specs.Files.{image_at};
@@ -80,8 +81,28 @@ fn options(rt: &HostRuntime) -> Result<Options, Error>
     }
 }
 
-/// Opens the database at a path, or makes it. If it can't be, its files are closed. It has no
-/// clock: no statement that reads or writes an archive asks for the time.
+/// Opens the database in these files. If it can't be, they are closed. It has no clock: no
+/// statement that reads or writes an archive asks for the time.
+fn open_in<D: Disk + Drop>(
+    rt: &HostRuntime,
+    files: Files<D>,
+) -> Result<Connection<FileStore<D>>, Error>
+    requires log { IsTrue (D.Disk.is_usable files.log) }
+    requires db { IsTrue (D.Disk.is_usable files.db) }
+    ensures opened { IfOk result (IsOpenedBy (image_of D.Disk files)) }
+    ensures named { IfErr result (λ error. IsTrue (is_open_error error)) }
+{
+    let options = match options(rt) {
+        Ok(options) => options,
+        Err(error) => return Err(error),
+    };
+    match Connection::open_files_with(rt.alloc(), files, options, false) {
+        Ok(conn) => Ok(conn),
+        Err((error, _)) => Err(error),
+    }
+}
+
+/// Opens the database at a path, or makes it.
 pub(crate) fn connect<F: Start>(
     rt: &HostRuntime,
     path: &str,
@@ -90,16 +111,8 @@ pub(crate) fn connect<F: Start>(
     ensures opened { IfOk result (IsOpenedBy (image_at F.Start)) }
     ensures named { IfErr result (λ error. IsTrue (is_open_error error)) }
 {
-    let files = match open_pair(rt, path, start, most_octets()) {
-        Ok(files) => files,
-        Err(error) => return Err(error),
-    };
-    let options = match options(rt) {
-        Ok(options) => options,
-        Err(error) => return Err(error),
-    };
-    match Connection::open_files_with(rt.alloc(), files, options, false) {
-        Ok(conn) => Ok(conn),
-        Err((error, _)) => Err(error),
+    match open_pair(rt, path, start, most_octets()) {
+        Ok(files) => open_in(rt, files),
+        Err(error) => Err(error),
     }
 }
