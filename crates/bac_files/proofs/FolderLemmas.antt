@@ -1,5 +1,5 @@
 -- The file of a part, and what a part of a folder follows on.
-use Rattle.std.proofs.Common.{◌≡◌, ◌<◌, ◌-◌, ◌++◌, ◌∙◌, ℕ, zero, suc, List, [], length, codes, decimal, replicate, Some, String, Global, refl, sym, ap, subst, append_assoc, append-nil, arith}
+use Rattle.std.proofs.Common.{◌≡◌, ◌<◌, ◌-◌, ◌++◌, ◌∙◌, ℕ, zero, suc, List, [], length, codes, decimal, replicate, Some, String, Global, refl, ap, subst, append_assoc, append-nil, arith}
 use Rattle.std.specs.String.{string_bytes}
 use Rattle.std.specs.Fmt.{char_count, format_spec, padded_integral, styled_decimal}
 use Rattle.bac_files.specs.Parts.{FollowsOn, part_file, part_path}
