@@ -15,6 +15,7 @@ ghost use Rattle.bac_fetch.specs.Faults.{EndsRun};
 
 use crate::entry::word_of;
 use bac_ahead::{Opening, ask_ahead};
+use bac_apdu::Route;
 use bac_archive::Log;
 use bac_asked::{Asking, Fault, NotDone, Wanted};
 use bac_begin::{Stand, stand_of};
@@ -72,6 +73,17 @@ fn id_of(log: Option<&Log>) -> u16
     }
 }
 
+/// The way to a device once more, if it has one.
+fn copy_route(route: &Option<Route>) -> Result<Option<Route>, NotDone>
+    ensures copy { IfOk result (λ copy. copy ≡ route.now) }
+    ensures fault { IfErr result WantsMemory }
+{
+    match route.clone() {
+        Ok(copy) => Ok(copy),
+        Err(_) => Err(NotDone::Asking(Fault::Memory)),
+    }
+}
+
 /// What a log is opened by that is on record so, and whose device was heard to say this; with so
 /// many batches behind what its run begins with.
 fn opened_by<A: Alter>(
@@ -102,9 +114,7 @@ fn opened_by<A: Alter>(
     } = &wanted.asking;
     let stand = stand_if(alloc, conn, log)?;
     let source = copy_source(alloc, &wanted.source)?;
-    let Ok(route) = asked.route.clone() else {
-        return Err(NotDone::Asking(Fault::Memory));
-    };
+    let route = copy_route(&asked.route)?;
     Ok(Opening {
         source,
         peer: asked.address,

@@ -1,9 +1,15 @@
-use Rattle.std.proofs.Common.{◌≡◌, subst, sym}
+use Rattle.std.proofs.Common.{◌≡◌, ◌∙◌, List, ap, ap₂, drop, inr, length, rules, subst, sym}
 use Rattle.sqlite.specs.Effect.{Database}
 use Rattle.sqlite.specs.State.{HasCleanDisk}
 use Rattle.sqlite.specs.Held.{state}
 use Rattle.bac_archive.specs.Schema.{HasArchive}
+use Rattle.bac_archive.proofs.RowsLemmas.{because}
 use Rattle.bac_begin.proofs.Quiet.{quiet_then}
+use Rattle.bac_ports.specs.Sockets.{socket_rules}
+use Rattle.bac_questions.specs.declared.whose.Heard.{Heard}
+use Rattle.bac_fetch.specs.Ahead.{EndsOpening, OpensAhead, at_once}
+use Rattle.bac_fetch.specs.Called.{told_early}
+use Rattle.bac_fetch.proofs.QuietLemmas.{then_on_ok}
 use Rattle.bac_fetch.proofs.called.call_on.Goals as goal
 
 pub returns-clause-quiet : goal.returns-clause-quiet
@@ -23,3 +29,65 @@ returns-in_err-late-clause-quiet g c clean has =
     let same : mid.now ≡ old.now = c.in_ok-early.ensures.same early has in
     quiet_then old mid (state g.A.Store c.open_ahead-2.new.conn) (c.open_ahead.ensures.quiet early has)
     (c.open_ahead-2.ensures.quiet clean (subst (λ (d : Database). HasArchive d.schema) (sym same) has))
+
+pub returns-clause-calls : goal.returns-clause-calls
+returns-clause-calls g c clean has =
+    let over = socket_rules g.S.Sockets.opens g.S.Sockets.closes g.S.Socket.Port.sends g.S.Socket.Port.receives g.S.Socket.Port.receives_within in
+    let by = at_once g.S.Recalls.holds g.C.Clock.reads c.args.clock c.args.window in
+    let known = c.args.known.now in
+    let all = c.args.all.now in
+    let heard = c.args.heard.now.items in
+    let found = c.end_calls.new.heard.items in
+    let half = c.open_ahead.new.sockets in
+    let between = c.end_calls.new.sockets in
+    let last = c.open_ahead-2.new.sockets in
+    let old = state g.A.Store c.args.conn.now in
+    let mid = state g.A.Store c.open_ahead.new.conn in
+    let early : HasCleanDisk mid = c.open_ahead-2.ensures.clean clean in
+    let same : mid.now ≡ old.now = c.in_ok-early.ensures.same early has in
+    let schema : HasArchive mid.now.schema = subst (λ (d : Database). HasArchive d.schema) (sym same) has in
+    let told : c.told_early-told.result.now ≡ told_early all heard = c.told_early-told.ensures ∙ ap (told_early all) c.as_slice.ensures.value in
+    let rest : c.behind-rest.result.now ≡ drop (length (told_early all heard)) found =
+    c.behind-rest.ensures ∙ ap₂ drop (ap (length {A = Heard}) told) c.as_slice-2.ensures.value in
+    let opens = subst (λ (l : List Heard). OpensAhead over by.pace old.now.trees known l all c.args.sockets.now c.in_ok-early.early.items half) told (c.in_ok-early.ensures.opens early has) in
+    let late = subst (λ (d : Database). OpensAhead over by.pace d.trees known (drop (length (told_early all heard)) found) all between c.in_ok-late.late.items last) same
+    (subst (λ (l : List Heard). OpensAhead over by.pace mid.now.trees known l all between c.in_ok-late.late.items last) rest (c.in_ok-late.ensures.opens clean schema)) in
+    then_on_ok c.hold_both.result _ _
+    (λ holds. record {
+      early = c.in_ok-early.early.items;
+      half = half;
+      opens = opens;
+      mid = between;
+      ends = c.in_ok-end_calls.ensures.ended;
+      late = c.in_ok-late.late.items;
+      last = last;
+      opens_late = late;
+      holds = holds;
+    })
+    c.hold_both.ensures.holds
+
+pub returns-in_err-late-clause-caused : goal.returns-in_err-late-clause-caused
+returns-in_err-late-clause-caused g c clean has =
+    let over = socket_rules g.S.Sockets.opens g.S.Sockets.closes g.S.Socket.Port.sends g.S.Socket.Port.receives g.S.Socket.Port.receives_within in
+    let by = at_once g.S.Recalls.holds g.C.Clock.reads c.args.clock c.args.window in
+    let known = c.args.known.now in
+    let all = c.args.all.now in
+    let heard = c.args.heard.now.items in
+    let found = c.end_calls.new.heard.items in
+    let half = c.open_ahead.new.sockets in
+    let between = c.end_calls.new.sockets in
+    let last = c.open_ahead-2.new.sockets in
+    let old = state g.A.Store c.args.conn.now in
+    let mid = state g.A.Store c.open_ahead.new.conn in
+    let early : HasCleanDisk mid = c.open_ahead-2.ensures.clean clean in
+    let same : mid.now ≡ old.now = c.in_ok-early.ensures.same early has in
+    let schema : HasArchive mid.now.schema = subst (λ (d : Database). HasArchive d.schema) (sym same) has in
+    let told : c.told_early-told.result.now ≡ told_early all heard = c.told_early-told.ensures ∙ ap (told_early all) c.as_slice.ensures.value in
+    let rest : c.behind-rest.result.now ≡ drop (length (told_early all heard)) found =
+    c.behind-rest.ensures ∙ ap₂ drop (ap (length {A = Heard}) told) c.as_slice-2.ensures.value in
+    let opens = subst (λ (l : List Heard). OpensAhead over by.pace old.now.trees known l all c.args.sockets.now c.in_ok-early.early.items half) told (c.in_ok-early.ensures.opens early has) in
+    let fault = c.in_err-late.field-0.0 in
+    let late = subst (λ (d : Database). EndsOpening over by.pace d.trees known (drop (length (told_early all heard)) found) all between last fault) same
+    (subst (λ (l : List Heard). EndsOpening over by.pace mid.now.trees known l all between last fault) rest (c.in_err-late.ensures.caused clean schema)) in
+    because c.from_residual-in_err-late.result fault _ (search rules)
+    (inr (inr (c.in_ok-early.early.items, half, opens, found, between, c.in_ok-end_calls.ensures.ended, late)))
