@@ -62,7 +62,8 @@ module _ {F X : Type 0} {s : start.Ghosts F} where
       IsUndone path old new before after ended ⊎ IsDone g image does path old new before after ended
 
 -- what an archive keeps of these logs is printed, behind the output before
-pub record PrintsOver (which : Shown) (csv : Bool) (old new : State) (before after : Held) (ended : Ended) : Type 0 where
+pub record PrintsOver (which : Shown) (csv : Bool) (old new : State) (before after : Held)
+    (ended : Ended) : Type 0 where
   pub status : IfOk ended (λ status. status ≡ 0)
   pub printed : HasCleanDisk new → OnOk ended (PrintsArchive which csv before after old.now)
   pub clean : OnOk ended (HasCleanDisk new → HasCleanDisk old)
