@@ -1,16 +1,13 @@
 //! Whether a schema is an archive's.
 
-ghost use Rattle.std.specs.Prelude.{◌≡◌, ◌↔◌, List, [], ◌∷◌, IsTrue, IsNone, IfSome, None, codes};
-ghost use Rattle.std.specs.Prelude.{false, true, All};
-ghost use Rattle.sqlite_schema.specs.declared.schema.Column.{Column as ColumnOf};
+ghost use Rattle.std.specs.Prelude.{◌≡◌, ◌↔◌, [], ◌∷◌, IsTrue, false, true, All, map, codes};
 ghost use Rattle.bac_archive.specs.Beside.{StandBeside};
 ghost use Rattle.bac_archive.specs.Schema.{archive_schema, no_schema, archive, logs, items};
 ghost use Rattle.bac_archive.specs.Schema.{HasArchive, HasTables, HasIndexes, HasView, HasViews};
 ghost use Rattle.bac_archive.specs.Schema.{RefersNowhere, lets_in};
 ghost use Rattle.bac_archive.specs.Schema.{beginnings, column as column_of, plain_table};
-ghost use Rattle.bac_archive.specs.Schema.{plain_view, log_index};
-ghost use Rattle.bac_archive.specs.Schema.{first_logs, first_tables, records_text, gaps_text};
-ghost use Rattle.bac_archive.specs.Schema.{epochs_text};
+ghost use Rattle.bac_archive.specs.Schema.{plain_view, log_index, first_logs, first_tables};
+ghost use Rattle.bac_archive.specs.Schema.{records_text, gaps_text, epochs_text};
 ghost use Rattle.sqlite_value.specs.Keys.{plain};
 
 use crate::creation::{EPOCHS, GAPS, RECORDS};
@@ -72,137 +69,64 @@ fn is_plain(table: &Table, name: &[u8], tree: u32) -> bool
         && !table.is_counted
 }
 
-fn are_archive_columns(columns: &[Column]) -> bool
-    ensures { IsTrue result ↔ (columns.now ≡ archive.columns) }
-{
-    let [version] = columns else {
-        return false;
-    };
-    is_column(version, b"version", Kind::Integer, false)
-}
+/// The columns of the table of versions, each with its name, its kind and whether it is NOT NULL.
+const VERSIONS: [(&str, Kind, bool); 1] = [("version", Kind::Integer, false)];
 
-fn are_first_log_columns(columns: &[Column]) -> bool
-    ensures { IsTrue result ↔ (columns.now ≡ first_logs.columns) }
-{
-    let [id, address, dnet, dadr, instance, name] = columns else {
-        return false;
-    };
-    is_column(id, b"id", Kind::Integer, false)
-        && is_column(address, b"address", Kind::Text, true)
-        && is_column(dnet, b"dnet", Kind::Integer, true)
-        && is_column(dadr, b"dadr", Kind::Text, true)
-        && is_column(instance, b"instance", Kind::Integer, true)
-        && is_column(name, b"name", Kind::Text, false)
-}
+/// Those of the table of logs.
+const LOGS: [(&str, Kind, bool); 10] = [
+    ("id", Kind::Integer, false),
+    ("address", Kind::Text, true),
+    ("dnet", Kind::Integer, true),
+    ("dadr", Kind::Text, true),
+    ("instance", Kind::Integer, true),
+    ("name", Kind::Text, false),
+    ("device", Kind::Integer, false),
+    ("restart", Kind::Text, false),
+    ("revision", Kind::Integer, false),
+    ("stopped", Kind::Integer, true),
+];
 
-/// The columns behind this one, if it is the first.
-fn behind<'a>(
-    columns: &'a [Column],
-    name: &[u8],
-    kind: Kind,
-    not_null: bool,
-) -> Option<&'a [Column]>
-    ensures found { IfSome result
-        (λ rest. columns.now ≡ column_of name.now kind not_null ∷ rest.now) }
-    ensures none { IsNone result → (rest : List ColumnOf)
-        → columns.now ≡ column_of name.now kind not_null ∷ rest → ⊥ }
+/// Those of the table of logs of version 1.
+const FIRST_LOGS: [(&str, Kind, bool); 6] = [
+    ("id", Kind::Integer, false),
+    ("address", Kind::Text, true),
+    ("dnet", Kind::Integer, true),
+    ("dadr", Kind::Text, true),
+    ("instance", Kind::Integer, true),
+    ("name", Kind::Text, false),
+];
+
+/// Those of the table of items.
+const ITEMS: [(&str, Kind, bool); 6] = [
+    ("id", Kind::Integer, false),
+    ("last", Kind::Integer, false),
+    ("stamp", Kind::Text, false),
+    ("value", Kind::Real, false),
+    ("datum", Kind::Text, false),
+    ("flags", Kind::Text, false),
+];
+
+/// Those of the table of beginnings.
+const BEGINNINGS: [(&str, Kind, bool); 2] = [
+    ("id", Kind::Integer, false),
+    ("number", Kind::Integer, true),
+];
+
+/// Whether these are the columns of a table.
+fn are_columns(columns: &[Column], wanted: &[(&str, Kind, bool)]) -> bool
+    ensures { IsTrue result
+        ↔ (columns.now ≡ map (λ w. column_of w.0.now w.1 w.2) wanted.now) }
 {
-    let [first, rest @ ..] = columns else {
-        return None;
-    };
-    if is_column(first, name, kind, not_null) {
-        Some(rest)
-    } else {
-        None
+    if columns.len() != wanted.len() {
+        return false;
     }
-}
-
-fn are_told_columns(columns: &[Column]) -> bool
-    ensures { IsTrue result ↔ (columns.now ≡ column_of (codes "device") Kind.Integer false
-        ∷ column_of (codes "restart") Kind.Text false
-        ∷ column_of (codes "revision") Kind.Integer false
-        ∷ column_of (codes "stopped") Kind.Integer true ∷ []) }
-{
-    let Some(rest) = behind(columns, b"device", Kind::Integer, false) else {
-        return false;
-    };
-    let Some(rest) = behind(rest, b"restart", Kind::Text, false) else {
-        return false;
-    };
-    let Some(rest) = behind(rest, b"revision", Kind::Integer, false) else {
-        return false;
-    };
-    let Some(rest) = behind(rest, b"stopped", Kind::Integer, true) else {
-        return false;
-    };
-    rest.is_empty()
-}
-
-fn are_last_columns(columns: &[Column]) -> bool
-    ensures { IsTrue result ↔ (columns.now ≡ column_of (codes "dadr") Kind.Text true
-        ∷ column_of (codes "instance") Kind.Integer true
-        ∷ column_of (codes "name") Kind.Text false
-        ∷ column_of (codes "device") Kind.Integer false
-        ∷ column_of (codes "restart") Kind.Text false
-        ∷ column_of (codes "revision") Kind.Integer false
-        ∷ column_of (codes "stopped") Kind.Integer true ∷ []) }
-{
-    let Some(rest) = behind(columns, b"dadr", Kind::Text, true) else {
-        return false;
-    };
-    let Some(rest) = behind(rest, b"instance", Kind::Integer, true) else {
-        return false;
-    };
-    let Some(rest) = behind(rest, b"name", Kind::Text, false) else {
-        return false;
-    };
-    are_told_columns(rest)
-}
-
-fn are_log_columns(columns: &[Column]) -> bool
-    ensures { IsTrue result ↔ (columns.now ≡ logs.columns) }
-{
-    let Some(rest) = behind(columns, b"id", Kind::Integer, false) else {
-        return false;
-    };
-    let Some(rest) = behind(rest, b"address", Kind::Text, true) else {
-        return false;
-    };
-    let Some(rest) = behind(rest, b"dnet", Kind::Integer, true) else {
-        return false;
-    };
-    are_last_columns(rest)
-}
-
-fn are_texts(stamp: &Column, datum: &Column, flags: &Column) -> bool
-    ensures { IsTrue result ↔ ((stamp.now ≡ column_of (codes "stamp") Kind.Text false)
-        × (datum.now ≡ column_of (codes "datum") Kind.Text false)
-        × (flags.now ≡ column_of (codes "flags") Kind.Text false)) }
-{
-    is_column(stamp, b"stamp", Kind::Text, false)
-        && is_column(datum, b"datum", Kind::Text, false)
-        && is_column(flags, b"flags", Kind::Text, false)
-}
-
-fn are_item_columns(columns: &[Column]) -> bool
-    ensures { IsTrue result ↔ (columns.now ≡ items.columns) }
-{
-    let [id, last, stamp, value, datum, flags] = columns else {
-        return false;
-    };
-    is_column(id, b"id", Kind::Integer, false)
-        && is_column(last, b"last", Kind::Integer, false)
-        && is_column(value, b"value", Kind::Real, false)
-        && are_texts(stamp, datum, flags)
-}
-
-fn are_beginning_columns(columns: &[Column]) -> bool
-    ensures { IsTrue result ↔ (columns.now ≡ beginnings.columns) }
-{
-    let [id, number] = columns else {
-        return false;
-    };
-    is_column(id, b"id", Kind::Integer, false) && is_column(number, b"number", Kind::Integer, true)
+    for place in 0..columns.len() {
+        let (name, kind, not_null) = wanted[place];
+        if !is_column(&columns[place], name.as_bytes(), kind, not_null) {
+            return false;
+        }
+    }
+    true
 }
 
 fn are_four(places: &[usize]) -> bool
@@ -233,7 +157,7 @@ fn is_archive_table(table: &Table) -> bool
     ensures { IsTrue result ↔ (table.now ≡ archive) }
 {
     is_plain(table, b"archive", 0)
-        && are_archive_columns(table.columns.as_slice())
+        && are_columns(table.columns.as_slice(), &VERSIONS)
         && table.uniques.is_empty()
         && table.orders.is_empty()
 }
@@ -242,7 +166,7 @@ fn is_log_table(table: &Table) -> bool
     ensures { IsTrue result ↔ (table.now ≡ record logs { tree = 1 }) }
 {
     is_plain(table, b"logs", 1)
-        && are_log_columns(table.columns.as_slice())
+        && are_columns(table.columns.as_slice(), &LOGS)
         && is_four(table.uniques.as_slice())
         && is_plain_order(table.orders.as_slice())
 }
@@ -251,7 +175,7 @@ fn is_first_log_table(table: &Table) -> bool
     ensures { IsTrue result ↔ (table.now ≡ record first_logs { tree = 1 }) }
 {
     is_plain(table, b"logs", 1)
-        && are_first_log_columns(table.columns.as_slice())
+        && are_columns(table.columns.as_slice(), &FIRST_LOGS)
         && is_four(table.uniques.as_slice())
         && is_plain_order(table.orders.as_slice())
 }
@@ -260,7 +184,7 @@ fn is_item_table(table: &Table) -> bool
     ensures { IsTrue result ↔ (table.now ≡ record items { tree = 3 }) }
 {
     is_plain(table, b"items", 3)
-        && are_item_columns(table.columns.as_slice())
+        && are_columns(table.columns.as_slice(), &ITEMS)
         && table.uniques.is_empty()
         && table.orders.is_empty()
 }
@@ -269,7 +193,7 @@ fn is_beginning_table(table: &Table) -> bool
     ensures { IsTrue result ↔ (table.now ≡ record beginnings { tree = 4 }) }
 {
     is_plain(table, b"beginnings", 4)
-        && are_beginning_columns(table.columns.as_slice())
+        && are_columns(table.columns.as_slice(), &BEGINNINGS)
         && table.uniques.is_empty()
         && table.orders.is_empty()
 }
