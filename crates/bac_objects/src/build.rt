@@ -279,17 +279,17 @@ fn note<'a>(
     ids.insert(id).is_ok() && names.insert(name).is_ok()
 }
 
-/// The first object line with a fault, found by tables of identifiers and names in which each line
-/// is looked up once; `None` if there is no memory for them.
-fn tabled_fault<'a>(
-    alloc: Global,
+/// The first object line with a fault, each line looked up once in tables of identifiers and names
+/// to which it is added; `None` if there is no memory for it.
+fn looked_up_fault<'a>(
     device: &DeviceLine,
     lines: &'a [ObjectLine],
+    ids: &mut IndexSet<ObjectId>,
+    names: &mut IndexSet<&'a str>,
 ) -> Option<Option<Faulty<'a>>>
-    ensures { IfSome result (IsFirstFaulty device.now lines.now) }
+    ensures { ids.old.keys ≡ [] → names.old.keys ≡ []
+        → IfSome result (IsFirstFaulty device.now lines.now) }
 {
-    let mut ids: IndexSet<ObjectId> = IndexSet::with_capacity(alloc, lines.len()).ok()?;
-    let mut names: IndexSet<&str> = IndexSet::with_capacity(alloc, lines.len()).ok()?;
     for place in 0..lines.len() {
         let line = &lines[place];
         let before = &lines[..place];
@@ -308,11 +308,25 @@ fn tabled_fault<'a>(
                 fault,
             }));
         }
-        if !note(&mut ids, &mut names, id, name) {
+        if !note(ids, names, id, name) {
             return None;
         }
     }
     Some(None)
+}
+
+/// The first object line with a fault, found by tables in which each line is looked up once;
+/// `None` if there is no memory for them.
+fn tabled_fault<'a>(
+    alloc: Global,
+    device: &DeviceLine,
+    lines: &'a [ObjectLine],
+) -> Option<Option<Faulty<'a>>>
+    ensures { IfSome result (IsFirstFaulty device.now lines.now) }
+{
+    let mut ids: IndexSet<ObjectId> = IndexSet::with_capacity(alloc, lines.len()).ok()?;
+    let mut names: IndexSet<&str> = IndexSet::with_capacity(alloc, lines.len()).ok()?;
+    looked_up_fault(device, lines, &mut ids, &mut names)
 }
 
 /// The first object line with a fault.
