@@ -13,7 +13,7 @@ ghost use Rattle.bac_apdu.specs.FormReading.{row_at, form_at};
 ghost use Rattle.bac_apdu.specs.FormCanon.{canon_form};
 
 use crate::parameters::Parameters;
-use crate::parameters_out::{add_close, add_open, add_value};
+use crate::parameters_out::add_between;
 use crate::reason::Reason;
 use bac_wire::{Datagram, Date4, Full, PrimitiveType, Time4, Value};
 
@@ -73,30 +73,32 @@ pub(crate) fn add_extent(out: &mut Datagram, extent: Extent) -> Result<(), Full>
 {
     match extent {
         Extent::All => Ok(()),
-        Extent::ByPosition { reference, count } => add_reference(out, 3, reference, count),
-        Extent::ByNumber { reference, count } => add_reference(out, 6, reference, count),
-        Extent::ByTime { date, time, count } => {
-            add_open(out, 7)?;
-            add_value(out, &Value::Date(date))?;
-            add_value(out, &Value::Time(time))?;
-            add_value(out, &Value::Signed(count as i64))?;
-            add_close(out, 7)?;
-            Ok(())
-        }
+        Extent::ByPosition { reference, count } => add_between(
+            out,
+            3,
+            &[
+                Value::Unsigned(reference as u64),
+                Value::Signed(count as i64),
+            ],
+        ),
+        Extent::ByNumber { reference, count } => add_between(
+            out,
+            6,
+            &[
+                Value::Unsigned(reference as u64),
+                Value::Signed(count as i64),
+            ],
+        ),
+        Extent::ByTime { date, time, count } => add_between(
+            out,
+            7,
+            &[
+                Value::Date(date),
+                Value::Time(time),
+                Value::Signed(count as i64),
+            ],
+        ),
     }
-}
-
-fn add_reference(out: &mut Datagram, tag: u8, reference: u32, count: i32) -> Result<(), Full>
-    requires { tag ≤ 254 }
-    ensures { Adds out.old (canon_form (by_reference tag)
-        (Mark tag ∷ ParameterValue (Unsigned reference) ∷ ParameterValue (Signed count)
-        ∷ Mark tag ∷ [])) result out.new }
-{
-    add_open(out, tag)?;
-    add_value(out, &Value::Unsigned(reference as u64))?;
-    add_value(out, &Value::Signed(count as i64))?;
-    add_close(out, tag)?;
-    Ok(())
 }
 
 impl<'a> Parameters<'a> {
