@@ -1,7 +1,6 @@
 //! Walks of trend logs, kept in an archive: each batch is one transaction.
 #![tactic(auto)]
 
-mod ahead;
 mod courses;
 mod datum;
 mod keep;
@@ -15,7 +14,6 @@ mod run;
 mod sink;
 mod texts;
 
-pub use ahead::{Ahead, NotSeen, look_ahead};
 pub use courses::{Course, Word, beginning_of, course_of};
 pub use keep::{Gathered, KeptStep, NotKept, gather, keep_gathered, keep_step};
 pub use laws::{
