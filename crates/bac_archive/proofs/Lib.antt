@@ -17,5 +17,6 @@ mod ChangeStatement
 pub mod ChangeLemmas
 pub mod CauseLemmas
 mod CreateLemmas
+mod PartCauseLemmas
 mod EndLemmas
 pub mod GroupLemmas

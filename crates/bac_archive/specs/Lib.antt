@@ -11,4 +11,5 @@ pub mod Parts
 pub mod Standing
 pub mod Causes
 pub mod OpenCauses
+pub mod PartCauses
 pub mod Group

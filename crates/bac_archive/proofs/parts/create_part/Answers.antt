@@ -1,11 +1,14 @@
-use Rattle.std.proofs.Common.{true, ◌≡◌, sym, refl, subst, arith, rules, IsTrue, OnOk, OnErr}
+use Rattle.std.proofs.Common.{true, ◌≡◌, inl, inr, sym, refl, subst, arith, rules, IsTrue, OnOk, OnErr}
 use Rattle.sqlite.specs.Tree.{Trees}
 use Rattle.sqlite.specs.Effect.{Database}
 use Rattle.sqlite.specs.State.{HasCleanDisk, Survives, KeepsCommit}
+use Rattle.sqlite.specs.Steps.{FailsToCommit}
+use Rattle.sqlite.specs.declared.error.Error.{Error}
 use Rattle.sqlite.specs.Held.{state}
 use Rattle.sqlite.proofs.Callers.{survives_begin}
 use Rattle.bac_archive.specs.Parts.{IsFilled, IsPart}
-use Rattle.bac_archive.proofs.EndLemmas.{all_there, none_there, put_well, there_or_not}
+use Rattle.bac_archive.proofs.EndLemmas.{all_there, none_there, not_there, put_well, there_or_not}
+use Rattle.bac_archive.specs.PartCauses.{FailsToFill, FailsToMakePart}
 use Rattle.bac_archive.proofs.parts.create_part.Goals as goal
 
 pub returns-clause-all : goal.returns-clause-all
@@ -53,3 +56,19 @@ returns-clause-crash g c =
     (there_or_not c.err.result (state g.S.Store old) (state g.S.Store mid) (state g.S.Store end) P
     (survives_begin g.S.Store old (state g.S.Store mid) _ (rw begun at c.fill-filled.ensures.crash)) c.finish.ensures.crash
     (λ early none. (_, there (put_well c.fill-filled.result c.err.result c.err.ensures.value _ (rw begun at (c.fill-filled.ensures.fills early (rw begun) (rw begun c.requires))) none), refl)))
+
+pub returns-clause-cause : goal.returns-clause-cause
+returns-clause-cause g c clean =
+    let old = c.args.conn.now in
+    let mid = c.fill-filled.new.tx.conn.now in
+    let end = c.finish.new.tx.0 in
+    let begun = c.transaction-tx.ensures.begun in
+    let same : end ≡ c.conn-1.given.0 = search rules in
+    let late : HasCleanDisk (state g.S.Store end) = subst (λ h. HasCleanDisk (state g.S.Store h)) (sym same) clean in
+    let early : HasCleanDisk (state g.S.Store mid) = omega (arith, late, c.finish.ensures.crash.clean) in
+    let put = rw begun at (c.fill-filled.ensures.fills early (rw begun) (rw begun c.requires)) in
+    let Gives = λ (e : Error). FailsToFill g.S.Store (record old { in_transaction = true }) mid c.args.all.now c.args.begun.now c.args.heads.now e in
+    not_there c.fill-filled.result c.err.result c.err.ensures.value c.finish.result Gives (FailsToCommit (state g.S.Store mid) (state g.S.Store end))
+    (FailsToMakePart g.S.Store c.args.all.now c.args.begun.now c.args.heads.now old) (c.finish.ensures.cause late)
+    (rw begun at (c.fill-filled.ensures.cause early (rw begun) (rw begun c.requires))) (λ e why. inr (inl (mid, why)))
+    (λ none e why. inr (inr (mid, end, put_well c.fill-filled.result c.err.result c.err.ensures.value _ put none, why)))

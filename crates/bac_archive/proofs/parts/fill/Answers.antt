@@ -1,9 +1,13 @@
-use Rattle.std.proofs.Common.{arith}
+use Rattle.std.proofs.Common.{arith, rules, inl, inr}
+use Rattle.std.proofs.lemmas.Result.{IfErr-weaker}
 use Rattle.sqlite.specs.State.{HasCleanDisk}
 use Rattle.sqlite.specs.Held.{state}
 use Rattle.sqlite.proofs.InsideLemmas.{keeps_then}
 use Rattle.bac_archive.proofs.AroundLemmas.{has_still, made_is}
 use Rattle.bac_archive.proofs.PartsLemmas.{filled, on_ok_then}
+use Rattle.bac_archive.proofs.RowsLemmas.{because}
+use Rattle.bac_archive.specs.PartCauses.{FailsToFill}
+use Rattle.bac_archive.specs.Rows.{GivesUp}
 use Rattle.sqlite.proofs.StateLemmas.{survives_then}
 use Rattle.bac_archive.proofs.parts.fill.Goals as goal
 
@@ -82,3 +86,40 @@ returns-clause-crash g c =
     (survives_then (state g.S.Store c.args.tx.now.conn.now) (state g.S.Store c.put_logs.new.tx.conn.now) (state g.S.Store c.put_beginnings.new.tx.conn.now) _ _ _ (λ _ db none. none) (λ _ db none. none)
     (survives_then (state g.S.Store c.args.tx.now.conn.now) (state g.S.Store c.lay_all.new.tx.conn.now) (state g.S.Store c.put_logs.new.tx.conn.now) _ _ _ (λ _ db none. none) (λ _ db none. none)
     c.lay_all.ensures.crash c.put_logs.ensures.crash) c.put_beginnings.ensures.crash) c.put_each.ensures.crash
+
+pub returns-in_err-put_logs-clause-cause : goal.returns-in_err-put_logs-clause-cause
+returns-in_err-put_logs-clause-cause g c clean inside none =
+    let one = c.lay_all.new.tx.conn.now in
+    let early : HasCleanDisk (state g.S.Store one) = omega (arith, clean, c.put_logs.ensures.crash.clean) in
+    let made = c.in_ok-lay_all.ensures.makes early inside none in
+    because c.from_residual-in_err-put_logs.result c.in_err-put_logs.field-0.0 _ (search rules)
+    (inr (one, made, inl (c.in_err-put_logs.ensures.cause clean made.mode (made_is _ made.made.schema))))
+
+pub returns-in_err-put_beginnings-clause-cause : goal.returns-in_err-put_beginnings-clause-cause
+returns-in_err-put_beginnings-clause-cause g c clean inside none =
+    let one = c.lay_all.new.tx.conn.now in
+    let two = c.put_logs.new.tx.conn.now in
+    let second : HasCleanDisk (state g.S.Store two) = omega (arith, clean, c.put_beginnings.ensures.crash.clean) in
+    let first : HasCleanDisk (state g.S.Store one) = omega (arith, second, c.put_logs.ensures.crash.clean) in
+    let made = c.in_ok-lay_all.ensures.makes first inside none in
+    let has = made_is _ made.made.schema in
+    let known = c.in_ok-put_logs.ensures.put second made.mode has in
+    because c.from_residual-in_err-put_beginnings.result c.in_err-put_beginnings.field-0.0 _ (search rules)
+    (inr (one, made, inr (two, known, inl (c.in_err-put_beginnings.ensures.cause clean known.mode (has_still _ _ has known.schema)))))
+
+pub returns-clause-cause : goal.returns-clause-cause
+returns-clause-cause g c clean inside none =
+    let one = c.lay_all.new.tx.conn.now in
+    let two = c.put_logs.new.tx.conn.now in
+    let three = c.put_beginnings.new.tx.conn.now in
+    let four = c.put_each.new.tx.conn.now in
+    let third : HasCleanDisk (state g.S.Store three) = omega (arith, clean, c.put_each.ensures.crash.clean) in
+    let second : HasCleanDisk (state g.S.Store two) = omega (arith, third, c.put_beginnings.ensures.crash.clean) in
+    let first : HasCleanDisk (state g.S.Store one) = omega (arith, second, c.put_logs.ensures.crash.clean) in
+    let made = c.in_ok-lay_all.ensures.makes first inside none in
+    let has = made_is _ made.made.schema in
+    let known = c.in_ok-put_logs.ensures.put second made.mode has in
+    let has_then = has_still _ _ has known.schema in
+    let begun = c.in_ok-put_beginnings.ensures.put third known.mode has_then in
+    IfErr-weaker c.put_each.result (GivesUp g.S.Store three four c.args.heads.now) (FailsToFill g.S.Store c.args.tx.now.conn.now four c.args.all.now c.args.begun.now c.args.heads.now)
+    (λ e why. inr (one, made, inr (two, known, inr (three, begun, why)))) (c.put_each.ensures.cause clean begun.mode (has_still _ _ has_then begun.schema))
