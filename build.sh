@@ -23,8 +23,15 @@ if [ "$jobs" -gt 1 ]; then
     trap - EXIT
 fi
 
-# The rest one job each. `rt all` takes the crate of this folder and all below it; `rt run` links what is proved.
+# The rest one job each: `rt all` takes the crate of this folder and all below it.
+(cd bac_ground && rt all check --jobs "$jobs")
+
+# The last ones stand one on the other: each has two jobs.
+for crate in bac_fetch bac_keeper bac_run; do
+    (cd "$crate" && rt lib --jobs $((jobs < 2 ? jobs : 2)))
+done
+
+# `rt run` links what is proved.
 cd bac
-rt all check --jobs "$jobs"
 rt run -- --version
 echo "crates/bac/out/bac: $(((SECONDS - begun + 59) / 60)) minutes"
