@@ -328,3 +328,27 @@ returns-in-Err-clause-foreign g c foreign some = elim (eq-zero-or-pos c.loop-don
       (ap Err is, same.2, it.1 ∙ same.0, it.2 ∙ same.1)
   | inr done ↦ absurd (foreign (c.loop-done.invariant.tested done))
 ]
+
+pub returns-in-Some-clause-foreign : goal.returns-in-Some-clause-foreign
+returns-in-Some-clause-foreign g c foreign some = absurd (elim (eq-zero-or-pos c.loop-done.done) [
+  | inl zero ↦ foreign (subst (λ (h : Held g.row.S.Denot). HasArchive (state g.S.Store h).now.schema) (c.loop-done.invariant.none zero).0 c.in-Ok.ensures.tested)
+  | inr done ↦ foreign (c.loop-done.invariant.tested done)
+])
+
+pub returns-clause-foreign : goal.returns-clause-foreign
+returns-clause-foreign g c foreign some = absurd (foreign (c.loop-done.invariant.tested (omega arith)))
+
+pub returns-in-Err-clause-committed : goal.returns-in-Err-clause-committed
+returns-in-Err-clause-committed g c clean is_open same =
+    let early : HasCleanDisk (state g.S.Store c.loop-done.conn) = omega (arith, clean, c.keep_next.ensures.crash.clean) in
+    let neither = c.in-Err.ensures.neither clean is_open in
+    neither.1 ∙ c.loop-done.invariant.committed early same ∙ sym neither.0
+
+pub returns-in-Some-clause-committed : goal.returns-in-Some-clause-committed
+returns-in-Some-clause-committed g c clean is_open same = (c.in-Ok.ensures.kept clean).0
+
+pub returns-in-Some-clause-done : goal.returns-in-Some-clause-done
+returns-in-Some-clause-done g c clean same = (c.in-Ok.ensures.kept clean).0
+
+pub returns-clause-done : goal.returns-clause-done
+returns-clause-done g c clean same = c.loop-done.invariant.committed clean same
