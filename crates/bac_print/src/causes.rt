@@ -1,11 +1,7 @@
 //! What the numbers of a refusal mean, by the standard's tables (clauses 18 and 21).
 
-ghost use Rattle.std.specs.Prelude.{◌≡◌, slice_index_or, []};
-ghost use Rattle.bac_print.specs.Causes.{abort_reasons, error_code_text, error_codes_0};
-ghost use Rattle.bac_print.specs.Causes.{error_codes_1, error_codes_2, error_codes_3};
-ghost use Rattle.bac_print.specs.Causes.{error_codes_4, error_codes_5, error_codes_6};
-ghost use Rattle.bac_print.specs.Causes.{error_codes_7, error_codes_8, error_codes_9};
-ghost use Rattle.bac_print.specs.Causes.{reject_reasons};
+ghost use Rattle.std.specs.Prelude.{◌≡◌, map, slice_index_or, []};
+ghost use Rattle.bac_print.specs.Causes.{abort_reasons, error_code_text, reject_reasons};
 
 /// The error codes from 0 to 13.
 const ERROR_CODES_0: [&str; 14] = [
@@ -216,101 +212,11 @@ const ABORT_REASONS: [&str; 12] = [
     "APDU too long",
 ];
 
-/// One of the error codes from 0 on.
-fn code_of_0(behind: u32) -> &'static str
-    ensures { result.now ≡ slice_index_or error_codes_0 behind [] }
+/// The name at a place of a table, and nothing behind its last.
+fn name_at(names: &[&'static str], place: u32) -> &'static str
+    ensures { result.now ≡ slice_index_or (map (λ name. name.now) names.now) place [] }
 {
-    match ERROR_CODES_0.get(behind as usize) {
-        Some(name) => name,
-        None => "",
-    }
-}
-
-/// One of the error codes from 14 on.
-fn code_of_1(behind: u32) -> &'static str
-    ensures { result.now ≡ slice_index_or error_codes_1 behind [] }
-{
-    match ERROR_CODES_1.get(behind as usize) {
-        Some(name) => name,
-        None => "",
-    }
-}
-
-/// One of the error codes from 28 on.
-fn code_of_2(behind: u32) -> &'static str
-    ensures { result.now ≡ slice_index_or error_codes_2 behind [] }
-{
-    match ERROR_CODES_2.get(behind as usize) {
-        Some(name) => name,
-        None => "",
-    }
-}
-
-/// One of the error codes from 42 on.
-fn code_of_3(behind: u32) -> &'static str
-    ensures { result.now ≡ slice_index_or error_codes_3 behind [] }
-{
-    match ERROR_CODES_3.get(behind as usize) {
-        Some(name) => name,
-        None => "",
-    }
-}
-
-/// One of the error codes from 56 on.
-fn code_of_4(behind: u32) -> &'static str
-    ensures { result.now ≡ slice_index_or error_codes_4 behind [] }
-{
-    match ERROR_CODES_4.get(behind as usize) {
-        Some(name) => name,
-        None => "",
-    }
-}
-
-/// One of the error codes from 70 on.
-fn code_of_5(behind: u32) -> &'static str
-    ensures { result.now ≡ slice_index_or error_codes_5 behind [] }
-{
-    match ERROR_CODES_5.get(behind as usize) {
-        Some(name) => name,
-        None => "",
-    }
-}
-
-/// One of the error codes from 84 on.
-fn code_of_6(behind: u32) -> &'static str
-    ensures { result.now ≡ slice_index_or error_codes_6 behind [] }
-{
-    match ERROR_CODES_6.get(behind as usize) {
-        Some(name) => name,
-        None => "",
-    }
-}
-
-/// One of the error codes from 98 on.
-fn code_of_7(behind: u32) -> &'static str
-    ensures { result.now ≡ slice_index_or error_codes_7 behind [] }
-{
-    match ERROR_CODES_7.get(behind as usize) {
-        Some(name) => name,
-        None => "",
-    }
-}
-
-/// One of the error codes from 112 on.
-fn code_of_8(behind: u32) -> &'static str
-    ensures { result.now ≡ slice_index_or error_codes_8 behind [] }
-{
-    match ERROR_CODES_8.get(behind as usize) {
-        Some(name) => name,
-        None => "",
-    }
-}
-
-/// One of the error codes from 126 on.
-fn code_of_9(behind: u32) -> &'static str
-    ensures { result.now ≡ slice_index_or error_codes_9 behind [] }
-{
-    match ERROR_CODES_9.get(behind as usize) {
+    match names.get(place as usize) {
         Some(name) => name,
         None => "",
     }
@@ -322,51 +228,45 @@ pub fn error_code_name(code: u32) -> &'static str
     ensures { result.now ≡ error_code_text code }
 {
     if code < 14 {
-        return code_of_0(code);
+        return name_at(&ERROR_CODES_0, code);
     }
     if code < 28 {
-        return code_of_1(code - 14);
+        return name_at(&ERROR_CODES_1, code - 14);
     }
     if code < 42 {
-        return code_of_2(code - 28);
+        return name_at(&ERROR_CODES_2, code - 28);
     }
     if code < 56 {
-        return code_of_3(code - 42);
+        return name_at(&ERROR_CODES_3, code - 42);
     }
     if code < 70 {
-        return code_of_4(code - 56);
+        return name_at(&ERROR_CODES_4, code - 56);
     }
     if code < 84 {
-        return code_of_5(code - 70);
+        return name_at(&ERROR_CODES_5, code - 70);
     }
     if code < 98 {
-        return code_of_6(code - 84);
+        return name_at(&ERROR_CODES_6, code - 84);
     }
     if code < 112 {
-        return code_of_7(code - 98);
+        return name_at(&ERROR_CODES_7, code - 98);
     }
     if code < 126 {
-        return code_of_8(code - 112);
+        return name_at(&ERROR_CODES_8, code - 112);
     }
-    code_of_9(code - 126)
+    name_at(&ERROR_CODES_9, code - 126)
 }
 
 /// What a reject reason means (clause 18.9).
 pub fn reject_reason_name(reason: u8) -> &'static str
     ensures { result.now ≡ slice_index_or reject_reasons reason [] }
 {
-    match REJECT_REASONS.get(reason as usize) {
-        Some(name) => name,
-        None => "",
-    }
+    name_at(&REJECT_REASONS, u32::from(reason))
 }
 
 /// What an abort reason means (clause 18.10).
 pub fn abort_reason_name(reason: u8) -> &'static str
     ensures { result.now ≡ slice_index_or abort_reasons reason [] }
 {
-    match ABORT_REASONS.get(reason as usize) {
-        Some(name) => name,
-        None => "",
-    }
+    name_at(&ABORT_REASONS, u32::from(reason))
 }

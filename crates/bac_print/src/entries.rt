@@ -3,10 +3,10 @@
 ghost use Rattle.std.specs.Prelude.{◌≡◌, ◌∷◌, [], ◌++◌, OnOk, codes, decimal};
 ghost use Rattle.std.specs.Int.{w32, to_be_bytes};
 ghost use Rattle.bac_print.specs.Numbers.{called, called_hex};
-ghost use Rattle.bac_print.specs.Entries.{datum_text, first_bits, entry_text, flags_text, gap_line};
+ghost use Rattle.bac_print.specs.Entries.{datum_text, first_bits, flags_text, gap_line};
 ghost use Rattle.bac_print.specs.Entries.{record_line};
 
-use crate::moments::{push_head, push_moment};
+use crate::moments::push_head;
 use crate::numbers::{
     bit_digit, push_called_bits, push_called_hex, push_called_number, push_called_two,
     push_counted, push_number, push_signed,
@@ -103,19 +103,6 @@ pub fn push_flags(text: &mut Vec<u8>, flags: Option<u8>) -> Result<(), AllocErro
         ]),
         None => text.extend_from_slice(b"-"),
     }
-}
-
-/// Appends a record: its date and time, what was logged, and its four status flags, or `-` if it
-/// has none.
-#[tactic(auto, unfolding(crate::specs::Entries::entry_text))]
-pub fn push_entry(text: &mut Vec<u8>, entry: &Entry) -> Result<(), AllocError>
-    ensures { OnOk result (text.new.items ≡ text.old.items ++ entry_text entry.now) }
-{
-    push_moment(text, entry.date, entry.time)?;
-    text.extend_from_slice(b" ")?;
-    push_datum(text, &entry.datum)?;
-    text.extend_from_slice(b" ")?;
-    push_flags(text, entry.flags)
 }
 
 /// Appends a blank, the status flags and a line feed.

@@ -18,7 +18,7 @@ mod values;
 
 pub use addresses::push_address;
 pub use causes::{abort_reason_name, error_code_name, reject_reason_name};
-pub use entries::{push_datum, push_entry, push_flags, push_gap, push_record};
+pub use entries::{push_datum, push_flags, push_gap, push_record};
 pub use moments::push_moment;
 pub use numbers::{push_hex, push_number, push_signed};
 pub use output::{WriteRefused, write_text};

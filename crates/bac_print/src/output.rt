@@ -8,7 +8,7 @@ ghost use Rattle.bac_print.specs.Output.{AppendsPart};
 use std::io::{ErrorKind, Result, Write};
 
 /// A write was refused.
-#[derive(Clone, Copy, Debug, PartialEq, Eq)]
+#[derive(Clone, Copy)]
 pub struct WriteRefused;
 
 /// One write. If a signal interrupts it, it is made again.
