@@ -6,7 +6,7 @@ ghost use Rattle.bac_desks.specs.Span.{AreOpenWithin};
 use crate::seat::Seat;
 
 /// The places from the first on, and before the one behind the last.
-#[derive(Clone, Copy, Debug, PartialEq, Eq)]
+#[derive(Clone, Copy)]
 pub struct Span {
     pub first: usize,
     pub behind: usize,
