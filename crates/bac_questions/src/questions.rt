@@ -39,7 +39,7 @@ pub(crate) fn read<L: LogLink>(
 }
 
 /// A count that a device tells: how many records a log has logged, or how often the device changed.
-#[derive(Clone, Copy, Debug, PartialEq, Eq)]
+#[derive(Clone, Copy, PartialEq, Eq)]
 pub enum Count {
     /// So many.
     Told(u32),

@@ -30,7 +30,7 @@ const DATABASE_REVISION: u32 = 155;
 const TIME_OF_DEVICE_RESTART: u32 = 203;
 
 /// What a device tells of its instance.
-#[derive(Clone, Copy, Debug, PartialEq, Eq)]
+#[derive(Clone, Copy)]
 pub enum Identity {
     /// This one.
     Told(u32),
