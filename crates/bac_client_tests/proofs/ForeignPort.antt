@@ -15,12 +15,17 @@ use Rattle.bac_link.specs.Path.{towards}
 use Rattle.bac_link.specs.declared.item.Item.{Item}
 use Rattle.bac_link.specs.declared.item.Item.TheVariants.{Gap, Logged}
 use Rattle.bac_link.specs.declared.link.Lost.{Lost}
+use Rattle.bac_link.specs.declared.transactions.Transactions.{Transactions}
 use Rattle.bac_ports.specs.Asking.{Asks, Awaits, IsTaken, fitting, fitting_of}
 use Rattle.bac_ports.specs.declared.port.Heard.{Heard}
 use Rattle.bac_ports.specs.declared.udp_link.UdpLink.{UdpLink}
-use Rattle.bac_query.specs.Fetching.{FetchesOver, Fetching}
+use Rattle.bac_query.specs.Ahead.{FetchesAhead}
+use Rattle.bac_query.specs.Fetching.{Fetching}
+use Rattle.bac_query.specs.declared.layout.Layout.TheVariants.{Lines}
 use Rattle.bac_query.specs.Reading.{Held}
+use Rattle.bac_walk.specs.Came.{Brought}
 use Rattle.bac_walk.specs.Delivers.{NoneFrom}
+use Rattle.bac_walk.specs.Transacted.{TransactedIsBrought}
 use Rattle.bac_walk.specs.Place.{WalkPlace, walk_at}
 use Rattle.bac_link.specs.Honest.{IsAskedIn, IsSaidOrLost, IsHonestWhere, asked_octets}
 use Rattle.bac_walk.specs.Honest.{IsHonestEnd, HonestIsDelivered}
@@ -190,29 +195,30 @@ none_left t k is small none =
 -- ---- what is printed
 
 pub prints_held : {S : Type 0} (asks : S → List ℕ → Result (List ℕ) Lost → S → Type 0) (moments : S → List Moment) (link left : S)
-    (way : Option Place) (retries : ℕ) (w : WalkPlace) (asked : Id) (steps : ℕ) (result : Fetching) (old new : Held) →
-    HonestIsDelivered asks (λ l M. moments l ≡ M) → ((low : ℕ) → IsHonestWhere asks (towards None) log 100 history low (λ l M. moments l ≡ M)) →
-    moments link ≡ held ∷ [] → way ≡ None → w ≡ walk_at asked 7 →
-    FetchesOver asks (towards way) retries link w steps result left old new →
+    (first last : Transactions) (w : WalkPlace) (asked : Id) (steps : ℕ) (result : Fetching) (old new : Held) →
+    HonestIsDelivered asks (λ l M. moments l ≡ M) → TransactedIsBrought asks → ((low : ℕ) → IsHonestWhere asks (towards None) log 100 history low (λ l M. moments l ≡ M)) →
+    moments link ≡ held ∷ [] → first.route ≡ None → w ≡ walk_at asked 7 →
+    FetchesAhead Lines asks first link w steps result last left old new →
     IfOk result (λ done. asked ≡ log → PrintsHeld done old new)
-prints_held asks moments link left way retries w asked steps (Err fault) old new law honest stands near from over = tt
-prints_held {S = S} asks moments link left way retries w asked steps (Ok done) old new law honest stands near from over = λ is.
-    let P : Option Place → WalkPlace → Type 0 = λ y v. FetchesOver asks (towards y) retries link v steps (Ok done) left old new in
-    let A : Option Place → Type 0 = λ y. P y (walk_at log 7) in
+prints_held asks moments link left first last w asked steps (Err fault) old new law plain honest stands near from over = tt
+prints_held {S = S} asks moments link left first last w asked steps (Ok done) old new law plain honest stands near from over = λ is.
+    let P : WalkPlace → Type 0 = λ v. FetchesAhead Lines asks first link v steps (Ok done) last left old new in
     let here : w ≡ walk_at log 7 = from ∙ ap (λ (i : Id). walk_at i 7) is in
-    let f : P None (walk_at log 7) = subst A near (subst (P way) here over) in
-    let d = law (towards None) retries link f.5 (walk_at log 7) f.4 f.2 f.0 f.1 f.3 history (held ∷ []) 7 7 (honest 7) stands f.6 refl (omega arith) tt
+    let f : P (walk_at log 7) = subst P here over in
+    let B : Option Place → Type 0 = λ y. Brought asks (towards y) first.retries link (walk_at log 7) f.2 f.0 f.1 f.3 f.4 f.6 in
+    let run : B None = subst B near (plain first f.5 link f.6 (walk_at log 7) f.4 f.2 f.0 f.1 f.3 f.7) in
+    let d = law (towards None) first.retries link f.6 (walk_at log 7) f.4 f.2 f.0 f.1 f.3 history (held ∷ []) 7 7 (honest 7) stands run refl (omega arith) tt
     (record { oldest = omega arith; newest = omega arith }, tt) (λ fresh. (omega arith, omega arith)) in
     let D : ℕ → Type 0 = λ x. DeliversTo history x f.1 d.0.1 (held ∷ []) (length f.0) in
     let part = all_of f.1 d.0.1 (length f.0) (subst D d.0.2 d.0.5) in (
       f.1,
       drop part.0 all_held,
       part.4,
-      omega (arith, f.7.0.1, d.0.3, part.1, part.2, part.3),
-      f.7.2,
+      omega (arith, f.8.0.1, d.0.3, part.1, part.2, part.3),
+      f.8.2,
       (λ up.
-          let caught = d.0.6 (ended_up done.why steps f.2 f.3 f.7.0.0 up) in
+          let caught = d.0.6 (ended_up done.why steps f.2 f.3 f.8.0.0 up) in
           let N : Moment → Type 0 = λ m. NoneFrom d.0.1 m in
           none_left d.0.1 part.0 part.1 part.2 (subst N (always_held caught.0) caught.3)),
-      λ e told. is_loss e (subst IsHonestEnd (ended_as done.why steps f.2 f.3 e f.7.0.0 told) d.3),
+      λ e told. is_loss e (subst IsHonestEnd (ended_as done.why steps f.2 f.3 e f.8.0.0 told) d.3),
     )

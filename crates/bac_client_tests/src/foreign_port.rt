@@ -8,8 +8,8 @@ ghost use Rattle.bac_client_tests.specs.ForeignPort.{IsBrought, IsPut, PrintsHel
 use crate::foreign_callers::{FROM_9, reply_to};
 use bac_link::Transactions;
 use bac_ports::{Heard, Port, SocketFault, UdpLink};
-use bac_query::{Fetched, QueryFault, fetch_log};
-use bac_walk::{Walk, Why, honest_is_delivered};
+use bac_query::{Fetched, Layout, QueryFault, fetch_log_ahead};
+use bac_walk::{Walk, Why, honest_is_delivered, transacted_is_brought};
 use bac_wire::{Datagram, ObjectId};
 use std::alloc::Global;
 use std::io::Write;
@@ -81,12 +81,21 @@ pub fn printed_of_another_device<W: Write>(
     ensures { IfSome result (λ fetched. IfOk fetched (λ done. log ≡ log_one →
         PrintsHeld done (W.contents out.old) (W.contents out.new))) }
 {
-    // For the prover alone: the law that the contract follows from.
+    // For the prover alone, both: the laws that the contract follows from.
     honest_is_delivered::<UdpLink<ForeignPort>>();
+    transacted_is_brought::<UdpLink<ForeignPort>>();
     let walk = Walk::from_number(log, 7)?;
     let mut transactions = Transactions::new(retries);
     let mut link = UdpLink::new(port, DEVICE);
-    Some(fetch_log(alloc, &mut link, &mut transactions, walk, steps, out))
+    Some(fetch_log_ahead(
+        alloc,
+        &mut link,
+        &mut transactions,
+        walk,
+        steps,
+        Layout::Lines,
+        out,
+    ))
 }
 
 const PRINTED: &[u8] = b"\
@@ -105,16 +114,18 @@ fn print_nine_steps(alloc: Global, out: &mut Vec<u8>) -> Option<Result<Fetched, 
     printed_of_another_device(alloc, port, log, 0, 9, out)
 }
 
+/// Whether fetching ended so, and no reply said that more is there.
+fn ended(fetched: Option<Result<Fetched, QueryFault>>, why: Why, next: u32) -> bool {
+    match fetched {
+        Some(Ok(fetched)) => fetched.why == why && fetched.next == next && !fetched.said_more,
+        _ => false,
+    }
+}
+
 #[test]
 fn another_device_is_printed(rt: HostRuntime) {
     let mut text = Vec::new(rt.alloc());
     let fetched = print_nine_steps(rt.alloc(), &mut text);
-    let wanted = Fetched {
-        why: Why::CaughtUp,
-        next: 11,
-        flaw: None,
-        said_more: false,
-    };
-    assert_eq!(rt; fetched, Some(Ok(wanted)));
-    assert_eq!(rt; text.as_slice(), PRINTED);
+    assert!(rt; ended(fetched, Why::CaughtUp, 11));
+    assert!(rt; text.as_slice() == PRINTED);
 }

@@ -1,6 +1,5 @@
 pub mod Lines
 pub mod Delivered
-pub mod CameOver
 pub mod JoinedBy
 pub mod Maps
 pub mod SaidMore

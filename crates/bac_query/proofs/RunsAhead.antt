@@ -4,9 +4,9 @@ use Rattle.std.proofs.KnownBytes.{Keeps-refl}
 use Rattle.bac_link.specs.Path.{Path, towards}
 use Rattle.bac_link.specs.declared.transactions.Transactions.{Transactions}
 use Rattle.bac_link.specs.declared.item.Item.{Item}
-use Rattle.bac_query.specs.Layouts.{AppendsItems, AppendsItemsPart}
+use Rattle.bac_query.specs.Layouts.{AppendsAll, AppendsItems, AppendsItemsPart}
 use Rattle.bac_query.specs.declared.layout.Layout.{Layout}
-use Rattle.bac_query.proofs.Laid.{laid_kept, laid_longer, laid_part, laid_then, part_ended}
+use Rattle.bac_query.proofs.Laid.{laid_end_part, laid_ended, laid_kept, laid_longer, laid_part, laid_then, part_ended}
 use Rattle.bac_link.specs.declared.link.Lost.{Lost as Loss}
 use Rattle.bac_walk.specs.Came.{Came, Brought}
 use Rattle.bac_walk.specs.Transacted.{BroughtIntoBy}
@@ -32,12 +32,11 @@ use Rattle.bac_query.proofs.Maps.{Maps, brought_keeps, brought_maps, told_maps}
 use Rattle.bac_query.proofs.SaidMore.{more_append, step_more, tells_alike}
 use Rattle.bac_query.proofs.Pending.{prints_goes, prints_itself}
 use Rattle.bac_query.specs.Ahead.{FetchesAhead, IsLeftAhead, IsRunOver, Pending, PrintsLast, PrintsLeft, PrintsOn, PrintsRun, never}
-use Rattle.bac_query.specs.Fetching.{EndsAs, Fetching, PrintsEnd, PrintsItems, TellsRun}
+use Rattle.bac_query.specs.Fetching.{EndsAs, Fetching, IsEnd, PrintsEnd, PrintsItems, TellsRun}
 use Rattle.bac_query.specs.More.{TellsMore, more_after, more_last}
 use Rattle.bac_query.specs.Reading.{Held}
 use Rattle.bac_query.specs.declared.fault.QueryFault.{QueryFault}
 use Rattle.bac_query.specs.declared.fault.QueryFault.TheVariants.{Exchange, Write, Memory}
-use Rattle.bac_query.proofs.CameOver.{tells_end}
 use Rattle.bac_query.proofs.Delivered.{not_stopped}
 
 -- ---- runs
@@ -90,7 +89,21 @@ over_early asks t z link new w after n steps xs ended was said other le (brought
 
 -- ---- what is told of them
 
-tells_items : (layout : Layout) (left : Why → Type 0) (items : List Item) (steps n : ℕ) (ended : Ended) (after : WalkPlace) (result : Fetching) (old new : Held) →
+-- the end line was that of the run, or a front part of it, or there was no memory for it
+tells_end : (layout : Layout) (left : Why → Type 0) (items : List Item) (steps n : ℕ) (ended : Ended) (after : WalkPlace) (cause : Why) (next : ℕ) (result : Fetching) (old mid new : Held) →
+    IsRunOf cause steps n ended → next ≡ after.next → left cause → AppendsItems layout items old mid → PrintsEnd layout cause next result mid new →
+    TellsRun layout left items steps n ended after result old new
+tells_end layout left items steps n ended after cause next (Ok done) old mid new run at here first (same, is, last) =
+    let P : Why → Type 0 = λ w. IsEnd steps n ended after w done.next × left w × AppendsAll layout items w done.next old new in
+    let Q : ℕ → Type 0 = λ k. IsEnd steps n ended after cause k × left cause × AppendsAll layout items cause k old new in
+    subst P (sym same) (subst Q (sym is) ((run, at), here, laid_ended layout items cause next old mid new first last))
+tells_end layout left items steps n ended after cause next (Err Write) old mid new run at here first part =
+    inr (cause, next, (run, at), here, laid_end_part layout items cause next old mid new first part)
+tells_end layout left items steps n ended after cause next (Err Memory) old mid new run at here first kept =
+    (cause, next, (run, at), here, laid_kept layout items old mid new first kept)
+tells_end layout left items steps n ended after cause next (Err (Exchange fault)) old mid new run at here first never = absurd never
+
+pub tells_items : (layout : Layout) (left : Why → Type 0) (items : List Item) (steps n : ℕ) (ended : Ended) (after : WalkPlace) (result : Fetching) (old new : Held) →
     TellsRun layout left items steps n ended after result old new → PrintsItems layout items result old new
 tells_items layout left items steps n ended after (Ok done) old new (is, here, all) = all
 tells_items layout left items steps n ended after (Err Write) old new (inl (le, here, part)) =

@@ -1,25 +1,20 @@
--- What fetching the records of a trend log prints, over any link and any writer.
+-- What fetching the records of a trend log prints, over any writer.
 use Rattle.std.specs.Prelude.{◌≡◌, ℕ, false, ◌+◌, ◌*◌, ◌<◌, ◌≤◌, ◌⊎◌, List, length, Result, Ok, Err}
 use Rattle.std.specs.Io.KnownBytes.{Keeps}
 use Rattle.bac_log.specs.TrendLog.{sequence_number}
 use Rattle.bac_link.specs.Delivery.{History, Moment, DeliversTo, Leads}
-use Rattle.bac_link.specs.Path.{Path}
 use Rattle.bac_link.specs.declared.item.Item.{Item}
-use Rattle.bac_link.specs.declared.link.Lost.{Lost}
-use Rattle.bac_link.specs.declared.transactions.Transactions.{Transactions}
 use Rattle.bac_query.specs.Layouts.{AppendsAll, AppendsAllPart, AppendsEnd, AppendsEndPart, AppendsItems}
 use Rattle.bac_query.specs.Layouts.{AppendsItemsPart}
 use Rattle.bac_link.specs.Moments.{NeverGoesBack}
-use Rattle.bac_walk.specs.Came.{Came, Brought, AreSaidAt, answers_of}
+use Rattle.bac_walk.specs.Came.{Came, AreSaidAt, answers_of}
 use Rattle.bac_walk.specs.Collects.{IsCaughtUp, start_of}
 use Rattle.bac_link.specs.Moments.{AreInWindow}
-use Rattle.bac_walk.specs.Near.{StaysNear}
 use Rattle.bac_walk.specs.Place.{WalkPlace}
 use Rattle.bac_walk.specs.Outcomes.{IsRunOf}
 use Rattle.bac_walk.specs.Sinks.{IsRun}
-use Rattle.bac_walk.specs.Transacted.{BroughtBy}
 use Rattle.bac_walk.specs.declared.outcome.Ended.{Ended}
-use Rattle.bac_walk.specs.declared.outcome.Ended.TheVariants.{CaughtUp, StepLimit, Stopped}
+use Rattle.bac_walk.specs.declared.outcome.Ended.TheVariants.{CaughtUp, StepLimit}
 use Rattle.bac_walk.specs.declared.outcome.Why.{Why}
 use Rattle.bac_walk.specs.declared.outcome.Why.TheVariants as why
 use Rattle.bac_query.specs.Reading.{Held}
@@ -27,7 +22,6 @@ use Rattle.bac_query.specs.declared.fault.QueryFault.{QueryFault}
 use Rattle.bac_query.specs.declared.fault.QueryFault.TheVariants.{Exchange, Write, Memory}
 use Rattle.bac_query.specs.declared.fetching.Fetched.{Fetched}
 use Rattle.bac_query.specs.declared.layout.Layout.{Layout}
-use Rattle.bac_query.specs.declared.layout.Layout.TheVariants.{Lines}
 
 -- what fetching answers
 abbrev pub Fetching : Type 0
@@ -48,19 +42,6 @@ PrintsItems layout items (Ok fetched) old new = AppendsAll layout items fetched.
 PrintsItems layout items (Err Write) old new = (why : Why) × (next : ℕ) × AppendsAllPart layout items why next old new
 PrintsItems layout items (Err Memory) old new = AppendsItems layout items old new
 PrintsItems layout items (Err (Exchange fault)) old new = ⊥
-
--- the number that comes next is that of an ordinal
-abbrev pub NextIs : Fetching → ℕ → Type 0
-NextIs (Ok fetched) t = fetched.next ≡ sequence_number t
-NextIs (Err fault) t = Unit {0}
-
--- over a link of ours the items of so many steps are the records that the log holds when each is reached, from the
--- walk's place up to the number that comes next
-abbrev pub Delivers : (ℕ → List Moment → History → Type 0) → WalkPlace → ℕ → List Item → Fetching → Type 0
-Delivers was walk steps items result =
-    (r : ℕ) (M : List Moment) (H : History) (s : ℕ) →
-    was r M H → walk.next ≡ sequence_number s → StaysNear r walk.count H M walk.fresh s steps →
-    (b : ℕ) × (a : ℕ) × (t : ℕ) × (walk.fresh ≡ false → b ≡ s) × NextIs result t × DeliversTo H b items t M a
 
 -- why the walk ended, and the number that comes next: those of a run of n steps that ended so and left the walk here
 abbrev pub IsEnd : ℕ → ℕ → Ended → WalkPlace → Why → ℕ → Type 0
@@ -88,17 +69,6 @@ IsFetched was retries old new before after n ended items =
     × (length items ≤ 101 * n) × (ended ≡ StepLimit → n ≤ length items)
 
 -- ---- what came over the link
-
--- The link after a run that left the walk here and ended for this. It is as the run left it; but if there was no memory
--- for the lines of a reply, that reply came too, and the link is one step further than the lines.
-abbrev pub IsLeft : {S : Type 0} → (S → List ℕ → Result (List ℕ) Lost → S → Type 0) →
-    Path → ℕ → S → WalkPlace → S → Why → Type 0
-IsLeft asks path retries mid here new why.CaughtUp = new ≡ mid
-IsLeft asks path retries mid here new why.StepLimit = new ≡ mid
-IsLeft asks path retries mid here new (why.Fault fault) = new ≡ mid
-IsLeft asks path retries mid here new why.Memory =
-    (came : List Came) × (items : List Item) × (after : WalkPlace)
-    × Brought asks path retries mid here 1 came items Stopped after new
 
 -- What is told and printed of a run of n steps with these items: their text and the end line, which says how that run
 -- ended. If a write was refused, it was that of the text of the items, or of the end line; if there was no memory for
@@ -128,37 +98,3 @@ IsHeadline walk came items ended after =
     (b : ℕ) × (t : ℕ) × (b ≡ start_of walk.fresh s M (answers_of came)) × (after.next ≡ sequence_number t)
     × ((u : ℕ) × Leads H M b (answers_of came) u)
     × DeliversTo H b items t M (length came) × (ended ≡ CaughtUp → IsCaughtUp walk.fresh t M (answers_of came))
-
--- Fetching from a place on, over any link: replies came, one after the other, from this link on; what is printed are
--- the lines of the items that they brought, and the end of their run; and if they say what one log holds, those are the
--- headline's.
-abbrev pub FetchesOver : {S : Type 0} → (S → List ℕ → Result (List ℕ) Lost → S → Type 0) →
-    Path → ℕ → S → WalkPlace → ℕ → Fetching → S → Held → Held → Type 0
-FetchesOver {S = S} asks path retries link walk steps result left old new =
-    (came : List Came) × (items : List Item) × (n : ℕ) × (ended : Ended) × (after : WalkPlace) × (mid : S)
-    × Brought asks path retries link walk n came items ended after mid
-    × TellsRun Lines (λ cause. IsLeft asks path retries mid after left cause) items steps n ended after result old new
-    × IsHeadline walk came items ended after
-
--- ---- by which transactions
-
--- The link and the transactions after a run that left the walk here and ended for this. They are as the run left them;
--- but if there was no memory for the lines of a reply, that reply came too, to the next of them, and they are one step
--- further than the lines.
-abbrev pub IsLeftBy : {S : Type 0} → (S → List ℕ → Result (List ℕ) Lost → S → Type 0) →
-    Transactions → S → WalkPlace → Transactions → S → Why → Type 0
-IsLeftBy asks half mid here last new why.CaughtUp = (new ≡ mid) × (last ≡ half)
-IsLeftBy asks half mid here last new why.StepLimit = (new ≡ mid) × (last ≡ half)
-IsLeftBy asks half mid here last new (why.Fault fault) = (new ≡ mid) × (last ≡ half)
-IsLeftBy asks half mid here last new why.Memory =
-    (came : List Came) × (items : List Item) × (after : WalkPlace)
-    × BroughtBy asks half mid here 1 came items Stopped after last new
-
--- The same of what is fetched by transactions: each reply came to the next of these, none of which is open after it.
-abbrev pub FetchesBy : {S : Type 0} → (S → List ℕ → Result (List ℕ) Lost → S → Type 0) →
-    Transactions → S → WalkPlace → ℕ → Fetching → Transactions → S → Held → Held → Type 0
-FetchesBy {S = S} asks first link walk steps result last left old new =
-    (came : List Came) × (items : List Item) × (n : ℕ) × (ended : Ended) × (after : WalkPlace)
-    × (half : Transactions) × (mid : S) × BroughtBy asks first link walk n came items ended after half mid
-    × TellsRun Lines (λ cause. IsLeftBy asks half mid after last left cause) items steps n ended after result old new
-    × IsHeadline walk came items ended after

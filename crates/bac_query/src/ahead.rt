@@ -13,7 +13,6 @@ use crate::fault::QueryFault;
 use crate::fetching::{Fetched, end};
 use crate::layout::{Layout, print_items};
 use crate::more::if_caught_up;
-use crate::record_lines::Lines;
 use bac_link::{Item, LogLink, Lost};
 use bac_ports::{Port, UdpLink};
 use bac_walk::{Gap, Numbered, ReplyFlaw, Sink, Why};
@@ -30,7 +29,7 @@ pub(crate) struct Ahead<'a, P, W> {
     /// The items whose lines are still to be printed.
     pub(crate) left: &'a mut Vec<Item>,
     /// Their text, or the end line.
-    lines: &'a mut Lines,
+    text: &'a mut Vec<u8>,
     /// How they are printed.
     layout: Layout,
     alloc: Global,
@@ -45,14 +44,14 @@ pub(crate) struct Ahead<'a, P, W> {
 }
 
 impl<'a, P: Port, W: Write> Ahead<'a, P, W> {
-    /// A link with these items still to print, and room for their lines.
+    /// A link with these items still to print, and room for their text.
     pub(crate) fn new(
         alloc: Global,
         layout: Layout,
         link: &'a mut UdpLink<P>,
         out: &'a mut W,
         left: &'a mut Vec<Item>,
-        lines: &'a mut Lines,
+        text: &'a mut Vec<u8>,
     ) -> Ahead<'a, P, W>
         ensures same_link { result.link.ghost_name ≡ link.entry.ghost_name }
         ensures same_out { result.out.ghost_name ≡ out.entry.ghost_name }
@@ -67,7 +66,7 @@ impl<'a, P: Port, W: Write> Ahead<'a, P, W> {
             link,
             out,
             left,
-            lines,
+            text,
             layout,
             alloc,
             is_refused: false,
@@ -108,7 +107,7 @@ impl<'a, P: Port, W: Write> Ahead<'a, P, W> {
         match print_items(
             self.alloc,
             self.layout,
-            &mut self.lines.text,
+            &mut *self.text,
             self.left.as_slice(),
             &mut *self.out,
         ) {
@@ -136,7 +135,7 @@ impl<'a, P: Port, W: Write> Ahead<'a, P, W> {
     {
         let said_more = if_caught_up(why, self.said_more);
         match self.layout {
-            Layout::Lines => end(&mut *self.lines, why, next, said_more, &mut *self.out),
+            Layout::Lines => end(&mut *self.text, why, next, said_more, &mut *self.out),
             Layout::Csv => Ok(Fetched {
                 why,
                 next,

@@ -14,7 +14,7 @@ use bac_ports::Heard;
 const ALL_NETWORKS: u16 = 0xffff;
 
 /// What a device says of itself, and where it is.
-#[derive(Clone, Copy, Debug, PartialEq, Eq)]
+#[derive(Clone, Copy)]
 pub(crate) struct Announcement<'a> {
     /// Four octets of IPv4 address and two of port, high octet first (Annex J.1.2): the device's,
     /// or that of the router which it is behind.

@@ -6,7 +6,7 @@ use bac_link::ExchangeFault;
 use std::alloc::AllocError;
 
 /// Why a query wasn't done.
-#[derive(Clone, Copy, Debug, PartialEq, Eq)]
+#[derive(Clone, Copy)]
 pub enum QueryFault {
     /// No ACK came that can be read.
     Exchange(ExchangeFault),

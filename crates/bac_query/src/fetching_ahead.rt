@@ -16,7 +16,6 @@ use crate::fault::QueryFault;
 use crate::fetching::Fetched;
 use crate::layout::Layout;
 use crate::more::more_last;
-use crate::record_lines::Lines;
 use bac_link::Transactions;
 use bac_ports::{Port, UdpLink};
 use bac_walk::{Ended, ReplyFlaw, Walk, WalkFault, Why, deliver};
@@ -24,13 +23,14 @@ use bac_wire::Datagram;
 use std::alloc::Global;
 use std::io::Write;
 
-/// What [`fetch_log`](crate::fetch_log) does, over a port: the lines of a reply are made and
-/// written once the next question is sent, while its answer is on its way. If a write is refused,
-/// the records of the reply after it have come too; if there is no memory for the lines of a reply,
-/// the next number is the one before it. Of a bad reply it tells what is wrong, and of a walk that
-/// is caught up whether the last reply with records said that more is there. As CSV there are rows
-/// in place of lines, and no line at the end; the row of names is
-/// [`begin_layout`](crate::begin_layout)'s.
+/// Walks a log over a port for at most so many steps, and prints a line for each record and each
+/// gap, those of a reply with one write; at the end the line that says why, and which number comes
+/// next. The lines of a reply are made and written once the next question is sent, while its answer
+/// is on its way. If a write is refused, the records of the reply after it have come too; if there
+/// is no memory for the lines of a reply, none of them is printed, and the next number is the one
+/// before it. Of a bad reply it tells what is wrong, and of a walk that is caught up whether the
+/// last reply with records said that more is there. As CSV there are rows in place of lines, and no
+/// line at the end; the row of names is [`begin_layout`](crate::begin_layout)'s.
 pub fn fetch_log_ahead<P: Port, W: Write>(
     alloc: Global,
     link: &mut UdpLink<P>,
@@ -57,10 +57,8 @@ pub fn fetch_log_ahead<P: Port, W: Write>(
         transactions.old.retries walk.log result link.new }
 {
     let mut left = Vec::new(alloc);
-    let mut lines = Lines {
-        text: Vec::new(alloc),
-    };
-    let mut ahead = Ahead::new(alloc, layout, link, out, &mut left, &mut lines);
+    let mut text = Vec::new(alloc);
+    let mut ahead = Ahead::new(alloc, layout, link, out, &mut left, &mut text);
     fetch_told(alloc, &mut ahead, transactions, walk, steps)
 }
 

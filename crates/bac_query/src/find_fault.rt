@@ -1,7 +1,7 @@
 //! Why finding devices ended without an answer.
 
 /// Why devices weren't found.
-#[derive(Clone, Copy, Debug, PartialEq, Eq)]
+#[derive(Clone, Copy)]
 pub enum FindFault {
     /// A receive failed.
     Socket,

@@ -1,7 +1,7 @@
 //! How REALs and Doubles are shown.
 
 /// How a REAL or a Double is shown.
-#[derive(Clone, Copy, Debug, PartialEq, Eq)]
+#[derive(Clone, Copy)]
 pub enum Reals {
     /// By its octets: `real(41c80000)`.
     Octets,

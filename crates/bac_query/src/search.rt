@@ -3,7 +3,7 @@
 use bac_apdu::WhoIs;
 
 /// The devices that are to answer.
-#[derive(Clone, Copy, Debug, PartialEq, Eq)]
+#[derive(Clone, Copy)]
 pub struct Search {
     /// Those of this network behind a router, 65535 being all networks; without one, those that a
     /// request reaches without a router.

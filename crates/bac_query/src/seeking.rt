@@ -10,7 +10,7 @@ use bac_ports::SocketFault;
 pub(crate) const MOST_PENDING: usize = 100;
 
 /// How far a search is.
-#[derive(Debug, Drop)]
+#[derive(Drop)]
 pub(crate) struct Seeking {
     /// The addresses that were asked and haven't answered, but for those that were given up.
     pub(crate) pending: ArrayVec<[u8; 6], MOST_PENDING>,

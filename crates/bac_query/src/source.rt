@@ -12,7 +12,7 @@ use bac_wire::{ObjectId, Reader, WireFault, as_enumerated, as_object, as_unsigne
 use std::alloc::AllocError;
 
 /// A property of an object.
-#[derive(Clone, Copy, Debug, PartialEq, Eq)]
+#[derive(Clone, Copy)]
 pub(crate) struct Source {
     pub(crate) object: ObjectId,
     pub(crate) property: u32,

@@ -1,4 +1,4 @@
--- What `fetch_log` says of the run that it fetched.
+-- What `fetch_log_ahead` says of the run that it fetched.
 use Rattle.std.proofs.Common.{◌≡◌, Bool, true, false, ℕ, List, Option, Ok, Err, IfErr, inl, inr, refl, sym, subst}
 use Rattle.bac_link.specs.Delivery.{History, Moment}
 use Rattle.bac_link.specs.Path.{Path, towards}

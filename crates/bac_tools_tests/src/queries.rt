@@ -1,13 +1,17 @@
-//! What a walk prints, and with how many writes, over a link that answers from a list. What each
-//! answer prints is in examples/check/*.talk, and writes that fail are in faults.py.
+//! What a walk prints, and with how many writes, over a port in memory. What each answer prints is
+//! in examples/check/*.talk, and writes that fail are in faults.py.
 
+use crate::memory_port::{Coming, MemoryPort};
 use bac_link::Transactions;
-use bac_query::{Fetched, QueryFault, fetch_log};
-use bac_scripted_link::ScriptedLink;
+use bac_ports::{Port, UdpLink};
+use bac_query::{Layout, fetch_log_ahead};
 use bac_walk::{Walk, Why};
 use bac_wire::ObjectId;
 use std::alloc::Global;
 use std::io::{self, Write};
+
+/// 10.0.0.1:47808.
+const DEVICE: [u8; 6] = [10, 0, 0, 1, 0xba, 0xc0];
 
 /// Takes what it is given, and counts the writes.
 #[derive(Drop)]
@@ -60,34 +64,38 @@ fn from_the_first() -> Option<Walk> {
     Walk::from_number(ObjectId::new(20, 1)?, 1)
 }
 
-/// Fetches over a link with these replies.
-fn fetch(alloc: Global, replies: &[&[u8]], out: &mut Paper) -> Option<Result<Fetched, QueryFault>> {
+/// Fetches over a port: why the walk ended, the number that comes next, and whether more is there.
+fn fetch<P: Port + Drop>(alloc: Global, port: P, out: &mut impl Write) -> Option<(Why, u32, bool)> {
     let walk = from_the_first()?;
-    let mut link = ScriptedLink::new(replies);
+    let mut link = UdpLink::new(port, DEVICE);
     let mut transactions = Transactions::new(0);
-    Some(fetch_log(alloc, &mut link, &mut transactions, walk, 10, out))
+    let layout = Layout::Lines;
+    match fetch_log_ahead(alloc, &mut link, &mut transactions, walk, 10, layout, out) {
+        Ok(fetched) => Some((fetched.why, fetched.next, fetched.said_more)),
+        Err(_) => None,
+    }
 }
 
 /// Fetches two replies with two records each, and then none: how the walk ends, whether all is
 /// printed, and with how many writes.
-fn fetch_four(alloc: Global) -> (Option<Result<Fetched, QueryFault>>, bool, u32) {
+fn fetch_four(alloc: Global) -> (Option<(Why, u32, bool)>, bool, u32) {
     let mut out = Paper {
         text: Vec::new(alloc),
         writes: 0,
     };
-    let replies: [&[u8]; 4] = [&two(1, 3), &two(2, 5), &empty(3), &empty(4)];
-    let fetched = fetch(alloc, &replies, &mut out);
+    let coming = [
+        Coming::From(DEVICE, &two(1, 3)),
+        Coming::From(DEVICE, &two(2, 5)),
+        Coming::From(DEVICE, &empty(3)),
+        Coming::From(DEVICE, &empty(4)),
+    ];
+    let fetched = fetch(alloc, MemoryPort::new(&coming), &mut out);
     (fetched, out.text.as_slice() == PRINTED, out.writes)
 }
 
 #[test]
 fn records_are_printed_a_reply_at_a_time(rt: HostRuntime) {
-    let fetched = Fetched {
-        why: Why::CaughtUp,
-        next: 7,
-        flaw: None,
-        said_more: false,
-    };
+    let fetched = (Why::CaughtUp, 7, false);
     // two replies with records, and the end
-    assert_eq!(rt; fetch_four(rt.alloc()), (Some(Ok(fetched)), true, 3));
+    assert_eq!(rt; fetch_four(rt.alloc()), (Some(fetched), true, 3));
 }

@@ -9,6 +9,7 @@ ghost use Rattle.bac_link.specs.Exchanges.{Unanswered};
 ghost use Rattle.bac_link.specs.Path.{towards};
 ghost use Rattle.bac_link.specs.Requests.{next_invoke, request_octets, IsSendable};
 ghost use Rattle.bac_link.specs.declared.item.Item.{Item};
+ghost use Rattle.bac_query.specs.Ahead.{port_asks};
 ghost use Rattle.bac_query.specs.Fetching.{PrintsItems};
 ghost use Rattle.bac_query.specs.declared.layout.Layout.TheVariants.{Lines};
 ghost use Rattle.bac_query.specs.Ends.{end_line};
@@ -17,41 +18,50 @@ ghost use Rattle.bac_link.specs.Moments.{NeverGoesBack};
 ghost use Rattle.bac_link.specs.Honest.{IsHonest};
 ghost use Rattle.bac_walk.specs.declared.outcome.WalkFault.{WalkFault as WalkFaultOf};
 ghost use Rattle.bac_walk.specs.declared.outcome.WalkFault.TheVariants.{Lost as Loss};
+ghost use Rattle.bac_walk.specs.Came.{Came, answers_of};
 ghost use Rattle.bac_walk.specs.Collects.{start_of};
 ghost use Rattle.bac_link.specs.Moments.{AreInWindow};
 
 use bac_link::{ExchangeFault, LogLink, Request, Transactions};
-use bac_query::{Fetched, QueryFault, fetch_log, write_property};
-use bac_walk::{
-    Walk, Why, collected_is_delivered, honest_is_delivered, links_are_honest, windows_are_near,
-};
+use bac_ports::{Port, UdpLink};
+use bac_query::{Fetched, Layout, QueryFault, fetch_log_ahead, write_property};
+use bac_walk::{Walk, Why, honest_is_delivered, links_are_honest, transacted_is_brought};
 use bac_wire::ObjectId;
 use std::alloc::Global;
 use std::io::Write;
 
-/// Over a link of ours, what is fetched from the oldest record on begins at the oldest record that
-/// the log holds when the first reply with records is given: none of those is left out.
-pub fn fetched_from_the_oldest<L: LogLink, W: Write>(
+/// Over a port that is honest for a log, what is fetched from the oldest record on begins at the
+/// oldest record that the log holds when the first reply with records is given: none of those is
+/// left out.
+pub fn fetched_from_the_oldest<P: Port, W: Write>(
     alloc: Global,
-    link: &mut L,
+    link: &mut UdpLink<P>,
     log: ObjectId,
     steps: u32,
     out: &mut W,
 ) -> Option<Result<Fetched, QueryFault>>
-    ensures { IfSome result (λ fetched. (r : ℕ) (M : List Moment) (H : History) (low : ℕ) →
-        L.is_ours link.old log r M H → AreInWindow low M →
-        (items : List Item) × (answers : List (List Item)) × (t : ℕ)
+    ensures { IfSome result (λ fetched. (M : List Moment) (H : History) (low : ℕ)
+        → IsHonest (port_asks P.sends P.receives) (towards None) log 100 H low link.old M
+        → 0 < length M → NeverGoesBack M → AreInWindow low M
+        → (came : List Came) × (items : List Item) × (t : ℕ)
         × PrintsItems Lines items fetched (W.contents out.old) (W.contents out.new)
-        × DeliversTo H (start_of true 1 M answers) items t M (length answers)) }
+        × DeliversTo H (start_of true 1 M (answers_of came)) items t M (length came)) }
 {
-    // For the prover alone: laws that the contract follows from.
-    windows_are_near();
-    collected_is_delivered();
-    let Some(walk) = Walk::oldest(log) else {
-        return None;
-    };
+    // For the prover alone, all three: laws that the contract follows from.
+    honest_is_delivered::<UdpLink<P>>();
+    links_are_honest::<UdpLink<P>>();
+    transacted_is_brought::<UdpLink<P>>();
+    let walk = Walk::oldest(log)?;
     let mut transactions = Transactions::new(3);
-    Some(fetch_log(alloc, link, &mut transactions, walk, steps, out))
+    Some(fetch_log_ahead(
+        alloc,
+        link,
+        &mut transactions,
+        walk,
+        steps,
+        Layout::Lines,
+        out,
+    ))
 }
 
 /// Over any link, a write that ends as lost was asked once, and as often again as the retries say:
@@ -71,13 +81,13 @@ pub fn written_until_lost<L: LogLink, W: Write>(
     write_property(link, transactions, asked, out)
 }
 
-/// Over a link that is honest for a log, whatever records it holds: what is printed from
+/// Over a port that is honest for a log, whatever records it holds: what is printed from
 /// number s on, if no write was refused, are the lines of the records that the log holds when each
 /// is reached, each once, in rising order, with the gaps before them, and the end line; and the
 /// only fault that it tells is a loss.
-pub fn printed_by_the_standard<L: LogLink, W: Write>(
+pub fn printed_by_the_standard<P: Port, W: Write>(
     alloc: Global,
-    link: &mut L,
+    link: &mut UdpLink<P>,
     log: ObjectId,
     s: u32,
     steps: u32,
@@ -85,18 +95,27 @@ pub fn printed_by_the_standard<L: LogLink, W: Write>(
 ) -> Option<Result<Fetched, QueryFault>>
     ensures { IfSome result (λ fetched. IfOk fetched
         (λ done. (M : List Moment) (H : History) (k low : ℕ)
-        → IsHonest L.asks (towards None) log 100 H low link.old M → s ≡ sequence_number k
-        → 0 < length M → NeverGoesBack M → AreInWindow low M → low ≤ k
-        → k < low + 2147483648 → (items : List Item) × (a : ℕ) × (t : ℕ)
+        → IsHonest (port_asks P.sends P.receives) (towards None) log 100 H low link.old M
+        → s ≡ sequence_number k → 0 < length M → NeverGoesBack M → AreInWindow low M
+        → low ≤ k → k < low + 2147483648 → (items : List Item) × (a : ℕ) × (t : ℕ)
         × (done.next ≡ sequence_number t) × DeliversTo H k items t M a
         × Appends (W.contents out.old) (W.contents out.new)
         (items_text items ++ end_line done.why done.next)
         × ((e : WalkFaultOf) → done.why ≡ Why.Fault e → e ≡ Loss))) }
 {
-    // For the prover alone, both: laws that the contract follows from.
-    honest_is_delivered::<L>();
-    links_are_honest::<L>();
+    // For the prover alone, all three: laws that the contract follows from.
+    honest_is_delivered::<UdpLink<P>>();
+    links_are_honest::<UdpLink<P>>();
+    transacted_is_brought::<UdpLink<P>>();
     let walk = Walk::from_number(log, s)?;
     let mut transactions = Transactions::new(3);
-    Some(fetch_log(alloc, link, &mut transactions, walk, steps, out))
+    Some(fetch_log_ahead(
+        alloc,
+        link,
+        &mut transactions,
+        walk,
+        steps,
+        Layout::Lines,
+        out,
+    ))
 }
