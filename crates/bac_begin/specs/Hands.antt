@@ -4,6 +4,7 @@ use Rattle.std.specs.Prelude.{Result, Ok, Err}
 use Rattle.sqlite_value.specs.Order.{Row as Values}
 use Rattle.bac_wire.specs.Primitive.{Id}
 use Rattle.bac_link.specs.declared.item.Item.{Item}
+use Rattle.bac_link.specs.declared.item.Item.TheVariants.{Gap}
 use Rattle.bac_link.specs.declared.link.Lost.{Lost as Loss}
 use Rattle.bac_link.specs.Path.{Path}
 use Rattle.bac_walk.specs.Came.{Brought, Came}
@@ -14,9 +15,8 @@ use Rattle.bac_walk.specs.declared.outcome.Ended.TheVariants.{CaughtUp, StepLimi
 use Rattle.bac_walk.specs.declared.outcome.WalkFault.TheVariants as walk
 use Rattle.bac_walk.specs.declared.outcome.Why.TheVariants as why
 use Rattle.bac_archive.specs.Rows.{stored}
-use Rattle.bac_archive.specs.declared.row.Row.{Row}
 use Rattle.bac_keep.specs.Came.{GathersOver}
-use Rattle.bac_keep.specs.Items.{era, kept_rows}
+use Rattle.bac_keep.specs.Items.{era, kept_row, kept_rows}
 use Rattle.bac_keep.specs.Questions.{GathersAnswer, RefusesAnswer}
 use Rattle.bac_keep.specs.Rising.{IsCause}
 use Rattle.bac_keep.specs.declared.keep.Gathered.{Gathered}
@@ -25,6 +25,7 @@ use Rattle.bac_keep.specs.declared.sink.Refusal.{Refusal}
 use Rattle.bac_keep.specs.declared.sink.Refusal.TheVariants as refusal
 use Rattle.bac_asked.specs.declared.end.Ending.{Ending}
 use Rattle.bac_asked.specs.declared.end.Ending.TheVariants.{Walk, Back, Epochs}
+use Rattle.bac_begin.specs.declared.either.Span.{Span}
 use Rattle.bac_begin.specs.declared.hands.Hand.{Hand}
 
 -- Rows from a place on are those of items that cover each number from that of a walk on up to that where it goes on, or
@@ -164,7 +165,11 @@ LooksAhead {S = S} asks path retries place free link before steps ahead left =
     ⊎ ((hand : Hand) × (mid : S) × TakesAnswer asks path retries place free link before (Ok hand) mid
     × GoesAhead asks path retries mid hand steps hand.gathered.step.ended ahead left)
 
--- the row of one that there may be
-abbrev pub stored_in : Option Row → List Values
-stored_in None = []
-stored_in (Some row) = stored row ∷ []
+-- the row of a gap over numbers that are missing
+abbrev pub row_of_span : Span → Values
+row_of_span span = kept_row (era span.place) (Gap span.first (span.last + 1))
+
+-- the same, if some are
+abbrev pub rows_of_span : Option Span → List Values
+rows_of_span None = []
+rows_of_span (Some span) = row_of_span span ∷ []

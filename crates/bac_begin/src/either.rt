@@ -5,12 +5,11 @@ ghost use Rattle.std.specs.Prelude.{OnOk, IfErr};
 ghost use Rattle.bac_archive.specs.Rows.{stored};
 ghost use Rattle.bac_link.specs.Path.{towards};
 ghost use Rattle.bac_link.specs.declared.item.Item.{Item};
-ghost use Rattle.bac_link.specs.declared.item.Item.TheVariants.{Gap as GapOf};
 ghost use Rattle.bac_keep.specs.declared.place.Place.{Place as PlaceOf};
-ghost use Rattle.bac_keep.specs.Items.{era, era_after, kept_row, kept_rows};
+ghost use Rattle.bac_keep.specs.Items.{era, era_after, kept_rows};
 ghost use Rattle.bac_keep.specs.Runs.{gaps_among};
 ghost use Rattle.bac_asked.specs.Faults.{WantsMemory};
-ghost use Rattle.bac_begin.specs.Hands.{stored_in};
+ghost use Rattle.bac_begin.specs.Hands.{row_of_span, rows_of_span};
 ghost use Rattle.bac_begin.specs.Starts.{IsEither, OpensBehind, gap_up_to};
 
 use crate::hands::{Hand, take_step_at};
@@ -27,22 +26,30 @@ use std::alloc::Global;
 /// The last sequence number; behind it comes 1, in the next epoch.
 const LAST: u32 = 4_294_967_295;
 
-/// The rows of a gap that ends an epoch, at most two, and where the next one begins.
-#[derive(Drop)]
+/// Numbers that are missing in an epoch, from the first to the last.
+#[derive(Clone, Copy)]
+struct Span {
+    place: Place,
+    first: u32,
+    last: u32,
+}
+
+/// A gap that ends an epoch, in at most two epochs, and where the next one begins.
+#[derive(Clone, Copy)]
 struct Missing {
-    first: Option<Row>,
-    second: Option<Row>,
+    first: Option<Span>,
+    second: Option<Span>,
     gaps: u64,
     place: Place,
 }
 
-/// The row of a gap, from one number up to another.
-fn row_of_gap(place: Place, first: u32, last: u32) -> Row
-    ensures { stored result ≡ kept_row (era place) (GapOf first (last + 1)) }
+/// The row of a gap over these numbers.
+fn row_of_gap(span: Span) -> Row
+    ensures { stored result ≡ row_of_span span }
 {
     Row {
-        id: place.key(first),
-        last: Some(last),
+        id: span.place.key(span.first),
+        last: Some(span.last),
         stamp: None,
         value: None,
         datum: None,
@@ -52,7 +59,7 @@ fn row_of_gap(place: Place, first: u32, last: u32) -> Row
 
 /// The gap from a number up to another, which ends an epoch, if there is one behind it.
 fn missing_up_to(from: Place, next: u32, oldest: u32) -> Option<Missing>
-    ensures rows { IfSome result (λ it. stored_in it.first ++ stored_in it.second
+    ensures rows { IfSome result (λ it. rows_of_span it.first ++ rows_of_span it.second
         ≡ kept_rows (era from) (gap_up_to next oldest)) }
     ensures gaps { IfSome result (λ it. it.gaps ≡ gaps_among (gap_up_to next oldest)) }
     ensures log { IfSome result (λ it. it.place.log ≡ from.log) }
@@ -71,7 +78,11 @@ fn missing_up_to(from: Place, next: u32, oldest: u32) -> Option<Missing>
     }
     if next < oldest {
         return Some(Missing {
-            first: Some(row_of_gap(from, next, oldest - 1)),
+            first: Some(Span {
+                place: from,
+                first: next,
+                last: oldest - 1,
+            }),
             second: None,
             gaps: 1,
             place: from.next()?,
@@ -81,75 +92,61 @@ fn missing_up_to(from: Place, next: u32, oldest: u32) -> Option<Missing>
     let second = if oldest <= 1 {
         None
     } else {
-        Some(row_of_gap(round, 1, oldest - 1))
+        Some(Span {
+            place: round,
+            first: 1,
+            last: oldest - 1,
+        })
     };
     Some(Missing {
-        first: Some(row_of_gap(from, next, LAST)),
+        first: Some(Span {
+            place: from,
+            first: next,
+            last: LAST,
+        }),
         second,
         gaps: 1,
         place: round.next()?,
     })
 }
 
-/// Puts a row before others, if there is one.
-fn put_first(rows: &mut Vec<Row>, row: Option<Row>) -> Result<(), NotDone>
+/// Puts the row of a gap before others, if there is one.
+fn put_first(rows: &mut Vec<Row>, span: Option<Span>) -> Result<(), NotDone>
     ensures put { OnOk result
-        (map stored rows.new.items ≡ stored_in row ++ map stored rows.old.items) }
+        (map stored rows.new.items ≡ rows_of_span span ++ map stored rows.old.items) }
     ensures fault { IfErr result WantsMemory }
 {
-    let Some(row) = row else {
+    let Some(span) = span else {
         return Ok(());
     };
-    match rows.insert(0, row) {
+    match rows.insert(0, row_of_gap(span)) {
         Ok(()) => Ok(()),
         Err(_) => Err(NotDone::Asking(Fault::Memory)),
     }
 }
 
 /// Puts the rows of a gap before what is in hand.
-fn put_gap(hand: Hand, first: Option<Row>, second: Option<Row>, more: u64) -> Result<Hand, NotDone>
+fn put_gap(hand: Hand, missing: Missing) -> Result<Hand, NotDone>
     ensures rows { IfOk result (λ it. map stored it.gathered.rows.items
-        ≡ (stored_in first ++ stored_in second) ++ map stored hand.gathered.rows.items) }
+        ≡ (rows_of_span missing.first ++ rows_of_span missing.second)
+        ++ map stored hand.gathered.rows.items) }
     ensures records { IfOk result (λ it. it.gathered.step.records ≡ hand.gathered.step.records) }
-    ensures gaps { IfOk result (λ it. it.gathered.step.gaps ≡ more + hand.gathered.step.gaps) }
+    ensures gaps { IfOk result
+        (λ it. it.gathered.step.gaps ≡ missing.gaps + hand.gathered.step.gaps) }
     ensures ended { IfOk result (λ it. it.gathered.step.ended ≡ hand.gathered.step.ended) }
     ensures place { IfOk result (λ it. (it.gathered.place ≡ hand.gathered.place)
         × (it.gathered.free ≡ hand.gathered.free) × (it.walk ≡ hand.walk)
         × (it.took ≡ hand.took)) }
     ensures fault { IfErr result WantsMemory }
 {
-    let Hand {
-        gathered,
-        walk,
-        took,
-    } = hand;
-    let Gathered {
-        mut rows,
-        step,
-        place,
-        free,
-    } = gathered;
-    let Some(gaps) = step.gaps.checked_add(more) else {
+    let mut hand = hand;
+    let Some(gaps) = hand.gathered.step.gaps.checked_add(missing.gaps) else {
         return Err(NotDone::Asking(Fault::Memory));
     };
-    put_first(&mut rows, second)?;
-    put_first(&mut rows, first)?;
-    let step = KeptStep {
-        records: step.records,
-        gaps,
-        ended: step.ended,
-    };
-    let gathered = Gathered {
-        rows,
-        step,
-        place,
-        free,
-    };
-    Ok(Hand {
-        gathered,
-        walk,
-        took,
-    })
+    hand.gathered.step.gaps = gaps;
+    put_first(&mut hand.gathered.rows, missing.second)?;
+    put_first(&mut hand.gathered.rows, missing.first)?;
+    Ok(hand)
 }
 
 /// A run begins with a gap and what came to its first step, unless that brought no record.
@@ -159,7 +156,7 @@ fn open_behind(
     next: u32,
 ) -> Result<Result<Start, End>, NotDone>
     ensures opened { (from : PlaceOf) (gap : List Item)
-        → stored_in missing.first ++ stored_in missing.second ≡ kept_rows (era from) gap
+        → rows_of_span missing.first ++ rows_of_span missing.second ≡ kept_rows (era from) gap
         → missing.gaps ≡ gaps_among gap → IfOk result (OpensBehind from gap hand next) }
     ensures fault { IfErr result WantsMemory }
 {
@@ -170,14 +167,8 @@ fn open_behind(
     if hand.gathered.step.records == 0 {
         return Ok(Err(none_kept(Ending::Walk(Why::CaughtUp), next)));
     }
-    let Missing {
-        first,
-        second,
-        gaps,
-        place: _place,
-    } = missing;
     Ok(Ok(Start {
-        hand: put_gap(hand, first, second, gaps)?,
+        hand: put_gap(hand, missing)?,
         began: Began::Either,
         begins_at: None,
     }))
