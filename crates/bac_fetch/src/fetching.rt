@@ -108,54 +108,6 @@ fn keep_hand<A: Alter>(conn: &mut Connection<A>, gathered: Gathered) -> Result<(
     put(conn, gathered.rows.as_slice())
 }
 
-/// Keeps what a walk brings from there on, behind a first step, each reply in a transaction.
-fn keep_behind<L: LogLink, A: Alter, P: Progress>(
-    alloc: Global,
-    link: &mut L,
-    transactions: &mut Transactions,
-    conn: &mut Connection<A>,
-    walk: Walk,
-    place: Place,
-    free: u64,
-    step: KeptStep,
-    began: Began,
-    steps: u32,
-    progress: &mut P,
-) -> Result<End, NotDone>
-    ensures kept { OverArchive (state A.Store conn.old) (state A.Store conn.new)
-        (IfOk result (KeepsFrom place walk step began (state A.Store conn.old).now
-        (state A.Store conn.new).now)) }
-    // In replies that came over the link.
-    ensures came { OverArchive (state A.Store conn.old) (state A.Store conn.new)
-        (IfOk result (ComesFrom L.asks (towards transactions.old.route) transactions.old.retries
-        link.old link.new place walk step steps (state A.Store conn.old).now
-        (state A.Store conn.new).now)) }
-    // Whatever comes of it, what a crash leaves then, or at any moment before, has all that was
-    // there, and the same logs.
-    ensures stays { OverArchive (state A.Store conn.old) (state A.Store conn.new)
-        (Survives (state A.Store conn.old) (state A.Store conn.new)
-        (HasSameLogs (state A.Store conn.old).now.trees)) }
-    ensures clean { HasCleanDisk (state A.Store conn.new) → HasCleanDisk (state A.Store conn.old) }
-    ensures fault { IfErr result EndsLog }
-    ensures caused { OverArchive (state A.Store conn.old) (state A.Store conn.new)
-        (IfErr result FailsOnRows) }
-{
-    let mut behind = Ahead::new(progress, step.records);
-    let run = keep_log(
-        alloc,
-        link,
-        transactions,
-        walk,
-        conn,
-        place,
-        free,
-        steps,
-        &mut behind,
-    );
-    look_at(conn, place.log, &run.end)?;
-    end_of(run, step, began)
-}
-
 /// Keeps what a walk brings from there on, behind a first step: the group is committed with that
 /// step, and each reply behind it is a transaction of its own.
 fn keep_on<L: LogLink, A: Alter, P: Progress>(
@@ -191,19 +143,20 @@ fn keep_on<L: LogLink, A: Alter, P: Progress>(
 {
     commit(conn)?;
     progress.kept(step.records);
-    keep_behind(
+    let mut behind = Ahead::new(progress, step.records);
+    let run = keep_log(
         alloc,
         link,
         transactions,
-        conn,
         walk,
+        conn,
         place,
         free,
-        step,
-        began,
         steps,
-        progress,
-    )
+        &mut behind,
+    );
+    look_at(conn, place.log, &run.end)?;
+    end_of(run, step, began)
 }
 
 /// Keeps what a log has from a start on: what is in hand, and what comes behind it in the steps

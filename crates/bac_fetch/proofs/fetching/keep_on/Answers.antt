@@ -1,48 +1,118 @@
-use Rattle.std.proofs.Common.{◌≡◌, IfOk, subst, sym}
+use Rattle.std.proofs.Common.{◌≡◌, arith, refl, rules, subst, sym, ◌∙◌}
+use Rattle.std.proofs.lemmas.Result.{IfOk-weaker}
 use Rattle.sqlite.specs.Effect.{Database}
 use Rattle.sqlite.specs.State.{HasCleanDisk}
 use Rattle.sqlite.specs.Held.{state}
 use Rattle.bac_archive.specs.Schema.{HasArchive}
+use Rattle.bac_archive.proofs.RowsLemmas.{because}
 use Rattle.bac_link.specs.Path.{towards}
-use Rattle.bac_fetch.specs.Fetched.{ComesFrom}
+use Rattle.bac_keep.specs.declared.keep.NotKept.TheVariants.{NoArchive}
+use Rattle.bac_fetch.specs.Fetched.{ComesFrom, IsEndingOf, IsLeftBy, IsRunTo}
 use Rattle.bac_fetch.specs.Keeps.{KeepsFrom}
 use Rattle.bac_fetch.specs.Stays.{HasSameLogs}
+use Rattle.bac_fetch.proofs.CausesLemmas.{never}
+use Rattle.bac_fetch.proofs.EndsLemmas.{before_left, before_steps, comes_from, either_way, keeps_from}
 use Rattle.bac_fetch.proofs.GroupLemmas.{commit_leaves}
-use Rattle.bac_fetch.proofs.SameLemmas.{same_itself, same_stays_then}
+use Rattle.bac_fetch.proofs.SameLemmas.{adds_same, same_itself, same_quiet_last, same_stays_then, survives_as}
 use Rattle.bac_fetch.proofs.fetching.keep_on.Goals as goal
 
 pub returns-clause-kept : goal.returns-clause-kept
 returns-clause-kept g c clean has =
+    let run = c.keep_log-run.result in
+    let place = c.args.place in
+    let walk = c.args.walk in
+    let step = c.args.step in
     let old = state g.A.Store c.args.conn.now in
-    let mid = state g.A.Store c.commit.new.conn in
-    let new = state g.A.Store c.keep_behind.new.conn in
-    let early : HasCleanDisk mid = c.keep_behind.ensures.clean clean in
-    let same : mid.now ≡ old.now = c.in_ok-commit.ensures.same early in
-    let schema : HasArchive mid.now.schema = subst (λ (d : Database). HasArchive d.schema) (sym same) has in
-    subst (λ (d : Database). IfOk c.keep_behind.result (KeepsFrom c.args.place c.args.walk c.args.step c.args.began d new.now)) same
-    (c.keep_behind.ensures.kept clean schema)
+    let first = state g.A.Store c.commit.new.conn in
+    let mid = state g.A.Store c.keep_log-run.new.conn in
+    let new = state g.A.Store c.look_at.new.conn in
+    let early : HasCleanDisk mid = c.look_at.ensures.clean clean in
+    let same : new.now ≡ mid.now = c.in_ok-look_at.ensures.same clean in
+    let still : first.now ≡ old.now = c.in_ok-commit.ensures.same (omega (arith, early, c.keep_log-run.ensures.crash_over.clean)) in
+    let schema : HasArchive first.now.schema = subst (λ (d : Database). HasArchive d.schema) (sym still) has in
+    IfOk-weaker c.end_of.result _ _ (λ end told.
+    subst (λ (d : Database). KeepsFrom place walk step c.args.began d new.now end) still
+    (subst (λ (d : Database). KeepsFrom place walk step c.args.began first.now d end) (sym same)
+    (either_way run.end _ _ _ _ (c.keep_log-run.ensures.kept early schema) (c.in_ok-look_at.ensures.open clean) (λ shown. c.keep_log-run.ensures.stands early shown schema)
+    (λ why is it. keeps_from _ _ place run.place _ first.now mid.now _ _ walk it.2 step c.args.began it.0 it.1 run.records run.gaps end it.5 told.1 told.2 (it.4 ∙ sym told.3) told.4)
+    (λ error is it. keeps_from _ _ place run.place _ first.now mid.now _ _ walk it.2 step c.args.began it.0 _ run.records run.gaps end it.5 told.1 told.2 (it.4 ∙ sym told.3) told.4))))
+    c.end_of.ensures.end
 
 pub returns-clause-came : goal.returns-clause-came
 returns-clause-came g c clean has =
-    let old = state g.A.Store c.args.conn.now in
-    let mid = state g.A.Store c.commit.new.conn in
-    let new = state g.A.Store c.keep_behind.new.conn in
-    let early : HasCleanDisk mid = c.keep_behind.ensures.clean clean in
-    let same : mid.now ≡ old.now = c.in_ok-commit.ensures.same early in
-    let schema : HasArchive mid.now.schema = subst (λ (d : Database). HasArchive d.schema) (sym same) has in
+    let asks = g.L.LogLink.asks in
     let transactions = c.args.transactions.now in
-    subst (λ (d : Database). IfOk c.keep_behind.result (ComesFrom g.L.LogLink.asks (towards transactions.route) transactions.retries
-    c.args.link.now c.keep_behind.new.link c.args.place c.args.walk c.args.step c.args.steps d new.now)) same
-    (c.keep_behind.ensures.came clean schema)
+    let run = c.keep_log-run.result in
+    let place = c.args.place in
+    let walk = c.args.walk in
+    let step = c.args.step in
+    let link = c.args.link.now in
+    let left = c.keep_log-run.new.link in
+    let old = state g.A.Store c.args.conn.now in
+    let first = state g.A.Store c.commit.new.conn in
+    let mid = state g.A.Store c.keep_log-run.new.conn in
+    let new = state g.A.Store c.look_at.new.conn in
+    let early : HasCleanDisk mid = c.look_at.ensures.clean clean in
+    let same : new.now ≡ mid.now = c.in_ok-look_at.ensures.same clean in
+    let still : first.now ≡ old.now = c.in_ok-commit.ensures.same (omega (arith, early, c.keep_log-run.ensures.crash_over.clean)) in
+    let schema : HasArchive first.now.schema = subst (λ (d : Database). HasArchive d.schema) (sym still) has in
+    IfOk-weaker c.end_of.result _ _ (λ end told.
+    subst (λ (d : Database). ComesFrom asks (towards transactions.route) transactions.retries link left place walk step c.args.steps d new.now end) still
+    (subst (λ (d : Database). ComesFrom asks (towards transactions.route) transactions.retries link left place walk step c.args.steps first.now d end) (sym same)
+    (either_way run.end _ _ _ _ (c.keep_log-run.ensures.brought early schema) (c.in_ok-look_at.ensures.open clean) (λ shown. c.keep_log-run.ensures.stands_over early shown schema)
+    (λ why is it.
+    let walked = subst (λ r. IsEndingOf r end.why) is told.0 in
+    comes_from asks (towards transactions.route) transactions.retries place run.place first.now mid.now link left left walk it.2 step c.args.steps it.0 it.1 run.records run.gaps end it.5
+    (subst (λ w. IsRunTo w c.args.steps it.0 it.1) (sym walked) it.3) (subst (λ w. IsLeftBy w left left) (sym walked) refl) told.1 told.2 (it.4 ∙ sym told.3))
+    (λ error is it.
+    let ended = subst (λ r. IsEndingOf r end.why) is told.0 in
+    comes_from asks (towards transactions.route) transactions.retries place run.place first.now mid.now link it.1 left walk it.2 step c.args.steps it.0 _ run.records run.gaps end it.5
+    (before_steps error end.why c.args.steps it.0 ended it.3) (before_left error end.why it.1 left ended) told.1 told.2 (it.4 ∙ sym told.3)))))
+    c.end_of.ensures.end
 
 pub returns-clause-stays : goal.returns-clause-stays
 returns-clause-stays g c clean has =
     let old = state g.A.Store c.args.conn.now in
-    let mid = state g.A.Store c.commit.new.conn in
-    let new = state g.A.Store c.keep_behind.new.conn in
-    let early : HasCleanDisk mid = c.keep_behind.ensures.clean clean in
-    let same : mid.now ≡ old.now = c.in_ok-commit.ensures.same early in
-    let schema : HasArchive mid.now.schema = subst (λ (d : Database). HasArchive d.schema) (sym same) has in
-    same_stays_then old mid new (subst (λ (d : Database). HasSameLogs old.now.trees d.trees) (sym same) (same_itself old.now.trees))
-    (commit_leaves (λ d. HasSameLogs d.trees) old mid (λ d. same_itself d.trees) c.commit.ensures.crash)
-    (c.keep_behind.ensures.stays clean schema)
+    let first = state g.A.Store c.commit.new.conn in
+    let mid = state g.A.Store c.keep_log-run.new.conn in
+    let new = state g.A.Store c.look_at.new.conn in
+    let early : HasCleanDisk mid = c.look_at.ensures.clean clean in
+    let still : first.now ≡ old.now = c.in_ok-commit.ensures.same (omega (arith, early, c.keep_log-run.ensures.crash_over.clean)) in
+    same_stays_then old first new (subst (λ (d : Database). HasSameLogs old.now.trees d.trees) (sym still) (same_itself old.now.trees))
+    (commit_leaves (λ d. HasSameLogs d.trees) old first (λ d. same_itself d.trees) c.commit.ensures.crash)
+    (same_quiet_last first mid new (survives_as first mid _ (HasSameLogs first.now.trees)
+    (λ clean db left. subst (HasSameLogs first.now.trees) (sym left.8) (adds_same first.now.trees left.0.trees _ left.10.rows.rows)) c.keep_log-run.ensures.crash_over)
+    c.look_at.ensures.crash)
+
+pub returns-in_err-look_at-clause-stays : goal.returns-in_err-look_at-clause-stays
+returns-in_err-look_at-clause-stays g c clean has =
+    let old = state g.A.Store c.args.conn.now in
+    let first = state g.A.Store c.commit.new.conn in
+    let mid = state g.A.Store c.keep_log-run.new.conn in
+    let new = state g.A.Store c.look_at.new.conn in
+    let early : HasCleanDisk mid = c.look_at.ensures.clean clean in
+    let still : first.now ≡ old.now = c.in_ok-commit.ensures.same (omega (arith, early, c.keep_log-run.ensures.crash_over.clean)) in
+    same_stays_then old first new (subst (λ (d : Database). HasSameLogs old.now.trees d.trees) (sym still) (same_itself old.now.trees))
+    (commit_leaves (λ d. HasSameLogs d.trees) old first (λ d. same_itself d.trees) c.commit.ensures.crash)
+    (same_quiet_last first mid new (survives_as first mid _ (HasSameLogs first.now.trees)
+    (λ clean db left. subst (HasSameLogs first.now.trees) (sym left.8) (adds_same first.now.trees left.0.trees _ left.10.rows.rows)) c.keep_log-run.ensures.crash_over)
+    c.look_at.ensures.crash)
+
+pub returns-in_err-commit-clause-stays : goal.returns-in_err-commit-clause-stays
+returns-in_err-commit-clause-stays g c clean has =
+    commit_leaves (λ d. HasSameLogs d.trees) (state g.A.Store c.args.conn.now) (state g.A.Store c.commit.new.conn) (λ d. same_itself d.trees) c.commit.ensures.crash
+
+pub returns-in_err-look_at-clause-caused : goal.returns-in_err-look_at-clause-caused
+returns-in_err-look_at-clause-caused g c clean has =
+    let early : HasCleanDisk (state g.A.Store c.keep_log-run.new.conn) = c.look_at.ensures.clean clean in
+    let still = c.in_ok-commit.ensures.same (omega (arith, early, c.keep_log-run.ensures.crash_over.clean)) in
+    let schema = subst (λ (d : Database). HasArchive d.schema) (sym still) has in
+    because c.from_residual-in_err-look_at.result c.in_err-look_at.field-0.0 _ (search rules)
+    (c.in_err-look_at.ensures.caused (never c.keep_log-run.result.end NoArchive _ (c.keep_log-run.ensures.cause early schema) (λ ends. ends.cause)))
+
+pub returns-clause-caused : goal.returns-clause-caused
+returns-clause-caused g c clean has =
+    let early : HasCleanDisk (state g.A.Store c.keep_log-run.new.conn) = c.look_at.ensures.clean clean in
+    let still = c.in_ok-commit.ensures.same (omega (arith, early, c.keep_log-run.ensures.crash_over.clean)) in
+    let schema = subst (λ (d : Database). HasArchive d.schema) (sym still) has in
+    c.end_of.ensures.caused (never c.keep_log-run.result.end NoArchive _ (c.keep_log-run.ensures.cause early schema) (λ ends. ends.cause))
