@@ -11,6 +11,9 @@ use Rattle.bac_fetch.specs.declared.keeping.Chosen.{Chosen}
 use Rattle.bac_fetch.specs.declared.unlisted.Unlisted.{Unlisted}
 use Rattle.bac_fetch.specs.declared.keeping.Chosen.TheVariants.{Kept, Sought}
 use Rattle.bac_absent.specs.Calling.{EndsCalling}
+use Rattle.bac_ahead.specs.Rounds.{EndsAhead}
+use Rattle.bac_ahead.specs.declared.opening.Opening.{Opening}
+use Rattle.bac_hearing.specs.Hearing.{Pace}
 use Rattle.bac_asked.specs.declared.wanted.Wanted.{Wanted}
 use Rattle.bac_questions.specs.declared.whose.Heard.{Heard}
 use Rattle.bac_apdu.specs.Npdu.{Place}
@@ -38,6 +41,12 @@ module _ {S P : Type 0} (rules : SocketRules S P) where
       → EndsRun rules I A after fault
   calling_ends_run I A all heard before after fault (inl it) = inl (inl it)
   calling_ends_run I A all heard before after fault (inr it) = inr (inl (before, it.0.asking.asked, it.3))
+
+  -- rounds that end before their time end it
+  pub rounds_end_run : {C : Type 0} (I A : Type 0) (pace : Pace C) (asked : Asked) (all : List Opening) (before after : S) (fault : NotDone)
+      → EndsAhead rules pace asked all before after fault → EndsRun rules I A after fault
+  rounds_end_run I A pace asked all before after fault (inl it) = inl (inl it)
+  rounds_end_run I A pace asked all before after fault (inr it) = inr (inl (it.1.sockets, asked, it.4))
 
   -- what ends it for one reason ends it for another
   pub ends_so : (I J A B : Type 0) (after : S) (fault : NotDone) → (I → J) → (A → B) → EndsRun rules I A after fault → EndsRun rules J B after fault

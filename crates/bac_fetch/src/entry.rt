@@ -22,7 +22,7 @@ use bac_keep::Word;
 use sqlite::{Alter, Connection};
 
 /// How a log is on record as a run over it begins.
-#[derive(Clone, Copy, Debug, PartialEq, Eq)]
+#[derive(Clone, Copy)]
 pub(crate) enum Recorded {
     /// Its row is as it is to be.
     So,
@@ -265,9 +265,9 @@ pub(crate) fn admit<A: Alter>(conn: &mut Connection<A>, entry: &Entry) -> Result
     ensures caused { OverArchive (state A.Store conn.old) (state A.Store conn.new)
         (IfErr result FailsOnRows) }
 {
-    if entry.recorded != Recorded::Not {
+    let Recorded::Not = entry.recorded else {
         return Ok(());
-    }
+    };
     commit(conn)?;
     add_row(conn, &entry.row)
 }

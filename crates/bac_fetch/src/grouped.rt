@@ -1,6 +1,6 @@
 //! Logs are kept one after the other, in groups that are committed at once.
 
-ghost use Rattle.std.specs.Prelude.{◌≡◌, ◌≢◌, false, IfErr, IfOk, OnOk, List, [], Some};
+ghost use Rattle.std.specs.Prelude.{◌≡◌, ◌≢◌, false, IfErr, IfOk, OnOk, List, []};
 ghost use Rattle.std.specs.Io.KnownBytes.{append_known};
 ghost use Rattle.sqlite.specs.State.{HasCleanDisk, Survives};
 ghost use Rattle.sqlite.specs.Held.{state};
@@ -24,54 +24,9 @@ use sqlite::{Alter, Connection};
 use std::alloc::Global;
 use std::io::Write;
 
-/// Keeps what is new of one log, whose line waits. Where no socket was opened for it, what was kept
-/// before is committed and told.
-fn keep_waiting<S: Heeds, A: Alter, O: Write, E: Write>(
-    sockets: &mut S,
-    conn: &mut Connection<A>,
-    alloc: Global,
-    known: &[Log],
-    at: usize,
-    heard: &mut Vec<Heard>,
-    wanted: Wanted,
-    called: bool,
-    site: &mut Site,
-    lines: &mut Vec<u8>,
-    output: &mut O,
-    errors: &mut E,
-) -> Result<u8, NotDone>
-    ensures told { IfOk result (IsToldBy (Some lines.old.items) (Some lines.new.items)
-        wanted.source (λ end. OverArchive (state A.Store conn.old) (state A.Store conn.new)
-        (KeepsNext (socket_rules S.opens S.closes S.Socket.sends S.Socket.receives
-        S.Socket.receives_within) known.now heard.old.items heard.new.items wanted
-        sockets.old sockets.new (state A.Store conn.old).now
-        (state A.Store conn.new).now end))) }
-    ensures unprinted { OnOk result (O.contents output.new ≡ O.contents output.old) }
-    ensures stays { OverArchive (state A.Store conn.old) (state A.Store conn.new)
-        (Survives (state A.Store conn.old) (state A.Store conn.new)
-        (HasAllOf (state A.Store conn.old).now.trees)) }
-    ensures clean { HasCleanDisk (state A.Store conn.new) → HasCleanDisk (state A.Store conn.old) }
-    ensures fault { IfErr result (EndsRun (socket_rules S.opens S.closes S.Socket.sends
-        S.Socket.receives S.Socket.receives_within) (IsNoInstance wanted.source.instance) ⊥
-        sockets.new) }
-    ensures caused { OverArchive (state A.Store conn.old) (state A.Store conn.new)
-        (IfErr result (EndsNext (socket_rules S.opens S.closes S.Socket.sends S.Socket.receives
-        S.Socket.receives_within) known.now heard.old.items wanted
-        (state A.Store conn.old).now.trees sockets.old sockets.new)) }
-{
-    match keep_next(
-        sockets, conn, alloc, known, at, heard, wanted, called, site, lines, errors,
-    ) {
-        Ok(status) => Ok(status),
-        Err(fault) => {
-            end_unopened(conn, lines, output, fault);
-            Err(fault)
-        }
-    }
-}
-
-/// Keeps what is new of one log, as it is at this place of a run, and ends the group if that is
-/// due.
+/// Keeps what is new of one log, as it is at this place of a run, whose line waits, and ends the
+/// group if that is due. Where no socket was opened for it, what was kept before is committed and
+/// told.
 fn keep_grouped<S: Heeds, A: Alter, O: Write, E: Write>(
     sockets: &mut S,
     conn: &mut Connection<A>,
@@ -107,9 +62,15 @@ fn keep_grouped<S: Heeds, A: Alter, O: Write, E: Write>(
         S.Socket.receives_within) known.now heard.old.items wanted
         (state A.Store conn.old).now.trees sockets.old sockets.new)) }
 {
-    let status = keep_waiting(
-        sockets, conn, alloc, known, at, heard, wanted, called, site, lines, output, errors,
-    )?;
+    let status = match keep_next(
+        sockets, conn, alloc, known, at, heard, wanted, called, site, lines, errors,
+    ) {
+        Ok(status) => status,
+        Err(fault) => {
+            end_unopened(conn, lines, output, fault);
+            return Err(fault);
+        }
+    };
     end_if_due(conn, at, lines, output)?;
     Ok(status)
 }

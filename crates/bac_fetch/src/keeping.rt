@@ -11,12 +11,11 @@ ghost use Rattle.bac_fetch.specs.Ahead.{at_once};
 ghost use Rattle.bac_fetch.specs.Beside.{IsAskedWith};
 ghost use Rattle.bac_ports.specs.Sockets.{socket_rules};
 ghost use Rattle.bac_asked.specs.Faults.{WantsMemory, FailsOnRows, EndsLog};
-ghost use Rattle.bac_fetch.specs.Causes.{EndsCalled, EndsLogs, EndsRunOver, EndsSettled};
+ghost use Rattle.bac_fetch.specs.Causes.{EndsLogs, EndsRunOver, EndsSettled};
 ghost use Rattle.bac_fetch.specs.Causes.{FailsToSettle};
 ghost use Rattle.bac_fetch.specs.Faults.{EndsChosen, EndsKeeping, EndsKept, EndsRun, HasNoInstance};
 ghost use Rattle.bac_fetch.specs.Faults.{HasNone, LacksAddress};
-ghost use Rattle.bac_fetch.specs.Keeps.{AreToldBehind, AreToldBy, KeepsCalled, KeepsLogs};
-ghost use Rattle.bac_fetch.specs.Keeps.{KeepsSettled};
+ghost use Rattle.bac_fetch.specs.Keeps.{AreToldBehind, AreToldBy, KeepsLogs, KeepsSettled};
 ghost use Rattle.bac_fetch.specs.Moves.{Settles};
 ghost use Rattle.bac_archive.specs.declared.trend_logs.Log.{Log as LogOf};
 ghost use Rattle.bac_fetch.specs.Chosen.{AreFound, AreChosen, AreKeptLogs, AskTheirSources};
@@ -132,60 +131,8 @@ fn logs_of<A: Alter>(conn: &mut Connection<A>, alloc: Global) -> Result<Vec<Log>
     }
 }
 
-/// Keeps what is new of each of these logs in an archive that has these logs, behind what their
-/// devices are asked at once.
-fn keep_called<S: Recalls, C: Clock + Copy, A: Alter, O: Write, E: Write>(
-    sockets: &mut S,
-    conn: &mut Connection<A>,
-    alloc: Global,
-    clock: C,
-    window: u32,
-    known: &[Log],
-    heard: Vec<Heard>,
-    all: Vec<Wanted>,
-    counts: bool,
-    output: &mut O,
-    errors: &mut E,
-) -> Result<u8, NotDone>
-where
-    C: Drop,
-    ensures told { IfOk result (AreToldBy (O.contents output.old) (O.contents output.new) all.items
-        (λ ends. OverArchive (state A.Store conn.old) (state A.Store conn.new)
-        (KeepsCalled (socket_rules S.opens S.closes S.Socket.sends S.Socket.receives
-        S.Socket.receives_within) (at_once S.holds C.reads clock window) known.now heard.items
-        all.items sockets.old sockets.new (state A.Store conn.old).now
-        (state A.Store conn.new).now ends))) }
-    ensures stays { OverArchive (state A.Store conn.old) (state A.Store conn.new)
-        (Survives (state A.Store conn.old) (state A.Store conn.new)
-        (HasAllOf (state A.Store conn.old).now.trees)) }
-    // Nothing waits for a commit.
-    ensures ended { all.items ≢ [] → OnOk result (conn.new.in_transaction ≡ false) }
-    ensures clean { HasCleanDisk (state A.Store conn.new) → HasCleanDisk (state A.Store conn.old) }
-    ensures fault { IfErr result (EndsRun (socket_rules S.opens S.closes S.Socket.sends
-        S.Socket.receives S.Socket.receives_within) (HasNoInstance all.items) ⊥
-        sockets.new) }
-    ensures caused { OverArchive (state A.Store conn.old) (state A.Store conn.new)
-        (IfErr result (EndsCalled (socket_rules S.opens S.closes S.Socket.sends S.Socket.receives
-        S.Socket.receives_within) (at_once S.holds C.reads clock window) known.now heard.items
-        all.items sockets.old sockets.new (state A.Store conn.old).now)) }
-{
-    let mut heard = heard;
-    let called = call_ahead(
-        sockets,
-        conn,
-        alloc,
-        clock,
-        window,
-        known,
-        all.as_slice(),
-        &mut heard,
-    )?;
-    keep_known(
-        sockets, conn, alloc, clock, known, heard, all, called, counts, output, errors,
-    )
-}
-
-/// Keeps what is new of each of these logs in an archive, where this was heard of devices before.
+/// Keeps what is new of each of these logs in an archive, where this was heard of devices before,
+/// behind what their devices are asked at once.
 fn keep_settled<S: Recalls, C: Clock + Copy, A: Alter, O: Write, E: Write>(
     sockets: &mut S,
     conn: &mut Connection<A>,
@@ -220,18 +167,20 @@ where
         sockets.old sockets.new (state A.Store conn.old).now)) }
 {
     let known = logs_of(conn, alloc)?;
-    keep_called(
+    let logs = known.as_slice();
+    let mut heard = heard;
+    let called = call_ahead(
         sockets,
         conn,
         alloc,
         clock,
         window,
-        known.as_slice(),
-        heard,
-        all,
-        counts,
-        output,
-        errors,
+        logs,
+        all.as_slice(),
+        &mut heard,
+    )?;
+    keep_known(
+        sockets, conn, alloc, clock, logs, heard, all, called, counts, output, errors,
     )
 }
 

@@ -36,43 +36,6 @@ use sqlite::{Alter, Connection};
 use std::alloc::Global;
 use std::io::Write;
 
-/// Keeps what is new of one log; on a terminal it is shown meanwhile how far the run is.
-fn fetch_counted<S: Sockets, A: Alter, E: Write>(
-    sockets: &mut S,
-    conn: &mut Connection<A>,
-    alloc: Global,
-    entry: &Entry,
-    asking: Asking,
-    site: &mut Site,
-    errors: &mut E,
-) -> Result<End, NotDone>
-    ensures kept { OverArchive (state A.Store conn.old) (state A.Store conn.new)
-        (IfOk result (KeepsLog (socket_rules S.opens S.closes S.Socket.sends S.Socket.receives
-        S.Socket.receives_within) asking sockets.old sockets.new entry.now
-        (trend_log entry.now.row.source.instance) (state A.Store conn.old).now
-        (state A.Store conn.new).now)) }
-    ensures stays { OverArchive (state A.Store conn.old) (state A.Store conn.new)
-        (Survives (state A.Store conn.old) (state A.Store conn.new)
-        (HasAllOf (state A.Store conn.old).now.trees)) }
-    ensures clean { HasCleanDisk (state A.Store conn.new) → HasCleanDisk (state A.Store conn.old) }
-    ensures undone { OverArchive (state A.Store conn.old) (state A.Store conn.new)
-        (IfErr result
-        (LeavesUnopened (state A.Store conn.old).now (state A.Store conn.new).now)) }
-    ensures fault { IfErr result (EndsRun (socket_rules S.opens S.closes S.Socket.sends
-        S.Socket.receives S.Socket.receives_within)
-        (IsNoInstance entry.now.row.source.instance) ⊥ sockets.new) }
-    ensures caused { OverArchive (state A.Store conn.old) (state A.Store conn.new)
-        (IfErr result (EndsFetch (socket_rules S.opens S.closes S.Socket.sends S.Socket.receives
-        S.Socket.receives_within) asking.asked entry.now.row.source.instance sockets.old
-        sockets.new)) }
-{
-    let mut count = Count::new(alloc, &entry.row.source, errors, site);
-    count.begin();
-    let fetched = fetch(alloc, sockets, conn, entry, asking, &mut count);
-    count.end();
-    fetched
-}
-
 /// Tells how a run over a log ended: whether its device began anew, the log's line, and why its
 /// walk failed.
 fn tell_end<O: Write, E: Write>(
@@ -94,7 +57,8 @@ fn tell_end<O: Write, E: Write>(
     tell_why(alloc, source, passed, address, end.why, errors)
 }
 
-/// Keeps what is new of one log, and tells how that ended.
+/// Keeps what is new of one log, and tells how that ended; on a terminal it is shown meanwhile how
+/// far the run is.
 fn fetch_told<S: Heeds, A: Alter, O: Write, E: Write>(
     sockets: &mut S,
     conn: &mut Connection<A>,
@@ -128,9 +92,13 @@ fn fetch_told<S: Heeds, A: Alter, O: Write, E: Write>(
         sockets.new)) }
 {
     let address = asking.asked.address;
-    let end = fetch_counted(sockets, conn, alloc, entry, asking, site, errors)?;
-    site.add(end.records);
     let source = &entry.row.source;
+    let mut count = Count::new(alloc, source, errors, site);
+    count.begin();
+    let fetched = fetch(alloc, sockets, conn, entry, asking, &mut count);
+    count.end();
+    let end = fetched?;
+    site.add(end.records);
     tell_end(
         alloc,
         source,

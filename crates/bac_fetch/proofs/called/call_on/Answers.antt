@@ -1,8 +1,10 @@
-use Rattle.std.proofs.Common.{◌≡◌, ◌∙◌, List, ap, ap₂, drop, inr, length, rules, subst, sym}
+use Rattle.std.proofs.Common.{◌≡◌, ◌∙◌, List, ap, ap₂, drop, inl, inr, length, rules, subst, sym}
+use Rattle.std.proofs.lemmas.Result.{IfErr-weaker}
 use Rattle.sqlite.specs.Effect.{Database}
 use Rattle.sqlite.specs.State.{HasCleanDisk}
 use Rattle.sqlite.specs.Held.{state}
 use Rattle.bac_archive.specs.Schema.{HasArchive}
+use Rattle.bac_archive.proofs.QueryLemmas.{on_ok}
 use Rattle.bac_archive.proofs.RowsLemmas.{because}
 use Rattle.bac_begin.proofs.Quiet.{quiet_then}
 use Rattle.bac_ports.specs.Sockets.{socket_rules}
@@ -91,3 +93,44 @@ returns-in_err-late-clause-caused g c clean has =
     (subst (λ (l : List Heard). EndsOpening over by.pace mid.now.trees known l all between last fault) rest (c.in_err-late.ensures.caused clean schema)) in
     because c.from_residual-in_err-late.result fault _ (search rules)
     (inr (inr (c.in_ok-early.early.items, half, opens, found, between, c.in_ok-end_calls.ensures.ended, late)))
+
+pub returns-clause-same : goal.returns-clause-same
+returns-clause-same g c clean has =
+    let old = state g.A.Store c.args.conn.now in
+    let mid = state g.A.Store c.open_ahead.new.conn in
+    let same : mid.now ≡ old.now = c.in_ok-early.ensures.same (c.open_ahead-2.ensures.clean clean) has in
+    on_ok c.hold_both.result _ (c.in_ok-late.ensures.same clean (subst (λ (d : Database). HasArchive d.schema) (sym same) has) ∙ same)
+
+pub returns-clause-clean : goal.returns-clause-clean
+returns-clause-clean g c late = c.open_ahead.ensures.clean (c.open_ahead-2.ensures.clean late)
+
+pub returns-clause-fault : goal.returns-clause-fault
+returns-clause-fault g c = IfErr-weaker c.hold_both.result _ _ (λ fault memory. inl (inl memory)) c.hold_both.ensures.fault
+
+pub returns-clause-caused : goal.returns-clause-caused
+returns-clause-caused g c clean has = IfErr-weaker c.hold_both.result _ _ (λ fault memory. inl memory) c.hold_both.ensures.fault
+
+pub returns-in_err-late-clause-clean : goal.returns-in_err-late-clause-clean
+returns-in_err-late-clause-clean g c late = c.open_ahead.ensures.clean (c.open_ahead-2.ensures.clean late)
+
+pub returns-in_err-late-clause-fault : goal.returns-in_err-late-clause-fault
+returns-in_err-late-clause-fault g c =
+    because c.from_residual-in_err-late.result c.in_err-late.field-0.0 _ (search rules) c.in_err-late.ensures.fault
+
+pub returns-in_err-end_calls-clause-quiet : goal.returns-in_err-end_calls-clause-quiet
+returns-in_err-end_calls-clause-quiet g c = c.open_ahead.ensures.quiet
+
+pub returns-in_err-end_calls-clause-fault : goal.returns-in_err-end_calls-clause-fault
+returns-in_err-end_calls-clause-fault g c =
+    because c.from_residual-in_err-end_calls.result c.in_err-end_calls.field-0.0 _ (search rules) (inl (inl c.in_err-end_calls.ensures.fault))
+
+pub returns-in_err-end_calls-clause-caused : goal.returns-in_err-end_calls-clause-caused
+returns-in_err-end_calls-clause-caused g c clean has =
+    because c.from_residual-in_err-end_calls.result c.in_err-end_calls.field-0.0 _ (search rules) (inl c.in_err-end_calls.ensures.fault)
+
+pub returns-in_err-early-clause-quiet : goal.returns-in_err-early-clause-quiet
+returns-in_err-early-clause-quiet g c = c.open_ahead.ensures.quiet
+
+pub returns-in_err-early-clause-fault : goal.returns-in_err-early-clause-fault
+returns-in_err-early-clause-fault g c =
+    because c.from_residual.result c.in_err-early.field-0.0 _ (search rules) c.in_err-early.ensures.fault

@@ -1,4 +1,4 @@
-use Rattle.std.proofs.Common.{◌≡◌, rules, subst, sym}
+use Rattle.std.proofs.Common.{◌≡◌, subst, sym}
 use Rattle.sqlite.specs.Effect.{Database}
 use Rattle.sqlite.specs.State.{HasCleanDisk}
 use Rattle.sqlite.specs.Held.{state}
@@ -42,7 +42,7 @@ returns-clause-admits g c clean has =
     let early : HasCleanDisk mid = c.add_row.ensures.clean clean in
     let same : mid.now ≡ old.now = c.in_ok-commit.ensures.same early in
     let schema : HasArchive mid.now.schema = subst (λ (d : Database). HasArchive d.schema) (sym same) has in
-    let is : c.args.entry.now.recorded ≡ Not = search rules in
+    let is : c.args.entry.now.recorded ≡ Not = c.in-Not.is in
     then_on_ok c.add_row.result (AdmitsRow Not row mid.now new.now) (AdmitsRow c.args.entry.now.recorded row old.now new.now)
     (λ it. subst (λ (r : Recorded). AdmitsRow r row old.now new.now) (sym is) (subst (λ (d : Database). AdmitsRow Not row d new.now) same it))
     (c.add_row.ensures.added clean schema)
@@ -55,10 +55,10 @@ pub returns-in_err-commit-clause-rows : goal.returns-in_err-commit-clause-rows
 returns-in_err-commit-clause-rows g c has =
     commit_leaves (λ d. HasRows d.trees) (state g.A.Store c.args.conn.now) (state g.A.Store c.commit.new.conn) (λ d. rows_itself d.trees) c.commit.ensures.crash
 
-pub returns-then-ne-clause-stays : goal.returns-then-ne-clause-stays
-returns-then-ne-clause-stays g c has = itself_stays (state g.A.Store c.args.conn.now)
+pub returns-in_default-clause-stays : goal.returns-in_default-clause-stays
+returns-in_default-clause-stays g c has = itself_stays (state g.A.Store c.args.conn.now)
 
-pub returns-then-ne-clause-rows : goal.returns-then-ne-clause-rows
-returns-then-ne-clause-rows g c has =
+pub returns-in_default-clause-rows : goal.returns-in_default-clause-rows
+returns-in_default-clause-rows g c has =
     let old = state g.A.Store c.args.conn.now in
     does_nothing old (HasRows old.now.trees)

@@ -1,17 +1,22 @@
-use Rattle.std.proofs.Common.{◌≡◌, List, inr, subst, sym, rules, inl}
+use Rattle.std.proofs.Common.{◌≡◌, ◌∙◌, List, inl, inr, rules, subst, sym}
 use Rattle.std.proofs.lemmas.Result.{IfErr-weaker, IfOk-weaker}
 use Rattle.sqlite.specs.Effect.{Database}
 use Rattle.sqlite.specs.State.{HasCleanDisk}
 use Rattle.sqlite.specs.Held.{state}
 use Rattle.bac_archive.specs.Logs.{AreLogs}
+use Rattle.bac_archive.specs.Schema.{HasArchive}
 use Rattle.bac_archive.specs.declared.trend_logs.Log.{Log}
+use Rattle.bac_archive.proofs.RowsLemmas.{because}
+use Rattle.bac_begin.proofs.Quiet.{quiet_then}
 use Rattle.bac_ports.specs.Sockets.{socket_rules}
 use Rattle.bac_fetch.specs.Ahead.{at_once}
-use Rattle.bac_fetch.specs.Causes.{EndsCalled}
-use Rattle.bac_fetch.specs.Keeps.{KeepsCalled}
+use Rattle.bac_fetch.specs.Called.{CallsAhead, EndsCallsAhead}
+use Rattle.bac_fetch.specs.Causes.{EndsAll}
+use Rattle.bac_fetch.specs.Faults.{HasNoInstance}
+use Rattle.bac_fetch.specs.Keeps.{KeepsAll}
+use Rattle.bac_fetch.proofs.CalledLemmas.{call_ends_as, calls_as}
+use Rattle.bac_fetch.proofs.FaultsLemmas.{ends_so}
 use Rattle.bac_fetch.proofs.StaysLemmas.{quiet_first, quiet_stays}
-use Rattle.bac_archive.specs.Schema.{HasArchive}
-use Rattle.bac_archive.proofs.RowsLemmas.{because}
 use Rattle.bac_fetch.proofs.keeping.keep_settled.Goals as goal
 
 pub returns-clause-told : goal.returns-clause-told
@@ -20,55 +25,91 @@ returns-clause-told g c =
     let by = at_once g.S.Recalls.holds g.C.Clock.reads c.args.clock c.args.window in
     let all = c.args.all.items in
     let heard = c.args.heard.items in
-    let known = c.as_slice.result.now in
+    let known = c.as_slice-logs.result.now in
+    let found = c.call_ahead.new.heard.items in
+    let called = c.in_ok-called.called in
     let before = c.args.sockets.now in
-    let after = c.keep_called.new.sockets in
+    let held = c.call_ahead.new.sockets in
+    let after = c.keep_known.new.sockets in
     let old = state g.A.Store c.args.conn.now in
     let mid = state g.A.Store c.logs_of.new.conn in
-    let new = state g.A.Store c.keep_called.new.conn in
-    IfOk-weaker c.keep_called.result _ _
+    let late = state g.A.Store c.call_ahead.new.conn in
+    let new = state g.A.Store c.keep_known.new.conn in
+    IfOk-weaker c.keep_known.result _ _
     (λ status told. (
       told.0,
       told.1,
       told.2,
       told.3,
       λ clean has.
-          let early : HasCleanDisk mid = c.keep_called.ensures.clean clean in
+          let shown : HasCleanDisk late = c.keep_known.ensures.clean clean in
+          let early : HasCleanDisk mid = c.call_ahead.ensures.clean shown in
           let same : mid.now ≡ old.now = c.in_ok-known.ensures.same early has in
-          let are : AreLogs old.now.trees known = subst (λ (l : List Log). AreLogs old.now.trees l) (sym c.as_slice.ensures.value) (c.in_ok-known.ensures.logs early has) in
           let schema : HasArchive mid.now.schema = subst (λ (d : Database). HasArchive d.schema) (sym same) has in
-          (known, are, subst (λ (d : Database). KeepsCalled over by known heard all before after d new.now told.0) same (told.4 clean schema)),
+          let still : late.now ≡ mid.now = c.in_ok-called.ensures.same shown schema in
+          let late_schema : HasArchive late.now.schema = subst (λ (d : Database). HasArchive d.schema) (sym still) schema in
+          let are : AreLogs old.now.trees known = subst (λ (l : List Log). AreLogs old.now.trees l) (sym c.as_slice-logs.ensures.value) (c.in_ok-known.ensures.logs early has) in
+          let calls = subst (λ (d : Database). CallsAhead over by d.trees known all heard before found called held) same
+          (calls_as over by mid.now.trees known _ all heard found called before held c.as_slice.ensures.value (c.in_ok-called.ensures.calls shown schema)) in
+          let it = told.4 clean late_schema in
+          (known, are, (found, called, held, calls, it.0, subst (λ (d : Database). KeepsAll over known found it.0 all held after d new.now told.0) (still ∙ same) it.1)),
     ))
-    c.keep_called.ensures.told
+    c.keep_known.ensures.told
 
 pub returns-clause-stays : goal.returns-clause-stays
 returns-clause-stays g c clean has =
     let old = state g.A.Store c.args.conn.now in
     let mid = state g.A.Store c.logs_of.new.conn in
-    let new = state g.A.Store c.keep_called.new.conn in
-    let early : HasCleanDisk mid = c.keep_called.ensures.clean clean in
+    let late = state g.A.Store c.call_ahead.new.conn in
+    let new = state g.A.Store c.keep_known.new.conn in
+    let shown : HasCleanDisk late = c.keep_known.ensures.clean clean in
+    let early : HasCleanDisk mid = c.call_ahead.ensures.clean shown in
     let same : mid.now ≡ old.now = c.in_ok-known.ensures.same early has in
     let schema : HasArchive mid.now.schema = subst (λ (d : Database). HasArchive d.schema) (sym same) has in
-    quiet_first old mid new same (c.logs_of.ensures.crash has) (c.keep_called.ensures.stays clean schema)
+    let still : late.now ≡ mid.now = c.in_ok-called.ensures.same shown schema in
+    let late_schema : HasArchive late.now.schema = subst (λ (d : Database). HasArchive d.schema) (sym still) schema in
+    quiet_first old mid new same (c.logs_of.ensures.crash has)
+    (quiet_first mid late new still (c.call_ahead.ensures.quiet shown schema) (c.keep_known.ensures.stays clean late_schema))
 
 pub returns-in_err-known-clause-stays : goal.returns-in_err-known-clause-stays
 returns-in_err-known-clause-stays g c clean has = quiet_stays (state g.A.Store c.args.conn.now) (state g.A.Store c.logs_of.new.conn) (c.logs_of.ensures.crash has)
 
+pub returns-in_err-called-clause-stays : goal.returns-in_err-called-clause-stays
+returns-in_err-called-clause-stays g c clean has =
+    let old = state g.A.Store c.args.conn.now in
+    let mid = state g.A.Store c.logs_of.new.conn in
+    let late = state g.A.Store c.call_ahead.new.conn in
+    let same : mid.now ≡ old.now = c.in_ok-known.ensures.same (c.call_ahead.ensures.clean clean) has in
+    let schema : HasArchive mid.now.schema = subst (λ (d : Database). HasArchive d.schema) (sym same) has in
+    quiet_stays old late (quiet_then old mid late (c.logs_of.ensures.crash has) (c.call_ahead.ensures.quiet clean schema))
+
 pub returns-clause-caused : goal.returns-clause-caused
 returns-clause-caused g c clean has =
     let over = socket_rules g.S.Sockets.opens g.S.Sockets.closes g.S.Socket.Port.sends g.S.Socket.Port.receives g.S.Socket.Port.receives_within in
-    let known = c.as_slice.result.now in
+    let by = at_once g.S.Recalls.holds g.C.Clock.reads c.args.clock c.args.window in
+    let all = c.args.all.items in
+    let heard = c.args.heard.items in
+    let known = c.as_slice-logs.result.now in
+    let found = c.call_ahead.new.heard.items in
+    let called = c.in_ok-called.called in
     let before = c.args.sockets.now in
-    let after = c.keep_called.new.sockets in
+    let held = c.call_ahead.new.sockets in
+    let after = c.keep_known.new.sockets in
     let old = state g.A.Store c.args.conn.now in
     let mid = state g.A.Store c.logs_of.new.conn in
-    let early : HasCleanDisk mid = c.keep_called.ensures.clean clean in
+    let late = state g.A.Store c.call_ahead.new.conn in
+    let shown : HasCleanDisk late = c.keep_known.ensures.clean clean in
+    let early : HasCleanDisk mid = c.call_ahead.ensures.clean shown in
     let same : mid.now ≡ old.now = c.in_ok-known.ensures.same early has in
-    let are : AreLogs old.now.trees known = subst (λ (l : List Log). AreLogs old.now.trees l) (sym c.as_slice.ensures.value) (c.in_ok-known.ensures.logs early has) in
     let schema : HasArchive mid.now.schema = subst (λ (d : Database). HasArchive d.schema) (sym same) has in
-    IfErr-weaker c.keep_called.result _ _
-    (λ fault it. inr (known, are, subst (λ (d : Database). EndsCalled over (at_once g.S.Recalls.holds g.C.Clock.reads c.args.clock c.args.window) known c.args.heard.items c.args.all.items before after d fault) same it))
-    (c.keep_called.ensures.caused clean schema)
+    let still : late.now ≡ mid.now = c.in_ok-called.ensures.same shown schema in
+    let late_schema : HasArchive late.now.schema = subst (λ (d : Database). HasArchive d.schema) (sym still) schema in
+    let are : AreLogs old.now.trees known = subst (λ (l : List Log). AreLogs old.now.trees l) (sym c.as_slice-logs.ensures.value) (c.in_ok-known.ensures.logs early has) in
+    let calls = subst (λ (d : Database). CallsAhead over by d.trees known all heard before found called held) same
+    (calls_as over by mid.now.trees known _ all heard found called before held c.as_slice.ensures.value (c.in_ok-called.ensures.calls shown schema)) in
+    IfErr-weaker c.keep_known.result _ _
+    (λ fault it. inr (known, are, inr (found, called, held, calls, subst (λ (d : Database). EndsAll over known found all held after d fault) (still ∙ same) it)))
+    (c.keep_known.ensures.caused clean late_schema)
 
 pub returns-in_err-known-clause-fault : goal.returns-in_err-known-clause-fault
 returns-in_err-known-clause-fault g c =
@@ -77,3 +118,30 @@ returns-in_err-known-clause-fault g c =
 pub returns-in_err-known-clause-caused : goal.returns-in_err-known-clause-caused
 returns-in_err-known-clause-caused g c clean has =
     because c.from_residual.result c.in_err-known.field-0.0 _ (search rules) (inl c.in_err-known.ensures.caused)
+
+pub returns-in_err-called-clause-caused : goal.returns-in_err-called-clause-caused
+returns-in_err-called-clause-caused g c clean has =
+    let over = socket_rules g.S.Sockets.opens g.S.Sockets.closes g.S.Socket.Port.sends g.S.Socket.Port.receives g.S.Socket.Port.receives_within in
+    let by = at_once g.S.Recalls.holds g.C.Clock.reads c.args.clock c.args.window in
+    let all = c.args.all.items in
+    let heard = c.args.heard.items in
+    let known = c.as_slice-logs.result.now in
+    let before = c.args.sockets.now in
+    let held = c.call_ahead.new.sockets in
+    let fault = c.in_err-called.field-0.0 in
+    let old = state g.A.Store c.args.conn.now in
+    let mid = state g.A.Store c.logs_of.new.conn in
+    let early : HasCleanDisk mid = c.call_ahead.ensures.clean clean in
+    let same : mid.now ≡ old.now = c.in_ok-known.ensures.same early has in
+    let schema : HasArchive mid.now.schema = subst (λ (d : Database). HasArchive d.schema) (sym same) has in
+    let are : AreLogs old.now.trees known = subst (λ (l : List Log). AreLogs old.now.trees l) (sym c.as_slice-logs.ensures.value) (c.in_ok-known.ensures.logs early has) in
+    let ends = subst (λ (d : Database). EndsCallsAhead over by d.trees known all heard before held fault) same
+    (call_ends_as over by mid.now.trees known _ all heard before held fault c.as_slice.ensures.value (c.in_err-called.ensures.caused clean schema)) in
+    because c.from_residual-in_err-called.result fault _ (search rules) (inr (known, are, inl ends))
+
+pub returns-in_err-called-clause-fault : goal.returns-in_err-called-clause-fault
+returns-in_err-called-clause-fault g c =
+    let over = socket_rules g.S.Sockets.opens g.S.Sockets.closes g.S.Socket.Port.sends g.S.Socket.Port.receives g.S.Socket.Port.receives_within in
+    because c.from_residual-in_err-called.result c.in_err-called.field-0.0 _ (search rules)
+    (ends_so over ⊥ (HasNoInstance c.args.all.items) ⊥ ⊥ c.call_ahead.new.sockets c.in_err-called.field-0.0 (λ none. absurd none) (λ none. none)
+    c.in_err-called.ensures.fault)

@@ -22,13 +22,13 @@ pub returns-clause-printed : goal.returns-clause-printed
 returns-clause-printed g c = c.in_ok-tell_end.ensures.printed
 
 pub returns-clause-stays : goal.returns-clause-stays
-returns-clause-stays g c = c.fetch_counted.ensures.stays
+returns-clause-stays g c = c.fetch-fetched.ensures.stays
 
 pub returns-in_err-tell_end-clause-stays : goal.returns-in_err-tell_end-clause-stays
-returns-in_err-tell_end-clause-stays g c = c.fetch_counted.ensures.stays
+returns-in_err-tell_end-clause-stays g c = c.fetch-fetched.ensures.stays
 
 pub returns-in_err-end-clause-stays : goal.returns-in_err-end-clause-stays
-returns-in_err-end-clause-stays g c = c.fetch_counted.ensures.stays
+returns-in_err-end-clause-stays g c = c.fetch-fetched.ensures.stays
 
 pub returns-in_err-end-clause-undone : goal.returns-in_err-end-clause-undone
 returns-in_err-end-clause-undone g c clean has =
