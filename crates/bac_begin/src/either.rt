@@ -17,7 +17,7 @@ use crate::stands::{Stand, last_kept, number_behind};
 use crate::starting::{Start, none_behind, none_kept};
 use bac_archive::Row;
 use bac_asked::{Began, End, Ending, Fault, NotDone};
-use bac_keep::{Gathered, KeptStep, Place, beginning_of};
+use bac_keep::{Place, beginning_of};
 use bac_link::{LogLink, Transactions};
 use bac_walk::{Count as Many, Why};
 use bac_wire::ObjectId;

@@ -252,6 +252,7 @@ where
     let [first, ..] = all else {
         return Ok(Vec::new(alloc));
     };
+    let asked = &first.asking.asked;
     let openings = openings_of(alloc, conn, known, heard, all)?;
-    ask_ahead(sockets, alloc, clock, window, &first.asking.asked, openings)
+    ask_ahead(sockets, alloc, clock, window, asked, openings)
 }

@@ -34,7 +34,6 @@ use crate::sought::{Found, Sought, found_logs};
 use bac_archive::{Log, logs};
 use bac_asked::{FileFault, NotDone, Options, Wanted, add_wanted};
 use bac_desks::Clock;
-use bac_heeding::Heeds;
 use bac_ports::Sockets;
 use bac_questions::Heard;
 use bac_recall::Recalls;

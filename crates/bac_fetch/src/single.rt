@@ -28,7 +28,6 @@ use crate::telling::{tell_anew, tell_why};
 use bac_archive::{Log, Source};
 use bac_asked::{Asking, End, Ending, NotDone, Wanted, end_status};
 use bac_heeding::{Heeds, Passed};
-use bac_ports::Sockets;
 use bac_questions::{
     Heard, Said, add_heard, device_on_record, hindrance, is_heard, is_silent, log_among, said_of,
 };
