@@ -8,7 +8,7 @@ use bac_archive::Source;
 use std::alloc::AllocError;
 
 /// How the rows of a run over a log begin.
-#[derive(Clone, Copy, Debug, PartialEq, Eq)]
+#[derive(Clone, Copy, PartialEq, Eq)]
 pub enum Began {
     /// Where those before them end, or as the log's first.
     GoesOn,

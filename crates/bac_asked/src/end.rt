@@ -10,7 +10,7 @@ use bac_walk::{WalkFault, Why};
 use sqlite::Error;
 
 /// Why a run over a log ended.
-#[derive(Clone, Copy, Debug, PartialEq, Eq)]
+#[derive(Clone, Copy)]
 pub enum Ending {
     /// As its walk did.
     Walk(Why),

@@ -18,7 +18,7 @@ use std::fmt::Write;
 use std::io;
 
 /// Why a tool ends without what it was asked for, beside a file that is no use.
-#[derive(Clone, Copy, Debug, PartialEq, Eq)]
+#[derive(Clone, Copy)]
 pub enum Fault {
     /// A word or an option has a value that it can't have.
     BadValue(Word),
@@ -38,7 +38,7 @@ pub enum Fault {
 }
 
 /// Why a file isn't read or written.
-#[derive(Clone, Copy, Debug, PartialEq, Eq)]
+#[derive(Clone, Copy)]
 pub enum FileFault {
     /// Another program has it open.
     InUse,

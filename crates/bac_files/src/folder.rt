@@ -106,7 +106,7 @@ fn number_of(name: &str) -> Option<u32> {
 }
 
 /// The least and the greatest number of the parts in a folder; both 0 if it has none.
-#[derive(Clone, Copy, Debug, PartialEq, Eq)]
+#[derive(Clone, Copy)]
 struct Numbers {
     least: u32,
     greatest: u32,

@@ -3,7 +3,7 @@
 use sqlite::Error;
 
 /// What of the machine keeps a file from being opened.
-#[derive(Clone, Copy, Debug, PartialEq, Eq)]
+#[derive(Clone, Copy)]
 pub enum Obstacle {
     /// It is a folder.
     Folder,
@@ -16,7 +16,7 @@ pub enum Obstacle {
 }
 
 /// Why no database is opened.
-#[derive(Clone, Copy, Debug, PartialEq, Eq)]
+#[derive(Clone, Copy)]
 pub enum NotOpened {
     /// Another program has it open.
     InUse,

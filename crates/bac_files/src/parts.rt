@@ -8,7 +8,8 @@ ghost use Rattle.bac_files.specs.declared.not_opened.NotOpened.{NotOpened as Rea
 use crate::disk_files::DiskFiles;
 use crate::folder::parts_of;
 use crate::not_opened::NotOpened;
-use sqlite::{Alter, Connection, Error, Unknown};
+use sqlite::{Alter, Connection, Error, FileStore, Start, Unknown};
+use sqlite_disk::Disk;
 use std::io::Write;
 
 /// Reads an open database, and writes what it makes of it.
@@ -77,6 +78,35 @@ impl<'a> FolderFiles<'a> {
     }
 }
 
+/// Reads the database in open files.
+fn read_open<D: Disk, R: Reader, O: Write>(
+    conn: &mut Connection<FileStore<D>>,
+    reader: &mut R,
+    output: &mut O,
+)
+    ensures { (found : Reading) × R.reads reader.old found (O.contents output.old)
+        (O.contents output.new) reader.new }
+{
+    reader.read(conn, output);
+}
+
+/// Opens the database of this name, reads it and closes it.
+fn read_file<F: Start, R: Reader, O: Write>(
+    files: &mut DiskFiles<'_, F>,
+    path: &str,
+    reader: &mut R,
+    output: &mut O,
+) -> Result<Result<(), Error>, NotOpened>
+    ensures read { IfOk result (λ closed. (found : Reading) × R.reads reader.old found
+        (O.contents output.old) (O.contents output.new) reader.new) }
+    ensures unread { OnErr result ((reader.new ≡ reader.old)
+        × (O.contents output.new ≡ O.contents output.old)) }
+{
+    let mut conn = files.open(path, false)?;
+    read_open(&mut conn, reader, output);
+    Ok(files.close(conn))
+}
+
 impl<'a> Parts for FolderFiles<'a> {
     ghost lists = { λ old name paths new. Unit {0} };
 
@@ -95,8 +125,6 @@ impl<'a> Parts for FolderFiles<'a> {
         output: &mut O,
     ) -> Result<Result<(), Error>, NotOpened> {
         let mut files = DiskFiles::new(self.rt, Unknown);
-        let mut conn = files.open(path, false)?;
-        reader.read(&mut conn, output);
-        Ok(files.close(conn))
+        read_file(&mut files, path, reader, output)
     }
 }
