@@ -1,6 +1,8 @@
-use Rattle.std.proofs.Common.{◌≡◌, ◌∙◌, ℕ, suc, ◌+◌, ◌<◌, List, ◌∷◌, drop, get_or, length, inl, inr, Result, Err, IfErr, subst, ap, sym, arith, rules}
+use Rattle.std.proofs.Common.{◌≡◌, ◌∙◌, ℕ, suc, ◌+◌, ◌<◌, List, ◌∷◌, drop, get_or, length, inl, inr, Result, IfErr, subst, ap, sym, arith, rules}
 use Rattle.std.proofs.Math.Seq.{drop-cons}
 use Rattle.std.specs.List.{All, Contains}
+use Rattle.std.specs.Result.{IsErrAnd}
+use Rattle.std.proofs.lemmas.Result.{err_from_is_err_and}
 use Rattle.std.proofs.lemmas.List.Elements.{All-push, All-same, Contains-get_or}
 use Rattle.clap.specs.Words.{Text}
 use Rattle.bac_asked.specs.AsLog.{given_in, log_words, IsAskedBy}
@@ -10,8 +12,8 @@ use Rattle.bac_words.specs.declared.fault.WordsFault.TheVariants.{Memory}
 use Rattle.bac_asked.proofs.wanted.named_all.Goals as goal
 
 -- what holds of an error holds of what is handed on
-because : {A : Type 0} (result : Result A NotDone) (e : NotDone) (P : NotDone → Type 0) → result ≡ Err e → P e → IfErr result P
-because result e P is holds = subst (λ (r : Result _ NotDone). IfErr r P) (sym is) holds
+because : {A : Type 0} (result : Result A NotDone) (e : NotDone) (P : NotDone → Type 0) → IsErrAnd result (λ given. given ≡ e) → P e → IfErr result P
+because result e P is holds = let p = err_from_is_err_and result is in rw (p.1, p.2) holds
 
 -- a word of several
 among : (words : List Text) (i : ℕ) (word : Text) → i < length words → word ≡ get_or words i word → Contains words word
@@ -48,7 +50,7 @@ returns-in_err-wanted-clause-unnamed c =
     let word = c.instance-item.result in
     let below : c.loop-instance.instance-index < length words = omega arith in
     let item : word ≡ get_or words c.loop-instance.instance-index word = search rules in
-    because c.from_residual.result c.in_err-wanted.field-0.0 (AreUnnamed c.args.address.now given words) (search rules) (
+    because c.from_residual.result c.in_err-wanted.field-0.0 (AreUnnamed c.args.address.now given words) c.from_residual.ensures.1 (
       word,
       among words c.loop-instance.instance-index word below item,
       subst (λ (w : Text). IsUnnamed (log_words c.args.address.now w given) c.in_err-wanted.field-0.0) c.as_str.ensures c.in_err-wanted.ensures.unnamed,
@@ -61,5 +63,5 @@ returns-in_err-add_once-clause-unnamed c =
     let word = c.instance-item.result in
     let below : c.loop-instance.instance-index < length words = omega arith in
     let item : word ≡ get_or words c.loop-instance.instance-index word = search rules in
-    because c.from_residual-in_err-add_once.result c.in_err-add_once.field-0.0 (AreUnnamed c.args.address.now given words) (search rules)
+    because c.from_residual-in_err-add_once.result c.in_err-add_once.field-0.0 (AreUnnamed c.args.address.now given words) c.from_residual-in_err-add_once.ensures.1
     (word, among words c.loop-instance.instance-index word below item, (Memory, tt, c.in_err-add_once.ensures.memory))
