@@ -1,3 +1,7 @@
+use Rattle.std.proofs.Common.{◌∙◌, ◌++◌, List, ap, arith, flat_map}
+use Rattle.std.specs.List.{list_all}
+use Rattle.std.proofs.lemmas.List.{take_all}
+use Rattle.bac_archive.specs.declared.trend_logs.Log.{Log}
 use Rattle.bac_check.specs.Checked.{is_complete, lines_of}
 use Rattle.bac_check.proofs.EachLemmas.{all_more, text_more}
 use Rattle.bac_check.proofs.checking.push_each.Goals as goal
@@ -13,3 +17,14 @@ loop-log-preserved c =
       all_more (is_complete courses) logs at log c.loop-log.whole c.in_ok-so.so c.loop-log-test.true c.log-item.is
           c.loop-log.invariant.1 c.in_ok-so.ensures.whole,
     )
+
+pub returns-clause-text : goal.returns-clause-text
+returns-clause-text c =
+    let each = lines_of c.args.courses.now in
+    c.loop-log.invariant.0
+    ∙ ap (λ (l : List Log). c.args.text.now.items ++ flat_map each l) (take_all c.loop-log.log-index c.args.logs.now (omega (arith, c.loop-log-test.false)))
+
+pub returns-clause-whole : goal.returns-clause-whole
+returns-clause-whole c =
+    c.loop-log.invariant.1
+    ∙ ap (list_all (is_complete c.args.courses.now)) (take_all c.loop-log.log-index c.args.logs.now (omega (arith, c.loop-log-test.false)))

@@ -1,7 +1,8 @@
-use Rattle.std.proofs.Common.{[], ◌∷◌, ◌++◌, rules, arith, ◌∙◌, subst}
-use Rattle.sqlite.specs.State.{HasCleanDisk}
+use Rattle.std.proofs.Common.{◌≡◌, [], ◌∷◌, ◌++◌, inl, inr, rules, arith, ◌∙◌, subst, sym}
+use Rattle.sqlite.specs.State.{HasCleanDisk, IsUnchanged}
 use Rattle.sqlite.specs.Held.{state}
 use Rattle.sqlite.proofs.Callers.{unchanged_then}
+use Rattle.bac_archive.proofs.RowsLemmas.{on_err}
 use Rattle.bac_check.specs.Epochs.{asked, is_new, spans_text}
 use Rattle.bac_check.specs.Tallies.{IsTallied}
 use Rattle.bac_check.proofs.CourseLemmas.{all_given, filter_one_more}
@@ -36,3 +37,34 @@ rows-preserved g c =
             λ before it. subst (λ l. IsTallied l c.count_row.new.tally) (filter_one_more (is_new c.args.behind) was.0 row before) (c.in_ok-count_row.ensures _ (was.3 before it)),
           ),
     )
+
+pub returns-in-Ok-None-clause-same : goal.returns-in-Ok-None-clause-same
+returns-in-Ok-None-clause-same g c clean has =
+    let old = state g.A.Store c.args.conn.now in
+    let mid = state g.A.Store c.rows.rows.conn.now in
+    let moved = c.next.follows.holds-at-none in
+    let now = c.next.follows.lender-at-none.conn.now in
+    let same : now ≡ c.conn-in-Ok-None-1.given.0 = search rules in
+    let late : HasCleanDisk (state g.A.Store now) = subst (λ h. HasCleanDisk (state g.A.Store h)) (sym same) clean in
+    let was = c.rows.invariant.2 (omega (arith, late, moved.survives.clean)) has in
+    subst (λ h. IsUnchanged old (state g.A.Store h)) same (unchanged_then old mid (state g.A.Store now) was.2 (rw (c.in-Ok-None.is) at (moved.same late)))
+
+pub returns-in_err-count_row-clause-left : goal.returns-in_err-count_row-clause-left
+returns-in_err-count_row-clause-left g c clean has =
+    let old = state g.A.Store c.args.conn.now in
+    let mid = state g.A.Store c.rows.rows.conn.now in
+    let moved = c.next.follows.holds-at-none in
+    let now = c.next.follows.lender-at-none.conn.now in
+    let same : now ≡ c.conn-in_err-count_row-1.given.0 = search rules in
+    let late : HasCleanDisk (state g.A.Store now) = subst (λ h. HasCleanDisk (state g.A.Store h)) (sym same) clean in
+    let was = c.rows.invariant.2 (omega (arith, late, moved.survives.clean)) has in
+    on_err c.from_residual.result _
+    (inr (inl (subst (λ h. IsUnchanged old (state g.A.Store h)) same (unchanged_then old mid (state g.A.Store now) was.2 (rw (c.in-Ok-Some.is) at (moved.same late))))))
+
+pub returns-clause-left : goal.returns-clause-left
+returns-clause-left g c clean has =
+    let old = state g.A.Store c.args.conn.now in
+    let now = c.rows.rows.conn.now in
+    let same : now ≡ c.conn-2-1.given.0 = search rules in
+    let late : HasCleanDisk (state g.A.Store now) = subst (λ h. HasCleanDisk (state g.A.Store h)) (sym same) clean in
+    inr (inl (subst (λ h. IsUnchanged old (state g.A.Store h)) same (c.rows.invariant.2 late has).2))

@@ -1,0 +1,44 @@
+use Rattle.std.proofs.Common.{inl, inr}
+use Rattle.sqlite.specs.Held.{state}
+use Rattle.bac_archive.proofs.QueryLemmas.{left_then}
+use Rattle.bac_archive.proofs.RowsLemmas.{on_err}
+use Rattle.bac_check.proofs.AskedLemmas.{as_left_behind, as_was_behind, has_still, twice_asked}
+use Rattle.bac_check.proofs.counts.Counts.add.Goals as goal
+
+pub returns-clause-same : goal.returns-clause-same
+returns-clause-same g c late has =
+    let old = state g.A.Store c.args.conn.now in
+    let mid = state g.A.Store c.logs.new.conn in
+    let last = state g.A.Store c.beginnings.new.conn in
+    let early = c.count_each.ensures.clean late in
+    let both = twice_asked old mid last has (c.in_ok-known.ensures.same (c.beginnings.ensures.clean early) has) (c.in_ok-begun.ensures.same early) in
+    as_was_behind g.A.Store c.args.conn.now c.beginnings.new.conn c.count_each.new.conn both (c.in_ok-count_each.ensures.same late (has_still old last both has))
+
+pub returns-in_err-known-clause-left : goal.returns-in_err-known-clause-left
+returns-in_err-known-clause-left g c late has = on_err c.from_residual.result _ (inr (c.logs.ensures.left late has))
+
+pub returns-in_err-begun-clause-left : goal.returns-in_err-begun-clause-left
+returns-in_err-begun-clause-left g c late has =
+    let old = state g.A.Store c.args.conn.now in
+    let mid = state g.A.Store c.logs.new.conn in
+    let one = c.in_ok-known.ensures.same (c.beginnings.ensures.clean late) has in
+    on_err c.from_residual-in_err-begun.result _
+    (inr (left_then old mid (state g.A.Store c.beginnings.new.conn) one (c.beginnings.ensures.left late (has_still old mid one has))))
+
+pub returns-in_err-add_epochs-clause-left : goal.returns-in_err-add_epochs-clause-left
+returns-in_err-add_epochs-clause-left g c late has =
+    let old = state g.A.Store c.args.conn.now in
+    let mid = state g.A.Store c.logs.new.conn in
+    on_err c.from_residual-in_err-add_epochs.result _
+    (inr (inl (twice_asked old mid (state g.A.Store c.beginnings.new.conn) has
+    (c.in_ok-known.ensures.same (c.beginnings.ensures.clean late) has) (c.in_ok-begun.ensures.same late))))
+
+pub returns-in_err-count_each-clause-left : goal.returns-in_err-count_each-clause-left
+returns-in_err-count_each-clause-left g c late has =
+    let old = state g.A.Store c.args.conn.now in
+    let mid = state g.A.Store c.logs.new.conn in
+    let last = state g.A.Store c.beginnings.new.conn in
+    let early = c.count_each.ensures.clean late in
+    let both = twice_asked old mid last has (c.in_ok-known.ensures.same (c.beginnings.ensures.clean early) has) (c.in_ok-begun.ensures.same early) in
+    on_err c.from_residual-in_err-count_each.result _
+    (inr (as_left_behind g.A.Store c.args.conn.now c.beginnings.new.conn c.count_each.new.conn both (c.in_err-count_each.ensures.left late (has_still old last both has))))
