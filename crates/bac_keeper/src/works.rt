@@ -1,5 +1,6 @@
 //! A work is done over the database in a file.
 
+ghost use Rattle.sqlite.specs.Files.{file_state};
 ghost use Rattle.sqlite.specs.Held.{state};
 ghost use Rattle.sqlite.specs.State.{State};
 ghost use Rattle.sqlite_wal.specs.Files.{image_at};
@@ -8,7 +9,7 @@ ghost use Rattle.bac_keeper.specs.Works.{Ended, Works};
 use crate::archives::{close_file, open_file};
 use bac_asked::NotDone;
 use bac_files::{DiskFiles, FileOf};
-use sqlite::{Alter, Connection, Start};
+use sqlite::{Alter, Connection, FileStore, Start};
 use sqlite_disk::Disk;
 
 /// What is done to an open database, with something beside it: an output, or another database.
@@ -29,6 +30,18 @@ pub(crate) trait Work<X> {
             result };
 }
 
+/// Does the work over the database in open files.
+fn work_over<D: Disk, X, W: Work<X>>(
+    conn: &mut Connection<FileStore<D>>,
+    work: &W,
+    with: &mut X,
+) -> Result<u8, NotDone>
+    requires { W.can_work work.now with.old }
+    ensures { W.does work.now (file_state conn.old) (file_state conn.new) with.old with.new result }
+{
+    work.work(conn, with)
+}
+
 /// Opens the database of this name, does the work and closes it.
 pub(crate) fn work_in<F: Start, X, W: Work<X>>(
     files: &mut DiskFiles<'_, F>,
@@ -44,6 +57,6 @@ pub(crate) fn work_in<F: Start, X, W: Work<X>>(
         Ok(conn) => conn,
         Err(fault) => return Err(fault),
     };
-    let done = work.work(&mut conn, with);
+    let done = work_over(&mut conn, work, with);
     close_file(files, conn, done)
 }

@@ -23,7 +23,7 @@ returns-in-Ok-clause-told g c clean =
     let same = c.in-Ok.ensures.same clean opened.is.schema in
     let before = g.E.Write.contents c.args.errors.now in
     let after = g.E.Write.contents c.tell_missing.new.errors in
-    let path : c.as_str.result.now ≡ string_bytes c.args.place.now.path = search rules in
+    let path : c.as_str.result.now ≡ string_bytes c.args.place.now.path = c.as_str.ensures.value in
     let follows : c.is_some.result ≡ is_some c.args.place.now.before = search rules in
     subst (λ (d : Database). TellsMissing d.trees (string_bytes c.args.place.now.path) (is_some c.args.place.now.before) before after) (sym same.0.now_is)
     (subst₂ (λ p b. TellsMissing (state g.A.Store c.open_archive.new.conn).now.trees p b before after) path follows (c.in-Ok.ensures.told clean opened.is.schema))

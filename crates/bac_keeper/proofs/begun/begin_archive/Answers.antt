@@ -1,10 +1,11 @@
-use Rattle.std.proofs.Common.{◌⊎◌, ◌≡◌, ◌∙◌, inl, inr, rules, subst, ap, sym}
+use Rattle.std.proofs.Common.{◌⊎◌, ◌≡◌, ◌∙◌, inl, inr, subst, ap, sym}
 use Rattle.bac_files.proofs.FileGhosts.{file_ghosts}
 use Rattle.sqlite_wal.specs.Files.{image_at}
 use Rattle.sqlite.specs.Effect.{Database}
 use Rattle.sqlite.specs.Held.{Held, state}
 use Rattle.bac_archive.specs.Schema.{no_schema, HasArchive}
-use Rattle.bac_archive.proofs.RowsLemmas.{on_err, because}
+use Rattle.bac_archive.proofs.RowsLemmas.{on_err}
+use Rattle.bac_keeper.proofs.EndLemmas.{handed_on}
 use Rattle.bac_archive.proofs.PartsLemmas.{on_ok_then}
 use Rattle.bac_keeper.proofs.BegunLemmas.{all_fail_so, archive_of, bars_made, begins_opened, not_both, on_err_so}
 use Rattle.bac_keeper.proofs.FileLemmas.{fails_so}
@@ -57,7 +58,7 @@ returns-clause-refused g c =
 
 pub returns-in_err-begin_part-clause-refused : goal.returns-in_err-begin_part-clause-refused
 returns-in_err-begin_part-clause-refused g c =
-    because c.from_residual.result c.in_err-begin_part.field-0.0 _ (search rules)
+    handed_on c.from_residual.result c.in_err-begin_part.field-0.0 _ c.from_residual.ensures.1
     (fails_so _ _ c.in_err-begin_part.field-0.0 (λ why it. inr (λ held. inr it)) c.in_err-begin_part.ensures.barred)
 
 pub returns-clause-left : goal.returns-clause-left

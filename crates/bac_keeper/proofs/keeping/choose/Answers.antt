@@ -9,7 +9,7 @@ use Rattle.bac_keeper.specs.Done.{Seeks, SeeksNone, given_of}
 use Rattle.bac_keeper.proofs.SeekLemmas.{none_kept, none_these, seeks_kept, seeks_these}
 use Rattle.bac_words.specs.declared.group.Group.{Group}
 use Rattle.bac_keeper.proofs.keeping.choose.Goals as goal
-use Rattle.bac_archive.proofs.RowsLemmas.{because}
+use Rattle.bac_keeper.proofs.EndLemmas.{handed_on}
 
 pub returns-then-is_empty-clause-chosen : goal.returns-then-is_empty-clause-chosen
 returns-then-is_empty-clause-chosen c =
@@ -29,7 +29,7 @@ returns-in_err-check_options-clause-none c =
     let zero : length c.as_slice-groups.result.now ≡ 0 = first_of (omega arith, grind (arith, nat_tests)) in
     let none : c.as_slice-groups.result.now ≡ [] = nil_from_length _ zero in
     let fault = c.in_err-check_options.field-0.0 in
-    because c.from_residual.result fault _ (search rules)
+    handed_on c.from_residual.result fault _ c.from_residual.ensures.1
     (none_kept c.args.asked.now.groups (given_of c.args.asked.now.options) fault (sym c.as_slice-groups.ensures ∙ none)
     (subst (λ (g : Given). AreNoOptions g fault) c.requires c.in_err-check_options.ensures))
 
@@ -37,6 +37,6 @@ pub returns-in_err-seek_each-clause-none : goal.returns-in_err-seek_each-clause-
 returns-in_err-seek_each-clause-none c =
     let some : c.as_slice-groups.result.now ≡ [] → ⊥ = λ e. first_of (search (rules, e), grind (arith, e)) in
     let fault = c.in_err-seek_each.field-0.0 in
-    because c.from_residual-in_err-seek_each.result fault _ (search rules)
+    handed_on c.from_residual-in_err-seek_each.result fault _ c.from_residual-in_err-seek_each.ensures.1
     (none_these c.args.asked.now.groups (given_of c.args.asked.now.options) fault (λ e. some (c.as_slice-groups.ensures ∙ e))
     (subst₂ (λ (gs : List Group) (g : Given). WantsMemory fault ⊎ ((which : Group) × Contains gs which × SeeksNone g which fault)) c.as_slice-groups.ensures c.requires c.in_err-seek_each.ensures.none))

@@ -1,5 +1,5 @@
 use Rattle.bac_files.proofs.FileGhosts.{file_ghosts}
-use Rattle.std.proofs.Common.{refl, ◌∙◌, ℕ, List, Bool, inl, inr, ◌||◌, is_some, rules, subst₂}
+use Rattle.std.proofs.Common.{refl, ◌∙◌, ℕ, List, Bool, inl, inr, ◌||◌, is_some, subst₂}
 use Rattle.sqlite.specs.Files.{file_state}
 use Rattle.sqlite_wal.specs.Files.{image_at}
 use Rattle.bac_files.specs.Files.{IsNamed}
@@ -15,7 +15,7 @@ use Rattle.bac_keeper.proofs.FileLemmas.{all_ask_so, all_fail, asks_file, ended_
 use Rattle.bac_words.specs.Groups.{are_any}
 use Rattle.bac_keeper.proofs.NamesLemmas.{asks_none, may_ask, never_fails}
 use Rattle.bac_keeper.proofs.keeping.keep.Goals as goal
-use Rattle.bac_archive.proofs.RowsLemmas.{because}
+use Rattle.bac_keeper.proofs.EndLemmas.{handed_on}
 
 pub returns-clause-kept : goal.returns-clause-kept
 returns-clause-kept g c =
@@ -51,7 +51,7 @@ returns-clause-fault g c =
 
 pub returns-in_err-conn-clause-fault : goal.returns-in_err-conn-clause-fault
 returns-in_err-conn-clause-fault g c =
-    because c.from_residual-in_err-conn.result c.in_err-conn.field-0.0 _ (search rules)
+    handed_on c.from_residual-in_err-conn.result c.in_err-conn.field-0.0 _ c.from_residual-in_err-conn.ensures.1
     (fails_so _ _ c.in_err-conn.field-0.0 (λ why it. (c.in_ok-chosen.chosen, c.in_ok-chosen.ensures.chosen, inl (subst₂ (λ (p : List ℕ) (b : Bool). IsNotOpened p b c.open_file.new.files why) c.as_str.ensures.value c.may_make.ensures it))) c.in_err-conn.ensures.fault)
 
 pub returns-clause-stays : goal.returns-clause-stays
@@ -64,21 +64,21 @@ returns-clause-stays g c unused =
 
 pub returns-in_err-chosen-clause-fault : goal.returns-in_err-chosen-clause-fault
 returns-in_err-chosen-clause-fault g c =
-    because c.from_residual.result c.in_err-chosen.field-0.0 _ (search rules)
+    handed_on c.from_residual.result c.in_err-chosen.field-0.0 _ c.from_residual.ensures.1
     (never_fails _ c.in_err-chosen.field-0.0 (asks_none c.args.asked.now.groups (given_of c.args.asked.now.options) c.in_err-chosen.field-0.0 c.in_err-chosen.ensures.none))
 
 pub returns-in_err-chosen-clause-ends : goal.returns-in_err-chosen-clause-ends
 returns-in_err-chosen-clause-ends g c =
     let disk = file_ghosts g.row.F g.F.Start g.F.Start-dict g.F.Destruct-dict in
     let over = socket_rules g.S.Sockets.opens g.S.Sockets.closes g.S.Socket.Port.sends g.S.Socket.Port.receives g.S.Socket.Port.receives_within in
-    because c.from_residual.result c.in_err-chosen.field-0.0 _ (search rules)
+    handed_on c.from_residual.result c.in_err-chosen.field-0.0 _ c.from_residual.ensures.1
     (may_ask (EndsKeep over (at_once g.S.Recalls.holds g.C.Clock.reads c.args.clock) disk (image_at g.F.Start) c.args.asked.now c.args.sockets.now c.args.sockets.now c.args.files.now) c.in_err-chosen.field-0.0 (inr (inl (c.in_err-chosen.ensures.none, refl))))
 
 pub returns-in_err-conn-clause-ends : goal.returns-in_err-conn-clause-ends
 returns-in_err-conn-clause-ends g c =
     let disk = file_ghosts g.row.F g.F.Start g.F.Start-dict g.F.Destruct-dict in
     let over = socket_rules g.S.Sockets.opens g.S.Sockets.closes g.S.Socket.Port.sends g.S.Socket.Port.receives g.S.Socket.Port.receives_within in
-    because c.from_residual-in_err-conn.result c.in_err-conn.field-0.0 _ (search rules)
+    handed_on c.from_residual-in_err-conn.result c.in_err-conn.field-0.0 _ c.from_residual-in_err-conn.ensures.1
     (file_asks (EndsKeep over (at_once g.S.Recalls.holds g.C.Clock.reads c.args.clock) disk (image_at g.F.Start) c.args.asked.now c.args.sockets.now c.args.sockets.now c.open_file.new.files) c.in_err-conn.field-0.0 c.in_err-conn.ensures.file)
 
 pub returns-clause-ends : goal.returns-clause-ends

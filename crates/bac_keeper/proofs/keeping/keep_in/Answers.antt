@@ -1,4 +1,4 @@
-use Rattle.std.proofs.Common.{rules, inl, inr, ◌≡◌, ◌∙◌, ℕ, subst, sym}
+use Rattle.std.proofs.Common.{inl, inr, ◌≡◌, ◌∙◌, ℕ, subst, sym}
 use Rattle.std.proofs.lemmas.Result.{IfOk-weaker}
 use Rattle.sqlite.specs.Effect.{Database}
 use Rattle.sqlite.specs.Held.{state}
@@ -9,7 +9,7 @@ use Rattle.bac_keeper.proofs.ArchiveLemmas.{loses_nothing, tells_weaker}
 use Rattle.bac_fetch.specs.Faults.{EndsKeeping, HasNone, LacksAddress}
 use Rattle.bac_keeper.specs.Archives.{IsHeld, KeepsArchive}
 use Rattle.bac_archive.specs.Schema.{OverArchive, HasArchive}
-use Rattle.bac_archive.proofs.RowsLemmas.{because}
+use Rattle.bac_keeper.proofs.EndLemmas.{handed_on}
 use Rattle.bac_keeper.specs.Done.{EndsOver, TellsThese}
 use Rattle.bac_fetch.specs.Ahead.{at_once}
 use Rattle.bac_ports.specs.Sockets.{socket_rules}
@@ -83,13 +83,13 @@ returns-in_err-status-clause-stays g c held was has =
 
 pub returns-in_err-begin_archive-clause-fault : goal.returns-in_err-begin_archive-clause-fault
 returns-in_err-begin_archive-clause-fault g c =
-    because c.from_residual.result c.in_err-begin_archive.field-0.0 _ (search rules)
+    handed_on c.from_residual.result c.in_err-begin_archive.field-0.0 _ c.from_residual.ensures.1
     (fails_so _ _ c.in_err-begin_archive.field-0.0 (λ why it. elim it [ inl answered ↦ inl answered | inr refused ↦ inr (λ held. inl (refused held)) ]) c.in_err-begin_archive.ensures.refused)
 
 pub returns-in_err-begin_archive-clause-ends : goal.returns-in_err-begin_archive-clause-ends
 returns-in_err-begin_archive-clause-ends g c =
     let over = socket_rules g.S.Sockets.opens g.S.Sockets.closes g.S.Socket.Port.sends g.S.Socket.Port.receives g.S.Socket.Port.receives_within in
-    because c.from_residual.result c.in_err-begin_archive.field-0.0 _ (search rules)
+    handed_on c.from_residual.result c.in_err-begin_archive.field-0.0 _ c.from_residual.ensures.1
     (file_asks (λ fault. EndsKeeping over (at_once g.S.Recalls.holds g.C.Clock.reads c.args.clock c.args.window) c.args.chosen (Unit {0}) (Unit {0}) c.args.sockets.now c.args.sockets.now fault
     × (IsHeld (state g.A.Store c.begin_archive.new.conn) → EndsOver over (at_once g.S.Recalls.holds g.C.Clock.reads c.args.clock c.args.window) c.args.chosen (given_in c.args.options.now) c.args.sockets.now c.args.sockets.now (state g.A.Store c.args.conn.now).now fault))
     c.in_err-begin_archive.field-0.0 c.in_err-begin_archive.ensures.file)
@@ -100,7 +100,7 @@ returns-in_err-status-clause-fault g c =
     let archive = state g.A.Store c.begin_archive.new.conn in
     let part = file_ghosts g.row.G g.G.Start g.G.Start-dict g.G.Destruct-dict in
     let bars = BarsPart part (image_at g.G.Start) c.args.place.now.before c.begin_archive.new.parts in
-    because c.from_residual-in_err-status.result c.in_err-status.field-0.0 _ (search rules)
+    handed_on c.from_residual-in_err-status.result c.in_err-status.field-0.0 _ c.from_residual-in_err-status.ensures.1
     (refused_so over (at_once g.S.Recalls.holds g.C.Clock.reads c.args.clock c.args.window) bars c.args.chosen (given_in c.args.options.now) (state g.A.Store c.args.conn.now).now archive (state g.A.Store c.keep_chosen.new.conn) c.args.sockets.now c.keep_chosen.new.sockets c.in_err-status.field-0.0
     (λ held. let opened = c.in_ok-begin_archive.ensures.archive (c.keep_chosen.ensures.clean held.0) in (opened, opened.is.schema)) c.in_err-status.ensures.caused)
 
@@ -109,7 +109,7 @@ returns-in_err-status-clause-ends g c =
     let over = socket_rules g.S.Sockets.opens g.S.Sockets.closes g.S.Socket.Port.sends g.S.Socket.Port.receives g.S.Socket.Port.receives_within in
     let archive = state g.A.Store c.begin_archive.new.conn in
     let last = state g.A.Store c.keep_chosen.new.conn in
-    because c.from_residual-in_err-status.result c.in_err-status.field-0.0 _ (search rules)
+    handed_on c.from_residual-in_err-status.result c.in_err-status.field-0.0 _ c.from_residual-in_err-status.ensures.1
     (may_ask (λ fault. EndsKeeping over (at_once g.S.Recalls.holds g.C.Clock.reads c.args.clock c.args.window) c.args.chosen (Unit {0}) (Unit {0}) c.args.sockets.now c.keep_chosen.new.sockets fault
     × (IsHeld last → EndsOver over (at_once g.S.Recalls.holds g.C.Clock.reads c.args.clock c.args.window) c.args.chosen (given_in c.args.options.now) c.args.sockets.now c.keep_chosen.new.sockets (state g.A.Store c.args.conn.now).now fault)) c.in_err-status.field-0.0 (
       keeping_so over (at_once g.S.Recalls.holds g.C.Clock.reads c.args.clock c.args.window) (OverArchive archive last (HasNone archive.now.trees)) (Unit {0}) (OverArchive archive last (LacksAddress (given_in c.args.options.now) archive.now.trees)) (Unit {0})

@@ -9,7 +9,7 @@ use Rattle.bac_keeper.specs.Done.{Seeks}
 use Rattle.bac_keeper.proofs.SeekLemmas.{zip_push}
 use Rattle.bac_words.specs.declared.group.Group.{Group}
 use Rattle.bac_keeper.proofs.keeping.seek_each.Goals as goal
-use Rattle.bac_archive.proofs.RowsLemmas.{because}
+use Rattle.bac_keeper.proofs.EndLemmas.{handed_on}
 
 -- those that were taken and this one
 one_more : (groups : List Group) (i : ℕ) (group : Group) → i < length groups → group ≡ get_or groups i group → take (i + 1) groups ≡ take i groups ++ group ∷ []
@@ -40,9 +40,9 @@ returns-in_err-sought-clause-none c =
     let i = c.loop-group.group-index in
     let below : i < length groups = omega arith in
     let item : group ≡ get_or groups i group = search rules in
-    because c.from_residual.result c.in_err-sought.field-0.0 _ (search rules)
+    handed_on c.from_residual.result c.in_err-sought.field-0.0 _ c.from_residual.ensures.1
     (inr (group, subst (Contains groups) (sym item) (Contains-get_or groups i group below), c.in_err-sought.ensures.none))
 
 pub returns-in_err-add_sought-clause-none : goal.returns-in_err-add_sought-clause-none
 returns-in_err-add_sought-clause-none c =
-    because c.from_residual-in_err-add_sought.result c.in_err-add_sought.field-0.0 _ (search rules) (inl c.in_err-add_sought.ensures.memory)
+    handed_on c.from_residual-in_err-add_sought.result c.in_err-add_sought.field-0.0 _ c.from_residual-in_err-add_sought.ensures.1 (inl c.in_err-add_sought.ensures.memory)

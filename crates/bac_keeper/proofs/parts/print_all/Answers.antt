@@ -11,7 +11,7 @@ returns-clause-printed g c =
     let before = c.in-Some.before.now in
     let last = c.in-Some.last.now in
     let all : c.args.paths.now ≡ before ++ (last ∷ []) = search rules in
-    let name : c.as_str.result.now ≡ string_bytes last = search rules in
+    let name : c.as_str.result.now ≡ string_bytes last = c.as_str.ensures.value in
     inr (
       map string_bytes before,
       string_bytes last,

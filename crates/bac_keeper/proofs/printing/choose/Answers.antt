@@ -7,7 +7,7 @@ use Rattle.bac_keeper.specs.Shown.{Shows, ShowsBy, ShowsNoneBy, none_given}
 use Rattle.bac_kept.specs.declared.printing.Shown.TheVariants.{One, Device}
 use Rattle.bac_words.specs.declared.job.Kept.{Kept}
 use Rattle.bac_keeper.proofs.printing.choose.Goals as goal
-use Rattle.bac_archive.proofs.RowsLemmas.{because}
+use Rattle.bac_keeper.proofs.EndLemmas.{handed_on}
 
 one_of : (words : Kept) (address instance : Text) (wanted : Wanted) → words.address ≡ Some address → words.instance ≡ Some instance
     → IsAskedBy (log_words address instance none_given) wanted.asking → AsksItsSource wanted → Shows words (One wanted.source)
@@ -37,12 +37,12 @@ pub returns-in_err-named-in-Some-text_of-clause-none : goal.returns-in_err-named
 returns-in_err-named-in-Some-text_of-clause-none c =
     let address : c.args.asked.now.address ≡ Some c.in-Some.address.now = search rules in
     let instance : c.args.asked.now.instance ≡ Some c.in-Some-text_of.instance.now = search rules in
-    because c.from_residual.result c.in_err-named-in-Some-text_of.field-0.0 _ (search rules)
+    handed_on c.from_residual.result c.in_err-named-in-Some-text_of.field-0.0 _ c.from_residual.ensures.1
     (subst₂ (λ (x y : Option Text). ShowsNoneBy x y c.in_err-named-in-Some-text_of.field-0.0) (sym address) (sym instance) c.in_err-named-in-Some-text_of.ensures.unnamed)
 
 pub returns-in_err-named-in-None-clause-none : goal.returns-in_err-named-in-None-clause-none
 returns-in_err-named-in-None-clause-none c =
     let address : c.args.asked.now.address ≡ Some c.in-Some.address.now = search rules in
     let instance : c.args.asked.now.instance ≡ None = search rules in
-    because c.from_residual-in_err-named-in-None.result c.in_err-named-in-None.field-0.0 _ (search rules)
+    handed_on c.from_residual-in_err-named-in-None.result c.in_err-named-in-None.field-0.0 _ c.from_residual-in_err-named-in-None.ensures.1
     (subst₂ (λ (x y : Option Text). ShowsNoneBy x y c.in_err-named-in-None.field-0.0) (sym address) (sym instance) c.in_err-named-in-None.ensures.unnamed)

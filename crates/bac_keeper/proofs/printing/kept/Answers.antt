@@ -8,7 +8,7 @@ use Rattle.bac_keeper.proofs.FileLemmas.{all_ask_so, all_fail}
 use Rattle.bac_keeper.proofs.NamesLemmas.{asks_unshown, may_ask, never_fails}
 use Rattle.bac_keeper.proofs.WorkLemmas.{work_asks, work_fails, work_named, work_prints}
 use Rattle.bac_keeper.proofs.printing.kept.Goals as goal
-use Rattle.bac_archive.proofs.RowsLemmas.{because}
+use Rattle.bac_keeper.proofs.EndLemmas.{handed_on}
 
 pub returns-clause-named : goal.returns-clause-named
 returns-clause-named g c =
@@ -30,12 +30,12 @@ returns-clause-printed g c =
 
 pub returns-in_err-shown-clause-fault : goal.returns-in_err-shown-clause-fault
 returns-in_err-shown-clause-fault g c =
-    because c.from_residual.result c.in_err-shown.field-0.0 _ (search rules)
+    handed_on c.from_residual.result c.in_err-shown.field-0.0 _ c.from_residual.ensures.1
     (never_fails _ c.in_err-shown.field-0.0 (asks_unshown _ _ c.in_err-shown.field-0.0 c.in_err-shown.ensures.none))
 
 pub returns-in_err-shown-clause-ends : goal.returns-in_err-shown-clause-ends
 returns-in_err-shown-clause-ends g c =
-    because c.from_residual.result c.in_err-shown.field-0.0 _ (search rules)
+    handed_on c.from_residual.result c.in_err-shown.field-0.0 _ c.from_residual.ensures.1
     (may_ask (EndsPrint c.args.asked.now) c.in_err-shown.field-0.0 (inl c.in_err-shown.ensures.none))
 
 pub returns-clause-ends : goal.returns-clause-ends

@@ -1,15 +1,15 @@
-use Rattle.std.proofs.Common.{◌⊎◌, rules, inl, inr}
+use Rattle.std.proofs.Common.{◌⊎◌, inl, inr}
 use Rattle.bac_asked.specs.Faults.{RefusesLine, WantsMemory}
 use Rattle.bac_asked.specs.declared.end.NotDone.{NotDone}
 use Rattle.sqlite.specs.Held.{state}
 use Rattle.bac_keeper.proofs.FileLemmas.{fails_so, file_asks}
 use Rattle.bac_keeper.proofs.PrintLemmas.{all_print_ask, all_print_fails}
 use Rattle.bac_keeper.proofs.printing.print_in.Goals as goal
-use Rattle.bac_archive.proofs.RowsLemmas.{because}
+use Rattle.bac_keeper.proofs.EndLemmas.{handed_on}
 
 pub returns-in_err-open_archive-clause-fault : goal.returns-in_err-open_archive-clause-fault
 returns-in_err-open_archive-clause-fault g c =
-    because c.from_residual.result c.in_err-open_archive.field-0.0 _ (search rules)
+    handed_on c.from_residual.result c.in_err-open_archive.field-0.0 _ c.from_residual.ensures.1
     (fails_so _ _ c.in_err-open_archive.field-0.0 (λ why it. elim it [
       | inl answered ↦ inl answered
       | inr refused ↦ inr (c.open_archive.ensures.clean, (λ held. inl (refused held)))
@@ -17,7 +17,7 @@ returns-in_err-open_archive-clause-fault g c =
 
 pub returns-in_err-open_archive-clause-ends : goal.returns-in_err-open_archive-clause-ends
 returns-in_err-open_archive-clause-ends g c =
-    because c.from_residual.result c.in_err-open_archive.field-0.0 _ (search rules)
+    handed_on c.from_residual.result c.in_err-open_archive.field-0.0 _ c.from_residual.ensures.1
     (file_asks (λ (f : NotDone). WantsMemory f ⊎ RefusesLine f) c.in_err-open_archive.field-0.0 c.in_err-open_archive.ensures.file)
 
 pub returns-clause-fault : goal.returns-clause-fault

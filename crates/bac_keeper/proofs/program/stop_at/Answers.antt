@@ -1,4 +1,4 @@
-use Rattle.std.proofs.Common.{◌≡◌, inl, refl, inr, false, Err, ◌∙◌, subst, rules}
+use Rattle.std.proofs.Common.{◌≡◌, inl, refl, inr, false, Err, ◌∙◌, subst}
 use Rattle.bac_files.proofs.FileGhosts.{file_ghosts}
 use Rattle.sqlite_wal.specs.Files.{image_at}
 use Rattle.std.proofs.lemmas.Result.{IfOk-weaker}
@@ -13,7 +13,7 @@ pub returns-clause-stopped : goal.returns-clause-stopped
 returns-clause-stopped g c =
     let done = c.stop-done in
     let disk = file_ghosts g.row.F g.F.Start g.F.Start-dict g.F.Destruct-dict in
-    let path : c.as_str-path.result.now ≡ string_bytes c.in-Ok.place.path = search rules in
+    let path : c.as_str-path.result.now ≡ string_bytes c.in-Ok.place.path = c.as_str-path.ensures.value in
     IfOk-weaker c.tell_done-2.result _ _
     (λ status it. elim it [
       | inl stopped ↦ inl ((c.in-Ok.place, c.in-Ok.ensures.placed, subst (λ n. IsNamed n false done.new.files) path stopped.0.0, stopped.0.1), stopped.1)

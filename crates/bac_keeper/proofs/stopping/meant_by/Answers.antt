@@ -2,7 +2,7 @@ use Rattle.std.proofs.Common.{◌≡◌, [], inl, inr, length, refl, arith, rule
 use Rattle.std.proofs.lemmas.Bool.Decides.{nat_tests}
 use Rattle.std.proofs.lemmas.List.{nil_from_length}
 use Rattle.bac_keeper.proofs.stopping.meant_by.Goals as goal
-use Rattle.bac_archive.proofs.RowsLemmas.{because}
+use Rattle.bac_keeper.proofs.EndLemmas.{handed_on}
 
 pub returns-then-is_empty-clause-means : goal.returns-then-is_empty-clause-means
 returns-then-is_empty-clause-means c =
@@ -27,7 +27,7 @@ returns-in_err-named-clause-none c =
     let zero : length c.args.instances.now ≡ 0 = first_of (omega arith, grind (arith, nat_tests)) in
     let none : c.args.instances.now ≡ [] = nil_from_length _ zero in
     let fault = c.in_err-named.field-0.0 in
-    because c.from_residual.result fault _ (search rules) (inl (
+    handed_on c.from_residual.result fault _ c.from_residual.ensures.1 (inl (
       none,
       c.in_err-named.ensures.unnamed,
     ))
@@ -35,5 +35,5 @@ returns-in_err-named-clause-none c =
 pub returns-in_err-named_all-clause-none : goal.returns-in_err-named_all-clause-none
 returns-in_err-named_all-clause-none c =
     let fault = c.in_err-named_all.field-0.0 in
-    because c.from_residual-in_err-named_all.result fault _ (search rules)
+    handed_on c.from_residual-in_err-named_all.result fault _ c.from_residual-in_err-named_all.ensures.1
     (inr c.in_err-named_all.ensures.unnamed)

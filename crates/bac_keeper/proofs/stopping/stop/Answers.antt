@@ -1,4 +1,4 @@
-use Rattle.std.proofs.Common.{◌⊎◌, inl, inr, refl, rules}
+use Rattle.std.proofs.Common.{◌⊎◌, inl, inr, refl}
 use Rattle.sqlite_wal.specs.Files.{image_at}
 use Rattle.bac_asked.specs.Faults.{RefusesLine, WantsMemory}
 use Rattle.bac_asked.specs.declared.end.NotDone.{NotDone}
@@ -9,7 +9,7 @@ use Rattle.bac_keeper.proofs.FileLemmas.{all_ask_so, all_fail, fails_clean}
 use Rattle.bac_keeper.proofs.NamesLemmas.{asks_unmeant, may_ask, never_fails}
 use Rattle.bac_keeper.proofs.WorkLemmas.{work_asks, work_fails, work_keeps, work_loses_none, work_named, work_stops}
 use Rattle.bac_keeper.proofs.stopping.stop.Goals as goal
-use Rattle.bac_archive.proofs.RowsLemmas.{because}
+use Rattle.bac_keeper.proofs.EndLemmas.{handed_on}
 
 pub returns-clause-named : goal.returns-clause-named
 returns-clause-named g c =
@@ -43,12 +43,12 @@ returns-clause-items g c =
 
 pub returns-in_err-meant-clause-fault : goal.returns-in_err-meant-clause-fault
 returns-in_err-meant-clause-fault g c =
-    because c.from_residual.result c.in_err-meant.field-0.0 _ (search rules)
+    handed_on c.from_residual.result c.in_err-meant.field-0.0 _ c.from_residual.ensures.1
     (never_fails _ c.in_err-meant.field-0.0 (asks_unmeant c.args.asked.now.groups (given_of c.args.asked.now.options) c.in_err-meant.field-0.0 c.in_err-meant.ensures.none))
 
 pub returns-in_err-meant-clause-ends : goal.returns-in_err-meant-clause-ends
 returns-in_err-meant-clause-ends g c =
-    because c.from_residual.result c.in_err-meant.field-0.0 _ (search rules)
+    handed_on c.from_residual.result c.in_err-meant.field-0.0 _ c.from_residual.ensures.1
     (may_ask (EndsStop c.args.asked.now) c.in_err-meant.field-0.0 (inl c.in_err-meant.ensures.none))
 
 pub returns-clause-ends : goal.returns-clause-ends

@@ -1,4 +1,4 @@
-use Rattle.std.proofs.Common.{◌⊎◌, rules, inl, inr, subst, sym}
+use Rattle.std.proofs.Common.{◌⊎◌, inl, inr, subst, sym}
 use Rattle.bac_asked.specs.Faults.{RefusesLine, WantsMemory}
 use Rattle.bac_asked.specs.declared.end.NotDone.{NotDone}
 use Rattle.sqlite.specs.Effect.{Database}
@@ -9,7 +9,7 @@ use Rattle.bac_keeper.proofs.FileLemmas.{fails_so, file_asks}
 use Rattle.bac_keeper.proofs.NamesLemmas.{may_ask}
 use Rattle.bac_keeper.proofs.PrintLemmas.{printing_fails, stop_asks, stop_fails}
 use Rattle.bac_archive.specs.Schema.{HasArchive}
-use Rattle.bac_archive.proofs.RowsLemmas.{because}
+use Rattle.bac_keeper.proofs.EndLemmas.{handed_on}
 use Rattle.bac_keeper.proofs.stopping.stop_in.Goals as goal
 
 pub returns-in_err-these-clause-stays : goal.returns-in_err-these-clause-stays
@@ -53,32 +53,32 @@ returns-clause-stays g c held was has =
 
 pub returns-in_err-open_archive-clause-fault : goal.returns-in_err-open_archive-clause-fault
 returns-in_err-open_archive-clause-fault g c =
-    because c.from_residual.result c.in_err-open_archive.field-0.0 _ (search rules)
+    handed_on c.from_residual.result c.in_err-open_archive.field-0.0 _ c.from_residual.ensures.1
     (fails_so _ _ c.in_err-open_archive.field-0.0 (λ why it. elim it [ inl answered ↦ inl answered | inr refused ↦ inr (λ held. inl (refused held)) ]) c.in_err-open_archive.ensures.refused)
 
 pub returns-in_err-open_archive-clause-ends : goal.returns-in_err-open_archive-clause-ends
 returns-in_err-open_archive-clause-ends g c =
-    because c.from_residual.result c.in_err-open_archive.field-0.0 _ (search rules)
+    handed_on c.from_residual.result c.in_err-open_archive.field-0.0 _ c.from_residual.ensures.1
     (file_asks (λ (f : NotDone). WantsMemory f ⊎ RefusesLine f) c.in_err-open_archive.field-0.0 c.in_err-open_archive.ensures.file)
 
 pub returns-in_err-these-clause-fault : goal.returns-in_err-these-clause-fault
 returns-in_err-these-clause-fault g c =
     let archive = state g.A.Store c.open_archive.new.conn in
-    because c.from_residual-in_err-these.result c.in_err-these.field-0.0 _ (search rules)
+    handed_on c.from_residual-in_err-these.result c.in_err-these.field-0.0 _ c.from_residual-in_err-these.ensures.1
     (stop_fails c.args.meant.now (state g.A.Store c.args.conn.now) archive (state g.A.Store c.stop_known.new.conn) (λ held. c.in_ok-open_archive.ensures.archive (c.stop_known.ensures.clean held.0))
     c.in_err-these.field-0.0 c.in_err-these.ensures.fault)
 
 pub returns-in_err-these-clause-ends : goal.returns-in_err-these-clause-ends
 returns-in_err-these-clause-ends g c =
-    because c.from_residual-in_err-these.result c.in_err-these.field-0.0 _ (search rules)
+    handed_on c.from_residual-in_err-these.result c.in_err-these.field-0.0 _ c.from_residual-in_err-these.ensures.1
     (stop_asks _ c.in_err-these.field-0.0 c.in_err-these.ensures.fault)
 
 pub returns-in_err-print_stopped-clause-fault : goal.returns-in_err-print_stopped-clause-fault
 returns-in_err-print_stopped-clause-fault g c =
-    because c.from_residual-in_err-print_stopped.result c.in_err-print_stopped.field-0.0 _ (search rules)
+    handed_on c.from_residual-in_err-print_stopped.result c.in_err-print_stopped.field-0.0 _ c.from_residual-in_err-print_stopped.ensures.1
     (printing_fails _ c.in_err-print_stopped.field-0.0 c.in_err-print_stopped.ensures.fault)
 
 pub returns-in_err-print_stopped-clause-ends : goal.returns-in_err-print_stopped-clause-ends
 returns-in_err-print_stopped-clause-ends g c =
-    because c.from_residual-in_err-print_stopped.result c.in_err-print_stopped.field-0.0 _ (search rules)
+    handed_on c.from_residual-in_err-print_stopped.result c.in_err-print_stopped.field-0.0 _ c.from_residual-in_err-print_stopped.ensures.1
     (may_ask (λ (f : NotDone). WantsMemory f ⊎ RefusesLine f) c.in_err-print_stopped.field-0.0 c.in_err-print_stopped.ensures.fault)

@@ -13,7 +13,7 @@ returns-in-Err g c = inl (record {
 
 pub returns : goal.returns
 returns g c =
-    let done = c.work-done in
+    let done = c.work_over-done in
     let close = c.close_file.ensures in
     inr (record {
       opened = c.in-Ok.conn;

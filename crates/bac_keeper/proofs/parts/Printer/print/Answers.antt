@@ -1,7 +1,8 @@
-use Rattle.std.proofs.Common.{◌≡◌, Err, Ok, ap, sym, subst, rules}
+use Rattle.std.proofs.Common.{Ok, ap, sym, subst}
 use Rattle.std.proofs.lemmas.Bool.{or_parts}
 use Rattle.sqlite.specs.Held.{state}
 use Rattle.bac_files.specs.Parts.{reading}
+use Rattle.bac_keeper.proofs.EndLemmas.{err_is}
 use Rattle.bac_keeper.proofs.PartedLemmas.{refused_read}
 use Rattle.bac_keeper.specs.Parted.{ReadsBy}
 use Rattle.bac_keeper.proofs.parts.Printer.print.Goals as goal
@@ -11,8 +12,7 @@ returns-in_err-open_archive-clause-read g c =
     let found = state g.A.Store c.args.conn.now in
     let last = state g.A.Store c.open_archive.new.conn in
     let out = g.O.Write.contents c.args.output.now in
-    let is : c.from_residual.result ≡ Err c.in_err-open_archive.field-0.0 = search rules in
-    subst (λ r. ReadsBy r c.args.self.now (reading found last) out out c.args.self.now) (sym is)
+    subst (λ r. ReadsBy r c.args.self.now (reading found last) out out c.args.self.now) (sym (err_is c.from_residual.result c.in_err-open_archive.field-0.0 c.from_residual.ensures.1))
     (refused_read c.args.self.now c.args.self.now found last out out c.in_err-open_archive.field-0.0 c.in_err-open_archive.ensures.file c.in_err-open_archive.ensures.refused)
 
 pub returns-clause-read : goal.returns-clause-read
