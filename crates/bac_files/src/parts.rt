@@ -78,7 +78,8 @@ impl<'a> FolderFiles<'a> {
     }
 }
 
-/// Reads the database in open files.
+/// Reads the database in open files. The disk is any: of a known one the prover would show all that
+/// makes it a store anew.
 fn read_open<D: Disk, R: Reader, O: Write>(
     conn: &mut Connection<FileStore<D>>,
     reader: &mut R,

@@ -30,7 +30,8 @@ pub(crate) trait Work<X> {
             result };
 }
 
-/// Does the work over the database in open files.
+/// Does the work over the database in open files. The disk is any: of a known one the prover would
+/// show all that makes it a store anew.
 fn work_over<D: Disk, X, W: Work<X>>(
     conn: &mut Connection<FileStore<D>>,
     work: &W,
