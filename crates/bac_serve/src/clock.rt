@@ -4,8 +4,7 @@ ghost use Rattle.std.specs.Prelude.{Option};
 ghost use Rattle.bac_wire.specs.Stamp.{CivilTime};
 
 use bac_wire::Stamp;
-use jiff::Timestamp;
-use jiff::tz::TimeZone;
+use jiff_core::civil::DateTime;
 
 /// Tells the time.
 pub trait Clock {
@@ -34,7 +33,8 @@ impl<R: std::time::Clock> Clock for SystemClock<R> {
     ghost tells = { λ old moment new. Unit {0} };
 
     fn now(&mut self) -> Option<Stamp> {
-        let now = Timestamp::now(&self.rt).ok()?;
-        Stamp::of_civil(TimeZone::UTC.to_datetime(now).to_plain())
+        let since_1970 = self.rt.since_1970().ok()?;
+        let nanoseconds = i128::try_from(since_1970.as_nanos()).ok()?;
+        Stamp::of_civil(DateTime::from_nanosecond(nanoseconds).ok()?)
     }
 }

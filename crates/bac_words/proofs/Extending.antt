@@ -12,11 +12,12 @@ both : (a : App) (first second : List Rule) → with_rules a (first ++ second) �
 both a [] second = refl
 both a (r ∷ rs) second = both (with_rule a r) rs second
 
--- a command that is extended twice is extended by both
-pub twice : {first second : List Rule} {old mid new : Command} → Extends old first mid → Extends mid second new → Extends old (first ++ second) new
-twice {first} {second} {old} p q = record {
-  app = q.app ∙ ap (λ (a : App). with_rules a second) p.app ∙ sym (both (app_of old) first second);
-  globals = q.globals ∙ p.globals;
+-- a command with the words of a tool's page is the tool's
+pub paged : {a b : App} {own shared : List Rule} {old mid new : Command} → IsCommand a old → with_rules a (own ++ shared) ≡ b
+    → Extends old own mid → Extends mid shared new → IsCommand b new
+paged {a} {b} {own} {shared} {old} c is p q = record {
+  app = q.app ∙ ap (λ (x : App). with_rules x shared) (p.app ∙ ap (λ (x : App). with_rules x own) c.app) ∙ sym (both a own shared) ∙ is;
+  globals = q.globals ∙ p.globals ∙ c.globals;
 }
 
 -- a command with one more word has the rest to come

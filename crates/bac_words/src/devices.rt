@@ -31,14 +31,6 @@ struct Spoken<'a> {
     way: Option<Behind<'a>>,
 }
 
-/// The parts of a line between its blanks.
-fn words(alloc: Global, line: &[u8]) -> Result<Vec<&[u8]>, AllocError>
-    ensures { IfOk result
-        (λ parts. map (λ part. part.now) parts.items ≡ slice_split (λ c. c == 32) line.now) }
-{
-    line.split(|c| *c == b' ').collect(alloc)
-}
-
 /// A network and an address there, if they are ones.
 fn way_if<'a>(net: &'a [u8], address: &'a [u8]) -> Option<Behind<'a>>
     ensures { option_map said_way result
@@ -121,6 +113,15 @@ fn device_of<'a>(words: &[&'a [u8]]) -> Option<Spoken<'a>>
     }
 }
 
+/// The device of a line.
+fn device_in(alloc: Global, line: &[u8]) -> Result<Option<Spoken<'_>>, AllocError>
+    ensures { IfOk result (λ spoken. option_map said_device spoken
+        ≡ device_of (slice_split (λ c. c == 32) line.now)) }
+{
+    let words = line.split(|c| *c == b' ').collect::<Vec<_>>(alloc)?;
+    Ok(device_of(&words))
+}
+
 /// These octets as a text.
 fn name_of(alloc: Global, octets: &[u8]) -> Result<Name, AllocError>
     ensures { IfOk result (λ name. name ≡ octets.now) }
@@ -133,24 +134,15 @@ fn name_of(alloc: Global, octets: &[u8]) -> Result<Name, AllocError>
     }
 }
 
-impl Behind<'_> {
-    /// It as texts.
-    fn way(self, alloc: Global) -> Result<Way, AllocError>
-        ensures { IfOk result (λ way. way ≡ said_way self.entry) }
-    {
-        Ok(Way {
-            dnet: name_of(alloc, self.net)?,
-            dadr: name_of(alloc, self.address)?,
-        })
-    }
-}
-
 /// A way as texts, if there is one.
 fn way_as_texts(alloc: Global, way: Option<Behind<'_>>) -> Result<Option<Way>, AllocError>
     ensures { IfOk result (λ texts. texts ≡ option_map said_way way.entry) }
 {
     match way {
-        Some(way) => Ok(Some(way.way(alloc)?)),
+        Some(way) => Ok(Some(Way {
+            dnet: name_of(alloc, way.net)?,
+            dadr: name_of(alloc, way.address)?,
+        })),
         None => Ok(None),
     }
 }
@@ -188,10 +180,10 @@ fn add_device(
     ensures { IsListed (with_said list.old.items number (option_map (λ device. device ∷ [])
         (device_of (slice_split (λ c. c == 32) line.now)))) result list.new.items }
 {
-    let Ok(words) = words(alloc, line) else {
+    let Ok(spoken) = device_in(alloc, line) else {
         return Err(ListFault::Memory);
     };
-    let Some(spoken) = device_of(&words) else {
+    let Some(spoken) = spoken else {
         return Err(ListFault::BadLine(number));
     };
     let Ok(group) = spoken.group(alloc) else {

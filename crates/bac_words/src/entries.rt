@@ -2,8 +2,7 @@
 
 ghost use Rattle.std.specs.Prelude.{◌≡◌, ◌∷◌, [], map, IfOk, false};
 ghost use Rattle.clap.specs.Words.{rule_of};
-ghost use Rattle.bac_words.specs.Commands.{needed, needed_list, maybe, maybe_list, option};
-ghost use Rattle.bac_words.specs.Commands.{option_or, flag, Extends};
+ghost use Rattle.bac_words.specs.Commands.{maybe, option, Extends};
 ghost use Rattle.bac_words.specs.Entries.{rule_in};
 
 use crate::word::Word;
@@ -29,50 +28,12 @@ pub(crate) enum Entry<'a> {
     ChoiceOr(Word, &'a str, &'a str, &'a str),
 }
 
-/// A word that has to be there.
-fn needed<'a>(alloc: Global, word: Word, help: &'a str) -> Arg<'a>
-    ensures rule { rule_of result ≡ needed word }
-    ensures local { result.global ≡ false }
-{
-    Arg::new(alloc, word.name()).required(true).help(help)
-}
-
-/// One such word or more.
-fn needed_list<'a>(alloc: Global, word: Word, help: &'a str) -> Arg<'a>
-    ensures rule { rule_of result ≡ needed_list word }
-    ensures local { result.global ≡ false }
-{
-    Arg::new(alloc, word.name())
-        .required(true)
-        .num_args(1..)
-        .help(help)
-}
-
 /// A word that may be there.
-fn maybe<'a>(alloc: Global, word: Word, help: &'a str) -> Arg<'a>
+fn word_of<'a>(alloc: Global, word: Word, help: &'a str) -> Arg<'a>
     ensures rule { rule_of result ≡ maybe word }
     ensures local { result.global ≡ false }
 {
     Arg::new(alloc, word.name()).help(help)
-}
-
-/// Any number of such words.
-fn maybe_list<'a>(alloc: Global, word: Word, help: &'a str) -> Arg<'a>
-    ensures rule { rule_of result ≡ maybe_list word }
-    ensures local { result.global ≡ false }
-{
-    Arg::new(alloc, word.name()).num_args(0..).help(help)
-}
-
-/// An option `--NAME`.
-fn flag<'a>(alloc: Global, word: Word, help: &'a str) -> Arg<'a>
-    ensures rule { rule_of result ≡ flag word }
-    ensures local { result.global ≡ false }
-{
-    Arg::new(alloc, word.name())
-        .long(word.name())
-        .action(ArgAction::SetTrue)
-        .help(help)
 }
 
 /// An option `--NAME=VALUE`.
@@ -80,24 +41,9 @@ fn option<'a>(alloc: Global, word: Word, value: &'a str, help: &'a str) -> Arg<'
     ensures rule { rule_of result ≡ option word }
     ensures local { result.global ≡ false }
 {
-    Arg::new(alloc, word.name())
+    word_of(alloc, word, help)
         .long(word.name())
         .value_name(value)
-        .help(help)
-}
-
-/// The same with a default.
-fn option_or<'a>(
-    alloc: Global,
-    word: Word,
-    value: &'a str,
-    default: &'a str,
-    help: &'a str,
-) -> Arg<'a>
-    ensures rule { rule_of result ≡ option_or word default.entry.now }
-    ensures local { result.global ≡ false }
-{
-    option(alloc, word, value, help).default_value(default)
 }
 
 /// The word as `clap` takes it.
@@ -106,13 +52,17 @@ fn arg<'a>(alloc: Global, entry: Entry<'a>) -> Arg<'a>
     ensures local { result.global ≡ false }
 {
     match entry {
-        Entry::Needed(word, help) => needed(alloc, word, help),
-        Entry::NeededList(word, help) => needed_list(alloc, word, help),
-        Entry::Maybe(word, help) => maybe(alloc, word, help),
-        Entry::MaybeList(word, help) => maybe_list(alloc, word, help),
-        Entry::Flag(word, help) => flag(alloc, word, help),
+        Entry::Needed(word, help) => word_of(alloc, word, help).required(true),
+        Entry::NeededList(word, help) => word_of(alloc, word, help).required(true).num_args(1..),
+        Entry::Maybe(word, help) => word_of(alloc, word, help),
+        Entry::MaybeList(word, help) => word_of(alloc, word, help).num_args(0..),
+        Entry::Flag(word, help) => word_of(alloc, word, help)
+            .long(word.name())
+            .action(ArgAction::SetTrue),
         Entry::Choice(word, value, help) => option(alloc, word, value, help),
-        Entry::ChoiceOr(word, value, default, help) => option_or(alloc, word, value, default, help),
+        Entry::ChoiceOr(word, value, default, help) => {
+            option(alloc, word, value, help).default_value(default)
+        }
     }
 }
 

@@ -4,7 +4,6 @@
 
 mod address;
 mod addresses;
-mod archive_commands;
 mod commands;
 mod device_laws;
 mod devices;
@@ -21,6 +20,7 @@ mod name;
 mod names;
 mod network;
 mod numbers;
+mod pages;
 mod read;
 mod route;
 mod rows;
