@@ -13,3 +13,4 @@ pub mod Numbers
 pub mod Unbuilt
 pub mod Places
 pub mod OtherWords
+pub mod Reading

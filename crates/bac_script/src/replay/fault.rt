@@ -9,7 +9,7 @@ use bac_device::{BuildFault, Misfit};
 use thiserror::Error;
 
 /// Why a line can't be played.
-#[derive(Clone, Copy, Debug, PartialEq, Eq)]
+#[derive(Clone, Copy)]
 pub(crate) enum LineFault {
     /// It is none of the lines of a script, or stands in the wrong place.
     Bad,

@@ -153,8 +153,8 @@ fn words_wanted<'a>(kind: LineKind) -> &'a [Wanted]
     }
 }
 
-/// The kind of a line.
-fn line_kind(word: &[u8]) -> Option<LineKind>
+/// The kind of a line, by its first word.
+pub(crate) fn line_kind(word: &[u8]) -> Option<LineKind>
     ensures { result ≡ line_kind word.now }
 {
     if word == b"device".as_slice() {

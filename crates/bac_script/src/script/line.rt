@@ -11,6 +11,7 @@ ghost use Rattle.bac_script.specs.Views.{binary_of, device_of, integer_of, line_
 ghost use Rattle.bac_script.specs.Views.{multistate_of};
 ghost use Rattle.bac_script.specs.Script.Words.{words_of};
 
+use crate::script::flaw::{LineKind, line_kind};
 use crate::script::hexadecimal::{LONGEST, octets_in};
 use crate::script::number::{i32_in, u16_in, u32_in};
 use crate::script::stamp::stamp_in;
@@ -20,7 +21,7 @@ use bac_wire::{ObjectId, Stamp};
 use std::alloc::{AllocError, Global};
 
 /// What happens to a device.
-#[derive(Clone, Copy, Debug)]
+#[derive(Clone, Copy)]
 pub(crate) enum Event<'r> {
     /// It receives a datagram of these octets.
     Received(&'r [u8]),
@@ -34,7 +35,7 @@ pub(crate) enum Event<'r> {
 
 /// A walk of a trend log: from a sequence number or, without one, from the oldest record, in at
 /// most so many steps.
-#[derive(Clone, Copy, Debug, PartialEq, Eq)]
+#[derive(Clone, Copy)]
 pub(crate) struct WalkWords {
     pub log: ObjectId,
     pub from: Option<u32>,
@@ -42,7 +43,7 @@ pub(crate) struct WalkWords {
 }
 
 /// What a line says.
-#[derive(Debug, Drop)]
+#[derive(Drop)]
 pub(crate) enum Line<'r> {
     /// The device.
     Device(DeviceLine),
@@ -326,7 +327,6 @@ pub(crate) fn is_silent(text: &[u8]) -> bool
 impl<'r> Line<'r> {
     /// What a text says that is neither empty nor a comment, if it is a line of a script. The
     /// octets of a datagram are put into the room.
-    #[tactic(auto, unfolding(crate::specs::Script::Line::line_in, crate::specs::Script::Line::device_line, crate::specs::Script::Line::binary_line, crate::specs::Script::Line::multistate_line, crate::specs::Script::Line::integer_line, crate::specs::Script::Line::log_line, crate::specs::Script::Line::rx_line, crate::specs::Script::Line::clock_line, crate::specs::Script::Line::sample_line, crate::specs::Script::Line::walk_line))]
     pub(crate) fn read(
         alloc: Global,
         text: &[u8],
@@ -337,33 +337,19 @@ impl<'r> Line<'r> {
         let Some((word, words)) = split_word(text) else {
             return Ok(None);
         };
-        if word == b"device".as_slice() {
-            return device_line(alloc, words);
+        let Some(kind) = line_kind(word) else {
+            return Ok(None);
+        };
+        match kind {
+            LineKind::Device => device_line(alloc, words),
+            LineKind::Binary => binary_line(alloc, words),
+            LineKind::Multistate => multistate_line(alloc, words),
+            LineKind::Integer => integer_line(alloc, words),
+            LineKind::Log => log_line(alloc, words),
+            LineKind::Rx => Ok(rx_line(words, room)),
+            LineKind::Clock => Ok(clock_line(words)),
+            LineKind::Sample => Ok(sample_line(words)),
+            LineKind::Walk => Ok(walk_line(words)),
         }
-        if word == b"binary".as_slice() {
-            return binary_line(alloc, words);
-        }
-        if word == b"multistate".as_slice() {
-            return multistate_line(alloc, words);
-        }
-        if word == b"integer".as_slice() {
-            return integer_line(alloc, words);
-        }
-        if word == b"log".as_slice() {
-            return log_line(alloc, words);
-        }
-        if word == b"rx".as_slice() {
-            return Ok(rx_line(words, room));
-        }
-        if word == b"clock".as_slice() {
-            return Ok(clock_line(words));
-        }
-        if word == b"sample".as_slice() {
-            return Ok(sample_line(words));
-        }
-        if word == b"walk".as_slice() {
-            return Ok(walk_line(words));
-        }
-        Ok(None)
     }
 }
