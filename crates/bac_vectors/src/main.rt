@@ -24,7 +24,7 @@ use crate::bench::Bench;
 use crate::fault::Fault;
 use std::alloc::Global;
 use std::io;
-use std::io::{BufRead, BufReader, BufWriter, Write};
+use std::io::{BufRead, BufReader, BufWriter, Read, Write};
 use std::str::SplitWhitespace;
 
 /// The answer to a line. Calls on what is kept and calls with numbers come before those on octets.
@@ -92,12 +92,21 @@ fn print<W: Write>(output: &mut W, answered: Result<String, Fault>) -> io::Resul
     }
 }
 
-fn main(rt: HostRuntime) -> io::Result<()> {
+/// Answers each line of the input.
+fn answer_lines<I: Read + Drop, O: Write>(
+    alloc: Global,
+    input: I,
+    output: &mut O,
+) -> io::Result<()> {
     let mut bench = Bench::new();
-    let mut output = BufWriter::new(rt.alloc(), io::writer(&rt))?;
-    for line in BufReader::new(rt.alloc(), rt.reader())?.lines(rt.alloc()) {
-        let answered = answer(rt.alloc(), line?.as_str(), &mut bench);
-        print(&mut output, answered)?;
+    for line in BufReader::new(alloc, input)?.lines(alloc) {
+        print(output, answer(alloc, line?.as_str(), &mut bench))?;
     }
+    Ok(())
+}
+
+fn main(rt: HostRuntime) -> io::Result<()> {
+    let mut output = BufWriter::new(rt.alloc(), io::writer(&rt))?;
+    answer_lines(rt.alloc(), rt.reader(), &mut output)?;
     output.flush()
 }

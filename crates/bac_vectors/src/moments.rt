@@ -4,7 +4,7 @@ use crate::fault::Fault;
 use crate::text::{moment, none, shown};
 use crate::words::{number, pair};
 use bac_wire::{Date4, ObjectId, Stamp, Time4, stamp_order};
-use jiff::civil::DateTime;
+use jiff_core::civil::{Date, DateTime, Time};
 use std::alloc::Global;
 use std::str::SplitWhitespace;
 
@@ -89,9 +89,11 @@ fn civil(words: &mut SplitWhitespace) -> Result<Option<Stamp>, Fault> {
         number::<i8>(words)?,
     );
     let nanosecond = number::<i32>(words)?;
-    match DateTime::new(year, month, day, hour, minute, second, nanosecond) {
-        Ok(civil) => Ok(Stamp::of_civil(civil.to_plain())),
-        Err(_) => Err(Fault::BadLine),
+    let date = Date::new(year, month, day);
+    let time = Time::new(hour, minute, second, nanosecond);
+    match (date, time) {
+        (Ok(date), Ok(time)) => Ok(Stamp::of_civil(DateTime { date, time })),
+        _ => Err(Fault::BadLine),
     }
 }
 
