@@ -1,7 +1,9 @@
 -- Words that are added in two steps, and words and tools that are added one after the other.
-use Rattle.std.proofs.Common.{◌≡◌, ℕ, ◌+◌, ◌<◌, List, [], ◌∷◌, ◌++◌, ◌∙◌, length, get_or, drop, map, ap, sym, refl}
+use Rattle.std.proofs.Common.{◌≡◌, Bool, true, false, ◌||◌, ℕ, ◌+◌, ◌<◌, List, [], ◌∷◌, ◌++◌, ◌∙◌, length, get_or, drop, map, ap, sym, refl}
 use Rattle.std.proofs.lemmas.List.{at_drop_more}
-use Rattle.clap.specs.Words.{App, Rule, app_of, with_rule, with_subcommand}
+use Rattle.clap.specs.Words.{AddsArg, App, Rule, app_of, rule_of, with_rule, with_subcommand}
+use Rattle.clap.specs.declared.builder.arg.Arg.{Arg}
+use Rattle.clap.specs.declared.builder.command.Command.TheViews.{out-Command}
 use Rattle.clap.specs.declared.builder.command.Command.{Command}
 use Rattle.bac_words.specs.Commands.{with_rules, Extends, IsCommand}
 use Rattle.bac_words.specs.Entries.{rule_in, app_for, with_tools}
@@ -18,6 +20,17 @@ pub paged : {a b : App} {own shared : List Rule} {old mid new : Command} → IsC
 paged {a} {b} {own} {shared} {old} c is p q = record {
   app = q.app ∙ ap (λ (x : App). with_rules x shared) (p.app ∙ ap (λ (x : App). with_rules x own) c.app) ∙ sym (both a own shared) ∙ is;
   globals = q.globals ∙ p.globals ∙ c.globals;
+}
+
+or_false : (b : Bool) → (b || false) ≡ b
+or_false true = refl
+or_false false = refl
+
+-- a command with one more argument has its rule behind its own
+pub with_arg : (old new : Command) (a : Arg) → a.global ≡ false → AddsArg old a new → Extends old (rule_of a ∷ []) new
+with_arg old new a local adds = record {
+  app = adds.shape local;
+  globals = adds.globals ∙ ap (λ (b : Bool). (out-Command old).has_globals || b) local ∙ or_false (out-Command old).has_globals;
 }
 
 -- a command with one more word has the rest to come

@@ -1,6 +1,6 @@
 //! A word that a command takes, with what the help says of it.
 
-ghost use Rattle.std.specs.Prelude.{◌≡◌, ◌∷◌, [], map, IfOk, false};
+ghost use Rattle.std.specs.Prelude.{◌≡◌, map, IfOk, false};
 ghost use Rattle.clap.specs.Words.{rule_of};
 ghost use Rattle.bac_words.specs.Commands.{maybe, option, Extends};
 ghost use Rattle.bac_words.specs.Entries.{rule_in};
@@ -47,7 +47,7 @@ fn option<'a>(alloc: Global, word: Word, value: &'a str, help: &'a str) -> Arg<'
 }
 
 /// The word as `clap` takes it.
-fn arg<'a>(alloc: Global, entry: Entry<'a>) -> Arg<'a>
+fn arg_of<'a>(alloc: Global, entry: Entry<'a>) -> Arg<'a>
     ensures rule { rule_of result ≡ rule_in entry.entry }
     ensures local { result.global ≡ false }
 {
@@ -66,14 +66,6 @@ fn arg<'a>(alloc: Global, entry: Entry<'a>) -> Arg<'a>
     }
 }
 
-/// The command with one more word.
-fn with<'a>(command: Command<'a>, arg: Arg<'a>) -> Result<Command<'a>, AllocError>
-    requires { arg.global ≡ false }
-    ensures { IfOk result (Extends command.entry (rule_of arg.entry ∷ [])) }
-{
-    command.arg(arg)
-}
-
 /// The command with more words, in this order.
 pub(crate) fn with_entries<'a>(
     alloc: Global,
@@ -84,7 +76,7 @@ pub(crate) fn with_entries<'a>(
 {
     let mut command = command;
     for entry in entries {
-        command = with(command, arg(alloc, *entry))?;
+        command = command.arg(arg_of(alloc, *entry))?;
     }
     Ok(command)
 }

@@ -1,9 +1,10 @@
 use Rattle.std.proofs.Common.{◌∙◌}
-use Rattle.bac_words.proofs.Extending.{next_word}
+use Rattle.bac_words.proofs.Extending.{next_word, with_arg}
 use Rattle.bac_words.proofs.entries.with_entries.Goals as goal
 
 pub loop-entry-preserved : goal.loop-entry-preserved
-loop-entry-preserved c = (
-  next_word _ c.args.entries.now c.loop-entry.entry-index _ _ _ _ c.loop-entry-test.true c.arg.ensures.rule c.in_ok-command.ensures c.loop-entry.invariant.0,
-  c.in_ok-command.ensures.globals ∙ c.loop-entry.invariant.1,
-)
+loop-entry-preserved c =
+    let more = with_arg c.loop-entry.command c.in_ok-command.command c.arg_of.result c.arg_of.ensures.local c.in_ok-command.ensures in (
+      next_word _ c.args.entries.now c.loop-entry.entry-index _ _ _ _ c.loop-entry-test.true c.arg_of.ensures.rule more c.loop-entry.invariant.0,
+      more.globals ∙ c.loop-entry.invariant.1,
+    )

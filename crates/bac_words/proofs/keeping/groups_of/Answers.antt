@@ -1,5 +1,5 @@
-use Rattle.std.proofs.Common.{◌≡◌, ℕ, ◌+◌, ◌<◌, List, ◌∷◌, ◌++◌, ◌∙◌, length, get_or, drop, map}
-use Rattle.std.proofs.lemmas.List.{at_drop_more}
+use Rattle.std.proofs.Common.{◌≡◌, ℕ, ◌+◌, ◌<◌, List, ◌∷◌, ◌++◌, ◌∙◌, length, get_or, drop, map, ap, sym}
+use Rattle.std.proofs.lemmas.List.{at_drop_more, drop_all}
 use Rattle.clap.specs.Words.{Text}
 use Rattle.bac_words.specs.Groups.{groups_from}
 use Rattle.bac_words.specs.declared.group.Group.{Group}
@@ -17,3 +17,9 @@ pub loop-word-preserved : goal.loop-word-preserved
 loop-word-preserved c =
     one_on _ c.args.words.now (λ word. word.now) c.loop-word.word-index _ c.loop-word.list.items c.add_word.new.list.items c.loop-word.group c.add_word.new.group
     c.loop-word-test.true c.loop-word.invariant c.in_ok-add_word.ensures
+
+pub returns : goal.returns
+returns c =
+    let done = c.loop-word.list.items in
+    c.of.ensures ∙ c.in_ok-push.ensures.items
+    ∙ sym (c.loop-word.invariant ∙ ap (λ words. done ++ groups_from c.loop-word.group (map (λ word. word.now) words)) (drop_all c.loop-word.word-index c.args.words.now c.loop-word-test.false))
