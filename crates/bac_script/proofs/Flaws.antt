@@ -1,9 +1,9 @@
 -- Words that are wanting, and words too many.
-use Rattle.std.proofs.Common.{◌≡◌, ◌<◌, ◌≤◌, ◌-◌, cond, true, ℕ, List, [], ◌∷◌, length, drop, refl, ap, ◌∙◌, arith}
-use Rattle.std.proofs.lemmas.List.{drop_all, length-drop}
+use Rattle.std.proofs.Common.{◌≡◌, ◌<◌, ◌≤◌, ◌+◌, ◌-◌, cond, Bool, true, ℕ, List, [], ◌∷◌, length, get_or, drop, refl, ap, subst, ◌∙◌, arith}
+use Rattle.std.proofs.lemmas.List.{at_drop_more, drop_all, length-drop}
 use Rattle.std.specs.Prelude.{nat_le}
 use Rattle.std.specs.Str.Lines.{strip_carriage_return, lines}
-use Rattle.bac_script.specs.Flaw.{blank_at, flaw_from, line_at}
+use Rattle.bac_script.specs.Flaw.{blank_at, flaw_from, is_wanted, line_at, wrong_word}
 use Rattle.bac_script.specs.Script.Lines.{parts}
 use Rattle.bac_script.proofs.ConfigurationLemmas.{lines-first}
 use Rattle.std.proofs.lemmas.Bool.Decides.{nat_tests}
@@ -27,6 +27,17 @@ flaw-none_left kind n i all h = none_left kind n (drop i all) (omega (arith, len
 -- no word is wanted
 pub flaw-past : (kind : LineKind) (n i : ℕ) (all : List Wanted) (words : List (List ℕ)) → length all ≤ i → flaw_from kind n (drop i all) words ≡ flaw_from kind n [] words
 flaw-past kind n i all words h = ap (λ rest. flaw_from kind n rest words) (drop_all i all h)
+
+-- a word is wanted, and the next one is what it has to be
+pub flaw-next : (kind : LineKind) (n i : ℕ) (all items : List Wanted) (d : Wanted) (word : List ℕ) (left words : List (List ℕ)) → items ≡ all
+    → i < length items → left ≡ word ∷ words → is_wanted (get_or items i d) word ≡ true
+    → flaw_from kind n (drop i all) left ≡ flaw_from kind (n + 1) (drop (i + 1) all) words
+flaw-next kind n i all items d word left words same below cut fits =
+    let below : i < length all = subst (λ (l : List Wanted). i < length l) same below in
+    let fits : is_wanted (get_or all i d) word ≡ true = subst (λ (l : List Wanted). is_wanted (get_or l i d) word ≡ true) same fits in
+    ap (flaw_from kind n (drop i all)) cut
+    ∙ at_drop_more (λ (ws : List Wanted). flaw_from kind n ws (word ∷ words)) all i d below
+    ∙ ap (λ (b : Bool). cond b (flaw_from kind (n + 1) (drop (i + 1) all) words) (wrong_word n (get_or all i d) word words)) fits
 
 -- ---- an empty word
 
