@@ -126,11 +126,6 @@ pub fn lines_say_bad_values()
     ensures input { Says (codes "bac wi - 10.0.0.1") (Err Address) }
     ensures host { Says (codes "bac rp 10.0.0.256 8 123 77") (Err Address) }
     ensures port { Says (codes "bac rp 10.0.0.1:0 8 123 77") (Err Address) }
-    ensures rows { Says (codes "bac log 10.0.0.1 7 43 --csv")
-        (Ok (Log by_default 7 (Some 43) 1000 100 true false)) }
-    ensures numbers { Says (codes "bac rp 10.0.0.1 8 123 77 --numbers")
-        (Ok (Rp by_default 8 123 77 None true false)) }
-    ensures traced { Says (codes "bac wi - --trace") (Ok (Wi Input None None None None 3000 true)) }
     ensures network { Says (codes "bac wi 10.0.0.0/19") (Err Address) }
     ensures one { Says (codes "bac rp 10.0.0.1/32 8 123 77") (Err Address) }
     ensures retries { Says (codes "bac rp 10.0.0.1 8 123 77 --retries=11") (Err Retries) }
