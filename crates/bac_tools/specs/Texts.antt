@@ -37,7 +37,7 @@ address_range = codes "A.B.C.D or A.B.C.D:PORT, each of A to D from 0 to 255, PO
 
 -- the values that it can have
 abbrev pub range_text : Word → List ℕ
-range_text word.Tool = codes "replay, wi, rp, wp, log, logs, keep, kept or serve"
+range_text word.Tool = codes "replay, wi, rp, wp, log, logs, keep, kept, check or serve"
 range_text word.File = codes "the name of a file"
 range_text word.Csv = codes "an option without a value"
 range_text word.Numbers = codes "an option without a value"

@@ -21,7 +21,7 @@ pub enum Fault {
     BadValue(Word),
     /// The same of a number that has over ten digits.
     LongNumber(Word),
-    /// The job is one of `keep` or `kept`, whose files are another crate's.
+    /// The job is one of `keep`, `kept` or `check`, whose files are another crate's.
     OtherTool,
     /// The configuration describes no device.
     NoDevice,

@@ -301,8 +301,8 @@ pub fn run_read<S: Heeds, I: Read, O: Write, E: Write, C: Clock>(
 }
 
 /// The program `bac` without its files: does what its words ask for, the first of which is its
-/// name, and answers the exit status; `keep` and `kept` are refused as tools of another crate.
-/// Results and help go to the output; faults, and the line of a server that is up, go to the
+/// name, and answers the exit status; `keep`, `kept` and `check` are refused as tools of another
+/// crate. Results and help go to the output; faults, and the line of a server that is up, go to the
 /// errors. Each is one write.
 pub fn run<S: Heeds, I: Read, O: Write, E: Write, C: Clock>(
     sockets: &mut S,

@@ -28,7 +28,7 @@ fn range_of<'a>(word: Word) -> &'a str
     ensures { result.now ≡ range_text word }
 {
     match word {
-        Word::Tool => "replay, wi, rp, wp, log, logs, keep, kept or serve",
+        Word::Tool => "replay, wi, rp, wp, log, logs, keep, kept, check or serve",
         Word::File => "the name of a file",
         Word::Csv | Word::Numbers | Word::Trace => "an option without a value",
         Word::Stop => "an option without a value, beside one ADDRESS",
