@@ -1,5 +1,5 @@
 -- Why the next part of an archive isn't made, where it failed.
-use Rattle.std.specs.Prelude.{◌≡◌, ◌⊎◌, ℕ, pos, IsTrue, true, List, ◌∷◌, ◌++◌, map, take, slice_get, option_map, Some, Err}
+use Rattle.std.specs.Prelude.{◌≡◌, ◌⊎◌, ℕ, pos, IsTrue, true, List, ◌∷◌, map, take, slice_get, option_map, Some, Err}
 use Rattle.std.specs.List.{Contains}
 use Rattle.std.specs.String.{string_bytes}
 use Rattle.sqlite_value.specs.declared.value.Value.TheVariants.{Int}

@@ -27,7 +27,8 @@ abbrev pub IsPartBehind : List ℕ → ℕ → Place → Type 0
 IsPartBehind folder others place =
     (string_bytes place.path ≡ part_path folder (suc others)) × FollowsOn folder others place.before
 
--- An archive of this name is kept in the file of that name, or in a part of the folder, which follows on the one before.
+-- An archive of this name is kept in the file of that name, or in a part of the folder, which follows on the one
+-- before.
 abbrev pub IsPlaced : List ℕ → Place → Type 0
 IsPlaced name place =
     ((string_bytes place.path ≡ name) × (place.before ≡ None)) ⊎ ((others : ℕ) × IsPartBehind name others place)
