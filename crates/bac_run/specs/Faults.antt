@@ -1,4 +1,4 @@
--- The faults of `keep` and `kept` as those of the program, which has their statuses.
+-- The faults of `keep`, `kept` and `check` as those of the program, which has their statuses.
 use Rattle.std.specs.Prelude.{ℕ, Result, Ok, Err}
 use Rattle.bac_asked.specs.declared.fault.Fault.{Fault as KeepFault}
 use Rattle.bac_asked.specs.declared.fault.Fault.TheVariants as keep
@@ -6,7 +6,7 @@ use Rattle.bac_tools.specs.Ending.{Ending}
 use Rattle.bac_tools.specs.declared.fault.Fault.{Fault}
 use Rattle.bac_tools.specs.declared.fault.Fault.TheVariants.{BadValue, LongNumber, Unopened, Exchange, Write, Memory}
 
--- a fault of `keep` or `kept`
+-- a fault of `keep`, `kept` or `check`
 abbrev pub fault_of : KeepFault → Fault
 fault_of (keep.BadValue word) = BadValue word
 fault_of (keep.LongNumber word) = LongNumber word

@@ -59,13 +59,13 @@ IsUnread old new = new.input ≡ old.input
 abbrev pub IsStill : {S C : Type 0} → Streams S C → Streams S C → Type 0
 IsStill old new = IsUnread old new × (new.clock ≡ old.clock)
 
--- `keep` or `kept` ends so, and its fault is told with its status, after a last question since which this passed
+-- `keep` with `--stop` ends so, and its fault is told with its status, after a last question since which this passed
 abbrev pub TellsFault : (NotDone → Type 0) → Passed → Held → Held → ℕ → Type 0
 TellsFault ends passed said errors status =
     (why : KeepFault) × ends (Asking why) × IsToldAfter passed (fault_of why) said errors status
 
--- `keep` ends so, and the status is that of its fault, or of no memory to tell it: what the runs over logs told on the
--- errors before is nowhere said, so of what is told here nothing can be.
+-- `keep` or `check` ends so, and the status is that of its fault, or of no memory to tell it: what the runs over logs,
+-- or the parts, told on the errors before is nowhere said, so of what is told here nothing can be.
 abbrev pub HasFaultStatus : (NotDone → Type 0) → ℕ → Type 0
 HasFaultStatus ends status =
     (why : KeepFault) × ends (Asking why) × ((status ≡ exit_status (fault_of why)) ⊎ (status ≡ exit_status Memory))

@@ -32,7 +32,7 @@ use sqlite_disk::Disk;
 use std::alloc::Global;
 use std::io::{Read, Write};
 
-/// A fault of `keep` or `kept`, as one of the program.
+/// A fault of `keep`, `kept` or `check`, as one of the program.
 fn fault_of(fault: KeepFault) -> Fault
     ensures { result ≡ fault_of fault }
 {
@@ -46,7 +46,7 @@ fn fault_of(fault: KeepFault) -> Fault
     }
 }
 
-/// The status of `keep` or `kept`, whose fault is told.
+/// The status of `keep`, `kept` or `check`, whose fault is told.
 fn ended<E: Write>(alloc: Global, passed: Passed, done: Result<u8, KeepFault>, errors: &mut E) -> u8
     ensures { Ends passed (ending_of done) (E.contents errors.old) (E.contents errors.new) result }
 {
