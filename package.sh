@@ -32,7 +32,7 @@ tree() {
     install -m 644 examples/use/systemd/* "$units"
     install -D -m 644 -t "$doc" CHANGELOG.md LICENSE-MIT LICENSE-APACHE docs/TOOLS.md docs/ARCHIVE.md docs/SECURITY.md
     install -D -m 644 -t "$doc/examples" examples/use/plant.conf examples/use/records.*
-    for file in examples/use/*.sh examples/use/*.py; do install -m 755 "$file" "$doc/examples"; done
+    for file in examples/use/*.sh examples/use/*.py examples/use/trace2script.awk; do install -m 755 "$file" "$doc/examples"; done
 }
 # One time for all, and no folder's own rights: what mktemp made is for its owner alone.
 settle() {

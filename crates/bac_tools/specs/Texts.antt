@@ -145,7 +145,7 @@ unfoldable pub fault_text : Passed → Fault → List ℕ
 fault_text passed NotText = bad_value ++ codes "a word isn't UTF-8"
 fault_text passed (BadValue w) = wrong_text w
 fault_text passed (LongNumber w) = long_text w
-fault_text passed OtherTool = bad_value ++ codes "this program has no keep and no kept"
+fault_text passed OtherTool = bad_value ++ codes "this program has no keep, kept or check"
 fault_text passed NoDevice = bad_value ++ codes "no device line"
 fault_text passed (Script refused) = refusal_lines refused
 fault_text passed (Unopened why) = codes "socket fault" ++ open_text why

@@ -231,7 +231,7 @@ fn push_fault(text: &mut Vec<u8>, passed: Passed, fault: Fault) -> Result<(), Al
         Fault::BadValue(word) => push_wrong(text, word),
         Fault::LongNumber(word) => push_long(text, word),
         Fault::OtherTool => text.extend_from_slice(
-            b"bad value\nthis program has no keep and no kept",
+            b"bad value\nthis program has no keep, kept or check",
         ),
         Fault::NoDevice => text.extend_from_slice(b"bad value\nno device line"),
         Fault::Script(refused) => push_refused(text, refused),

@@ -31,7 +31,8 @@ bac help log, or bac log --help, tells what a tool takes, with an example.
 Status: 0 done, 1 usage, a bad value or a bad script, 2 no answer, or a read,
 write or socket fault, 3 refused by the device, 4 bad reply, 5 out of memory;
 of bac keep, bac kept and bac check also 6 the file isn't an archive, can't be
-read or written, or is full, 7 another program has it open, 8 a step limit.",
+read or written, is full, or lacks numbers, 7 another program has it open; of
+bac keep and bac log --csv also 8 a step limit.",
         )
 }
 

@@ -78,10 +78,10 @@ pub(crate) const WI_PAGE: Page<'static> = Page {
     name: "wi",
     about: "Find devices: send Who-Is to each address and print each I-Am",
     example: "Example: bac wi 192.168.1.20 192.168.1.21:47809 --min=100 --max=199
-asks both stations, and only devices 100 to 199 answer. --min alone means both.
+asks both addresses, and only devices 100 to 199 answer. --min alone means both.
 bac wi 192.168.1.0/24 asks each host of that network: 20 to 32 bits, and no
 network address and no broadcast address below 31.
-bac wi - < stations asks those of a file: at most 4096, an address or a network
+bac wi - < addresses asks those of a file: at most 4096, an address or a network
 a line.
 Devices that answer by broadcast are heard with --local=0.0.0.0:47808.",
     own: &WI,
@@ -94,10 +94,10 @@ pub(crate) const RP_PAGE: Page<'static> = Page {
     example: with_numbers!(
         "Example: bac rp 192.168.1.20 8 123 77
 prints the name (property 77) of device 123 (object type 8). Instance 4194303
-is any device: bac rp 192.168.1.20 8 4194303 76 lists the objects of one whose
-instance isn't known. chars(SET,HEX) is a text that isn't printed as itself:
-SET 0 is UTF-8 (with quotes or control characters), 1 DBCS, 2 JIS X 0208,
-3 UCS-4, 4 UCS-2, 5 ISO 8859-1."
+is the device that is asked: bac rp 192.168.1.20 8 4194303 76 lists the objects
+of one whose instance isn't known. chars(SET,HEX) is a text that isn't printed
+as itself: SET 0 is UTF-8 (with quotes or control characters), 1 DBCS, 2 JIS X
+0208, 3 UCS-4, 4 UCS-2, 5 ISO 8859-1."
     ),
     own: &RP,
     shared: &ASKING,
@@ -133,7 +133,8 @@ bac log 192.168.1.20 1 43 then fetches what was logged since. Begin again at
 the number that was next after 'lost' or 'step limit', too: no record is lost or
 comes twice. A line 'gap 43 50' tells the numbers that the log no longer held.
 After 'bad reply' a line on standard error says what is wrong with the reply;
-after 'caught up', if it did, that the last reply said that more is there.
+after 'caught up', if it did, that the last reply said that more is there. With
+--csv, which has no last line, a step limit is status 8.
 
 FLAGS are in-alarm, fault, overridden and out-of-service, each 0 or 1; or - if
 the record has none. VALUE is a number, or one of
@@ -204,9 +205,10 @@ logs, and they are left out.
 
 Status: the greatest of its logs' as bac log has them, but 8 for a step limit,
 and 4 where a log is caught up, though the last reply said that more is there;
-of a device that didn't tell its Object_List 2 lost, 3 refused, 4 bad reply;
-6 the file isn't an archive, can't be read or written, or is full; 7 another
-program has it open.
+3 where another device answers; of a device that didn't tell its Object_List
+2 lost, 3 refused, 4 bad reply; 6 the file isn't an archive, can't be read or
+written, is full, or has no place for a log's numbers; 7 another program has it
+open.
 
 Standard error tells why a log is lost, refused or has a bad reply. 'error' is
 printed with its class and its code:"
@@ -236,7 +238,10 @@ pub(crate) const CHECK_PAGE: Page<'static> = Page {
 opens site.db as bac keep does, and prints of each log its epochs, each with its
 first and last number, its records and its gaps, and each number that is missing
 from what it covers. bac check plant does so of each part of the folder plant,
-and tests that each part begins where the one before it ends.",
+and tests that each part begins where the one before it ends.
+
+Status: 6 where a number is missing, where a part doesn't begin so, or where the
+file isn't an archive or can't be read; 7 another program has it open.",
     own: &CHECK,
     shared: &[],
 };

@@ -12,7 +12,7 @@ returns-in-NotText c =
 pub returns-in-OtherTool : goal.returns-in-OtherTool
 unfolding fault_text
 returns-in-OtherTool c =
-    rw c.in-OtherTool.is (grown c.extend_from_slice-in-OtherTool.result c.args.text.now.items (bad_value ++ codes "this program has no keep and no kept")
+    rw c.in-OtherTool.is (grown c.extend_from_slice-in-OtherTool.result c.args.text.now.items (bad_value ++ codes "this program has no keep, kept or check")
     c.extend_from_slice-in-OtherTool.new.self.items c.extend_from_slice-in-OtherTool.ensures.items)
 
 pub returns-in-NoDevice : goal.returns-in-NoDevice
