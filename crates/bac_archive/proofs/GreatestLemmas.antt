@@ -1,5 +1,5 @@
 -- What the questions for the greatest ids tell.
-use Rattle.std.proofs.Common.{◌≡◌, refl, sym, ap, subst, subst₂, ◌∙◌, codes, ℕ, ◌+◌, ◌*◌, ◌/◌, ◌≤◌, pos, max, slice_get, List, [], ◌∷◌, map, get_or, false, None, Some, arith, inl, inr, is_lt, int_cmp, take}
+use Rattle.std.proofs.Common.{◌≡◌, refl, sym, ap, subst, subst₂, ◌∙◌, codes, ℕ, ◌+◌, ◌*◌, ◌-◌, ◌/◌, ◌<◌, ◌≤◌, pos, max, slice_get, List, [], ◌∷◌, map, get_or, false, None, Some, arith, inl, inr, is_lt, int_cmp, take}
 use Rattle.std.specs.List.{Contains}
 use Rattle.std.specs.List.Sorted.{IsPermutation, IsSorted}
 use Rattle.std.proofs.lemmas.List.Sorted.{IsPermutation-sym, Contains-permutation}
@@ -22,7 +22,7 @@ use Rattle.sqlite.proofs.Callers.{IsPlain, command_of, reads_as}
 use Rattle.bac_archive.specs.Schema.{HasArchive}
 use Rattle.bac_archive.specs.Rows.{begun, known}
 use Rattle.bac_archive.specs.Beginnings.{IsFreshId, epochs, greatest_beginning_text}
-use Rattle.bac_archive.specs.Causes.{HasNoFreshId, IsGreatestId}
+use Rattle.bac_archive.specs.Causes.{HadIdFrom, IsGreatestId, IsNextId}
 use Rattle.bac_archive.specs.Logs.{greatest_log_text}
 use Rattle.bac_archive.proofs.AroundLemmas.{around, is_around}
 use Rattle.bac_archive.proofs.CauseLemmas.{le_or_gt}
@@ -153,11 +153,22 @@ behind_is_fresh trees log beginning most logs starts is = record {
   begun_ones = λ row n has id. let up = starts.most row n has id in omega (arith, is, up);
 }
 
--- no id is left behind them
-pub none_behind : (trees : Trees) (log beginning most : ℕ) → IsGreatestId (known trees) log → IsGreatestId (begun trees) beginning → most ≡ max log (beginning / epochs)
-    → 65535 ≤ most → HasNoFreshId trees
-none_behind trees log beginning most logs starts is full =
-    elim (le_or_gt 65535 log) [
-      | inl le ↦ let it = logs.one (omega (arith, le)) in inl (it.0, it.1, it.2, it.3, omega (arith, le, it.4))
-      | inr gt ↦ let great : 65535 * epochs ≤ beginning = omega (arith, is, full, gt) in let it = starts.one (omega (arith, great)) in inr (it.0, it.1, it.2, it.3, omega (arith, great, it.4))
+-- the greatest of them is one that a log has or had
+pub had_greatest : (trees : Trees) (log beginning most : ℕ) → IsGreatestId (known trees) log → IsGreatestId (begun trees) beginning → most ≡ max log (beginning / epochs)
+    → 0 < most → HadIdFrom trees most
+had_greatest trees log beginning most logs starts is above =
+    elim (le_or_gt most log) [
+      | inl le ↦ let it = logs.one (omega (arith, above, le)) in inl (it.0, it.1, it.2, it.3, omega (arith, le, it.4))
+      | inr gt ↦
+          let great : most * epochs ≤ beginning = omega (arith, is, gt) in
+          let it = starts.one (omega (arith, above, great)) in inr (it.0, it.1, it.2, it.3, omega (arith, great, it.4))
     ]
+
+-- and so is a greater one
+pub had_from : (trees : Trees) (least most : ℕ) → least ≤ most → HadIdFrom trees most → HadIdFrom trees least
+had_from trees least most le (inl it) = inl (it.0, it.1, it.2, it.3, omega (arith, le, it.4))
+had_from trees least most le (inr it) = inr (it.0, it.1, it.2, it.3, omega (arith, le, it.4))
+
+-- the id behind the greatest one is the next
+pub next_is : (trees : Trees) (most id : ℕ) → (0 < most → HadIdFrom trees most) → id ≡ most + 1 → IsNextId trees id
+next_is trees most id had is = (omega (arith, is), λ above. had_from trees (id - 1) most (omega (arith, is)) (had (omega (arith, is, above))))

@@ -12,6 +12,7 @@ pub mod FollowLemmas
 mod NewestLemmas
 mod GreatestLemmas
 pub mod ItemsLemmas
+pub mod ApartLemmas
 mod StandingLemmas
 mod ChangeStatement
 pub mod ChangeLemmas

@@ -8,8 +8,9 @@ ghost use Rattle.sqlite.specs.Held.{state};
 ghost use Rattle.bac_archive.specs.Schema.{HasArchive, OverArchive};
 ghost use Rattle.bac_archive.specs.Archive.{IsLeft};
 ghost use Rattle.bac_archive.specs.Beginnings.{IsFreshId, greatest_beginning_text};
-ghost use Rattle.bac_archive.specs.Causes.{FailsToRead, FailsToTell, FailsToTellIds, HasNoFreshId};
-ghost use Rattle.bac_archive.specs.Causes.{IsGreatestId, beginning_id_kinds, log_id_kinds};
+ghost use Rattle.bac_archive.specs.Causes.{FailsToRead, FailsToTell, FailsToTellIds, HadIdFrom};
+ghost use Rattle.bac_archive.specs.Causes.{HasNoFreshId, IsGreatestId, IsNextId};
+ghost use Rattle.bac_archive.specs.Causes.{beginning_id_kinds, log_id_kinds};
 ghost use Rattle.bac_archive.specs.Logs.{greatest_log_text};
 ghost use Rattle.bac_archive.specs.Rows.{begun, known};
 
@@ -90,6 +91,8 @@ fn greatest_beginning<S: Alter>(conn: &mut Connection<S>) -> Result<u32, Error>
 fn greatest_had<S: Alter>(conn: &mut Connection<S>) -> Result<u32, Error>
     ensures above { OverArchive (state S.Store conn.old) (state S.Store conn.new)
         (IfOk result (λ id. IsFreshId (state S.Store conn.old).now.trees (id + 1))) }
+    ensures had { OverArchive (state S.Store conn.old) (state S.Store conn.new)
+        (IfOk result (λ id. 0 < id → HadIdFrom (state S.Store conn.old).now.trees id)) }
     ensures full { OverArchive (state S.Store conn.old) (state S.Store conn.new)
         (IfOk result (λ id. 65535 ≤ id → HasNoFreshId (state S.Store conn.old).now.trees)) }
     ensures bound { IfOk result (λ id. id ≤ 65535) }
@@ -113,6 +116,9 @@ pub fn fresh_id<S: Alter>(conn: &mut Connection<S>) -> Result<u16, NotAdded>
     // No log has or had it, by the rows of logs and beginnings.
     ensures fresh { OverArchive (state S.Store conn.old) (state S.Store conn.new)
         (IfOk result (IsFreshId (state S.Store conn.old).now.trees)) }
+    // None is left out.
+    ensures next { OverArchive (state S.Store conn.old) (state S.Store conn.new)
+        (IfOk result (IsNextId (state S.Store conn.old).now.trees)) }
     ensures same { OverArchive (state S.Store conn.old) (state S.Store conn.new)
         (OnOk result (IsUnchanged (state S.Store conn.old) (state S.Store conn.new))) }
     // An error leaves it as it was, or takes back what wasn't committed.

@@ -1,7 +1,7 @@
-use Rattle.std.proofs.Common.{inl, inr, rules, subst, sym}
+use Rattle.std.proofs.Common.{arith, inl, inr, rules, subst, sym}
 use Rattle.bac_archive.specs.Causes.{IsGreatestId}
 use Rattle.bac_archive.specs.Rows.{begun}
-use Rattle.bac_archive.proofs.GreatestLemmas.{behind_is_fresh, none_behind}
+use Rattle.bac_archive.proofs.GreatestLemmas.{behind_is_fresh, had_from, had_greatest}
 use Rattle.bac_archive.proofs.RowsLemmas.{because}
 use Rattle.sqlite.specs.Effect.{Database}
 use Rattle.sqlite.specs.Held.{state}
@@ -36,11 +36,15 @@ returns-clause-above g c clean has =
     behind_is_fresh old.now.trees c.in_ok-log.log c.in_ok-beginning.beginning c.max.result (c.in_ok-log.ensures.greatest early has)
     (subst (λ (d : Database). IsGreatestId (begun d.trees) c.in_ok-beginning.beginning) same starts) (search rules)
 
-pub returns-clause-full : goal.returns-clause-full
-returns-clause-full g c clean has full =
+pub returns-clause-had : goal.returns-clause-had
+returns-clause-had g c clean has =
     let old = state g.S.Store c.args.conn.now in
     let early = c.greatest_beginning.ensures.clean clean in
     let same = (c.in_ok-log.ensures.same early has).0.now_is in
     let starts = c.in_ok-beginning.ensures.greatest clean (subst (λ (d : Database). HasArchive d.schema) (sym same) has) in
-    none_behind old.now.trees c.in_ok-log.log c.in_ok-beginning.beginning c.max.result (c.in_ok-log.ensures.greatest early has)
-    (subst (λ (d : Database). IsGreatestId (begun d.trees) c.in_ok-beginning.beginning) same starts) (search rules) full
+    had_greatest old.now.trees c.in_ok-log.log c.in_ok-beginning.beginning c.max.result (c.in_ok-log.ensures.greatest early has)
+    (subst (λ (d : Database). IsGreatestId (begun d.trees) c.in_ok-beginning.beginning) same starts) (search rules)
+
+pub returns-clause-full : goal.returns-clause-full
+returns-clause-full g c clean has full =
+    had_from (state g.S.Store c.args.conn.now).now.trees 65535 c.max.result full (returns-clause-had g c clean has (omega (arith, full)))

@@ -1,13 +1,14 @@
-use Rattle.std.proofs.Common.{◌≡◌, ◌∙◌, inl, inr, rules, subst, sym}
+use Rattle.std.proofs.Common.{◌∙◌, inl, inr, rules, subst, sym}
 use Rattle.std.proofs.lemmas.Result.{IfErr-weaker}
 use Rattle.sqlite.specs.Effect.{Database}
 use Rattle.sqlite.specs.Held.{state}
-use Rattle.sqlite.specs.State.{HasCleanDisk}
 use Rattle.bac_archive.specs.Beginnings.{AreBeginnings}
 use Rattle.bac_archive.specs.PartCauses.{FailsToFollow, FailsToMakePart}
 use Rattle.bac_archive.specs.Parts.{AreHeads}
 use Rattle.bac_archive.specs.Rows.{kept}
 use Rattle.bac_archive.specs.Schema.{HasArchive}
+use Rattle.sqlite.proofs.Callers.{unchanged_then}
+use Rattle.bac_archive.proofs.QueryLemmas.{as_left_behind, as_was_behind, left_then, on_ok}
 use Rattle.bac_archive.proofs.RowsLemmas.{because}
 use Rattle.bac_archive.proofs.parts.follow_on.Goals as goal
 
@@ -46,3 +47,44 @@ returns-clause-cause g c clean has made =
     let newest : AreHeads (kept old) all heads = subst (λ (d : Database). AreHeads (kept d.trees) all heads) then (rw c.as_slice.ensures.value at (c.in_ok-heads.ensures.heads clean again)) in
     IfErr-weaker c.create_part.result (FailsToMakePart g.B.Store all begun heads c.args.new.now) (FailsToFollow g.A.Store g.B.Store c.args.old.now c.heads_of.new.conn c.args.new.now)
     (λ e why. inr (inr (all, begun, heads, c.in_ok-all.ensures.logs early has, epochs, newest, why))) (rw c.as_slice-2.ensures.value at (rw c.as_slice-3.ensures.value at (rw c.as_slice-4.ensures.value at (c.create_part.ensures.cause made))))
+
+-- the logs were told, and then the beginnings: nothing has changed
+pub returns-in_err-begun-clause-left : goal.returns-in_err-begun-clause-left
+returns-in_err-begun-clause-left g c clean has =
+    let old = state g.A.Store c.args.old.now in
+    let mid = state g.A.Store c.logs.new.conn in
+    let one = c.in_ok-all.ensures.same (c.beginnings.ensures.clean clean) has in
+    left_then old mid (state g.A.Store c.beginnings.new.conn) one (c.beginnings.ensures.left clean (subst (λ (d : Database). HasArchive d.schema) (sym one.0.now_is) has))
+
+pub returns-in_err-heads-clause-left : goal.returns-in_err-heads-clause-left
+returns-in_err-heads-clause-left g c clean has =
+    let old = state g.A.Store c.args.old.now in
+    let mid = state g.A.Store c.logs.new.conn in
+    let last = state g.A.Store c.beginnings.new.conn in
+    let late = c.heads_of.ensures.clean clean in
+    let one = c.in_ok-all.ensures.same (c.beginnings.ensures.clean late) has in
+    let both = unchanged_then old mid last one (c.in_ok-begun.ensures.same late (subst (λ (d : Database). HasArchive d.schema) (sym one.0.now_is) has)) in
+    as_left_behind g.A.Store c.args.old.now c.beginnings.new.conn c.heads_of.new.conn both
+    (c.heads_of.ensures.left clean (subst (λ (d : Database). HasArchive d.schema) (sym both.0.now_is) has))
+
+pub returns-clause-left : goal.returns-clause-left
+returns-clause-left g c clean has =
+    let old = state g.A.Store c.args.old.now in
+    let mid = state g.A.Store c.logs.new.conn in
+    let last = state g.A.Store c.beginnings.new.conn in
+    let late = c.heads_of.ensures.clean clean in
+    let one = c.in_ok-all.ensures.same (c.beginnings.ensures.clean late) has in
+    let both = unchanged_then old mid last one (c.in_ok-begun.ensures.same late (subst (λ (d : Database). HasArchive d.schema) (sym one.0.now_is) has)) in
+    as_left_behind g.A.Store c.args.old.now c.beginnings.new.conn c.heads_of.new.conn both
+    (c.heads_of.ensures.left clean (subst (λ (d : Database). HasArchive d.schema) (sym both.0.now_is) has))
+
+pub returns-clause-same : goal.returns-clause-same
+returns-clause-same g c clean has =
+    let old = state g.A.Store c.args.old.now in
+    let mid = state g.A.Store c.logs.new.conn in
+    let last = state g.A.Store c.beginnings.new.conn in
+    let late = c.heads_of.ensures.clean clean in
+    let one = c.in_ok-all.ensures.same (c.beginnings.ensures.clean late) has in
+    let both = unchanged_then old mid last one (c.in_ok-begun.ensures.same late (subst (λ (d : Database). HasArchive d.schema) (sym one.0.now_is) has)) in
+    on_ok c.create_part.result _ (as_was_behind g.A.Store c.args.old.now c.beginnings.new.conn c.heads_of.new.conn both
+    (c.in_ok-heads.ensures.same clean (subst (λ (d : Database). HasArchive d.schema) (sym both.0.now_is) has)))
