@@ -25,7 +25,7 @@ from kept_groups import groups
 from kept_holes import holes, holes_in_parts
 from kept_judge import in_use, no_use, wrongs
 from kept_limits import file_limits, part_limits
-from kept_more import listed, said_more, several, unlisted
+from kept_more import listed, listed_twice, said_more, several, unlisted
 from kept_moved import moved, moved_at_each_call, moved_at_random, moved_ways, told_later, two_of_one
 from kept_names import names
 from kept_rounds import one, rounds, said, unheard
@@ -689,5 +689,5 @@ def judgements(judge, _runs):
 
 CASES = [judgements, run_after_run, beginnings, options, losses, line_by_line, step_limits, last_epoch, dead_devices, dead_at_once, at_once, own_address, own_address_echoes, ids_go_on, ids_go_on_behind_the_longest, each_option, window, lists_at_once, whole_lists, silent_lists, other_devices, asked_at_once, words_and_names, no_archive, barred, far_away, rounds, restarts, clocks, questions, cut_files, foreign_files, objects_beside, a_large_file, printed, taken_over, served,
          stopped, terminals, warehouses, names, own_words, own_rule, own_lives, first_answers, renewed, moved, moved_ways, two_of_one, told_later,
-         moved_at_each_call, moved_at_random, emptied, never_begun, told_at_once, said_more, several, unlisted, listed, told_beside, told_among_others, parts, parts_refused, parts_ended,
+         moved_at_each_call, moved_at_random, emptied, never_begun, told_at_once, said_more, several, unlisted, listed, listed_twice, told_beside, told_among_others, parts, parts_refused, parts_ended,
          file_limits, part_limits, folders, folders_damaged, checked, checked_parts, groups, holes, holes_in_parts]

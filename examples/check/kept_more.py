@@ -199,3 +199,30 @@ def listed(judge, _runs):
         judge.is_right(name, (status, printed) == (1, "") and told.startswith(f"bad value\n{word}: "), (status, printed, told))
     judge.same("of these nobody is asked", sum(device.asked for device in devices), asked)
     judge.is_right("and no file is made", not os.path.exists(none), "there is one")
+
+
+class Repeating(Device):
+    """Its Object_List has each of its logs twice."""
+
+    def objects(self):
+        objects = super().objects()
+        return objects + objects[2:]
+
+
+def listed_twice(judge, _runs):
+    """A log that a device lists twice is one log: it is kept once, and the run goes on with the next device."""
+    repeating, other = Repeating([Log(number, 50) for number in (1, 2)], "repeating"), Device([Log(1, 50)], "other")
+    site = [repeating, other]
+    for device in site:
+        for log in device.logs.values():
+            log.log(3)
+    serve(site)
+
+    def lines(devices):
+        return "".join(line(device, number, 3, "caught up, next 4") for device in devices for number in device.logs)
+
+    for name, repeating.is_whole in (("whole", True), ("place by place", False)):
+        file = f"{judge.room}/{name}.db"
+        judge.same(f"listed twice, {name}, beside another", judge.ran(["keep", file, repeating.address, other.address]), (0, lines(site), ""))
+        judge.judge(f"listed twice, {name}", file, site, True)
+        judge.same(f"listed twice, {name}, alone", judge.ran(["keep", f"{judge.room}/{name} alone.db", repeating.address]), (0, lines([repeating]), ""))

@@ -1,6 +1,6 @@
 -- Logs of one device after the other.
-use Rattle.std.proofs.Common.{◌≡◌, ◌∙◌, inl, inr, max, Bool, true, false, List, [], ◌∷◌, ◌++◌, Ok, Err, ap, append_assoc, arith, not, refl, subst, sym}
-use Rattle.std.proofs.lemmas.List.Elements.{All-append, All-filter, All-same}
+use Rattle.std.proofs.Common.{◌≡◌, ◌∙◌, inl, inr, max, Bool, true, false, if◌then◌else◌, List, [], ◌∷◌, ◌++◌, Ok, Err, ap, append_assoc, arith, refl, subst, sym}
+use Rattle.std.proofs.lemmas.List.Elements.{All-head, All-push, All-same, All-tail}
 use Rattle.std.specs.List.{All}
 use Rattle.std.specs.Prelude.{MatchBool}
 use Rattle.bac_archive.specs.declared.trend_logs.Source.{Source}
@@ -10,7 +10,7 @@ use Rattle.bac_asked.specs.declared.end.NotDone.TheVariants.{Asking}
 use Rattle.bac_asked.specs.declared.fault.Fault.TheVariants.{Memory, Unopened}
 use Rattle.bac_asked.specs.declared.log_words.Asking.{Asking as AskedFor}
 use Rattle.bac_asked.specs.declared.wanted.Wanted.{Wanted}
-use Rattle.bac_fetch.specs.Chosen.{AddSought, AreOfDevice, IsUntold, is_wanted, new_of, told_by, unlisted_by, untold_in, with_new}
+use Rattle.bac_fetch.specs.Chosen.{AddSought, AreOfDevice, IsUntold, is_wanted, told_by, unlisted_by, untold_in, with_new, with_one}
 use Rattle.bac_fetch.specs.Faults.{EndsAt, EndsDevice}
 use Rattle.bac_fetch.specs.Ahead.{AtOnce}
 use Rattle.bac_fetch.specs.Listed.{HoldsLists, was_silent}
@@ -24,11 +24,21 @@ use Rattle.bac_ports.specs.Sockets.{SocketRules}
 use Rattle.bac_questions.specs.Faults.{EndsFinding}
 use Rattle.bac_questions.specs.Unfound.{FailsOver}
 
+-- a log more that is asked of the device that it is kept under
+one_asks : (is : Bool) (before : List Wanted) (wanted : Wanted) → All AsksItsSource before → AsksItsSource wanted
+    → All AsksItsSource (if is then before else before ++ wanted ∷ [])
+one_asks true before wanted asks one = asks
+one_asks false before wanted asks one = All-push AsksItsSource before wanted asks one
+
+new_ask : (before found : List Wanted) → All AsksItsSource before → All AsksItsSource found → All AsksItsSource (with_new before found)
+new_ask before [] asks more = asks
+new_ask before (wanted ∷ found) asks more =
+    new_ask (with_one before wanted) found (one_asks (is_wanted wanted.source before) before wanted asks (All-head AsksItsSource wanted found more))
+    (All-tail AsksItsSource wanted found more)
+
 -- with logs that are asked of the device that they are kept under all are
 pub all_ask : (before found all : List Wanted) → all ≡ with_new before found → All AsksItsSource before → All AsksItsSource found → All AsksItsSource all
-all_ask before found all is asks more =
-    All-same AsksItsSource all (with_new before found) is
-    (All-append AsksItsSource before (new_of before found) asks (All-filter (λ (w : Wanted). not (is_wanted w.source before)) AsksItsSource found more))
+all_ask before found all is asks more = All-same AsksItsSource all (with_new before found) is (new_ask before found asks more)
 
 -- the lines and the status of devices and of more of them
 pub lines_behind : (front back : List Unlisted) → unlisted_lines (front ++ back) ≡ unlisted_lines front ++ unlisted_lines back

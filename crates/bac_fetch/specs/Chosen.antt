@@ -1,5 +1,5 @@
 -- Which logs are fetched.
-use Rattle.std.specs.Prelude.{◌≡◌, ◌≢◌, ℕ, Bool, false, MatchBool, if◌then◌else◌, List, [], ◌∷◌, ◌++◌, map, not}
+use Rattle.std.specs.Prelude.{◌≡◌, ◌≢◌, ℕ, Bool, false, MatchBool, if◌then◌else◌, List, [], ◌∷◌, ◌++◌, fold, map, not}
 use Rattle.std.specs.Prelude.{Option, Result, Ok, Err}
 use Rattle.std.specs.Io.KnownBytes.{Appends}
 use Rattle.std.specs.List.{All, filter, list_any}
@@ -64,13 +64,13 @@ AreChosen given (chosen.Sought sought) trees all = Unit {0}
 abbrev pub is_wanted : Source → List Wanted → Bool
 is_wanted source all = list_any (λ (w : Wanted). is_same_log w.source source) all
 
--- those of these logs that aren't among others
-abbrev pub new_of : List Wanted → List Wanted → List Wanted
-new_of all = filter (λ (w : Wanted). not (is_wanted w.source all))
+-- a log comes behind others, unless it is one of them
+abbrev pub with_one : List Wanted → Wanted → List Wanted
+with_one all wanted = if is_wanted wanted.source all then all else all ++ wanted ∷ []
 
--- logs with those behind them that aren't among them
+-- so do these, in their order: each once, though a device may list one twice
 abbrev pub with_new : List Wanted → List Wanted → List Wanted
-with_new all found = all ++ new_of all found
+with_new all found = fold with_one all found
 
 -- the logs that were found of a device
 abbrev pub told_by : Listing → List Wanted

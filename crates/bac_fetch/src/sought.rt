@@ -8,8 +8,8 @@ ghost use Rattle.std.specs.List.{All};
 ghost use Rattle.bac_asked.specs.Faults.{RefusesLine, WantsMemory};
 ghost use Rattle.bac_asked.specs.Wanted.{AsksItsSource};
 ghost use Rattle.bac_fetch.specs.Chosen.{AreOfDevice, AskOneSource, Finds, FindsEach, is_wanted};
-ghost use Rattle.bac_fetch.specs.Chosen.{new_of, passed_since, told_by, unlisted_by, untold_in};
-ghost use Rattle.bac_fetch.specs.Chosen.{with_new};
+ghost use Rattle.bac_fetch.specs.Chosen.{passed_since, told_by, unlisted_by, untold_in, with_new};
+ghost use Rattle.bac_fetch.specs.Chosen.{with_one};
 ghost use Rattle.bac_fetch.specs.Ahead.{at_once};
 ghost use Rattle.bac_fetch.specs.Faults.{EndsDevice, EndsListed, EndsSought};
 ghost use Rattle.bac_fetch.specs.Unlisted.{unlisted_lines, unlisted_status};
@@ -74,40 +74,27 @@ pub fn is_wanted(all: &[Wanted], source: &Source) -> bool
     all.iter().any(|wanted| is_same_log(&wanted.source, source))
 }
 
-/// Puts a log behind those that are new, unless it is among others.
-fn add_unless(more: &mut Vec<Wanted>, all: &[Wanted], wanted: Wanted) -> Result<(), NotDone>
-    ensures added { OnOk result
-        (more.new.items ≡ more.old.items ++ new_of all.now (wanted ∷ [])) }
+/// Puts a log behind others, unless it is one of them.
+fn add_unless(all: &mut Vec<Wanted>, wanted: Wanted) -> Result<(), NotDone>
+    ensures added { OnOk result (all.new.items ≡ with_one all.old.items wanted) }
     ensures fault { IfErr result WantsMemory }
 {
-    if is_wanted(all, &wanted.source) {
+    if is_wanted(all.as_slice(), &wanted.source) {
         return Ok(());
     }
-    add_wanted(more, wanted)
+    add_wanted(all, wanted)
 }
 
-/// Those of these logs that aren't among others.
-fn new_of(alloc: Global, all: &[Wanted], found: Vec<Wanted>) -> Result<Vec<Wanted>, NotDone>
-    ensures more { IfOk result (λ more. more.items ≡ new_of all.now found.items) }
-    ensures fault { IfErr result WantsMemory }
-{
-    let mut more = Vec::new(alloc);
-    for wanted in found {
-        add_unless(&mut more, all, wanted)?;
-    }
-    Ok(more)
-}
-
-/// Puts those of these logs behind others that aren't among them.
-fn add_new(alloc: Global, all: &mut Vec<Wanted>, found: Vec<Wanted>) -> Result<(), NotDone>
+/// Puts each of these logs behind others, unless it is one of them by then: a device may list one
+/// twice, and the archive has no place for its second row.
+fn add_new(all: &mut Vec<Wanted>, found: Vec<Wanted>) -> Result<(), NotDone>
     ensures added { OnOk result (all.new.items ≡ with_new all.old.items found.items) }
     ensures fault { IfErr result WantsMemory }
 {
-    let mut more = new_of(alloc, all.as_slice(), found)?;
-    match all.append(&mut more) {
-        Ok(()) => Ok(()),
-        Err(_) => Err(NotDone::Asking(Fault::Memory)),
+    for wanted in found {
+        add_unless(all, wanted)?;
     }
+    Ok(())
 }
 
 /// Why a device didn't tell its list, if nothing else ended the question for it.
@@ -190,7 +177,7 @@ fn add_listing<O: Write, E: Write>(
 {
     match listing {
         Listing::Told(found) => {
-            add_new(alloc, all, found)?;
+            add_new(all, found)?;
             Ok(0)
         }
         Listing::Untold(device) => tell_unlisted(alloc, passed, &device, output, errors),
