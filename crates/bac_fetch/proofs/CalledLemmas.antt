@@ -21,14 +21,14 @@ use Rattle.bac_questions.specs.declared.whose.Heard.{Heard}
 
 module _ {S P C : Type 0} (rules : SocketRules S P) (by : AtOnce S C) where
   -- they are kept
-  pub logs_kept : (all : List Wanted) (before half after : S) (old mid new : Database) (known : List Log) (heard : List Heard) (ends : List End)
-      → AreLogs old.trees known → Settles rules known all before heard half old mid → KeepsSettled rules by heard all half after mid new ends
-      → KeepsLogs rules by all before after old new ends
-  logs_kept all before half after old mid new known heard ends are settles kept = (known, are, heard, half, mid, settles, kept)
+  pub logs_kept : (given : Given) (all : List Wanted) (before half after : S) (old mid new : Database) (known : List Log) (heard : List Heard) (ends : List End)
+      → AreLogs old.trees known → Settles rules given known all before heard half old mid → KeepsSettled rules by heard all half after mid new ends
+      → KeepsLogs rules by given all before after old new ends
+  logs_kept given all before half after old mid new known heard ends are settles kept = (known, are, heard, half, mid, settles, kept)
 
   -- it ends at one of them
   pub logs_end : (given : Given) (all : List Wanted) (before half after : S) (old mid : Database) (known : List Log) (heard : List Heard) (fault : NotDone)
-      → AreLogs old.trees known → Settles rules known all before heard half old mid → EndsSettled rules by heard all half after mid fault
+      → AreLogs old.trees known → Settles rules given known all before heard half old mid → EndsSettled rules by heard all half after mid fault
       → EndsLogs rules by given all before after old fault
   logs_end given all before half after old mid known heard fault are settles it = inr (known, are, heard, half, mid, settles, it)
 

@@ -1,12 +1,11 @@
 -- What ends a run.
 use Rattle.std.proofs.Common.{◌≡◌, inl, inr, refl, subst, ◌∙◌, ℕ, List, Option, None, Some, Result, Ok, Err, IfErr}
-use Rattle.bac_asked.specs.Faults.{RefusesLine}
 use Rattle.bac_asked.specs.declared.end.NotDone.{NotDone}
+use Rattle.bac_asked.specs.declared.log_words.Asking.{Asking as AskedFor}
 use Rattle.bac_fetch.specs.Ahead.{AtOnce}
 use Rattle.bac_fetch.specs.Chosen.{AreFound}
 use Rattle.bac_fetch.specs.Faults.{EndsChosen, EndsKeeping, EndsKept, EndsRun, HasNoInstance}
 use Rattle.bac_questions.specs.Faults.{EndsAsking}
-use Rattle.bac_asked.specs.Faults.{EndsLog}
 use Rattle.bac_fetch.specs.declared.keeping.Chosen.{Chosen}
 use Rattle.bac_fetch.specs.declared.unlisted.Unlisted.{Unlisted}
 use Rattle.bac_fetch.specs.declared.keeping.Chosen.TheVariants.{Kept, Sought}
@@ -24,13 +23,7 @@ use Rattle.bac_asked.specs.Wanted.{HasNoAddress, IsBehind, words_at}
 use Rattle.bac_ports.specs.Sockets.{SocketRules}
 use Rattle.bac_words.specs.declared.job.Asked.{Asked}
 
-pub line_ends : (fault : NotDone) → RefusesLine fault → EndsLog fault
-line_ends fault it = inr (inl it)
-
 module _ {S P : Type 0} (rules : SocketRules S P) where
-  pub log_ends_run : (I A : Type 0) (after : S) (fault : NotDone) → EndsLog fault → EndsRun rules I A after fault
-  log_ends_run I A after fault it = inl it
-
   -- a device that isn't asked ends the run
   pub asking_ends_run : (I A : Type 0) (asked : Asked) (before after : S) (fault : NotDone) → EndsAsking rules asked before after fault → EndsRun rules I A after fault
   asking_ends_run I A asked before after fault (inl it) = inl (inl it)
@@ -63,6 +56,12 @@ same_words : (given : Given) (a b : Source) → string_bytes a.address ≡ strin
     → a.instance ≡ b.instance → words_at given a ≡ words_at given b
 same_words given a b address dnet dadr instance = rw (address, dnet, dadr, instance) refl
 
+-- a log is asked for by a source that is the same
+pub copy_asked : (given : Given) (a b : Source) (asking : AskedFor) → string_bytes a.address ≡ string_bytes b.address → a.dnet ≡ b.dnet → string_bytes a.dadr ≡ string_bytes b.dadr
+    → a.instance ≡ b.instance → IsAskedBy (words_at given a) asking → IsAskedBy (words_at given b) asking
+copy_asked given a b asking address dnet dadr instance by =
+    subst (λ (ws : List (List ℕ)). IsAskedBy ws asking) (same_words given a b address dnet dadr instance) by
+
 -- an address is none of a source that is the same
 pub copy_no_address : (given : Given) (a b : Source) → string_bytes a.address ≡ string_bytes b.address → a.dnet ≡ b.dnet → string_bytes a.dadr ≡ string_bytes b.dadr
     → a.instance ≡ b.instance → HasNoAddress given a → HasNoAddress given b
@@ -70,7 +69,7 @@ copy_no_address given a b address dnet dadr instance (inl (why, other, unasked))
     inl (why, other, subst (λ (ws : List (List ℕ)). IsUnasked ws why) (same_words given a b address dnet dadr instance) unasked)
 copy_no_address given a b address dnet dadr instance (inr (asking, by, none)) = inr (
   asking,
-  subst (λ (ws : List (List ℕ)). IsAskedBy ws asking) (same_words given a b address dnet dadr instance) by,
+  copy_asked given a b asking address dnet dadr instance by,
   λ of. none (record { address = address ∙ of.address; behind = behind asking.asked.route of.behind; instance_is = instance ∙ of.instance_is }),
 )
   where

@@ -7,6 +7,7 @@ use Rattle.sqlite_value.specs.Order.{Row as Values}
 use Rattle.sqlite.specs.Effect.{Database}
 use Rattle.bac_archive.specs.declared.trend_logs.Log.{Log}
 use Rattle.bac_archive.specs.declared.trend_logs.Source.{Source}
+use Rattle.bac_asked.specs.AsLog.{Given}
 use Rattle.bac_asked.specs.declared.wanted.Wanted.{Wanted}
 use Rattle.bac_ports.specs.Sockets.{SocketRules}
 use Rattle.bac_fetch.specs.Moves.{AreMoved, AsksIf, MovesUnless, Settles, SettlesBy, SettlesFirst, SettlesUnless, is_placed, moved_columns, moved_of, stands}
@@ -36,32 +37,32 @@ moves device from to known there old new =
     either_holds (is_told device there) (new ≡ old) _ (Goes old new) (stands_still old new)
     (λ it. record { schema = λ has. has_still _ _ has it.2.schema; all = changes_all old.trees new.trees it.0 it.2.rows })
 
-asks_if : {S P : Type 0} (rules : SocketRules S P) (device : ℕ) (log : Option Log) (to : Source) (known : List Log) (before after : S) (old new : Database)
-    → AsksIf rules device log to known before after old new → Goes old new
-asks_if rules device None to known before after old new it = stands_still old new it.1
-asks_if rules device (Some log) to known before after old new it = moves device log.source to known it.3.identity old new it.5
+asks_if : {S P : Type 0} (rules : SocketRules S P) (given : Given) (device : ℕ) (log : Option Log) (to : Source) (known : List Log) (before after : S) (old new : Database)
+    → AsksIf rules given device log to known before after old new → Goes old new
+asks_if rules given device None to known before after old new it = stands_still old new it.1
+asks_if rules given device (Some log) to known before after old new it = moves device log.source to known it.2.identity old new it.4
 
-by_identity : {S P : Type 0} (rules : SocketRules S P) (known : List Log) (to : Source) (identity : Identity) (before after : S) (old new : Database)
-    → SettlesBy rules known to identity before after old new → Goes old new
-by_identity rules known to (Told device) before after old new it = asks_if rules device it.0 to known before after old new it.2
-by_identity rules known to Untold before after old new it = stands_still old new it.1
-by_identity rules known to Lost before after old new it = stands_still old new it.1
+by_identity : {S P : Type 0} (rules : SocketRules S P) (given : Given) (known : List Log) (to : Source) (identity : Identity) (before after : S) (old new : Database)
+    → SettlesBy rules given known to identity before after old new → Goes old new
+by_identity rules given known to (Told device) before after old new it = asks_if rules given device it.0 to known before after old new it.2
+by_identity rules given known to Untold before after old new it = stands_still old new it.1
+by_identity rules given known to Lost before after old new it = stands_still old new it.1
 
-settled : {S P : Type 0} (rules : SocketRules S P) (known : List Log) (all : List Wanted) (before : S) (heard : List Heard) (after : S) (old new : Database)
-    → Settles rules known all before heard after old new → Goes old new
-settled rules known [] before heard after old new it = stands_still old new it.2
-settled {S = S} rules known (first ∷ more) before heard after old new it =
-    either_holds (is_placed known first.source) _ ((one : Heard) × (heard ≡ one ∷ []) × SettlesFirst rules known first before one after old new) (Goes old new)
+settled : {S P : Type 0} (rules : SocketRules S P) (given : Given) (known : List Log) (all : List Wanted) (before : S) (heard : List Heard) (after : S) (old new : Database)
+    → Settles rules given known all before heard after old new → Goes old new
+settled rules given known [] before heard after old new it = stands_still old new it.2
+settled {S = S} rules given known (first ∷ more) before heard after old new it =
+    either_holds (is_placed known first.source) _ ((one : Heard) × (heard ≡ one ∷ []) × SettlesFirst rules given known first before one after old new) (Goes old new)
     (λ same. stands_still old new same.2)
-    (λ one. by_identity rules known first.source one.0.said.identity one.2.0 after old new one.2.4) it
+    (λ one. by_identity rules given known first.source one.0.said.identity one.2.0 after old new one.2.4) it
 
-pub settles_schema : {S P : Type 0} (rules : SocketRules S P) (known : List Log) (all : List Wanted) (before : S) (heard : List Heard) (after : S) (old new : Database)
-    → Settles rules known all before heard after old new → HasArchive old.schema → HasArchive new.schema
-settles_schema rules known all before heard after old new it = (settled rules known all before heard after old new it).schema
+pub settles_schema : {S P : Type 0} (rules : SocketRules S P) (given : Given) (known : List Log) (all : List Wanted) (before : S) (heard : List Heard) (after : S) (old new : Database)
+    → Settles rules given known all before heard after old new → HasArchive old.schema → HasArchive new.schema
+settles_schema rules given known all before heard after old new it = (settled rules given known all before heard after old new it).schema
 
-pub settles_stay : {S P : Type 0} (rules : SocketRules S P) (known : List Log) (all : List Wanted) (before : S) (heard : List Heard) (after : S) (old new : Database)
-    → Settles rules known all before heard after old new → HasAllOf old.trees new.trees
-settles_stay rules known all before heard after old new it = (settled rules known all before heard after old new it).all
+pub settles_stay : {S P : Type 0} (rules : SocketRules S P) (given : Given) (known : List Log) (all : List Wanted) (before : S) (heard : List Heard) (after : S) (old new : Database)
+    → Settles rules given known all before heard after old new → HasAllOf old.trees new.trees
+settles_stay rules given known all before heard after old new it = (settled rules given known all before heard after old new it).all
 
 moves_one : (device : ℕ) (from to : Source) (x : Log) → map (moved_columns to) (filter (stands device from) (x ∷ [])) ≡ moved_of device from to x
 moves_one device from to x = go (stands device from x) refl
@@ -85,7 +86,7 @@ pub all_moved : (device : ℕ) (from to : Source) (known : List Log) (at : ℕ) 
 all_moved device from to known at moved past it = subst (λ (l : List Log). AreMoved device from to l moved) (take_all at known past) it
 
 -- the first of some logs
-pub settles_of_first : {S P : Type 0} (rules : SocketRules S P) (known : List Log) (all : List Wanted) (first : Wanted) (before : S) (heard : List Heard) (after : S) (old new : Database)
-    → 1 ≤ length all → first ≡ slice_index_or all 0 first → SettlesUnless rules known first before heard after old new → Settles rules known all before heard after old new
-settles_of_first rules known [] first before heard after old new lt is it = absurd (omega (arith, lt))
-settles_of_first rules known (x ∷ xs) first before heard after old new lt is it = subst (λ (w : Wanted). SettlesUnless rules known w before heard after old new) is it
+pub settles_of_first : {S P : Type 0} (rules : SocketRules S P) (given : Given) (known : List Log) (all : List Wanted) (first : Wanted) (before : S) (heard : List Heard) (after : S) (old new : Database)
+    → 1 ≤ length all → first ≡ slice_index_or all 0 first → SettlesUnless rules given known first before heard after old new → Settles rules given known all before heard after old new
+settles_of_first rules given known [] first before heard after old new lt is it = absurd (omega (arith, lt))
+settles_of_first rules given known (x ∷ xs) first before heard after old new lt is it = subst (λ (w : Wanted). SettlesUnless rules given known w before heard after old new) is it

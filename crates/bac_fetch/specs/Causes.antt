@@ -9,7 +9,7 @@ use Rattle.bac_archive.specs.declared.trend_logs.Log.{Log}
 use Rattle.bac_archive.specs.declared.trend_logs.Source.{Source}
 use Rattle.bac_asked.specs.AsLog.{Given}
 use Rattle.bac_asked.specs.Faults.{FailsOnRows, WantsMemory}
-use Rattle.bac_asked.specs.Wanted.{AsksItsSource, HasNoAddress}
+use Rattle.bac_asked.specs.Wanted.{HasNoAddress}
 use Rattle.bac_asked.specs.declared.end.End.{End}
 use Rattle.bac_asked.specs.declared.end.NotDone.{NotDone}
 use Rattle.bac_asked.specs.declared.end.NotDone.TheVariants.{Asking, File}
@@ -20,9 +20,9 @@ use Rattle.bac_fetch.specs.Chosen.{AreFound}
 use Rattle.bac_fetch.specs.Faults.{EndsChosen, HasNone, IsNoInstance, LacksAddress}
 use Rattle.bac_questions.specs.Faults.{IsUnopened}
 use Rattle.bac_fetch.specs.Keeps.{KeepsAll}
-use Rattle.bac_fetch.specs.Moves.{IsElsewhere, Settles}
+use Rattle.bac_fetch.specs.Moves.{IsAskedThere, IsElsewhere, Settles}
 use Rattle.bac_questions.specs.Said.{Identifies}
-use Rattle.bac_questions.specs.Silent.{IsAmong, is_same_device}
+use Rattle.bac_questions.specs.Silent.{IsAmong}
 use Rattle.bac_questions.specs.Whose.{IsIdentified}
 use Rattle.bac_fetch.specs.declared.keeping.Chosen.{Chosen}
 use Rattle.bac_fetch.specs.declared.unlisted.Unlisted.{Unlisted}
@@ -118,8 +118,7 @@ EndsSettled rules by heard all before after old fault = FailsOnRows fault
 abbrev pub EndsThere : {S P : Type 0} → SocketRules S P → Given → Source → S → S → NotDone → Type 0
 EndsThere rules given from before after fault = FailsOnRows fault
     ⊎ (((fault ≡ File Address) × HasNoAddress given from × (after ≡ before))
-    ⊎ ((there : Wanted) × AsksItsSource there × (is_same_device there.source from ≡ true)
-    × IsUnopened rules there.asking.asked before after fault))
+    ⊎ ((there : Wanted) × IsAskedThere given from there × IsUnopened rules there.asking.asked before after fault))
 
 -- so it is of a device that tells this instance at the place of a log, which is on record of one of these elsewhere
 abbrev pub EndsMoving : {S P : Type 0} → SocketRules S P → Given → List Log → Source → ℕ → S → S → NotDone → Type 0
@@ -151,7 +150,7 @@ abbrev pub EndsLogs : {S P C : Type 0} → SocketRules S P → AtOnce S C → Gi
     → NotDone → Type 0
 EndsLogs {S = S} rules by given all before after old fault = FailsToSettle rules given all before after old fault
     ⊎ ((known : List Log) × AreLogs old.trees known × (heard : List Heard) × (half : S) × (mid : Database)
-    × Settles rules known all before heard half old mid × EndsSettled rules by heard all half after mid fault)
+    × Settles rules given known all before heard half old mid × EndsSettled rules by heard all half after mid fault)
 
 -- A run over the logs that were chosen ends: they aren't found; or they were, and from where that left the sockets the
 -- run over them ends.

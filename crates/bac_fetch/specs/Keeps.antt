@@ -26,6 +26,7 @@ use Rattle.bac_keep.specs.Items.{era, kept_rows}
 use Rattle.bac_keep.specs.Runs.{records_in, gaps_among}
 use Rattle.bac_keep.specs.declared.keep.KeptStep.{KeptStep}
 use Rattle.bac_keep.specs.declared.place.Place.{Place}
+use Rattle.bac_asked.specs.AsLog.{Given}
 use Rattle.bac_asked.specs.declared.end.End.{End}
 use Rattle.bac_asked.specs.declared.began.Began.{Began}
 use Rattle.bac_asked.specs.declared.began.Began.TheVariants.{GoesOn}
@@ -239,12 +240,13 @@ abbrev pub KeepsSettled : {S P C : Type 0} → SocketRules S P → AtOnce S C �
 KeepsSettled rules by heard all before after old new ends =
     (known : List Log) × AreLogs old.trees known × KeepsCalled rules by known heard all before after old new ends
 
--- So it is in a run: first it is found whether the device of the first log has moved, and then they are kept.
-abbrev pub KeepsLogs : {S P C : Type 0} → SocketRules S P → AtOnce S C → List Wanted → S → S → Database → Database
-    → List End → Type 0
-KeepsLogs {S = S} rules by all before after old new ends =
+-- So it is in a run by the options that were given: first it is found whether the device of the first log has moved,
+-- and then they are kept.
+abbrev pub KeepsLogs : {S P C : Type 0} → SocketRules S P → AtOnce S C → Given → List Wanted → S → S → Database
+    → Database → List End → Type 0
+KeepsLogs {S = S} rules by given all before after old new ends =
     (known : List Log) × AreLogs old.trees known × (heard : List Heard) × (half : S) × (mid : Database)
-    × Settles rules known all before heard half old mid × KeepsSettled rules by heard all half after mid new ends
+    × Settles rules given known all before heard half old mid × KeepsSettled rules by heard all half after mid new ends
 
 -- the lines of logs, in their order
 abbrev pub lines_of : List Wanted → List End → List ℕ

@@ -12,7 +12,8 @@ use Rattle.bac_archive.specs.Changes.{HasChangedLogs}
 use Rattle.bac_archive.specs.Logs.{flag, log_columns, told_values}
 use Rattle.bac_archive.specs.declared.trend_logs.Log.{Log}
 use Rattle.bac_archive.specs.declared.trend_logs.Source.{Source}
-use Rattle.bac_asked.specs.Wanted.{AsksItsSource}
+use Rattle.bac_asked.specs.AsLog.{Given, IsAskedBy}
+use Rattle.bac_asked.specs.Wanted.{AsksItsSource, words_at}
 use Rattle.bac_asked.specs.declared.wanted.Wanted.{Wanted}
 use Rattle.bac_questions.specs.Said.{Identifies}
 use Rattle.bac_questions.specs.Silent.{is_same_device}
@@ -57,46 +58,51 @@ abbrev pub MovesUnless : ℕ → Source → Source → List Log → Identity →
 MovesUnless device from to known there old new = MatchBool (is_told device there) (new ≡ old)
     ((moved : List Log) × AreMoved device from to known moved × HasChangedLogs old new moved)
 
--- the old place is asked
-abbrev pub AsksThere : {S P : Type 0} → SocketRules S P → ℕ → Source → Source → List Log → S → S → Database → Database
-    → Type 0
-AsksThere rules device from to known before after old new =
-    (there : Wanted) × AsksItsSource there × (is_same_device there.source from ≡ true)
+-- a device is asked for at the place of this source, by these options: as `bac log` with them asks for a log there
+abbrev pub IsAskedThere : Given → Source → Wanted → Type 0
+IsAskedThere given from there = AsksItsSource there × (is_same_device there.source from ≡ true)
+    × IsAskedBy (words_at given from) there.asking
+
+-- the old place is asked, by the options that were given
+abbrev pub AsksThere : {S P : Type 0} → SocketRules S P → Given → ℕ → Source → Source → List Log → S → S → Database
+    → Database → Type 0
+AsksThere rules given device from to known before after old new =
+    (there : Wanted) × IsAskedThere given from there
     × (said : Said) × Identifies rules there.asking before said after
     × MovesUnless device from to known said.identity old new
 
 -- if there is one
-abbrev pub AsksIf : {S P : Type 0} → SocketRules S P → ℕ → Option Log → Source → List Log → S → S → Database → Database
-    → Type 0
-AsksIf rules device None to known before after old new = (after ≡ before) × (new ≡ old)
-AsksIf rules device (Some log) to known before after old new =
-    AsksThere rules device log.source to known before after old new
+abbrev pub AsksIf : {S P : Type 0} → SocketRules S P → Given → ℕ → Option Log → Source → List Log → S → S → Database
+    → Database → Type 0
+AsksIf rules given device None to known before after old new = (after ≡ before) × (new ≡ old)
+AsksIf rules given device (Some log) to known before after old new =
+    AsksThere rules given device log.source to known before after old new
 
 -- a device that tells its instance at a place of which no log is on record
-abbrev pub SettlesBy : {S P : Type 0} → SocketRules S P → List Log → Source → Identity → S → S → Database → Database
-    → Type 0
-SettlesBy rules known to (Told device) before after old new =
-    (log : Option Log) × IsElsewhere known to device log × AsksIf rules device log to known before after old new
-SettlesBy rules known to identity before after old new = (after ≡ before) × (new ≡ old)
+abbrev pub SettlesBy : {S P : Type 0} → SocketRules S P → Given → List Log → Source → Identity → S → S → Database
+    → Database → Type 0
+SettlesBy rules given known to (Told device) before after old new =
+    (log : Option Log) × IsElsewhere known to device log × AsksIf rules given device log to known before after old new
+SettlesBy rules given known to identity before after old new = (after ≡ before) × (new ≡ old)
 
 -- the device of a log is asked what it says of itself, which is heard then, and whether it has moved is settled
-abbrev pub SettlesFirst : {S P : Type 0} → SocketRules S P → List Log → Wanted → S → Heard → S → Database → Database
-    → Type 0
-SettlesFirst {S = S} rules known first before one after old new =
+abbrev pub SettlesFirst : {S P : Type 0} → SocketRules S P → Given → List Log → Wanted → S → Heard → S → Database
+    → Database → Type 0
+SettlesFirst {S = S} rules given known first before one after old new =
     (mid : S) × Identifies rules first.asking before one.said mid × (one.was_told ≡ false)
     × (is_same_device one.source first.source ≡ true)
-    × SettlesBy rules known first.source one.said.identity mid after old new
+    × SettlesBy rules given known first.source one.said.identity mid after old new
 
 -- unless a log of that device is on record: then nothing is asked
-abbrev pub SettlesUnless : {S P : Type 0} → SocketRules S P → List Log → Wanted → S → List Heard → S → Database
-    → Database → Type 0
-SettlesUnless rules known first before heard after old new = MatchBool (is_placed known first.source)
+abbrev pub SettlesUnless : {S P : Type 0} → SocketRules S P → Given → List Log → Wanted → S → List Heard → S
+    → Database → Database → Type 0
+SettlesUnless rules given known first before heard after old new = MatchBool (is_placed known first.source)
     ((heard ≡ []) × (after ≡ before) × (new ≡ old))
-    ((one : Heard) × (heard ≡ one ∷ []) × SettlesFirst rules known first before one after old new)
+    ((one : Heard) × (heard ≡ one ∷ []) × SettlesFirst rules given known first before one after old new)
 
 -- so it is with the first of some logs before they are kept
-abbrev pub Settles : {S P : Type 0} → SocketRules S P → List Log → List Wanted → S → List Heard → S → Database
+abbrev pub Settles : {S P : Type 0} → SocketRules S P → Given → List Log → List Wanted → S → List Heard → S → Database
     → Database → Type 0
-Settles rules known [] before heard after old new = (heard ≡ []) × (after ≡ before) × (new ≡ old)
-Settles rules known (first ∷ more) before heard after old new =
-    SettlesUnless rules known first before heard after old new
+Settles rules given known [] before heard after old new = (heard ≡ []) × (after ≡ before) × (new ≡ old)
+Settles rules given known (first ∷ more) before heard after old new =
+    SettlesUnless rules given known first before heard after old new

@@ -196,8 +196,8 @@ fn settle_known<S: Sockets, A: Alter, E: Write>(
         (IfOk result (λ heard. (known : List LogOf)
         × AreLogs (state A.Store conn.old).now.trees known
         × Settles (socket_rules S.opens S.closes S.Socket.sends S.Socket.receives
-        S.Socket.receives_within) known all.now sockets.old heard.items sockets.new
-        (state A.Store conn.old).now (state A.Store conn.new).now)) }
+        S.Socket.receives_within) (given_in options.now) known all.now sockets.old heard.items
+        sockets.new (state A.Store conn.old).now (state A.Store conn.new).now)) }
     ensures stays { OverArchive (state A.Store conn.old) (state A.Store conn.new)
         (Survives (state A.Store conn.old) (state A.Store conn.new)
         (HasAllOf (state A.Store conn.old).now.trees)) }
@@ -250,8 +250,9 @@ where
     ensures told { IfOk result (AreToldBy (O.contents output.old) (O.contents output.new) all.items
         (λ ends. OverArchive (state A.Store conn.old) (state A.Store conn.new)
         (KeepsLogs (socket_rules S.opens S.closes S.Socket.sends S.Socket.receives
-        S.Socket.receives_within) (at_once S.holds C.reads clock window) all.items sockets.old
-        sockets.new (state A.Store conn.old).now (state A.Store conn.new).now ends))) }
+        S.Socket.receives_within) (at_once S.holds C.reads clock window) (given_in options.now)
+        all.items sockets.old sockets.new (state A.Store conn.old).now
+        (state A.Store conn.new).now ends))) }
     // Whatever comes of it, no item and no log is lost: what is on the disk then, or is left by a
     // crash at any moment before, is what was there or has all of it.
     ensures stays { OverArchive (state A.Store conn.old) (state A.Store conn.new)
@@ -357,8 +358,9 @@ where
         × AreToldBehind (O.contents output.old) (O.contents output.new) unlisted all
         (λ ends. OverArchive (state A.Store conn.old) (state A.Store conn.new)
         (KeepsLogs (socket_rules S.opens S.closes S.Socket.sends S.Socket.receives
-        S.Socket.receives_within) (at_once S.holds C.reads clock window) all between sockets.new
-        (state A.Store conn.old).now (state A.Store conn.new).now ends)) status) }
+        S.Socket.receives_within) (at_once S.holds C.reads clock window) (given_in options.now)
+        all between sockets.new (state A.Store conn.old).now (state A.Store conn.new).now ends))
+        status) }
     // Whatever comes of it, no item and no log is lost.
     ensures stays { OverArchive (state A.Store conn.old) (state A.Store conn.new)
         (Survives (state A.Store conn.old) (state A.Store conn.new)

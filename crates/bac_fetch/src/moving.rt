@@ -8,16 +8,15 @@ ghost use Rattle.bac_archive.specs.Changes.{HasChangedLogs};
 ghost use Rattle.bac_archive.specs.Logs.{log_columns};
 ghost use Rattle.bac_archive.specs.Schema.{OverArchive, HasArchive};
 ghost use Rattle.bac_ports.specs.Sockets.{socket_rules};
-ghost use Rattle.bac_asked.specs.Wanted.{AsksItsSource, HasNoAddress};
+ghost use Rattle.bac_asked.specs.Wanted.{HasNoAddress};
 ghost use Rattle.bac_asked.specs.AsLog.{given_in};
 ghost use Rattle.bac_asked.specs.Faults.{WantsMemory, FailsOnRows, EndsLog};
 ghost use Rattle.bac_fetch.specs.Causes.{EndsFirst, EndsMoving, EndsSettling, EndsThere};
 ghost use Rattle.bac_fetch.specs.Faults.{EndsRun, HaveNoAddress};
-ghost use Rattle.bac_fetch.specs.Moves.{AreMoved, AsksThere, IsElsewhere, Settles, SettlesBy};
-ghost use Rattle.bac_fetch.specs.Moves.{SettlesFirst, SettlesUnless, is_placed, moved_columns};
-ghost use Rattle.bac_fetch.specs.Moves.{moved_of};
+ghost use Rattle.bac_fetch.specs.Moves.{AreMoved, AsksThere, IsAskedThere, IsElsewhere, Settles};
+ghost use Rattle.bac_fetch.specs.Moves.{SettlesBy, SettlesFirst, SettlesUnless, is_placed};
+ghost use Rattle.bac_fetch.specs.Moves.{moved_columns, moved_of};
 ghost use Rattle.bac_questions.specs.Said.{Identifies};
-ghost use Rattle.bac_questions.specs.Silent.{is_same_device};
 ghost use Rattle.bac_fetch.specs.Stays.{HasAllOf};
 
 use bac_archive::{Log, Source, Told, change_logs};
@@ -172,8 +171,8 @@ fn identify_there<S: Sockets>(
     from: &Source,
     options: &Options<'_>,
 ) -> Result<Said, NotDone>
-    ensures identifies { IfOk result (λ said. (there : _) × AsksItsSource there
-        × (is_same_device there.source from.now ≡ true)
+    ensures identifies { IfOk result (λ said. (there : _)
+        × IsAskedThere (given_in options.now) from.now there
         × Identifies (socket_rules S.opens S.closes S.Socket.sends S.Socket.receives
         S.Socket.receives_within) there.asking sockets.old said sockets.new) }
     ensures fault { IfErr result (EndsRun (socket_rules S.opens S.closes S.Socket.sends
@@ -201,8 +200,8 @@ fn settle_from<S: Sockets, A: Alter, E: Write>(
 ) -> Result<(), NotDone>
     ensures settled { OverArchive (state A.Store conn.old) (state A.Store conn.new)
         (OnOk result (AsksThere (socket_rules S.opens S.closes S.Socket.sends S.Socket.receives
-        S.Socket.receives_within) device from.now to.now known.now sockets.old
-        sockets.new (state A.Store conn.old).now (state A.Store conn.new).now)) }
+        S.Socket.receives_within) (given_in options.now) device from.now to.now known.now
+        sockets.old sockets.new (state A.Store conn.old).now (state A.Store conn.new).now)) }
     ensures stays { HasArchive (state A.Store conn.old).now.schema
         → Survives (state A.Store conn.old) (state A.Store conn.new)
         (HasAllOf (state A.Store conn.old).now.trees) }
@@ -235,8 +234,8 @@ fn settle_by<S: Sockets, A: Alter, E: Write>(
 ) -> Result<(), NotDone>
     ensures settled { OverArchive (state A.Store conn.old) (state A.Store conn.new)
         (OnOk result (SettlesBy (socket_rules S.opens S.closes S.Socket.sends S.Socket.receives
-        S.Socket.receives_within) known.now to.now identity sockets.old sockets.new
-        (state A.Store conn.old).now (state A.Store conn.new).now)) }
+        S.Socket.receives_within) (given_in options.now) known.now to.now identity sockets.old
+        sockets.new (state A.Store conn.old).now (state A.Store conn.new).now)) }
     ensures stays { HasArchive (state A.Store conn.old).now.schema
         → Survives (state A.Store conn.old) (state A.Store conn.new)
         (HasAllOf (state A.Store conn.old).now.trees) }
@@ -280,8 +279,9 @@ fn settle_first<S: Sockets, A: Alter, E: Write>(
 ) -> Result<Heard, NotDone>
     ensures settled { OverArchive (state A.Store conn.old) (state A.Store conn.new)
         (IfOk result (λ one. SettlesFirst (socket_rules S.opens S.closes S.Socket.sends
-        S.Socket.receives S.Socket.receives_within) known.now first.now sockets.old one
-        sockets.new (state A.Store conn.old).now (state A.Store conn.new).now)) }
+        S.Socket.receives S.Socket.receives_within) (given_in options.now) known.now first.now
+        sockets.old one sockets.new (state A.Store conn.old).now
+        (state A.Store conn.new).now)) }
     ensures stays { HasArchive (state A.Store conn.old).now.schema
         → Survives (state A.Store conn.old) (state A.Store conn.new)
         (HasAllOf (state A.Store conn.old).now.trees) }
@@ -326,8 +326,9 @@ fn settle_unless<S: Sockets, A: Alter, E: Write>(
 ) -> Result<Vec<Heard>, NotDone>
     ensures settled { OverArchive (state A.Store conn.old) (state A.Store conn.new)
         (IfOk result (λ heard. SettlesUnless (socket_rules S.opens S.closes S.Socket.sends
-        S.Socket.receives S.Socket.receives_within) known.now first.now sockets.old
-        heard.items sockets.new (state A.Store conn.old).now (state A.Store conn.new).now)) }
+        S.Socket.receives S.Socket.receives_within) (given_in options.now) known.now first.now
+        sockets.old heard.items sockets.new (state A.Store conn.old).now
+        (state A.Store conn.new).now)) }
     ensures stays { HasArchive (state A.Store conn.old).now.schema
         → Survives (state A.Store conn.old) (state A.Store conn.new)
         (HasAllOf (state A.Store conn.old).now.trees) }
@@ -365,8 +366,9 @@ pub(crate) fn settle<S: Sockets, A: Alter, E: Write>(
 ) -> Result<Vec<Heard>, NotDone>
     ensures settled { OverArchive (state A.Store conn.old) (state A.Store conn.new)
         (IfOk result (λ heard. Settles (socket_rules S.opens S.closes S.Socket.sends
-        S.Socket.receives S.Socket.receives_within) known.now all.now sockets.old
-        heard.items sockets.new (state A.Store conn.old).now (state A.Store conn.new).now)) }
+        S.Socket.receives S.Socket.receives_within) (given_in options.now) known.now all.now
+        sockets.old heard.items sockets.new (state A.Store conn.old).now
+        (state A.Store conn.new).now)) }
     ensures stays { HasArchive (state A.Store conn.old).now.schema
         → Survives (state A.Store conn.old) (state A.Store conn.new)
         (HasAllOf (state A.Store conn.old).now.trees) }

@@ -34,7 +34,7 @@ pub record KeepsArchive {S P C : Type 0} (rules : SocketRules S P) (by : AtOnce 
   pub opened : IsArchiveOf found archive
   pub begun : begins found archive
   pub chose : AreChosen given chosen archive.trees all
-  pub kept : KeepsLogs rules by all before after archive left ends
+  pub kept : KeepsLogs rules by given all before after archive left ends
 
 -- of an archive that was found no item and no log is lost
 abbrev pub LosesNothing : Database → Database → Type 0

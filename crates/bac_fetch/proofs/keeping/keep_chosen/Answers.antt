@@ -39,7 +39,7 @@ returns-clause-told g c =
         λ clean has.
             let early : HasCleanDisk mid = c.keep_each.ensures.clean clean in
             let same = c.in_ok-found.ensures.same early has in
-            subst (λ (d : Database). KeepsLogs over (at_once g.S.Recalls.holds g.C.Clock.reads c.args.clock c.args.window) all c.chosen_logs.new.sockets c.keep_each.new.sockets d new.now told.0) same (told.4 clean (subst (λ (d : Database). HasArchive d.schema) (sym same) has)),
+            subst (λ (d : Database). KeepsLogs over (at_once g.S.Recalls.holds g.C.Clock.reads c.args.clock c.args.window) (given_in c.args.options.now) all c.chosen_logs.new.sockets c.keep_each.new.sockets d new.now told.0) same (told.4 clean (subst (λ (d : Database). HasArchive d.schema) (sym same) has)),
       ),
     )
 

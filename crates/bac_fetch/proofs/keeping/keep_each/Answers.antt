@@ -32,8 +32,8 @@ returns-clause-told g c =
       λ clean has.
           let early : HasCleanDisk mid = c.keep_settled.ensures.clean clean in
           let (known, are, settles) = rw c.as_slice.ensures.value at c.in_ok-heard.ensures.settled early has in
-          let schema = settles_schema over known all c.args.sockets.now heard half old.now mid.now settles has in
-          logs_kept over by all c.args.sockets.now half c.keep_settled.new.sockets old.now mid.now (state g.A.Store c.keep_settled.new.conn).now
+          let schema = settles_schema over (given_in c.args.options.now) known all c.args.sockets.now heard half old.now mid.now settles has in
+          logs_kept over by (given_in c.args.options.now) all c.args.sockets.now half c.keep_settled.new.sockets old.now mid.now (state g.A.Store c.keep_settled.new.conn).now
           known heard told.0 are settles (told.4 clean schema),
     ))
     c.keep_settled.ensures.told
@@ -45,8 +45,8 @@ returns-clause-stays g c clean has =
     let mid = state g.A.Store c.settle_known.new.conn in
     let early : HasCleanDisk mid = c.keep_settled.ensures.clean clean in
     let (known, are, settles) = c.in_ok-heard.ensures.settled early has in
-    let schema = settles_schema over known _ c.args.sockets.now c.in_ok-heard.heard.items c.settle_known.new.sockets old.now mid.now settles has in
-    stays_then old mid (state g.A.Store c.keep_settled.new.conn) (settles_stay over known _ c.args.sockets.now c.in_ok-heard.heard.items c.settle_known.new.sockets old.now mid.now settles)
+    let schema = settles_schema over (given_in c.args.options.now) known _ c.args.sockets.now c.in_ok-heard.heard.items c.settle_known.new.sockets old.now mid.now settles has in
+    stays_then old mid (state g.A.Store c.keep_settled.new.conn) (settles_stay over (given_in c.args.options.now) known _ c.args.sockets.now c.in_ok-heard.heard.items c.settle_known.new.sockets old.now mid.now settles)
     (c.settle_known.ensures.stays early has) (c.keep_settled.ensures.stays clean schema)
 
 pub returns-clause-caused : goal.returns-clause-caused
@@ -60,7 +60,7 @@ returns-clause-caused g c clean has =
     let mid = state g.A.Store c.settle_known.new.conn in
     let early : HasCleanDisk mid = c.keep_settled.ensures.clean clean in
     let (known, are, settles) = rw c.as_slice.ensures.value at c.in_ok-heard.ensures.settled early has in
-    let schema = settles_schema over known all c.args.sockets.now heard half old.now mid.now settles has in
+    let schema = settles_schema over (given_in c.args.options.now) known all c.args.sockets.now heard half old.now mid.now settles has in
     IfErr-weaker c.keep_settled.result _ _
     (λ fault it. logs_end over by (given_in c.args.options.now) all c.args.sockets.now half c.keep_settled.new.sockets old.now mid.now known heard fault are settles it)
     (c.keep_settled.ensures.caused clean schema)

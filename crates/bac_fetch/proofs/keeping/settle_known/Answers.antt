@@ -27,7 +27,7 @@ returns-clause-settled g c clean has =
     let are : AreLogs old.now.trees known = subst (λ (l : List Log). AreLogs old.now.trees l) (sym c.as_slice.ensures.value) (c.in_ok-known.ensures.logs early has) in
     let schema : HasArchive mid.now.schema = subst (λ (d : Database). HasArchive d.schema) (sym same) has in
     IfOk-weaker c.settle.result _ _
-    (λ heard it. (known, are, subst (λ (d : Database). Settles over known c.args.all.now c.args.sockets.now heard.items c.settle.new.sockets d new.now) same it))
+    (λ heard it. (known, are, subst (λ (d : Database). Settles over (given_in c.args.options.now) known c.args.all.now c.args.sockets.now heard.items c.settle.new.sockets d new.now) same it))
     (c.settle.ensures.settled clean schema)
 
 pub returns-clause-stays : goal.returns-clause-stays

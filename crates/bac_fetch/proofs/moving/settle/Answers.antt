@@ -12,7 +12,7 @@ returns-in-len1-up-clause-settled g c clean has =
     let old = state g.A.Store c.args.conn.now in
     let new = state g.A.Store c.settle_unless.new.conn in
     IfOk-weaker c.settle_unless.result _ _
-    (λ heard it. settles_of_first over c.args.known.now c.args.all.now c.first-item.result c.args.sockets.now heard.items c.settle_unless.new.sockets old.now new.now
+    (λ heard it. settles_of_first over (given_in c.args.options.now) c.args.known.now c.args.all.now c.first-item.result c.args.sockets.now heard.items c.settle_unless.new.sockets old.now new.now
     c.in-len1-up.len_at_least c.first-item.is it)
     (c.settle_unless.ensures.settled clean has)
 

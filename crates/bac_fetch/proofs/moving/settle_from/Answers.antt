@@ -6,6 +6,7 @@ use Rattle.bac_archive.specs.declared.trend_logs.Log.{Log}
 use Rattle.bac_archive.proofs.QueryLemmas.{on_ok}
 use Rattle.bac_archive.proofs.RowsLemmas.{because}
 use Rattle.bac_ports.specs.Sockets.{socket_rules}
+use Rattle.bac_asked.specs.AsLog.{given_in}
 use Rattle.bac_fetch.specs.Moves.{AreMoved, AsksThere}
 use Rattle.bac_fetch.proofs.StaysLemmas.{itself_stays}
 use Rattle.bac_fetch.proofs.moving.settle_from.Goals as goal
@@ -14,11 +15,10 @@ pub returns-then-is_told-clause-settled : goal.returns-then-is_told-clause-settl
 returns-then-is_told-clause-settled g c clean has =
     let over = socket_rules g.S.Sockets.opens g.S.Sockets.closes g.S.Socket.Port.sends g.S.Socket.Port.receives g.S.Socket.Port.receives_within in
     let old = (state g.A.Store c.args.conn.now).now in
-    let (there, asks, same, identifies) = c.in_ok-said.ensures.identifies in
-    let asked : AsksThere over c.args.device c.args.from.now c.args.to.now c.args.known.now c.args.sockets.now c.identify_there.new.sockets old old = (
+    let (there, asked_there, identifies) = c.in_ok-said.ensures.identifies in
+    let asked : AsksThere over (given_in c.args.options.now) c.args.device c.args.from.now c.args.to.now c.args.known.now c.args.sockets.now c.identify_there.new.sockets old old = (
       there,
-      asks,
-      same,
+      asked_there,
       c.in_ok-said.said,
       identifies,
       subst (λ b. MatchBool b (old ≡ old) ((moved : List Log) × AreMoved c.args.device c.args.from.now c.args.to.now c.args.known.now moved × HasChangedLogs old old moved))
@@ -31,11 +31,10 @@ returns-clause-settled g c clean has =
     let over = socket_rules g.S.Sockets.opens g.S.Sockets.closes g.S.Socket.Port.sends g.S.Socket.Port.receives g.S.Socket.Port.receives_within in
     let old = (state g.A.Store c.args.conn.now).now in
     let new = (state g.A.Store c.move_logs.new.conn).now in
-    let (there, asks, same, identifies) = c.in_ok-said.ensures.identifies in
-    let asked : AsksThere over c.args.device c.args.from.now c.args.to.now c.args.known.now c.args.sockets.now c.identify_there.new.sockets old new = (
+    let (there, asked_there, identifies) = c.in_ok-said.ensures.identifies in
+    let asked : AsksThere over (given_in c.args.options.now) c.args.device c.args.from.now c.args.to.now c.args.known.now c.args.sockets.now c.identify_there.new.sockets old new = (
       there,
-      asks,
-      same,
+      asked_there,
       c.in_ok-said.said,
       identifies,
       subst (λ b. MatchBool b (new ≡ old) ((moved : List Log) × AreMoved c.args.device c.args.from.now c.args.to.now c.args.known.now moved × HasChangedLogs old new moved))

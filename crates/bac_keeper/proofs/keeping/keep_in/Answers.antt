@@ -40,7 +40,7 @@ returns-clause-told g c =
     (λ done is.
     subst (λ (n : ℕ). TellsThese over (at_once g.S.Recalls.holds g.C.Clock.reads c.args.clock c.args.window) c.args.chosen c.args.sockets.now out out' (λ all between ends. IsHeld last → KeepsArchive over (at_once g.S.Recalls.holds g.C.Clock.reads c.args.clock c.args.window) (given_in c.args.options.now) c.args.chosen all between after begins ends found.now last.committed) n) (sym is.0)
     (tells_weaker over (at_once g.S.Recalls.holds g.C.Clock.reads c.args.clock c.args.window) c.args.chosen c.args.sockets.now out out'
-    (λ all between ends. OverArchive archive last (AreChosen (given_in c.args.options.now) c.args.chosen archive.now.trees all × KeepsLogs over (at_once g.S.Recalls.holds g.C.Clock.reads c.args.clock c.args.window) all between after archive.now last.now ends)) _ _
+    (λ all between ends. OverArchive archive last (AreChosen (given_in c.args.options.now) c.args.chosen archive.now.trees all × KeepsLogs over (at_once g.S.Recalls.holds g.C.Clock.reads c.args.clock c.args.window) (given_in c.args.options.now) all between after archive.now last.now ends)) _ _
     (λ all between ends kept held.
     let early : HasCleanDisk archive = c.keep_chosen.ensures.clean held.0 in
     let opened = c.in_ok-begin_archive.ensures.archive early in
@@ -50,7 +50,7 @@ returns-clause-told g c =
       opened = opened;
       begun = c.in_ok-begin_archive.ensures.begun early;
       chose = it.0;
-      kept = subst (λ (d : Database). KeepsLogs over (at_once g.S.Recalls.holds g.C.Clock.reads c.args.clock c.args.window) all between after archive.now d ends) (is.1 held.1) it.1;
+      kept = subst (λ (d : Database). KeepsLogs over (at_once g.S.Recalls.holds g.C.Clock.reads c.args.clock c.args.window) (given_in c.args.options.now) all between after archive.now d ends) (is.1 held.1) it.1;
     })
     (told.0, told.1, told.2, told.3, told.4, (told.6.0, told.6.1, told.6.2, told.6.3, λ clean schema. (told.5 clean schema, told.6.4 clean schema)))))
     c.settled.ensures.settled
