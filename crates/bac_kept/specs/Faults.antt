@@ -12,6 +12,10 @@ use Rattle.bac_kept.specs.Printed.{is_chosen}
 use Rattle.bac_kept.specs.declared.printing.Shown.{Shown}
 use Rattle.bac_kept.specs.declared.printing.Shown.TheVariants.{All as Each}
 
+-- a text isn't written, for which no database is asked: memory is wanting, or the output refused it
+abbrev pub EndsText : NotDone → Type 0
+EndsText fault = WantsMemory fault ⊎ RefusesLine fault
+
 -- a log's lines aren't printed: memory is wanting; the output refused a line; or the database answers by an error
 abbrev pub EndsLines : NotDone → Type 0
 EndsLines fault = WantsMemory fault ⊎ (RefusesLine fault ⊎ IsOfDatabase fault)

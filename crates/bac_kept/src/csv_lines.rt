@@ -4,11 +4,12 @@ ghost use Rattle.std.specs.Prelude.{◌≡◌, ◌∷◌, ◌++◌, [], decimal,
 ghost use Rattle.std.specs.List.{filter};
 ghost use Rattle.std.specs.Io.KnownBytes.{Appends};
 ghost use Rattle.csv.specs.Writing.{default_writer, row_text};
-ghost use Rattle.sqlite.specs.State.{HasCleanDisk, IsUnchanged};
+ghost use Rattle.sqlite.specs.State.{HasCleanDisk, IsUnchanged, Survives};
 ghost use Rattle.sqlite.specs.Held.{state};
 ghost use Rattle.bac_archive.specs.Rows.{kept};
-ghost use Rattle.bac_archive.specs.Schema.{OverArchive};
-ghost use Rattle.bac_kept.specs.Faults.{EndsLines};
+ghost use Rattle.bac_archive.specs.Schema.{HasArchive, OverArchive};
+ghost use Rattle.bac_asked.specs.Faults.{RefusesLine, WantsMemory};
+ghost use Rattle.bac_kept.specs.Faults.{EndsLines, EndsText};
 ghost use Rattle.bac_kept.specs.Csv.{AreFieldsOf, AreRowTexts, IsItemText, IsValueText};
 ghost use Rattle.bac_kept.specs.Csv.{WritesBehind, device_text};
 ghost use Rattle.bac_kept.specs.Csv.{gap_text, item_fields, name_text, names};
@@ -139,7 +140,7 @@ fn renew_gap(text: &mut Vec<u8>, first: u32, last: Option<u32>) -> Result<(), Al
 fn row_of(mut text: Vec<u8>, fields: &[&[u8]]) -> Result<Vec<u8>, NotDone>
     ensures row { IfOk result
         (λ text. text.items ≡ row_text default_writer (map (λ f. f.now) fields.now)) }
-    ensures fault { IfErr result EndsLines }
+    ensures fault { IfErr result WantsMemory }
 {
     text.clear();
     let mut writer = Writer::from_writer(text);
@@ -156,7 +157,7 @@ fn row_of(mut text: Vec<u8>, fields: &[&[u8]]) -> Result<Vec<u8>, NotDone>
 fn write_out<O: Write>(text: Vec<u8>, output: &mut O) -> Result<Vec<u8>, NotDone>
     ensures written { OnOk result
         (Appends (O.contents output.old) (O.contents output.new) text.items) }
-    ensures fault { IfErr result EndsLines }
+    ensures fault { IfErr result RefusesLine }
 {
     match write_text(output, text.as_slice()) {
         Ok(()) => Ok(text),
@@ -168,7 +169,7 @@ fn write_out<O: Write>(text: Vec<u8>, output: &mut O) -> Result<Vec<u8>, NotDone
 pub(crate) fn write_names<O: Write>(alloc: Global, output: &mut O) -> Result<(), NotDone>
     ensures written { OnOk result
         (Appends (O.contents output.old) (O.contents output.new) (row_text default_writer names)) }
-    ensures fault { IfErr result EndsLines }
+    ensures fault { IfErr result EndsText }
 {
     let text = row_of(Vec::new(alloc), &NAMES)?;
     write_out(text, output)?;
@@ -320,8 +321,10 @@ pub(crate) fn write_items<A: Alter, O: Write>(
         × Appends (O.contents output.old) (O.contents output.new) text)) }
     ensures same { OverArchive (state A.Store conn.old) (state A.Store conn.new)
         (OnOk result (IsUnchanged (state A.Store conn.old) (state A.Store conn.new))) }
-    ensures clean { OnOk result
-        (HasCleanDisk (state A.Store conn.new) → HasCleanDisk (state A.Store conn.old)) }
+    // Whatever comes of it, nothing is committed.
+    ensures crash { HasArchive (state A.Store conn.old).now.schema
+        → Survives (state A.Store conn.old) (state A.Store conn.new) (λ _. ⊥) }
+    ensures clean { HasCleanDisk (state A.Store conn.new) → HasCleanDisk (state A.Store conn.old) }
     ensures fault { IfErr result EndsLines }
 {
     let Ok(mut fields) = Fields::of(alloc, log) else {

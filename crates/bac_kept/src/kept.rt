@@ -3,10 +3,10 @@
 ghost use Rattle.std.specs.Prelude.{◌≡◌, ◌∷◌, [], ◌++◌, IfOk, OnOk, OnErr, IfErr, Some};
 ghost use Rattle.std.specs.List.{filter};
 ghost use Rattle.std.specs.Io.KnownBytes.{Appends};
-ghost use Rattle.sqlite.specs.State.{HasCleanDisk, IsUnchanged};
+ghost use Rattle.sqlite.specs.State.{HasCleanDisk, IsUnchanged, Survives};
 ghost use Rattle.sqlite.specs.Held.{state};
 ghost use Rattle.bac_archive.specs.Rows.{kept};
-ghost use Rattle.bac_archive.specs.Schema.{OverArchive};
+ghost use Rattle.bac_archive.specs.Schema.{HasArchive, OverArchive};
 ghost use Rattle.bac_print.specs.Output.{AppendsPart};
 ghost use Rattle.bac_kept.specs.Faults.{EndsLines};
 ghost use Rattle.bac_kept.specs.Printed.{PrintsBehind, PrintsFront, anew_if, item_line, log_line};
@@ -176,8 +176,10 @@ pub(crate) fn print_items<A: Alter, O: Write>(
         log.now.id (kept (state A.Store conn.old).now.trees))) }
     ensures same { OverArchive (state A.Store conn.old) (state A.Store conn.new)
         (OnOk result (IsUnchanged (state A.Store conn.old) (state A.Store conn.new))) }
-    ensures clean { OnOk result
-        (HasCleanDisk (state A.Store conn.new) → HasCleanDisk (state A.Store conn.old)) }
+    // Whatever comes of it, nothing is committed.
+    ensures crash { HasArchive (state A.Store conn.old).now.schema
+        → Survives (state A.Store conn.old) (state A.Store conn.new) (λ _. ⊥) }
+    ensures clean { HasCleanDisk (state A.Store conn.new) → HasCleanDisk (state A.Store conn.old) }
     ensures fault { IfErr result EndsLines }
 {
     let mut text = Vec::new(alloc);

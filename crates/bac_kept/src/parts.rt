@@ -11,7 +11,7 @@ ghost use Rattle.bac_archive.specs.Rows.{kept};
 ghost use Rattle.bac_archive.specs.Schema.{OverArchive};
 ghost use Rattle.bac_archive.specs.declared.trend_logs.Log.{Log as LogOf};
 ghost use Rattle.bac_kept.specs.Csv.{names};
-ghost use Rattle.bac_kept.specs.Faults.{EndsLines};
+ghost use Rattle.bac_kept.specs.Faults.{EndsLines, EndsText};
 ghost use Rattle.bac_kept.specs.Parts.{PrintsMore, PrintsMoreOf, PrintsPart};
 ghost use Rattle.bac_kept.specs.Printed.{is_chosen};
 
@@ -29,7 +29,7 @@ use std::io::Write;
 pub fn print_names<O: Write>(alloc: Global, csv: bool, output: &mut O) -> Result<(), NotDone>
     ensures written { OnOk result (Appends (O.contents output.old) (O.contents output.new)
         (if csv then row_text default_writer names else [])) }
-    ensures fault { IfErr result EndsLines }
+    ensures fault { IfErr result EndsText }
 {
     if csv {
         return write_names(alloc, output);

@@ -4,7 +4,7 @@ ghost use Rattle.std.specs.Prelude.{◌≡◌, ◌≢◌, ◌++◌, true, false,
 ghost use Rattle.std.specs.List.{All};
 ghost use Rattle.std.specs.Io.KnownBytes.{Appends, Keeps};
 ghost use Rattle.csv.specs.Writing.{default_writer, row_text};
-ghost use Rattle.sqlite.specs.State.{HasCleanDisk};
+ghost use Rattle.sqlite.specs.State.{HasCleanDisk, Survives};
 ghost use Rattle.sqlite.specs.Held.{state};
 ghost use Rattle.bac_archive.specs.Logs.{AreLogs};
 ghost use Rattle.bac_archive.specs.Rows.{kept};
@@ -79,8 +79,11 @@ fn print_log<A: Alter, O: Write>(
         × Appends (O.contents output.old) (O.contents output.new) text)) }
     ensures same { OverArchive (state A.Store conn.old) (state A.Store conn.new)
         (OnOk result ((state A.Store conn.new).now ≡ (state A.Store conn.old).now)) }
-    ensures clean { OnOk result
-        (HasCleanDisk (state A.Store conn.new) → HasCleanDisk (state A.Store conn.old)) }
+    ensures committed { OverArchive (state A.Store conn.old) (state A.Store conn.new)
+        (OnOk result ((state A.Store conn.new).committed ≡ (state A.Store conn.old).committed)) }
+    ensures crash { HasArchive (state A.Store conn.old).now.schema
+        → Survives (state A.Store conn.old) (state A.Store conn.new) (λ _. ⊥) }
+    ensures clean { HasCleanDisk (state A.Store conn.new) → HasCleanDisk (state A.Store conn.old) }
     ensures fault { IfErr result EndsLines }
     ensures chosen { IfOk result (λ was. was ≡ is_chosen shown.now log.now) }
 {
@@ -114,8 +117,11 @@ fn print_logs<A: Alter, O: Write>(
         (OnOk result ((text : List _)
         × PrintsLogs shown.now (kept (state A.Store conn.old).now.trees) all.now text
         × Appends (O.contents output.old) (O.contents output.new) text)) }
-    ensures clean { OnOk result
-        (HasCleanDisk (state A.Store conn.new) → HasCleanDisk (state A.Store conn.old)) }
+    ensures committed { OverArchive (state A.Store conn.old) (state A.Store conn.new)
+        (OnOk result ((state A.Store conn.new).committed ≡ (state A.Store conn.old).committed)) }
+    ensures crash { OverArchive (state A.Store conn.old) (state A.Store conn.new)
+        (Survives (state A.Store conn.old) (state A.Store conn.new) (λ _. ⊥)) }
+    ensures clean { HasCleanDisk (state A.Store conn.new) → HasCleanDisk (state A.Store conn.old) }
     ensures fault { IfErr result EndsLines }
     ensures none { IfOk result
         (λ count. count ≡ 0 → All (λ log. is_chosen shown.now log ≡ false) all.now) }
@@ -141,8 +147,11 @@ fn write_log<A: Alter, O: Write>(
         × Appends (O.contents output.old) (O.contents output.new) text)) }
     ensures same { OverArchive (state A.Store conn.old) (state A.Store conn.new)
         (OnOk result ((state A.Store conn.new).now ≡ (state A.Store conn.old).now)) }
-    ensures clean { OnOk result
-        (HasCleanDisk (state A.Store conn.new) → HasCleanDisk (state A.Store conn.old)) }
+    ensures committed { OverArchive (state A.Store conn.old) (state A.Store conn.new)
+        (OnOk result ((state A.Store conn.new).committed ≡ (state A.Store conn.old).committed)) }
+    ensures crash { HasArchive (state A.Store conn.old).now.schema
+        → Survives (state A.Store conn.old) (state A.Store conn.new) (λ _. ⊥) }
+    ensures clean { HasCleanDisk (state A.Store conn.new) → HasCleanDisk (state A.Store conn.old) }
     ensures fault { IfErr result EndsLines }
     ensures chosen { IfOk result (λ was. was ≡ is_chosen shown.now log.now) }
 {
@@ -166,8 +175,11 @@ fn write_logs<A: Alter, O: Write>(
         × WritesLogs shown.now (kept (state A.Store conn.old).now.trees) all.now text
         × Appends (O.contents output.old) (O.contents output.new)
         (row_text default_writer names ++ text))) }
-    ensures clean { OnOk result
-        (HasCleanDisk (state A.Store conn.new) → HasCleanDisk (state A.Store conn.old)) }
+    ensures committed { OverArchive (state A.Store conn.old) (state A.Store conn.new)
+        (OnOk result ((state A.Store conn.new).committed ≡ (state A.Store conn.old).committed)) }
+    ensures crash { OverArchive (state A.Store conn.old) (state A.Store conn.new)
+        (Survives (state A.Store conn.old) (state A.Store conn.new) (λ _. ⊥)) }
+    ensures clean { HasCleanDisk (state A.Store conn.new) → HasCleanDisk (state A.Store conn.old) }
     ensures fault { IfErr result EndsLines }
     ensures none { IfOk result
         (λ count. count ≡ 0 → All (λ log. is_chosen shown.now log ≡ false) all.now) }
@@ -198,8 +210,11 @@ fn print_all<A: Alter, O: Write>(
         × WritesLogs shown.now (kept (state A.Store conn.old).now.trees) all.now text
         × Appends (O.contents output.old) (O.contents output.new)
         (row_text default_writer names ++ text))) }
-    ensures clean { OnOk result
-        (HasCleanDisk (state A.Store conn.new) → HasCleanDisk (state A.Store conn.old)) }
+    ensures committed { OverArchive (state A.Store conn.old) (state A.Store conn.new)
+        (OnOk result ((state A.Store conn.new).committed ≡ (state A.Store conn.old).committed)) }
+    ensures crash { OverArchive (state A.Store conn.old) (state A.Store conn.new)
+        (Survives (state A.Store conn.old) (state A.Store conn.new) (λ _. ⊥)) }
+    ensures clean { HasCleanDisk (state A.Store conn.new) → HasCleanDisk (state A.Store conn.old) }
     ensures fault { IfErr result EndsLines }
     ensures none { IfOk result
         (λ count. count ≡ 0 → All (λ log. is_chosen shown.now log ≡ false) all.now) }
@@ -234,8 +249,12 @@ pub fn print_shown<A: Alter, O: Write>(
         × WritesLogs shown.now (kept (state A.Store conn.old).now.trees) all text
         × Appends (O.contents output.old) (O.contents output.new)
         (row_text default_writer names ++ text))) }
-    ensures clean { OnOk result
-        (HasCleanDisk (state A.Store conn.new) → HasCleanDisk (state A.Store conn.old)) }
+    // The archive is left as it was, and whatever comes of it, nothing is committed.
+    ensures committed { OverArchive (state A.Store conn.old) (state A.Store conn.new)
+        (OnOk result ((state A.Store conn.new).committed ≡ (state A.Store conn.old).committed)) }
+    ensures crash { OverArchive (state A.Store conn.old) (state A.Store conn.new)
+        (Survives (state A.Store conn.old) (state A.Store conn.new) (λ _. ⊥)) }
+    ensures clean { HasCleanDisk (state A.Store conn.new) → HasCleanDisk (state A.Store conn.old) }
     // Or it ends before that; that no log was chosen is told only of an archive that has none such.
     ensures fault { IfErr result (EndsPrinting
         (HasCleanDisk (state A.Store conn.new)

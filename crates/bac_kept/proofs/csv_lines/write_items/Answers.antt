@@ -1,8 +1,9 @@
-use Rattle.std.proofs.Common.{inr, [], ◌∷◌, ◌++◌, rules, ◌∙◌}
+use Rattle.std.proofs.Common.{◌≡◌, inr, [], ◌∷◌, ◌++◌, rules, subst, ◌∙◌}
 use Rattle.std.proofs.KnownBytes.{Appends-trans}
-use Rattle.sqlite.specs.State.{HasCleanDisk, IsUnchanged}
+use Rattle.sqlite.specs.State.{HasCleanDisk, IsUnchanged, Survives}
 use Rattle.sqlite.specs.Held.{state}
 use Rattle.sqlite.proofs.Callers.{unchanged_then}
+use Rattle.sqlite.proofs.StateLemmas.{survives_then}
 use Rattle.bac_archive.specs.Items.{asked, items_text}
 use Rattle.sqlite.specs.declared.error.Error.TheVariants.{SqliteFailure}
 use Rattle.sqlite.specs.declared.error.ErrorCode.TheVariants.{OperationInterrupted}
@@ -56,7 +57,35 @@ rows-preserved g c =
             newest_next behind c.rows.written.newest _ was.0 row c.in_ok-written.ensures.newest was.5,
             Appends-trans (g.O.Write.contents c.args.output.now) (g.O.Write.contents c.rows.output) (g.O.Write.contents c.write_row.new.output) was.3 one.0 was.6 one.2,
           ),
+      λ has. survives_then old mid (state g.A.Store now) _ _ _ (λ _ db none. none) (λ _ db none. none) (c.rows.invariant.4 has) moved.survives,
     )
 
 pub returns-clause-fault : goal.returns-clause-fault
 returns-clause-fault g c = inr (inr (SqliteFailure OperationInterrupted, c.of_error-2.ensures))
+
+pub returns-in-Ok-None-clause-crash : goal.returns-in-Ok-None-clause-crash
+returns-in-Ok-None-clause-crash g c has =
+    let old = state g.A.Store c.args.conn.now in
+    let mid = state g.A.Store c.rows.rows.conn.now in
+    let moved = c.next.follows.holds-at-none in
+    let now = c.next.follows.lender-at-none.conn.now in
+    let same : now ≡ c.conn-in-Ok-None-1.given.0 = search rules in
+    subst (λ h. Survives old (state g.A.Store h) (λ _. ⊥)) same (survives_then old mid (state g.A.Store now) _ _ _ (λ _ db none. none) (λ _ db none. none) (c.rows.invariant.4 has) moved.survives)
+
+pub returns-in-Err-next-clause-crash : goal.returns-in-Err-next-clause-crash
+returns-in-Err-next-clause-crash g c has =
+    let old = state g.A.Store c.args.conn.now in
+    let mid = state g.A.Store c.rows.rows.conn.now in
+    let moved = c.next.follows.holds-at-none in
+    let now = c.next.follows.lender-at-none.conn.now in
+    let same : now ≡ c.conn-in-Err-next-1.given.0 = search rules in
+    subst (λ h. Survives old (state g.A.Store h) (λ _. ⊥)) same (survives_then old mid (state g.A.Store now) _ _ _ (λ _ db none. none) (λ _ db none. none) (c.rows.invariant.4 has) moved.survives)
+
+pub returns-in_err-written-clause-crash : goal.returns-in_err-written-clause-crash
+returns-in_err-written-clause-crash g c has =
+    let old = state g.A.Store c.args.conn.now in
+    let mid = state g.A.Store c.rows.rows.conn.now in
+    let moved = c.next.follows.holds-at-none in
+    let now = c.next.follows.lender-at-none.conn.now in
+    let same : now ≡ c.conn-in_err-written-1.given.0 = search rules in
+    subst (λ h. Survives old (state g.A.Store h) (λ _. ⊥)) same (survives_then old mid (state g.A.Store now) _ _ _ (λ _ db none. none) (λ _ db none. none) (c.rows.invariant.4 has) moved.survives)

@@ -1,7 +1,8 @@
-use Rattle.std.proofs.Common.{[], ◌∷◌, ◌++◌, inr, refl, ◌∙◌, rules}
-use Rattle.sqlite.specs.State.{HasCleanDisk}
+use Rattle.std.proofs.Common.{◌≡◌, [], ◌∷◌, ◌++◌, inr, refl, ◌∙◌, rules, subst}
+use Rattle.sqlite.specs.State.{HasCleanDisk, Survives}
 use Rattle.sqlite.specs.Held.{state}
 use Rattle.sqlite.proofs.Callers.{unchanged_then}
+use Rattle.sqlite.proofs.StateLemmas.{survives_then}
 use Rattle.bac_archive.specs.Items.{asked, items_text}
 use Rattle.sqlite.specs.declared.error.Error.TheVariants.{SqliteFailure}
 use Rattle.sqlite.specs.declared.error.ErrorCode.TheVariants.{OperationInterrupted}
@@ -67,6 +68,7 @@ rows-preserved g c =
             newest_next c.args.behind c.rows.newest _ was.0 row printed.0 was.3,
             written_next c.args.behind c.rows.newest was.0 row (g.O.Write.contents c.args.output.now) (g.O.Write.contents c.rows.output) (g.O.Write.contents c.print_row.new.output) was.3 was.4 printed.1,
           ),
+      λ has. survives_then old mid (state g.A.Store now) _ _ _ (λ _ db none. none) (λ _ db none. none) (c.rows.invariant.3 has) moved.survives,
     )
 
 pub returns-clause-err : goal.returns-clause-err
@@ -78,3 +80,12 @@ returns-clause-err g c clean has =
 
 pub returns-clause-fault : goal.returns-clause-fault
 returns-clause-fault g c = inr (inr (SqliteFailure OperationInterrupted, c.of_error-2.ensures))
+
+pub returns-in_err-newest-clause-crash : goal.returns-in_err-newest-clause-crash
+returns-in_err-newest-clause-crash g c has =
+    let old = state g.A.Store c.args.conn.now in
+    let mid = state g.A.Store c.rows.rows.conn.now in
+    let moved = c.next.follows.holds-at-none in
+    let now = c.next.follows.lender-at-none.conn.now in
+    let same : now ≡ c.conn-in_err-newest-1.given.0 = search rules in
+    subst (λ h. Survives old (state g.A.Store h) (λ _. ⊥)) same (survives_then old mid (state g.A.Store now) _ _ _ (λ _ db none. none) (λ _ db none. none) (c.rows.invariant.3 has) moved.survives)

@@ -2,7 +2,7 @@ use Rattle.std.proofs.Common.{◌≡◌, List}
 use Rattle.std.specs.List.{filter}
 use Rattle.std.specs.Io.KnownBytes.{Appends}
 use Rattle.sqlite_value.specs.Order.{Row as Values}
-use Rattle.sqlite.specs.State.{HasCleanDisk, IsUnchanged}
+use Rattle.sqlite.specs.State.{HasCleanDisk, IsUnchanged, Survives}
 use Rattle.sqlite.specs.Held.{state}
 use Rattle.bac_archive.specs.Items.{ReadsItems}
 use Rattle.bac_kept.specs.Printed.{lines_behind}
@@ -10,7 +10,7 @@ use Rattle.bac_kept.specs.Seen.{is_new, newest_of}
 use Rattle.bac_archive.specs.Schema.{HasArchive}
 use Rattle.bac_kept.proofs.kept.print_items.Given as goal
 
--- the lines of the rows that were given so far are written
+-- the lines of the rows that were given so far are written, and nothing is committed
 abbrev pub invariant-rows : goal.invariant-rows
 invariant-rows g l =
     let old = state g.A.Store l.fn.conn in
@@ -19,3 +19,4 @@ invariant-rows g l =
     × (HasCleanDisk now → HasArchive old.now.schema
     → (given : List Values) × ReadsItems g.A.Store l.fn.log.id l.rows.conn.now given × IsUnchanged old now × (l.newest ≡ newest_of l.fn.behind (filter (is_new l.fn.behind) given))
     × Appends (g.O.Write.contents l.fn.output) (g.O.Write.contents l.output) (lines_behind l.fn.behind given))
+    × (HasArchive old.now.schema → Survives old now (λ _. ⊥))

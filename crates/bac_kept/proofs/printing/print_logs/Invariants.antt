@@ -1,7 +1,7 @@
 use Rattle.std.proofs.Common.{false, ◌≡◌, ℕ, List, take}
 use Rattle.std.specs.List.{All}
 use Rattle.std.specs.Io.KnownBytes.{Appends}
-use Rattle.sqlite.specs.State.{HasCleanDisk}
+use Rattle.sqlite.specs.State.{HasCleanDisk, Survives}
 use Rattle.sqlite.specs.Held.{state}
 use Rattle.bac_archive.specs.Rows.{kept}
 use Rattle.bac_kept.specs.Printed.{is_chosen, PrintsLogs}
@@ -18,3 +18,4 @@ invariant-loop-log g l =
     × (text : List ℕ) × PrintsLogs l.fn.shown (kept old.now.trees) (take l.log-index l.fn.all) text
     × Appends (g.O.Write.contents l.fn.output) (g.O.Write.contents l.output) text)
     × (l.count ≡ 0 → All (λ log. is_chosen l.fn.shown log ≡ false) (take l.log-index l.fn.all))
+    × (HasCleanDisk now → HasArchive old.now.schema → (now.committed ≡ old.committed) × Survives old now (λ _. ⊥))

@@ -1,11 +1,13 @@
-use Rattle.std.proofs.Common.{◌≡◌, ◌++◌, ℕ, List, false, inl, inr, subst, sym}
+use Rattle.std.proofs.Common.{◌≡◌, ◌∙◌, ◌++◌, ℕ, List, false, inl, inr, rules, subst, sym}
 use Rattle.std.proofs.lemmas.Result.{IfErr-weaker}
 use Rattle.std.specs.List.{All}
 use Rattle.csv.specs.Writing.{default_writer, row_text}
 use Rattle.sqlite.specs.Effect.{Database}
 use Rattle.sqlite.specs.Held.{state}
+use Rattle.sqlite.proofs.StateLemmas.{survives_then}
 use Rattle.bac_archive.specs.Schema.{HasArchive}
 use Rattle.bac_archive.proofs.QueryLemmas.{on_ok}
+use Rattle.bac_archive.proofs.RowsLemmas.{because}
 use Rattle.bac_kept.specs.Csv.{WritesLogs, names}
 use Rattle.bac_archive.specs.declared.trend_logs.Log.{Log}
 use Rattle.bac_kept.specs.Printed.{PrintsLogs, is_chosen}
@@ -53,3 +55,26 @@ returns-clause-fault g c =
       )
     ])
     c.ended.ensures.fault
+
+pub returns-clause-committed : goal.returns-clause-committed
+returns-clause-committed g c late has =
+    let clean = c.in_ok-count.ensures.clean late in
+    let same = (c.in-Ok.ensures.same clean has).0 in
+    on_ok c.ended.result _ (c.in_ok-count.ensures.committed late (subst (λ (d : Database). HasArchive d.schema) (sym same.now_is) has) ∙ same.committed_is)
+
+pub returns-clause-crash : goal.returns-clause-crash
+returns-clause-crash g c late has =
+    let clean = c.in_ok-count.ensures.clean late in
+    let same = (c.in-Ok.ensures.same clean has).0.now_is in
+    survives_then (state g.A.Store c.args.conn.now) (state g.A.Store c.logs.new.conn) (state g.A.Store c.print_all.new.conn) _ _ _ (λ _ db none. none) (λ _ db none. none)
+    (c.in-Ok.ensures.crash has) (c.in_ok-count.ensures.crash late (subst (λ (d : Database). HasArchive d.schema) (sym same) has))
+
+pub returns-in_err-count-clause-crash : goal.returns-in_err-count-clause-crash
+returns-in_err-count-clause-crash g c late has =
+    let clean = c.print_all.ensures.clean late in
+    let same = (c.in-Ok.ensures.same clean has).0.now_is in
+    survives_then (state g.A.Store c.args.conn.now) (state g.A.Store c.logs.new.conn) (state g.A.Store c.print_all.new.conn) _ _ _ (λ _ db none. none) (λ _ db none. none)
+    (c.in-Ok.ensures.crash has) (c.print_all.ensures.crash late (subst (λ (d : Database). HasArchive d.schema) (sym same) has))
+
+pub returns-in_err-count-clause-fault : goal.returns-in_err-count-clause-fault
+returns-in_err-count-clause-fault g c = because c.from_residual.result c.in_err-count.field-0.0 _ (search rules) (inl c.in_err-count.ensures.fault)

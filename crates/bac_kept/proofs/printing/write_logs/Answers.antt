@@ -7,6 +7,7 @@ use Rattle.std.proofs.KnownBytes.{Appends-trans}
 use Rattle.csv.specs.Writing.{default_writer, row_text}
 use Rattle.sqlite.specs.Effect.{Database}
 use Rattle.sqlite.specs.Held.{state}
+use Rattle.sqlite.proofs.StateLemmas.{survives_then}
 use Rattle.bac_archive.specs.Rows.{kept}
 use Rattle.bac_archive.specs.declared.trend_logs.Log.{Log}
 use Rattle.bac_kept.specs.Csv.{WritesLog, WritesLogs, names}
@@ -40,6 +41,13 @@ loop-log-preserved g c =
           let (before, unchosen) = c.counted-count.ensures zero in
           subst (λ l. All (λ log. is_chosen c.args.shown.now log ≡ false) l) (sym taken)
           (All-push (λ log. is_chosen c.args.shown.now log ≡ false) _ log (c.loop-log.invariant.2 before) (sym it.chosen ∙ unchosen)),
+      λ late has.
+          let clean = it.clean late in
+          let schema = subst (λ (d : Database). HasArchive d.schema) (sym (c.loop-log.invariant.1 clean has).0) has in
+          let before = c.loop-log.invariant.3 clean has in (
+            it.committed late schema ∙ before.0,
+            survives_then old (state g.A.Store c.loop-log.conn) (state g.A.Store c.write_log.new.conn) _ _ _ (λ _ db none. none) (λ _ db none. none) before.1 (it.crash schema),
+          ),
     )
 
 pub returns-clause-written : goal.returns-clause-written
@@ -53,3 +61,16 @@ pub returns-clause-none : goal.returns-clause-none
 returns-clause-none g c zero =
     let whole = take_all c.loop-log.log-index c.args.all.now (omega (arith, c.loop-log-test.false)) in
     subst (λ (l : List Log). All (λ log. is_chosen c.args.shown.now log ≡ false) l) whole (c.loop-log.invariant.2 zero)
+
+pub returns-in_err-write_log-clause-crash : goal.returns-in_err-write_log-clause-crash
+returns-in_err-write_log-clause-crash g c late has =
+    let clean = c.write_log.ensures.clean late in
+    let schema = subst (λ (d : Database). HasArchive d.schema) (sym (c.loop-log.invariant.1 clean has).0) has in
+    survives_then (state g.A.Store c.args.conn.now) (state g.A.Store c.loop-log.conn) (state g.A.Store c.write_log.new.conn) _ _ _ (λ _ db none. none) (λ _ db none. none)
+    (c.loop-log.invariant.3 clean has).1 (c.write_log.ensures.crash schema)
+
+pub returns-clause-committed : goal.returns-clause-committed
+returns-clause-committed g c late has = (c.loop-log.invariant.3 late has).0
+
+pub returns-clause-crash : goal.returns-clause-crash
+returns-clause-crash g c late has = (c.loop-log.invariant.3 late has).1

@@ -2,7 +2,7 @@ use Rattle.std.proofs.Common.{false, ◌≡◌, ◌++◌, List, take}
 use Rattle.std.specs.List.{All}
 use Rattle.std.specs.Io.KnownBytes.{Appends}
 use Rattle.csv.specs.Writing.{default_writer, row_text}
-use Rattle.sqlite.specs.State.{HasCleanDisk}
+use Rattle.sqlite.specs.State.{HasCleanDisk, Survives}
 use Rattle.sqlite.specs.Held.{state}
 use Rattle.bac_archive.specs.Rows.{kept}
 use Rattle.bac_kept.specs.Printed.{is_chosen}
@@ -20,3 +20,4 @@ invariant-loop-log g l =
     × (text : List _) × WritesLogs l.fn.shown (kept old.now.trees) (take l.log-index l.fn.all) text
     × Appends (g.O.Write.contents l.fn.output) (g.O.Write.contents l.output) (row_text default_writer names ++ text))
     × (l.count ≡ 0 → All (λ log. is_chosen l.fn.shown log ≡ false) (take l.log-index l.fn.all))
+    × (HasCleanDisk now → HasArchive old.now.schema → (now.committed ≡ old.committed) × Survives old now (λ _. ⊥))
