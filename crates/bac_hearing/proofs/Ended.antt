@@ -1,6 +1,6 @@
 -- Jobs that have ended, from the desks that were made for them.
-use Rattle.std.specs.Prelude.{IfNone}
-use Rattle.std.proofs.Common.{◌≡◌, ℕ, List, Option, None, Some, Result, Ok, Err, IfOk, IfSome, subst}
+use Rattle.std.specs.Prelude.{IfNone, OnErr}
+use Rattle.std.proofs.Common.{◌≡◌, ℕ, List, [], Option, None, Some, Result, Ok, Err, IfOk, IfSome, refl, subst}
 use Rattle.bac_ports.specs.Port.{Receiving, Sending}
 use Rattle.bac_play.specs.declared.play.Outcome.{Outcome}
 use Rattle.bac_desks.specs.Served.{Serves}
@@ -8,7 +8,7 @@ use Rattle.bac_desks.specs.Table.{TableState}
 use Rattle.bac_jobs.specs.Jobs.{AreEnded, IsIdle, MakesRounds}
 use Rattle.bac_jobs.specs.declared.job.Ending.{Ending}
 use Rattle.bac_jobs.specs.declared.job.Turn.{Turn}
-use Rattle.bac_hearing.specs.Hearing.{Ends, Waits}
+use Rattle.bac_hearing.specs.Hearing.{Ends, Stops, Waits}
 
 -- what holds of a result, if it has one
 pub weaker : {V A : Type 0} (r : Result (Option V) A) (P Q : V → Type 0) → ((v : V) → P v → Q v) →
@@ -44,3 +44,22 @@ ends {P = P} {C = C} sends receives reads plays jobs port port' last start start
     (subst (λ (s : C). Ends sends receives reads plays jobs port' s fresh all last) same_clock
     (subst (λ (t : TableState). Ends sends receives reads plays jobs port' start' t all last) same
     (events, stop, left, does, ended.0, ended.1)))
+
+-- the same, whatever came of it
+pub stops : {P C : Type 0} (sends : P → List ℕ → List ℕ → Sending → P → Type 0) (receives : P → ℕ → Receiving → P → Type 0)
+    (reads : C → ℕ → C → Type 0) (port port' last : P) (start start' stop : C) (fresh fresh' left : TableState) → port' ≡ port → start' ≡ start → fresh' ≡ fresh →
+    Serves sends receives reads port' start' fresh' last stop left → Stops sends receives reads port start fresh last
+stops {P = P} {C = C} sends receives reads port port' last start start' stop fresh fresh' left same_port same_clock same (events, does, keeps) =
+    subst (λ (p : P). Stops sends receives reads p start fresh last) same_port
+    (subst (λ (s : C). Stops sends receives reads port' s fresh last) same_clock
+    (subst (λ (t : TableState). Stops sends receives reads port' start' t last) same (events, stop, left, does)))
+
+-- nothing was done
+pub stops_at : {P C : Type 0} (sends : P → List ℕ → List ℕ → Sending → P → Type 0) (receives : P → ℕ → Receiving → P → Type 0)
+    (reads : C → ℕ → C → Type 0) (port last : P) (start : C) (fresh : TableState) → last ≡ port → Stops sends receives reads port start fresh last
+stops_at sends receives reads port last start fresh same = ([], start, fresh, (same, refl, refl))
+
+-- what holds, if it failed
+pub on_err : {V A : Type 0} (r : Result V A) (P : Type 0) → P → OnErr r P
+on_err (Ok v) P it = tt
+on_err (Err e) P it = it

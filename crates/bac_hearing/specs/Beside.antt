@@ -10,7 +10,7 @@ use Rattle.bac_desks.specs.Table.{IsResting, TableState}
 use Rattle.bac_jobs.specs.Jobs.{AreEndedSoFar}
 use Rattle.bac_jobs.specs.declared.job.Ending.{Ending}
 use Rattle.bac_jobs.specs.declared.job.Turn.{Turn}
-use Rattle.bac_hearing.specs.Hearing.{Ends, Pace, Waits, limits, no_desks, with_peers}
+use Rattle.bac_hearing.specs.Hearing.{Ends, Pace, Stops, Waits, limits, no_desks, with_peers}
 use Rattle.bac_hearing.specs.declared.hearing.NotHeard.{NotHeard}
 use Rattle.bac_hearing.specs.declared.hearing.NotHeard.TheVariants.{Memory, Unfinished, Unopened}
 
@@ -41,11 +41,12 @@ EndsHearing {P = P} rules reads plays jobs port clock table before ends after =
     × rules.closes before last after
 
 -- Or they don't: memory is wanting, of which std doesn't tell why; or as many rounds as fit a number of 64 bits were
--- made, and the socket was closed then.
+-- made. The socket was closed then as the last of that left it.
 abbrev pub FailsToEnd : {S P C : Type 0} → SocketRules S P → (C → ℕ → C → Type 0) → P → C → TableState → S → S →
     NotHeard → Type 0
 FailsToEnd rules reads port clock table before after (Unopened why) = ⊥
-FailsToEnd rules reads port clock table before after Memory = Unit {0}
+FailsToEnd {P = P} rules reads port clock table before after Memory =
+    (last : P) × Stops rules.sends rules.receives_within reads port clock table last × rules.closes before last after
 FailsToEnd {P = P} rules reads port clock table before after Unfinished =
     (last : P) × Waits rules.sends rules.receives_within reads 18446744073709551615 port clock table last
     × rules.closes before last after

@@ -71,13 +71,24 @@ abbrev pub Waits : {P C : Type 0} → (P → List ℕ → List ℕ → Sending �
 Waits {C = C} sends receives reads rounds port start fresh last =
     (stop : C) × (left : TableState) × MakesRounds sends receives reads rounds port start fresh last stop left
 
+-- What happened at the port and by the clock leads from these desks to some: nothing was done but to ask devices so.
+abbrev pub Stops : {P C : Type 0} → (P → List ℕ → List ℕ → Sending → P → Type 0) → (P → ℕ → Receiving → P → Type 0) →
+    (C → ℕ → C → Type 0) → P → C → TableState → P → Type 0
+Stops {C = C} sends receives reads port start fresh last =
+    (events : List Event) × (stop : C) × (left : TableState)
+    × Does sends receives reads port start fresh events last stop left
+
 -- Devices aren't heard: no socket was opened as asked; memory is wanting, of which std doesn't tell why; or as many
--- rounds as fit a number of 64 bits were made over the one that was, which was closed then.
+-- rounds as fit a number of 64 bits were made over the one that was. It was closed then as the last of that left it.
 abbrev pub FailsToHear : {S P C : Type 0} → SocketRules S P → Pace C → List (List ℕ) → Option (List ℕ) → ℕ → ℕ →
     S → S → NotHeard → Type 0
 FailsToHear rules pace peers local timeout retries before after (Unopened why) =
     rules.opens before (own_address local) timeout (Err why) after
-FailsToHear rules pace peers local timeout retries before after Memory = Unit {0}
+FailsToHear rules pace peers local timeout retries before after Memory =
+    UsesSocket rules (own_address local) timeout before
+    (λ port last. Stops rules.sends rules.receives_within pace.reads port pace.start
+    (with_peers (no_desks (limits timeout retries pace.window)) peers) last)
+    after
 FailsToHear rules pace peers local timeout retries before after Unfinished =
     UsesSocket rules (own_address local) timeout before
     (λ port last. Waits rules.sends rules.receives_within pace.reads 18446744073709551615 port pace.start

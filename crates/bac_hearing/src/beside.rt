@@ -1,10 +1,10 @@
 //! Many devices are asked at once, and something else is done with the sockets while the last of
 //! them are waited for.
 
-ghost use Rattle.std.specs.Prelude.{IfErr, IfNone, IfOk, IfSome};
+ghost use Rattle.std.specs.Prelude.{IfErr, IfNone, IfOk, IfSome, OnErr};
 ghost use Rattle.bac_ports.specs.Sockets.{socket_rules};
 ghost use Rattle.bac_hearing.specs.Beside.{Begins, BeginsToHear, EndsHearing, FailsToEnd};
-ghost use Rattle.bac_hearing.specs.Hearing.{FailsToHear, Waits, paced, with_peers};
+ghost use Rattle.bac_hearing.specs.Hearing.{FailsToHear, Stops, Waits, paced, with_peers};
 
 use crate::hearing::{ANY, NotHeard, limits, seat_all};
 use bac_desks::{Clock, Desks};
@@ -34,6 +34,8 @@ fn begin_seated<P: Port, C: Clock, J: Job>(
     ensures unfinished { IfOk result (λ begun. IfNone begun
         (Waits P.sends P.receives_within C.reads 18446744073709551615 desks.old.port
         desks.old.clock (with_peers desks.old.table peers.now) desks.new.port)) }
+    ensures stops { OnErr result (Stops P.sends P.receives_within C.reads desks.old.port
+        desks.old.clock (with_peers desks.old.table peers.now) desks.new.port) }
 {
     seat_all(alloc, desks, peers)?;
     begin(alloc, desks, jobs, u64::MAX)

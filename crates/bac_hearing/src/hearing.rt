@@ -1,9 +1,9 @@
 //! Many devices are asked at once.
 
-ghost use Rattle.std.specs.Prelude.{◌≡◌, IfErr, IfNone, IfOk, IfSome, OnOk};
+ghost use Rattle.std.specs.Prelude.{◌≡◌, IfErr, IfNone, IfOk, IfSome, OnErr, OnOk};
 ghost use Rattle.bac_ports.specs.Sockets.{socket_rules};
-ghost use Rattle.bac_hearing.specs.Hearing.{Ends, FailsToHear, HearsAll, Waits, limits, paced};
-ghost use Rattle.bac_hearing.specs.Hearing.{with_peers};
+ghost use Rattle.bac_hearing.specs.Hearing.{Ends, FailsToHear, HearsAll, Stops, Waits, limits};
+ghost use Rattle.bac_hearing.specs.Hearing.{paced, with_peers};
 
 use bac_desks::{Clock, Desks, Rules};
 use bac_jobs::{Ending, Job, finish};
@@ -69,6 +69,8 @@ fn hear<P: Port, C: Clock, J: Job>(
     ensures unfinished { IfOk result (λ ended. IfNone ended
         (Waits P.sends P.receives_within C.reads 18446744073709551615 desks.old.port
         desks.old.clock (with_peers desks.old.table peers.now) desks.new.port)) }
+    ensures stops { OnErr result (Stops P.sends P.receives_within C.reads desks.old.port
+        desks.old.clock (with_peers desks.old.table peers.now) desks.new.port) }
 {
     seat_all(alloc, desks, peers)?;
     finish(alloc, desks, jobs, u64::MAX)

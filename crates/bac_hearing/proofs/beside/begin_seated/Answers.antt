@@ -1,5 +1,5 @@
 use Rattle.bac_hearing.proofs.Parted.{begins}
-use Rattle.bac_hearing.proofs.Ended.{waits, weaker, weaker_none}
+use Rattle.bac_hearing.proofs.Ended.{on_err, stops, stops_at, waits, weaker, weaker_none}
 use Rattle.bac_hearing.proofs.beside.begin_seated.Goals as goal
 
 pub returns-clause-begun : goal.returns-clause-begun
@@ -17,3 +17,15 @@ returns-clause-unfinished g c =
     c.args.desks.now.clock c.seat_all.new.desks.clock c.begin.new.desks.clock _ c.seat_all.new.desks.table c.begin.new.desks.table
     c.seat_all.ensures.port c.seat_all.ensures.clock c.in_ok-seat_all.ensures.table made)
     c.begin.ensures.unfinished
+
+pub returns-in_err-seat_all-clause-stops : goal.returns-in_err-seat_all-clause-stops
+returns-in_err-seat_all-clause-stops g c =
+    on_err c.from_residual.result _
+    (stops_at g.P.Port.sends g.P.Port.receives_within g.C.Clock.reads c.args.desks.now.port c.seat_all.new.desks.port c.args.desks.now.clock _ c.seat_all.ensures.port)
+
+pub returns-clause-stops : goal.returns-clause-stops
+returns-clause-stops g c =
+    on_err c.begin.result _
+    (stops g.P.Port.sends g.P.Port.receives_within g.C.Clock.reads c.args.desks.now.port c.seat_all.new.desks.port c.begin.new.desks.port
+    c.args.desks.now.clock c.seat_all.new.desks.clock c.begin.new.desks.clock _ c.seat_all.new.desks.table c.begin.new.desks.table
+    c.seat_all.ensures.port c.seat_all.ensures.clock c.in_ok-seat_all.ensures.table c.begin.ensures.serves)
