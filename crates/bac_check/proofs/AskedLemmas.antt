@@ -1,5 +1,5 @@
 -- What an archive is as, once it was asked.
-use Rattle.std.proofs.Common.{◌≡◌, inl, inr, ap, subst, sym, arith, List, ℕ, Result, Ok, Err, IfErr, OnErr}
+use Rattle.std.proofs.Common.{◌≡◌, ◌∙◌, inl, inr, ap, subst, sym, arith, List, ℕ, Result, Ok, Err, IfErr, IsTrue, OnErr}
 use Rattle.sqlite.specs.Effect.{Database}
 use Rattle.sqlite.specs.declared.error.Error.{Error}
 use Rattle.sqlite.specs.Given.{IsRefused}
@@ -11,8 +11,9 @@ use Rattle.sqlite_trees.specs.declared.store.Store.{Ghosts}
 use Rattle.sqlite_value.specs.Order.{Row as Values}
 use Rattle.bac_archive.specs.Archive.{IsLeft}
 use Rattle.bac_archive.specs.Schema.{HasArchive}
-use Rattle.bac_archive.proofs.QueryLemmas.{left_by, left_then}
-use Rattle.bac_check.specs.Asked.{IsAsLeft, IsAsWas, IsUnasked}
+use Rattle.bac_archive.proofs.QueryLemmas.{left_by}
+pub use Rattle.bac_archive.proofs.QueryLemmas.{as_left_behind, as_left_then, as_was_behind, as_was_both, as_was_then, still}
+use Rattle.bac_check.specs.Asked.{IsAsLeft, IsUnasked}
 
 -- a plain query of an archive that is refused
 pub unasked : {S X : Type 0} (g : Ghosts S) (text : List ℕ) (bound : Values) (old new : Held S) (r : Result X Error) → (HasArchive (state g old).now.schema → IsPlain (understood (state g old).now.schema text))
@@ -34,20 +35,8 @@ has_still a b same has = subst (λ (d : Database). HasArchive d.schema) (sym sam
 pub twice_asked : (a b c : State) → HasArchive a.now.schema → IsUnchanged a b → (HasArchive b.now.schema → IsUnchanged b c) → IsUnchanged a c
 twice_asked a b c has one two = unchanged_then a b c one (two (has_still a b one has))
 
--- the same where it may not have been asked
-module _ {S : Type 0} (g : Ghosts S) where
-  pub still : (a b : Held S) → IsAsWas g a b → (state g b).now ≡ (state g a).now
-  still a b (inl none) = ap (λ h. (state g h).now) none
-  still a b (inr same) = same.0.now_is
-
-  pub as_was_then : (a b c : Held S) → IsAsWas g a b → IsUnchanged (state g b) (state g c) → IsAsWas g a c
-  as_was_then a b c (inl none) it = inr (subst (λ h. IsUnchanged (state g h) (state g c)) none it)
-  as_was_then a b c (inr same) it = inr (unchanged_then (state g a) (state g b) (state g c) same it)
-
-  pub as_was_behind : (a b c : Held S) → IsUnchanged (state g a) (state g b) → IsAsWas g b c → IsUnchanged (state g a) (state g c)
-  as_was_behind a b c one (inl none) = subst (λ h. IsUnchanged (state g a) (state g h)) (sym none) one
-  as_was_behind a b c one (inr two) = unchanged_then (state g a) (state g b) (state g c) one two
-
-  pub as_left_behind : (a b c : Held S) → IsUnchanged (state g a) (state g b) → IsAsLeft g b c → IsLeft (state g a) (state g c)
-  as_left_behind a b c one (inl none) = inl (subst (λ h. IsUnchanged (state g a) (state g h)) (sym none) one)
-  as_left_behind a b c one (inr two) = left_then (state g a) (state g b) (state g c) one two
+-- what was committed when it was asked is what it is
+pub as_committed : {S : Type 0} (g : Ghosts S) (a b : Held S) → (state g a).committed ≡ (state g a).now → IsAsLeft g a b → IsTrue (state g b).is_open → (state g b).now ≡ (state g a).now
+as_committed g a b settled (inl none) is_open = ap (λ h. (state g h).now) none
+as_committed g a b settled (inr (inl same)) is_open = same.0.now_is
+as_committed g a b settled (inr (inr back)) is_open = (back.undone is_open).0 ∙ settled

@@ -51,7 +51,7 @@ is_counted : (old : Counts) (found : Reading) (why : Option FileFault) (new : Co
 is_counted old found why new none (inl passed) = absurd (some_none _ why _ none passed.told)
 is_counted old found why new none (inr (inl barred)) = absurd (some_none _ why _ none barred.told)
 is_counted old found why new none (inr (inr (inl counted))) = subst (λ w. IsCounted old found w new) none counted
-is_counted old found why new none (inr (inr (inr (failed, is)))) = absurd (some_none _ why _ none is)
+is_counted old found why new none (inr (inr (inr uncounted))) = absurd (some_none _ why _ none uncounted.told)
 
 module _ {P : Type 0} (rules : PartRules P) where
   is_right : (old : P) (path : List ℕ) (before : Counts) (why : Option FileFault) (after : Counts) (new : P) → why ≡ None

@@ -2,8 +2,9 @@
 use Rattle.std.specs.Prelude.{◌≡◌, ◌≢◌, ◌⊎◌, Bool, IsTrue, true, false, Option, None, Some}
 use Rattle.sqlite.specs.Effect.{Database}
 use Rattle.sqlite_trees.specs.View.{doubt}
-use Rattle.bac_archive.specs.Archive.{IsArchive, IsOfVersion}
-use Rattle.bac_archive.specs.Rows.{versions}
+use Rattle.bac_archive.specs.Archive.{IsArchive, IsOfVersion, LieApart}
+use Rattle.bac_archive.specs.Beginnings.{AreBegun}
+use Rattle.bac_archive.specs.Rows.{kept, versions}
 use Rattle.bac_archive.specs.Schema.{first_tables, no_schema, HasArchive}
 use Rattle.bac_archive.specs.declared.opening.Refused.{Refused}
 use Rattle.bac_archive.specs.declared.opening.Refused.TheVariants as refused
@@ -22,15 +23,14 @@ of_uncounted uncounted.Overlap = file.Overlap
 of_uncounted uncounted.Memory = file.Memory
 of_uncounted (uncounted.Database error) = of_error error
 
--- Why a database is no archive, of what it held. Of items that lie over one another, or are of no log, `open` of
--- bac_archive says more, of the rows that the connection read.
+-- Why a database is no archive, of what it held.
 abbrev pub IsRefusedBy : Database → Refused → Type 0
 IsRefusedBy found refused.Foreign =
     (¬ HasArchive found.schema) × (found.schema.tables ≢ first_tables) × (found.schema ≢ no_schema)
 IsRefusedBy found refused.First = found.schema.tables ≡ first_tables
 IsRefusedBy found refused.Version = IsOfVersion (versions found.trees) → ⊥
-IsRefusedBy found refused.Overlap = Unit {0}
-IsRefusedBy found refused.Orphan = Unit {0}
+IsRefusedBy found refused.Overlap = ¬ LieApart (kept found.trees)
+IsRefusedBy found refused.Orphan = ¬ AreBegun found.trees
 IsRefusedBy found (refused.Database error) = Unit {0}
 
 -- the fault of a part that doesn't go on where the one before it ends
@@ -63,15 +63,18 @@ pub record IsCounted (old : Counts) (found : Reading) (why : Option FileFault) (
   pub counted : CountsPart found.found.trees old new joined
   pub told : why ≡ unless_joined joined
 
--- Its rows aren't counted: memory is wanting, the database answers by an error, or rows lie over one another. What was
--- counted then isn't told.
-abbrev pub IsUncounted : Option FileFault → Type 0
-IsUncounted why = (failed : Uncounted) × (why ≡ Some (of_uncounted failed))
+-- It is an archive, which is left as it is, and its rows aren't counted: memory is wanting, the database answers by an
+-- error, or rows lie over one another. What was counted then isn't told.
+pub record IsUncounted (found : Reading) (why : Option FileFault) : Type 0 where
+  pub archive : IsArchive found.found
+  pub left : IsTrue found.is_open → found.left ≡ found.found
+  pub failed : Uncounted
+  pub told : why ≡ Some (of_uncounted failed)
 
 -- what becomes of what is counted where a part is read, and why the part is no use or doesn't go on
 abbrev pub TakesPart : Counts → Reading → Option FileFault → Counts → Type 0
 TakesPart old found why new =
-    IsPassed old found why new ⊎ (IsBarred old found why new ⊎ (IsCounted old found why new ⊎ IsUncounted why))
+    IsPassed old found why new ⊎ (IsBarred old found why new ⊎ (IsCounted old found why new ⊎ IsUncounted found why))
 
 -- the same where the disk has given back what was written
 abbrev pub ReadsPart : Counts → Reading → Option FileFault → Counts → Type 0

@@ -127,7 +127,7 @@ impl Counts {
     }
 
     /// Counts the rows of one more part, and tells whether its logs go on where what was counted
-    /// of them ends.
+    /// of them ends. An error leaves the part as it was.
     pub(crate) fn count<A: Alter>(
         &mut self,
         alloc: Global,
@@ -137,8 +137,10 @@ impl Counts {
             (IfOk result (CountsPart (state A.Store conn.old).now.trees self.old self.new)) }
         ensures same { OverArchive (state A.Store conn.old) (state A.Store conn.new)
             (OnOk result ((state A.Store conn.new).now ≡ (state A.Store conn.old).now)) }
-        ensures clean { OnOk result
-            (HasCleanDisk (state A.Store conn.new) → HasCleanDisk (state A.Store conn.old)) }
+        ensures left { OverArchive (state A.Store conn.old) (state A.Store conn.new)
+            (OnErr result (IsAsLeft A.Store conn.old conn.new)) }
+        ensures clean { HasCleanDisk (state A.Store conn.new)
+            → HasCleanDisk (state A.Store conn.old) }
     {
         let joined = are_joined(conn, self.courses.as_slice())?;
         self.add(alloc, conn)?;

@@ -1,11 +1,12 @@
 //! Whether the rows of a part of an archive go on where those of the part before it end.
 
-ghost use Rattle.std.specs.Prelude.{◌≡◌, IfOk, OnOk};
+ghost use Rattle.std.specs.Prelude.{◌≡◌, IfOk, OnErr, OnOk};
 ghost use Rattle.std.specs.List.{list_any};
-ghost use Rattle.sqlite.specs.State.{HasCleanDisk};
+ghost use Rattle.sqlite.specs.State.{HasCleanDisk, IsUnchanged};
 ghost use Rattle.sqlite.specs.Held.{state};
 ghost use Rattle.bac_archive.specs.Rows.{kept};
 ghost use Rattle.bac_archive.specs.Schema.{OverArchive};
+ghost use Rattle.bac_check.specs.Asked.{IsAsLeft, IsAsWas};
 ghost use Rattle.bac_check.specs.Joins.{AreJoined, IsJoined, TellsFirst, ends_at, goes_on, is_it};
 ghost use Rattle.bac_check.specs.Joins.{is_later, point_at};
 
@@ -37,9 +38,10 @@ fn first_of<A: Alter>(conn: &mut Connection<A>, log: u16) -> Result<Option<Point
     ensures told { OverArchive (state A.Store conn.old) (state A.Store conn.new)
         (IfOk result (TellsFirst log (kept (state A.Store conn.old).now.trees))) }
     ensures same { OverArchive (state A.Store conn.old) (state A.Store conn.new)
-        (OnOk result ((state A.Store conn.new).now ≡ (state A.Store conn.old).now)) }
-    ensures clean { OnOk result
-        (HasCleanDisk (state A.Store conn.new) → HasCleanDisk (state A.Store conn.old)) }
+        (OnOk result (IsUnchanged (state A.Store conn.old) (state A.Store conn.new))) }
+    ensures left { OverArchive (state A.Store conn.old) (state A.Store conn.new)
+        (OnErr result (IsAsLeft A.Store conn.old conn.new)) }
+    ensures clean { HasCleanDisk (state A.Store conn.new) → HasCleanDisk (state A.Store conn.old) }
 {
     let mut rows = items_of(conn, log)?;
     match rows.next() {
@@ -106,9 +108,10 @@ fn is_joined<A: Alter>(
     ensures told { OverArchive (state A.Store conn.old) (state A.Store conn.new)
         (IfOk result (IsJoined (kept (state A.Store conn.old).now.trees) courses.now course.now)) }
     ensures same { OverArchive (state A.Store conn.old) (state A.Store conn.new)
-        (OnOk result ((state A.Store conn.new).now ≡ (state A.Store conn.old).now)) }
-    ensures clean { OnOk result
-        (HasCleanDisk (state A.Store conn.new) → HasCleanDisk (state A.Store conn.old)) }
+        (OnOk result (IsAsWas A.Store conn.old conn.new)) }
+    ensures left { OverArchive (state A.Store conn.old) (state A.Store conn.new)
+        (OnErr result (IsAsLeft A.Store conn.old conn.new)) }
+    ensures clean { HasCleanDisk (state A.Store conn.new) → HasCleanDisk (state A.Store conn.old) }
 {
     match &course.tally {
         None => Ok(true),
@@ -127,9 +130,10 @@ pub(crate) fn are_joined<A: Alter>(
     ensures told { OverArchive (state A.Store conn.old) (state A.Store conn.new)
         (IfOk result (AreJoined (kept (state A.Store conn.old).now.trees) courses.now)) }
     ensures same { OverArchive (state A.Store conn.old) (state A.Store conn.new)
-        (OnOk result ((state A.Store conn.new).now ≡ (state A.Store conn.old).now)) }
-    ensures clean { OnOk result
-        (HasCleanDisk (state A.Store conn.new) → HasCleanDisk (state A.Store conn.old)) }
+        (OnOk result (IsAsWas A.Store conn.old conn.new)) }
+    ensures left { OverArchive (state A.Store conn.old) (state A.Store conn.new)
+        (OnErr result (IsAsLeft A.Store conn.old conn.new)) }
+    ensures clean { HasCleanDisk (state A.Store conn.new) → HasCleanDisk (state A.Store conn.old) }
 {
     for course in courses {
         if !is_joined(conn, courses, course)? {

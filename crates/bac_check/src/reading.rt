@@ -44,6 +44,8 @@ fn accept<A: Alter>(conn: &mut Connection<A>) -> Result<(), Refused>
         × ((state A.Store conn.new).now ≡ (state A.Store conn.old).now)) }
     ensures refused { HasCleanDisk (state A.Store conn.new)
         → IfErr result (IsRefusedBy (state A.Store conn.old).now) }
+    ensures committed { HasCleanDisk (state A.Store conn.new)
+        → OnOk result ((state A.Store conn.new).committed ≡ (state A.Store conn.new).now) }
     ensures left { HasCleanDisk (state A.Store conn.new)
         → IsTrue (state A.Store conn.new).is_open
         → HasArchive (state A.Store conn.old).now.schema

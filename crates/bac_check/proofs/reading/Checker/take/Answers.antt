@@ -1,0 +1,24 @@
+use Rattle.std.proofs.Common.{◌≡◌, ◌∙◌, inr, subst, sym, rules}
+use Rattle.sqlite.specs.Effect.{Database}
+use Rattle.sqlite.specs.Held.{state}
+use Rattle.sqlite.specs.State.{HasCleanDisk}
+use Rattle.bac_archive.specs.Archive.{IsArchive}
+use Rattle.bac_archive.specs.Schema.{HasArchive}
+use Rattle.bac_check.proofs.AskedLemmas.{as_committed}
+use Rattle.bac_check.proofs.reading.Checker.take.Goals as goal
+
+-- an archive whose rows aren't counted
+pub returns-in-Err-count : goal.returns-in-Err-count
+returns-in-Err-count g c clean =
+    let found = (state g.A.Store c.args.conn.now).now in
+    let mid = state g.A.Store c.accept.new.conn in
+    let early : HasCleanDisk mid = c.count.ensures.clean clean in
+    let is : IsArchive found × (mid.now ≡ found) = search rules in
+    let settled : mid.committed ≡ mid.now = search rules in
+    let schema = subst (λ (d : Database). HasArchive d.schema) (sym is.1) is.0.schema in
+    inr (inr (inr (record {
+      archive = is.0;
+      left = λ is_open. as_committed g.A.Store c.accept.new.conn c.count.new.conn settled (c.in-Err-count.ensures.left clean schema) is_open ∙ is.1;
+      failed = c.in-Err-count.why;
+      told = search rules;
+    })))
