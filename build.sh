@@ -13,12 +13,15 @@ jobs=${1:-$(($(nproc) < free ? $(nproc) : free))}
 [ "$jobs" -gt 1 ] || jobs=1
 begun=$SECONDS
 
-# Nothing can be proved beside bac_wire, bac_apdu and bac_log, in turn, but the archive: so they share the processors.
+# Nothing can be proved beside bac_wire, bac_apdu and bac_log, in turn, but the archive: so they share the processors. Each
+# has its own `rt lib`, since that of bac_log alone would read the sources of all three once more before.
 if [ "$jobs" -gt 1 ]; then
     (cd bac_archive && exec rt lib --jobs 1) &
     archive=$!
     trap 'kill "$archive" 2> /dev/null || true' EXIT
-    (cd bac_log && rt lib --jobs $((jobs - 1)))
+    for crate in bac_wire bac_apdu bac_log; do
+        (cd "$crate" && rt lib --jobs $((jobs - 1)))
+    done
     wait "$archive"
     trap - EXIT
 fi
@@ -33,5 +36,5 @@ done
 
 # `rt run` links what is proved.
 cd bac
-rt run -- --version
+rt run --jobs $((jobs < 2 ? jobs : 2)) -- --version
 echo "crates/bac/out/bac: $(((SECONDS - begun + 59) / 60)) minutes"
