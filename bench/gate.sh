@@ -8,7 +8,7 @@
 # With names, where the kit's `rt ci` takes some, those crates and the libraries below them. RT_JOBS is how many provers run
 # at a time, of one job each: without it as many as there are processors. Where the kit keeps what an earlier run on the
 # machine passed, that has no prover: so it says what the gate costs from nothing only where nothing is kept. `rt` is on the
-# PATH. It takes about an hour on four processors; several provers that share them cost more than one after the other.
+# PATH. It takes some 40 minutes on four quiet processors; several provers that share them cost more than one after the other.
 set -eu
 cd "$(dirname "$0")/.."
 room=$(mktemp -d -t rt-gate.XXXXXX)
