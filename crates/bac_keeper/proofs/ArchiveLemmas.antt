@@ -14,6 +14,7 @@ use Rattle.bac_asked.specs.Faults.{of_error}
 use Rattle.bac_check.specs.Asked.{IsAsLeft}
 use Rattle.bac_check.specs.declared.tally.Uncounted.{Uncounted}
 use Rattle.bac_check.specs.declared.tally.Uncounted.TheVariants as uncounted
+use Rattle.bac_archive.specs.Schema.{HasArchive, no_schema}
 use Rattle.bac_keeper.specs.Ends.{IsNoArchive, uncounted_fault}
 use Rattle.bac_asked.specs.declared.end.End.{End}
 use Rattle.bac_asked.specs.declared.wanted.Wanted.{Wanted}
@@ -21,7 +22,7 @@ use Rattle.bac_fetch.proofs.StaysLemmas.{all_itself}
 use Rattle.bac_fetch.specs.Ahead.{AtOnce}
 use Rattle.bac_fetch.specs.Stays.{HasAllOf}
 use Rattle.bac_fetch.specs.declared.keeping.Chosen.{Chosen}
-use Rattle.bac_keeper.specs.Archives.{HasSameItems}
+use Rattle.bac_keeper.specs.Archives.{HasSameItems, KeepsRows, LeavesOthers, LosesNothing}
 use Rattle.bac_keeper.specs.Done.{TellsThese}
 use Rattle.bac_ports.specs.Sockets.{SocketRules}
 use Rattle.bac_print.specs.Output.{Held}
@@ -34,11 +35,15 @@ tells_weaker rules by chosen sockets before after kept told status f it =
     let ends = it.5 in
     (it.0, it.1, it.2, it.3, it.4, (ends.0, ends.1, ends.2, ends.3, f it.0 it.2 ends.0 ends.4))
 
+-- a database that is taken as an archive is no other one
+pub taken_fits : (found left : Database) → HasArchive found.schema ⊎ (found.schema ≡ no_schema) → LeavesOthers found left
+taken_fits found left fit = λ other some. elim fit [ inl has ↦ absurd (other has) | inr none ↦ absurd (some none) ]
+
 -- the same items are there, and none is lost
 pub all_of_items : (a b : Trees) → HasSameItems a b → HasAllOf a b
 all_of_items a b it = record { items = λ row at. subst (λ rows. Contains rows row) (sym it.items) at; logs = it.logs }
 
-items_themselves : (a : Trees) → HasSameItems a a
+pub items_themselves : (a : Trees) → HasSameItems a a
 items_themselves a = record { items = refl; logs = (all_itself a).logs }
 
 -- what is committed behind an archive that was found has its items
@@ -60,6 +65,19 @@ loses_nothing found archive last was settled same only may clean survives =
       | inl left ↦ subst (HasAllOf archive.now.trees) (ap (λ (d : Database). d.trees) (sym settled) ∙ sym (only last.committed.trees left)) (all_itself archive.now.trees)
       | inr all ↦ all
     ])
+
+-- what is committed behind an archive that was found has its rows, if nothing was committed
+pub keeps_rows : (found archive last : State) → (found.committed ≡ found.now) → (archive.committed ≡ archive.now) → (archive.now ≡ found.now)
+    → ((db : Trees) → archive.may_leave db → db ≡ archive.committed.trees) → last.may_leave last.committed.trees → HasCleanDisk last
+    → Survives archive last (λ _. ⊥) → last.committed.trees ≡ found.now.trees
+keeps_rows found archive last was settled same only may clean survives = elim (survives.crash clean last.committed.trees may) [
+  | inl left ↦ only last.committed.trees left ∙ ap (λ (d : Database). d.trees) (settled ∙ same)
+  | inr none ↦ absurd none
+]
+
+-- where the rows stay nothing is lost
+pub rows_stay : (found left : Database) → KeepsRows found left → LosesNothing found left
+rows_stay found left it = ((λ has. subst (HasAllOf found.trees) (sym (it.0 has)) (all_itself found.trees)), it.1)
 
 -- ---- an archive whose rows were counted
 

@@ -22,10 +22,10 @@ use Rattle.bac_files.proofs.FilesLemmas.{done_to, opened_settled}
 use Rattle.bac_files.specs.Files.{FileOf, IsClosedBy, IsDoneTo, IsNamed, IsOpenedBy}
 use Rattle.bac_files.specs.declared.disk_files.DiskFiles.{DiskFiles}
 use Rattle.bac_keeper.proofs.ArchiveLemmas.{tells_weaker}
-use Rattle.bac_keeper.specs.Archives.{IsHeld, KeepsArchive, LosesNothing}
+use Rattle.bac_keeper.specs.Archives.{IsHeld, KeepsArchive, KeepsRows, LosesNothing}
 use Rattle.bac_asked.specs.AsLog.{Given}
 use Rattle.bac_keeper.specs.Done.{Chooses, EndsOver, KeepsIn, RefusesKeep, TellsThese, given_of}
-use Rattle.bac_keeper.specs.Ends.{FailsFile, IsOfSomeFile, IsUnclosedBySome, MayAsk, MayFail}
+use Rattle.bac_keeper.specs.Ends.{FailsOpened, IsOfSomeFile, IsUnclosedBySome, MayAsk, MayFail}
 use Rattle.bac_keeper.specs.Shown.{PrintsArchive, PrintsIn, Shows}
 use Rattle.bac_kept.specs.declared.printing.Shown.{Shown}
 use Rattle.bac_fetch.specs.Ahead.{AtOnce}
@@ -75,19 +75,26 @@ module _ {D : Type 0} {g : disk.Ghosts D} (image : Image) (opened last : Connect
 
 -- what was printed over the connection is what the files held
 pub prints_in : {D : Type 0} {g : disk.Ghosts D} (image : Image) (opened last : Connected (FileStore D g)) (closed : Option (Files D)) → IsOpenedBy image opened
-    → (words : Kept) (which : Shown) (out out' : Held) (result done : Result ℕ NotDone) → OnOk done (HasCleanDisk (file_state last) → HasCleanDisk (file_state opened)) → Shows words which
-    → IfOk done (λ status. status ≡ 0) → (HasCleanDisk (file_state last) → OnOk done (PrintsArchive which words.csv out out' (file_state opened).now))
+    → (words : Kept) (which : Shown) (out out' : Held) (result done : Result ℕ NotDone) → (HasCleanDisk (file_state last) → HasCleanDisk (file_state opened)) → Shows words which
+    → IfOk done (λ status. status ≡ 0) → (HasCleanDisk (file_state last) → OnOk done (PrintsArchive which words.csv out out' (file_state opened).now (file_state last).committed))
     → IfOk result (λ v. done ≡ Ok v) → OnOk result (IsClosedBy last closed) → IfOk result (PrintsIn g image words out out' closed)
 prints_in image opened last closed is words which out out' (Err e) done clean shows zero printed same shut = tt
-prints_in image opened last closed is words which out out' (Ok v) done clean shows zero printed same shut =
-    let clean' = subst (λ (r : Result ℕ NotDone). OnOk r (HasCleanDisk (file_state last) → HasCleanDisk (file_state opened))) same clean in (
-      subst (λ (r : Result ℕ NotDone). IfOk r (λ status. status ≡ 0)) same zero,
-      shut.0,
-      which,
-      shows,
-      some_done image opened last closed is clean' (λ found left. PrintsArchive which words.csv out out' found)
-          (λ c open'. subst (λ (r : Result ℕ NotDone). OnOk r (PrintsArchive which words.csv out out' (file_state opened).now)) same (printed c)) shut.1,
-    )
+prints_in image opened last closed is words which out out' (Ok v) done clean shows zero printed same shut = (
+  subst (λ (r : Result ℕ NotDone). IfOk r (λ status. status ≡ 0)) same zero,
+  shut.0,
+  which,
+  shows,
+  some_done image opened last closed is clean (PrintsArchive which words.csv out out')
+      (λ c open'. subst (λ (r : Result ℕ NotDone). OnOk r (PrintsArchive which words.csv out out' (file_state opened).now (file_state last).committed)) same (printed c)) shut.1,
+)
+
+-- over a connection whose rows stayed the closed files have them
+pub keeps_rows : {D : Type 0} {g : disk.Ghosts D} (image : Image) (opened last : Connected (FileStore D g)) (closed : Option (Files D)) → IsOpenedBy image opened
+    → (HasCleanDisk (file_state last) → HasCleanDisk (file_state opened))
+    → (IsHeld (file_state last) → (file_state opened).committed ≡ (file_state opened).now → KeepsRows (file_state opened).now (file_state last).committed)
+    → IsClosedBy last closed → IfSome closed (IsDoneTo g image KeepsRows)
+keeps_rows image opened last closed is clean stays shut =
+    some_done image opened last closed is clean KeepsRows (λ c open'. stays (c, open') (opened_settled image opened is (clean c))) shut.1
 
 -- a tool that fails by one fault fails by another
 pub fails_so : (P Q : FileFault → Type 0) (e : NotDone) → ((why : FileFault) → P why → Q why) → MayFail P e → MayFail Q e
@@ -106,14 +113,13 @@ pub fails_file : {F : Type 0} {s : start.Ghosts F} {g : disk.Ghosts (FileOf s)} 
     → IsOpenedBy image opened → (path : List ℕ) (may : Bool) → IsNamed path may files → (refuses : Database → FileFault → Type 0) (did result : Result ℕ NotDone)
     → IfErr did (MayFail (λ why. ((error : Error) × (why ≡ of_error error)) ⊎ ((HasCleanDisk (file_state last) → HasCleanDisk (file_state opened)) × (IsHeld (file_state last) → refuses (file_state opened).now why))))
     → IfErr result (λ fault. (did ≡ Err fault) ⊎ (IsOfSomeFile fault × IsUnclosedBySome files)) → (IsClosedBy last files.closed ⊎ IsUnclosedBySome files)
-    → IfErr result (MayFail (FailsFile g image path may refuses files))
+    → IfErr result (MayFail (FailsOpened g image path may refuses files))
 fails_file image opened last files is path may named refuses did (Ok v) failed same shut = tt
 fails_file image opened last files is path may named refuses did (Err (done.Asking why)) failed same shut = tt
-fails_file image opened last files is path may named refuses did (Err (done.File why)) failed (inr (file, unclosed)) shut = inr (named, inl unclosed)
-fails_file image opened last files is path may named refuses did (Err (done.File why)) failed (inl same) (inr unclosed) = inr (named, inl unclosed)
+fails_file image opened last files is path may named refuses did (Err (done.File why)) failed (inr (file, unclosed)) shut = (named, inl unclosed)
+fails_file image opened last files is path may named refuses did (Err (done.File why)) failed (inl same) (inr unclosed) = (named, inl unclosed)
 fails_file {s = s} {g = g} image opened last files is path may named refuses did (Err (done.File why)) failed (inl same) (inl shut) =
-    let it = subst (λ (r : Result ℕ NotDone). IfErr r (MayFail (λ why'. ((error : Error) × (why' ≡ of_error error)) ⊎ ((HasCleanDisk (file_state last) → HasCleanDisk (file_state opened)) × (IsHeld (file_state last) → refuses (file_state opened).now why'))))) same failed in
-    inr (
+    let it = subst (λ (r : Result ℕ NotDone). IfErr r (MayFail (λ why'. ((error : Error) × (why' ≡ of_error error)) ⊎ ((HasCleanDisk (file_state last) → HasCleanDisk (file_state opened)) × (IsHeld (file_state last) → refuses (file_state opened).now why'))))) same failed in (
       named,
       inr (
         shut.0,
@@ -144,11 +150,11 @@ asks_file image opened last files is clean ends over did (Err (done.Asking why))
     (it.0, inr (shut.0, some_done image opened last files.closed is clean (λ found left. over found (done.Asking why)) (λ c open'. it.1 (c, open')) shut.1))
 
 -- what a run over an archive fails by, by options that are the same
-pub refused_by : {S P C : Type 0} (rules : SocketRules S P) (clock : AtOnce S C) (bars : FileFault → Type 0) (which : Chosen) (before after : S) (found : Database) (last : State) (given by : Given) (r : Result ℕ NotDone) → given ≡ by
-    → IfErr r (MayFail (λ why. ((error : Error) × (why ≡ of_error error)) ⊎ (IsHeld last → RefusesKeep rules clock bars which given before after found why)))
-    → IfErr r (MayFail (λ why. ((error : Error) × (why ≡ of_error error)) ⊎ (IsHeld last → RefusesKeep rules clock bars which by before after found why)))
-refused_by rules clock bars which before after found last given by r is it =
-    subst (λ (x : Given). IfErr r (MayFail (λ why. ((error : Error) × (why ≡ of_error error)) ⊎ (IsHeld last → RefusesKeep rules clock bars which x before after found why)))) is it
+pub refused_by : {S P C : Type 0} (rules : SocketRules S P) (clock : AtOnce S C) (bars : FileFault → Type 0) (quiet : Type 0) (which : Chosen) (before after : S) (found : Database) (last : State) (given by : Given) (r : Result ℕ NotDone) → given ≡ by
+    → IfErr r (MayFail (λ why. ((error : Error) × (why ≡ of_error error)) ⊎ (IsHeld last → RefusesKeep rules clock bars quiet which given before after found why)))
+    → IfErr r (MayFail (λ why. ((error : Error) × (why ≡ of_error error)) ⊎ (IsHeld last → RefusesKeep rules clock bars quiet which by before after found why)))
+refused_by rules clock bars quiet which before after found last given by r is it =
+    subst (λ (x : Given). IfErr r (MayFail (λ why. ((error : Error) × (why ≡ of_error error)) ⊎ (IsHeld last → RefusesKeep rules clock bars quiet which x before after found why)))) is it
 
 -- so what it ends by, by options that are the same
 pub ended_by : {S P C : Type 0} (rules : SocketRules S P) (clock : AtOnce S C) (which : Chosen) (before after : S) (found : Database) (last : State) (given by : Given) (ends : NotDone → Type 0) (r : Result ℕ NotDone)

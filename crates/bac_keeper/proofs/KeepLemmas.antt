@@ -16,7 +16,7 @@ use Rattle.bac_archive.specs.Schema.{OverArchive, HasArchive}
 use Rattle.bac_asked.specs.AsLog.{Given}
 use Rattle.bac_fetch.proofs.CausesLemmas.{chosen_so}
 use Rattle.bac_fetch.proofs.FaultsLemmas.{ends_so}
-use Rattle.bac_keeper.specs.Archives.{IsArchiveOf, IsHeld}
+use Rattle.bac_keeper.specs.Archives.{IsHeld, IsTakenAs}
 use Rattle.bac_keeper.specs.Done.{RefusesKeep}
 use Rattle.bac_keeper.specs.Ends.{MayFail}
 
@@ -28,10 +28,10 @@ keeping_so rules by N M A B f h which before after fault (inr (all, unlisted, be
     inr (all, unlisted, between, found, ends_so rules (HasNoInstance all) (HasNoInstance all) A B after fault (λ n. n) h it)
 
 -- so a run ends over what two files held, which became this archive
-pub refused_so : {S P C : Type 0} (rules : SocketRules S P) (clock : AtOnce S C) (bars : FileFault → Type 0) (which : Chosen) (given : Given) (found : Database) (archive last : State) (before after : S) (fault : NotDone)
-    → (IsHeld last → IsArchiveOf found archive.now × (HasArchive archive.now.schema))
+pub refused_so : {S P C : Type 0} (rules : SocketRules S P) (clock : AtOnce S C) (bars : FileFault → Type 0) (quiet : Type 0) (which : Chosen) (given : Given) (found : Database) (archive last : State) (before after : S) (fault : NotDone)
+    → (IsHeld last → IsTakenAs found archive.now × (HasArchive archive.now.schema))
     → OverArchive archive last (EndsRunOver rules clock given which before after archive.now fault)
-    → MayFail (λ why. ((error : Error) × (why ≡ of_error error)) ⊎ (IsHeld last → RefusesKeep rules clock bars which given before after found why)) fault
-refused_so rules clock bars which given found archive last before after (done.Asking why) is ends = tt
-refused_so rules clock bars which given found archive last before after (done.File why) is ends =
+    → MayFail (λ why. ((error : Error) × (why ≡ of_error error)) ⊎ (IsHeld last → RefusesKeep rules clock bars quiet which given before after found why)) fault
+refused_so rules clock bars quiet which given found archive last before after (done.Asking why) is ends = tt
+refused_so rules clock bars quiet which given found archive last before after (done.File why) is ends =
     inr (λ held. let (of, has) = is held in inr (archive.now, of, ends held.0 has))

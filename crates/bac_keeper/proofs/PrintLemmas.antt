@@ -1,8 +1,12 @@
 -- Why nothing is printed or stopped, if the file is at fault.
-use Rattle.std.proofs.Common.{◌≡◌, ◌⊎◌, inl, inr, false, ℕ, List, Result, Ok, Err, IfErr, refl, subst, sym}
+use Rattle.std.proofs.Common.{◌≡◌, ◌⊎◌, ◌++◌, inl, inr, Bool, true, false, ℕ, List, Result, Ok, Err, IfErr, OnOk, refl, subst, sym}
+use Rattle.std.specs.Io.KnownBytes.{Appends}
+use Rattle.csv.specs.Writing.{default_writer, row_text}
+use Rattle.sqlite.specs.Effect.{Database}
 use Rattle.sqlite.specs.State.{State, HasCleanDisk}
 use Rattle.sqlite.specs.declared.error.Error.{Error}
 use Rattle.bac_archive.specs.Logs.{AreLogs}
+use Rattle.bac_archive.specs.Rows.{kept}
 use Rattle.bac_archive.specs.declared.trend_logs.Log.{Log}
 use Rattle.bac_asked.specs.Faults.{IsOfDatabase, RefusesLine, WantsMemory, of_error}
 use Rattle.bac_asked.specs.declared.end.NotDone.{NotDone}
@@ -11,12 +15,15 @@ use Rattle.bac_asked.specs.declared.fault.FileFault.{FileFault}
 use Rattle.bac_asked.specs.declared.fault.FileFault.TheVariants as file
 use Rattle.bac_keeper.specs.Archives.{IsArchiveOf, IsHeld}
 use Rattle.bac_keeper.specs.Ends.{MayAsk, MayFail}
-use Rattle.bac_keeper.specs.Shown.{RefusesPrint}
+use Rattle.bac_keeper.specs.Shown.{PrintsArchive, RefusesPrint}
 use Rattle.bac_keeper.specs.Stops.{RefusesStop, are_there}
 use Rattle.bac_keeper.specs.declared.stopping.Meant.{Meant}
 use Rattle.bac_keeper.proofs.FileLemmas.{database_fails, file_asks, database_file}
 use Rattle.bac_keeper.proofs.NamesLemmas.{may_ask, never_fails}
+use Rattle.bac_kept.specs.Csv.{WritesLogs, names}
 use Rattle.bac_kept.specs.Faults.{EndsPrinting, HasNoneOf}
+use Rattle.bac_kept.specs.Printed.{PrintsLogs}
+use Rattle.bac_print.specs.Output.{Held}
 use Rattle.bac_kept.specs.declared.printing.Shown.{Shown}
 use Rattle.bac_archive.specs.Schema.{HasArchive}
 
@@ -31,24 +38,32 @@ NoneBy which archive last = HasCleanDisk last → HasCleanDisk archive × (HasAr
 
 -- what a print fails by
 abbrev pub PrintFails : Shown → State → State → NotDone → Type 0
-PrintFails which found last = MayFail (λ why. ((error : Error) × (why ≡ of_error error)) ⊎ ((HasCleanDisk last → HasCleanDisk found) × (IsHeld last → RefusesPrint which found.now why)))
+PrintFails which found last = MayFail (λ why. ((error : Error) × (why ≡ of_error error)) ⊎ (IsHeld last → RefusesPrint which found.now why))
 
-print_fails : (which : Shown) (found archive last : State) → (HasCleanDisk archive → HasCleanDisk found) → (HasCleanDisk archive → IsArchiveOf found.now archive.now)
+print_fails : (which : Shown) (found archive last : State) → (HasCleanDisk archive → IsArchiveOf found.now archive.now)
     → (fault : NotDone) → EndsPrinting (NoneBy which archive last) fault → PrintFails which found last fault
-print_fails which found archive last clean of fault (inl (inl memory)) = never_fails _ fault (_, memory)
-print_fails which found archive last clean of fault (inl (inr (inl line))) = never_fails _ fault (_, line)
-print_fails which found archive last clean of fault (inl (inr (inr database))) = database_fails _ fault database
-print_fails which found archive last clean of fault (inr (is, none)) = subst (PrintFails which found last) (sym is) (inr (
-  (λ late. clean (none late).0),
-  (λ held.
-      let (early, nothing) = none held.0 in
-      inr (refl, archive.now, of early, nothing (of early).is.schema)),
-))
+print_fails which found archive last of fault (inl (inl memory)) = never_fails _ fault (_, memory)
+print_fails which found archive last of fault (inl (inr (inl line))) = never_fails _ fault (_, line)
+print_fails which found archive last of fault (inl (inr (inr database))) = database_fails _ fault database
+print_fails which found archive last of fault (inr (is, none)) = subst (PrintFails which found last) (sym is) (inr (λ held.
+    let (early, nothing) = none held.0 in
+    inr (refl, archive.now, of early, nothing (of early).is.schema)))
 
-pub all_print_fails : (which : Shown) (found archive last : State) → (HasCleanDisk archive → HasCleanDisk found) → (HasCleanDisk archive → IsArchiveOf found.now archive.now)
+pub all_print_fails : (which : Shown) (found archive last : State) → (HasCleanDisk archive → IsArchiveOf found.now archive.now)
     → (r : Result ℕ NotDone) → IfErr r (EndsPrinting (NoneBy which archive last)) → IfErr r (PrintFails which found last)
-all_print_fails which found archive last clean of (Ok v) it = tt
-all_print_fails which found archive last clean of (Err e) it = print_fails which found archive last clean of e it
+all_print_fails which found archive last of (Ok v) it = tt
+all_print_fails which found archive last of (Err e) it = print_fails which found archive last of e it
+
+-- the text of an archive was written, and it is left as it was
+pub prints_archive : (which : Shown) (csv : Bool) (before after : Held) (found archive left : Database) (r : Result ℕ NotDone) → IsArchiveOf found archive
+    → (csv ≡ false → OnOk r ((all : List Log) × AreLogs archive.trees all × (text : List ℕ) × PrintsLogs which (kept archive.trees) all text × Appends before after text))
+    → (csv ≡ true → OnOk r ((all : List Log) × AreLogs archive.trees all × (text : List ℕ) × WritesLogs which (kept archive.trees) all text × Appends before after (row_text default_writer names ++ text)))
+    → OnOk r (left ≡ archive) → OnOk r (PrintsArchive which csv before after found left)
+prints_archive which csv before after found archive left (Err e) of lines rows same = tt
+prints_archive which false before after found archive left (Ok v) of lines rows same =
+    let it = lines refl in (archive, of, same, it.0, it.1, it.2, it.3, it.4)
+prints_archive which true before after found archive left (Ok v) of lines rows same =
+    let it = rows refl in (archive, of, same, it.0, it.1, row_text default_writer names ++ it.2, (it.2, it.3, refl), it.4)
 
 print_asks : (N : Type 0) (fault : NotDone) → EndsPrinting N fault → MayAsk (λ f. WantsMemory f ⊎ RefusesLine f) fault
 print_asks N fault (inl (inl memory)) = may_ask (λ f. WantsMemory f ⊎ RefusesLine f) fault (inl memory)

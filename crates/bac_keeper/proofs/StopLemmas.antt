@@ -80,4 +80,4 @@ module _ {D : Type 0} {g : disk.Ghosts D} (image : Image) (opened last : Connect
   pub items_stay : (IsHeld (file_state last) → (file_state opened).committed ≡ (file_state opened).now → KeepsItems (file_state opened).now (file_state last).committed)
       → IsClosedBy last closed → IfSome closed (IsDoneTo g image LosesNothing)
   items_stay stays shut = loses_none image opened last closed is clean
-      (λ held was has. all_of_items (file_state opened).now.trees (file_state last).committed.trees (stays held was has)) shut
+      (λ held was. let it = stays held was in ((λ has. all_of_items (file_state opened).now.trees (file_state last).committed.trees (it.0 has)), it.1)) shut

@@ -1,5 +1,5 @@
 -- What a work over the database in a file comes to.
-use Rattle.std.proofs.Common.{◌≡◌, ◌⊎◌, ◌∙◌, inl, inr, false, ℕ, List, Err, IfErr, IfOk, IfSome, OnOk, subst, sym}
+use Rattle.std.proofs.Common.{◌≡◌, ◌⊎◌, ◌∙◌, inl, inr, Bool, false, ℕ, List, Err, IfErr, IfOk, IfSome, OnOk, subst, sym}
 use Rattle.sqlite_disk.specs.declared.Disk as disk
 use Rattle.sqlite_disk.specs.declared.start.Start as start
 use Rattle.sqlite_wal.specs.Recovery.{Image}
@@ -13,9 +13,9 @@ use Rattle.bac_asked.specs.declared.fault.FileFault.{FileFault}
 use Rattle.bac_files.specs.Files.{FileOf, IsDoneTo, IsNamed, IsUnused}
 use Rattle.bac_files.specs.declared.disk_files.DiskFiles.{DiskFiles}
 use Rattle.bac_keeper.proofs.BegunLemmas.{file_of, follows_in}
-use Rattle.bac_keeper.proofs.FileLemmas.{closed_asks, done_named, fails_file, fails_so, file_asks, none_closed, prints_in}
+use Rattle.bac_keeper.proofs.FileLemmas.{all_fail, closed_asks, done_named, fails_file, fails_so, file_asks, keeps_rows, none_closed, prints_in}
 use Rattle.bac_keeper.proofs.StopLemmas.{items_kept, items_stay, stops_in}
-use Rattle.bac_keeper.specs.Archives.{IsHeld, KeepsItems, LosesNothing}
+use Rattle.bac_keeper.specs.Archives.{IsHeld, KeepsItems, KeepsRows, LosesNothing}
 use Rattle.bac_keeper.specs.Begun.{FollowsFiles}
 use Rattle.bac_keeper.specs.Ends.{FailsFile, IsOfSomeFile, MayAsk, MayFail}
 use Rattle.bac_keeper.specs.Shown.{PrintsIn, Shows}
@@ -47,7 +47,7 @@ module _ {F X : Type 0} {s : start.Ghosts F} {g : disk.Ghosts (FileOf s)} (image
   work_fails does asked is refuses fails it =
       subst (λ (p : List ℕ). IfErr ended (MayFail (FailsFile g image p false refuses new))) is (elim it [
         | inl un ↦ subst (λ (r : Ended). IfErr r (MayFail (FailsFile g image path false refuses new))) (sym un.ends) (fails_so _ _ un.cause (λ why it'. inl it') un.why)
-        | inr did ↦ fails_file image did.opened did.last new did.is path false did.named refuses did.done ended (fails (file_state did.opened) (file_state did.last) did.done did.did) did.fault did.shut
+        | inr did ↦ all_fail _ _ ended (λ why it'. inr it') (fails_file image did.opened did.last new did.is path false did.named refuses did.done ended (fails (file_state did.opened) (file_state did.last) did.done did.did) did.fault did.shut)
       ])
 
   -- one that ends otherwise
@@ -65,6 +65,18 @@ module _ {F X : Type 0} {s : start.Ghosts F} {g : disk.Ghosts (FileOf s)} (image
   work_prints contents words which shows it = elim it [
     | inl un ↦ none_ends (PrintsIn g image words (contents before) (contents after) new.closed) ended un.cause un.ends
     | inr it' ↦ prints_in image it'.opened it'.last new.closed it'.is words which (contents before) (contents after) ended it'.done it'.did.clean shows it'.did.status it'.did.printed it'.same it'.closed
+  ]
+
+  -- and their rows stayed, whatever came of it
+  pub work_rows : (contents : X → Held) (csv : Bool) (which : Shown)
+      → Works g image (λ old' new' before' after'. PrintsOver which csv old' new' (contents before') (contents after')) path old new before after ended
+      → IsUnused old → IfSome new.closed (IsDoneTo g image KeepsRows)
+  work_rows contents csv which it unused = elim it [
+    | inl un ↦ none_closed new.closed _ (un.closed ∙ unused)
+    | inr it' ↦ elim it'.either [
+      | inl still ↦ none_closed new.closed _ (still ∙ unused)
+      | inr shut ↦ keeps_rows image it'.opened it'.last new.closed it'.is it'.did.clean it'.did.stays shut
+    ]
   ]
 
   module _ (contents : X → Held) (which : Meant)

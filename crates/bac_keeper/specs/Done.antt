@@ -26,8 +26,8 @@ use Rattle.bac_asked.specs.declared.fault.FileFault.{FileFault}
 use Rattle.bac_fetch.specs.Faults.{EndsKeeping}
 use Rattle.bac_files.specs.Files.{FileOf, IsDoneTo}
 use Rattle.bac_files.specs.declared.disk_files.DiskFiles.{DiskFiles}
-use Rattle.bac_keeper.specs.Archives.{IsArchiveOf, KeepsArchive}
-use Rattle.bac_keeper.specs.Ends.{FailsFile, IsNoArchive, IsUnclosedBySome}
+use Rattle.bac_keeper.specs.Archives.{IsTakenAs, KeepsArchive}
+use Rattle.bac_keeper.specs.Ends.{FailsOpened, IsNoArchive, IsNotOpened, IsUnclosedBySome}
 use Rattle.bac_fetch.specs.Ahead.{AtOnce}
 use Rattle.bac_ports.specs.Sockets.{SocketRules}
 use Rattle.bac_print.specs.Output.{Held}
@@ -101,23 +101,26 @@ KeepsIn rules by g image begins keep sockets sockets_after before after closed s
 abbrev pub EndsOver : {S P C : Type 0} → SocketRules S P → AtOnce S C → Chosen → Given → S → S → Database
     → NotDone → Type 0
 EndsOver rules by which given before after found fault =
-    (archive : Database) × IsArchiveOf found archive × EndsRunOver rules by given which before after archive fault
+    (archive : Database) × IsTakenAs found archive × EndsRunOver rules by given which before after archive fault
 
--- Why the logs that were chosen aren't kept in the archive that two files held: it is none; or what it is to begin on
--- is no use; or the run over it ends so.
-abbrev pub RefusesKeep : {S P C : Type 0} → SocketRules S P → AtOnce S C → (FileFault → Type 0) → Chosen → Given → S
-    → S → Database → FileFault → Type 0
-RefusesKeep rules by bars which given before after found why =
-    (IsNoArchive found why ⊎ bars why) ⊎ EndsOver rules by which given before after found (File why)
+-- no socket was opened, and no line printed
+abbrev pub IsQuiet : {S : Type 0} → S → S → Held → Held → Type 0
+IsQuiet sockets sockets_after before after = (sockets_after ≡ sockets) × (after ≡ before)
 
--- so the file is no use to `keep`
+-- Why the logs that were chosen aren't kept in the archive that two files held: it is none, or what it is to begin on
+-- is no use, and then it was quiet; or the run over it ends so.
+abbrev pub RefusesKeep : {S P C : Type 0} → SocketRules S P → AtOnce S C → (FileFault → Type 0) → Type 0 → Chosen
+    → Given → S → S → Database → FileFault → Type 0
+RefusesKeep rules by bars quiet which given before after found why = (quiet × (IsNoArchive found why ⊎ bars why))
+    ⊎ EndsOver rules by which given before after found (File why)
+
+-- so the file is no use to `keep`; where it isn't opened, it was quiet
 abbrev pub FailsToKeep : {S P C F : Type 0} {s : start.Ghosts F} → SocketRules S P → (ℕ → AtOnce S C)
-    → disk.Ghosts (FileOf s) → Image → (FileFault → Type 0) → Keep → List ℕ → Bool → S → S → DiskFiles F s → FileFault →
-    Type 0
-FailsToKeep rules by g image bars keep path may before after files why = (which : Chosen) × Chooses keep which
-    × FailsFile g image path may
-    (RefusesKeep rules (by keep.at_once) bars which (given_of keep.options) before after)
-    files why
+    → disk.Ghosts (FileOf s) → Image → (FileFault → Type 0) → Type 0 → Keep → List ℕ → Bool → S → S → DiskFiles F s
+    → FileFault → Type 0
+FailsToKeep rules by g image bars quiet keep path may before after files why = (which : Chosen) × Chooses keep which
+    × ((quiet × IsNotOpened path may files why) ⊎ FailsOpened g image path may
+    (RefusesKeep rules (by keep.at_once) bars quiet which (given_of keep.options) before after) files why)
 
 -- why words name no logs of a device: `bac log` with them asks for none
 abbrev pub SeeksNoneBy : Given → Text → List Text → NotDone → Type 0

@@ -77,14 +77,19 @@ module _ {F : Type 0} {s : start.Ghosts F} where
       (refused : NotOpened) × IsUnopened refused files × IsReason may refused × (reason ≡ of_unopened refused)
       × (refused ≢ why.Memory → IsNamed path may files)
 
-  -- Why the file of a tool is no use: it isn't opened; or it is, and can't be closed, or its database answers by an
-  -- error, or what it held is refused so.
+  -- Why a file that was opened is no use: it can't be closed, or its database answers by an error, or what it held is
+  -- refused so.
+  abbrev pub FailsOpened : disk.Ghosts (FileOf s) → Image → List ℕ → Bool → (Database → FileFault → Type 0) →
+      DiskFiles F s → FileFault → Type 0
+  FailsOpened g image path may refuses files why = IsNamed path may files × (IsUnclosedBySome files
+      ⊎ (IsSome files.closed × (((error : Error) × (why ≡ of_error error))
+      ⊎ IfSome files.closed (IsDoneTo g image (λ found left. refuses found why)))))
+
+  -- why the file of a tool is no use: it isn't opened, or fails so
   abbrev pub FailsFile : disk.Ghosts (FileOf s) → Image → List ℕ → Bool → (Database → FileFault → Type 0) →
       DiskFiles F s → FileFault → Type 0
-  FailsFile g image path may refuses files why = IsNotOpened path may files why
-      ⊎ (IsNamed path may files × (IsUnclosedBySome files
-      ⊎ (IsSome files.closed × (((error : Error) × (why ≡ of_error error))
-      ⊎ IfSome files.closed (IsDoneTo g image (λ found left. refuses found why))))))
+  FailsFile g image path may refuses files why =
+      IsNotOpened path may files why ⊎ FailsOpened g image path may refuses files why
 
 -- the status of what was done, or of a file that is no use
 abbrev pub EndsBy : Result ℕ NotDone → ℕ → Type 0

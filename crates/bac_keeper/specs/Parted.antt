@@ -151,11 +151,11 @@ module _ {P : Type 0} (holds : P → List ℕ → Reading → P → Type 0) (bar
   PrintsFolder words paths p q before after told now status =
       (new : Printer) × PrintsParts words paths p q before after told now status new
 
-  -- So the folder is no use: no log of its parts was chosen; or the database answers by an error.
+  -- So the folder is no use: no log of its parts was chosen.
   abbrev pub FailsFolder : Kept → List (List ℕ) → P → P → Held → Held → Held → Held → FileFault → Type 0
-  FailsFolder words paths p q before after told now why = ((error : Error) × (why ≡ of_error error))
-      ⊎ ((why ≡ fault.NoLog) × (new : Printer) × PrintsParts words paths p q before after told now 0 new
-      × (new.has_any ≡ false) × (new.shown ≢ Each))
+  FailsFolder words paths p q before after told now why =
+      (why ≡ fault.NoLog) × (new : Printer) × PrintsParts words paths p q before after told now 0 new
+      × (new.has_any ≡ false) × (new.shown ≢ Each)
 
   -- what comes of a folder: its parts were printed; or it is no use, which is told
   abbrev pub PrintsOfFolder : Kept → List (List ℕ) → P → P → Held → Held → Held → Held → ℕ → Type 0

@@ -11,7 +11,7 @@ use Rattle.bac_files.specs.declared.disk_files.DiskFiles.{DiskFiles}
 use Rattle.bac_files.specs.declared.folder.Place.{Place}
 use Rattle.bac_fetch.specs.Ahead.{AtOnce}
 use Rattle.bac_keeper.specs.Begun.{BarsPart, BeginsOn}
-use Rattle.bac_keeper.specs.Done.{FailsToKeep, KeepsIn}
+use Rattle.bac_keeper.specs.Done.{FailsToKeep, IsQuiet, KeepsIn}
 use Rattle.bac_keeper.specs.Ends.{IsNotOpened}
 use Rattle.bac_ports.specs.Sockets.{SocketRules}
 use Rattle.bac_print.specs.Output.{Held}
@@ -30,10 +30,12 @@ module _ {S P C F G : Type 0} {s : start.Ghosts F} {t : start.Ghosts G} (rules :
       × KeepsIn rules by g image (BeginsOn h before_image place.before parts) keep sockets sockets_after before after
       files.closed status
 
-  -- its file is no use; or the place of FILE can't be told
-  abbrev pub FailsAt : Keep → S → S → DiskFiles F s → DiskFiles G t → FileFault → Type 0
-  FailsAt keep before after files parts why =
+  -- Its file is no use; or the place of FILE can't be told. Of a file that isn't opened, or is no archive, nothing is
+  -- asked and no line printed.
+  abbrev pub FailsAt : Keep → S → S → Held → Held → DiskFiles F s → DiskFiles G t → FileFault → Type 0
+  FailsAt keep sockets sockets_after before after files parts why =
+      let quiet = IsQuiet sockets sockets_after before after in
       ((place : Place) × IsPlaced keep.file place
-      × FailsToKeep rules by g image (BarsPart h before_image place.before parts) keep (string_bytes place.path)
-      (are_any keep.groups || is_some place.before) before after files why)
-      ⊎ IsNotOpened keep.file (are_any keep.groups) files why
+      × FailsToKeep rules by g image (BarsPart h before_image place.before parts) quiet keep (string_bytes place.path)
+      (are_any keep.groups || is_some place.before) sockets sockets_after files why)
+      ⊎ (quiet × IsNotOpened keep.file (are_any keep.groups) files why)

@@ -61,17 +61,19 @@ IsTextOf which items all false text = PrintsLogs which items all text
 IsTextOf which items all true text = (rows : List ℕ) × WritesLogs which items all rows
     × (text ≡ row_text default_writer names ++ rows)
 
--- the text of what the archive keeps of the logs that were chosen, which was found in a file, was written
-abbrev pub PrintsArchive : Shown → Bool → Held → Held → Database → Type 0
-PrintsArchive which csv before after found =
-    (archive : Database) × IsArchiveOf found archive × (all : List Log) × AreLogs archive.trees all
+-- the text of what the archive keeps of the logs that were chosen, which was found in a file, was written, and the
+-- archive is left as it was
+abbrev pub PrintsArchive : Shown → Bool → Held → Held → Database → Database → Type 0
+PrintsArchive which csv before after found left =
+    (archive : Database) × IsArchiveOf found archive × (left ≡ archive) × (all : List Log) × AreLogs archive.trees all
     × (text : List ℕ) × IsTextOf which (kept archive.trees) all csv text × Appends before after text
 
--- What the archive keeps of the logs that the words choose was printed, of two files that were opened and closed.
+-- What the archive keeps of the logs that the words choose was printed, of two files that were opened and closed, which
+-- hold it as it was.
 abbrev pub PrintsIn : {D : Type 0} → (g : disk.Ghosts D) → Image → Kept → Held → Held → Option (Files D) → ℕ → Type 0
 PrintsIn g image words before after closed status =
     (status ≡ 0) × IsSome closed × (which : Shown) × Shows words which
-    × IfSome closed (IsDoneTo g image (λ found left. PrintsArchive which words.csv before after found))
+    × IfSome closed (IsDoneTo g image (PrintsArchive which words.csv before after))
 
 -- why nothing is printed of what two files held: it is no archive; or none of its logs is chosen
 abbrev pub RefusesPrint : Shown → Database → FileFault → Type 0

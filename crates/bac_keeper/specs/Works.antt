@@ -12,7 +12,7 @@ use Rattle.bac_asked.specs.Faults.{RefusesLine, WantsMemory, of_error}
 use Rattle.bac_asked.specs.declared.end.NotDone.{NotDone}
 use Rattle.bac_files.specs.Files.{FileOf, IsClosedBy, IsNamed, IsOpenedBy}
 use Rattle.bac_files.specs.declared.disk_files.DiskFiles.{DiskFiles}
-use Rattle.bac_keeper.specs.Archives.{IsHeld, KeepsItems}
+use Rattle.bac_keeper.specs.Archives.{IsHeld, KeepsItems, KeepsRows}
 use Rattle.bac_keeper.specs.Begun.{FollowsFound}
 use Rattle.bac_keeper.specs.Ends.{IsNoArchive, IsNotOpened, IsOfSomeFile, IsUnclosedBySome, MayAsk, MayFail}
 use Rattle.bac_keeper.specs.Shown.{PrintsArchive, RefusesPrint}
@@ -65,10 +65,11 @@ module _ {F X : Type 0} {s : start.Ghosts F} where
 pub record PrintsOver (which : Shown) (csv : Bool) (old new : State) (before after : Held)
     (ended : Ended) : Type 0 where
   pub status : IfOk ended (λ status. status ≡ 0)
-  pub printed : HasCleanDisk new → OnOk ended (PrintsArchive which csv before after old.now)
-  pub clean : OnOk ended (HasCleanDisk new → HasCleanDisk old)
+  pub printed : HasCleanDisk new → OnOk ended (PrintsArchive which csv before after old.now new.committed)
+  pub stays : IsHeld new → old.committed ≡ old.now → KeepsRows old.now new.committed
+  pub clean : HasCleanDisk new → HasCleanDisk old
   pub fault : IfErr ended (MayFail (λ why. ((error : Error) × (why ≡ of_error error))
-      ⊎ ((HasCleanDisk new → HasCleanDisk old) × (IsHeld new → RefusesPrint which old.now why))))
+      ⊎ (IsHeld new → RefusesPrint which old.now why)))
   pub ends : IfErr ended (MayAsk (λ fault. WantsMemory fault ⊎ RefusesLine fault))
 
 -- the logs that are meant are stopped in an archive
@@ -81,9 +82,9 @@ pub record StopsOver (which : Meant) (old new : State) (before after : Held) (en
       ⊎ (IsHeld new → RefusesStop which old.now why)))
   pub ends : IfErr ended (MayAsk (λ fault. WantsMemory fault ⊎ RefusesLine fault))
 
--- a part that had nothing follows on the archive of a database
+-- a part that had nothing follows on the archive of a database, which is left as it is
 pub record FollowsOver (found last part made : State) (ended : Ended) : Type 0 where
-  pub followed : HasCleanDisk last → HasCleanDisk made → OnOk ended (FollowsFound found.now made.now)
+  pub followed : HasCleanDisk last → HasCleanDisk made → OnOk ended (FollowsFound found.now last.committed made.now)
   pub clean : HasCleanDisk made → HasCleanDisk part
   pub read : HasCleanDisk last → HasCleanDisk found
   pub file : IfErr ended IsOfSomeFile

@@ -1,11 +1,12 @@
 //! A database file is opened as an archive, and closed.
 
-ghost use Rattle.std.specs.Prelude.{◌≡◌, ◌⊎◌, Err, IfErr, IfOk, IsTrue, Ok, OnErr, OnOk, is_some};
+ghost use Rattle.std.specs.Prelude.{◌≡◌, ◌≢◌, ◌⊎◌, Err, IfErr, IfOk, IsTrue, Ok, OnErr, OnOk};
+ghost use Rattle.std.specs.Prelude.{is_some};
 ghost use Rattle.std.specs.String.{string_bytes};
 ghost use Rattle.sqlite.specs.Held.{state};
 ghost use Rattle.sqlite.specs.State.{HasCleanDisk, IsUnchanged};
 ghost use Rattle.sqlite_wal.specs.Files.{image_at};
-ghost use Rattle.bac_archive.specs.Schema.{HasArchive, OverArchive};
+ghost use Rattle.bac_archive.specs.Schema.{OverArchive, no_schema};
 ghost use Rattle.bac_asked.specs.Faults.{of_error};
 ghost use Rattle.bac_check.specs.Missing.{TellsMissing};
 ghost use Rattle.bac_files.specs.Files.{IsClosedBy, IsNamed, IsOpenedBy, IsUnclosed};
@@ -126,7 +127,7 @@ pub(crate) fn open_told<A: Alter, E: Write>(
         ⊎ (IsHeld (state A.Store conn.new)
         → IsNoArchive (state A.Store conn.old).now why))) }
     ensures left { IsHeld (state A.Store conn.new)
-        → HasArchive (state A.Store conn.old).now.schema
+        → (state A.Store conn.old).now.schema ≢ no_schema
         → OnErr result ((state A.Store conn.new).committed ≡ (state A.Store conn.old).committed) }
     ensures clean { HasCleanDisk (state A.Store conn.new) → HasCleanDisk (state A.Store conn.old) }
 {

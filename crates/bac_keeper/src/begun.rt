@@ -1,17 +1,18 @@
 //! A part of an archive is begun: it follows on the one before it.
 
-ghost use Rattle.std.specs.Prelude.{◌≡◌, ◌⊎◌, IfErr, IsSome, IsTrue, OnErr, OnOk, false, is_some};
+ghost use Rattle.std.specs.Prelude.{◌≡◌, ◌≢◌, ◌⊎◌, IfErr, IfSome, IsSome, IsTrue, OnErr, OnOk};
+ghost use Rattle.std.specs.Prelude.{false, is_some};
 ghost use Rattle.std.specs.String.{string_bytes};
 ghost use Rattle.sqlite.specs.Held.{state};
 ghost use Rattle.sqlite.specs.State.{HasCleanDisk};
 ghost use Rattle.sqlite_wal.specs.Files.{image_at};
-ghost use Rattle.bac_archive.specs.Parts.{FollowsOn};
-ghost use Rattle.bac_archive.specs.Schema.{OverArchive, no_schema, HasArchive};
+ghost use Rattle.bac_archive.specs.Schema.{OverArchive, no_schema};
 ghost use Rattle.bac_asked.specs.Faults.{of_error};
 ghost use Rattle.bac_check.specs.Missing.{TellsMissing};
 ghost use Rattle.bac_files.specs.Files.{IsNamed};
-ghost use Rattle.bac_keeper.specs.Archives.{IsArchiveOf, IsHeld};
-ghost use Rattle.bac_keeper.specs.Begun.{BarsPart, BeginsOn, FollowsFiles};
+ghost use Rattle.bac_keeper.specs.Archives.{IsHeld, IsTakenAs};
+ghost use Rattle.bac_keeper.specs.Begun.{BarsPart, BeginsOn, FollowsFiles, FollowsFound};
+ghost use Rattle.bac_keeper.specs.Begun.{FollowsPart};
 ghost use Rattle.bac_keeper.specs.Ends.{FailsFile, IsNoArchive, IsOfSomeFile, MayFail};
 ghost use Rattle.bac_keeper.specs.Works.{FollowsOver};
 
@@ -26,7 +27,7 @@ use std::alloc::Global;
 use std::io::Write;
 
 /// Makes of a database that has nothing the part that follows on another, which has to be an
-/// archive.
+/// archive and is left as it is.
 fn follow<A: Alter, B: Alter>(
     alloc: Global,
     old: &mut Connection<B>,
@@ -34,8 +35,8 @@ fn follow<A: Alter, B: Alter>(
 ) -> Result<u8, NotDone>
     requires { (state A.Store conn.old).now.schema ≡ no_schema }
     ensures followed { HasCleanDisk (state B.Store old.new) → HasCleanDisk (state A.Store conn.new)
-        → OnOk result ((archive : _) × IsArchiveOf (state B.Store old.old).now archive
-        × FollowsOn archive (state A.Store conn.new).now) }
+        → OnOk result (FollowsFound (state B.Store old.old).now (state B.Store old.new).committed
+        (state A.Store conn.new).now) }
     ensures clean { HasCleanDisk (state A.Store conn.new) → HasCleanDisk (state A.Store conn.old) }
     ensures read { HasCleanDisk (state B.Store old.new) → HasCleanDisk (state B.Store old.old) }
     ensures file { IfErr result IsOfSomeFile }
@@ -98,8 +99,9 @@ fn begin_part<A: Alter, G: Start>(
     before: &Option<String>,
 ) -> Result<(), NotDone>
     ensures begins { HasCleanDisk (state A.Store conn.new)
-        → OnOk result (BeginsOn ⟦<FileOf<G> as Disk>⟧ (image_at G.Start) before.now parts.new
-        (state A.Store conn.old).now (state A.Store conn.new).now) }
+        → OnOk result ((state A.Store conn.old).now.schema ≡ no_schema
+        → IfSome before.now (FollowsPart ⟦<FileOf<G> as Disk>⟧ (image_at G.Start) parts.new
+        (state A.Store conn.new).now)) }
     // The database is as it was; or it had nothing, and there is a part before it.
     ensures either { (conn.new ≡ conn.old)
         ⊎ (((state A.Store conn.old).now.schema ≡ no_schema) × IsSome before.now) }
@@ -128,7 +130,7 @@ pub(crate) fn begin_archive<A: Alter, G: Start, E: Write>(
     errors: &mut E,
 ) -> Result<(), NotDone>
     ensures archive { HasCleanDisk (state A.Store conn.new)
-        → OnOk result (IsArchiveOf (state A.Store conn.old).now (state A.Store conn.new).now) }
+        → OnOk result (IsTakenAs (state A.Store conn.old).now (state A.Store conn.new).now) }
     ensures begun { HasCleanDisk (state A.Store conn.new)
         → OnOk result (BeginsOn ⟦<FileOf<G> as Disk>⟧ (image_at G.Start) place.old.before
         parts.new (state A.Store conn.old).now (state A.Store conn.new).now) }
@@ -147,7 +149,7 @@ pub(crate) fn begin_archive<A: Alter, G: Start, E: Write>(
         ⊎ (IsHeld (state A.Store conn.new) → IsNoArchive (state A.Store conn.old).now why
         ⊎ BarsPart ⟦<FileOf<G> as Disk>⟧ (image_at G.Start) place.old.before parts.new why))) }
     ensures left { IsHeld (state A.Store conn.new)
-        → HasArchive (state A.Store conn.old).now.schema
+        → (state A.Store conn.old).now.schema ≢ no_schema
         → OnErr result ((state A.Store conn.new).committed ≡ (state A.Store conn.old).committed) }
     ensures clean { HasCleanDisk (state A.Store conn.new) → HasCleanDisk (state A.Store conn.old) }
     ensures place { place.new.path ≡ place.old.path }

@@ -15,7 +15,7 @@ ghost use Rattle.bac_files.specs.Files.{IsDoneTo, IsNamed, IsUnused};
 ghost use Rattle.bac_keeper.specs.Archives.{IsHeld, KeepsArchive, LosesNothing};
 ghost use Rattle.bac_keeper.specs.Begun.{BarsPart, BeginsOn};
 ghost use Rattle.bac_keeper.specs.Done.{Chooses, ChoosesNone, EndsKeep, EndsOver, FailsToKeep};
-ghost use Rattle.bac_keeper.specs.Done.{KeepsIn, RefusesKeep, Seeks, SeeksBy, SeeksNone};
+ghost use Rattle.bac_keeper.specs.Done.{IsQuiet, KeepsIn, RefusesKeep, Seeks, SeeksBy, SeeksNone};
 ghost use Rattle.bac_keeper.specs.Done.{SeeksNoneBy, TellsThese, given_for, given_of};
 ghost use Rattle.bac_keeper.specs.Ends.{MayAsk, MayFail};
 ghost use Rattle.bac_fetch.specs.Ahead.{at_once};
@@ -187,7 +187,8 @@ where
         ⊎ (IsHeld (state A.Store conn.new) → RefusesKeep
         (socket_rules S.opens S.closes S.Socket.sends S.Socket.receives
         S.Socket.receives_within) (at_once S.holds C.reads clock window)
-        (BarsPart ⟦<FileOf<G> as Disk>⟧ (image_at G.Start) place.old.before parts.new) chosen
+        (BarsPart ⟦<FileOf<G> as Disk>⟧ (image_at G.Start) place.old.before parts.new)
+        (IsQuiet sockets.old sockets.new (O.contents output.old) (O.contents output.new)) chosen
         (given_in options.now) sockets.old sockets.new (state A.Store conn.old).now why))) }
     ensures ends { IfErr result (MayAsk (λ fault. EndsKeeping
         (socket_rules S.opens S.closes S.Socket.sends S.Socket.receives
@@ -253,6 +254,7 @@ where
         S.Socket.receives_within) (at_once S.holds C.reads clock)
         ⟦<FileOf<F> as Disk>⟧ (image_at F.Start)
         (BarsPart ⟦<FileOf<G> as Disk>⟧ (image_at G.Start) place.old.before parts.new)
+        (IsQuiet sockets.old sockets.new (O.contents output.old) (O.contents output.new))
         asked.now (string_bytes place.old.path)
         (are_any asked.now.groups || is_some place.old.before) sockets.old sockets.new
         files.new)) }

@@ -1,12 +1,12 @@
 //! `bac kept`: what an archive keeps is printed.
 
-ghost use Rattle.std.specs.Prelude.{◌≡◌, ◌⊎◌, IfErr, IfOk, OnOk, false};
+ghost use Rattle.std.specs.Prelude.{◌≡◌, ◌⊎◌, IfErr, IfOk, IfSome, OnOk, false};
 ghost use Rattle.sqlite.specs.Held.{state};
 ghost use Rattle.sqlite.specs.State.{HasCleanDisk};
 ghost use Rattle.sqlite_wal.specs.Files.{image_at};
 ghost use Rattle.bac_asked.specs.Faults.{RefusesLine, WantsMemory, of_error};
-ghost use Rattle.bac_files.specs.Files.{IsNamed};
-ghost use Rattle.bac_keeper.specs.Archives.{IsHeld};
+ghost use Rattle.bac_files.specs.Files.{IsDoneTo, IsNamed, IsUnused};
+ghost use Rattle.bac_keeper.specs.Archives.{IsHeld, KeepsRows};
 ghost use Rattle.bac_keeper.specs.Ends.{MayAsk, MayFail};
 ghost use Rattle.bac_keeper.specs.Shown.{EndsPrint, FailsToPrint, PrintsArchive, PrintsIn};
 ghost use Rattle.bac_keeper.specs.Shown.{RefusesPrint, Shows, ShowsNoneBy};
@@ -58,13 +58,15 @@ fn print_in<A: Alter, O: Write>(
     ensures status { IfOk result (λ status. status ≡ 0) }
     ensures printed { HasCleanDisk (state A.Store conn.new)
         → OnOk result (PrintsArchive shown.now csv (O.contents output.old) (O.contents output.new)
-        (state A.Store conn.old).now) }
-    ensures clean { OnOk result
-        (HasCleanDisk (state A.Store conn.new) → HasCleanDisk (state A.Store conn.old)) }
+        (state A.Store conn.old).now (state A.Store conn.new).committed) }
+    // Whatever comes of it, the rows are the same.
+    ensures stays { IsHeld (state A.Store conn.new)
+        → (state A.Store conn.old).committed ≡ (state A.Store conn.old).now
+        → KeepsRows (state A.Store conn.old).now (state A.Store conn.new).committed }
+    ensures clean { HasCleanDisk (state A.Store conn.new) → HasCleanDisk (state A.Store conn.old) }
     ensures fault { IfErr result (MayFail (λ why. ((error : Error) × (why ≡ of_error error))
-        ⊎ ((HasCleanDisk (state A.Store conn.new) → HasCleanDisk (state A.Store conn.old))
-        × (IsHeld (state A.Store conn.new)
-        → RefusesPrint shown.now (state A.Store conn.old).now why)))) }
+        ⊎ (IsHeld (state A.Store conn.new)
+        → RefusesPrint shown.now (state A.Store conn.old).now why))) }
     ensures ends { IfErr result (MayAsk (λ fault. WantsMemory fault ⊎ RefusesLine fault)) }
 {
     open_archive(conn)?;
@@ -103,6 +105,8 @@ pub(crate) fn kept<F: Start, O: Write>(
     ensures named { OnOk result (IsNamed asked.now.file false files.new) }
     ensures fault { IfErr result
         (MayFail (FailsToPrint ⟦<FileOf<F> as Disk>⟧ (image_at F.Start) asked.now files.new)) }
+    ensures stays { IsUnused files.old
+        → IfSome files.new.closed (IsDoneTo ⟦<FileOf<F> as Disk>⟧ (image_at F.Start) KeepsRows) }
     ensures ends { IfErr result (MayAsk (EndsPrint asked.now)) }
 {
     let shown = choose(alloc, asked)?;

@@ -6,9 +6,9 @@ ghost use Rattle.std.specs.String.{string_bytes};
 ghost use Rattle.sqlite_wal.specs.Files.{image_at};
 ghost use Rattle.bac_files.specs.Files.{IsDoneTo, IsNamed, IsUnused};
 ghost use Rattle.bac_files.specs.Parts.{IsPlaced, Listing};
-ghost use Rattle.bac_keeper.specs.Archives.{KeepsItems, LosesNothing};
+ghost use Rattle.bac_keeper.specs.Archives.{KeepsItems, KeepsRows, LosesNothing};
 ghost use Rattle.bac_keeper.specs.Begun.{BarsPart, BeginsOn};
-ghost use Rattle.bac_keeper.specs.Done.{EndsKeep, FailsToKeep, KeepsIn};
+ghost use Rattle.bac_keeper.specs.Done.{EndsKeep, FailsToKeep, IsQuiet, KeepsIn};
 ghost use Rattle.bac_keeper.specs.Places.{FailsAt, KeepsAt};
 ghost use Rattle.bac_keeper.specs.Ends.{EndsBy, IsNotOpened, IsOfFile, IsOfSomeFile, IsUntold};
 ghost use Rattle.bac_keeper.specs.Ends.{MayFail};
@@ -126,7 +126,8 @@ where
         ⊎ IsOfFile (FailsToKeep (socket_rules S.opens S.closes S.Socket.sends
         S.Socket.receives S.Socket.receives_within) (at_once S.holds C.reads clock)
         ⟦<FileOf<F> as Disk>⟧ (image_at F.Start)
-        (BarsPart ⟦<FileOf<G> as Disk>⟧ (image_at G.Start) place.before parts.new) asked.now
+        (BarsPart ⟦<FileOf<G> as Disk>⟧ (image_at G.Start) place.before parts.new)
+        (IsQuiet sockets.old sockets.new (O.contents output.old) (O.contents output.new)) asked.now
         (string_bytes place.path) (are_any asked.now.groups || is_some place.before)
         sockets.old sockets.new files.new) status) }
     ensures stays { IsUnused files.old → IfSome files.new.closed
@@ -166,7 +167,7 @@ where
     C: Drop,
     // The logs that the words choose were kept, in the archive that the files held, of a folder
     // those of a part; their lines were printed, and the status is the greatest of theirs. Or the
-    // file is no use.
+    // file is no use; of one that isn't opened, or is no archive, nothing was asked or printed.
     ensures kept { asked.now.stop ≡ false
         → IfOk result (λ status. KeepsAt (socket_rules S.opens S.closes S.Socket.sends
         S.Socket.receives S.Socket.receives_within) (at_once S.holds C.reads clock)
@@ -176,7 +177,8 @@ where
         ⊎ IsOfFile (FailsAt (socket_rules S.opens S.closes S.Socket.sends S.Socket.receives
         S.Socket.receives_within) (at_once S.holds C.reads clock) ⟦<FileOf<F> as Disk>⟧
         ⟦<FileOf<G> as Disk>⟧ (image_at F.Start) (image_at G.Start) asked.now sockets.old
-        sockets.new files.new parts.new) status) }
+        sockets.new (O.contents output.old) (O.contents output.new) files.new parts.new)
+        status) }
     // With `--stop` they were stopped, and nothing else of the archive changed; no socket is
     // opened, and only that the file is no use is told on the errors.
     ensures stopped { asked.now.stop ≡ true
@@ -229,6 +231,8 @@ fn kept_file<F: Start, O: Write, E: Write>(
         (O.contents output.old) (O.contents output.new) (E.contents errors.old)
         (E.contents errors.new) files.new) }
     ensures untold { OnErr result (E.contents errors.new ≡ E.contents errors.old) }
+    ensures rows { IsUnused files.old
+        → IfSome files.new.closed (IsDoneTo ⟦<FileOf<F> as Disk>⟧ (image_at F.Start) KeepsRows) }
     ensures ends { IfErr result (λ why. EndsPrint asked.now (NotDone.Asking why)) }
 {
     let done = kept(files, alloc, asked, output);
@@ -271,6 +275,9 @@ pub fn run_kept<F: Start, P: Parts, O: Write, E: Write>(
         × PrintsListed P.holds P.bars ⟦<FileOf<F> as Disk>⟧ (image_at F.Start) asked.now listing
         listed folders.new files.old files.new (O.contents output.old) (O.contents output.new)
         (E.contents errors.old) (E.contents errors.new) status) }
+    // Whatever comes of it, of an archive that the files held each row stays as it is.
+    ensures rows { IsUnused files.old
+        → IfSome files.new.closed (IsDoneTo ⟦<FileOf<F> as Disk>⟧ (image_at F.Start) KeepsRows) }
     ensures ends { IfErr result (λ why. EndsPrint asked.now (NotDone.Asking why)) }
     // Unless parts were read, nothing is told beside such a fault.
     ensures untold { OnErr result ((listing : Listing) × (listed : P)

@@ -26,3 +26,11 @@ returns-in-Err-clause-refused g c = inr (λ held. (
       (λ is. c.open.ensures.version held.0 (c.in-Err.is ∙ ap Err is)),
   c.of_refusal.ensures,
 ))
+
+pub returns-in-Ok-clause-archive : goal.returns-in-Ok-clause-archive
+returns-in-Ok-clause-archive g c clean = record {
+  is = c.in-Ok.ensures.archive clean;
+  same = λ has. (c.in-Ok.ensures.same clean has).0.now_is;
+  fit = c.in-Ok.ensures.taken;
+  made = λ none. c.in-Ok.ensures.made clean none;
+}

@@ -1,7 +1,8 @@
-use Rattle.std.proofs.Common.{◌≡◌, ◌⊎◌, ◌∙◌, subst, subst₂, sym, is_some, rules}
+use Rattle.std.proofs.Common.{◌≡◌, ◌⊎◌, ◌∙◌, inl, inr, subst, subst₂, sym, is_some, rules}
 use Rattle.std.specs.String.{string_bytes}
 use Rattle.sqlite.specs.Effect.{Database}
 use Rattle.sqlite.specs.Held.{state}
+use Rattle.bac_archive.specs.Schema.{HasArchive}
 use Rattle.bac_check.specs.Missing.{TellsMissing}
 use Rattle.bac_keeper.proofs.ArchiveLemmas.{still_committed, uncounted_so}
 use Rattle.bac_asked.specs.Faults.{of_error}
@@ -46,8 +47,9 @@ returns-in-Err-clause-refused g c =
     (sym c.uncounted_fault.ensures) (uncounted_so (IsHeld (state g.A.Store c.tell_missing.new.conn)) (state g.A.Store c.args.conn.now).now c.in-Err.why)
 
 pub returns-in-Err-clause-left : goal.returns-in-Err-clause-left
-returns-in-Err-clause-left g c held has =
+returns-in-Err-clause-left g c held some =
     let early = c.tell_missing.ensures.clean held.0 in
     let opened = c.in_ok-open_archive.ensures.archive early in
+    let has : HasArchive (state g.A.Store c.args.conn.now).now.schema = elim opened.fit [ inl has ↦ has | inr none ↦ absurd (some none) ] in
     let stays = c.in_ok-open_archive.ensures.stays early has in
     still_committed g.A.Store c.open_archive.new.conn c.tell_missing.new.conn (c.in-Err.ensures.left held.0 opened.is.schema) held.1 ∙ stays.0.committed_is

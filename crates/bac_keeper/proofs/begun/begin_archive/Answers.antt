@@ -1,4 +1,4 @@
-use Rattle.std.proofs.Common.{◌⊎◌, ◌≡◌, ◌∙◌, inl, inr, subst, ap, sym}
+use Rattle.std.proofs.Common.{◌⊎◌, ◌≡◌, ◌≢◌, ◌∙◌, inl, inr, IsSome, subst, ap, sym}
 use Rattle.bac_files.proofs.FileGhosts.{file_ghosts}
 use Rattle.sqlite_wal.specs.Files.{image_at}
 use Rattle.sqlite.specs.Effect.{Database}
@@ -29,8 +29,12 @@ returns-clause-begun g c clean =
     let found = (state g.A.Store c.args.conn.now).now in
     let mid = (state g.A.Store c.begin_part.new.conn).now in
     let archive = (state g.A.Store c.open_told.new.conn).now in
+    let either : (mid ≡ found) ⊎ IsSome c.args.place.now.before = elim c.begin_part.ensures.either [
+      | inl same ↦ inl (ap (λ (h : Held _). (state g.A.Store h).now) same)
+      | inr none ↦ inr none.1
+    ] in
     on_ok_then c.open_told.result _ _
-    (λ is. begins_opened disk (image_at g.G.Start) c.args.place.now.before c.begin_part.new.parts found mid archive is (c.in_ok-begin_part.ensures.begins (c.open_told.ensures.clean clean)))
+    (λ is. begins_opened disk (image_at g.G.Start) c.args.place.now.before c.begin_part.new.parts found mid archive either is (c.in_ok-begin_part.ensures.begins (c.open_told.ensures.clean clean)))
     (c.open_told.ensures.archive clean)
 
 pub returns-clause-same : goal.returns-clause-same
@@ -62,16 +66,16 @@ returns-in_err-begin_part-clause-refused g c =
     (fails_so _ _ c.in_err-begin_part.field-0.0 (λ why it. inr (λ held. inr it)) c.in_err-begin_part.ensures.barred)
 
 pub returns-clause-left : goal.returns-clause-left
-returns-clause-left g c held has =
+returns-clause-left g c held some =
     elim c.begin_part.ensures.either [
       | inl same ↦ on_err_so c.open_told.result _ _ (λ still. still ∙ ap (λ (h : Held _). (state g.A.Store h).committed) same)
-          (c.open_told.ensures.left held (subst (λ (h : Held _). HasArchive (state g.A.Store h).now.schema) (sym same) has))
-      | inr none ↦ absurd (not_both (state g.A.Store c.args.conn.now).now.schema none.0 has)
+          (c.open_told.ensures.left held (subst (λ (h : Held _). (state g.A.Store h).now.schema ≢ no_schema) (sym same) some))
+      | inr none ↦ absurd (some none.0)
     ]
 
 pub returns-in_err-begin_part-clause-left : goal.returns-in_err-begin_part-clause-left
-returns-in_err-begin_part-clause-left g c held has =
+returns-in_err-begin_part-clause-left g c held some =
     elim c.begin_part.ensures.either [
       | inl same ↦ on_err c.from_residual.result _ (ap (λ (h : Held _). (state g.A.Store h).committed) same)
-      | inr none ↦ absurd (not_both (state g.A.Store c.args.conn.now).now.schema none.0 has)
+      | inr none ↦ absurd (some none.0)
     ]

@@ -7,7 +7,7 @@ use Rattle.bac_fetch.specs.Ahead.{at_once}
 use Rattle.bac_ports.specs.Sockets.{socket_rules}
 use Rattle.bac_asked.specs.AsLog.{given_in}
 use Rattle.bac_fetch.specs.Faults.{EndsKeeping}
-use Rattle.bac_keeper.specs.Done.{EndsChosenKeep, EndsKeep, EndsOver, RefusesKeep, given_of}
+use Rattle.bac_keeper.specs.Done.{EndsChosenKeep, EndsKeep, EndsOver, IsQuiet, RefusesKeep, given_of}
 use Rattle.std.specs.String.{string_bytes}
 use Rattle.bac_keeper.specs.Begun.{BarsPart, BeginsOn}
 use Rattle.bac_keeper.specs.Ends.{IsNotOpened}
@@ -39,20 +39,21 @@ returns-clause-fault g c =
     let done = c.keep_in-done in
     let part = file_ghosts g.row.G g.G.Start g.G.Start-dict g.G.Destruct-dict in
     let bars = BarsPart part (image_at g.G.Start) c.args.place.now.before done.new.parts in
+    let quiet = IsQuiet c.args.sockets.now done.new.sockets (g.O.Write.contents c.args.output.now) (g.O.Write.contents done.new.output) in
     let may = are_any c.args.asked.now.groups || is_some c.args.place.now.before in
     let named = subst₂ (λ (p : List ℕ) (b : Bool). IsNamed p b c.close_file.new.files) c.as_str.ensures.value c.may_make.ensures
     (c.close_file.ensures.named c.as_str.result.now c.may_make.result c.in_ok-conn.ensures.named) in
     let given = given_in c.options_of-options.result in
     let by = given_of c.args.asked.now.options in
-    all_fail _ _ c.close_file.result (λ why it. (c.in_ok-chosen.chosen, c.in_ok-chosen.ensures.chosen, it))
+    all_fail _ _ c.close_file.result (λ why it. (c.in_ok-chosen.chosen, c.in_ok-chosen.ensures.chosen, inr it))
     (fails_file (image_at g.F.Start) c.in_ok-conn.conn done.new.conn c.close_file.new.files c.in_ok-conn.ensures.opened (string_bytes c.args.place.now.path) may named
-    (RefusesKeep over (at_once g.S.Recalls.holds g.C.Clock.reads c.args.clock c.args.asked.now.at_once) bars c.in_ok-chosen.chosen by c.args.sockets.now done.new.sockets) done.result c.close_file.result (fails_clean _ _ _ done.result done.ensures.clean
-    (refused_by over (at_once g.S.Recalls.holds g.C.Clock.reads c.args.clock c.args.asked.now.at_once) bars c.in_ok-chosen.chosen c.args.sockets.now done.new.sockets (file_state c.in_ok-conn.conn).now (file_state done.new.conn) given by done.result c.options_of-options.ensures done.ensures.fault)) c.close_file.ensures.fault c.close_file.ensures.shut)
+    (RefusesKeep over (at_once g.S.Recalls.holds g.C.Clock.reads c.args.clock c.args.asked.now.at_once) bars quiet c.in_ok-chosen.chosen by c.args.sockets.now done.new.sockets) done.result c.close_file.result (fails_clean _ _ _ done.result done.ensures.clean
+    (refused_by over (at_once g.S.Recalls.holds g.C.Clock.reads c.args.clock c.args.asked.now.at_once) bars quiet c.in_ok-chosen.chosen c.args.sockets.now done.new.sockets (file_state c.in_ok-conn.conn).now (file_state done.new.conn) given by done.result c.options_of-options.ensures done.ensures.fault)) c.close_file.ensures.fault c.close_file.ensures.shut)
 
 pub returns-in_err-conn-clause-fault : goal.returns-in_err-conn-clause-fault
 returns-in_err-conn-clause-fault g c =
     handed_on c.from_residual-in_err-conn.result c.in_err-conn.field-0.0 _ c.from_residual-in_err-conn.ensures.1
-    (fails_so _ _ c.in_err-conn.field-0.0 (λ why it. (c.in_ok-chosen.chosen, c.in_ok-chosen.ensures.chosen, inl (subst₂ (λ (p : List ℕ) (b : Bool). IsNotOpened p b c.open_file.new.files why) c.as_str.ensures.value c.may_make.ensures it))) c.in_err-conn.ensures.fault)
+    (fails_so _ _ c.in_err-conn.field-0.0 (λ why it. (c.in_ok-chosen.chosen, c.in_ok-chosen.ensures.chosen, inl ((refl, refl), subst₂ (λ (p : List ℕ) (b : Bool). IsNotOpened p b c.open_file.new.files why) c.as_str.ensures.value c.may_make.ensures it))) c.in_err-conn.ensures.fault)
 
 pub returns-clause-stays : goal.returns-clause-stays
 returns-clause-stays g c unused =

@@ -1,16 +1,17 @@
-use Rattle.std.proofs.Common.{inl, inr, ◌≡◌, ◌∙◌, ℕ, subst, sym}
+use Rattle.std.proofs.Common.{inl, inr, ◌≡◌, ◌≢◌, ◌∙◌, ℕ, refl, subst, sym}
 use Rattle.std.proofs.lemmas.Result.{IfOk-weaker}
 use Rattle.sqlite.specs.Effect.{Database}
 use Rattle.sqlite.specs.Held.{state}
 use Rattle.sqlite.specs.State.{HasCleanDisk}
 use Rattle.bac_fetch.specs.Chosen.{AreChosen}
 use Rattle.bac_fetch.specs.Keeps.{KeepsLogs}
-use Rattle.bac_keeper.proofs.ArchiveLemmas.{loses_nothing, tells_weaker}
+use Rattle.bac_keeper.proofs.ArchiveLemmas.{loses_nothing, taken_fits, tells_weaker}
+use Rattle.bac_keeper.proofs.BegunLemmas.{not_both}
 use Rattle.bac_fetch.specs.Faults.{EndsKeeping, HasNone, LacksAddress}
 use Rattle.bac_keeper.specs.Archives.{IsHeld, KeepsArchive}
-use Rattle.bac_archive.specs.Schema.{OverArchive, HasArchive}
+use Rattle.bac_archive.specs.Schema.{OverArchive, HasArchive, no_schema}
 use Rattle.bac_keeper.proofs.EndLemmas.{handed_on}
-use Rattle.bac_keeper.specs.Done.{EndsOver, TellsThese}
+use Rattle.bac_keeper.specs.Done.{EndsOver, IsQuiet, TellsThese}
 use Rattle.bac_fetch.specs.Ahead.{at_once}
 use Rattle.bac_ports.specs.Sockets.{socket_rules}
 use Rattle.bac_asked.specs.AsLog.{given_in}
@@ -56,35 +57,37 @@ returns-clause-told g c =
     c.settled.ensures.settled
 
 pub returns-clause-stays : goal.returns-clause-stays
-returns-clause-stays g c held was has =
+returns-clause-stays g c held was =
     let found = state g.A.Store c.args.conn.now in
     let archive = state g.A.Store c.begin_archive.new.conn in
     let last = state g.A.Store c.keep_chosen.new.conn in
     let early : HasCleanDisk archive = c.keep_chosen.ensures.clean held.0 in
-    let opened = c.in_ok-begin_archive.ensures.archive early in
-    let same = opened.same has in
-    loses_nothing found archive last was (c.in_ok-begin_archive.ensures.committed early) same
-    (λ db may. g.met.A.Store.settled c.begin_archive.new.conn.store db (c.in_ok-begin_archive.ensures.same early has) may)
-    (g.met.A.Store.stays c.keep_chosen.new.conn.store held.1) held.0
-    (c.keep_chosen.ensures.stays held.0 (subst (λ (d : Database). HasArchive d.schema) (sym same) has))
+    let opened = c.in_ok-begin_archive.ensures.archive early in (
+      λ has. loses_nothing found archive last was (c.in_ok-begin_archive.ensures.committed early) (opened.same has)
+          (λ db may. g.met.A.Store.settled c.begin_archive.new.conn.store db (c.in_ok-begin_archive.ensures.same early has) may)
+          (g.met.A.Store.stays c.keep_chosen.new.conn.store held.1) held.0
+          (c.keep_chosen.ensures.stays held.0 (subst (λ (d : Database). HasArchive d.schema) (sym (opened.same has)) has)),
+      taken_fits found.now last.committed opened.fit,
+    )
 
 pub returns-in_err-status-clause-stays : goal.returns-in_err-status-clause-stays
-returns-in_err-status-clause-stays g c held was has =
+returns-in_err-status-clause-stays g c held was =
     let found = state g.A.Store c.args.conn.now in
     let archive = state g.A.Store c.begin_archive.new.conn in
     let last = state g.A.Store c.keep_chosen.new.conn in
     let early : HasCleanDisk archive = c.keep_chosen.ensures.clean held.0 in
-    let opened = c.in_ok-begin_archive.ensures.archive early in
-    let same = opened.same has in
-    loses_nothing found archive last was (c.in_ok-begin_archive.ensures.committed early) same
-    (λ db may. g.met.A.Store.settled c.begin_archive.new.conn.store db (c.in_ok-begin_archive.ensures.same early has) may)
-    (g.met.A.Store.stays c.keep_chosen.new.conn.store held.1) held.0
-    (c.keep_chosen.ensures.stays held.0 (subst (λ (d : Database). HasArchive d.schema) (sym same) has))
+    let opened = c.in_ok-begin_archive.ensures.archive early in (
+      λ has. loses_nothing found archive last was (c.in_ok-begin_archive.ensures.committed early) (opened.same has)
+          (λ db may. g.met.A.Store.settled c.begin_archive.new.conn.store db (c.in_ok-begin_archive.ensures.same early has) may)
+          (g.met.A.Store.stays c.keep_chosen.new.conn.store held.1) held.0
+          (c.keep_chosen.ensures.stays held.0 (subst (λ (d : Database). HasArchive d.schema) (sym (opened.same has)) has)),
+      taken_fits found.now last.committed opened.fit,
+    )
 
 pub returns-in_err-begin_archive-clause-fault : goal.returns-in_err-begin_archive-clause-fault
 returns-in_err-begin_archive-clause-fault g c =
     handed_on c.from_residual.result c.in_err-begin_archive.field-0.0 _ c.from_residual.ensures.1
-    (fails_so _ _ c.in_err-begin_archive.field-0.0 (λ why it. elim it [ inl answered ↦ inl answered | inr refused ↦ inr (λ held. inl (refused held)) ]) c.in_err-begin_archive.ensures.refused)
+    (fails_so _ _ c.in_err-begin_archive.field-0.0 (λ why it. elim it [ inl answered ↦ inl answered | inr refused ↦ inr (λ held. inl ((refl, refl), refused held)) ]) c.in_err-begin_archive.ensures.refused)
 
 pub returns-in_err-begin_archive-clause-ends : goal.returns-in_err-begin_archive-clause-ends
 returns-in_err-begin_archive-clause-ends g c =
@@ -100,8 +103,9 @@ returns-in_err-status-clause-fault g c =
     let archive = state g.A.Store c.begin_archive.new.conn in
     let part = file_ghosts g.row.G g.G.Start g.G.Start-dict g.G.Destruct-dict in
     let bars = BarsPart part (image_at g.G.Start) c.args.place.now.before c.begin_archive.new.parts in
+    let quiet = IsQuiet c.args.sockets.now c.keep_chosen.new.sockets (g.O.Write.contents c.args.output.now) (g.O.Write.contents c.keep_chosen.new.output) in
     handed_on c.from_residual-in_err-status.result c.in_err-status.field-0.0 _ c.from_residual-in_err-status.ensures.1
-    (refused_so over (at_once g.S.Recalls.holds g.C.Clock.reads c.args.clock c.args.window) bars c.args.chosen (given_in c.args.options.now) (state g.A.Store c.args.conn.now).now archive (state g.A.Store c.keep_chosen.new.conn) c.args.sockets.now c.keep_chosen.new.sockets c.in_err-status.field-0.0
+    (refused_so over (at_once g.S.Recalls.holds g.C.Clock.reads c.args.clock c.args.window) bars quiet c.args.chosen (given_in c.args.options.now) (state g.A.Store c.args.conn.now).now archive (state g.A.Store c.keep_chosen.new.conn) c.args.sockets.now c.keep_chosen.new.sockets c.in_err-status.field-0.0
     (λ held. let opened = c.in_ok-begin_archive.ensures.archive (c.keep_chosen.ensures.clean held.0) in (opened, opened.is.schema)) c.in_err-status.ensures.caused)
 
 pub returns-in_err-status-clause-ends : goal.returns-in_err-status-clause-ends
@@ -128,8 +132,10 @@ returns-clause-ends g c =
     c.settled.result c.settled.ensures.fault
 
 pub returns-in_err-begin_archive-clause-stays : goal.returns-in_err-begin_archive-clause-stays
-returns-in_err-begin_archive-clause-stays g c held was has =
+returns-in_err-begin_archive-clause-stays g c held was =
     let found = state g.A.Store c.args.conn.now in
     let last = state g.A.Store c.begin_archive.new.conn in
-    let still : last.committed ≡ found.committed = c.in_err-begin_archive.ensures.left held has in
-    subst (λ (d : Database). HasAllOf found.now.trees d.trees) (sym (still ∙ was)) (all_itself found.now.trees)
+    let still : found.now.schema ≢ no_schema → last.committed ≡ found.now = λ some. c.in_err-begin_archive.ensures.left held some ∙ was in (
+      λ has. subst (λ (d : Database). HasAllOf found.now.trees d.trees) (sym (still (λ none. not_both found.now.schema none has))) (all_itself found.now.trees),
+      λ other some. still some,
+    )

@@ -46,7 +46,7 @@ returns-in-Ok-clause-fault g c =
     IfErr-weaker c.ended.result _ _
     (λ why it. elim it [
       | inl asking ↦ never_fails fails why (_, asking)
-      | inr (is, zero, none, some) ↦ subst (MayFail fails) (sym is) (inr (
+      | inr (is, zero, none, some) ↦ subst (MayFail fails) (sym is) (
         refl,
         c.print_all.new.printer,
         (
@@ -64,6 +64,6 @@ returns-in-Ok-clause-fault g c =
         ),
         none,
         some,
-      ))
+      )
     ])
     c.ended.ensures.fault

@@ -4,9 +4,9 @@ use Rattle.bac_asked.specs.Faults.{RefusesLine, WantsMemory}
 use Rattle.bac_asked.specs.declared.end.NotDone.{NotDone}
 use Rattle.bac_keeper.specs.Shown.{EndsPrint, RefusesPrint}
 use Rattle.bac_keeper.specs.Works.{PrintsOver}
-use Rattle.bac_keeper.proofs.FileLemmas.{all_ask_so, all_fail}
+use Rattle.bac_keeper.proofs.FileLemmas.{all_ask_so, all_fail, fails_clean}
 use Rattle.bac_keeper.proofs.NamesLemmas.{asks_unshown, may_ask, never_fails}
-use Rattle.bac_keeper.proofs.WorkLemmas.{work_asks, work_fails, work_named, work_prints}
+use Rattle.bac_keeper.proofs.WorkLemmas.{work_asks, work_fails, work_named, work_prints, work_rows}
 use Rattle.bac_keeper.proofs.printing.kept.Goals as goal
 use Rattle.bac_keeper.proofs.EndLemmas.{handed_on}
 
@@ -20,7 +20,7 @@ returns-clause-fault g c =
     all_fail _ _ c.work_in.result (λ why it. (c.in_ok-shown.shown, c.in_ok-shown.ensures.shows, it))
     (work_fails (image_at g.F.Start) c.as_str.result.now c.args.files.now c.work_in.new.files
     c.args.output.now c.work_in.new.with c.work_in.result (λ old new before after. PrintsOver c.in_ok-shown.shown c.args.asked.now.csv old new (g.O.Write.contents before) (g.O.Write.contents after)) c.args.asked.now.file (search rules)
-    (RefusesPrint c.in_ok-shown.shown) (λ found last done did. did.fault) c.work_in.ensures)
+    (RefusesPrint c.in_ok-shown.shown) (λ found last done did. fails_clean _ _ _ done did.clean did.fault) c.work_in.ensures)
 
 pub returns-clause-printed : goal.returns-clause-printed
 returns-clause-printed g c =
@@ -44,3 +44,9 @@ returns-clause-ends g c =
     c.args.output.now c.work_in.new.with c.work_in.result (λ old new before after. PrintsOver c.in_ok-shown.shown c.args.asked.now.csv old new (g.O.Write.contents before) (g.O.Write.contents after)) (EndsPrint c.args.asked.now)
     (λ found last done did. all_ask_so (λ (f : NotDone). WantsMemory f ⊎ RefusesLine f) (EndsPrint c.args.asked.now) done (λ fault it. inr it) did.ends)
     c.work_in.ensures
+
+pub returns-clause-stays : goal.returns-clause-stays
+returns-clause-stays g c =
+    work_rows (image_at g.F.Start) c.as_str.result.now c.args.files.now c.work_in.new.files
+    c.args.output.now c.work_in.new.with c.work_in.result
+    g.O.Write.contents c.args.asked.now.csv c.in_ok-shown.shown c.work_in.ensures

@@ -25,7 +25,7 @@ returns-clause-stays g c unused = c.keep_at.ensures.stays (c.place_of.ensures.ke
 pub returns-in-Err-clause-kept : goal.returns-in-Err-clause-kept
 returns-in-Err-clause-kept g c keeps =
     let many : c.are_any.result ≡ are_any c.args.asked.now.groups = c.are_any.ensures in
-    ended_early _ _ c.in-Err.fault c.tell_done.result (fails_so _ _ c.in-Err.fault (λ why it. inr (subst (λ may. IsNotOpened c.args.asked.now.file may c.place_of.new.files why) many it)) c.in-Err.ensures.fault)
+    ended_early _ _ c.in-Err.fault c.tell_done.result (fails_so _ _ c.in-Err.fault (λ why it. inr ((refl, refl), subst (λ may. IsNotOpened c.args.asked.now.file may c.place_of.new.files why) many it)) c.in-Err.ensures.fault)
     c.tell_done.ensures.ends
 
 pub returns-in-Err-clause-stays : goal.returns-in-Err-clause-stays
