@@ -77,7 +77,7 @@ told_alone Done fails ends passed before said errors (Err why) status ok quiet s
 pub keep_ran : {S P F G T : Type 0} {s : start.Ghosts F} {t : start.Ghosts G} (g : disk.Ghosts (FileOf s)) (h : disk.Ghosts (FileOf t)) (parts : DiskFiles G t) (waits : ℕ → AtOnce S T) (rules : SocketRules S P) (passes : S → Passed) (asked : KeepWords) (sockets sockets' : S)
     (out out' before said errors : Held) (left : DiskFiles F s) (done : Result ℕ KeepFault) (status : ℕ) (stops : Bool)
     → (stops ≡ false → IfOk done (λ n. KeepsAt rules waits g h (image_at s) (image_at t) asked sockets sockets' out out' left parts n
-    ⊎ IsOfFile (FailsAt rules waits g h (image_at s) (image_at t) asked sockets sockets' left parts) n))
+    ⊎ IsOfFile (FailsAt rules waits g h (image_at s) (image_at t) asked sockets sockets' out out' left parts) n))
     → (stops ≡ true → IfOk done (λ n. (StopsAt g (image_at s) asked out out' left n × (said ≡ before))
     ⊎ IsOfFile (FailsToStopAt g (image_at s) asked left) n))
     → (stops ≡ true → OnErr done (said ≡ before))
@@ -88,7 +88,7 @@ pub keep_ran : {S P F G T : Type 0} {s : start.Ghosts F} {t : start.Ghosts G} (g
     → RunsKeepBy g h parts waits rules passes stops asked (streams None out before sockets (tt {0})) status (streams None out' errors sockets' (tt {0})) left
 keep_ran {s = s} {t = t} g h parts waits rules passes asked sockets sockets' out out' before said errors left done status false kept stopped untold silent so still told =
     told_so (λ n. KeepsAt rules waits g h (image_at s) (image_at t) asked sockets sockets' out out' left parts n)
-    (FailsAt rules waits g h (image_at s) (image_at t) asked sockets sockets' left parts) (EndsKeep rules waits g (image_at s) asked sockets sockets' left) (passes sockets') said errors done status (kept refl) (so refl) told
+    (FailsAt rules waits g h (image_at s) (image_at t) asked sockets sockets' out out' left parts) (EndsKeep rules waits g (image_at s) asked sockets sockets' left) (passes sockets') said errors done status (kept refl) (so refl) told
 keep_ran {s = s} {t = t} g h parts waits rules passes asked sockets sockets' out out' before said errors left done status true kept stopped untold silent so still told = (
   told_alone (λ n. StopsAt g (image_at s) asked out out' left n)
       (FailsToStopAt g (image_at s) asked left) (EndsStop asked) (passes sockets') before said errors done status (stopped refl) (untold refl) (still refl) told,

@@ -1,7 +1,6 @@
 -- What the program does with its words: its streams, its sockets and its clock, and the files, before and now. Read
 -- from the end.
 use Rattle.std.specs.Prelude.{◌≡◌, ◌⊎◌, ℕ, Bool, true, false, List, Option, Result, Ok, Err}
-use Rattle.clap.specs.Words.{Text}
 use Rattle.sqlite_disk.specs.declared.Disk as disk
 use Rattle.sqlite_disk.specs.declared.start.Start as start
 use Rattle.sqlite_wal.specs.Files.{image_at}
@@ -27,7 +26,7 @@ use Rattle.std.specs.Io.KnownBytes.{Keeps}
 use Rattle.bac_print.specs.Output.{Held}
 use Rattle.bac_run.specs.Faults.{fault_of}
 use Rattle.bac_tools.specs.Finding.{IsListWithin}
-use Rattle.bac_tools.specs.Run.{AskFor, IsToldAfter, OnlyTells, Runs}
+use Rattle.bac_tools.specs.Run.{IsToldAfter, OnlyTells, Runs}
 use Rattle.bac_tools.specs.Status.{exit_status}
 use Rattle.bac_tools.specs.Streams.{Streams, streams}
 use Rattle.bac_tools.specs.declared.fault.Fault.TheVariants.{Memory}
@@ -42,14 +41,6 @@ use Rattle.bac_words.specs.declared.job.Keep.{Keep}
 use Rattle.bac_words.specs.declared.job.Check.{Check}
 use Rattle.bac_words.specs.declared.job.Kept.{Kept}
 use Rattle.bac_words.specs.declared.listing.ListFault.{ListFault}
-
--- a job of `kept`
-abbrev pub IsOfKept : Job → Type 0
-IsOfKept asked = (kept : Kept) × (asked ≡ job.Kept kept)
-
--- words that ask for one
-abbrev pub AskForKept : List Text → Type 0
-AskForKept words = (kept : Kept) × AskFor words (job.Kept kept)
 
 -- the input isn't read
 abbrev pub IsUnread : {S C : Type 0} → Streams S C → Streams S C → Type 0
@@ -113,7 +104,8 @@ module _ {S C F G T : Type 0} {s : start.Ghosts F} {t : start.Ghosts G} (g : dis
   RunsKeepBy rules passes false asked old status new left =
       KeepsAt rules waits g h (image_at s) (image_at t) asked old.sockets new.sockets old.output new.output left parts
       status
-      ⊎ (IsOfFile (FailsAt rules waits g h (image_at s) (image_at t) asked old.sockets new.sockets left parts) status
+      ⊎ (IsOfFile (FailsAt rules waits g h (image_at s) (image_at t) asked old.sockets new.sockets old.output
+      new.output left parts) status
       ⊎ HasFaultStatus (EndsKeep rules waits g (image_at s) asked old.sockets new.sockets left) status)
   RunsKeepBy rules passes true asked old status new left =
       ((StopsAt g (image_at s) asked old.output new.output left status × Keeps old.errors new.errors)

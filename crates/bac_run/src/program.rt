@@ -15,7 +15,7 @@ ghost use Rattle.bac_words.specs.Outcome.{mistakes_of};
 ghost use Rattle.bac_words.specs.declared.job.Job.{Job as AnyJob};
 ghost use Rattle.bac_words.specs.declared.word.Word.{Word as AnyWord};
 ghost use Rattle.bac_run.specs.Faults.{ending_of, fault_of};
-ghost use Rattle.bac_run.specs.Run.{AskForKept, DoesAll, DoesTold, IsOfKept, RunsAll, RunsGroups};
+ghost use Rattle.bac_run.specs.Run.{DoesAll, DoesTold, RunsAll, RunsGroups};
 ghost use Rattle.bac_run.specs.Run.{RunsCheck, RunsKeep, RunsKept, RunsListed};
 
 use bac_check::run_check;
@@ -192,11 +192,13 @@ fn print_and_tell<F: Start, Q: Parts, O: Write, E: Write>(
     output: &mut O,
     errors: &mut E,
 ) -> u8
-    ensures { RunsKept ⟦<FileOf<F> as Disk>⟧ (part_rules Q.lists Q.holds Q.bars) folders.old
+    ensures ran { RunsKept ⟦<FileOf<F> as Disk>⟧ (part_rules Q.lists Q.holds Q.bars) folders.old
         folders.new asked.now
         (streams None (O.contents output.old) (E.contents errors.old) (tt {0}) (tt {0})) files.old
         result
         (streams None (O.contents output.new) (E.contents errors.new) (tt {0}) (tt {0})) files.new }
+    ensures stays { IsUnused files.old → IfSome files.new.closed
+        (IsDoneTo ⟦<FileOf<F> as Disk>⟧ (image_at F.Start) LosesNothing) }
 {
     let done = run_kept(files, folders, alloc, asked, output, errors);
     ended(alloc, Passed::nothing(), done, errors)
@@ -252,8 +254,7 @@ where
         (E.contents errors.old) sockets.old clock.old) files.old result
         (streams (I.remaining input.new) (O.contents output.new) (E.contents errors.new) sockets.new
         clock.new) files.new }
-    ensures stays { IsUnused files.old → (IsOfKept job → ⊥)
-        → IfSome files.new.closed
+    ensures stays { IsUnused files.old → IfSome files.new.closed
         (IsDoneTo ⟦<FileOf<F> as Disk>⟧ (image_at F.Start) LosesNothing) }
 {
     match job {
@@ -301,8 +302,7 @@ where
         (E.contents errors.old) sockets.old clock.old) files.old result
         (streams (I.remaining input.new) (O.contents output.new) (E.contents errors.new) sockets.new
         clock.new) files.new }
-    ensures stays { IsUnused files.old → (IsOfKept job → ⊥)
-        → IfSome files.new.closed
+    ensures stays { IsUnused files.old → IfSome files.new.closed
         (IsDoneTo ⟦<FileOf<F> as Disk>⟧ (image_at F.Start) LosesNothing) }
 {
     sockets.trace(job.is_traced());
@@ -354,9 +354,9 @@ where
         sockets.old clock.old) files.old result
         (streams (I.remaining input.new) (O.contents output.new) (E.contents errors.new)
         sockets.new clock.new) files.new }
-    // Whatever comes of it, of an archive that the files held no item and no log is lost.
-    ensures stays { IsUnused files.old → (AskForKept (map string_bytes words.now) → ⊥)
-        → IfSome files.new.closed
+    // Whatever comes of it, of an archive that the files held no item and no log is lost, and a
+    // database that is none is left as it was.
+    ensures stays { IsUnused files.old → IfSome files.new.closed
         (IsDoneTo ⟦<FileOf<F> as Disk>⟧ (image_at F.Start) LosesNothing) }
     // Of words with a wrong value this is told, and nothing else is done.
     ensures bad_value { (word : AnyWord) → AreWrong (map string_bytes words.now) word

@@ -1,4 +1,4 @@
-use Rattle.std.proofs.Common.{◌∙◌, Err, Ok, ap, map, refl}
+use Rattle.std.proofs.Common.{Err, map, refl}
 use Rattle.std.specs.String.{string_bytes}
 use Rattle.bac_files.proofs.FileGhosts.{file_ghosts}
 use Rattle.bac_keeper.proofs.FileLemmas.{none_closed}
@@ -32,11 +32,10 @@ returns-in-Err-clause-done g c asked ask =
     unread g.S.Tracing.traces rules g.S.Heeds.passes g.C.Clock.tells disk part c.args.parts.now (at_once g.S.Recalls.holds g.W.Clock.reads c.args.waits) (part_rules g.Q.Parts.lists g.Q.Parts.holds g.Q.Parts.bars) c.args.folders.now c.args.folders.now old new c.args.files.now c.args.files.now c.run_read.result words c.in-Err.fault c.in-Err.ensures.err c.run_read.ensures (refl, refl) asked ask
 
 pub returns-in-Ok-clause-stays : goal.returns-in-Ok-clause-stays
-returns-in-Ok-clause-stays g c unused not =
-    c.run_told.ensures.stays unused (λ it. not (it.0, (c.in-Ok.ensures.ok.0, c.in-Ok.ensures.ok.1 ∙ ap Ok it.1)))
+returns-in-Ok-clause-stays g c unused = c.run_told.ensures.stays unused
 
 pub returns-in-Err-clause-stays : goal.returns-in-Err-clause-stays
-returns-in-Err-clause-stays g c unused not = none_closed c.args.files.now.closed _ unused
+returns-in-Err-clause-stays g c unused = none_closed c.args.files.now.closed _ unused
 
 pub returns-in-Ok-clause-bad_value : goal.returns-in-Ok-clause-bad_value
 returns-in-Ok-clause-bad_value g c word wrong =

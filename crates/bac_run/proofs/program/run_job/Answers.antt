@@ -30,7 +30,7 @@ returns-in_default-clause-ran g c =
     other_done rules g.S.Heeds.passes g.C.Clock.tells disk part c.args.parts.now (at_once g.S.Recalls.holds g.W.Clock.reads c.args.waits) (part_rules g.Q.Parts.lists g.Q.Parts.holds g.Q.Parts.bars) c.args.folders.now c.args.folders.now old new c.args.files.now c.args.files.now done.result c.args.job c.in_default.not-Keep c.in_default.not-Kept c.in_default.not-Check done.ensures (refl, refl)
 
 pub returns-in_default-clause-stays : goal.returns-in_default-clause-stays
-returns-in_default-clause-stays g c unused not = none_closed c.args.files.now.closed _ unused
+returns-in_default-clause-stays g c unused = none_closed c.args.files.now.closed _ unused
 
 pub returns-in-Check-clause-stays : goal.returns-in-Check-clause-stays
-returns-in-Check-clause-stays g c unused not = none_closed c.args.files.now.closed _ unused
+returns-in-Check-clause-stays g c unused = none_closed c.args.files.now.closed _ unused
