@@ -1,6 +1,7 @@
 //! What a device is asked about itself, over a record of what came to that.
 
 ghost use Rattle.std.specs.Prelude.{◌≡◌, IfOk};
+ghost use Rattle.bac_questions.specs.Connecting.{transactions_with};
 ghost use Rattle.bac_absent.specs.Identifying.{IsPlayed, identifying_of};
 
 use bac_apdu::Route;
@@ -31,8 +32,7 @@ impl Identifying {
 
     /// Transactions with the device, of which none is repeated.
     fn transactions(&self) -> Result<Transactions, AllocError>
-        ensures retries { IfOk result (λ made. made.retries ≡ 0) }
-        ensures route { IfOk result (λ made. made.route ≡ self.now.route) }
+        ensures { IfOk result (λ made. made ≡ transactions_with 0 self.now.route) }
     {
         Ok(transactions_by(0, self.route.clone()?))
     }

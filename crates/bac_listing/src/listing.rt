@@ -1,8 +1,9 @@
 //! What a device is asked for its trend logs, played over a record.
 
 ghost use Rattle.std.specs.Prelude.{◌≡◌, ◌&&◌, IfOk, not};
-ghost use Rattle.bac_link.specs.Path.{towards};
 ghost use Rattle.bac_jobs.specs.Records.{ComesTo};
+ghost use Rattle.bac_query.specs.Tables.{client};
+ghost use Rattle.bac_questions.specs.Connecting.{transactions_with};
 ghost use Rattle.bac_listing.specs.Listing.{Asks, IsCame, Plays, asks_more, is_lost, listing_of};
 
 use bac_asked::{Asking, Fault, NotDone, Wanted};
@@ -49,8 +50,7 @@ fn ask<L: LogLink>(
 ) -> Result<(bool, L), AllocError>
 where
     L: Drop,
-    ensures { IfOk result (λ asked. Asks L.asks (towards transactions.route) transactions.retries
-        link asked.0 asked.1) }
+    ensures { IfOk result (λ asked. Asks L.asks (client link transactions) asked.0 asked.1) }
 {
     let (found, left) = find_logs(alloc, link, transactions, like);
     match found {
@@ -73,8 +73,7 @@ impl Listing {
 
     /// Transactions with the device, of which none is repeated.
     fn transactions(&self) -> Result<Transactions, AllocError>
-        ensures retries { IfOk result (λ made. made.retries ≡ 0) }
-        ensures route { IfOk result (λ made. made.route ≡ self.now.like.asked.route) }
+        ensures { IfOk result (λ made. made ≡ transactions_with 0 self.now.like.asked.route) }
     {
         Ok(transactions_by(0, self.like.asked.route.clone()?))
     }

@@ -5,3 +5,4 @@ pub mod DiscoveredLemmas
 pub mod WhoseLemmas
 pub mod UnfoundLemmas
 pub mod PlaceLemmas
+pub mod SaidLemmas

@@ -7,35 +7,31 @@ use Rattle.std.proofs.lemmas.List.Folds.{drop_split}
 use Rattle.bac_archive.specs.declared.trend_logs.Log.{Log}
 use Rattle.bac_archive.specs.declared.trend_logs.Source.{Source}
 use Rattle.bac_questions.specs.Silent.{is_same_device}
-use Rattle.bac_apdu.specs.Npdu.{Place}
-use Rattle.bac_link.specs.Path.{towards}
+use Rattle.bac_link.specs.declared.transactions.Transactions.{Transactions}
+use Rattle.bac_query.specs.Tables.{Client, Questions, client}
+use Rattle.bac_questions.specs.Connecting.{transactions_with}
+use Rattle.bac_questions.proofs.DiscoveredLemmas.{is_client}
 use Rattle.bac_ports.specs.declared.udp_link.UdpLink.{UdpLink}
 use Rattle.bac_words.specs.declared.job.Asked.{Asked}
 use Rattle.bac_asked.specs.declared.end.NotDone.{NotDone}
 use Rattle.bac_asked.specs.declared.log_words.Asking.{Asking}
 use Rattle.bac_ports.specs.Sockets.{SocketRules, link_over, own_address, socket_asks}
-use Rattle.bac_questions.specs.Said.{Identifies, Says}
+use Rattle.bac_questions.specs.Said.{Identifies, Says, SaysBy}
 use Rattle.bac_questions.specs.Whose.{IsOnRecord}
 use Rattle.bac_questions.specs.declared.said.Said.{Said}
 
 -- what a device says over a socket that was opened as words ask that ask so, and closed behind it
 pub identifies_over : {S P : Type 0} (rules : SocketRules S P) (asking : Asking) (asked : Asked) (before middle after : S) (port last : P)
-    (link left : UdpLink P) (route : Option Place) (retries : ℕ) (result : Result Said NotDone)
+    (link left : UdpLink P) (t then : Transactions) (result : Result Said NotDone)
     → asked ≡ asking.asked → rules.opens before (own_address asked.local) asked.timeout (Ok port) middle
-    → link ≡ link_over asked.address port → route ≡ asked.route → retries ≡ asked.retries → last ≡ left.port → rules.closes middle last after
-    → IfOk result (λ said. Says (socket_asks rules) (towards route) retries link said left)
+    → link ≡ link_over asked.address port → t ≡ transactions_with asked.retries asked.route → last ≡ left.port → rules.closes middle last after
+    → IfOk result (λ said. Says (Questions (socket_asks rules)) (client link t) said (client left then))
     → IfOk result (λ said. Identifies rules asking before said after)
-identifies_over rules asking asked before middle after port last link left route retries (Err fault) same opened is_link way tries is_last closes it = tt
-identifies_over rules asking asked before middle after port last link left route retries (Ok said) same opened is_link way tries is_last closes it =
-    let asks = socket_asks rules in
+identifies_over rules asking asked before middle after port last link left t then (Err fault) same opened is made is_last closes it = tt
+identifies_over {P = P} rules asking asked before middle after port last link left t then (Ok said) same opened is made is_last closes it =
     let opened₁ = subst (λ (a : Asked). rules.opens before (own_address a.local) a.timeout (Ok port) middle) same opened in
-    let link₁ = subst (λ (a : Asked). link ≡ link_over a.address port) same is_link in
-    let route₁ = subst (λ (a : Asked). route ≡ a.route) same way in
-    let retries₁ = subst (λ (a : Asked). retries ≡ a.retries) same tries in
-    let says₁ = subst (λ (x : Option Place). Says asks (towards x) retries link said left) route₁ it in
-    let says₂ = subst (λ x. Says asks (towards asking.asked.route) x link said left) retries₁ says₁ in
-    let says₃ = subst (λ x. Says asks (towards asking.asked.route) asking.asked.retries x said left) link₁ says₂ in
-    (port, middle, last, opened₁, (left, says₃, is_last), closes)
+    let says₁ = subst (λ (c : Client (UdpLink P)). SaysBy (socket_asks rules) c said left) (is_client asking asked port link t same is made) (then, it) in
+    (port, middle, last, opened₁, (left, says₁, is_last), closes)
 
 only_one : {X : Type 0} (x y : X) → Contains (x ∷ []) y → x ≡ y
 only_one x y (zero, lt, is) = is

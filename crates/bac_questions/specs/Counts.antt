@@ -2,12 +2,15 @@
 use Rattle.std.specs.Prelude.{◌≡◌, ◌<◌, ◌^◌, ℕ, List, None, Result, Ok, Err}
 use Rattle.bac_wire.specs.Primitive.{Id}
 use Rattle.bac_wire.specs.Primitive as primitive
+use Rattle.bac_apdu.specs.declared.service.read_property.ReadProperty.{ReadProperty}
+use Rattle.bac_link.specs.Exchanges.{Exchanges}
 use Rattle.bac_link.specs.Path.{Path}
 use Rattle.bac_link.specs.declared.exchanges.ExchangeFault.{ExchangeFault}
 use Rattle.bac_link.specs.declared.exchanges.ExchangeFault.TheVariants as fault
 use Rattle.bac_link.specs.declared.link.Lost.{Lost as Loss}
-use Rattle.bac_questions.specs.Discovered.{Reads}
+use Rattle.bac_link.specs.declared.request.Request.TheVariants as request
 use Rattle.bac_query.specs.Answers.{Tells}
+use Rattle.bac_query.specs.Tables.{Ask, Client, Questions}
 use Rattle.bac_questions.specs.declared.questions.Count.{Count}
 use Rattle.bac_questions.specs.declared.questions.Count.TheVariants.{Told, Untold, Lost}
 
@@ -22,14 +25,24 @@ IsCount (Err (fault.Refused refusal)) count = count ≡ Untold
 IsCount (Err fault.BadReply) count = count ≡ Untold
 IsCount (Err fault.TooLong) count = ⊥
 
--- a property of an object was asked for over a link, and so its count was told, whoever answered
-abbrev pub AsksFor : {S : Type 0} → (S → List ℕ → Result (List ℕ) Loss → S → Type 0) → Path → ℕ → S → Id → ℕ → Count → S
-    → Type 0
-AsksFor asks path retries old object property count new =
+-- a property of an object was read, and so its count was told, whoever answered
+abbrev pub AsksFor : {S : Type 0} → (ReadProperty → S → Result (List ℕ) ExchangeFault → S → Type 0) → S → Id → ℕ → Count
+    → S → Type 0
+AsksFor reads old object property count new =
     (answer : Result (List ℕ) ExchangeFault) × IsCount answer count
-    × Reads asks path retries (record { object = object; property = property; index = None }) old answer new
+    × reads (record { object = object; property = property; index = None }) old answer new
 
--- so was the Total_Record_Count of a log (145, clause 12.25)
+-- so was the Total_Record_Count of a log (145, clause 12.25), which the next transaction asked for
+abbrev pub CountsBy : {S : Type 0} → Ask S → Client S → Id → Count → Client S → Type 0
+CountsBy asks old log count new = AsksFor (Questions asks) old log 145 count new
+
+-- a ReadProperty was exchanged over a link, under some invoke ID: a datagram with its ACK came, or why none did
+abbrev pub Reads : {S : Type 0} → (S → List ℕ → Result (List ℕ) Loss → S → Type 0) → Path → ℕ →
+    ReadProperty → S → Result (List ℕ) ExchangeFault → S → Type 0
+Reads asks path retries asked old answer new =
+    (invoke : ℕ) × Exchanges asks path invoke (request.ReadProperty asked) retries old answer new
+
+-- the same count, of the link alone
 abbrev pub Counts : {S : Type 0} → (S → List ℕ → Result (List ℕ) Loss → S → Type 0) → Path → ℕ → S → Id → Count → S
     → Type 0
-Counts asks path retries old log count new = AsksFor asks path retries old log 145 count new
+Counts asks path retries old log count new = AsksFor (Reads asks path retries) old log 145 count new

@@ -3,25 +3,18 @@ use Rattle.std.specs.Prelude.{◌≡◌, ◌≢◌, ◌⊎◌, ℕ, zero, suc, L
 use Rattle.std.specs.Prelude.{String}
 use Rattle.bac_apdu.specs.declared.service.read_property.ReadProperty.{ReadProperty}
 use Rattle.bac_link.specs.declared.exchanges.ExchangeFault.{ExchangeFault}
-use Rattle.bac_link.specs.declared.link.Lost.{Lost as Loss}
-use Rattle.bac_link.specs.declared.request.Request.TheVariants as request
-use Rattle.bac_link.specs.Exchanges.{Exchanges}
-use Rattle.bac_link.specs.Path.{Path, towards}
 use Rattle.bac_print.specs.Texts.{IsTextOf}
 use Rattle.bac_query.specs.Answers.{Tells}
 use Rattle.bac_query.specs.ObjectList.{IsObject, TellsObject, TellsObjects, list_at, octets_at, whole_list}
 use Rattle.bac_wire.specs.Primitive.{Id}
 use Rattle.bac_wire.specs.Primitive as primitive
+use Rattle.bac_link.specs.declared.transactions.Transactions.{Transactions}
+use Rattle.bac_query.specs.Tables.{Ask, Client, Questions, client}
+use Rattle.bac_questions.specs.Connecting.{client_over}
 use Rattle.bac_ports.specs.declared.udp_link.UdpLink.{UdpLink}
-use Rattle.bac_ports.specs.Sockets.{SocketRules, UsesSocket, link_over, own_address, socket_asks}
+use Rattle.bac_ports.specs.Sockets.{SocketRules, UsesSocket, own_address, socket_asks}
 use Rattle.bac_asked.specs.declared.log_words.Asking.{Asking}
 use Rattle.bac_asked.specs.declared.wanted.Wanted.{Wanted}
-
--- a ReadProperty was exchanged over a link, under some invoke ID: a datagram with its ACK came, or why none did
-abbrev pub Reads : {S : Type 0} → (S → List ℕ → Result (List ℕ) Loss → S → Type 0) → Path → ℕ →
-    ReadProperty → S → Result (List ℕ) ExchangeFault → S → Type 0
-Reads asks path retries asked old answer new =
-    (invoke : ℕ) × Exchanges asks path invoke (request.ReadProperty asked) retries old answer new
 
 -- a number was read: one Unsigned
 abbrev pub ReadsNumber : {S : Type 0} → (ReadProperty → S → Result (List ℕ) ExchangeFault → S → Type 0) → ReadProperty
@@ -107,11 +100,14 @@ abbrev pub Finds : {S : Type 0} → (ReadProperty → S → Result (List ℕ) Ex
 Finds {S = S} reads old found new =
     (count : ℕ) × (mid : S) × ReadsNumber reads (list_at 0) old count mid × FindsOf reads count mid found new
 
+-- each question was asked by the transaction after the one before it, and the link is left so
+abbrev pub FindsBy : {S : Type 0} → Ask S → Client S → List Wanted → S → Type 0
+FindsBy asks old found left = (last : Transactions) × Finds (Questions asks) old found (client left last)
+
 -- those of the device that is asked, over a socket that was opened as asked, and closed as the last question left it
 abbrev pub FindsOver : {S P : Type 0} → SocketRules S P → Asking → S → List Wanted → S → Type 0
 FindsOver {P = P} rules asking before found after =
     UsesSocket rules (own_address asking.asked.local) asking.asked.timeout before
-    (λ port last. (left : UdpLink P)
-    × Finds (Reads (socket_asks rules) (towards asking.asked.route) asking.asked.retries)
-    (link_over asking.asked.address port) found left × (last ≡ left.port))
+    (λ port last. (left : UdpLink P) × FindsBy (socket_asks rules) (client_over asking.asked port) found left
+    × (last ≡ left.port))
     after

@@ -1,3 +1,4 @@
+pub mod Connecting
 pub mod Discovered
 pub mod Unfound
 pub mod Faults

@@ -6,16 +6,16 @@ use Rattle.hex.specs.Hex.{encode_lower}
 use Rattle.bac_wire.specs.Primitive.{Id}
 use Rattle.bac_apdu.specs.declared.service.read_property.ReadProperty.{ReadProperty}
 use Rattle.bac_link.specs.Datagrams.{apdu_in}
-use Rattle.bac_link.specs.Path.{Path, towards}
 use Rattle.bac_link.specs.declared.exchanges.ExchangeFault.{ExchangeFault}
 use Rattle.bac_link.specs.declared.exchanges.ExchangeFault.TheVariants as fault
-use Rattle.bac_link.specs.declared.link.Lost.{Lost as Loss}
-use Rattle.bac_ports.specs.Sockets.{SocketRules, UsesSocket, link_over, own_address, socket_asks}
+use Rattle.bac_link.specs.declared.transactions.Transactions.{Transactions}
+use Rattle.bac_ports.specs.Sockets.{SocketRules, UsesSocket, own_address, socket_asks}
 use Rattle.bac_ports.specs.declared.udp_link.UdpLink.{UdpLink}
 use Rattle.bac_query.specs.Answers.{values_in}
 use Rattle.bac_archive.specs.declared.trend_logs.Told.{Told as Kept}
 use Rattle.bac_asked.specs.declared.log_words.Asking.{Asking}
-use Rattle.bac_questions.specs.Discovered.{Reads}
+use Rattle.bac_query.specs.Tables.{Ask, Client, Questions, client}
+use Rattle.bac_questions.specs.Connecting.{client_over}
 use Rattle.bac_query.specs.ObjectList.{TellsObject}
 use Rattle.bac_questions.specs.Counts.{AsksFor}
 use Rattle.bac_questions.specs.declared.questions.Count.{Count}
@@ -61,12 +61,12 @@ IsRestart (Err (fault.Refused refusal)) told = told ≡ restart.Untold
 IsRestart (Err fault.BadReply) told = told ≡ restart.Untold
 IsRestart (Err fault.TooLong) told = ⊥
 
--- a device was asked for its Time_Of_Device_Restart (203, clause 12.11) over a link
-abbrev pub AsksRestart : {S : Type 0} → (S → List ℕ → Result (List ℕ) Loss → S → Type 0) → Path → ℕ → S → Id → Restart
-    → S → Type 0
-AsksRestart asks path retries old device told new =
+-- a device was asked for its Time_Of_Device_Restart (203, clause 12.11)
+abbrev pub AsksRestart : {S : Type 0} → (ReadProperty → S → Result (List ℕ) ExchangeFault → S → Type 0) → S → Id
+    → Restart → S → Type 0
+AsksRestart reads old device told new =
     (answer : Result (List ℕ) ExchangeFault) × IsRestart answer told
-    × Reads asks path retries (record { object = device; property = 203; index = None }) old answer new
+    × reads (record { object = device; property = 203; index = None }) old answer new
 
 -- nothing is known of a device
 abbrev pub nothing_told : Kept
@@ -88,49 +88,48 @@ says_by n restarted count.Untold = says_all n restarted None
 says_by n restarted (count.Told revision) = says_all n restarted (Some revision)
 
 -- behind the question for its restart a device is asked for its Database_Revision (155, clause 12.11)
-abbrev pub SaysBehind : {S : Type 0} → (S → List ℕ → Result (List ℕ) Loss → S → Type 0) → Path → ℕ → S → Id
-    → Option (String Global) → Said →
-    S → Type 0
-SaysBehind asks path retries link device restarted said left =
-    (revision : Count) × AsksFor asks path retries link device 155 revision left
+abbrev pub SaysBehind : {S : Type 0} → (ReadProperty → S → Result (List ℕ) ExchangeFault → S → Type 0) → S → Id
+    → Option (String Global) → Said → S → Type 0
+SaysBehind reads old device restarted said new =
+    (revision : Count) × AsksFor reads old device 155 revision new
     × (said ≡ says_by device.instance restarted revision)
 
 -- but not if no answer came to that one
-abbrev pub SaysAfter : {S : Type 0} → (S → List ℕ → Result (List ℕ) Loss → S → Type 0) → Path → ℕ → S → Id → Restart
+abbrev pub SaysAfter : {S : Type 0} → (ReadProperty → S → Result (List ℕ) ExchangeFault → S → Type 0) → S → Id → Restart
     → Said → S → Type 0
-SaysAfter asks path retries link device restart.Lost said left = (said ≡ silent) × (left ≡ link)
-SaysAfter asks path retries link device restart.Untold said left =
-    SaysBehind asks path retries link device None said left
-SaysAfter asks path retries link device (restart.Told digits) said left =
-    SaysBehind asks path retries link device (Some digits) said left
+SaysAfter reads old device restart.Lost said new = (said ≡ silent) × (new ≡ old)
+SaysAfter reads old device restart.Untold said new = SaysBehind reads old device None said new
+SaysAfter reads old device (restart.Told digits) said new = SaysBehind reads old device (Some digits) said new
 
 -- what a device says that told its instance: it is asked for its restart and for its revision
-abbrev pub SaysMore : {S : Type 0} → (S → List ℕ → Result (List ℕ) Loss → S → Type 0) → Path → ℕ → S → Id → Said → S
-    → Type 0
-SaysMore {S = S} asks path retries link device said left =
-    (told : Restart) × (mid : S) × AsksRestart asks path retries link device told mid
-    × SaysAfter asks path retries mid device told said left
+abbrev pub SaysMore : {S : Type 0} → (ReadProperty → S → Result (List ℕ) ExchangeFault → S → Type 0) → S → Id → Said
+    → S → Type 0
+SaysMore {S = S} reads old device said new =
+    (told : Restart) × (mid : S) × AsksRestart reads old device told mid × SaysAfter reads mid device told said new
 
 -- one that didn't isn't asked for more
-abbrev pub SaysAs : {S : Type 0} → (S → List ℕ → Result (List ℕ) Loss → S → Type 0) → Path → ℕ → S → Identity → Said → S
-    → Type 0
-SaysAs asks path retries link (Told n) said left = SaysMore asks path retries link (itself_of n) said left
-SaysAs asks path retries link identity said left = (said.identity ≡ identity) × (said.told ≡ nothing_told)
-    × (left ≡ link)
+abbrev pub SaysAs : {S : Type 0} → (ReadProperty → S → Result (List ℕ) ExchangeFault → S → Type 0) → S → Identity → Said
+    → S → Type 0
+SaysAs reads old (Told n) said new = SaysMore reads old (itself_of n) said new
+SaysAs reads old identity said new = (said.identity ≡ identity) × (said.told ≡ nothing_told) × (new ≡ old)
 
--- what a device says of itself over a link, whoever answers: it is asked for its instance first
-abbrev pub Says : {S : Type 0} → (S → List ℕ → Result (List ℕ) Loss → S → Type 0) → Path → ℕ → S → Said → S → Type 0
-Says {S = S} asks path retries link said left =
+-- what a device says of itself, whoever answers: it is asked for its instance first
+abbrev pub Says : {S : Type 0} → (ReadProperty → S → Result (List ℕ) ExchangeFault → S → Type 0) → S → Said → S → Type 0
+Says {S = S} reads old said new =
     (answer : Result (List ℕ) ExchangeFault) × (identity : Identity) × (mid : S) × IsIdentity answer identity
-    × Reads asks path retries itself_asked link answer mid × SaysAs asks path retries mid identity said left
+    × reads itself_asked old answer mid × SaysAs reads mid identity said new
+
+-- each question was asked by the transaction after the one before it, and the link is left so
+abbrev pub SaysBy : {S : Type 0} → Ask S → Client S → Said → S → Type 0
+SaysBy asks old said left = (last : Transactions) × Says (Questions asks) old said (client left last)
 
 -- the device of a log was asked what it says of itself, over a socket that was opened as asked, and closed as the last
 -- question left it
 abbrev pub Identifies : {S P : Type 0} → SocketRules S P → Asking → S → Said → S → Type 0
 Identifies {P = P} rules asking before said after =
     UsesSocket rules (own_address asking.asked.local) asking.asked.timeout before
-    (λ port last. (left : UdpLink P) × Says (socket_asks rules) (towards asking.asked.route) asking.asked.retries
-    (link_over asking.asked.address port) said left × (last ≡ left.port))
+    (λ port last. (left : UdpLink P) × SaysBy (socket_asks rules) (client_over asking.asked port) said left
+    × (last ≡ left.port))
     after
 
 -- a text is another's, octet by octet

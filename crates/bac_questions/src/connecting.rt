@@ -2,6 +2,7 @@
 
 ghost use Rattle.std.specs.Prelude.{◌≡◌, IfOk, IfErr};
 ghost use Rattle.bac_ports.specs.Sockets.{link_over, own_address, socket_rules};
+ghost use Rattle.bac_questions.specs.Connecting.{transactions_with};
 ghost use Rattle.bac_questions.specs.Faults.{IsUnopened};
 
 use bac_apdu::Route;
@@ -15,6 +16,8 @@ const ANY: [u8; 6] = [0; 6];
 
 /// Transactions that ask so often again, with a device that is behind this router if there is one.
 pub fn transactions_by(retries: u8, route: Option<Route>) -> Transactions
+    // None was begun.
+    ensures made { result ≡ transactions_with retries route }
     ensures retries { result.retries ≡ retries }
     ensures route { result.route ≡ route }
 {
@@ -33,6 +36,8 @@ pub fn connect<S: Sockets>(
     ensures opened { IfOk result (λ made. S.opens sockets.old (own_address asked.local)
         asked.timeout (Ok made.0.port) sockets.new) }
     ensures link { IfOk result (λ made. made.0 ≡ link_over asked.address made.0.port) }
+    ensures made { IfOk result
+        (λ made. made.1 ≡ transactions_with asked.retries asked.route) }
     ensures retries { IfOk result (λ made. made.1.retries ≡ asked.retries) }
     ensures route { IfOk result (λ made. made.1.route ≡ asked.route) }
     ensures refused { IfErr result (IsUnopened

@@ -4,16 +4,16 @@
 ghost use Rattle.std.specs.Prelude.{◌≡◌, ◌<◌, ◌⊎◌, true, Some, None, IfErr, IfNone, IfOk, IfSome};
 ghost use Rattle.std.specs.Prelude.{IsNone, List, Ok, OnOk, ℕ};
 ghost use Rattle.std.specs.List.{All};
-ghost use Rattle.bac_link.specs.Path.{towards};
 ghost use Rattle.bac_asked.specs.Faults.{WantsMemory};
-ghost use Rattle.bac_questions.specs.Discovered.{AddsObject, Finds, FindsAmong};
-ghost use Rattle.bac_questions.specs.Discovered.{FindsOf, FindsOver, FindsTo, Reads, ReadsName};
+ghost use Rattle.bac_questions.specs.Discovered.{AddsObject, Finds, FindsAmong, FindsBy};
+ghost use Rattle.bac_questions.specs.Discovered.{FindsOf, FindsOver, FindsTo, ReadsName};
 ghost use Rattle.bac_questions.specs.Discovered.{ReadsNumber, ReadsObject, TellsName};
 ghost use Rattle.bac_query.specs.ObjectList.{AreObjects, TellsObjects};
+ghost use Rattle.bac_query.specs.Tables.{Questions, client};
 ghost use Rattle.bac_questions.specs.Discovered.{name_of};
 ghost use Rattle.bac_questions.specs.Faults.{EndsFinding};
-ghost use Rattle.bac_questions.specs.Unfound.{FailsToFind, LacksNumber, LacksObject, LacksOf};
-ghost use Rattle.bac_questions.specs.Unfound.{LacksPlace};
+ghost use Rattle.bac_questions.specs.Unfound.{FailsBy, FailsToFind, LacksNumber, LacksObject};
+ghost use Rattle.bac_questions.specs.Unfound.{LacksOf, LacksPlace};
 ghost use Rattle.bac_ports.specs.Sockets.{socket_rules};
 ghost use Rattle.bac_asked.specs.Wanted.{AsksItsSource, IsAskedAs, IsSourceOf};
 ghost use Rattle.bac_questions.specs.Silent.{is_same_device};
@@ -54,19 +54,16 @@ impl<L: LogLink> Station<L> {
 
     /// How many objects the device has.
     fn count(&mut self, device: ObjectId) -> Result<u32, NotDone>
-        ensures reads { IfOk result (λ count. ReadsNumber
-            (Reads L.asks (towards self.old.transactions.route) self.old.transactions.retries)
-            (record { object = device; property = 76; index = Some 0 }) self.old.link count
-            self.new.link) }
-        ensures retries { OnOk result
-            (self.new.transactions.retries ≡ self.old.transactions.retries) }
-        ensures route { OnOk result (self.new.transactions.route ≡ self.old.transactions.route) }
+        ensures reads { IfOk result (λ count. ReadsNumber (Questions L.asks)
+            (record { object = device; property = 76; index = Some 0 })
+            (client self.old.link self.old.transactions) count
+            (client self.new.link self.new.transactions)) }
         ensures lacks { IfErr result (λ fault. (why : _)
             × (fault ≡ NotDone.Asking (Fault.Exchange self.old.address why))
-            × LacksNumber (Reads L.asks (towards self.old.transactions.route)
-            self.old.transactions.retries)
-            (record { object = device; property = 76; index = Some 0 }) self.old.link why
-            self.new.link) }
+            × LacksNumber (Questions L.asks)
+            (record { object = device; property = 76; index = Some 0 })
+            (client self.old.link self.old.transactions) why
+            (client self.new.link self.new.transactions)) }
         ensures address { self.new.address ≡ self.old.address }
     {
         match read_number(
@@ -83,12 +80,10 @@ impl<L: LogLink> Station<L> {
 
     /// The whole list: an answer, whatever it says, or why there is none.
     fn whole(&mut self, device: ObjectId) -> Result<Datagram, ExchangeFault>
-        ensures reads { Reads L.asks (towards self.old.transactions.route)
-            self.old.transactions.retries
-            (record { object = device; property = 76; index = None }) self.old.link result
-            self.new.link }
-        ensures retries { self.new.transactions.retries ≡ self.old.transactions.retries }
-        ensures route { self.new.transactions.route ≡ self.old.transactions.route }
+        ensures reads { Questions L.asks
+            (record { object = device; property = 76; index = None })
+            (client self.old.link self.old.transactions) result
+            (client self.new.link self.new.transactions) }
         ensures address { self.new.address ≡ self.old.address }
     {
         read(
@@ -102,19 +97,16 @@ impl<L: LogLink> Station<L> {
 
     /// The object at a place of the list, from 1 on.
     fn object(&mut self, device: ObjectId, place: u32) -> Result<ObjectId, NotDone>
-        ensures reads { IfOk result (λ object. ReadsObject
-            (Reads L.asks (towards self.old.transactions.route) self.old.transactions.retries)
-            (record { object = device; property = 76; index = Some place }) self.old.link object
-            self.new.link) }
-        ensures retries { OnOk result
-            (self.new.transactions.retries ≡ self.old.transactions.retries) }
-        ensures route { OnOk result (self.new.transactions.route ≡ self.old.transactions.route) }
+        ensures reads { IfOk result (λ object. ReadsObject (Questions L.asks)
+            (record { object = device; property = 76; index = Some place })
+            (client self.old.link self.old.transactions) object
+            (client self.new.link self.new.transactions)) }
         ensures lacks { IfErr result (λ fault. (why : _)
             × (fault ≡ NotDone.Asking (Fault.Exchange self.old.address why))
-            × LacksObject (Reads L.asks (towards self.old.transactions.route)
-            self.old.transactions.retries)
-            (record { object = device; property = 76; index = Some place }) self.old.link
-            why self.new.link) }
+            × LacksObject (Questions L.asks)
+            (record { object = device; property = 76; index = Some place })
+            (client self.old.link self.old.transactions) why
+            (client self.new.link self.new.transactions)) }
         ensures address { self.new.address ≡ self.old.address }
     {
         let answer = match read(
@@ -135,12 +127,9 @@ impl<L: LogLink> Station<L> {
 
     /// The name of an object in Unicode, if the device tells one.
     fn name(&mut self, alloc: Global, object: ObjectId) -> Result<Option<String>, NotDone>
-        ensures reads { IfOk result (λ name. ReadsName
-            (Reads L.asks (towards self.old.transactions.route) self.old.transactions.retries)
-            (name_of object) self.old.link name self.new.link) }
-        ensures retries { OnOk result
-            (self.new.transactions.retries ≡ self.old.transactions.retries) }
-        ensures route { OnOk result (self.new.transactions.route ≡ self.old.transactions.route) }
+        ensures reads { IfOk result (λ name. ReadsName (Questions L.asks) (name_of object)
+            (client self.old.link self.old.transactions) name
+            (client self.new.link self.new.transactions)) }
         ensures fault { IfErr result WantsMemory }
         ensures address { self.new.address ≡ self.old.address }
     {
@@ -230,12 +219,9 @@ fn wanted_of<L: LogLink>(
     ensures asks { IfOk result AsksItsSource }
     ensures alike { IfOk result (λ wanted. IsAskedAs like.now wanted.asking) }
     ensures instance { IfOk result (λ wanted. wanted.asking.instance ≡ object.instance) }
-    ensures reads { IfOk result (λ wanted. ReadsName
-        (Reads L.asks (towards device.old.transactions.route) device.old.transactions.retries)
-        (name_of object) device.old.link wanted.name device.new.link) }
-    ensures retries { OnOk result
-        (device.new.transactions.retries ≡ device.old.transactions.retries) }
-    ensures route { OnOk result (device.new.transactions.route ≡ device.old.transactions.route) }
+    ensures reads { IfOk result (λ wanted. ReadsName (Questions L.asks) (name_of object)
+        (client device.old.link device.old.transactions) wanted.name
+        (client device.new.link device.new.transactions)) }
     ensures fault { IfErr result WantsMemory }
     ensures address { device.new.address ≡ device.old.address }
 {
@@ -262,12 +248,9 @@ fn add_object<L: LogLink>(
     ensures asks { OnOk result (All AsksItsSource all.old.items → All AsksItsSource all.new.items) }
     ensures alike { OnOk result (All (λ wanted. IsAskedAs like.now wanted.asking) all.old.items
         → All (λ wanted. IsAskedAs like.now wanted.asking) all.new.items) }
-    ensures adds { OnOk result (AddsObject
-        (Reads L.asks (towards device.old.transactions.route) device.old.transactions.retries)
-        object device.old.link all.old.items all.new.items device.new.link) }
-    ensures retries { OnOk result
-        (device.new.transactions.retries ≡ device.old.transactions.retries) }
-    ensures route { OnOk result (device.new.transactions.route ≡ device.old.transactions.route) }
+    ensures adds { OnOk result (AddsObject (Questions L.asks) object
+        (client device.old.link device.old.transactions) all.old.items all.new.items
+        (client device.new.link device.new.transactions)) }
     ensures fault { IfErr result WantsMemory }
     ensures address { device.new.address ≡ device.old.address }
 {
@@ -291,14 +274,13 @@ fn add_listed<L: LogLink>(
     ensures asks { IfOk result (λ all. All AsksItsSource all.items) }
     ensures alike { IfOk result
         (λ all. All (λ wanted. IsAskedAs like.now wanted.asking) all.items) }
-    ensures finds { IfOk result (λ all. FindsTo
-        (Reads L.asks (towards device.old.transactions.route) device.old.transactions.retries)
-        count device.old.link all.items device.new.link) }
+    ensures finds { IfOk result (λ all. FindsTo (Questions L.asks) count
+        (client device.old.link device.old.transactions) all.items
+        (client device.new.link device.new.transactions)) }
     ensures lacks { IfErr result (λ fault. WantsMemory fault
         ⊎ ((why : _) × (fault ≡ NotDone.Asking (Fault.Exchange device.old.address why))
-        × LacksPlace (Reads L.asks (towards device.old.transactions.route)
-        device.old.transactions.retries) count device.old.link why
-        device.new.link)) }
+        × LacksPlace (Questions L.asks) count (client device.old.link device.old.transactions) why
+        (client device.new.link device.new.transactions))) }
 {
     let mut all = Vec::new(alloc);
     for place in 0..count {
@@ -320,9 +302,9 @@ fn add_among<L: LogLink>(
     ensures asks { IfOk result (λ all. All AsksItsSource all.items) }
     ensures alike { IfOk result
         (λ all. All (λ wanted. IsAskedAs like.now wanted.asking) all.items) }
-    ensures finds { IfOk result (λ all. FindsAmong
-        (Reads L.asks (towards device.old.transactions.route) device.old.transactions.retries)
-        values.now count device.old.link all.items device.new.link) }
+    ensures finds { IfOk result (λ all. FindsAmong (Questions L.asks) values.now count
+        (client device.old.link device.old.transactions) all.items
+        (client device.new.link device.new.transactions)) }
     ensures fault { IfErr result WantsMemory }
 {
     let mut all = Vec::new(alloc);
@@ -348,14 +330,13 @@ fn add_all<L: LogLink>(
     ensures asks { IfOk result (λ all. All AsksItsSource all.items) }
     ensures alike { IfOk result
         (λ all. All (λ wanted. IsAskedAs like.now wanted.asking) all.items) }
-    ensures finds { IfOk result (λ all. FindsOf
-        (Reads L.asks (towards device.old.transactions.route) device.old.transactions.retries)
-        count device.old.link all.items device.new.link) }
+    ensures finds { IfOk result (λ all. FindsOf (Questions L.asks) count
+        (client device.old.link device.old.transactions) all.items
+        (client device.new.link device.new.transactions)) }
     ensures lacks { IfErr result (λ fault. WantsMemory fault
         ⊎ ((why : _) × (fault ≡ NotDone.Asking (Fault.Exchange device.old.address why))
-        × LacksOf (Reads L.asks (towards device.old.transactions.route)
-        device.old.transactions.retries) count device.old.link why
-        device.new.link)) }
+        × LacksOf (Questions L.asks) count (client device.old.link device.old.transactions) why
+        (client device.new.link device.new.transactions))) }
 {
     let answer = device.whole(itself);
     match listed_in(&answer, count) {
@@ -373,13 +354,13 @@ fn find_all<L: LogLink>(
     ensures asks { IfOk result (λ all. All AsksItsSource all.items) }
     ensures alike { IfOk result
         (λ all. All (λ wanted. IsAskedAs like.now wanted.asking) all.items) }
-    ensures finds { IfOk result (λ all. Finds
-        (Reads L.asks (towards device.old.transactions.route) device.old.transactions.retries)
-        device.old.link all.items device.new.link) }
+    ensures finds { IfOk result (λ all. Finds (Questions L.asks)
+        (client device.old.link device.old.transactions) all.items
+        (client device.new.link device.new.transactions)) }
     ensures lacks { IfErr result (λ fault. WantsMemory fault
         ⊎ ((why : _) × (fault ≡ NotDone.Asking (Fault.Exchange device.old.address why))
-        × FailsToFind (Reads L.asks (towards device.old.transactions.route)
-        device.old.transactions.retries) device.old.link why device.new.link)) }
+        × FailsToFind (Questions L.asks) (client device.old.link device.old.transactions) why
+        (client device.new.link device.new.transactions))) }
 {
     let Some(itself) = ObjectId::new(DEVICE, ITSELF) else {
         return Err(NotDone::Asking(Fault::BadValue(Word::Instance)));
@@ -399,13 +380,11 @@ pub fn find_logs<L: LogLink>(
     ensures asks { IfOk result.0 (λ all. All AsksItsSource all.items) }
     ensures alike { IfOk result.0
         (λ all. All (λ wanted. IsAskedAs like.now wanted.asking) all.items) }
-    ensures finds { IfOk result.0 (λ all. Finds
-        (Reads L.asks (towards transactions.route) transactions.retries) link all.items
-        result.1) }
+    ensures finds { IfOk result.0
+        (λ all. FindsBy L.asks (client link transactions) all.items result.1) }
     ensures lacks { IfErr result.0 (λ fault. WantsMemory fault
         ⊎ ((why : _) × (fault ≡ NotDone.Asking (Fault.Exchange like.now.asked.address why))
-        × FailsToFind (Reads L.asks (towards transactions.route) transactions.retries) link why
-        result.1)) }
+        × FailsBy L.asks (client link transactions) why result.1)) }
 {
     let mut device = Station {
         link,

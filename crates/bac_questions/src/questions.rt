@@ -1,10 +1,11 @@
 //! Single questions to a device.
 
-ghost use Rattle.std.specs.Prelude.{◌≡◌, Err, IfErr, IfOk, OnOk};
+ghost use Rattle.std.specs.Prelude.{◌≡◌, Err, IfErr, IfOk};
 ghost use Rattle.bac_link.specs.Path.{towards};
-ghost use Rattle.bac_questions.specs.Discovered.{Reads, ReadsNumber};
+ghost use Rattle.bac_query.specs.Tables.{Questions, client};
+ghost use Rattle.bac_questions.specs.Discovered.{ReadsNumber};
 ghost use Rattle.bac_questions.specs.Unfound.{LacksNumber};
-ghost use Rattle.bac_questions.specs.Counts.{AsksFor, Counts};
+ghost use Rattle.bac_questions.specs.Counts.{AsksFor, Counts, CountsBy};
 
 use bac_apdu::ReadProperty;
 use bac_link::{ExchangeFault, LogLink, Request, Transactions, exchange};
@@ -14,7 +15,7 @@ use bac_wire::{Datagram, ObjectId};
 /// Total_Record_Count of a trend log (clause 12.25).
 const TOTAL_RECORD_COUNT: u32 = 145;
 
-/// Reads a property.
+/// Reads a property, by the next transaction.
 #[tactic(auto, using(crate::proofs::Left::retries_left, crate::proofs::Left::route_left))]
 pub(crate) fn read<L: LogLink>(
     link: &mut L,
@@ -23,8 +24,9 @@ pub(crate) fn read<L: LogLink>(
     property: u32,
     index: Option<u32>,
 ) -> Result<Datagram, ExchangeFault>
-    ensures reads { Reads L.asks (towards transactions.old.route) transactions.old.retries
-        (record { object = object; property = property; index = index }) link.old result link.new }
+    ensures reads { Questions L.asks
+        (record { object = object; property = property; index = index })
+        (client link.old transactions.old) result (client link.new transactions.new) }
     // The question fits a request, so it is asked.
     ensures fits { result ≡ Err ExchangeFault.TooLong → ⊥ }
     ensures retries { transactions.new.retries ≡ transactions.old.retries }
@@ -56,8 +58,8 @@ pub(crate) fn read_unsigned<L: LogLink>(
     object: ObjectId,
     property: u32,
 ) -> Count
-    ensures counts { AsksFor L.asks (towards transactions.old.route) transactions.old.retries
-        link.old object property result link.new }
+    ensures counts { AsksFor (Questions L.asks) (client link.old transactions.old) object property
+        result (client link.new transactions.new) }
     ensures retries { transactions.new.retries ≡ transactions.old.retries }
     ensures route { transactions.new.route ≡ transactions.old.route }
 {
@@ -74,6 +76,9 @@ pub(crate) fn read_unsigned<L: LogLink>(
 /// Asks how many records a trend log has logged, by its property Total_Record_Count (145, clause
 /// 12.25): the number of the newest one.
 pub fn read_count<L: LogLink>(link: &mut L, transactions: &mut Transactions, log: ObjectId) -> Count
+    // By the next transaction, and none is open after it.
+    ensures asked { CountsBy L.asks (client link.old transactions.old) log result
+        (client link.new transactions.new) }
     ensures counts { Counts L.asks (towards transactions.old.route) transactions.old.retries
         link.old log result link.new }
     ensures retries { transactions.new.retries ≡ transactions.old.retries }
@@ -90,16 +95,12 @@ pub(crate) fn read_number<L: LogLink>(
     property: u32,
     index: Option<u32>,
 ) -> Result<u32, ExchangeFault>
-    ensures reads { IfOk result (λ number. ReadsNumber
-        (Reads L.asks (towards transactions.old.route) transactions.old.retries)
-        (record { object = object; property = property; index = index }) link.old number
-        link.new) }
-    ensures lacks { IfErr result (λ fault. LacksNumber
-        (Reads L.asks (towards transactions.old.route) transactions.old.retries)
-        (record { object = object; property = property; index = index }) link.old fault
-        link.new) }
-    ensures retries { OnOk result (transactions.new.retries ≡ transactions.old.retries) }
-    ensures route { OnOk result (transactions.new.route ≡ transactions.old.route) }
+    ensures reads { IfOk result (λ number. ReadsNumber (Questions L.asks)
+        (record { object = object; property = property; index = index })
+        (client link.old transactions.old) number (client link.new transactions.new)) }
+    ensures lacks { IfErr result (λ fault. LacksNumber (Questions L.asks)
+        (record { object = object; property = property; index = index })
+        (client link.old transactions.old) fault (client link.new transactions.new)) }
 {
     let answer = read(link, transactions, object, property, index)?;
     match number_in(&answer) {

@@ -2,11 +2,10 @@
 
 ghost use Rattle.std.specs.Prelude.{◌≡◌, ◌<◌, Ok, IsNone, IfOk, IfSome, ℕ, IfErr};
 ghost use Rattle.bac_archive.specs.Logs.{told_values};
-ghost use Rattle.bac_link.specs.Path.{towards};
 ghost use Rattle.bac_ports.specs.Sockets.{socket_rules};
 ghost use Rattle.bac_asked.specs.Faults.{WantsMemory};
 ghost use Rattle.bac_questions.specs.Faults.{EndsAsking};
-ghost use Rattle.bac_questions.specs.Discovered.{Reads};
+ghost use Rattle.bac_query.specs.Tables.{Questions, client};
 ghost use Rattle.bac_questions.specs.Said.{AsksRestart, Identifies, IsIdentity, IsRestart, Says};
 ghost use Rattle.bac_questions.specs.Said.{SaysBehind, SaysMore, TellsDevice, copies, itself_asked};
 ghost use Rattle.bac_questions.specs.Said.{itself_of, nothing_told, says_all, silent};
@@ -103,10 +102,8 @@ fn read_identity<L: LogLink>(
     transactions: &mut Transactions,
 ) -> Result<Identity, NotDone>
     ensures says { IfOk result (λ identity. (answer : _) × IsIdentity answer identity
-        × Reads L.asks (towards transactions.old.route) transactions.old.retries itself_asked
-        link.old answer link.new) }
-    ensures retries { transactions.new.retries ≡ transactions.old.retries }
-    ensures route { transactions.new.route ≡ transactions.old.route }
+        × Questions L.asks itself_asked (client link.old transactions.old) answer
+        (client link.new transactions.new)) }
     ensures fault { IfErr result WantsMemory }
 {
     let Some(itself) = ObjectId::new(DEVICE, ITSELF) else {
@@ -143,10 +140,8 @@ fn read_restart<L: LogLink>(
     transactions: &mut Transactions,
     itself: ObjectId,
 ) -> Result<Restart, NotDone>
-    ensures asks { IfOk result (λ restart. AsksRestart L.asks (towards transactions.old.route)
-        transactions.old.retries link.old itself restart link.new) }
-    ensures retries { transactions.new.retries ≡ transactions.old.retries }
-    ensures route { transactions.new.route ≡ transactions.old.route }
+    ensures asks { IfOk result (λ restart. AsksRestart (Questions L.asks)
+        (client link.old transactions.old) itself restart (client link.new transactions.new)) }
     ensures fault { IfErr result WantsMemory }
 {
     match read(link, transactions, itself, TIME_OF_DEVICE_RESTART, None) {
@@ -163,8 +158,8 @@ fn read_behind<L: LogLink>(
     itself: ObjectId,
     restart: Option<String>,
 ) -> Said
-    ensures { SaysBehind L.asks (towards transactions.old.route) transactions.old.retries link.old
-        itself restart result link.new }
+    ensures { SaysBehind (Questions L.asks) (client link.old transactions.old) itself restart result
+        (client link.new transactions.new) }
 {
     match read_unsigned(link, transactions, itself, DATABASE_REVISION) {
         Count::Lost => silent(),
@@ -194,8 +189,9 @@ fn read_more<L: LogLink>(
     transactions: &mut Transactions,
     device: u32,
 ) -> Result<Said, NotDone>
-    ensures says { IfOk result (λ said. SaysMore L.asks (towards transactions.old.route)
-        transactions.old.retries link.old (itself_of device) said link.new) }
+    ensures says { IfOk result (λ said. SaysMore (Questions L.asks)
+        (client link.old transactions.old) (itself_of device) said
+        (client link.new transactions.new)) }
     ensures fault { device < 4194304 → IfErr result WantsMemory }
 {
     let Some(itself) = ObjectId::new(DEVICE, device) else {
@@ -214,8 +210,9 @@ pub fn read_said<L: LogLink>(
     link: &mut L,
     transactions: &mut Transactions,
 ) -> Result<Said, NotDone>
-    ensures says { IfOk result (λ said. Says L.asks (towards transactions.old.route)
-        transactions.old.retries link.old said link.new) }
+    // Each question by the transaction after the one before it, and none is open after them.
+    ensures says { IfOk result (λ said. Says (Questions L.asks) (client link.old transactions.old)
+        said (client link.new transactions.new)) }
     ensures fault { IfErr result WantsMemory }
 {
     match read_identity(link, transactions)? {

@@ -1,4 +1,5 @@
-use Rattle.std.proofs.Common.{refl, ◌∙◌}
+use Rattle.std.proofs.Common.{refl}
+use Rattle.bac_query.specs.Tables.{Questions, client}
 use Rattle.bac_questions.proofs.DiscoveredLemmas.{next_among}
 use Rattle.bac_questions.proofs.discovering.add_among.Goals as goal
 
@@ -6,17 +7,16 @@ pub loop-place-preserved : goal.loop-place-preserved
 loop-place-preserved g c =
     let was = c.loop-place.invariant in
     let added = c.in_ok-add_object.ensures in
-    let first = c.args.device.now.transactions in
-    let then = c.loop-place.device.transactions in
+    let first = c.args.device.now in
+    let then = c.loop-place.device in
+    let last = c.add_object.new.device in
     record {
       asks = added.asks was.asks;
       alike = added.alike was.alike;
-      retries = added.retries ∙ was.retries;
-      route = added.route ∙ was.route;
-      finds = next_among g.L.LogLink.asks first.route then.route first.retries then.retries
+      finds = next_among (Questions g.L.LogLink.asks)
           c.in-Some.object c.args.values.now c.loop-place.place c.loop-place.all.items c.add_object.new.all.items
-          c.args.device.now.link c.loop-place.device.link c.add_object.new.device.link
-          was.route was.retries was.finds c.in-Some.ensures.found added.adds;
+          (client first.link first.transactions) (client then.link then.transactions) (client last.link last.transactions)
+          was.finds c.in-Some.ensures.found added.adds;
     }
 
 pub unreachable-requires : goal.unreachable-requires

@@ -1,4 +1,5 @@
 use Rattle.std.proofs.Common.{rules, ap, inr, ◌∙◌}
+use Rattle.bac_query.specs.Tables.{Questions, client}
 use Rattle.bac_questions.proofs.DiscoveredLemmas.{next_place}
 use Rattle.bac_asked.specs.declared.end.NotDone.TheVariants.{Asking}
 use Rattle.bac_asked.specs.declared.fault.Fault.TheVariants.{Exchange}
@@ -11,29 +12,30 @@ loop-place-preserved g c =
     let was = c.loop-place.invariant in
     let read = c.in_ok-object.ensures in
     let added = c.in_ok-add_object.ensures in
-    let first = c.args.device.now.transactions in
-    let then = c.loop-place.device.transactions in
-    let last = c.object.new.self.transactions in
+    let first = c.args.device.now in
+    let then = c.loop-place.device in
+    let told = c.object.new.self in
+    let last = c.add_object.new.device in
     record {
       asks = added.asks was.asks;
       alike = added.alike was.alike;
       address = added.address ∙ read.address ∙ was.address;
-      retries = added.retries ∙ read.retries ∙ was.retries;
-      route = added.route ∙ read.route ∙ was.route;
-      finds = next_place g.L.LogLink.asks first.route then.route last.route first.retries then.retries last.retries
+      finds = next_place (Questions g.L.LogLink.asks)
           c.args.itself c.in_ok-object.object c.loop-place.place c.loop-place.all.items c.add_object.new.all.items
-          c.args.device.now.link c.loop-place.device.link c.object.new.self.link c.add_object.new.device.link
-          was.route read.route was.retries read.retries c.requires was.finds read.reads added.adds;
+          (client first.link first.transactions) (client then.link then.transactions) (client told.link told.transactions) (client last.link last.transactions)
+          c.requires was.finds read.reads added.adds;
     }
 
 pub returns-in_err-object-clause-lacks : goal.returns-in_err-object-clause-lacks
 returns-in_err-object-clause-lacks g c =
     let was = c.loop-place.invariant in
+    let first = c.args.device.now in
+    let then = c.loop-place.device in
+    let last = c.object.new.self in
     let (why, is, lacks) = c.in_err-object.ensures.lacks in
     because c.from_residual.result c.in_err-object.field-0.0 _ (search rules) (inr (
       why,
       is ∙ ap (λ a. Asking (Exchange a why)) was.address,
-      place_lacks g.L.LogLink.asks c.args.device.now.transactions.route c.loop-place.device.transactions.route c.args.device.now.transactions.retries c.loop-place.device.transactions.retries
-          c.args.itself c.loop-place.place c.args.count c.loop-place.all.items c.args.device.now.link c.loop-place.device.link c.object.new.self.link why
-          was.route was.retries c.requires (search rules) was.finds lacks,
+      place_lacks (Questions g.L.LogLink.asks) c.args.itself c.loop-place.place c.args.count c.loop-place.all.items
+          (client first.link first.transactions) (client then.link then.transactions) (client last.link last.transactions) why c.requires (search rules) was.finds lacks,
     ))

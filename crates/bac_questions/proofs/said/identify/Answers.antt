@@ -7,5 +7,5 @@ returns-clause-identifies g c =
     let over = socket_rules g.S.Sockets.opens g.S.Sockets.closes g.S.Socket.Port.sends g.S.Socket.Port.receives g.S.Socket.Port.receives_within in
     let made = c.in_ok-link.ensures in
     identifies_over over c.args.like.now c.in_ok-asked.field-0.asked c.args.sockets.now c.connect.new.sockets c.close.new.self c.in_ok-link.link.port c.into_port.result
-    c.in_ok-link.link c.read_said-said.new.link c.in_ok-link.transactions.route c.in_ok-link.transactions.retries c.read_said-said.result
-    c.in_ok-asked.ensures.alike.0 made.opened made.link made.route made.retries c.into_port.ensures c.close.ensures c.read_said-said.ensures.says
+    c.in_ok-link.link c.read_said-said.new.link c.in_ok-link.transactions c.read_said-said.new.transactions c.read_said-said.result
+    c.in_ok-asked.ensures.alike.0 made.opened made.link made.made c.into_port.ensures c.close.ensures c.read_said-said.ensures.says

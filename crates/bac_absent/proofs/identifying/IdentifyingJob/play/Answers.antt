@@ -9,7 +9,7 @@ returns-in-Wants c =
     let dry : c.read_said.new.link.is_dry ≡ true = cc (it.1) in (
       c.in-Ok.said,
       c.read_said.new.link,
-      run c.args.self.now c.args.outcomes.now c.new-link.result c.read_said.new.link c.in-Ok.said t.transactions c.new-link.ensures.outcomes c.new-link.ensures.wet t.ensures.retries t.ensures.route c.in-Ok.ensures.says,
+      run c.args.self.now c.args.outcomes.now c.new-link.result c.read_said.new.link c.in-Ok.said t.transactions c.read_said.new.transactions c.new-link.ensures.outcomes c.new-link.ensures.wet t.ensures c.in-Ok.ensures.says,
       (it.0, dry, it.2),
     )
 
@@ -20,7 +20,7 @@ returns-in-Ended c =
     let wet : c.read_said.new.link.is_dry ≡ false = cc (it.1) in (
       c.in-Ok.said,
       c.read_said.new.link,
-      run c.args.self.now c.args.outcomes.now c.new-link.result c.read_said.new.link c.in-Ok.said t.transactions c.new-link.ensures.outcomes c.new-link.ensures.wet t.ensures.retries t.ensures.route c.in-Ok.ensures.says,
+      run c.args.self.now c.args.outcomes.now c.new-link.result c.read_said.new.link c.in-Ok.said t.transactions c.read_said.new.transactions c.new-link.ensures.outcomes c.new-link.ensures.wet t.ensures c.in-Ok.ensures.says,
       (it.0, wet, refl),
     )
 
@@ -35,6 +35,6 @@ returns-in-Unfit c =
     ] in (
       c.in-Ok.said,
       left,
-      run c.args.self.now c.args.outcomes.now c.new-link.result left c.in-Ok.said t.transactions c.new-link.ensures.outcomes c.new-link.ensures.wet t.ensures.retries t.ensures.route c.in-Ok.ensures.says,
+      run c.args.self.now c.args.outcomes.now c.new-link.result left c.in-Ok.said t.transactions c.read_said.new.transactions c.new-link.ensures.outcomes c.new-link.ensures.wet t.ensures c.in-Ok.ensures.says,
       unfit,
     )

@@ -11,7 +11,7 @@ returns c =
       c.in_ok-asked.asked.1,
       c.in_ok-asked.asked.0,
       (c.new-link.ensures.outcomes, c.new-link.ensures.wet),
-      asks_by c.args.self.now.like.asked.route t.field-0 c.new-link.result c.in_ok-asked.asked.1 c.in_ok-asked.asked.0 t.ensures.retries t.ensures.route c.in_ok-asked.ensures,
+      asks_by c.args.self.now.like.asked.route t.field-0 c.new-link.result c.in_ok-asked.asked.1 c.in_ok-asked.asked.0 t.ensures c.in_ok-asked.ensures,
       it,
     ))
     c.turn_by.ensures
