@@ -1,6 +1,6 @@
 -- Why a run over logs of an archive on a clean disk ends before each of them was told, from what its caller has on.
 -- Read `EndsLogs`.
-use Rattle.std.specs.Prelude.{◌≡◌, ◌⊎◌, ℕ, List, [], ◌∷◌, ◌++◌, Option, None, Some, true, Bool}
+use Rattle.std.specs.Prelude.{◌≡◌, ◌⊎◌, ℕ, List, [], ◌∷◌, ◌++◌, Option, None, Some, Bool}
 use Rattle.sqlite.specs.Effect.{Database}
 use Rattle.sqlite_trees.specs.Tree.{Trees}
 use Rattle.bac_archive.specs.Causes.{HasNoFreshId}

@@ -1,5 +1,5 @@
 -- What an ACK tells of a device, and the question for that over a socket.
-use Rattle.std.proofs.Common.{◌≡◌, ℕ, zero, suc, ◌<◌, ◌≤◌, ◌+◌, ◌++◌, ◌∷◌, [], true, None, inl, inr, take, drop, length, get_or, List, Option, Result, Ok, Err, IfOk, ap, sym, subst, ◌∙◌, arith}
+use Rattle.std.proofs.Common.{◌≡◌, ℕ, zero, suc, ◌<◌, ◌≤◌, ◌+◌, ◌++◌, ◌∷◌, [], true, None, inl, inr, take, drop, length, get_or, List, Result, Ok, Err, IfOk, ap, sym, subst, ◌∙◌, arith}
 use Rattle.std.specs.List.{Contains, slice_range}
 use Rattle.std.proofs.lemmas.List.{take-append-drop, take_more, take_all}
 use Rattle.std.proofs.lemmas.List.Elements.{Contains-append_cases, Contains-append_left, Contains-append_right}

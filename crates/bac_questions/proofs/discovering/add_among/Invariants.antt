@@ -1,4 +1,3 @@
-use Rattle.std.specs.Prelude.{◌≡◌}
 use Rattle.std.specs.List.{All}
 use Rattle.bac_query.specs.Tables.{Questions, client}
 use Rattle.bac_questions.specs.Discovered.{FindsAmong}
