@@ -112,17 +112,15 @@ pub fn kept_after_a_crash<L: LogLink, K: LogLink, S: Alter, T: Alter>(
     honest_is_kept::<K>();
     leaves_the_last_commit(conn);
     leaves_the_last_commit(again);
-    let walk = Walk::from_number(log, s)?;
     let mut transactions = Transactions::new(3);
-    let free = u64::from(s);
     let _cut = keep_log(
         alloc,
         link,
         &mut transactions,
-        walk,
+        Walk::from_number(log, s)?,
         conn,
         place,
-        free,
+        u64::from(s),
         steps,
         &mut Untold,
     );
@@ -131,17 +129,15 @@ pub fn kept_after_a_crash<L: LogLink, K: LogLink, S: Alter, T: Alter>(
         return None;
     };
     let (from, next) = next_of(place, s, told)?;
-    let rest = Walk::from_number(log, next)?;
     let mut others = Transactions::new(3);
-    let behind = u64::from(next);
     Some(keep_log(
         alloc,
         later,
         &mut others,
-        rest,
+        Walk::from_number(log, next)?,
         again,
         from,
-        behind,
+        u64::from(next),
         steps,
         &mut Untold,
     ))

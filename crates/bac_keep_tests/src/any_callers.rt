@@ -59,7 +59,6 @@ pub fn kept_of_any_device<L: LogLink, K: LogLink, S: Alter>(
     honest_is_kept::<K>();
     let walk = Walk::from_number(log, s)?;
     let mut transactions = Transactions::new(3);
-    let free = u64::from(s);
     let first = keep_log(
         alloc,
         link,
@@ -67,7 +66,7 @@ pub fn kept_of_any_device<L: LogLink, K: LogLink, S: Alter>(
         walk,
         conn,
         place,
-        free,
+        u64::from(s),
         steps,
         &mut Untold,
     );
@@ -80,7 +79,6 @@ pub fn kept_of_any_device<L: LogLink, K: LogLink, S: Alter>(
         Err(_) => return None,
     }
     let again = Walk::from_number(log, first.next)?;
-    let behind = u64::from(first.next);
     let second = keep_log(
         alloc,
         later,
@@ -88,7 +86,7 @@ pub fn kept_of_any_device<L: LogLink, K: LogLink, S: Alter>(
         again,
         conn,
         first.place,
-        behind,
+        u64::from(first.next),
         steps,
         &mut Untold,
     );

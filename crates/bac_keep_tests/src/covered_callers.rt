@@ -50,17 +50,15 @@ pub fn covered_whoever_answers<L: LogLink, K: LogLink, S: Alter>(
     let Ok(None) = newest(conn, place.log) else {
         return None;
     };
-    let walk = Walk::from_number(log, s)?;
     let mut transactions = Transactions::new(3);
-    let free = u64::from(s);
     let first = keep_log(
         alloc,
         link,
         &mut transactions,
-        walk,
+        Walk::from_number(log, s)?,
         conn,
         place,
-        free,
+        u64::from(s),
         steps,
         &mut Untold,
     );
@@ -72,16 +70,14 @@ pub fn covered_whoever_answers<L: LogLink, K: LogLink, S: Alter>(
         return None;
     };
     let (from, next) = next_of(place, s, told)?;
-    let rest = Walk::from_number(log, next)?;
-    let behind = u64::from(next);
     Some(keep_log(
         alloc,
         later,
         &mut transactions,
-        rest,
+        Walk::from_number(log, next)?,
         conn,
         from,
-        behind,
+        u64::from(next),
         steps,
         &mut Untold,
     ))

@@ -129,48 +129,17 @@ fn push_plain_head(
 {
     let year = 1900 + date.year as u16;
     let century = pair((year / 100) as u8);
-    let of_century = pair((year % 100) as u8);
+    let years = pair((year % 100) as u8);
     let month = pair(date.month);
     let day = pair(date.day);
     let hour = pair(time.hour);
     let minute = pair(time.minute);
     let second = pair(time.second);
-    let hundredth = pair(time.hundredth);
+    let centi = pair(time.hundredth);
     let mut head = [
-        0,
-        0,
-        0,
-        0,
-        0,
-        0,
-        0,
-        0,
-        0,
-        0,
-        b' ',
-        century[0],
-        century[1],
-        of_century[0],
-        of_century[1],
-        b'-',
-        month[0],
-        month[1],
-        b'-',
-        day[0],
-        day[1],
-        b'T',
-        hour[0],
-        hour[1],
-        b':',
-        minute[0],
-        minute[1],
-        b':',
-        second[0],
-        second[1],
-        b'.',
-        hundredth[0],
-        hundredth[1],
-        b' ',
+        0, 0, 0, 0, 0, 0, 0, 0, 0, 0, b' ', century[0], century[1], years[0], years[1], b'-',
+        month[0], month[1], b'-', day[0], day[1], b'T', hour[0], hour[1], b':', minute[0],
+        minute[1], b':', second[0], second[1], b'.', centi[0], centi[1], b' ',
     ];
     let start = itoa::write_digits(number as u64, &mut head, MOST_DIGITS);
     text.extend_from_slice(&head[start..])

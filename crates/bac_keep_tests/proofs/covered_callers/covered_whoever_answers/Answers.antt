@@ -34,13 +34,13 @@ returns g c clean shut has =
     let as_it_was : mid ≡ half = same.0.now_is in
     let archive_still : HasArchive mid.schema = subst (λ (d : Database). HasArchive d.schema) (sym as_it_was) archive in
     let ran = any_run (λ link id r M H. g.L.LogLink.is_ours link id r M H) (λ link. g.L.LogLink.failures link) c.new-transactions.result.retries c.args.place first.place old half c.args.link.now one.link
-    c.in_ok-walk.walk c.args.steps first.next first.records first.gaps first.end (c.keep_log-first.ensures.kept early has_then) (c.keep_log-first.ensures.stands early same.0.was_open has_then) in
+    c.in_ok-from_number.field-0 c.args.steps first.next first.records first.gaps first.end (c.keep_log-first.ensures.kept early has_then) (c.keep_log-first.ensures.stands early same.0.was_open has_then) in
     let ran_then = any_run (λ link id r M H. g.K.LogLink.is_ours link id r M H) (λ link. g.K.LogLink.failures link) one.transactions.retries c.in_ok-from.from second.place mid new c.args.later.now two.link
-    c.in_ok-rest.rest c.args.steps second.next second.records second.gaps second.end (c.keep_log.ensures.kept clean archive_still) (c.keep_log.ensures.stands clean shut archive_still) in
-    let R : Database → Type 0 = λ d. AnyRun (λ link id r M H. g.K.LogLink.is_ours link id r M H) (λ link. g.K.LogLink.failures link) one.transactions.retries c.in_ok-from.from second.place d new c.args.later.now c.in_ok-rest.rest second.next in
+    c.in_ok-from_number-2.field-0 c.args.steps second.next second.records second.gaps second.end (c.keep_log.ensures.kept clean archive_still) (c.keep_log.ensures.stands clean shut archive_still) in
+    let R : Database → Type 0 = λ d. AnyRun (λ link id r M H. g.K.LogLink.is_ours link id r M H) (λ link. g.K.LogLink.failures link) one.transactions.retries c.in_ok-from.from second.place d new c.args.later.now c.in_ok-from_number-2.field-0 second.next in
     let T : ℕ → Type 0 = λ l. TellsNewest l (kept half.trees) c.in-Ok.told in
     covered_on (λ link id r M H. g.L.LogLink.is_ours link id r M H) (λ link. g.L.LogLink.failures link) (λ link id r M H. g.K.LogLink.is_ours link id r M H) (λ link. g.K.LogLink.failures link)
     c.runs_begin_covered.ensures c.runs_leave_none_later.ensures c.runs_go_on_covered.ensures c.newest_ends_what_is_kept.ensures c.new-transactions.result.retries one.transactions.retries
-    c.args.place first.place c.in_ok-from.from second.place old half new c.args.link.now c.args.later.now c.in_ok-walk.walk c.in_ok-rest.rest c.args.log c.args.s first.next c.in_ok-from.next second.next c.in-Ok.told
-    c.in_ok-walk.ensures.some c.in_ok-rest.ensures.some c.keep_log-first.ensures.log (last.1 tt) (last.0 tt) ran (subst T c.keep_log-first.ensures.log (c.in-Ok.ensures.told before archive))
+    c.args.place first.place c.in_ok-from.from second.place old half new c.args.link.now c.args.later.now c.in_ok-from_number.field-0 c.in_ok-from_number-2.field-0 c.args.log c.args.s first.next c.in_ok-from.next second.next c.in-Ok.told
+    c.in_ok-from_number.ensures.some c.in_ok-from_number-2.ensures.some c.keep_log-first.ensures.log (last.1 tt) (last.0 tt) ran (subst T c.keep_log-first.ensures.log (c.in-Ok.ensures.told before archive))
     c.in_ok-from.ensures.0 c.in_ok-from.ensures.1 c.in_ok-from.ensures.2 c.keep_log.ensures.log (subst R as_it_was ran_then)

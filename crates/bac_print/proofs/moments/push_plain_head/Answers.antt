@@ -21,11 +21,11 @@ returns c =
     ∙ rw (
       is,
       c.pair-century.ensures,
-      c.pair-of_century.ensures,
+      c.pair-years.ensures,
       c.pair-month.ensures,
       c.pair-day.ensures,
       c.pair-hour.ensures,
       c.pair-minute.ensures,
       c.pair-second.ensures,
-      c.pair-hundredth.ensures,
+      c.pair-centi.ensures,
     ) refl) (search rules)
