@@ -13,6 +13,7 @@ use Rattle.bac_tools.specs.Faults.{of_find}
 use Rattle.bac_tools.specs.Sockets.{Opens, Outside}
 use Rattle.bac_tools.specs.declared.fault.Fault.TheVariants.{List as ListOf}
 use Rattle.bac_words.specs.Listing.{Lists, addresses_of}
+use Rattle.bac_words.specs.declared.job.Discovery.{Discovery}
 use Rattle.bac_words.specs.declared.job.Stations.{Stations}
 use Rattle.bac_words.specs.declared.job.Stations.TheVariants.{Listed, Input}
 use Rattle.bac_words.specs.declared.listing.ListFault.{ListFault}
@@ -24,8 +25,8 @@ limits_of None max = None
 limits_of (Some min) max = Some (min, unwrap_or max min)
 
 -- the devices that are to answer
-abbrev pub search_of : Option ℕ → Option ℕ → Option ℕ → Search
-search_of min max dnet = record { network = dnet; who_is = record { limits = limits_of min max } }
+abbrev pub search_of : Discovery → Search
+search_of said = record { network = said.dnet; who_is = record { limits = limits_of said.min said.max } }
 
 -- done, or a fault of finding devices, of which so many were asked
 abbrev pub of_found : ℕ → Found → Ending

@@ -35,9 +35,12 @@ use Rattle.bac_walk.specs.Place.{WalkPlace, asking, walk_at, walk_from_oldest}
 use Rattle.bac_wire.specs.Primitive.{Id}
 use Rattle.bac_wire.specs.Stamp.{CivilTime}
 use Rattle.bac_words.specs.Outcome.{mistakes_of, is_long_in, job_in}
-use Rattle.bac_words.specs.declared.job.Given.{Given}
 use Rattle.bac_words.specs.declared.job.Job.{Job}
 use Rattle.bac_words.specs.declared.job.Job.TheVariants as job
+use Rattle.bac_words.specs.declared.job.LogListing.{LogListing}
+use Rattle.bac_words.specs.declared.job.LogReading.{LogReading}
+use Rattle.bac_words.specs.declared.job.PropertyReading.{PropertyReading}
+use Rattle.bac_words.specs.declared.job.PropertyWriting.{PropertyWriting}
 use Rattle.bac_words.specs.declared.fault.WordsFault.{WordsFault}
 use Rattle.bac_words.specs.declared.fault.WordsFault.TheVariants as words
 use Rattle.bac_words.specs.declared.word.Word.{Word}
@@ -86,24 +89,57 @@ reals_of true = Numbers
 reals_of false = Octets
 
 -- the parameters of a request, by the words
-abbrev pub question : ℕ → ℕ → ℕ → Option ℕ → ReadProperty
-question object_type instance property index =
-    record { object = record { kind = object_type; instance = instance }; property = property; index = index }
+abbrev pub question : PropertyReading → ReadProperty
+question said = record {
+  object = record { kind = said.object_type; instance = said.instance };
+  property = said.property;
+  index = said.index;
+}
 
 -- priority 0 is none
 abbrev pub priority_of : ℕ → Option ℕ
 priority_of n = if n == 0 then None else Some n
 
 -- the same of a WriteProperty
-abbrev pub setting : ℕ → ℕ → ℕ → ℕ → Given → Option ℕ → PropertyWrite
-setting object_type instance property priority given index =
-    record {
-      object = record { kind = object_type; instance = instance };
-      property = property;
-      index = index;
-      value = value_of given;
-      priority = priority_of priority;
-    }
+abbrev pub setting : PropertyWriting → PropertyWrite
+setting said = record {
+  object = record { kind = said.object_type; instance = said.instance };
+  property = said.property;
+  index = said.index;
+  value = value_of said.given;
+  priority = priority_of said.priority;
+}
+
+-- ---- the tools that ask one device, as the words say
+
+-- bac rp; of an object that there can't be nothing is asked
+abbrev pub ReadsAsSaid : {S P : Type 0} → SocketRules S P → PropertyReading → Outside S → Ending → Outside S → Type 0
+ReadsAsSaid rules said old result new =
+    (IsOutside said.object_type said.instance × IsUnasked Instance old result new)
+    ⊎ Reads rules said.asked (question said) (reals_of said.numbers) old result new
+
+-- bac wp; likewise
+abbrev pub WritesAsSaid : {S P : Type 0} → SocketRules S P → PropertyWriting → Outside S → Ending → Outside S → Type 0
+WritesAsSaid rules said old result new =
+    (IsOutside said.object_type said.instance × IsUnasked Instance old result new)
+    ⊎ ((w : WriteProperty) × (write_of_code w ≡ setting said)
+    × Writes rules said.asked (request.WriteProperty w) old result new)
+
+-- bac log; of a walk that there can't be nothing is asked
+abbrev pub FetchesAsSaid : {S P : Type 0} → SocketRules S P → LogReading → Outside S → Ending → Outside S →
+    Held → Held → Type 0
+FetchesAsSaid rules said old result new errors told =
+    ((fault : Fault) × (IsNoWalk said.instance said.from said.count fault × (result ≡ Err fault))
+    × Keeps old.output new.output × (new.sockets ≡ old.sockets))
+    ⊎ Fetches rules (layout_of said.csv) said.asked (walk_from said.instance said.from said.count) said.steps
+    old result new errors told
+
+-- bac logs; of logs that there can't be nothing is asked
+abbrev pub ListsAsSaid : {S P : Type 0} → SocketRules S P → LogListing → Outside S → Ending → Outside S → Type 0
+ListsAsSaid rules said old result new =
+    ((fault : Fault) × (IsNoLogs said.instances fault × (result ≡ Err fault))
+    × Keeps old.output new.output × (new.sockets ≡ old.sockets))
+    ⊎ Lists rules said.asked (map trend_log said.instances) old result new
 
 -- ---- any job
 
@@ -122,31 +158,19 @@ abbrev pub Works : {S P C : Type 0} → SocketRules S P → (C → Option CivilT
     Job → Streams S C → Ending → Streams S C → Type 0
 Works rules tells job.Replay old result new =
     Plays old.input new.input old.output new.output result × IsIdle old new
-Works rules tells (job.Rp asked object_type instance property index numbers trace) old result new =
-    ((IsOutside object_type instance × IsUnasked Instance (outside_of old) result (outside_of new))
-    ⊎ Reads rules asked (question object_type instance property index) (reals_of numbers)
-    (outside_of old) result (outside_of new))
-    × IsQuiet old new
-Works rules tells (job.Wp asked object_type instance property priority given index trace) old result new =
-    ((IsOutside object_type instance × IsUnasked Instance (outside_of old) result (outside_of new))
-    ⊎ ((w : WriteProperty) × (write_of_code w ≡ setting object_type instance property priority given index)
-    × Writes rules asked (request.WriteProperty w) (outside_of old) result (outside_of new)))
-    × IsQuiet old new
-Works rules tells (job.Log asked instance from steps count csv trace) old result new =
-    (((fault : Fault) × (IsNoWalk instance from count fault × (result ≡ Err fault))
-    × Keeps old.output new.output × (new.sockets ≡ old.sockets))
-    ⊎ Fetches rules (layout_of csv) asked (walk_from instance from count) steps (outside_of old) result (outside_of new)
-    old.errors new.errors)
+Works rules tells (job.Rp said) old result new =
+    ReadsAsSaid rules said (outside_of old) result (outside_of new) × IsQuiet old new
+Works rules tells (job.Wp said) old result new =
+    WritesAsSaid rules said (outside_of old) result (outside_of new) × IsQuiet old new
+Works rules tells (job.Log said) old result new =
+    FetchesAsSaid rules said (outside_of old) result (outside_of new) old.errors new.errors
     × IsQuietAtFault result old new
-Works rules tells (job.Logs asked instances trace) old result new =
-    (((fault : Fault) × (IsNoLogs instances fault × (result ≡ Err fault))
-    × Keeps old.output new.output × (new.sockets ≡ old.sockets))
-    ⊎ Lists rules asked (map trend_log instances) (outside_of old) result (outside_of new))
-    × IsQuiet old new
-Works rules tells (job.Serve address count) old result new =
-    Serves rules tells address count old result new × Keeps old.output new.output
-Works rules tells (job.Wi stations min max dnet local timeout trace) old result new =
-    Finds rules (search_of min max dnet) stations local timeout old.input new.input
+Works rules tells (job.Logs said) old result new =
+    ListsAsSaid rules said (outside_of old) result (outside_of new) × IsQuiet old new
+Works rules tells (job.Serve said) old result new =
+    Serves rules tells said.address said.count old result new × Keeps old.output new.output
+Works rules tells (job.Wi said) old result new =
+    Finds rules (search_of said) said.stations said.local said.timeout old.input new.input
     (outside_of old) result (outside_of new)
     × IsQuiet old new
 Works rules tells (job.Keep asked) old result new = IsElsewhere old result new

@@ -2,25 +2,38 @@
 
 ghost use Rattle.std.specs.Prelude.{◌≡◌};
 ghost use Rattle.bac_tools.specs.Faults.{of_find};
-ghost use Rattle.bac_tools.specs.Finding.{Finds, Searches, limits_of};
+ghost use Rattle.bac_tools.specs.Finding.{Finds, Searches, limits_of, search_of};
 ghost use Rattle.bac_ports.specs.Sockets.{socket_rules};
 ghost use Rattle.bac_tools.specs.Sockets.{outside};
 
 use crate::asking::ANY;
 use crate::fault::Fault;
 use crate::listing::listed_addresses;
+use bac_apdu::WhoIs;
 use bac_ports::Sockets;
 use bac_query::{FindFault, Search, find_devices};
-use bac_words::{Addresses, Stations};
+use bac_words::{Addresses, Discovery, Stations};
 use std::alloc::Global;
 use std::io::{Read, Write};
 
 /// The limits of the instances that are to answer; the lowest alone is both.
-pub(crate) fn limits(min: Option<u32>, max: Option<u32>) -> Option<(u32, u32)>
+fn limits(min: Option<u32>, max: Option<u32>) -> Option<(u32, u32)>
     ensures { result ≡ limits_of min max }
 {
     let low = min?;
     Some((low, max.unwrap_or(low)))
+}
+
+/// The devices that are to answer.
+fn search_of(said: &Discovery) -> Search
+    ensures { result ≡ search_of said.now }
+{
+    Search {
+        network: said.dnet,
+        who_is: WhoIs {
+            limits: limits(said.min, said.max),
+        },
+    }
 }
 
 /// The fault of a tool that asked so many addresses and found no device.
@@ -69,26 +82,27 @@ fn search_for<S: Sockets, O: Write>(
 pub(crate) fn wi<S: Sockets, I: Read, O: Write>(
     sockets: &mut S,
     alloc: Global,
-    stations: &Stations,
-    search: &Search,
-    local: Option<[u8; 6]>,
-    timeout: u32,
+    said: &Discovery,
     input: &mut I,
     output: &mut O,
 ) -> Result<u8, Fault>
     ensures { Finds
         (socket_rules S.opens S.closes S.Socket.sends S.Socket.receives S.Socket.receives_within)
-        search.now stations.now local timeout (I.remaining input.old) (I.remaining input.new)
+        (search_of said.now) said.now.stations said.now.local said.now.timeout
+        (I.remaining input.old) (I.remaining input.new)
         (outside sockets.old (O.contents output.old)) result
         (outside sockets.new (O.contents output.new)) }
 {
-    match stations {
+    let search = search_of(said);
+    let local = said.local;
+    let timeout = said.timeout;
+    match &said.stations {
         Stations::Listed(addresses) => {
-            search_for(sockets, alloc, addresses, search, local, timeout, output)
+            search_for(sockets, alloc, addresses, &search, local, timeout, output)
         }
         Stations::Input => match listed_addresses(alloc, input) {
             Ok(addresses) => {
-                search_for(sockets, alloc, &addresses, search, local, timeout, output)
+                search_for(sockets, alloc, &addresses, &search, local, timeout, output)
             }
             Err(fault) => Err(Fault::List(fault)),
         },

@@ -9,6 +9,7 @@
 //! (bac_serve) are reached from here.
 #![tactic(auto)]
 
+mod as_said;
 mod asking;
 mod fault;
 mod finding;
@@ -33,7 +34,8 @@ pub use bac_script::{
 pub use bac_serve::{Clock, SystemClock, serve, serve_one};
 pub use bac_walk::ReplyFlaw;
 pub use bac_words::{
-    Addresses, Asked, Given, Group, Groups, Job, Keep, KeepOptions, Kept, ListFault, Name, Names,
+    Addresses, Asked, Check, Discovery, Given, Group, Groups, Job, Keep, KeepOptions, Kept,
+    ListFault, LogListing, LogReading, Name, Names, PropertyReading, PropertyWriting, ServedDevice,
     Stations, Word, WordsFault, read_words,
 };
 pub use fault::Fault;

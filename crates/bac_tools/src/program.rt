@@ -1,115 +1,32 @@
 //! The whole program.
 
-ghost use Rattle.std.specs.Prelude.{◌≡◌, ◌⊎◌, ℕ, List, map, [], None, IfOk, IfErr, OnOk, OnErr};
+ghost use Rattle.std.specs.Prelude.{◌≡◌, ◌⊎◌, ℕ, List, map, [], None, OnOk, OnErr};
 ghost use Rattle.std.specs.Io.KnownBytes.{Appends};
 ghost use Rattle.std.specs.String.{string_bytes};
 ghost use Rattle.clap.specs.Values.{kind_of};
 ghost use Rattle.bac_print.specs.Output.{AppendsPart};
-ghost use Rattle.bac_tools.specs.Run.{AnswersWords, AreWrong, AskFor, Explains, IsNoLogs, IsNoWalk};
-ghost use Rattle.bac_tools.specs.Run.{IsOutside, IsTold, OnlyTells, Runs, RunsRead, Works};
-ghost use Rattle.bac_tools.specs.Run.{layout_of, priority_of, reals_of, trend_log, walk_from};
-ghost use Rattle.bac_tools.specs.Run.{wrong_fault};
+ghost use Rattle.bac_tools.specs.Run.{AnswersWords, AreWrong, AskFor, Explains, IsTold, OnlyTells};
+ghost use Rattle.bac_tools.specs.Run.{Runs, RunsRead, Works, wrong_fault};
 ghost use Rattle.bac_ports.specs.Sockets.{socket_rules};
 ghost use Rattle.bac_tools.specs.Streams.{streams};
 ghost use Rattle.bac_words.specs.Outcome.{mistakes_of};
 ghost use Rattle.bac_words.specs.declared.job.Job.{Job as AnyJob};
 ghost use Rattle.bac_words.specs.declared.word.Word.{Word as AnyWord};
 
-use crate::asking::{LogAsking, log, logs, rp, value_of, wp};
+use crate::as_said::{fetch_as_said, list_as_said, read_as_said, write_as_said};
 use crate::fault::Fault;
-use crate::finding::{limits, wi};
+use crate::finding::wi;
 use crate::playing::replay;
 use crate::serving::serve;
 use crate::telling::{say, tell, tell_after};
 use crate::tips::with_true_tips;
-use bac_apdu::object_type::TREND_LOG;
-use bac_apdu::{ReadProperty, WhoIs, WriteProperty};
 use bac_heeding::Heeds;
-use bac_link::Request;
 use bac_ports::Sockets;
 use bac_print::{WriteRefused, write_text};
-use bac_query::{Layout, Reals, Search};
 use bac_serve::Clock;
-use bac_walk::{Count, Walk};
-use bac_wire::ObjectId;
-use bac_words::{Job, Word, WordsFault, read_words};
+use bac_words::{Job, WordsFault, read_words};
 use std::alloc::Global;
 use std::io::{Read, Write};
-
-/// The object of a question.
-fn object(object_type: u16, instance: u32) -> Result<ObjectId, Fault>
-    ensures ok { IfOk result (λ id. id ≡ record { kind = object_type; instance = instance }) }
-    ensures err { IfErr result
-        (λ fault. (fault ≡ Fault.BadValue Word.Instance) × IsOutside object_type instance) }
-{
-    match ObjectId::new(object_type, instance) {
-        Some(object) => Ok(object),
-        None => Err(Fault::BadValue(Word::Instance)),
-    }
-}
-
-/// The walk of a log from a number, or from the oldest record, that asks for so many records at a
-/// time.
-fn walk(instance: u32, from: Option<u32>, count: u8) -> Result<Walk, Fault>
-    ensures ok { IfOk result (λ walk. walk ≡ walk_from instance from count) }
-    ensures err { IfErr result (IsNoWalk instance from count) }
-{
-    let log = object(TREND_LOG, instance)?;
-    let Some(count) = Count::new(count) else {
-        return Err(Fault::BadValue(Word::Records));
-    };
-    let walk = match from {
-        Some(number) => Walk::from_number(log, number),
-        None => Walk::oldest(log),
-    };
-    match walk {
-        Some(walk) => Ok(walk.asking_for(count)),
-        None => Err(Fault::BadValue(Word::From)),
-    }
-}
-
-/// The trend logs with these instances.
-fn trend_logs(alloc: Global, instances: &[u32]) -> Result<Vec<ObjectId>, Fault>
-    ensures ok { IfOk result (λ logs. logs.items ≡ map trend_log instances.now) }
-    ensures err { IfErr result (IsNoLogs instances.now) }
-{
-    let mut logs = Vec::new(alloc);
-    for instance in instances {
-        let log = match object(TREND_LOG, *instance) {
-            Ok(log) => log,
-            Err(fault) => return Err(fault),
-        };
-        if logs.push(log).is_err() {
-            return Err(Fault::Memory);
-        }
-    }
-    Ok(logs)
-}
-
-/// The priority to write at, if there is one.
-fn priority(number: u8) -> Option<u8>
-    ensures { result ≡ priority_of number }
-{
-    if number == 0 { None } else { Some(number) }
-}
-
-/// How records are printed.
-fn layout(csv: bool) -> Layout
-    ensures { result ≡ layout_of csv }
-{
-    if csv { Layout::Csv } else { Layout::Lines }
-}
-
-/// How REALs and Doubles are shown.
-fn reals(numbers: bool) -> Reals
-    ensures { result ≡ reals_of numbers }
-{
-    if numbers {
-        Reals::Numbers
-    } else {
-        Reals::Octets
-    }
-}
 
 /// Does what a job asks for; answers the exit status. On the errors a server tells that it is up,
 /// and `log` of a device that it contradicted itself.
@@ -131,89 +48,22 @@ fn work<S: Sockets, I: Read, O: Write, E: Write, C: Clock>(
 {
     match job {
         Job::Replay => replay(alloc, input, output),
-        Job::Wi {
-            stations,
-            min,
-            max,
-            dnet,
-            local,
-            timeout,
-            trace: _,
-        } => {
-            let search = Search {
-                network: dnet,
-                who_is: WhoIs {
-                    limits: limits(min, max),
-                },
-            };
-            wi(
-                sockets, alloc, &stations, &search, local, timeout, input, output,
-            )
-        }
-        Job::Rp {
-            asked,
-            object_type,
-            instance,
-            property,
-            index,
-            numbers,
-            trace: _,
-        } => {
-            let question = ReadProperty {
-                object: object(object_type, instance)?,
-                property,
-                index,
-            };
-            rp(sockets, alloc, asked, question, reals(numbers), output)
-        }
-        Job::Wp {
-            asked,
-            object_type,
-            instance,
-            property,
-            priority: number,
-            given,
-            index,
-            trace: _,
-        } => {
-            let question = Request::WriteProperty(WriteProperty {
-                object: object(object_type, instance)?,
-                property,
-                index,
-                value: value_of(&given),
-                priority: priority(number),
-            });
-            wp(sockets, asked, &question, output)
-        }
-        Job::Log {
-            asked,
-            instance,
-            from,
-            steps,
-            count,
-            csv,
-            trace: _,
-        } => {
-            let asking = LogAsking {
-                walk: walk(instance, from, count)?,
-                steps,
-                layout: layout(csv),
-            };
-            log(sockets, alloc, asked, asking, output, errors)
-        }
-        Job::Logs {
-            asked,
-            instances,
-            trace: _,
-        } => {
-            let named = trend_logs(alloc, instances.as_slice())?;
-            logs(sockets, alloc, asked, &named, output)
-        }
+        Job::Wi(said) => wi(sockets, alloc, &said, input, output),
+        Job::Rp(said) => read_as_said(sockets, alloc, said, output),
+        Job::Wp(said) => write_as_said(sockets, said, output),
+        Job::Log(said) => fetch_as_said(sockets, alloc, said, output, errors),
+        Job::Logs(said) => list_as_said(sockets, alloc, said, output),
         Job::Keep(_keep) => Err(Fault::OtherTool),
         Job::Kept(_kept) => Err(Fault::OtherTool),
         Job::Check(_check) => Err(Fault::OtherTool),
-        Job::Serve { address, count } => serve(
-            sockets, alloc, address, count, input, errors, clock,
+        Job::Serve(said) => serve(
+            sockets,
+            alloc,
+            said.address,
+            said.count,
+            input,
+            errors,
+            clock,
         ),
     }
 }

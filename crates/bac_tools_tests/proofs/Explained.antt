@@ -1,5 +1,5 @@
 -- What `run` says of `bac log` with status 4: a bad reply came, and what is told is wrong with it.
-use Rattle.std.proofs.Common.{Bool, false, ◌≡◌, ◌∙◌, inl, inr, ℕ, List, Option, Ok, Err, refl, sym, ap, subst, arith}
+use Rattle.std.proofs.Common.{Bool, ◌≡◌, ◌∙◌, inl, inr, ℕ, List, Option, Ok, Err, refl, sym, ap, subst, arith}
 use Rattle.bac_heeding.specs.Notes.{nothing as never_asked}
 use Rattle.bac_heeding.specs.declared.notes.Passed.{Passed}
 use Rattle.bac_link.specs.Path.{Path, towards}
@@ -8,7 +8,7 @@ use Rattle.bac_query.specs.Flaws.{TellsFlawOf}
 use Rattle.bac_query.specs.declared.fault.QueryFault.TheVariants as query
 use Rattle.bac_tools.specs.LogEnds.{of_why}
 use Rattle.bac_tools.specs.Run.{IsNoWalk, IsToldAfter, Runs, walk_from}
-use Rattle.bac_tools_tests.proofs.Plain.{in_lines}
+use Rattle.bac_tools_tests.proofs.Plain.{in_lines, plain}
 use Rattle.bac_ports.specs.Sockets.{link_over, SocketRules, UsesSocket, own_address, socket_asks}
 use Rattle.bac_tools.specs.Status.{exit_status}
 use Rattle.bac_tools.specs.Streams.{Streams}
@@ -104,7 +104,7 @@ told_flaw passed old new status fault told is (inr (same, part)) four = absurd (
 
 pub explained : {S P C : Type 0} (rules : SocketRules S P) (passes : S → Passed) (tells : C → Option CivilTime → C → Type 0) (asked : Asked)
     (instance steps count : ℕ) (from : Option ℕ) (trace : Bool) (old new : Streams S C) (status : ℕ) →
-    Runs rules passes tells (Log asked instance from steps count false trace) old status new → status ≡ 4 →
+    Runs rules passes tells (Log (plain asked instance from steps count trace)) old status new → status ≡ 4 →
     UsesSocket rules (own_address asked.local) asked.timeout old.sockets
     (λ port last. IsExplained rules asked (walk_from instance from count) last old.errors new.errors) new.sockets
 explained rules passes tells asked instance steps count from trace old new status (inl told) four =

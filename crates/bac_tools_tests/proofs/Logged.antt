@@ -29,7 +29,7 @@ use Rattle.bac_script.specs.declared.replay.fault.ReplayFault.TheVariants as rep
 use Rattle.bac_tools.specs.Asking.{of_fetching}
 use Rattle.bac_tools.specs.Run.{IsToldAfter, Runs, walk_from}
 use Rattle.bac_query.specs.declared.layout.Layout.TheVariants.{Lines}
-use Rattle.bac_tools_tests.proofs.Plain.{in_lines}
+use Rattle.bac_tools_tests.proofs.Plain.{in_lines, plain}
 use Rattle.bac_ports.specs.Sockets.{SocketRules, UsesSocket, link_over, own_address, socket_asks}
 use Rattle.bac_tools.specs.Status.{exchange_status, exit_status, list_status, script_status, walk_status}
 use Rattle.bac_tools.specs.Streams.{Streams}
@@ -228,7 +228,7 @@ cut_over asks left items steps n e after (Err (query.Exchange fault)) old new te
 
 pub logged : {S P C : Type 0} (rules : SocketRules S P) (passes : S → Passed) (tells : C → Option CivilTime → C → Type 0) (asked : Asked)
     (instance steps count : ℕ) (from : Option ℕ) (trace : Bool) (old new : Streams S C) (status : ℕ) →
-    Runs rules passes tells (Log asked instance from steps count false trace) old status new → status ≡ 0 →
+    Runs rules passes tells (Log (plain asked instance from steps count trace)) old status new → status ≡ 0 →
     UsesSocket rules (own_address asked.local) asked.timeout old.sockets
     (λ port last. IsLogged rules asked (walk_from instance from count) port last old.output new.output) new.sockets
 logged rules passes tells asked instance steps count from trace old new status (inl told) zero =
@@ -250,7 +250,7 @@ logged rules passes tells asked instance steps count from trace old new status (
 
 pub logged_at_rest : {S P C : Type 0} (rules : SocketRules S P) (passes : S → Passed) (tells : C → Option CivilTime → C → Type 0) (asked : Asked)
     (instance steps count number : ℕ) (trace : Bool) (old new : Streams S C) (status : ℕ) →
-    Runs rules passes tells (Log asked instance (Some number) steps count false trace) old status new → status ≡ 0 →
+    Runs rules passes tells (Log (plain asked instance (Some number) steps count trace)) old status new → status ≡ 0 →
     UsesSocket rules (own_address asked.local) asked.timeout old.sockets
     (λ port last. IsLoggedAtRest rules asked (walk_from instance (Some number) count) steps port last old.output new.output)
     new.sockets
@@ -273,7 +273,7 @@ logged_at_rest rules passes tells asked instance steps count number trace old ne
 
 pub printed_in_order : {S P C : Type 0} (rules : SocketRules S P) (passes : S → Passed) (tells : C → Option CivilTime → C → Type 0) (asked : Asked)
     (instance steps count : ℕ) (from : Option ℕ) (trace : Bool) (old new : Streams S C) (status : ℕ) →
-    Runs rules passes tells (Log asked instance from steps count false trace) old status new →
+    Runs rules passes tells (Log (plain asked instance from steps count trace)) old status new →
     Keeps old.output new.output
     ⊎ UsesSocket rules (own_address asked.local) asked.timeout old.sockets
     (λ port last. IsCut rules asked (walk_from instance from count) port old.output new.output) new.sockets

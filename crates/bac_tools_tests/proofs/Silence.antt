@@ -1,6 +1,6 @@
 -- Over sockets where no datagram comes none is answered; a lost answer was asked for; and a server ends with a socket
 -- fault only if a socket failed.
-use Rattle.std.proofs.Common.{Bool, false, ◌≡◌, ◌∙◌, inl, inr, lit<, ℕ, zero, suc, ◌+◌, ◌<◌, List, [], ◌∷◌, ◌++◌, Option, Some, None, Ok, Err, refl, sym, ap, subst, append-nil, arith}
+use Rattle.std.proofs.Common.{Bool, ◌≡◌, ◌∙◌, inl, inr, lit<, ℕ, zero, suc, ◌+◌, ◌<◌, List, [], ◌∷◌, ◌++◌, Option, Some, None, Ok, Err, refl, sym, ap, subst, append-nil, arith}
 use Rattle.std.specs.Io.KnownBytes.{Keeps}
 use Rattle.bac_heeding.specs.Notes.{nothing as never_asked}
 use Rattle.bac_heeding.specs.declared.notes.Passed.{Passed}
@@ -38,7 +38,7 @@ use Rattle.bac_tools.specs.Run.{Ends, Runs, Works, question, reals_of, walk_from
 use Rattle.bac_tools.specs.Serving.{IsConfigured, IsServedOver, refused_with}
 use Rattle.bac_query.specs.declared.layout.Layout.TheVariants.{Lines}
 use Rattle.bac_query.specs.declared.reals.Reals.{Reals}
-use Rattle.bac_tools_tests.proofs.Plain.{in_lines}
+use Rattle.bac_tools_tests.proofs.Plain.{in_lines, plain}
 use Rattle.bac_ports.specs.Sockets.{SocketRules, UsesSocket, link_over, own_address, socket_asks}
 use Rattle.bac_tools.specs.Sockets.{Outside}
 use Rattle.bac_tools.specs.Status.{walk_status}
@@ -58,8 +58,10 @@ use Rattle.bac_walk.specs.declared.outcome.Why.{Why}
 use Rattle.bac_walk.specs.declared.outcome.Why.TheVariants as why
 use Rattle.bac_wire.specs.Stamp.{CivilTime}
 use Rattle.bac_words.specs.declared.job.Asked.{Asked}
-use Rattle.bac_words.specs.declared.job.Given.{Given}
 use Rattle.bac_words.specs.declared.job.Job.TheVariants.{Log, Rp, Serve, Wp}
+use Rattle.bac_words.specs.declared.job.PropertyReading.{PropertyReading}
+use Rattle.bac_words.specs.declared.job.PropertyWriting.{PropertyWriting}
+use Rattle.bac_words.specs.declared.job.ServedDevice.{ServedDevice}
 
 -- ---- no answer over a silent socket
 
@@ -110,35 +112,35 @@ not_written rules silent asked question old result new (inr (port, between, last
 not_written rules silent asked question old result new (inr (port, between, last, opens, (answer, left, (Err why, exchanged, (told, keeps)), is_last, is), closes)) =
     (λ done good. query_end asked.address answer (query.Exchange why) result done told is good, keeps)
 
-pub no_rp : {S P C : Type 0} (rules : SocketRules S P) (passes : S → Passed) (tells : C → Option CivilTime → C → Type 0) (asked : Asked)
-    (object_type instance property : ℕ) (index : Option ℕ) (numbers trace : Bool) (old new : Streams S C) (status : ℕ) →
-    Runs rules passes tells (Rp asked object_type instance property index numbers trace) old status new → IsSilent rules.receives →
+pub no_rp : {S P C : Type 0} (rules : SocketRules S P) (passes : S → Passed) (tells : C → Option CivilTime → C → Type 0) (said : PropertyReading)
+    (old new : Streams S C) (status : ℕ) →
+    Runs rules passes tells (Rp said) old status new → IsSilent rules.receives →
     (status ≡ 0 → ⊥) × Keeps old.output new.output
-no_rp rules passes tells asked object_type instance property index numbers trace old new status (inl told) silent =
+no_rp rules passes tells said old new status (inl told) silent =
     (λ none. not_told never_asked fault.Memory old.errors new.errors status told.0 none, told.1)
-no_rp rules passes tells asked object_type instance property index numbers trace old new status (inr (Err why, said, (inl unasked, quiet), ends)) silent =
-    (λ none. not_told (passes new.sockets) why said new.errors status ends none, unasked.1.1)
-no_rp rules passes tells asked object_type instance property index numbers trace old new status (inr (Err why, said, (inr reads, quiet), ends)) silent =
-    (λ none. not_told (passes new.sockets) why said new.errors status ends none, (no_values rules silent asked _ _ _ _ _ reads).1)
-no_rp rules passes tells asked object_type instance property index numbers trace old new status (inr (Ok done, said, (inl unasked, quiet), ends)) silent =
+no_rp rules passes tells said old new status (inr (Err why, told, (inl unasked, quiet), ends)) silent =
+    (λ none. not_told (passes new.sockets) why told new.errors status ends none, unasked.1.1)
+no_rp rules passes tells said old new status (inr (Err why, told, (inr reads, quiet), ends)) silent =
+    (λ none. not_told (passes new.sockets) why told new.errors status ends none, (no_values rules silent said.asked _ _ _ _ _ reads).1)
+no_rp rules passes tells said old new status (inr (Ok done, told, (inl unasked, quiet), ends)) silent =
     absurd (let e = unasked.1.0 in cc)
-no_rp rules passes tells asked object_type instance property index numbers trace old new status (inr (Ok done, said, (inr reads, quiet), ends)) silent =
-    absurd ((no_values rules silent asked _ _ _ _ _ reads).0 done refl)
+no_rp rules passes tells said old new status (inr (Ok done, told, (inr reads, quiet), ends)) silent =
+    absurd ((no_values rules silent said.asked _ _ _ _ _ reads).0 done refl)
 
-pub no_wp : {S P C : Type 0} (rules : SocketRules S P) (passes : S → Passed) (tells : C → Option CivilTime → C → Type 0) (asked : Asked)
-    (object_type instance property priority : ℕ) (given : Given) (index : Option ℕ) (trace : Bool) (old new : Streams S C) (status : ℕ) →
-    Runs rules passes tells (Wp asked object_type instance property priority given index trace) old status new → IsSilent rules.receives →
+pub no_wp : {S P C : Type 0} (rules : SocketRules S P) (passes : S → Passed) (tells : C → Option CivilTime → C → Type 0) (said : PropertyWriting)
+    (old new : Streams S C) (status : ℕ) →
+    Runs rules passes tells (Wp said) old status new → IsSilent rules.receives →
     (status ≡ 0 → ⊥) × Keeps old.output new.output
-no_wp rules passes tells asked object_type instance property priority given index trace old new status (inl told) silent =
+no_wp rules passes tells said old new status (inl told) silent =
     (λ none. not_told never_asked fault.Memory old.errors new.errors status told.0 none, told.1)
-no_wp rules passes tells asked object_type instance property priority given index trace old new status (inr (Err why, said, (inl unasked, quiet), ends)) silent =
-    (λ none. not_told (passes new.sockets) why said new.errors status ends none, unasked.1.1)
-no_wp rules passes tells asked object_type instance property priority given index trace old new status (inr (Err why, said, (inr (w, is, writes), quiet), ends)) silent =
-    (λ none. not_told (passes new.sockets) why said new.errors status ends none, (not_written rules silent asked _ _ _ _ writes).1)
-no_wp rules passes tells asked object_type instance property priority given index trace old new status (inr (Ok done, said, (inl unasked, quiet), ends)) silent =
+no_wp rules passes tells said old new status (inr (Err why, told, (inl unasked, quiet), ends)) silent =
+    (λ none. not_told (passes new.sockets) why told new.errors status ends none, unasked.1.1)
+no_wp rules passes tells said old new status (inr (Err why, told, (inr (w, is, writes), quiet), ends)) silent =
+    (λ none. not_told (passes new.sockets) why told new.errors status ends none, (not_written rules silent said.asked _ _ _ _ writes).1)
+no_wp rules passes tells said old new status (inr (Ok done, told, (inl unasked, quiet), ends)) silent =
     absurd (let e = unasked.1.0 in cc)
-no_wp rules passes tells asked object_type instance property priority given index trace old new status (inr (Ok done, said, (inr (w, is, writes), quiet), ends)) silent =
-    absurd ((not_written rules silent asked _ _ _ _ writes).0 done refl)
+no_wp rules passes tells said old new status (inr (Ok done, told, (inr (w, is, writes), quiet), ends)) silent =
+    absurd ((not_written rules silent said.asked _ _ _ _ writes).0 done refl)
 
 -- ---- log
 
@@ -217,7 +219,7 @@ no_status rules silent asked w steps link (Ok fetched) end left old new done ove
 
 pub no_log : {S P C : Type 0} (rules : SocketRules S P) (passes : S → Passed) (tells : C → Option CivilTime → C → Type 0) (asked : Asked)
     (instance steps count : ℕ) (from : Option ℕ) (trace : Bool) (old new : Streams S C) (status : ℕ) →
-    Runs rules passes tells (Log asked instance from steps count false trace) old status new → IsSilent rules.receives →
+    Runs rules passes tells (Log (plain asked instance from steps count trace)) old status new → IsSilent rules.receives →
     (0 < steps → status ≡ 0 → ⊥) × ((w : Why) × (next : ℕ) × AppendsPart old.output new.output (end_line w next))
 no_log rules passes tells asked instance steps count from trace old new status (inl told) silent =
     (λ some none. not_told never_asked fault.Memory old.errors new.errors status told.0 none, nothing old.output new.output told.1)
@@ -263,22 +265,22 @@ not_lost reals address (Some values) (Err query.Memory) old new prints is = absu
 not_lost reals address (Some values) (Err (query.Exchange why)) old new prints is = prints
 
 pub lost : {S P C : Type 0} (rules : SocketRules S P) (tells : C → Option CivilTime → C → Type 0) → LostWasAsked rules tells
-lost rules tells = λ asked object_type instance property index numbers trace old new works. by asked object_type instance property index numbers trace old new works
+lost rules tells = λ said old new works. by said old new works
   where
-    by : (asked : Asked) (object_type instance property : ℕ) (index : Option ℕ) (numbers trace : Bool) (old new : Streams _ _) →
-        Works rules tells (Rp asked object_type instance property index numbers trace) old (Err (fault.Exchange asked.address exchange.Lost)) new →
-        UsesSocket rules (own_address asked.local) asked.timeout old.sockets
+    by : (said : PropertyReading) (old new : Streams _ _) →
+        Works rules tells (Rp said) old (Err (fault.Exchange said.asked.address exchange.Lost)) new →
+        UsesSocket rules (own_address said.asked.local) said.asked.timeout old.sockets
         (λ port last. (left : UdpLink _) × Unanswered (socket_asks rules)
-        (request_octets (towards asked.route) (next_invoke 0) (request.ReadProperty (question object_type instance property index)))
-        (asked.retries + 1) (link_over asked.address port) left × (last ≡ left.port))
+        (request_octets (towards said.asked.route) (next_invoke 0) (request.ReadProperty (question said)))
+        (said.asked.retries + 1) (link_over said.asked.address port) left × (last ≡ left.port))
         new.sockets
-    by asked object_type instance property index numbers trace old new (inl unasked, quiet) = absurd (let e = unasked.1.0 in cc)
-    by asked object_type instance property index numbers trace old new (inr (inl (shut, opens, is_shut, closed)), quiet) = absurd (let e = is_shut in cc)
-    by asked object_type instance property index numbers trace old new (inr (inr (port, between, last, opens, (answer, left, (Ok datagram, exchanged, prints), is_last, is), closes)), quiet) =
-        absurd (not_lost (reals_of numbers) asked.address (values_in (apdu_in datagram)) answer _ _ prints is)
-    by asked object_type instance property index numbers trace old new (inr (inr (port, between, last, opens, (answer, left, (Err why, exchanged, told), is_last, is), closes)), quiet) =
-        let P : ExchangeFault → Type 0 = λ f. Exchanges (socket_asks rules) (towards asked.route) (next_invoke 0) (request.ReadProperty (question object_type instance property index)) asked.retries (link_over asked.address port) (Err f) left in
-        (port, between, last, opens, (left, subst P (same_fault asked.address answer why told.0 is) exchanged, is_last), closes)
+    by said old new (inl unasked, quiet) = absurd (let e = unasked.1.0 in cc)
+    by said old new (inr (inl (shut, opens, is_shut, closed)), quiet) = absurd (let e = is_shut in cc)
+    by said old new (inr (inr (port, between, last, opens, (answer, left, (Ok datagram, exchanged, prints), is_last, is), closes)), quiet) =
+        absurd (not_lost (reals_of said.numbers) said.asked.address (values_in (apdu_in datagram)) answer _ _ prints is)
+    by said old new (inr (inr (port, between, last, opens, (answer, left, (Err why, exchanged, told), is_last, is), closes)), quiet) =
+        let P : ExchangeFault → Type 0 = λ f. Exchanges (socket_asks rules) (towards said.asked.route) (next_invoke 0) (request.ReadProperty (question said)) said.asked.retries (link_over said.asked.address port) (Err f) left in
+        (port, between, last, opens, (left, subst P (same_fault said.asked.address answer why told.0 is) exchanged, is_last), closes)
 
 -- ---- a server
 
@@ -341,18 +343,18 @@ over_stays rules tells sure address count device said port last old new (Ok done
 over_stays rules tells sure address count device said port last old new (Err why, after, told, serves, is) =
     device_stays rules.sends rules.receives tells sure.1 count _ why _ serves
 
-pub stays : {S P C : Type 0} (rules : SocketRules S P) (tells : C → Option CivilTime → C → Type 0) (address : List ℕ) (count : ℕ)
+pub stays : {S P C : Type 0} (rules : SocketRules S P) (tells : C → Option CivilTime → C → Type 0) (served : ServedDevice)
     (said : Fault) (old new : Streams S C) → NeverFails rules → IsOfSocket said →
-    Works rules tells (Serve address count) old (Err said) new → ⊥
-stays rules tells address count said old new sure of (inl (why, configured, is, idle), keeps) =
+    Works rules tells (Serve served) old (Err said) new → ⊥
+stays rules tells served said old new sure of (inl (why, configured, is, idle), keeps) =
     configured_not old.input new.input why said configured of (let e : why ≡ said = cc in e)
-stays rules tells address count said old new sure of (inr (c, configured, inl (why, inl unbuilt, is, idle)), keeps) =
+stays rules tells served said old new sure of (inr (c, configured, inl (why, inl unbuilt, is, idle)), keeps) =
     let e = unbuilt.1 in memory_not said of (let p : said ≡ fault.Memory = cc in p)
-stays rules tells address count said old new sure of (inr (c, configured, inl (why, inr unbuilt, is, idle)), keeps) =
+stays rules tells served said old new sure of (inr (c, configured, inl (why, inr unbuilt, is, idle)), keeps) =
     let e = unbuilt.4 in script_not (refused_with unbuilt.0) said of (let p : said ≡ fault.Script (refused_with unbuilt.0) = cc in p)
-stays rules tells address count said old new sure of (inr (c, configured, inr (built, inl memory)), keeps) =
+stays rules tells served said old new sure of (inr (c, configured, inr (built, inl memory)), keeps) =
     let e = memory.0 in memory_not said of (let p : said ≡ fault.Memory = cc in p)
-stays rules tells address count said old new sure of (inr (c, configured, inr (built, inr (inl (why, opens, is_shut, closed)))), keeps) =
-    sure.0 old.sockets new.sockets address _ why opens
-stays rules tells address count said old new sure of (inr (c, configured, inr (built, inr (inr (port, between, last, opens, served, closes)))), keeps) =
-    over_stays rules tells sure address count _ said port last old new served
+stays rules tells served said old new sure of (inr (c, configured, inr (built, inr (inl (why, opens, is_shut, closed)))), keeps) =
+    sure.0 old.sockets new.sockets served.address _ why opens
+stays rules tells served said old new sure of (inr (c, configured, inr (built, inr (inr (port, between, last, opens, serves, closes)))), keeps) =
+    over_stays rules tells sure served.address served.count _ said port last old new serves

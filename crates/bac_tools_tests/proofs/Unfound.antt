@@ -21,6 +21,7 @@ use Rattle.bac_tools.specs.declared.fault.Fault.TheVariants as fault
 use Rattle.bac_tools_tests.proofs.Logged.{not_told}
 use Rattle.bac_tools_tests.specs.Silence.{IsSilent, IsSilentWithin}
 use Rattle.bac_wire.specs.Stamp.{CivilTime}
+use Rattle.bac_words.specs.declared.job.Discovery.{Discovery}
 use Rattle.bac_words.specs.declared.job.Job.TheVariants.{Wi}
 use Rattle.bac_words.specs.declared.job.Stations.TheVariants.{Listed}
 
@@ -85,18 +86,18 @@ found_end asked (Ok tt) done is never = never refl
 found_end asked (Err why) done is never = cc
 
 pub no_wi : {S P C : Type 0} (rules : SocketRules S P) (passes : S → Passed) (tells : C → Option CivilTime → C → Type 0)
-    (addresses : List (List ℕ)) (min max dnet : Option ℕ) (local : Option (List ℕ)) (timeout : ℕ) (trace : Bool) (old new : Streams S C)
-    (status : ℕ) → Runs rules passes tells (Wi (Listed addresses) min max dnet local timeout trace) old status new → IsSilent rules.receives →
+    (said : Discovery) (addresses : List (List ℕ)) (old new : Streams S C)
+    (status : ℕ) → Runs rules passes tells (Wi (record said { stations = Listed addresses })) old status new → IsSilent rules.receives →
     IsSilentWithin rules.receives_within → (status ≡ 0 → ⊥) × Keeps old.output new.output
-no_wi rules passes tells addresses min max dnet local timeout trace old new status (inl told) silent still =
+no_wi rules passes tells said addresses old new status (inl told) silent still =
     (λ none. not_told never_asked fault.Memory old.errors new.errors status told.0 none, told.1)
-no_wi rules passes tells addresses min max dnet local timeout trace old new status (inr (Err why, said, ((kept, (inl (shut, opens, is_shut, closed))), quiet), ends)) silent still =
-    (λ none. not_told (passes new.sockets) why said new.errors status ends none, closed)
-no_wi rules passes tells addresses min max dnet local timeout trace old new status (inr (Ok done, said, ((kept, (inl (shut, opens, is_shut, closed))), quiet), ends)) silent still =
+no_wi rules passes tells said addresses old new status (inr (Err why, told, ((kept, (inl (shut, opens, is_shut, closed))), quiet), ends)) silent still =
+    (λ none. not_told (passes new.sockets) why told new.errors status ends none, closed)
+no_wi rules passes tells said addresses old new status (inr (Ok done, told, ((kept, (inl (shut, opens, is_shut, closed))), quiet), ends)) silent still =
     absurd (let e = is_shut in cc)
-no_wi rules passes tells addresses min max dnet local timeout trace old new status (inr (Err why, said, ((kept, (inr (port, between, last, opens, (found, finds, is), closes))), quiet), ends)) silent still =
+no_wi rules passes tells said addresses old new status (inr (Err why, told, ((kept, (inr (port, between, last, opens, (found, finds, is), closes))), quiet), ends)) silent still =
     let both = unfound rules.sends rules.receives rules.receives_within silent still 4096 _ addresses _ found _ finds in
-    (λ none. not_told (passes new.sockets) why said new.errors status ends none, both.1)
-no_wi rules passes tells addresses min max dnet local timeout trace old new status (inr (Ok done, said, ((kept, (inr (port, between, last, opens, (found, finds, is), closes))), quiet), ends)) silent still =
+    (λ none. not_told (passes new.sockets) why told new.errors status ends none, both.1)
+no_wi rules passes tells said addresses old new status (inr (Ok done, told, ((kept, (inr (port, between, last, opens, (found, finds, is), closes))), quiet), ends)) silent still =
     let both = unfound rules.sends rules.receives rules.receives_within silent still 4096 _ addresses _ found _ finds in
     absurd (found_end (length addresses) found done is both.0)

@@ -1,5 +1,5 @@
 -- Sockets over which nothing comes, and sockets that never fail.
-use Rattle.std.specs.Prelude.{◌≡◌, ◌⊎◌, ℕ, ◌+◌, Bool, List, Option, Ok, Err}
+use Rattle.std.specs.Prelude.{◌≡◌, ◌⊎◌, ℕ, ◌+◌, List, Option, Ok, Err}
 use Rattle.bac_link.specs.Exchanges.{Unanswered}
 use Rattle.bac_link.specs.Path.{towards}
 use Rattle.bac_link.specs.Requests.{next_invoke, request_octets}
@@ -16,8 +16,9 @@ use Rattle.bac_tools.specs.Streams.{Streams}
 use Rattle.bac_tools.specs.declared.fault.Fault.{Fault}
 use Rattle.bac_tools.specs.declared.fault.Fault.TheVariants.{Exchange, Unopened, Socket}
 use Rattle.bac_wire.specs.Stamp.{CivilTime}
-use Rattle.bac_words.specs.declared.job.Asked.{Asked}
 use Rattle.bac_words.specs.declared.job.Job.TheVariants.{Rp, Serve}
+use Rattle.bac_words.specs.declared.job.PropertyReading.{PropertyReading}
+use Rattle.bac_words.specs.declared.job.ServedDevice.{ServedDevice}
 
 -- no datagram ever comes
 abbrev pub IsSilent : {P : Type 0} → (P → Receiving → P → Type 0) → Type 0
@@ -37,15 +38,12 @@ NeverFails {S = S} {P = P} rules =
 -- as the retries say, with the same octets, no answer came, and nothing more was done before the socket was closed.
 abbrev pub LostWasAsked : {S P C : Type 0} → SocketRules S P → (C → Option CivilTime → C → Type 0) → Type 0
 LostWasAsked {S = S} {P = P} {C = C} rules tells =
-    (asked : Asked) (object_type instance property : ℕ) (index : Option ℕ) (numbers trace : Bool)
-    (old new : Streams S C) →
-    Works rules tells (Rp asked object_type instance property index numbers trace) old
-    (Err (Exchange asked.address exchange.Lost)) new →
-    UsesSocket rules (own_address asked.local) asked.timeout old.sockets
+    (said : PropertyReading) (old new : Streams S C) →
+    Works rules tells (Rp said) old (Err (Exchange said.asked.address exchange.Lost)) new →
+    UsesSocket rules (own_address said.asked.local) said.asked.timeout old.sockets
     (λ port last. (left : UdpLink P) × Unanswered (socket_asks rules)
-    (request_octets (towards asked.route) (next_invoke 0)
-    (request.ReadProperty (question object_type instance property index)))
-    (asked.retries + 1) (link_over asked.address port) left × (last ≡ left.port))
+    (request_octets (towards said.asked.route) (next_invoke 0) (request.ReadProperty (question said)))
+    (said.asked.retries + 1) (link_over said.asked.address port) left × (last ≡ left.port))
     new.sockets
 
 -- a socket wasn't opened, or it failed
@@ -55,5 +53,5 @@ IsOfSocket fault = (fault ≡ Socket) ⊎ ((why : OpenFault) × (fault ≡ Unope
 -- a server doesn't end with a socket fault over sockets that never fail
 abbrev pub ServersStay : {S P C : Type 0} → SocketRules S P → (C → Option CivilTime → C → Type 0) → Type 0
 ServersStay {S = S} {C = C} rules tells =
-    (address : List ℕ) (count : ℕ) (fault : Fault) (old new : Streams S C) → NeverFails rules → IsOfSocket fault →
-    Works rules tells (Serve address count) old (Err fault) new → ⊥
+    (said : ServedDevice) (fault : Fault) (old new : Streams S C) → NeverFails rules → IsOfSocket fault →
+    Works rules tells (Serve said) old (Err fault) new → ⊥

@@ -1,13 +1,13 @@
 //! What a user of the program needs, proved from its public contract alone.
 
-ghost use Rattle.std.specs.Prelude.{◌≡◌, ◌⊎◌, ℕ, Bool, false, map, Option, Some};
+ghost use Rattle.std.specs.Prelude.{◌≡◌, ◌⊎◌, ℕ, false, map, Some};
 ghost use Rattle.std.specs.Io.KnownBytes.{Keeps};
 ghost use Rattle.std.specs.String.{string_bytes};
 ghost use Rattle.bac_tools.specs.Run.{AskFor, walk_from};
 ghost use Rattle.bac_ports.specs.Sockets.{UsesSocket, own_address, socket_rules};
 ghost use Rattle.bac_tools_tests.specs.Logging.{IsCut, IsExplained, IsLogged, IsLoggedAtRest};
-ghost use Rattle.bac_words.specs.declared.job.Asked.{Asked as AskedOf};
 ghost use Rattle.bac_words.specs.declared.job.Job.TheVariants.{Log};
+ghost use Rattle.bac_words.specs.declared.job.LogReading.{LogReading as AnyLogReading};
 
 use crate::streams::Short;
 use bac_tools::{Clock, Heeds, run};
@@ -26,13 +26,13 @@ pub fn logged<S: Heeds, I: Read, O: Write, E: Write, C: Clock>(
     errors: &mut E,
     clock: &mut C,
 ) -> u8
-    ensures { (asked : AskedOf) (instance steps count : ℕ) (from : Option ℕ) (trace : Bool)
-        → AskFor (map string_bytes words.now) (Log asked instance from steps count false trace)
+    ensures { (said : AnyLogReading) → said.csv ≡ false
+        → AskFor (map string_bytes words.now) (Log said)
         → result ≡ 0 → UsesSocket (socket_rules S.opens S.closes S.Socket.sends S.Socket.receives
-        S.Socket.receives_within) (own_address asked.local) asked.timeout sockets.old
+        S.Socket.receives_within) (own_address said.asked.local) said.asked.timeout sockets.old
         (λ port last. IsLogged (socket_rules S.opens S.closes S.Socket.sends S.Socket.receives
-        S.Socket.receives_within) asked (walk_from instance from count) port last
-        (O.contents output.old) (O.contents output.new)) sockets.new }
+        S.Socket.receives_within) said.asked (walk_from said.instance said.from said.count) port
+        last (O.contents output.old) (O.contents output.new)) sockets.new }
 {
     run(sockets, alloc, words, input, output, errors, clock)
 }
@@ -48,15 +48,14 @@ pub fn logged_at_rest<S: Heeds, I: Read, O: Write, E: Write, C: Clock>(
     errors: &mut E,
     clock: &mut C,
 ) -> u8
-    ensures { (asked : AskedOf) (instance steps count number : ℕ) (trace : Bool)
-        → AskFor (map string_bytes words.now)
-        (Log asked instance (Some number) steps count false trace) → result ≡ 0
+    ensures { (said : AnyLogReading) (number : ℕ) → said.csv ≡ false → said.from ≡ Some number
+        → AskFor (map string_bytes words.now) (Log said) → result ≡ 0
         → UsesSocket (socket_rules S.opens S.closes S.Socket.sends S.Socket.receives
-        S.Socket.receives_within) (own_address asked.local) asked.timeout sockets.old
+        S.Socket.receives_within) (own_address said.asked.local) said.asked.timeout sockets.old
         (λ port last. IsLoggedAtRest (socket_rules S.opens S.closes S.Socket.sends
-        S.Socket.receives S.Socket.receives_within) asked
-        (walk_from instance (Some number) count) steps port last (O.contents output.old)
-        (O.contents output.new)) sockets.new }
+        S.Socket.receives S.Socket.receives_within) said.asked
+        (walk_from said.instance (Some number) said.count) said.steps port last
+        (O.contents output.old) (O.contents output.new)) sockets.new }
 {
     run(sockets, alloc, words, input, output, errors, clock)
 }
@@ -72,13 +71,13 @@ pub fn bad_reply_explained<S: Heeds, I: Read, O: Write, E: Write, C: Clock>(
     errors: &mut E,
     clock: &mut C,
 ) -> u8
-    ensures { (asked : AskedOf) (instance steps count : ℕ) (from : Option ℕ) (trace : Bool)
-        → AskFor (map string_bytes words.now) (Log asked instance from steps count false trace)
+    ensures { (said : AnyLogReading) → said.csv ≡ false
+        → AskFor (map string_bytes words.now) (Log said)
         → result ≡ 4 → UsesSocket (socket_rules S.opens S.closes S.Socket.sends S.Socket.receives
-        S.Socket.receives_within) (own_address asked.local) asked.timeout sockets.old
+        S.Socket.receives_within) (own_address said.asked.local) said.asked.timeout sockets.old
         (λ port last. IsExplained (socket_rules S.opens S.closes S.Socket.sends
-        S.Socket.receives S.Socket.receives_within) asked
-        (walk_from instance from count) last (E.contents errors.old)
+        S.Socket.receives S.Socket.receives_within) said.asked
+        (walk_from said.instance said.from said.count) last (E.contents errors.old)
         (E.contents errors.new)) sockets.new }
 {
     run(sockets, alloc, words, input, output, errors, clock)
@@ -95,13 +94,13 @@ pub fn printed_in_order<S: Heeds, I: Read, O: Write, E: Write, C: Clock>(
     errors: &mut E,
     clock: &mut C,
 ) -> u8
-    ensures { (asked : AskedOf) (instance steps count : ℕ) (from : Option ℕ) (trace : Bool)
-        → AskFor (map string_bytes words.now) (Log asked instance from steps count false trace)
+    ensures { (said : AnyLogReading) → said.csv ≡ false
+        → AskFor (map string_bytes words.now) (Log said)
         → Keeps (O.contents output.old) (O.contents output.new)
         ⊎ UsesSocket (socket_rules S.opens S.closes S.Socket.sends S.Socket.receives
-        S.Socket.receives_within) (own_address asked.local) asked.timeout sockets.old
+        S.Socket.receives_within) (own_address said.asked.local) said.asked.timeout sockets.old
         (λ port last. IsCut (socket_rules S.opens S.closes S.Socket.sends S.Socket.receives
-        S.Socket.receives_within) asked (walk_from instance from count) port
+        S.Socket.receives_within) said.asked (walk_from said.instance said.from said.count) port
         (O.contents output.old) (O.contents output.new)) sockets.new }
 {
     run(sockets, alloc, words, input, output, errors, clock)
@@ -118,13 +117,13 @@ pub fn printed_until_refused<S: Heeds, I: Read, E: Write, C: Clock>(
     errors: &mut E,
     clock: &mut C,
 ) -> u8
-    ensures { (asked : AskedOf) (instance steps count : ℕ) (from : Option ℕ) (trace : Bool)
-        → AskFor (map string_bytes words.now) (Log asked instance from steps count false trace)
+    ensures { (said : AnyLogReading) → said.csv ≡ false
+        → AskFor (map string_bytes words.now) (Log said)
         → (output.new.text.items ≡ output.old.text.items)
         ⊎ UsesSocket (socket_rules S.opens S.closes S.Socket.sends S.Socket.receives
-        S.Socket.receives_within) (own_address asked.local) asked.timeout sockets.old
+        S.Socket.receives_within) (own_address said.asked.local) said.asked.timeout sockets.old
         (λ port last. IsCut (socket_rules S.opens S.closes S.Socket.sends S.Socket.receives
-        S.Socket.receives_within) asked (walk_from instance from count) port
+        S.Socket.receives_within) said.asked (walk_from said.instance said.from said.count) port
         (Some output.old.text.items) (Some output.new.text.items)) sockets.new }
 {
     printed_in_order(sockets, alloc, words, input, output, errors, clock)

@@ -1,7 +1,7 @@
 //! What the program doesn't do over sockets where nothing comes, or that never fail, proved from
 //! its public contract alone.
 
-ghost use Rattle.std.specs.Prelude.{◌≡◌, ◌<◌, ℕ, Bool, false, map, List, Option};
+ghost use Rattle.std.specs.Prelude.{◌≡◌, ◌<◌, ℕ, false, map, List};
 ghost use Rattle.std.specs.Io.KnownBytes.{Keeps};
 ghost use Rattle.std.specs.String.{string_bytes};
 ghost use Rattle.bac_print.specs.Output.{AppendsPart};
@@ -11,9 +11,11 @@ ghost use Rattle.bac_ports.specs.Sockets.{socket_rules};
 ghost use Rattle.bac_tools_tests.specs.Silence.{IsSilent, IsSilentWithin, LostWasAsked};
 ghost use Rattle.bac_tools_tests.specs.Silence.{ServersStay};
 ghost use Rattle.bac_walk.specs.declared.outcome.Why.{Why as AnyWhy};
-ghost use Rattle.bac_words.specs.declared.job.Asked.{Asked as AskedOf};
-ghost use Rattle.bac_words.specs.declared.job.Given.{Given as AnyGiven};
+ghost use Rattle.bac_words.specs.declared.job.Discovery.{Discovery as AnyDiscovery};
 ghost use Rattle.bac_words.specs.declared.job.Job.TheVariants.{Log, Rp, Wi, Wp};
+ghost use Rattle.bac_words.specs.declared.job.LogReading.{LogReading as AnyLogReading};
+ghost use Rattle.bac_words.specs.declared.job.PropertyReading.{PropertyReading as AnyReading};
+ghost use Rattle.bac_words.specs.declared.job.PropertyWriting.{PropertyWriting as AnyWriting};
 ghost use Rattle.bac_words.specs.declared.job.Stations.TheVariants.{Listed};
 
 use bac_tools::{Clock, Heeds, Sockets, run};
@@ -32,20 +34,15 @@ pub fn nothing_made_up<S: Heeds, I: Read, O: Write, E: Write, C: Clock>(
     errors: &mut E,
     clock: &mut C,
 ) -> u8
-    ensures rp { (asked : AskedOf) (object_type instance property : ℕ) (index : Option ℕ)
-        (numbers trace : Bool) → AskFor (map string_bytes words.now)
-        (Rp asked object_type instance property index numbers trace)
+    ensures rp { (said : AnyReading) → AskFor (map string_bytes words.now) (Rp said)
         → IsSilent S.Socket.receives
         → (result ≡ 0 → ⊥) × Keeps (O.contents output.old) (O.contents output.new) }
-    ensures wp { (asked : AskedOf) (object_type instance property priority : ℕ) (given : AnyGiven)
-        (index : Option ℕ) (trace : Bool)
-        → AskFor (map string_bytes words.now)
-        (Wp asked object_type instance property priority given index trace)
+    ensures wp { (said : AnyWriting) → AskFor (map string_bytes words.now) (Wp said)
         → IsSilent S.Socket.receives
         → (result ≡ 0 → ⊥) × Keeps (O.contents output.old) (O.contents output.new) }
-    ensures log { (asked : AskedOf) (instance steps count : ℕ) (from : Option ℕ) (trace : Bool)
-        → AskFor (map string_bytes words.now) (Log asked instance from steps count false trace)
-        → IsSilent S.Socket.receives → (0 < steps → result ≡ 0 → ⊥)
+    ensures log { (said : AnyLogReading) → said.csv ≡ false
+        → AskFor (map string_bytes words.now) (Log said)
+        → IsSilent S.Socket.receives → (0 < said.steps → result ≡ 0 → ⊥)
         × ((why : AnyWhy) × (next : ℕ)
         × AppendsPart (O.contents output.old) (O.contents output.new) (end_line why next)) }
 {
@@ -63,10 +60,8 @@ pub fn no_device_made_up<S: Heeds, I: Read, O: Write, E: Write, C: Clock>(
     errors: &mut E,
     clock: &mut C,
 ) -> u8
-    ensures { (addresses : List (List ℕ)) (min max dnet : Option ℕ) (local : Option (List ℕ))
-        (timeout : ℕ) (trace : Bool)
-        → AskFor (map string_bytes words.now)
-        (Wi (Listed addresses) min max dnet local timeout trace) → IsSilent S.Socket.receives
+    ensures { (said : AnyDiscovery) (addresses : List (List ℕ)) → said.stations ≡ Listed addresses
+        → AskFor (map string_bytes words.now) (Wi said) → IsSilent S.Socket.receives
         → IsSilentWithin S.Socket.receives_within
         → (result ≡ 0 → ⊥) × Keeps (O.contents output.old) (O.contents output.new) }
 {

@@ -49,34 +49,43 @@ fn compare(rt: &(impl Abort + AllocGlobal), rows: &[(&str, &str)]) {
 }
 
 #[test]
-fn each_tool_with_its_defaults(rt: HostRuntime) {
+fn asks_devices_by_default(rt: HostRuntime) {
+    compare(
+        &rt,
+        &[
+            (
+                "bac wi 10.0.0.1",
+                "Wi(Discovery { stations: Listed(Addresses { list: [[10, 0, 0, 1, 186, 192]] }), \
+                 min: None, max: None, dnet: None, local: None, timeout: 3000, trace: false })",
+            ),
+            (
+                "bac rp 10.0.0.1 8 123 77",
+                "Rp(PropertyReading { asked: Asked { address: [10, 0, 0, 1, 186, 192], \
+                 local: None, timeout: 3000, retries: 3, route: None }, object_type: 8, \
+                 instance: 123, property: 77, index: None, numbers: false, trace: false })",
+            ),
+            (
+                "bac wp 10.0.0.1 5 1 85 8 0",
+                "Wp(PropertyWriting { asked: Asked { address: [10, 0, 0, 1, 186, 192], \
+                 local: None, timeout: 3000, retries: 3, route: None }, object_type: 5, \
+                 instance: 1, property: 85, priority: 8, given: Null, index: None, trace: false })",
+            ),
+            (
+                "bac log 10.0.0.1 1 oldest",
+                "Log(LogReading { asked: Asked { address: [10, 0, 0, 1, 186, 192], local: None, \
+                 timeout: 3000, retries: 3, route: None }, instance: 1, from: None, steps: 1000, \
+                 count: 100, csv: false, trace: false })",
+            ),
+        ],
+    );
+}
+
+#[test]
+fn keeps_and_serves_by_default(rt: HostRuntime) {
     compare(
         &rt,
         &[
             ("bac replay", "Replay"),
-            (
-                "bac wi 10.0.0.1",
-                "Wi { stations: Listed(Addresses { list: [[10, 0, 0, 1, 186, 192]] }), min: None, \
-                 max: None, dnet: None, local: None, timeout: 3000, trace: false }",
-            ),
-            (
-                "bac rp 10.0.0.1 8 123 77",
-                "Rp { asked: Asked { address: [10, 0, 0, 1, 186, 192], local: None, timeout: 3000, \
-                 retries: 3, route: None }, object_type: 8, instance: 123, property: 77, \
-                 index: None, numbers: false, trace: false }",
-            ),
-            (
-                "bac wp 10.0.0.1 5 1 85 8 0",
-                "Wp { asked: Asked { address: [10, 0, 0, 1, 186, 192], local: None, timeout: 3000, \
-                 retries: 3, route: None }, object_type: 5, instance: 1, property: 85, \
-                 priority: 8, given: Null, index: None, trace: false }",
-            ),
-            (
-                "bac log 10.0.0.1 1 oldest",
-                "Log { asked: Asked { address: [10, 0, 0, 1, 186, 192], local: None, \
-                 timeout: 3000, retries: 3, route: None }, instance: 1, from: None, steps: 1000, \
-                 count: 100, csv: false, trace: false }",
-            ),
             (
                 "bac keep a.db",
                 "Keep(Keep { file: Name { text: \"a.db\" }, groups: Groups { list: [] }, \
@@ -91,7 +100,7 @@ fn each_tool_with_its_defaults(rt: HostRuntime) {
             ),
             (
                 "bac serve 10.0.0.1",
-                "Serve { address: [10, 0, 0, 1, 186, 192], count: 4294967295 }",
+                "Serve(ServedDevice { address: [10, 0, 0, 1, 186, 192], count: 4294967295 })",
             ),
         ],
     );

@@ -50,7 +50,15 @@ wi_at rows = do
   dnet ← maybe_number_at Dnet 1 65535 rows
   local ← local_at rows
   timeout ← number_at Timeout 1 60000 rows
-  Ok (Wi stations min max dnet local timeout (is_said Trace rows))
+  Ok (Wi (record {
+    stations = stations;
+    min = min;
+    max = max;
+    dnet = dnet;
+    local = local;
+    timeout = timeout;
+    trace = is_said Trace rows;
+  }))
 
 -- bac rp
 unfoldable pub rp_at : List Row → Result Job Word
@@ -60,7 +68,15 @@ rp_at rows = do
   instance ← number_at Instance 0 4194303 rows
   property ← number_at Property 0 4294967295 rows
   index ← maybe_number_at Index 0 4294967295 rows
-  Ok (Rp asked object_type instance property index (is_said Numbers rows) (is_said Trace rows))
+  Ok (Rp (record {
+    asked = asked;
+    object_type = object_type;
+    instance = instance;
+    property = property;
+    index = index;
+    numbers = is_said Numbers rows;
+    trace = is_said Trace rows;
+  }))
 
 -- the application tag of a value that can be given
 abbrev pub tag_at : List Row → Result ℕ Word
@@ -84,7 +100,16 @@ wp_at rows = do
   priority ← number_at Priority 0 16 rows
   given ← given_at rows
   index ← maybe_number_at Index 0 4294967295 rows
-  Ok (Wp asked object_type instance property priority given index (is_said Trace rows))
+  Ok (Wp (record {
+    asked = asked;
+    object_type = object_type;
+    instance = instance;
+    property = property;
+    priority = priority;
+    given = given;
+    index = index;
+    trace = is_said Trace rows;
+  }))
 
 -- a number from 1, or `oldest`
 unfoldable pub from_in : Text → Option (Option ℕ)
@@ -104,14 +129,22 @@ log_at rows = do
   from ← from_at rows
   steps ← number_at Steps 0 4294967295 rows
   count ← number_at Records 1 100 rows
-  Ok (Log asked instance from steps count (is_said Csv rows) (is_said Trace rows))
+  Ok (Log (record {
+    asked = asked;
+    instance = instance;
+    from = from;
+    steps = steps;
+    count = count;
+    csv = is_said Csv rows;
+    trace = is_said Trace rows;
+  }))
 
 -- bac logs
 unfoldable pub logs_at : List Row → Result Job Word
 logs_at rows = do
   asked ← asked_at rows
   instances ← instances_at rows
-  Ok (Logs asked instances (is_said Trace rows))
+  Ok (Logs (record { asked = asked; instances = instances; trace = is_said Trace rows }))
 
 -- the file of `keep`, `kept` and `check`
 abbrev pub file_at : List Row → Result Text Word
@@ -182,7 +215,7 @@ unfoldable pub serve_at : List Row → Result Job Word
 serve_at rows = do
   address ← address_at rows
   count ← number_at Count 0 4294967295 rows
-  Ok (Serve address count)
+  Ok (Serve (record { address = address; count = count }))
 
 -- of the tool with this name
 abbrev pub job_of_tool : Text → List Row → Result Job Word
@@ -207,13 +240,13 @@ job_of (Some x) = job_of_tool x.0 x.1
 
 -- --trace was given
 abbrev pub is_traced : Job → Bool
-is_traced (Wi stations min max dnet local timeout trace) = trace
-is_traced (Rp asked object_type instance property index numbers trace) = trace
-is_traced (Wp asked object_type instance property priority given index trace) = trace
-is_traced (Log asked instance from steps count csv trace) = trace
-is_traced (Logs asked instances trace) = trace
+is_traced (Wi asked) = asked.trace
+is_traced (Rp asked) = asked.trace
+is_traced (Wp asked) = asked.trace
+is_traced (Log asked) = asked.trace
+is_traced (Logs asked) = asked.trace
 is_traced (job.Keep asked) = asked.trace
 is_traced (job.Kept asked) = false
 is_traced (job.Check asked) = false
-is_traced (Serve address count) = false
+is_traced (Serve asked) = false
 is_traced Replay = false

@@ -1,11 +1,18 @@
 -- Lines that are worked out: what they come to, by the definitions alone.
-use Rattle.std.specs.Prelude.{◌≡◌, ◌==◌, ℕ, if◌then◌else◌, List, [], ◌∷◌, None, Some, Result}
+use Rattle.std.specs.Prelude.{◌≡◌, ◌==◌, ℕ, false, if◌then◌else◌, List, [], ◌∷◌, Option, None, Some, Result}
 use Rattle.clap.specs.Words.{Text, Kinds}
 use Rattle.bac_words.specs.declared.word.Word.{Word}
 use Rattle.bac_words.specs.declared.job.Job.{Job}
 use Rattle.bac_words.specs.declared.job.Asked.{Asked}
-use Rattle.bac_words.specs.declared.group.Group.{Group}
+use Rattle.bac_words.specs.declared.job.Discovery.{Discovery}
+use Rattle.bac_words.specs.declared.job.Given.{Given}
+use Rattle.bac_words.specs.declared.job.PropertyReading.{PropertyReading}
+use Rattle.bac_words.specs.declared.job.PropertyWriting.{PropertyWriting}
+use Rattle.bac_words.specs.declared.job.LogReading.{LogReading}
+use Rattle.bac_words.specs.declared.job.Keep.{Keep}
 use Rattle.bac_words.specs.declared.job.KeepOptions.{KeepOptions}
+use Rattle.bac_words.specs.declared.job.Stations.{Stations}
+use Rattle.bac_words.specs.declared.group.Group.{Group}
 use Rattle.bac_words.specs.Outcome.{mistakes_of, job_in}
 
 -- the character goes before the first word
@@ -51,3 +58,59 @@ group_behind address net mac =
 abbrev pub no_options : KeepOptions
 no_options =
     record { steps = None; count = None; timeout = None; local = None; retries = None; dnet = None; dadr = None }
+
+-- ---- what each tool asks for by default
+
+-- wi: each device of these stations' network, within 3 seconds
+abbrev pub discovery : Stations → Discovery
+discovery stations =
+    record { stations = stations; min = None; max = None; dnet = None; local = None; timeout = 3000; trace = false }
+
+-- rp: the whole of a property
+abbrev pub property_reading : ℕ → ℕ → ℕ → PropertyReading
+property_reading object_type instance property = record {
+  asked = by_default;
+  object_type = object_type;
+  instance = instance;
+  property = property;
+  index = None;
+  numbers = false;
+  trace = false;
+}
+
+-- wp: the same at a priority
+abbrev pub property_writing : ℕ → ℕ → ℕ → ℕ → Given → PropertyWriting
+property_writing object_type instance property priority given = record {
+  asked = by_default;
+  object_type = object_type;
+  instance = instance;
+  property = property;
+  priority = priority;
+  given = given;
+  index = None;
+  trace = false;
+}
+
+-- log: a thousand batches, 100 records each
+abbrev pub log_reading : ℕ → Option ℕ → LogReading
+log_reading instance from = record {
+  asked = by_default;
+  instance = instance;
+  from = from;
+  steps = 1000;
+  count = 100;
+  csv = false;
+  trace = false;
+}
+
+-- keep: parts of 32 MiB, and 64 questions at once
+abbrev pub keeping : Text → List Group → Keep
+keeping file groups = record {
+  file = file;
+  groups = groups;
+  stop = false;
+  part = 32;
+  at_once = 64;
+  trace = false;
+  options = no_options;
+}

@@ -141,64 +141,107 @@ pub struct Check {
     pub file: Name,
 }
 
+/// Which devices are to announce themselves (clause 16.10), as the words of `bac wi` say them.
+#[derive(Debug, Drop)]
+pub struct Discovery {
+    pub stations: Stations,
+    /// The least instance of a device.
+    pub min: Option<u32>,
+    /// The greatest.
+    pub max: Option<u32>,
+    /// The network behind a router whose devices are asked; 65535 is all networks.
+    pub dnet: Option<u16>,
+    /// Our own address; any if it is absent.
+    pub local: Option<[u8; 6]>,
+    /// How long to wait for an answer, in milliseconds: 1 to 60,000.
+    pub timeout: u32,
+    /// Each datagram is told.
+    pub trace: bool,
+}
+
+/// Which property is to be read (clause 15.5), as the words of `bac rp` say it.
+#[derive(Debug, Drop)]
+pub struct PropertyReading {
+    pub asked: Asked,
+    pub object_type: u16,
+    pub instance: u32,
+    pub property: u32,
+    /// The element of an array; all of it if it is absent.
+    pub index: Option<u32>,
+    /// REALs and Doubles are printed as decimal numbers, and not as their octets.
+    pub numbers: bool,
+    /// Each datagram is told.
+    pub trace: bool,
+}
+
+/// Which property is to be written (clause 15.9), as the words of `bac wp` say it.
+#[derive(Debug, Drop)]
+pub struct PropertyWriting {
+    pub asked: Asked,
+    pub object_type: u16,
+    pub instance: u32,
+    pub property: u32,
+    /// 1 to 16; 0 is none.
+    pub priority: u8,
+    pub given: Given,
+    /// The element of an array; all of it if it is absent.
+    pub index: Option<u32>,
+    /// Each datagram is told.
+    pub trace: bool,
+}
+
+/// Which records of a trend log are to be read (clause 15.8), as the words of `bac log` say them.
+#[derive(Debug, Drop)]
+pub struct LogReading {
+    pub asked: Asked,
+    pub instance: u32,
+    /// The number of the first record; the oldest if it is absent.
+    pub from: Option<u32>,
+    /// How many batches.
+    pub steps: u32,
+    /// How many records a question asks for: 1 to 100.
+    pub count: u8,
+    /// As CSV, and not in lines.
+    pub csv: bool,
+    /// Each datagram is told.
+    pub trace: bool,
+}
+
+/// Which trend logs are to say what they are (clause 12.25), as the words of `bac logs` say them.
+#[derive(Debug, Drop)]
+pub struct LogListing {
+    pub asked: Asked,
+    /// Each of the Object_List if there are none.
+    pub instances: Instances,
+    /// Each datagram is told.
+    pub trace: bool,
+}
+
+/// Where a device is to be, as the words of `bac serve` say it.
+#[derive(Debug, Drop)]
+pub struct ServedDevice {
+    /// Four octets of the host, two of the port.
+    pub address: [u8; 6],
+    /// How many datagrams it takes.
+    pub count: u32,
+}
+
 /// A tool with its words and options; an option that wasn't given has its default, or is absent.
-/// Each tool that asks over the network has `trace`: each datagram is told.
+/// Each tool that asks over the network has `trace`.
 #[derive(Debug, Drop)]
 pub enum Job {
     /// `bac replay`
     Replay,
-    /// `bac wi`: Who-Is (clause 16.10), to the devices of a network behind a router if one is
-    /// named; 65535 is all networks.
-    Wi {
-        stations: Stations,
-        min: Option<u32>,
-        max: Option<u32>,
-        dnet: Option<u16>,
-        local: Option<[u8; 6]>,
-        timeout: u32,
-        trace: bool,
-    },
-    /// `bac rp`: ReadProperty (clause 15.5), its REALs and Doubles as decimal numbers or as their
-    /// octets.
-    Rp {
-        asked: Asked,
-        object_type: u16,
-        instance: u32,
-        property: u32,
-        index: Option<u32>,
-        numbers: bool,
-        trace: bool,
-    },
-    /// `bac wp`: WriteProperty (clause 15.9); priority 0 is none.
-    Wp {
-        asked: Asked,
-        object_type: u16,
-        instance: u32,
-        property: u32,
-        priority: u8,
-        given: Given,
-        index: Option<u32>,
-        trace: bool,
-    },
-    /// `bac log`: ReadRange (clause 15.8), from a number or from the oldest record; in lines or as
-    /// CSV.
-    Log {
-        asked: Asked,
-        instance: u32,
-        from: Option<u32>,
-        steps: u32,
-        /// How many records a question asks for: 1 to 100.
-        count: u8,
-        csv: bool,
-        trace: bool,
-    },
-    /// `bac logs`: what these trend logs say of themselves, or each of the Object_List if there are
-    /// none (clause 12.25).
-    Logs {
-        asked: Asked,
-        instances: Instances,
-        trace: bool,
-    },
+    /// `bac wi`
+    Wi(Discovery),
+    /// `bac rp`
+    Rp(PropertyReading),
+    /// `bac wp`
+    Wp(PropertyWriting),
+    /// `bac log`
+    Log(LogReading),
+    /// `bac logs`
+    Logs(LogListing),
     /// `bac keep`
     Keep(Keep),
     /// `bac kept`
@@ -206,10 +249,7 @@ pub enum Job {
     /// `bac check`
     Check(Check),
     /// `bac serve`
-    Serve {
-        address: [u8; 6],
-        count: u32,
-    },
+    Serve(ServedDevice),
 }
 
 impl Job {
@@ -218,13 +258,13 @@ impl Job {
         ensures { result ≡ is_traced self.now }
     {
         match self {
-            Job::Wi { trace, .. } => *trace,
-            Job::Rp { trace, .. } => *trace,
-            Job::Wp { trace, .. } => *trace,
-            Job::Log { trace, .. } => *trace,
-            Job::Logs { trace, .. } => *trace,
+            Job::Wi(discovery) => discovery.trace,
+            Job::Rp(reading) => reading.trace,
+            Job::Wp(writing) => writing.trace,
+            Job::Log(reading) => reading.trace,
+            Job::Logs(listing) => listing.trace,
             Job::Keep(keep) => keep.trace,
-            Job::Kept(_) | Job::Check(_) | Job::Serve { .. } | Job::Replay => false,
+            Job::Kept(_) | Job::Check(_) | Job::Serve(_) | Job::Replay => false,
         }
     }
 }

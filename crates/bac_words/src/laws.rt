@@ -15,110 +15,105 @@ ghost use Rattle.bac_words.specs.declared.job.Job.TheVariants.{Kept, Check, Serv
 ghost use Rattle.bac_words.specs.declared.job.Given.TheVariants.{Null, Signed};
 ghost use Rattle.bac_words.specs.declared.job.Stations.TheVariants.{Input, Listed};
 ghost use Rattle.bac_words.specs.Lines.{Says, Mistakes, station, by_default, by_way, group};
-ghost use Rattle.bac_words.specs.Lines.{no_options};
+ghost use Rattle.bac_words.specs.Lines.{no_options, discovery, property_reading, property_writing};
+ghost use Rattle.bac_words.specs.Lines.{log_reading, keeping};
 
-/// A line of each tool, and the job that it asks for.
-pub fn lines_say_jobs()
-    ensures replay { Says (codes "bac replay") (Ok Replay) }
-    ensures wi { Says (codes "bac wi 10.0.0.1 10.0.0.2:258 --min=5 --timeout=60000")
-        (Ok (Wi (Listed (station ∷ (10 ∷ 0 ∷ 0 ∷ 2 ∷ 1 ∷ 2 ∷ []) ∷ [])) (Some 5) None None None
-        60000 false)) }
-    ensures subnet { Says (codes "bac wi 10.0.0.1:258/30")
-        (Ok (Wi (Listed ((10 ∷ 0 ∷ 0 ∷ 1 ∷ 1 ∷ 2 ∷ []) ∷ (10 ∷ 0 ∷ 0 ∷ 2 ∷ 1 ∷ 2 ∷ []) ∷ [])) None
-        None None None 3000 false)) }
-    ensures pair { Says (codes "bac wi 10.0.0.1/31")
-        (Ok (Wi (Listed ((10 ∷ 0 ∷ 0 ∷ 0 ∷ 186 ∷ 192 ∷ []) ∷ station ∷ [])) None None None None 3000
-        false)) }
-    ensures input { Says (codes "bac wi - --timeout=500")
-        (Ok (Wi Input None None None None 500 false)) }
-    ensures rp { Says (codes "bac rp 10.0.0.1 8 123 77")
-        (Ok (Rp by_default 8 123 77 None false false)) }
-    ensures wp { Says (codes "bac wp 10.0.0.1 45 1 85 16 3 --value=-5")
-        (Ok (Wp by_default 45 1 85 16 (Signed (negsuc 4)) None false)) }
-    ensures null { Says (codes "bac wp 10.0.0.1 5 1 87 0 0 --index=8")
-        (Ok (Wp by_default 5 1 87 0 Null (Some 8) false)) }
-    ensures log { Says (codes "bac log 10.0.0.1 7 oldest")
-        (Ok (Log by_default 7 None 1000 100 false false)) }
-    ensures number { Says (codes "bac log 10.0.0.1 7 43")
-        (Ok (Log by_default 7 (Some 43) 1000 100 false false)) }
-    ensures count { Says (codes "bac log 10.0.0.1 7 43 --count=20")
-        (Ok (Log by_default 7 (Some 43) 1000 20 false false)) }
-    ensures logs { Says (codes "bac logs 10.0.0.1 7 0") (Ok (Logs by_default (7 ∷ 0 ∷ []) false)) }
-    ensures every { Says (codes "bac logs 10.0.0.1") (Ok (Logs by_default [] false)) }
-    ensures keep { Says (codes "bac keep a.db")
-        (Ok (Keep (record {
-          file = codes "a.db";
-          groups = [];
-          stop = false;
-          part = 32;
-          at_once = 64;
-          trace = false;
-          options = no_options;
+/// Lines of `bac wi`, and what they ask for.
+pub fn lines_say_wi()
+    ensures two { Says (codes "bac wi 10.0.0.1 10.0.0.2:258 --min=5 --timeout=60000")
+        (Ok (Wi (record (discovery (Listed (station ∷ (10 ∷ 0 ∷ 0 ∷ 2 ∷ 1 ∷ 2 ∷ []) ∷ []))) {
+          min = Some 5;
+          timeout = 60000;
         }))) }
+    ensures subnet { Says (codes "bac wi 10.0.0.1:258/30")
+        (Ok (Wi (discovery (Listed ((10 ∷ 0 ∷ 0 ∷ 1 ∷ 1 ∷ 2 ∷ [])
+        ∷ (10 ∷ 0 ∷ 0 ∷ 2 ∷ 1 ∷ 2 ∷ []) ∷ []))))) }
+    ensures pair { Says (codes "bac wi 10.0.0.1/31")
+        (Ok (Wi (discovery (Listed ((10 ∷ 0 ∷ 0 ∷ 0 ∷ 186 ∷ 192 ∷ []) ∷ station ∷ []))))) }
+    ensures input { Says (codes "bac wi - --timeout=500")
+        (Ok (Wi (record (discovery Input) { timeout = 500 }))) }
+    ensures traced { Says (codes "bac wi - --trace")
+        (Ok (Wi (record (discovery Input) { trace = true }))) }
+    ensures network { Says (codes "bac wi 10.0.0.1 --dnet=65535")
+        (Ok (Wi (record (discovery (Listed (station ∷ []))) { dnet = Some 65535 }))) }
+{}
+
+/// Lines of `bac rp`, and what they ask for.
+pub fn lines_say_rp()
+    ensures octets { Says (codes "bac rp 10.0.0.1 8 123 77") (Ok (Rp (property_reading 8 123 77))) }
+    ensures numbers { Says (codes "bac rp 10.0.0.1 8 123 77 --numbers")
+        (Ok (Rp (record (property_reading 8 123 77) { numbers = true }))) }
+    ensures router { Says (codes "bac rp 10.0.0.1 8 123 77 --dnet=7 --dadr=0A01")
+        (Ok (Rp (record (property_reading 8 123 77) { asked = by_way 7 (10 ∷ 1 ∷ []) }))) }
+{}
+
+/// Lines of `bac wp`, and what they ask for.
+pub fn lines_say_wp()
+    ensures signed { Says (codes "bac wp 10.0.0.1 45 1 85 16 3 --value=-5")
+        (Ok (Wp (property_writing 45 1 85 16 (Signed (negsuc 4))))) }
+    ensures null { Says (codes "bac wp 10.0.0.1 5 1 87 0 0 --index=8")
+        (Ok (Wp (record (property_writing 5 1 87 0 Null) { index = Some 8 }))) }
+{}
+
+/// Lines of `bac log`, and what they ask for.
+pub fn lines_say_log()
+    ensures oldest { Says (codes "bac log 10.0.0.1 7 oldest") (Ok (Log (log_reading 7 None))) }
+    ensures number { Says (codes "bac log 10.0.0.1 7 43") (Ok (Log (log_reading 7 (Some 43)))) }
+    ensures count { Says (codes "bac log 10.0.0.1 7 43 --count=20")
+        (Ok (Log (record (log_reading 7 (Some 43)) { count = 20 }))) }
+    ensures rows { Says (codes "bac log 10.0.0.1 7 43 --csv")
+        (Ok (Log (record (log_reading 7 (Some 43)) { csv = true }))) }
+{}
+
+/// Lines of `bac logs`, and what they ask for.
+pub fn lines_say_logs()
+    ensures named { Says (codes "bac logs 10.0.0.1 7 0")
+        (Ok (Logs (record { asked = by_default; instances = 7 ∷ 0 ∷ []; trace = false }))) }
+    ensures every { Says (codes "bac logs 10.0.0.1")
+        (Ok (Logs (record { asked = by_default; instances = []; trace = false }))) }
+{}
+
+/// Lines of `bac keep`, and what they ask for.
+pub fn lines_say_keep()
+    ensures file { Says (codes "bac keep a.db") (Ok (Keep (keeping (codes "a.db") []))) }
     ensures named { Says (codes "bac keep a.db 10.0.0.1 1 2 --steps=5")
-        (Ok (Keep (record {
-          file = codes "a.db";
-          groups = group (codes "10.0.0.1") (codes "1" ∷ codes "2" ∷ []) ∷ [];
-          stop = false;
-          part = 32;
-          at_once = 64;
-          trace = false;
+        (Ok (Keep (record (keeping (codes "a.db")
+        (group (codes "10.0.0.1") (codes "1" ∷ codes "2" ∷ []) ∷ [])) {
           options = record no_options { steps = Some (codes "5") };
         }))) }
     ensures groups { Says (codes "bac keep a.db 10.0.0.1 10.0.0.2 7 08 10.0.0.3")
-        (Ok (Keep (record {
-          file = codes "a.db";
-          groups = group (codes "10.0.0.1") []
-              ∷ group (codes "10.0.0.2") (codes "7" ∷ codes "08" ∷ [])
-              ∷ group (codes "10.0.0.3") []
-              ∷ [];
-          stop = false;
-          part = 32;
-          at_once = 64;
-          trace = false;
-          options = no_options;
-        }))) }
+        (Ok (Keep (keeping (codes "a.db") (group (codes "10.0.0.1") []
+        ∷ group (codes "10.0.0.2") (codes "7" ∷ codes "08" ∷ [])
+        ∷ group (codes "10.0.0.3") [] ∷ [])))) }
     ensures first { Says (codes "bac keep a.db 7 8x")
-        (Ok (Keep (record {
-          file = codes "a.db";
-          groups = group (codes "7") [] ∷ group (codes "8x") [] ∷ [];
-          stop = false;
-          part = 32;
-          at_once = 64;
-          trace = false;
-          options = no_options;
-        }))) }
+        (Ok (Keep (keeping (codes "a.db")
+        (group (codes "7") [] ∷ group (codes "8x") [] ∷ [])))) }
     ensures stop { Says (codes "bac keep a.db --stop 10.0.0.1")
-        (Ok (Keep (record {
-          file = codes "a.db";
-          groups = group (codes "10.0.0.1") [] ∷ [];
+        (Ok (Keep (record (keeping (codes "a.db") (group (codes "10.0.0.1") [] ∷ [])) {
           stop = true;
-          part = 32;
-          at_once = 64;
-          trace = false;
-          options = no_options;
         }))) }
-    ensures kept { Says (codes "bac kept a.db 10.0.0.1")
+{}
+
+/// Lines of `bac kept`, and what they ask for.
+pub fn lines_say_kept()
+    ensures device { Says (codes "bac kept a.db 10.0.0.1")
         (Ok (Kept (record {
           file = codes "a.db";
           address = Some (codes "10.0.0.1");
           instance = None;
           csv = false;
         }))) }
-    ensures check { Says (codes "bac check plant")
-        (Ok (Check (record { file = codes "plant" }))) }
     ensures csv { Says (codes "bac kept a.db --csv")
         (Ok (Kept (record { file = codes "a.db"; address = None; instance = None; csv = true }))) }
-    ensures serve { Says (codes "bac serve 10.0.0.1") (Ok (Serve station 4294967295)) }
-    ensures rows { Says (codes "bac log 10.0.0.1 7 43 --csv")
-        (Ok (Log by_default 7 (Some 43) 1000 100 true false)) }
-    ensures numbers { Says (codes "bac rp 10.0.0.1 8 123 77 --numbers")
-        (Ok (Rp by_default 8 123 77 None true false)) }
-    ensures traced { Says (codes "bac wi - --trace") (Ok (Wi Input None None None None 3000 true)) }
-    ensures network { Says (codes "bac wi 10.0.0.1 --dnet=65535")
-        (Ok (Wi (Listed (station ∷ [])) None None (Some 65535) None 3000 false)) }
-    ensures router { Says (codes "bac rp 10.0.0.1 8 123 77 --dnet=7 --dadr=0A01")
-        (Ok (Rp (by_way 7 (10 ∷ 1 ∷ [])) 8 123 77 None false false)) }
+{}
+
+/// A line of each tool that asks no device and prints no log, and what it asks for.
+pub fn lines_say_others()
+    ensures replay { Says (codes "bac replay") (Ok Replay) }
+    ensures check { Says (codes "bac check plant")
+        (Ok (Check (record { file = codes "plant" }))) }
+    ensures serve { Says (codes "bac serve 10.0.0.1")
+        (Ok (Serve (record { address = station; count = 4294967295 }))) }
 {}
 
 /// Lines with a bad value, and the word that has it.

@@ -35,8 +35,14 @@ pub use devices::read_devices;
 pub use fault::WordsFault;
 pub use group::{Group, Groups, Way};
 pub use instances::Instances;
-pub use job::{Asked, Check, Given, Job, Keep, KeepOptions, Kept, Stations};
-pub use laws::{lines_are_mistakes, lines_say_bad_values, lines_say_jobs};
+pub use job::{
+    Asked, Check, Discovery, Given, Job, Keep, KeepOptions, Kept, LogListing, LogReading,
+    PropertyReading, PropertyWriting, ServedDevice, Stations,
+};
+pub use laws::{
+    lines_are_mistakes, lines_say_bad_values, lines_say_keep, lines_say_kept, lines_say_log,
+    lines_say_logs, lines_say_others, lines_say_rp, lines_say_wi, lines_say_wp,
+};
 pub use listing::{ListFault, MOST_LISTED, read_addresses};
 pub use name::Name;
 pub use names::Names;

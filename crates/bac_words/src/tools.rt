@@ -9,7 +9,10 @@ ghost use Rattle.bac_words.specs.Jobs.{from_in, from_at, log_at, logs_at, serve_
 use crate::fault::WordsFault;
 use crate::given::{given, is_tag};
 use crate::instances::instances_at;
-use crate::job::{Asked, Given, Job};
+use crate::job::{
+    Asked, Discovery, Given, Job, LogListing, LogReading, PropertyReading, PropertyWriting,
+    ServedDevice,
+};
 use crate::numbers::number;
 use crate::route::route_at;
 use crate::rows::{
@@ -65,7 +68,7 @@ pub(crate) fn wi(alloc: Global, matches: &ArgMatches) -> Result<Job, WordsFault>
     let local = local_at(matches)?;
     let timeout = number_at(matches, Word::Timeout, 1, 60000)?;
     let trace = is_said(matches, Word::Trace);
-    Ok(Job::Wi {
+    Ok(Job::Wi(Discovery {
         stations,
         min,
         max,
@@ -73,7 +76,7 @@ pub(crate) fn wi(alloc: Global, matches: &ArgMatches) -> Result<Job, WordsFault>
         local,
         timeout,
         trace,
-    })
+    }))
 }
 
 #[tactic(auto, unfolding(crate::specs::Jobs::rp_at))]
@@ -87,7 +90,7 @@ pub(crate) fn rp(matches: &ArgMatches) -> Result<Job, Word>
     let index = maybe_number_at(matches, Word::Index, u32::MAX)?;
     let numbers = is_said(matches, Word::Numbers);
     let trace = is_said(matches, Word::Trace);
-    Ok(Job::Rp {
+    Ok(Job::Rp(PropertyReading {
         asked,
         object_type,
         instance,
@@ -95,7 +98,7 @@ pub(crate) fn rp(matches: &ArgMatches) -> Result<Job, Word>
         index,
         numbers,
         trace,
-    })
+    }))
 }
 
 fn tag_at(matches: &ArgMatches) -> Result<u8, Word>
@@ -128,7 +131,7 @@ pub(crate) fn wp(alloc: Global, matches: &ArgMatches) -> Result<Job, WordsFault>
     let given = given_at(alloc, matches)?;
     let index = maybe_number_at(matches, Word::Index, u32::MAX)?;
     let trace = is_said(matches, Word::Trace);
-    Ok(Job::Wp {
+    Ok(Job::Wp(PropertyWriting {
         asked,
         object_type,
         instance,
@@ -137,7 +140,7 @@ pub(crate) fn wp(alloc: Global, matches: &ArgMatches) -> Result<Job, WordsFault>
         given,
         index,
         trace,
-    })
+    }))
 }
 
 /// A number from 1, or `oldest`.
@@ -172,7 +175,7 @@ pub(crate) fn log(matches: &ArgMatches) -> Result<Job, Word>
     let count = octet_at(matches, Word::Records, 1, 100)?;
     let csv = is_said(matches, Word::Csv);
     let trace = is_said(matches, Word::Trace);
-    Ok(Job::Log {
+    Ok(Job::Log(LogReading {
         asked,
         instance,
         from,
@@ -180,7 +183,7 @@ pub(crate) fn log(matches: &ArgMatches) -> Result<Job, Word>
         count,
         csv,
         trace,
-    })
+    }))
 }
 
 #[tactic(auto, unfolding(crate::specs::Jobs::logs_at))]
@@ -190,11 +193,11 @@ pub(crate) fn logs(alloc: Global, matches: &ArgMatches) -> Result<Job, WordsFaul
     let asked = asked_at(matches)?;
     let instances = instances_at(alloc, matches)?;
     let trace = is_said(matches, Word::Trace);
-    Ok(Job::Logs {
+    Ok(Job::Logs(LogListing {
         asked,
         instances,
         trace,
-    })
+    }))
 }
 
 #[tactic(auto, unfolding(crate::specs::Jobs::serve_at))]
@@ -203,5 +206,5 @@ pub(crate) fn serve(matches: &ArgMatches) -> Result<Job, Word>
 {
     let address = address_at(matches)?;
     let count = number_at(matches, Word::Count, 0, u32::MAX)?;
-    Ok(Job::Serve { address, count })
+    Ok(Job::Serve(ServedDevice { address, count }))
 }

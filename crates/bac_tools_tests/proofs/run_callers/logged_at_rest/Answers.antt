@@ -1,14 +1,13 @@
 use Rattle.bac_ports.specs.Sockets.{socket_rules}
 use Rattle.bac_tools.specs.Streams.{streams}
 use Rattle.bac_tools_tests.proofs.Logged.{logged_at_rest}
+use Rattle.bac_tools_tests.proofs.Plain.{of_numbered}
 use Rattle.bac_tools_tests.proofs.run_callers.logged_at_rest.Goals as goal
 
 pub returns : goal.returns
-returns g c = λ asked instance steps count number trace asks zero.
-    logged_at_rest (socket_rules g.S.Sockets.opens g.S.Sockets.closes g.S.Socket.Port.sends g.S.Socket.Port.receives g.S.Socket.Port.receives_within) g.S.Heeds.passes g.C.Clock.tells asked instance
-    steps count number trace
-    (streams (g.I.Read.remaining c.args.input.now) (g.O.Write.contents c.args.output.now)
-    (g.E.Write.contents c.args.errors.now) c.args.sockets.now c.args.clock.now)
-    (streams (g.I.Read.remaining c.run.new.input) (g.O.Write.contents c.run.new.output)
-    (g.E.Write.contents c.run.new.errors) c.run.new.sockets c.run.new.clock)
-    c.run.result (c.run.ensures.done _ asks) zero
+returns g c = λ said number plain from asks zero.
+    let rules = (socket_rules g.S.Sockets.opens g.S.Sockets.closes g.S.Socket.Port.sends g.S.Socket.Port.receives g.S.Socket.Port.receives_within) in
+    let old = streams (g.I.Read.remaining c.args.input.now) (g.O.Write.contents c.args.output.now) (g.E.Write.contents c.args.errors.now) c.args.sockets.now c.args.clock.now in
+    let new = streams (g.I.Read.remaining c.run.new.input) (g.O.Write.contents c.run.new.output) (g.E.Write.contents c.run.new.errors) c.run.new.sockets c.run.new.clock in
+    logged_at_rest rules g.S.Heeds.passes g.C.Clock.tells said.asked said.instance said.steps said.count number said.trace old new c.run.result
+    (of_numbered rules g.S.Heeds.passes g.C.Clock.tells said number old new c.run.result plain from (c.run.ensures.done _ asks)) zero

@@ -1,6 +1,6 @@
 use Rattle.std.proofs.Common.{arith, ◌<◌, length, get_or, inl}
 use Rattle.std.proofs.lemmas.List.Elements.{Contains-get_or}
-use Rattle.bac_tools.proofs.program.trend_logs.Goals as goal
+use Rattle.bac_tools.proofs.as_said.trend_logs.Goals as goal
 
 pub returns-in-Err-clause-err : goal.returns-in-Err-clause-err
 returns-in-Err-clause-err c =
