@@ -31,6 +31,18 @@ def grown(judge, name):
     return device, folder, [f"{folder}/{part}" for part in names(folder)]
 
 
+def strangers(judge, folder, out):
+    """Six digits and .db are the name of a part, and nothing else is: kept looks for those up to the newest."""
+    for name in ("+00012.db", "-00012.db", " 00012.db", "0000012.db", "00012.db", "000000.db", "000012.DB", "000012.db-wal"):
+        open(f"{folder}/{name}", "wb").close()
+        judge.same(f"{name} is no part", judge.ran(["kept", folder, "--csv"]), (0, out, ""))
+        os.remove(f"{folder}/{name}")
+    open(f"{folder}/000012.db", "wb").close()
+    gone = [no_use(f"{folder}/{number:06}.db", "there is no such file")[2] for number in range(4, 12)]
+    judge.same("000012.db is one", judge.ran(["kept", folder, "--csv"]), (6, out, "".join(gone)))
+    os.remove(f"{folder}/000012.db")
+
+
 def folders(judge, _runs):
     """The parts are printed in their order, each item once, and none of them is changed."""
     device, folder, files = grown(judge, "printed")
@@ -62,6 +74,7 @@ def folders(judge, _runs):
                [f"{device.address} 2"] * 2 + [f"{device.address} 2 stopped"])
     judge.same("one that isn't there", judge.ran(["keep", folder, device.address, "7", "--stop"]),
                no_use(files[2], "it keeps no such trend log"))
+    strangers(judge, folder, out)
     open(f"{folder}/000004.db", "wb").close()
     judge.same("the next one has nothing yet", judge.ran(["kept", folder, "--csv"]), (0, out, ""))
     judge.same("nothing is made of it", os.path.getsize(f"{folder}/000004.db"), 0)

@@ -1,3 +1,5 @@
 pub mod FileGhosts
 pub mod FilesLemmas
 mod FolderLemmas
+mod PartNames
+mod PartsFound

@@ -1,17 +1,22 @@
 //! A folder of parts: files with a name of six digits and `.db`, of which the greatest is the
 //! newest.
 
-ghost use Rattle.std.specs.Prelude.{◌≡◌, ◌<◌, Bool, IfErr, IfOk, false};
+ghost use Rattle.std.specs.Prelude.{◌≡◌, ◌↔◌, ◌<◌, ◌≤◌, ◌∷◌, ◌++◌, ℕ, Bool, Err, IfErr, IfOk};
+ghost use Rattle.std.specs.Prelude.{List, Some, [], false, map};
+ghost use Rattle.std.specs.Iterator.{IsFinite};
 ghost use Rattle.std.specs.String.{string_bytes};
 ghost use Rattle.bac_files.specs.Files.{IsReason};
-ghost use Rattle.bac_files.specs.Parts.{FollowsOn, IsPartBehind, IsPlaced, blamed, part_file};
-ghost use Rattle.bac_files.specs.Parts.{part_path};
+ghost use Rattle.bac_files.specs.Parts.{AreAllParts, AreListed, AreParts, ArePartsOf, FollowsOn};
+ghost use Rattle.bac_files.specs.Parts.{GivesNames, HasNoPart, IsNewestOrNext, IsPartBehind};
+ghost use Rattle.bac_files.specs.Parts.{IsPartFile, IsPlaced, IsPlacedAmong, blamed, part_file};
+ghost use Rattle.bac_files.specs.Parts.{part_path, part_paths, paths_of};
 
 use crate::not_opened::{NotOpened, Obstacle};
 use crate::obstacles::is_folder;
 use std::alloc::AllocError;
 use std::fmt::Write;
-use std::fs::{metadata, read_dir};
+use std::fs::{DirEntry, ReadDir, metadata, read_dir};
+use std::io;
 
 /// The number of the last part that a folder has room for.
 const LAST: u32 = 999_999;
@@ -94,9 +99,12 @@ fn last_path(rt: &HostRuntime, folder: &str, parts: u32) -> Result<Option<String
 }
 
 /// The number of a part, by the name of its file.
-fn number_of(name: &str) -> Option<u32> {
+fn number_of(name: &str) -> Option<u32>
+    ensures { (number : ℕ) → (result ≡ Some number) ↔ IsPartFile name.now number }
+{
     let digits = name.strip_suffix(".db")?;
-    if digits.len() != 6 {
+    // `parse` would take a sign.
+    if digits.len() != 6 || digits.starts_with('+') {
         return None;
     }
     match digits.parse::<u32>() {
@@ -105,49 +113,61 @@ fn number_of(name: &str) -> Option<u32> {
     }
 }
 
-/// The least and the greatest number of the parts in a folder; both 0 if it has none.
+/// Which parts there are: the least and the greatest number of one.
 #[derive(Clone, Copy)]
 struct Numbers {
     least: u32,
     greatest: u32,
 }
 
-impl Numbers {
-    /// The same with one more part.
-    fn with(self, number: u32) -> Numbers {
-        if self.greatest == 0 {
-            return Numbers {
-                least: number,
-                greatest: number,
-            };
-        }
-        Numbers {
-            least: self.least.min(number),
-            greatest: self.greatest.max(number),
-        }
+/// The parts among some files and one more.
+fn and_part(found: Option<Numbers>, name: &str) -> Option<Numbers>
+    ensures { (names : List (List ℕ)) → ArePartsOf names found
+        → ArePartsOf (names ++ name.now ∷ []) result }
+{
+    let Some(number) = number_of(name) else {
+        return found;
+    };
+    match found {
+        Some(numbers) => Some(Numbers {
+            least: numbers.least.min(number),
+            greatest: numbers.greatest.max(number),
+        }),
+        None => Some(Numbers {
+            least: number,
+            greatest: number,
+        }),
     }
 }
 
-/// Which parts there are in a folder.
-fn numbers_in(rt: &HostRuntime, folder: &str) -> Result<Numbers, NotOpened>
-    ensures { (may : Bool) → IfErr result (IsReason may) }
+/// The parts among entries.
+fn parts_in<I: Iterator<Item = io::Result<DirEntry>> + Drop>(
+    entries: I,
+) -> Result<Option<Numbers>, NotOpened>
+    requires next { I.can_next entries }
+    requires ends { IsFinite (I.remaining entries) }
+    ensures found { IfOk result (λ found. (names : List (List ℕ))
+        × GivesNames I.next_gives entries names × ArePartsOf names found) }
+    ensures why { IfErr result (λ why. why ≡ NotOpened.Barred Obstacle.NotPermitted) }
 {
-    let Ok(entries) = read_dir(rt, folder) else {
-        return Err(NotOpened::Barred(Obstacle::NotPermitted));
-    };
-    let mut numbers = Numbers {
-        least: 0,
-        greatest: 0,
-    };
+    let mut found = None;
     for entry in entries {
         let Ok(entry) = entry else {
             return Err(NotOpened::Barred(Obstacle::NotPermitted));
         };
-        if let Some(number) = number_of(entry.file_name()) {
-            numbers = numbers.with(number);
-        }
+        found = and_part(found, entry.file_name());
     }
-    Ok(numbers)
+    Ok(found)
+}
+
+/// The entries of a folder.
+fn entries_of(rt: &HostRuntime, folder: &str) -> Result<ReadDir, NotOpened>
+    ensures { IfErr result (λ why. why ≡ NotOpened.Barred Obstacle.NotPermitted) }
+{
+    match read_dir(rt, folder) {
+        Ok(entries) => Ok(entries),
+        Err(_) => Err(NotOpened::Barred(Obstacle::NotPermitted)),
+    }
 }
 
 /// How many octets the file of a part has; 0 if it isn't there.
@@ -159,28 +179,51 @@ fn len_of(rt: &HostRuntime, folder: &str, number: u32) -> Result<u64, AllocError
     }
 }
 
-/// Behind how many others the part of a folder is that is opened, where the newest one has this
-/// number: as it is, or behind it, where that has so many octets or more. A part with nothing in it
-/// follows on the one before it, also one that was begun and isn't written.
-fn choose(rt: &HostRuntime, folder: &str, newest: u32, full: u64) -> Result<u32, AllocError>
-    ensures { IfOk result (λ others. others < 4294967295) }
+/// The newest part of a folder, which has this number, or the one behind it, where that has so many
+/// octets or more. A part with nothing in it follows on the one before it, also one that was begun
+/// and isn't written.
+fn newest_or_next(
+    rt: &HostRuntime,
+    folder: &str,
+    newest: u32,
+    full: u64,
+) -> Result<Place, AllocError>
+    requires some { 1 ≤ newest }
+    requires room { newest ≤ 999999 }
+    ensures { IfOk result (IsNewestOrNext folder.now newest) }
 {
-    if newest == 0 {
-        return Ok(0);
-    }
     let len = len_of(rt, folder, newest)?;
     if len >= full && newest < LAST {
-        return Ok(newest);
+        return Place::part(rt, folder, newest);
     }
-    Ok(newest - 1)
+    Place::part(rt, folder, newest - 1)
 }
 
-/// That part.
-fn chosen(rt: &HostRuntime, folder: &str, newest: u32, full: u64) -> Result<Place, AllocError>
-    ensures { IfOk result (IsPlaced folder.now) }
+/// The part of a folder that is opened, of which these are its entries.
+fn place_among<I: Iterator<Item = io::Result<DirEntry>> + Drop>(
+    rt: &HostRuntime,
+    folder: &str,
+    entries: I,
+    full: u64,
+) -> Result<Place, NotOpened>
+    requires next { I.can_next entries }
+    requires ends { IsFinite (I.remaining entries) }
+    ensures placed { IfOk result (λ place. (names : List (List ℕ))
+        × GivesNames I.next_gives entries names × IsPlacedAmong folder.now names place) }
+    ensures why { (may : Bool) → IfErr result (IsReason may) }
 {
-    let others = choose(rt, folder, newest, full)?;
-    Place::part(rt, folder, others)
+    let found = match parts_in(entries) {
+        Ok(found) => found,
+        Err(why) => return Err(why),
+    };
+    let placed = match found {
+        Some(numbers) => newest_or_next(rt, folder, numbers.greatest, full),
+        None => Place::part(rt, folder, 0),
+    };
+    match placed {
+        Ok(place) => Ok(place),
+        Err(_) => Err(NotOpened::Memory),
+    }
 }
 
 /// The part of a folder that is opened.
@@ -188,42 +231,73 @@ fn place_in(rt: &HostRuntime, folder: &str, full: u64) -> Result<Place, NotOpene
     ensures placed { IfOk result (IsPlaced folder.now) }
     ensures why { (may : Bool) → IfErr result (IsReason may) }
 {
-    match numbers_in(rt, folder) {
-        Ok(numbers) => match chosen(rt, folder, numbers.greatest, full) {
-            Ok(place) => Ok(place),
-            Err(_) => Err(NotOpened::Memory),
-        },
+    match entries_of(rt, folder) {
+        Ok(entries) => place_among(rt, folder, entries, full),
         Err(why) => Err(why),
     }
 }
 
-/// The paths of the parts of a folder, the oldest first; where one between two others is gone, it
-/// is among them. A folder without parts has nothing.
-fn paths_in(rt: &HostRuntime, folder: &str) -> Result<Vec<String>, NotOpened>
-    ensures { IfErr result (IsReason false) }
+/// The paths of the parts of a folder with these numbers, the oldest first.
+fn paths_of(
+    rt: &HostRuntime,
+    folder: &str,
+    least: u32,
+    greatest: u32,
+) -> Result<Vec<String>, AllocError>
+    requires order { least ≤ greatest }
+    requires room { greatest ≤ 999999 }
+    ensures { IfOk result (λ paths. map string_bytes paths.items
+        ≡ part_paths folder.now least greatest) }
 {
-    let numbers = match numbers_in(rt, folder) {
-        Ok(numbers) => numbers,
-        Err(why) => return Err(why),
-    };
-    if numbers.greatest == 0 {
-        return Err(NotOpened::Empty);
-    }
     let mut paths = Vec::new(rt.alloc());
-    for number in numbers.least..=numbers.greatest {
-        let Ok(path) = part_path(rt, folder, number) else {
-            return Err(NotOpened::Memory);
-        };
-        if paths.push(path).is_err() {
-            return Err(NotOpened::Memory);
-        }
+    for number in least..greatest + 1 {
+        paths.push(part_path(rt, folder, number)?)?;
     }
     Ok(paths)
 }
 
+/// The paths of the parts of a folder, of which these are its entries, the oldest first; where one
+/// between two others is gone, it is among them. A folder without parts has nothing.
+fn paths_among<I: Iterator<Item = io::Result<DirEntry>> + Drop>(
+    rt: &HostRuntime,
+    folder: &str,
+    entries: I,
+) -> Result<Vec<String>, NotOpened>
+    requires next { I.can_next entries }
+    requires ends { IsFinite (I.remaining entries) }
+    ensures paths { IfOk result (λ paths. (names : List (List ℕ))
+        × GivesNames I.next_gives entries names
+        × AreAllParts folder.now names (map string_bytes paths.items)) }
+    ensures empty { result ≡ Err NotOpened.Empty → (names : List (List ℕ))
+        × GivesNames I.next_gives entries names × HasNoPart names }
+    ensures why { IfErr result (IsReason false) }
+{
+    let numbers = match parts_in(entries) {
+        Ok(Some(numbers)) => numbers,
+        Ok(None) => return Err(NotOpened::Empty),
+        Err(why) => return Err(why),
+    };
+    match paths_of(rt, folder, numbers.least, numbers.greatest) {
+        Ok(paths) => Ok(paths),
+        Err(_) => Err(NotOpened::Memory),
+    }
+}
+
+/// The paths of the parts of a folder.
+fn paths_in(rt: &HostRuntime, folder: &str) -> Result<Vec<String>, NotOpened>
+    ensures paths { IfOk result (λ paths. AreParts folder.now (map string_bytes paths.items)) }
+    ensures why { IfErr result (IsReason false) }
+{
+    match entries_of(rt, folder) {
+        Ok(entries) => paths_among(rt, folder, entries),
+        Err(why) => Err(why),
+    }
+}
+
 /// The parts of the archive of this name, if it is a folder.
 pub(crate) fn parts_of(rt: &HostRuntime, name: &str) -> Result<Option<Vec<String>>, NotOpened>
-    ensures { IfErr result (IsReason false) }
+    ensures parts { AreListed name.now (paths_of result) }
+    ensures why { IfErr result (IsReason false) }
 {
     if !is_folder(rt, name) {
         return Ok(None);

@@ -2,9 +2,9 @@
 //!
 //! [`DiskFiles`] are the files of the machine, of which a `Start` of the kit says what they hold.
 //! What is done to them is stated from that to what they hold once they are closed (specs/Files).
-//! An archive is kept in one file, or in the parts of a folder (specs/Parts); of which part there
-//! is, as of paths, nothing is stated. [`Parts`] are read one after the other, each by a
-//! [`Reader`].
+//! An archive is kept in one file, or in the parts of a folder (specs/Parts), of which the newest
+//! or the next one is opened; which entries a folder has, the machine says. [`Parts`] are read one
+//! after the other, each by a [`Reader`].
 #![tactic(auto)]
 
 mod disk_files;

@@ -2,7 +2,7 @@
 
 ghost use Rattle.std.specs.Prelude.{◌≡◌, ℕ, IfErr, IfOk, List, OnErr, Option};
 ghost use Rattle.sqlite.specs.Held.{state};
-ghost use Rattle.bac_files.specs.Parts.{Listing, Reading, paths_of, reading};
+ghost use Rattle.bac_files.specs.Parts.{AreListed, Listing, Reading, paths_of, reading};
 ghost use Rattle.bac_files.specs.declared.not_opened.NotOpened.{NotOpened as Reason};
 
 use crate::disk_files::DiskFiles;
@@ -29,7 +29,8 @@ pub trait Reader {
 /// Opens the parts of archives to read them, and closes them.
 ///
 /// What there is, is a relation that each implementor names itself. Of the machine's files it says
-/// nothing.
+/// that those that are listed are parts of the folder, in their order, and none between is left
+/// out; else nothing.
 pub trait Parts {
     /// What a listing is: the parts before it, the name, the paths, the parts behind it.
     ghost lists: { Self → List ℕ → Listing → Self → Type 0 };
@@ -109,7 +110,7 @@ fn read_file<F: Start, R: Reader, O: Write>(
 }
 
 impl<'a> Parts for FolderFiles<'a> {
-    ghost lists = { λ old name paths new. Unit {0} };
+    ghost lists = { λ old name paths new. AreListed name paths };
 
     ghost holds = { λ old path found new. Unit {0} };
 
