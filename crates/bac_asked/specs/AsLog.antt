@@ -9,6 +9,7 @@ use Rattle.bac_words.specs.declared.fault.WordsFault.{WordsFault}
 use Rattle.bac_words.specs.declared.fault.WordsFault.TheVariants.{BadValue, LongNumber, Usage, Memory}
 use Rattle.bac_words.specs.declared.job.Job.{Job}
 use Rattle.bac_words.specs.declared.job.Job.TheVariants.{Log}
+use Rattle.bac_words.specs.declared.job.LogReading.{LogReading}
 use Rattle.bac_words.specs.declared.word.Word.{Word}
 use Rattle.bac_words.specs.declared.word.Word.TheVariants.{Tool, Address, Steps, Records, Timeout, Local, Retries, Dnet}
 use Rattle.bac_words.specs.declared.word.Word.TheVariants.{Dadr}
@@ -53,8 +54,8 @@ log_words address instance given = codes "bac" ∷ codes "log"
 -- a log is asked for as a job of `bac log` asks
 abbrev pub IsAskingOf : Job → Asking → Type 0
 IsAskingOf job asking =
-    (from : Option ℕ) × (csv : Bool) × (trace : Bool) × IsCount asking.count
-    × (job ≡ Log asking.asked asking.instance from asking.steps asking.count csv trace)
+    (log : LogReading) × (job ≡ Log log) × IsCount asking.count
+    × (asking ≡ record { asked = log.asked; instance = log.instance; steps = log.steps; count = log.count })
 
 -- a log is asked for as `bac log` with these words asks
 abbrev pub IsAskedBy : List Text → Asking → Type 0

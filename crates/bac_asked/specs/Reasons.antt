@@ -1,5 +1,6 @@
 -- The lines that tell why a file is no use.
 use Rattle.std.specs.Prelude.{◌≡◌, ◌++◌, ◌∷◌, [], ℕ, List, codes}
+use Rattle.bac_print.specs.Output.{AppendsPart, Held}
 use Rattle.bac_asked.specs.declared.fault.FileFault.{FileFault}
 use Rattle.bac_asked.specs.declared.fault.FileFault.TheVariants as file
 use Rattle.bac_files.specs.declared.not_opened.Obstacle.{Obstacle}
@@ -43,3 +44,7 @@ abbrev pub AreLinesOf : FileFault → List ℕ → List ℕ → Type 0
 AreLinesOf file.InUse path text = text ≡ file_lines (codes "file in use\n") path (codes "another program has it open")
 AreLinesOf (file.Database error) path text = (reason : List ℕ) × (text ≡ fault_lines path reason)
 AreLinesOf fault path text = text ≡ fault_lines path (file_reason fault)
+
+-- a fault of the file with this name is told: its lines, or a front part of them, come behind what a writer held
+abbrev pub TellsFault : FileFault → List ℕ → Held → Held → Type 0
+TellsFault fault path old new = (text : List ℕ) × AreLinesOf fault path text × AppendsPart old new text

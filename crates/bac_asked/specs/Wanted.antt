@@ -35,6 +35,10 @@ pub record IsSourceOf (asked : Asked) (instance : ℕ) (source : Source) : Type 
 abbrev pub AsksItsSource : Wanted → Type 0
 AsksItsSource wanted = IsSourceOf wanted.asking.asked wanted.asking.instance wanted.source
 
+-- No name of a log is told: it is named by words or on record, and what its device calls it wasn't asked for.
+abbrev pub IsNameless : Wanted → Type 0
+IsNameless wanted = wanted.name ≡ None
+
 -- a log is asked for as another is: the same device, from the same address, and as long, as often, in as many steps and
 -- for as many records at a time
 abbrev pub IsAskedAs : Asking → Asking → Type 0
@@ -50,13 +54,13 @@ AddsOnce wanted before after =
     ((has_instance wanted.source.instance before ≡ false) × (after ≡ before ++ wanted ∷ []))
     ⊎ ((has_instance wanted.source.instance before ≡ true) × (after ≡ before))
 
--- Logs of one device come to others in the order of the words that name them, each once, and each is asked for as
--- `bac log` with these words asks.
+-- Logs of one device come to others in the order of the words that name them, each once and without a name, and each is
+-- asked for as `bac log` with these words asks.
 abbrev pub AddNamed : Text → Given → List Text → List Wanted → List Wanted → Type 0
 AddNamed address given [] before after = after ≡ before
 AddNamed address given (instance ∷ more) before after =
     (wanted : Wanted) × (mid : List Wanted) × IsAskedBy (log_words address instance given) wanted.asking
-    × AsksItsSource wanted × AddsOnce wanted before mid × AddNamed address given more mid after
+    × AsksItsSource wanted × IsNameless wanted × AddsOnce wanted before mid × AddNamed address given more mid after
 
 -- Why words name no log: `bac log` with them asks for none, or memory was wanting.
 abbrev pub IsUnnamed : List Text → NotDone → Type 0

@@ -1,9 +1,11 @@
 //! Why logs aren't kept.
 
-ghost use Rattle.std.specs.Prelude.{◌≡◌, IfErr, IfOk, OnErr};
+ghost use Rattle.std.specs.Prelude.{◌≡◌, IfErr, IfOk, OnErr, OnOk};
 ghost use Rattle.std.specs.String.{string_bytes};
 ghost use Rattle.bac_asked.specs.Faults.{of_error, of_not_added, of_refusal, of_unopened};
-ghost use Rattle.bac_asked.specs.Reasons.{AreLinesOf, file_lines, file_reason, obstacle_text};
+ghost use Rattle.bac_print.specs.Output.{AppendsPart};
+ghost use Rattle.bac_asked.specs.Reasons.{AreLinesOf, TellsFault, file_lines, file_reason};
+ghost use Rattle.bac_asked.specs.Reasons.{obstacle_text};
 ghost use Rattle.bac_asked.specs.Status.{file_status};
 
 use bac_archive::{NotAdded, Refused};
@@ -149,12 +151,14 @@ impl FileFault {
     /// Tells why the file with this name is no use, and answers the exit status.
     pub fn tell<E: io::Write>(self, alloc: Global, path: &str, errors: &mut E) -> Result<u8, Fault>
         ensures status { IfOk result (λ status. status ≡ file_status self) }
+        ensures told { OnOk result
+            (TellsFault self path.now (E.contents errors.old) (E.contents errors.new)) }
         ensures untold { OnErr result (E.contents errors.new ≡ E.contents errors.old) }
         ensures memory { IfErr result (λ why. why ≡ Fault.Memory) }
     {
         match self.lines(alloc, path) {
             Ok(text) => {
-                let _ = write_text(errors, text.as_bytes());
+                say(text.as_bytes(), errors);
                 Ok(self.status())
             }
             Err(_) => Err(Fault::Memory),
@@ -183,6 +187,13 @@ impl FileFault {
             _ => "the database failed",
         }
     }
+}
+
+/// Writes a text; if that is refused there is nowhere to tell it.
+fn say<E: io::Write>(text: &[u8], errors: &mut E)
+    ensures { AppendsPart (E.contents errors.old) (E.contents errors.new) text.now }
+{
+    let _ = write_text(errors, text);
 }
 
 /// Why the machine doesn't open a file.

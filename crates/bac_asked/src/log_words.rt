@@ -117,19 +117,11 @@ fn asking_of(job: Job) -> Result<Asking, WordsFault>
         × ((asking : AnyAsking) → IsAskingOf job asking → ⊥)) }
 {
     match job {
-        Job::Log {
-            asked,
-            instance,
-            from: _from,
-            steps,
-            count,
-            csv: _csv,
-            trace: _trace,
-        } => match Count::new(count) {
+        Job::Log(log) => match Count::new(log.count) {
             Some(count) => Ok(Asking {
-                asked,
-                instance,
-                steps,
+                asked: log.asked,
+                instance: log.instance,
+                steps: log.steps,
                 count,
             }),
             None => Err(WordsFault::BadValue(Word::Tool)),

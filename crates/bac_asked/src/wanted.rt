@@ -1,13 +1,13 @@
 //! The logs that are to be fetched, and where they are.
 
-ghost use Rattle.std.specs.Prelude.{◌≡◌, ◌⊎◌, IfErr, IfOk, OnOk, decimal, [], ◌∷◌, ◌++◌};
+ghost use Rattle.std.specs.Prelude.{◌≡◌, ◌⊎◌, IfErr, IfOk, None, OnOk, decimal, [], ◌∷◌, ◌++◌};
 ghost use Rattle.std.specs.List.{All};
 ghost use Rattle.std.specs.String.{string_bytes};
 ghost use Rattle.bac_asked.specs.AsLog.{IsAskedBy, IsUnasked, given_in, log_words};
 ghost use Rattle.bac_asked.specs.Faults.{WantsMemory, of_words};
 ghost use Rattle.bac_asked.specs.Wanted.{AddNamed, AddsOnce, AreNoOptions, AreUnnamed};
-ghost use Rattle.bac_asked.specs.Wanted.{AsksItsSource, HasNoAddress, IsSourceOf, IsUnnamed};
-ghost use Rattle.bac_asked.specs.Wanted.{has_instance, words_at};
+ghost use Rattle.bac_asked.specs.Wanted.{AsksItsSource, HasNoAddress, IsNameless, IsSourceOf};
+ghost use Rattle.bac_asked.specs.Wanted.{IsUnnamed, has_instance, words_at};
 
 use crate::end::NotDone;
 use crate::fault::{Fault, FileFault};
@@ -79,6 +79,7 @@ pub fn named(
     options: &Options<'_>,
 ) -> Result<Wanted, NotDone>
     ensures source { IfOk result AsksItsSource }
+    ensures nameless { IfOk result IsNameless }
     ensures asked { IfOk result (λ wanted. IsAskedBy
         (log_words address.now instance.now (given_in options.now)) wanted.asking) }
     ensures unnamed { IfErr result
@@ -194,6 +195,7 @@ fn asking_at(alloc: Global, source: &Source, options: &Options<'_>) -> Result<As
 pub fn kept_log(alloc: Global, log: Log, options: &Options<'_>) -> Result<Wanted, NotDone>
     ensures source { IfOk result (λ wanted. wanted.source ≡ log.source) }
     ensures asks { IfOk result AsksItsSource }
+    ensures nameless { IfOk result IsNameless }
     ensures asked { IfOk result
         (λ wanted. IsAskedBy (words_at (given_in options.now) log.source) wanted.asking) }
     ensures refused { IfErr result (λ fault. WantsMemory fault
@@ -209,6 +211,7 @@ pub fn kept_log(alloc: Global, log: Log, options: &Options<'_>) -> Result<Wanted
 pub fn kept_at(alloc: Global, source: Source, options: &Options<'_>) -> Result<Wanted, NotDone>
     ensures source { IfOk result (λ wanted. wanted.source ≡ source) }
     ensures asks { IfOk result AsksItsSource }
+    ensures nameless { IfOk result IsNameless }
     ensures asked { IfOk result
         (λ wanted. IsAskedBy (words_at (given_in options.now) source) wanted.asking) }
     ensures refused { IfErr result (λ fault. WantsMemory fault
@@ -235,7 +238,9 @@ pub fn kept_at(alloc: Global, source: Source, options: &Options<'_>) -> Result<W
 
 /// The options of `bac keep FILE`: no way to a device is among them.
 pub fn check_options(alloc: Global, options: &Options<'_>) -> Result<(), NotDone>
-    ensures { IfErr result (AreNoOptions (given_in options.now)) }
+    ensures wayless { OnOk result (((given_in options.now).dnet ≡ None)
+        × ((given_in options.now).dadr ≡ None)) }
+    ensures fault { IfErr result (AreNoOptions (given_in options.now)) }
 {
     if options.dnet.is_some() || options.dadr.is_some() {
         return Err(NotDone::Asking(Fault::BadValue(Word::Address)));

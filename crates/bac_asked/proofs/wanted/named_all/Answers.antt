@@ -40,7 +40,7 @@ loop-instance-preserved c = record {
       subst (λ (w : Text). IsAskedBy (log_words c.args.address.now w given) c.in_ok-wanted.wanted.asking) c.as_str.ensures c.in_ok-wanted.ensures.asked in
       c.loop-instance.invariant.named after
       (subst (λ (ws : List Text). AddNamed c.args.address.now given ws c.loop-instance.all.items after) (sym (here words c.loop-instance.instance-index word below item))
-      (c.in_ok-wanted.wanted, c.add_once.new.all.items, asked, c.in_ok-wanted.ensures.source, c.in_ok-add_once.ensures.added, rest));
+      (c.in_ok-wanted.wanted, c.add_once.new.all.items, asked, c.in_ok-wanted.ensures.source, c.in_ok-wanted.ensures.nameless, c.in_ok-add_once.ensures.added, rest));
 }
 
 pub returns-in_err-wanted-clause-unnamed : goal.returns-in_err-wanted-clause-unnamed
