@@ -3,7 +3,7 @@ use Rattle.std.proofs.Common.{◌≡◌, ℕ, Option, List, [], ◌∷◌, map, 
 use denote.Ref.{Bor}
 use Rattle.bac_asked.specs.declared.wanted.Wanted.{Wanted}
 use Rattle.bac_desks.specs.Table.{TableState}
-use Rattle.bac_hearing.specs.Beside.{BeginsToHear, EndsHearing}
+use Rattle.bac_hearing.specs.Beside.{BeginsToHear, EndsHearing, FailsToEnd}
 use Rattle.bac_hearing.specs.Hearing.{FailsToHear, Pace}
 use Rattle.bac_hearing.specs.declared.hearing.NotHeard.TheVariants.{Unfinished}
 use Rattle.bac_jobs.specs.declared.job.Ending.{Ending}
@@ -35,10 +35,23 @@ hears_first rules pace asked refs peers jobs before after early port clock table
     (these ∙ jobs_seen refs) heard)
 
 pub unending : {S P C : Type 0} (rules : SocketRules S P) (pace : Pace C) (asked : Asked) (refs : List (Bor Wanted)) (peers : List (List ℕ))
-    (before after : S) → peers ≡ map (λ (one : Bor Wanted). one.now.asking.asked.address) refs →
-    FailsToHear rules pace peers asked.local asked.timeout asked.retries before after Unfinished → Unending rules pace asked (seen refs) before after
-unending rules pace asked refs peers before after are fails =
-    subst (λ (p : List (List ℕ)). FailsToHear rules pace p asked.local asked.timeout asked.retries before after Unfinished) (are ∙ peers_seen refs) fails
+    (jobs : List Identifying) (before after : S) → peers ≡ map (λ (one : Bor Wanted). one.now.asking.asked.address) refs →
+    jobs ≡ map (λ (one : Bor Wanted). identifying_of one.now) refs →
+    FailsToHear rules pace IsPlayed peers jobs asked.local asked.timeout asked.retries before after Unfinished → Unending rules pace asked (seen refs) before after
+unending rules pace asked refs peers jobs before after are these fails =
+    subst (λ (p : List (List ℕ)). FailsToHear rules pace IsPlayed p (jobs_of (seen refs)) asked.local asked.timeout asked.retries before after Unfinished)
+    (are ∙ peers_seen refs)
+    (subst (λ (j : List Identifying). FailsToHear rules pace IsPlayed peers j asked.local asked.timeout asked.retries before after Unfinished)
+    (these ∙ jobs_seen refs) fails)
+
+-- nor do the last of them end
+pub unending_last : {S P C : Type 0} (rules : SocketRules S P) (reads : C → ℕ → C → Type 0) (refs shown : List (Bor Wanted)) (jobs : List Identifying) (port : P)
+    (clock : C) (table : TableState) (before after : S) → shown ≡ refs → jobs ≡ map (λ (one : Bor Wanted). identifying_of one.now) shown →
+    FailsToEnd rules reads IsPlayed jobs port clock table before after Unfinished →
+    FailsToEnd rules reads IsPlayed (jobs_of (seen refs)) port clock table before after Unfinished
+unending_last rules reads refs shown jobs port clock table before after same these fails =
+    subst (λ (l : List (Bor Wanted)). FailsToEnd rules reads IsPlayed (jobs_of (seen l)) port clock table before after Unfinished) same
+    (subst (λ (j : List Identifying). FailsToEnd rules reads IsPlayed j port clock table before after Unfinished) (these ∙ jobs_seen shown) fails)
 
 pub hears_last : {S P C : Type 0} (rules : SocketRules S P) (reads : C → ℕ → C → Type 0) (refs : List (Bor Wanted)) (jobs : List Identifying) (port : P) (clock : C)
     (table : TableState) (before after : S) (ends : List (Ending Said)) → jobs ≡ map (λ (one : Bor Wanted). identifying_of one.now) refs →

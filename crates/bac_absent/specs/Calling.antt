@@ -32,7 +32,8 @@ HearsFirst rules pace asked called before early port clock table after = BeginsT
 -- as many rounds as fit 64 bits weren't enough for that
 abbrev pub Unending : {S P C : Type 0} → SocketRules S P → Pace C → Asked → List Wanted → S → S → Type 0
 Unending rules pace asked called before after =
-    FailsToHear rules pace (peers_of called) asked.local asked.timeout asked.retries before after Unfinished
+    FailsToHear rules pace IsPlayed (peers_of called) (jobs_of called) asked.local asked.timeout asked.retries before
+    after Unfinished
 
 -- one log of each device that is called
 abbrev pub seen : List (Bor Wanted) → List Wanted
@@ -85,7 +86,8 @@ EndsCall rules reads calling heard before now after =
     × EndsHearing rules reads IsPlayed (jobs_of (seen calling.called.items)) calling.desks.port calling.desks.clock
     calling.desks.table before ends after
     × PutsEach (seen calling.called.items) (late_of calling.waiting.items ends) heard now)
-    ⊎ (FailsToEnd rules reads calling.desks.port calling.desks.clock calling.desks.table before after Unfinished
+    ⊎ (FailsToEnd rules reads IsPlayed (jobs_of (seen calling.called.items)) calling.desks.port calling.desks.clock
+    calling.desks.table before after Unfinished
     × (now ≡ heard))
 
 -- They aren't called: memory is wanting; or no socket was opened for it, as one of them is asked.

@@ -3,9 +3,9 @@ use Rattle.std.specs.Prelude.{IfNone, OnErr}
 use Rattle.std.proofs.Common.{◌≡◌, ℕ, List, [], Option, None, Some, Result, Ok, Err, IfOk, IfSome, refl, subst}
 use Rattle.bac_ports.specs.Port.{Receiving, Sending}
 use Rattle.bac_play.specs.declared.play.Outcome.{Outcome}
-use Rattle.bac_desks.specs.Served.{Serves}
 use Rattle.bac_desks.specs.Table.{TableState}
-use Rattle.bac_jobs.specs.Jobs.{AreEnded, IsIdle, MakesRounds}
+use Rattle.bac_jobs.specs.Jobs.{AreEnded, IsIdle}
+use Rattle.bac_jobs.specs.Wanted.{MakesRounds, ServesJobs}
 use Rattle.bac_jobs.specs.declared.job.Ending.{Ending}
 use Rattle.bac_jobs.specs.declared.job.Turn.{Turn}
 use Rattle.bac_hearing.specs.Hearing.{Ends, Stops, Waits}
@@ -24,40 +24,42 @@ weaker_none (Ok None) P Q f it = f it
 weaker_none (Err e) P Q f it = tt
 
 -- the rounds that were made from these desks on, which are those that were made for them
-pub waits : {P C : Type 0} (sends : P → List ℕ → List ℕ → Sending → P → Type 0) (receives : P → ℕ → Receiving → P → Type 0)
-    (reads : C → ℕ → C → Type 0) (rounds : ℕ) (port port' last : P) (start start' stop : C) (fresh fresh' left : TableState) →
-    port' ≡ port → start' ≡ start → fresh' ≡ fresh → MakesRounds sends receives reads rounds port' start' fresh' last stop left →
-    Waits sends receives reads rounds port start fresh last
-waits {P = P} {C = C} sends receives reads rounds port port' last start start' stop fresh fresh' left same_port same_clock same made =
-    subst (λ (p : P). Waits sends receives reads rounds p start fresh last) same_port
-    (subst (λ (s : C). Waits sends receives reads rounds port' s fresh last) same_clock
-    (subst (λ (t : TableState). Waits sends receives reads rounds port' start' t last) same (stop, left, made)))
+pub waits : {P C J E : Type 0} (sends : P → List ℕ → List ℕ → Sending → P → Type 0) (receives : P → ℕ → Receiving → P → Type 0)
+    (reads : C → ℕ → C → Type 0) (plays : J → List Outcome → Turn E → Type 0) (jobs : List J) (rounds : ℕ) (port port' last : P) (start start' stop : C)
+    (fresh fresh' left : TableState) → port' ≡ port → start' ≡ start → fresh' ≡ fresh →
+    MakesRounds sends receives reads plays jobs rounds port' start' fresh' last stop left → Waits sends receives reads plays jobs rounds port start fresh last
+waits {P = P} {C = C} sends receives reads plays jobs rounds port port' last start start' stop fresh fresh' left same_port same_clock same made =
+    subst (λ (p : P). Waits sends receives reads plays jobs rounds p start fresh last) same_port
+    (subst (λ (s : C). Waits sends receives reads plays jobs rounds port' s fresh last) same_clock
+    (subst (λ (t : TableState). Waits sends receives reads plays jobs rounds port' start' t last) same (stop, left, made)))
 
 -- what was done from these desks on, which are those that were made
 pub ends : {P C J E : Type 0} (sends : P → List ℕ → List ℕ → Sending → P → Type 0) (receives : P → ℕ → Receiving → P → Type 0)
     (reads : C → ℕ → C → Type 0) (plays : J → List Outcome → Turn E → Type 0) (jobs : List J) (port port' last : P) (start start' stop : C)
     (fresh fresh' left : TableState) (all : List (Ending E)) → port' ≡ port → start' ≡ start → fresh' ≡ fresh →
-    Serves sends receives reads port' start' fresh' last stop left → (AreEnded plays jobs left.seats all × IsIdle left) →
+    ServesJobs sends receives reads plays jobs port' start' fresh' last stop left → (AreEnded plays jobs left.seats all × IsIdle left) →
     Ends sends receives reads plays jobs port start fresh all last
-ends {P = P} {C = C} sends receives reads plays jobs port port' last start start' stop fresh fresh' left all same_port same_clock same (events, does, keeps) ended =
+ends {P = P} {C = C} sends receives reads plays jobs port port' last start start' stop fresh fresh' left all same_port same_clock same (events, does, keeps, asks, wanted) ended =
     subst (λ (p : P). Ends sends receives reads plays jobs p start fresh all last) same_port
     (subst (λ (s : C). Ends sends receives reads plays jobs port' s fresh all last) same_clock
     (subst (λ (t : TableState). Ends sends receives reads plays jobs port' start' t all last) same
-    (events, stop, left, does, ended.0, ended.1)))
+    (events, stop, left, does, asks, ended.0, ended.1)))
 
 -- the same, whatever came of it
-pub stops : {P C : Type 0} (sends : P → List ℕ → List ℕ → Sending → P → Type 0) (receives : P → ℕ → Receiving → P → Type 0)
-    (reads : C → ℕ → C → Type 0) (port port' last : P) (start start' stop : C) (fresh fresh' left : TableState) → port' ≡ port → start' ≡ start → fresh' ≡ fresh →
-    Serves sends receives reads port' start' fresh' last stop left → Stops sends receives reads port start fresh last
-stops {P = P} {C = C} sends receives reads port port' last start start' stop fresh fresh' left same_port same_clock same (events, does, keeps) =
-    subst (λ (p : P). Stops sends receives reads p start fresh last) same_port
-    (subst (λ (s : C). Stops sends receives reads port' s fresh last) same_clock
-    (subst (λ (t : TableState). Stops sends receives reads port' start' t last) same (events, stop, left, does)))
+pub stops : {P C J E : Type 0} (sends : P → List ℕ → List ℕ → Sending → P → Type 0) (receives : P → ℕ → Receiving → P → Type 0)
+    (reads : C → ℕ → C → Type 0) (plays : J → List Outcome → Turn E → Type 0) (jobs : List J) (port port' last : P) (start start' stop : C)
+    (fresh fresh' left : TableState) → port' ≡ port → start' ≡ start → fresh' ≡ fresh →
+    ServesJobs sends receives reads plays jobs port' start' fresh' last stop left → Stops sends receives reads plays jobs port start fresh last
+stops {P = P} {C = C} sends receives reads plays jobs port port' last start start' stop fresh fresh' left same_port same_clock same (events, does, keeps, asks, wanted) =
+    subst (λ (p : P). Stops sends receives reads plays jobs p start fresh last) same_port
+    (subst (λ (s : C). Stops sends receives reads plays jobs port' s fresh last) same_clock
+    (subst (λ (t : TableState). Stops sends receives reads plays jobs port' start' t last) same (events, stop, left, does, asks)))
 
 -- nothing was done
-pub stops_at : {P C : Type 0} (sends : P → List ℕ → List ℕ → Sending → P → Type 0) (receives : P → ℕ → Receiving → P → Type 0)
-    (reads : C → ℕ → C → Type 0) (port last : P) (start : C) (fresh : TableState) → last ≡ port → Stops sends receives reads port start fresh last
-stops_at sends receives reads port last start fresh same = ([], start, fresh, (same, refl, refl))
+pub stops_at : {P C J E : Type 0} (sends : P → List ℕ → List ℕ → Sending → P → Type 0) (receives : P → ℕ → Receiving → P → Type 0)
+    (reads : C → ℕ → C → Type 0) (plays : J → List Outcome → Turn E → Type 0) (jobs : List J) (port last : P) (start : C) (fresh : TableState) → last ≡ port →
+    Stops sends receives reads plays jobs port start fresh last
+stops_at sends receives reads plays jobs port last start fresh same = ([], start, fresh, (same, refl, refl), refl)
 
 -- what holds, if it failed
 pub on_err : {V A : Type 0} (r : Result V A) (P : Type 0) → P → OnErr r P

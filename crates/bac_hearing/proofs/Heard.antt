@@ -2,6 +2,7 @@
 use Rattle.std.proofs.Common.{◌≡◌, ℕ, List, [], ◌∷◌, ◌++◌, Option, Some, All, slice_get, refl, ap, sym, subst, ◌∙◌}
 use Rattle.std.proofs.lemmas.Option.{slice_get-map}
 use Rattle.std.specs.Option.{option_map}
+use Rattle.bac_play.specs.declared.play.Outcome.{Outcome}
 use Rattle.bac_site.specs.Desk.{DeskState}
 use Rattle.bac_desks.specs.Chain.{Chain}
 use Rattle.bac_desks.specs.Event.{Event, Sent}
@@ -12,10 +13,13 @@ use Rattle.bac_desks.specs.declared.seat.Seat.{Seat}
 use Rattle.bac_desks.proofs.Kept.{kept}
 use Rattle.bac_desks.proofs.Runs.{rules_same}
 use Rattle.bac_desks.proofs.Words.{sends_were_asked, words}
+use Rattle.bac_jobs.proofs.ForJobs.{steps_of, wanted_on}
 use Rattle.bac_jobs.proofs.Peers.{stay}
 use Rattle.bac_jobs.specs.Jobs.{peers_of}
-use Rattle.bac_hearing.specs.Hearing.{AnswersWereHeard, LimitsAreKept, NothingElseIsSent, no_desks, with_peers}
-use Rattle.bac_hearing.proofs.Seated.{are_told, is_within, peers_are}
+use Rattle.bac_jobs.specs.Wanted.{JobStep}
+use Rattle.bac_jobs.specs.declared.job.Turn.{Turn}
+use Rattle.bac_hearing.specs.Hearing.{AnswersWereHeard, LimitsAreKept, NothingElseIsSent, SendsAreWanted, no_desks, with_peers}
+use Rattle.bac_hearing.proofs.Seated.{are_told, are_wanted, is_within, peers_are}
 
 -- steps up to a moment, and behind it
 split : {S E : Type 0} (step : S → E → S → Type 0) (old new : S) (front behind : List E) → Chain step old (front ++ behind) new →
@@ -59,6 +63,15 @@ nothing_else = λ rules peers events front behind left place octets to answer ch
       to_device rules peers front parts.0 place octets to parts.1 parts.2.1.0,
       sends_were_asked [] (fresh rules peers) left events front behind place octets to answer (are_told rules peers) chain is,
     )
+
+-- what is sent for jobs is what they want
+pub sends_wanted : {J E : Type 0} (plays : J → List Outcome → Turn E → Type 0) → SendsAreWanted plays
+sends_wanted plays = λ rules peers jobs events front behind left place octets to answer chain is.
+    let (mid, before, after) = split (JobStep plays jobs) (fresh rules peers) left front (Sent place octets to answer ∷ behind)
+    (subst (λ (es : List Event). Chain (JobStep plays jobs) (fresh rules peers) es left) is chain) in
+    let (next, first, more) = after in
+    let (seat, at, pending, to_is, few, due) = first.0.0 in
+    (mid, steps_of plays jobs (fresh rules peers) mid front before, wanted_on plays jobs (fresh rules peers) mid front before (are_wanted plays jobs rules peers) place seat octets at pending)
 
 pub limits_kept : LimitsAreKept
 limits_kept = λ rules peers front behind left chain.

@@ -1,5 +1,5 @@
 -- Desks of which nothing was asked yet.
-use Rattle.std.proofs.Common.{◌≡◌, ℕ, Bool, false, cond, List, [], ◌∷◌, map, Some, slice_get, refl, ap, sym, subst, arith}
+use Rattle.std.proofs.Common.{◌≡◌, ℕ, Bool, false, cond, List, [], ◌∷◌, map, Some, None, slice_get, refl, ap, sym, subst, ◌∙◌, arith}
 use Rattle.std.proofs.lemmas.List.Elements.{All-nil}
 use Rattle.std.proofs.lemmas.List.Sums.{sum_by-cons}
 use Rattle.std.specs.List.{count_by}
@@ -12,6 +12,8 @@ use Rattle.bac_desks.specs.Table.{IsWithin, TableState}
 use Rattle.bac_desks.specs.Told.{AreTold, IsSeatTold, IsTold}
 use Rattle.bac_desks.proofs.Lists.{get_map}
 use Rattle.bac_jobs.specs.Jobs.{peers_of}
+use Rattle.bac_jobs.specs.Wanted.{AreWanted}
+use Rattle.bac_jobs.specs.declared.job.Turn.{Turn}
 use Rattle.bac_hearing.specs.Hearing.{no_desks, with_peers}
 
 abbrev fresh : Rules → List (List ℕ) → TableState
@@ -50,3 +52,10 @@ is_within rules peers = (
   (let none : count_by is_open (map fresh_seat peers) ≡ 0 = none_open is_open (λ peer. refl) peers in omega arith),
   λ q. (let none : count_by (λ s. holds_place_at q s) (map fresh_seat peers) ≡ 0 = none_open (λ s. holds_place_at q s) (λ peer. refl) peers in omega arith),
 )
+
+-- no question is open that isn't wanted, since none is
+pub are_wanted : {J E : Type 0} (plays : J → List Outcome → Turn E → Type 0) (jobs : List J) (rules : Rules) (peers : List (List ℕ)) →
+    AreWanted plays jobs (fresh rules peers)
+are_wanted plays jobs rules peers = λ place seat octets at opened.
+    let (peer, there, is) = get_map fresh_seat peers place seat at in
+    absurd (let e : None ≡ Some octets = sym (ap (λ (s : Seat). s.desk.pending) is) ∙ opened in cc)

@@ -12,7 +12,8 @@ use Rattle.bac_desks.specs.Told.{Course, IsAsked}
 use Rattle.bac_desks.specs.Words.{WasServed}
 use Rattle.bac_desks.specs.declared.rules.Rules.{Rules}
 use Rattle.bac_desks.specs.declared.seat.Seat.{Seat}
-use Rattle.bac_jobs.specs.Jobs.{AreEnded, IsIdle, MakesRounds}
+use Rattle.bac_jobs.specs.Jobs.{AreEnded, IsIdle}
+use Rattle.bac_jobs.specs.Wanted.{IsWantedAt, JobStep, MakesRounds}
 use Rattle.bac_jobs.specs.declared.job.Ending.{Ending}
 use Rattle.bac_jobs.specs.declared.job.Turn.{Turn}
 use Rattle.bac_hearing.specs.declared.hearing.NotHeard.{NotHeard}
@@ -35,13 +36,14 @@ abbrev pub with_peers : TableState → List (List ℕ) → TableState
 with_peers t peers = record { rules = t.rules; time = t.time; seats = t.seats ++ map fresh_seat peers }
 
 -- What happened at the port and by the clock leads from these desks to those where each job has ended, by all that came
--- to the questions at the desk at its place, which has a stray or none; and no question is open.
+-- to the questions at the desk at its place, which has a stray or none; and no question is open. Nothing was asked but
+-- what the jobs wanted.
 abbrev pub Ends : {P C J E : Type 0} → (P → List ℕ → List ℕ → Sending → P → Type 0) → (P → ℕ → Receiving → P → Type 0) →
     (C → ℕ → C → Type 0) → (J → List Outcome → Turn E → Type 0) → List J → P → C → TableState → List (Ending E) → P →
     Type 0
 Ends {C = C} sends receives reads plays jobs port start fresh ends last =
     (events : List Event) × (stop : C) × (left : TableState)
-    × Does sends receives reads port start fresh events last stop left
+    × Does sends receives reads port start fresh events last stop left × Chain (JobStep plays jobs) fresh events left
     × AreEnded plays jobs left.seats ends × IsIdle left
 
 -- By what devices are asked at once: a clock as it was handed in, what a reading of it is, and how many questions may
@@ -66,32 +68,36 @@ HearsAll rules pace plays peers jobs local timeout retries before ends after =
     after
 
 -- So many rounds were made from these desks on, each of which asks what the jobs want next and waits for what comes.
-abbrev pub Waits : {P C : Type 0} → (P → List ℕ → List ℕ → Sending → P → Type 0) → (P → ℕ → Receiving → P → Type 0) →
-    (C → ℕ → C → Type 0) → ℕ → P → C → TableState → P → Type 0
-Waits {C = C} sends receives reads rounds port start fresh last =
-    (stop : C) × (left : TableState) × MakesRounds sends receives reads rounds port start fresh last stop left
+abbrev pub Waits : {P C J E : Type 0} → (P → List ℕ → List ℕ → Sending → P → Type 0) →
+    (P → ℕ → Receiving → P → Type 0) → (C → ℕ → C → Type 0) → (J → List Outcome → Turn E → Type 0) → List J → ℕ → P →
+    C → TableState → P → Type 0
+Waits {C = C} sends receives reads plays jobs rounds port start fresh last =
+    (stop : C) × (left : TableState)
+    × MakesRounds sends receives reads plays jobs rounds port start fresh last stop left
 
--- What happened at the port and by the clock leads from these desks to some: nothing was done but to ask devices so.
-abbrev pub Stops : {P C : Type 0} → (P → List ℕ → List ℕ → Sending → P → Type 0) → (P → ℕ → Receiving → P → Type 0) →
-    (C → ℕ → C → Type 0) → P → C → TableState → P → Type 0
-Stops {C = C} sends receives reads port start fresh last =
+-- What happened at the port and by the clock leads from these desks to some: nothing was done but to ask devices so, and
+-- nothing was asked but what the jobs wanted.
+abbrev pub Stops : {P C J E : Type 0} → (P → List ℕ → List ℕ → Sending → P → Type 0) →
+    (P → ℕ → Receiving → P → Type 0) → (C → ℕ → C → Type 0) → (J → List Outcome → Turn E → Type 0) → List J → P → C →
+    TableState → P → Type 0
+Stops {C = C} sends receives reads plays jobs port start fresh last =
     (events : List Event) × (stop : C) × (left : TableState)
-    × Does sends receives reads port start fresh events last stop left
+    × Does sends receives reads port start fresh events last stop left × Chain (JobStep plays jobs) fresh events left
 
 -- Devices aren't heard: no socket was opened as asked; memory is wanting, of which std doesn't tell why; or as many
 -- rounds as fit a number of 64 bits were made over the one that was. It was closed then as the last of that left it.
-abbrev pub FailsToHear : {S P C : Type 0} → SocketRules S P → Pace C → List (List ℕ) → Option (List ℕ) → ℕ → ℕ →
-    S → S → NotHeard → Type 0
-FailsToHear rules pace peers local timeout retries before after (Unopened why) =
+abbrev pub FailsToHear : {S P C J E : Type 0} → SocketRules S P → Pace C → (J → List Outcome → Turn E → Type 0) →
+    List (List ℕ) → List J → Option (List ℕ) → ℕ → ℕ → S → S → NotHeard → Type 0
+FailsToHear rules pace plays peers jobs local timeout retries before after (Unopened why) =
     rules.opens before (own_address local) timeout (Err why) after
-FailsToHear rules pace peers local timeout retries before after Memory =
+FailsToHear rules pace plays peers jobs local timeout retries before after Memory =
     UsesSocket rules (own_address local) timeout before
-    (λ port last. Stops rules.sends rules.receives_within pace.reads port pace.start
+    (λ port last. Stops rules.sends rules.receives_within pace.reads plays jobs port pace.start
     (with_peers (no_desks (limits timeout retries pace.window)) peers) last)
     after
-FailsToHear rules pace peers local timeout retries before after Unfinished =
+FailsToHear rules pace plays peers jobs local timeout retries before after Unfinished =
     UsesSocket rules (own_address local) timeout before
-    (λ port last. Waits rules.sends rules.receives_within pace.reads 18446744073709551615 port pace.start
+    (λ port last. Waits rules.sends rules.receives_within pace.reads plays jobs 18446744073709551615 port pace.start
     (with_peers (no_desks (limits timeout retries pace.window)) peers) last)
     after
 
@@ -119,6 +125,17 @@ NothingElseIsSent =
     (slice_get peers place ≡ Some to)
     × ((course : Course) × IsAsked rules front place to octets course × (course.sends ≤ rules.retries)
     × IsDue rules course.time course.sends course.since)
+
+-- What was sent, at whatever moment, to the device at a place is what the job at its place wanted to ask next, by all
+-- that came to the questions before: each event up to that moment is one at the desks.
+abbrev pub SendsAreWanted : {J E : Type 0} → (J → List Outcome → Turn E → Type 0) → Type 0
+SendsAreWanted {J = J} plays =
+    (rules : Rules) (peers : List (List ℕ)) (jobs : List J) (events front behind : List Event) (left : TableState)
+    (place : ℕ) (octets to : List ℕ) (answer : Sending) →
+    Chain (JobStep plays jobs) (with_peers (no_desks rules) peers) events left →
+    events ≡ front ++ Sent place octets to answer ∷ behind →
+    (mid : TableState) × Chain Step (with_peers (no_desks rules) peers) front mid
+    × IsWantedAt plays jobs mid place octets
 
 -- at whatever moment, no more questions were open than the limits say, in all and at one address
 abbrev pub LimitsAreKept : Type 0

@@ -32,10 +32,11 @@ fn begin_seated<P: Port, C: Clock, J: Job>(
         desks.old.clock (with_peers desks.old.table peers.now) early.items desks.new.port
         desks.new.clock desks.new.table)) }
     ensures unfinished { IfOk result (λ begun. IfNone begun
-        (Waits P.sends P.receives_within C.reads 18446744073709551615 desks.old.port
-        desks.old.clock (with_peers desks.old.table peers.now) desks.new.port)) }
-    ensures stops { OnErr result (Stops P.sends P.receives_within C.reads desks.old.port
-        desks.old.clock (with_peers desks.old.table peers.now) desks.new.port) }
+        (Waits P.sends P.receives_within C.reads J.plays jobs.now 18446744073709551615
+        desks.old.port desks.old.clock (with_peers desks.old.table peers.now)
+        desks.new.port)) }
+    ensures stops { OnErr result (Stops P.sends P.receives_within C.reads J.plays jobs.now
+        desks.old.port desks.old.clock (with_peers desks.old.table peers.now) desks.new.port) }
 {
     seat_all(alloc, desks, peers)?;
     begin(alloc, desks, jobs, u64::MAX)
@@ -66,8 +67,8 @@ where
         begun.desks.table sockets.new) }
     ensures fault { IfErr result (FailsToHear
         (socket_rules S.opens S.closes S.Socket.sends S.Socket.receives
-        S.Socket.receives_within) (paced C.reads clock window) peers.now local timeout retries
-        sockets.old sockets.new) }
+        S.Socket.receives_within) (paced C.reads clock window) J.plays peers.now jobs.now local
+        timeout retries sockets.old sockets.new) }
 {
     let port = match sockets.open(local.unwrap_or(ANY), timeout) {
         Ok(port) => port,
@@ -103,8 +104,8 @@ where
         sockets.old ends.items sockets.new) }
     ensures fault { IfErr result (FailsToEnd
         (socket_rules S.opens S.closes S.Socket.sends S.Socket.receives
-        S.Socket.receives_within) C.reads desks.port desks.clock desks.table sockets.old
-        sockets.new) }
+        S.Socket.receives_within) C.reads J.plays jobs.now desks.port desks.clock desks.table
+        sockets.old sockets.new) }
 {
     let mut desks = desks;
     let heard = finish(alloc, &mut desks, jobs, u64::MAX);

@@ -67,10 +67,11 @@ fn hear<P: Port, C: Clock, J: Job>(
         (λ ends. Ends P.sends P.receives_within C.reads J.plays jobs.now desks.old.port
         desks.old.clock (with_peers desks.old.table peers.now) ends.items desks.new.port)) }
     ensures unfinished { IfOk result (λ ended. IfNone ended
-        (Waits P.sends P.receives_within C.reads 18446744073709551615 desks.old.port
-        desks.old.clock (with_peers desks.old.table peers.now) desks.new.port)) }
-    ensures stops { OnErr result (Stops P.sends P.receives_within C.reads desks.old.port
-        desks.old.clock (with_peers desks.old.table peers.now) desks.new.port) }
+        (Waits P.sends P.receives_within C.reads J.plays jobs.now 18446744073709551615
+        desks.old.port desks.old.clock (with_peers desks.old.table peers.now)
+        desks.new.port)) }
+    ensures stops { OnErr result (Stops P.sends P.receives_within C.reads J.plays jobs.now
+        desks.old.port desks.old.clock (with_peers desks.old.table peers.now) desks.new.port) }
 {
     seat_all(alloc, desks, peers)?;
     finish(alloc, desks, jobs, u64::MAX)
@@ -100,8 +101,8 @@ where
         timeout retries sockets.old ends.items sockets.new) }
     ensures fault { IfErr result (FailsToHear
         (socket_rules S.opens S.closes S.Socket.sends S.Socket.receives
-        S.Socket.receives_within) (paced C.reads clock window) peers.now local timeout retries
-        sockets.old sockets.new) }
+        S.Socket.receives_within) (paced C.reads clock window) J.plays peers.now jobs.now local
+        timeout retries sockets.old sockets.new) }
 {
     let port = match sockets.open(local.unwrap_or(ANY), timeout) {
         Ok(port) => port,

@@ -4,6 +4,7 @@
 ghost use Rattle.bac_ports.specs.Sockets.{socket_rules};
 ghost use Rattle.bac_hearing.specs.Beside.{BesideIsOneHearing};
 ghost use Rattle.bac_hearing.specs.Hearing.{AnswersWereHeard, LimitsAreKept, NothingElseIsSent};
+ghost use Rattle.bac_hearing.specs.Hearing.{SendsAreWanted};
 
 use bac_desks::Clock;
 use bac_jobs::Job;
@@ -19,6 +20,12 @@ pub fn answers_were_heard()
 /// Nothing was sent but open questions of these devices, to their addresses, when they were due.
 pub fn nothing_else_is_sent()
     ensures { NothingElseIsSent }
+{}
+
+/// Each send to a device is what its job wanted to ask next, by all that came to the questions
+/// before.
+pub fn sends_are_wanted<J: Job>()
+    ensures { SendsAreWanted J.plays }
 {}
 
 /// No more questions are open than the limits say, at no moment.

@@ -1,3 +1,3 @@
-pub mod Asked
 pub mod Ends
+pub mod ForJobs
 pub mod Peers

@@ -1,11 +1,9 @@
 -- How jobs of many devices end. Read `AreEnded`.
-use Rattle.std.specs.Prelude.{◌≡◌, ℕ, List, ◌++◌, ◌⊎◌, Option, Some, None, count_by, length, map, slice_get}
-use Rattle.bac_ports.specs.Port.{Receiving, Sending}
-use Rattle.bac_desks.specs.Chain.{Chain}
+use Rattle.std.specs.Prelude.{◌≡◌, ℕ, List, ◌⊎◌, Option, Some, None, count_by, length, map, slice_get}
 use Rattle.bac_desks.specs.Seat.{is_open}
 use Rattle.bac_site.specs.Desk.{DeskState}
 use Rattle.bac_desks.specs.Event.{Event}
-use Rattle.bac_desks.specs.Served.{Does, Keeps, TurnStep, Whole}
+use Rattle.bac_desks.specs.Served.{Keeps}
 use Rattle.bac_desks.specs.Table.{MayAsk, TableState, desks_of}
 use Rattle.bac_desks.specs.declared.seat.Seat.{Seat}
 use Rattle.bac_jobs.specs.declared.job.Ending.{Ending}
@@ -50,22 +48,6 @@ abbrev pub AreEndedSoFar : {J E : Type 0} → (J → List Outcome → Turn E →
 AreEndedSoFar {E = E} plays jobs t ends =
     (length ends ≡ length jobs)
     × ((place : ℕ) (end : Option (Ending E)) → slice_get ends place ≡ Some end → HasEndedIf plays jobs t place end)
-
--- questions are asked, and then a turn is made
-abbrev pub RoundStep : {P C : Type 0} → (P → List ℕ → List ℕ → Sending → P → Type 0)
-    → (P → ℕ → Receiving → P → Type 0) →
-    (C → ℕ → C → Type 0) → Whole P C → List Event → Whole P C → Type 0
-RoundStep {P = P} {C = C} sends receives reads old es new =
-    (asks : List Event) × (turn : List Event) × (mid : Whole P C) × (es ≡ asks ++ turn)
-    × Does sends receives reads old.0 old.1 old.2 asks mid.0 mid.1 mid.2 × TurnStep sends receives reads mid turn new
-
--- that is done so often, one after the other
-abbrev pub MakesRounds : {P C : Type 0} → (P → List ℕ → List ℕ → Sending → P → Type 0)
-    → (P → ℕ → Receiving → P → Type 0) →
-    (C → ℕ → C → Type 0) → ℕ → P → C → TableState → P → C → TableState → Type 0
-MakesRounds sends receives reads rounds port clock t port' clock' t' =
-    (made : List (List Event)) × (length made ≡ rounds)
-    × Chain (RoundStep sends receives reads) (port, clock, t) made (port', clock', t')
 
 -- the addresses of the devices that the desks are for, in their order
 abbrev pub peers_of : TableState → List (List ℕ)

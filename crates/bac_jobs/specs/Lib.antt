@@ -1,2 +1,3 @@
 pub mod Records
 pub mod Jobs
+pub mod Wanted

@@ -1,9 +1,9 @@
 //! Jobs are brought on until those that are left wait long for their answers.
 
 ghost use Rattle.std.specs.Prelude.{◌<◌, IfNone, IfOk, IfSome, length};
-ghost use Rattle.bac_desks.specs.Served.{Serves};
 ghost use Rattle.bac_desks.specs.Table.{IsResting};
-ghost use Rattle.bac_jobs.specs.Jobs.{AreEndedSoFar, HasEndedIf, MakesRounds};
+ghost use Rattle.bac_jobs.specs.Jobs.{AreEndedSoFar, HasEndedIf};
+ghost use Rattle.bac_jobs.specs.Wanted.{MakesRounds, ServesJobs};
 
 use crate::finishing::{Progress, ask_all};
 use crate::job::{Ending, Job, Turn};
@@ -73,12 +73,13 @@ pub fn begin<P: Port, C: Clock, J: Job>(
         × IsResting desks.new.table)) }
     // Nothing only if as many turns were made, each behind what was asked then.
     ensures unfinished { IfOk result (λ ends. IfNone ends
-        (MakesRounds P.sends P.receives_within C.reads turns desks.old.port desks.old.clock
-        desks.old.table desks.new.port desks.new.clock desks.new.table)) }
+        (MakesRounds P.sends P.receives_within C.reads J.plays jobs.now turns desks.old.port
+        desks.old.clock desks.old.table desks.new.port desks.new.clock desks.new.table)) }
     // Whatever comes of it: what was done at the port and by the clock, and what that makes of the
-    // desks.
-    ensures serves { Serves P.sends P.receives_within C.reads desks.old.port desks.old.clock
-        desks.old.table desks.new.port desks.new.clock desks.new.table }
+    // desks; and nothing was asked but what the jobs wanted.
+    ensures serves { ServesJobs P.sends P.receives_within C.reads J.plays jobs.now
+        desks.old.port desks.old.clock desks.old.table desks.new.port desks.new.clock
+        desks.new.table }
 {
     let mut progress = Progress::new(alloc, jobs.len())?;
     for round in 0..turns {

@@ -1,8 +1,8 @@
 //! Jobs are brought to their ends.
 
 ghost use Rattle.std.specs.Prelude.{◌<◌, IfNone, IfOk, IfSome, length};
-ghost use Rattle.bac_desks.specs.Served.{Runs, Serves};
-ghost use Rattle.bac_jobs.specs.Jobs.{AreEnded, HasEnded, IsIdle, MakesRounds};
+ghost use Rattle.bac_jobs.specs.Jobs.{AreEnded, HasEnded, IsIdle};
+ghost use Rattle.bac_jobs.specs.Wanted.{AsksJobs, MakesRounds, ServesJobs};
 
 use crate::job::{Ending, Job, Turn};
 use bac_desks::{Clock, Desks};
@@ -18,8 +18,8 @@ fn ask_at<P: Port, C: Clock, J: Job>(
     place: usize,
 ) -> Result<bool, AllocError>
     requires { place < length jobs.now }
-    ensures { Runs P.sends P.receives_within C.reads desks.old.port desks.old.clock desks.old.table
-        desks.new.port desks.new.clock desks.new.table }
+    ensures { AsksJobs P.sends P.receives_within C.reads J.plays jobs.now desks.old.port
+        desks.old.clock desks.old.table desks.new.port desks.new.clock desks.new.table }
 {
     let Some(outcomes) = desks.outcomes(place) else {
         return Ok(true);
@@ -105,8 +105,8 @@ fn ask_unless<P: Port, C: Clock, J: Job>(
     progress: &mut Progress,
 ) -> Result<(), AllocError>
     requires { place < length jobs.now }
-    ensures { Runs P.sends P.receives_within C.reads desks.old.port desks.old.clock desks.old.table
-        desks.new.port desks.new.clock desks.new.table }
+    ensures { AsksJobs P.sends P.receives_within C.reads J.plays jobs.now desks.old.port
+        desks.old.clock desks.old.table desks.new.port desks.new.clock desks.new.table }
 {
     if !desks.is_free(place) {
         return Ok(());
@@ -127,8 +127,8 @@ fn ask_those<P: Port, C: Clock, J: Job>(
     from: usize,
     new: bool,
 ) -> Result<(), AllocError>
-    ensures { Runs P.sends P.receives_within C.reads desks.old.port desks.old.clock desks.old.table
-        desks.new.port desks.new.clock desks.new.table }
+    ensures { AsksJobs P.sends P.receives_within C.reads J.plays jobs.now desks.old.port
+        desks.old.clock desks.old.table desks.new.port desks.new.clock desks.new.table }
 {
     for place in from..jobs.len() {
         if progress.is_done(place) || desks.is_open(place) || is_new(desks, place) != new {
@@ -150,8 +150,8 @@ pub(crate) fn ask_all<P: Port, C: Clock, J: Job>(
     jobs: &[J],
     progress: &mut Progress,
 ) -> Result<(), AllocError>
-    ensures { Runs P.sends P.receives_within C.reads desks.old.port desks.old.clock desks.old.table
-        desks.new.port desks.new.clock desks.new.table }
+    ensures { AsksJobs P.sends P.receives_within C.reads J.plays jobs.now desks.old.port
+        desks.old.clock desks.old.table desks.new.port desks.new.clock desks.new.table }
 {
     progress.pass_old(desks);
     let first_new = progress.first_new;
@@ -247,12 +247,13 @@ pub fn finish<P: Port, C: Clock, J: Job>(
         × IsIdle desks.new.table)) }
     // Nothing only if as many turns were made, each behind what was asked then.
     ensures unfinished { IfOk result (λ ends. IfNone ends
-        (MakesRounds P.sends P.receives_within C.reads turns desks.old.port desks.old.clock
-        desks.old.table desks.new.port desks.new.clock desks.new.table)) }
+        (MakesRounds P.sends P.receives_within C.reads J.plays jobs.now turns desks.old.port
+        desks.old.clock desks.old.table desks.new.port desks.new.clock desks.new.table)) }
     // Whatever comes of it: what was done at the port and by the clock, and what that makes of the
-    // desks.
-    ensures serves { Serves P.sends P.receives_within C.reads desks.old.port desks.old.clock
-        desks.old.table desks.new.port desks.new.clock desks.new.table }
+    // desks; and nothing was asked but what the jobs wanted.
+    ensures serves { ServesJobs P.sends P.receives_within C.reads J.plays jobs.now
+        desks.old.port desks.old.clock desks.old.table desks.new.port desks.new.clock
+        desks.new.table }
 {
     let mut progress = Progress::new(alloc, jobs.len())?;
     for round in 0..turns {

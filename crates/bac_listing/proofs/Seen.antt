@@ -61,11 +61,14 @@ heard_all rules clock asked refs peers jobs before after ends are these heard =
     (subst (λ (j : List Listing). HearsAll rules clock Plays peers j asked.local asked.timeout asked.retries before ends after) (these ∙ jobs_seen asked refs) heard)
 
 pub unending : {S P C : Type 0} (rules : SocketRules S P) (clock : Pace C) (asked : Asked) (refs : List (Bor Wanted)) (peers : List (List ℕ))
-    (before after : S) → peers ≡ map (λ (one : Bor Wanted). one.now.asking.asked.address) refs →
-    FailsToHear rules clock peers asked.local asked.timeout asked.retries before after Unfinished →
+    (jobs : List Listing) (before after : S) → peers ≡ map (λ (one : Bor Wanted). one.now.asking.asked.address) refs →
+    jobs ≡ map (λ (one : Bor Wanted). listing_of (questions_of asked.local (length refs)) one.now) refs →
+    FailsToHear rules clock Plays peers jobs asked.local asked.timeout asked.retries before after Unfinished →
     Unending rules clock asked (map now_of refs) before after
-unending rules clock asked refs peers before after are fails =
-    subst (λ (p : List (List ℕ)). FailsToHear rules clock p asked.local asked.timeout asked.retries before after Unfinished) (are ∙ peers_seen refs) fails
+unending rules clock asked refs peers jobs before after are these fails =
+    subst (λ (p : List (List ℕ)). FailsToHear rules clock Plays p (jobs_of asked (map now_of refs)) asked.local asked.timeout asked.retries before after Unfinished)
+    (are ∙ peers_seen refs)
+    (subst (λ (j : List Listing). FailsToHear rules clock Plays peers j asked.local asked.timeout asked.retries before after Unfinished) (these ∙ jobs_seen asked refs) fails)
 
 -- two or more are asked as the first one is
 pub many : {S P C : Type 0} (rules : SocketRules S P) (clock : Pace C) (refs : List (Bor Wanted)) (first : Bor Wanted) (came : List Conversation)

@@ -48,7 +48,8 @@ AreHeard rules pace asked devices before endings after = HearsAll rules pace Pla
 -- as many rounds as fit 64 bits weren't enough for that
 abbrev pub Unending : {S P C : Type 0} → SocketRules S P → Pace C → Asked → List Wanted → S → S → Type 0
 Unending rules pace asked devices before after =
-    FailsToHear rules pace (peers_of devices) asked.local asked.timeout asked.retries before after Unfinished
+    FailsToHear rules pace Plays (peers_of devices) (jobs_of asked devices) asked.local asked.timeout asked.retries
+    before after Unfinished
 
 -- A device is silent whose questions ended so: it didn't tell its list, since no answer came to the last of them, and
 -- nothing else came from its host meanwhile.

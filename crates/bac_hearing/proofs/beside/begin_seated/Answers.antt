@@ -13,7 +13,7 @@ returns-clause-begun g c =
 pub returns-clause-unfinished : goal.returns-clause-unfinished
 returns-clause-unfinished g c =
     weaker_none c.begin.result _ _
-    (λ made. waits g.P.Port.sends g.P.Port.receives_within g.C.Clock.reads 18446744073709551615 c.args.desks.now.port c.seat_all.new.desks.port c.begin.new.desks.port
+    (λ made. waits g.P.Port.sends g.P.Port.receives_within g.C.Clock.reads g.J.Job.plays c.args.jobs.now 18446744073709551615 c.args.desks.now.port c.seat_all.new.desks.port c.begin.new.desks.port
     c.args.desks.now.clock c.seat_all.new.desks.clock c.begin.new.desks.clock _ c.seat_all.new.desks.table c.begin.new.desks.table
     c.seat_all.ensures.port c.seat_all.ensures.clock c.in_ok-seat_all.ensures.table made)
     c.begin.ensures.unfinished
@@ -21,11 +21,11 @@ returns-clause-unfinished g c =
 pub returns-in_err-seat_all-clause-stops : goal.returns-in_err-seat_all-clause-stops
 returns-in_err-seat_all-clause-stops g c =
     on_err c.from_residual.result _
-    (stops_at g.P.Port.sends g.P.Port.receives_within g.C.Clock.reads c.args.desks.now.port c.seat_all.new.desks.port c.args.desks.now.clock _ c.seat_all.ensures.port)
+    (stops_at g.P.Port.sends g.P.Port.receives_within g.C.Clock.reads g.J.Job.plays c.args.jobs.now c.args.desks.now.port c.seat_all.new.desks.port c.args.desks.now.clock _ c.seat_all.ensures.port)
 
 pub returns-clause-stops : goal.returns-clause-stops
 returns-clause-stops g c =
     on_err c.begin.result _
-    (stops g.P.Port.sends g.P.Port.receives_within g.C.Clock.reads c.args.desks.now.port c.seat_all.new.desks.port c.begin.new.desks.port
+    (stops g.P.Port.sends g.P.Port.receives_within g.C.Clock.reads g.J.Job.plays c.args.jobs.now c.args.desks.now.port c.seat_all.new.desks.port c.begin.new.desks.port
     c.args.desks.now.clock c.seat_all.new.desks.clock c.begin.new.desks.clock _ c.seat_all.new.desks.table c.begin.new.desks.table
     c.seat_all.ensures.port c.seat_all.ensures.clock c.in_ok-seat_all.ensures.table c.begin.ensures.serves)

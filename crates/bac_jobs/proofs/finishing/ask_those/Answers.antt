@@ -1,19 +1,19 @@
-use Rattle.bac_desks.proofs.Runs.{nothing, then}
+use Rattle.bac_jobs.proofs.ForJobs.{asks_nothing, asks_then}
 use Rattle.bac_jobs.proofs.finishing.ask_those.Goals as goal
 
 pub loop-place-init : goal.loop-place-init
 loop-place-init g c =
-    nothing g.P.Port.sends g.P.Port.receives_within g.C.Clock.reads c.args.desks.now.port c.args.desks.now.clock c.args.desks.now.table
+    asks_nothing g.J.Job.plays c.args.jobs.now g.P.Port.sends g.P.Port.receives_within g.C.Clock.reads c.args.desks.now.port c.args.desks.now.clock c.args.desks.now.table
 
 pub returns-in_err-ask_unless : goal.returns-in_err-ask_unless
 returns-in_err-ask_unless g c =
-    then g.P.Port.sends g.P.Port.receives_within g.C.Clock.reads c.args.desks.now.port c.loop-place.desks.port c.ask_unless.new.desks.port
+    asks_then g.J.Job.plays c.args.jobs.now g.P.Port.sends g.P.Port.receives_within g.C.Clock.reads c.args.desks.now.port c.loop-place.desks.port c.ask_unless.new.desks.port
     c.args.desks.now.clock c.loop-place.desks.clock c.ask_unless.new.desks.clock c.args.desks.now.table c.loop-place.desks.table
     c.ask_unless.new.desks.table c.loop-place.invariant c.ask_unless.ensures
 
 pub loop-place-preserved : goal.loop-place-preserved
 loop-place-preserved g c =
-    then g.P.Port.sends g.P.Port.receives_within g.C.Clock.reads c.args.desks.now.port c.loop-place.desks.port c.ask_unless.new.desks.port
+    asks_then g.J.Job.plays c.args.jobs.now g.P.Port.sends g.P.Port.receives_within g.C.Clock.reads c.args.desks.now.port c.loop-place.desks.port c.ask_unless.new.desks.port
     c.args.desks.now.clock c.loop-place.desks.clock c.ask_unless.new.desks.clock c.args.desks.now.table c.loop-place.desks.table
     c.ask_unless.new.desks.table c.loop-place.invariant c.ask_unless.ensures
 

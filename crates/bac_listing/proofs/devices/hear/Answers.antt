@@ -13,5 +13,5 @@ returns-in-Ok-clause-heard g c =
 pub returns-in-Err-Unfinished-clause-unending : goal.returns-in-Err-Unfinished-clause-unending
 returns-in-Err-Unfinished-clause-unending g c =
     let over = socket_rules g.S.Sockets.opens g.S.Sockets.closes g.S.Socket.Port.sends g.S.Socket.Port.receives g.S.Socket.Port.receives_within in
-    unending over (paced g.C.Clock.reads c.args.clock c.args.window) c.args.asked.now c.args.devices.now c.as_slice.result.now c.args.sockets.now c.hear_all.new.sockets
-    (c.as_slice.ensures.value ∙ c.in-Ok-Ok.ensures) (rw c.in-Err-Unfinished.field-0-is at c.in-Err-Unfinished.ensures.fault)
+    unending over (paced g.C.Clock.reads c.args.clock c.args.window) c.args.asked.now c.args.devices.now c.as_slice.result.now c.as_slice-2.result.now c.args.sockets.now
+    c.hear_all.new.sockets (c.as_slice.ensures.value ∙ c.in-Ok-Ok.ensures) (c.as_slice-2.ensures.value ∙ c.in-Ok-Ok.ensures') (rw c.in-Err-Unfinished.field-0-is at c.in-Err-Unfinished.ensures.fault)

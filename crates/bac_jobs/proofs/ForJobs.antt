@@ -1,0 +1,241 @@
+-- What is asked for jobs, and the open questions by it.
+use Rattle.std.proofs.Common.{◌≡◌, ◌<◌, ◌==◌, ◌⊎◌, inl, inr, ℕ, Bool, true, false, List, [], ◌∷◌, ◌++◌, All, Option, Some, None, get_or, length, slice_get, refl, ap, sym, subst, ◌∙◌}
+use Rattle.std.proofs.lemmas.Bool.Decides.{eqb_tells}
+use Rattle.std.proofs.lemmas.List.Elements.{All-head, All-tail}
+use Rattle.std.proofs.lemmas.Option.{slice_get-get_or}
+use Rattle.std.proofs.Math.ListN.{set}
+use Rattle.bac_ports.specs.Asking.{fitting}
+use Rattle.bac_ports.specs.Port.{Receiving, Sending}
+use Rattle.bac_ports.specs.declared.port.Heard.{Heard}
+use Rattle.bac_play.specs.declared.play.Outcome.{Outcome}
+use Rattle.bac_site.specs.Desk.{DeskState, answered, asked, given_up, heard_by}
+use Rattle.bac_desks.specs.Chain.{Chain}
+use Rattle.bac_desks.specs.Event.{Asked, ClockStep, Event, GivenUp, PortStep, Read, Received, Sent, Waited}
+use Rattle.bac_desks.specs.Seat.{after_ask, after_heard, after_loss, after_send, is_known}
+use Rattle.bac_desks.specs.Served.{Asks, Does, TurnStep}
+use Rattle.bac_desks.specs.Table.{Step, TableState, with_seat}
+use Rattle.bac_desks.specs.declared.seat.Seat.{Seat}
+use Rattle.bac_desks.proofs.Kept.{kept}
+use Rattle.bac_desks.proofs.Lists.{get_map, get_set_other, get_set_same, joined}
+use Rattle.bac_desks.proofs.Runs.{AsksNone, turn_asks_none}
+use Rattle.bac_jobs.specs.Wanted.{AreWanted, AskStep, AsksJobs, IsForJobs, IsWantedAt, JobStep, ServesJobs}
+use Rattle.bac_jobs.specs.declared.job.Turn.{Turn}
+use Rattle.bac_jobs.specs.declared.job.Turn.TheVariants.{Wants}
+
+-- ---- an open question
+
+-- a question that is open was open before, and nothing came to the desk meanwhile
+abbrev StaysOpen : DeskState → DeskState → Type 0
+StaysOpen old new = (octets : List ℕ) → new.pending ≡ Some octets → (old.pending ≡ Some octets) × (new.outcomes ≡ old.outcomes)
+
+stays : (d : DeskState) → StaysOpen d d
+stays d = λ octets opened. (opened, refl)
+
+stays_at_answer : (d : DeskState) (request : List ℕ) (came : Option (List ℕ)) → StaysOpen d (answered d request came)
+stays_at_answer d request None = stays d
+stays_at_answer d request (Some datagram) = λ octets opened. absurd (let e : None ≡ Some octets = opened in cc)
+
+stays_at_hearing : (d : DeskState) (request : Option (List ℕ)) (heard : Heard) → StaysOpen d (heard_by d request heard)
+stays_at_hearing d None heard = stays d
+stays_at_hearing d (Some request) heard = stays_at_answer d request (fitting d.peer request heard)
+
+stays_at_loss : (d : DeskState) (request : Option (List ℕ)) → StaysOpen d (given_up d request)
+stays_at_loss d None = stays d
+stays_at_loss d (Some request) = λ octets opened. absurd (let e : None ≡ Some octets = opened in cc)
+
+-- a question that is asked where none is open is the open one
+opens : (d : DeskState) (request : Option (List ℕ)) (asks octets : List ℕ) → request ≡ None → (asked d request asks).pending ≡ Some octets →
+    (octets ≡ asks) × ((asked d request asks).outcomes ≡ d.outcomes)
+opens d None asks octets none opened = ((let e : Some asks ≡ Some octets = opened in cc), refl)
+opens d (Some request) asks octets some opened = absurd (let e : Some request ≡ None = some in cc)
+
+-- ---- a seat among others
+
+same_seat : (a b : Seat) (o : Option Seat) → o ≡ Some a → o ≡ Some b → a ≡ b
+same_seat a b o e f = let s : Some a ≡ Some b = sym e ∙ f in cc
+
+-- at one place, or at another
+here_or : (m n : ℕ) → (m ≡ n) ⊎ (m ≡ n → ⊥)
+here_or m n = by (eqb_tells m n)
+  where
+    by : (((m == n) ≡ true) × (m ≡ n)) ⊎ (((m == n) ≡ false) × (m ≡ n → ⊥)) → (m ≡ n) ⊎ (m ≡ n → ⊥)
+    by (inl (yes', same)) = inl same
+    by (inr (no', other)) = inr other
+
+-- a seat that stands at a place stood there before, so
+abbrev Was : List Seat → ℕ → Seat → Type 0
+Was seats place seat = (before : Seat) × (slice_get seats place ≡ Some before) × StaysOpen before.desk seat.desk
+
+was_there : (seats : List Seat) (k : ℕ) (there x : Seat) → slice_get seats k ≡ Some there → StaysOpen there.desk x.desk →
+    (place : ℕ) (seat : Seat) → slice_get (set seats k x) place ≡ Some seat → Was seats place seat
+was_there seats k there x at open_so place seat is = by (here_or k place)
+  where
+    by : (k ≡ place) ⊎ (k ≡ place → ⊥) → Was seats place seat
+    by (inl same) =
+        let x_is : x ≡ seat = same_seat x seat (slice_get (set seats k x) k) (get_set_same seats k there x at) (ap (slice_get (set seats k x)) same ∙ is) in
+        (there, sym (ap (slice_get seats) same) ∙ at, subst (λ (s : Seat). StaysOpen there.desk s.desk) x_is open_so)
+    by (inr other) = (seat, sym (get_set_other seats k place x other) ∙ is, stays seat.desk)
+
+module _ {J E : Type 0} (plays : J → List Outcome → Turn E → Type 0) (jobs : List J) where
+  -- what the job at a place comes to over what came to the questions of the desk there
+  pub wanted_at : (t : TableState) (place : ℕ) (octets : List ℕ) (job : J) (seat : Seat) (outcomes : List Outcome) (turn : Turn E) → place < length jobs →
+      job ≡ get_or jobs place job → slice_get t.seats place ≡ Some seat → outcomes ≡ seat.desk.outcomes → turn ≡ Wants octets → plays job outcomes turn →
+      IsWantedAt plays jobs t place octets
+  wanted_at t place octets job seat outcomes turn within is at are wants played = (
+    job,
+    seat,
+    slice_get-get_or jobs place job within ∙ ap (λ (j : J). Some j) (sym is),
+    at,
+    subst (λ (l : List Outcome). plays job l (Wants octets)) are (subst (λ (w : Turn E). plays job outcomes w) wants played),
+  )
+
+  -- where each open question was open before
+  wanted_by : (old new : TableState) → ((place : ℕ) (seat : Seat) → slice_get new.seats place ≡ Some seat → Was old.seats place seat) →
+      AreWanted plays jobs old → AreWanted plays jobs new
+  wanted_by old new from are = λ place seat octets at opened.
+      let (before, was, open_so) = from place seat at in
+      let (pending, same) = open_so octets opened in
+      let (job, found, job_at, found_at, wants) = are place before octets was pending in
+      let wants_so : plays job before.desk.outcomes (Wants octets) =
+      subst (λ (s : Seat). plays job s.desk.outcomes (Wants octets)) (same_seat found before (slice_get old.seats place) found_at was) wants in
+      (job, seat, job_at, at, subst (λ (l : List Outcome). plays job l (Wants octets)) (sym same) wants_so)
+
+  -- what is asked is what is wanted
+  wanted_asked : (old new : TableState) (k : ℕ) (asks : List ℕ) → Step old (Asked k asks) new → IsWantedAt plays jobs old k asks →
+      AreWanted plays jobs old → AreWanted plays jobs new
+  wanted_asked old new k asks ((there, at, none, free), is) (job, found, job_at, found_at, wants) are =
+      subst (λ (t : TableState). AreWanted plays jobs t) (sym is) (λ place seat octets seat_at opened. by place seat octets seat_at opened (here_or k place))
+    where
+      by : (place : ℕ) (seat : Seat) (octets : List ℕ) → slice_get (set old.seats k (after_ask there asks)) place ≡ Some seat → seat.desk.pending ≡ Some octets →
+          (k ≡ place) ⊎ (k ≡ place → ⊥) → IsWantedAt plays jobs (with_seat old k (after_ask there asks)) place octets
+      by place seat octets seat_at opened (inl same) =
+          let put : slice_get (set old.seats k (after_ask there asks)) k ≡ Some (after_ask there asks) = get_set_same old.seats k there (after_ask there asks) at in
+          let x_is : after_ask there asks ≡ seat = same_seat (after_ask there asks) seat (slice_get (set old.seats k (after_ask there asks)) k) put
+          (ap (slice_get (set old.seats k (after_ask there asks))) same ∙ seat_at) in
+          let is_so = opens there.desk there.desk.pending asks octets none (ap (λ (s : Seat). s.desk.pending) x_is ∙ opened) in
+          let before : plays job there.desk.outcomes (Wants asks) =
+          subst (λ (s : Seat). plays job s.desk.outcomes (Wants asks)) (same_seat found there (slice_get old.seats k) found_at at) wants in
+          let outcomes_are : seat.desk.outcomes ≡ there.desk.outcomes = sym (ap (λ (s : Seat). s.desk.outcomes) x_is) ∙ is_so.1 in (
+            job,
+            seat,
+            sym (ap (slice_get jobs) same) ∙ job_at,
+            seat_at,
+            subst (λ (l : List Outcome). plays job l (Wants octets)) (sym outcomes_are) (subst (λ (o : List ℕ). plays job there.desk.outcomes (Wants o)) (sym is_so.0) before),
+          )
+      by place seat octets seat_at opened (inr other) =
+          let was : slice_get old.seats place ≡ Some seat = sym (get_set_other old.seats k place (after_ask there asks) other) ∙ seat_at in
+          let (job', found', job_at', found_at', wants') = are place seat octets was opened in (
+            job',
+            seat,
+            job_at',
+            seat_at,
+            subst (λ (s : Seat). plays job' s.desk.outcomes (Wants octets)) (same_seat found' seat (slice_get old.seats place) found_at' was) wants',
+          )
+
+  wanted_step : (old new : TableState) (e : Event) → JobStep plays jobs old e new → AreWanted plays jobs old → AreWanted plays jobs new
+  wanted_step old new (Asked k asks) (step, wanted) are = wanted_asked old new k asks step wanted are
+  wanted_step old new (Sent k octets to answer) (((there, at, pending, to_is, few, due), is), nothing) are =
+      wanted_by old new
+      (λ place seat seat_at. was_there old.seats k there (after_send there old.time) at (stays there.desk) place seat (sym (ap (λ (t : TableState). slice_get t.seats place) is) ∙ seat_at))
+      are
+  wanted_step old new (Received within heard) ((may, is), nothing) are =
+      wanted_by old new (λ place seat seat_at. by place seat (get_map (after_heard (is_known old.seats heard.from) heard) old.seats place seat
+      (sym (ap (λ (t : TableState). slice_get t.seats place) is) ∙ seat_at))) are
+    where
+      by : (place : ℕ) (seat : Seat) →
+          ((before : Seat) × (slice_get old.seats place ≡ Some before) × (seat ≡ after_heard (is_known old.seats heard.from) heard before)) → Was old.seats place seat
+      by place seat (before, was, seat_is) =
+          (before, was, subst (λ (s : Seat). StaysOpen before.desk s.desk) (sym seat_is) (stays_at_hearing before.desk before.desk.pending heard))
+  wanted_step old new (Waited within fault) ((may, is), nothing) are = subst (λ (t : TableState). AreWanted plays jobs t) (sym is) are
+  wanted_step old new (Read ms) (is, nothing) are = subst (λ (t : TableState). AreWanted plays jobs t) (sym is) are
+  wanted_step old new (GivenUp k) (((there, at, opened, all, due), is), nothing) are =
+      wanted_by old new
+      (λ place seat seat_at. was_there old.seats k there (after_loss there) at (stays_at_loss there.desk there.desk.pending) place seat
+      (sym (ap (λ (t : TableState). slice_get t.seats place) is) ∙ seat_at))
+      are
+
+  pub wanted_on : (old new : TableState) (es : List Event) → Chain (JobStep plays jobs) old es new → AreWanted plays jobs old → AreWanted plays jobs new
+  wanted_on old new [] same are = subst (λ (t : TableState). AreWanted plays jobs t) (sym same) are
+  wanted_on old new (e ∷ es) (mid, first, more) are = wanted_on mid new es more (wanted_step old mid e first are)
+
+  -- ---- steps of jobs
+
+  -- they are steps
+  pub steps_of : (old new : TableState) (es : List Event) → Chain (JobStep plays jobs) old es new → Chain Step old es new
+  steps_of old new [] same = same
+  steps_of old new (e ∷ es) (mid, first, more) = (mid, first.0, steps_of mid new es more)
+
+  without_asks : (old : TableState) (e : Event) → AsksNone e → IsForJobs plays jobs old e
+  without_asks old (Asked k octets) none = absurd none
+  without_asks old (Sent k octets to answer) none = tt
+  without_asks old (Received within heard) none = tt
+  without_asks old (Waited within fault) none = tt
+  without_asks old (Read ms) none = tt
+  without_asks old (GivenUp k) none = tt
+
+  no_asks : (old new : TableState) (es : List Event) → Chain Step old es new → All AsksNone es → Chain (JobStep plays jobs) old es new
+  no_asks old new [] same none = same
+  no_asks old new (e ∷ es) (mid, first, more) none =
+      (mid, (first, without_asks old e (All-head AsksNone e es none)), no_asks mid new es more (All-tail AsksNone e es none))
+
+  one_ask : (old new : TableState) (e : Event) → AskStep plays jobs old e new → JobStep plays jobs old e new
+  one_ask old new (Asked k octets) (step, wanted) = (step, wanted)
+  one_ask old new (Sent k octets to answer) asks = absurd asks
+  one_ask old new (Received within heard) asks = absurd asks
+  one_ask old new (Waited within fault) asks = absurd asks
+  one_ask old new (Read ms) asks = absurd asks
+  one_ask old new (GivenUp k) asks = absurd asks
+
+  by_asks : (old new : TableState) (es : List Event) → Chain (AskStep plays jobs) old es new → Chain (JobStep plays jobs) old es new
+  by_asks old new [] same = same
+  by_asks old new (e ∷ es) (mid, first, more) = (mid, one_ask old mid e first, by_asks mid new es more)
+
+  -- ---- runs of jobs
+
+  module _ {P C : Type 0} (sends : P → List ℕ → List ℕ → Sending → P → Type 0) (receives : P → ℕ → Receiving → P → Type 0) (reads : C → ℕ → C → Type 0) where
+    abbrev pub RunsJobs : P → C → TableState → P → C → TableState → Type 0
+    RunsJobs port clock t port' clock' t' = (es : List Event) × Does sends receives reads port clock t es port' clock' t' × Chain (JobStep plays jobs) t es t'
+
+    pub nothing_run : (port : P) (clock : C) (t : TableState) → RunsJobs port clock t port clock t
+    nothing_run port clock t = ([], (refl, refl, refl), refl)
+
+    pub asks_nothing : (port : P) (clock : C) (t : TableState) → AsksJobs sends receives reads plays jobs port clock t port clock t
+    asks_nothing port clock t = ([], (refl, refl, refl), refl)
+
+    -- a question of the desk at a place, or none
+    pub asks_one : (port port' : P) (clock clock' : C) (t t' : TableState) (place : ℕ) (octets : List ℕ) (may : Bool) → port' ≡ port → clock' ≡ clock →
+        Asks t place octets may t' → IsWantedAt plays jobs t place octets → AsksJobs sends receives reads plays jobs port clock t port' clock' t'
+    asks_one port port' clock clock' t t' place octets true at_port at_clock (step, keeps) wanted =
+        (Asked place octets ∷ [], ((port', at_port, refl), (clock', at_clock, refl), (t', step, refl)), (t', (step, wanted), refl))
+    asks_one port port' clock clock' t t' place octets false at_port at_clock (same, closed) wanted = ([], (at_port, at_clock, same), same)
+
+    pub does_then : (p p' p'' : P) (c c' c'' : C) (t t' t'' : TableState) (es fs : List Event) → Does sends receives reads p c t es p' c' t' →
+        Does sends receives reads p' c' t' fs p'' c'' t'' → Does sends receives reads p c t (es ++ fs) p'' c'' t''
+    does_then p p' p'' c c' c'' t t' t'' es fs (a, b, d) (a', b', d') = (
+      joined (PortStep sends receives) p p' p'' es fs a a',
+      joined (ClockStep reads) c c' c'' es fs b b',
+      joined Step t t' t'' es fs d d',
+    )
+
+    pub asks_then : (p p' p'' : P) (c c' c'' : C) (t t' t'' : TableState) → AsksJobs sends receives reads plays jobs p c t p' c' t' →
+        AsksJobs sends receives reads plays jobs p' c' t' p'' c'' t'' → AsksJobs sends receives reads plays jobs p c t p'' c'' t''
+    asks_then p p' p'' c c' c'' t t' t'' (es, does, asks) (fs, does', asks') =
+        (es ++ fs, does_then p p' p'' c c' c'' t t' t'' es fs does does', joined (AskStep plays jobs) t t' t'' es fs asks asks')
+
+    pub then_run : (p p' p'' : P) (c c' c'' : C) (t t' t'' : TableState) → RunsJobs p c t p' c' t' → RunsJobs p' c' t' p'' c'' t'' → RunsJobs p c t p'' c'' t''
+    then_run p p' p'' c c' c'' t t' t'' (es, does, runs) (fs, does', runs') =
+        (es ++ fs, does_then p p' p'' c c' c'' t t' t'' es fs does does', joined (JobStep plays jobs) t t' t'' es fs runs runs')
+
+    -- questions, and a turn
+    pub then_ask : (p p' p'' : P) (c c' c'' : C) (t t' t'' : TableState) → RunsJobs p c t p' c' t' → AsksJobs sends receives reads plays jobs p' c' t' p'' c'' t'' →
+        RunsJobs p c t p'' c'' t''
+    then_ask p p' p'' c c' c'' t t' t'' runs (fs, does, asks) = then_run p p' p'' c c' c'' t t' t'' runs (fs, does, by_asks t' t'' fs asks)
+
+    pub then_turn : (p p' p'' : P) (c c' c'' : C) (t t' t'' : TableState) (fs : List Event) → RunsJobs p c t p' c' t' →
+        TurnStep sends receives reads (p', c', t') fs (p'', c'', t'') → RunsJobs p c t p'' c'' t''
+    then_turn p p' p'' c c' c'' t t' t'' fs runs (does, keeps, turn) =
+        then_run p p' p'' c c' c'' t t' t'' runs (fs, does, no_asks t' t'' fs does.2 (turn_asks_none t' fs turn))
+
+    pub serves_jobs : (port port' : P) (clock clock' : C) (t t' : TableState) → RunsJobs port clock t port' clock' t' →
+        ServesJobs sends receives reads plays jobs port clock t port' clock' t'
+    serves_jobs port port' clock clock' t t' (es, does, runs) = (es, does, kept t t' es does.2, runs, wanted_on t t' es runs)
