@@ -10,6 +10,7 @@ use Rattle.bac_questions.specs.Faults.{EndsAsking}
 use Rattle.bac_recall.specs.declared.conversations.Conversation.{Conversation}
 use Rattle.bac_words.specs.declared.job.Asked.{Asked}
 use Rattle.bac_ahead.proofs.Parted.{two_devices}
+use Rattle.bac_ahead.specs.Ahead.{Plays}
 use Rattle.bac_ahead.specs.Laws.{SomeAreAsked}
 use Rattle.bac_ahead.specs.Rounds.{AsksAhead, EndsAhead, IsRound, IsRoundOf, IsUnending, Parts, Stage, conversations_of, devices_of, parts_of, peers_of}
 use Rattle.bac_ahead.specs.declared.opening.Opened.{Opened}
@@ -55,14 +56,14 @@ module _ {S P C : Type 0} (rules : SocketRules S P) (clock : Pace C) (asked : As
 
   -- one doesn't end
   pub unending : (all left firsts rest : List Opening) (before mid after : S) (came came' : List Conversation) → parts firsts rest ≡ parts_of left → 2 ≤ length firsts
-      → Came all before mid left came → FailsToHear rules clock (peers_of firsts) asked.local asked.timeout asked.retries mid after Unfinished
+      → Came all before mid left came → FailsToHear rules clock Plays (peers_of firsts) firsts asked.local asked.timeout asked.retries mid after Unfinished
       → came' ≡ came → AsksAhead rules clock asked all before came' after
   unending all left firsts rest before mid after came came' are two (rounds, chain, is) fails same = (
     rounds,
     stage mid left,
     chain,
     same ∙ is,
-    inr (subst (λ (p : Parts). (2 ≤ length p.firsts) × FailsToHear rules clock (peers_of p.firsts) asked.local asked.timeout asked.retries mid after Unfinished) are (two, fails)),
+    inr (subst (λ (p : Parts). (2 ≤ length p.firsts) × FailsToHear rules clock Plays (peers_of p.firsts) p.firsts asked.local asked.timeout asked.retries mid after Unfinished) are (two, fails)),
   )
 
   -- one can't be made

@@ -85,8 +85,8 @@ conversations_of (ends ∷ more) = map (λ (o : Opened). o.conversation) ends ++
 -- a round that has more turns than fit 64 bits opens nothing
 abbrev pub IsUnending : {S P C : Type 0} → SocketRules S P → Pace C → Asked → Stage S → S → Type 0
 IsUnending rules pace asked old after = (2 ≤ devices_of old.left)
-    × FailsToHear rules pace (peers_of (parts_of old.left).firsts) asked.local asked.timeout asked.retries old.sockets
-    after Unfinished
+    × FailsToHear rules pace Plays (peers_of (parts_of old.left).firsts) (parts_of old.left).firsts asked.local
+    asked.timeout asked.retries old.sockets after Unfinished
 
 -- no round is made of the logs of fewer devices
 abbrev pub IsOver : {S : Type 0} → Stage S → S → Type 0

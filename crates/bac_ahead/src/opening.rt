@@ -1,7 +1,8 @@
 //! What a run over a log asks first, played over a record.
 
 ghost use Rattle.std.specs.Prelude.{◌≡◌, IfErr, IfOk, OnOk};
-ghost use Rattle.bac_link.specs.Path.{towards};
+ghost use Rattle.bac_query.specs.Tables.{client};
+ghost use Rattle.bac_questions.specs.Connecting.{transactions_with};
 ghost use Rattle.bac_asked.specs.Faults.{WantsMemory};
 ghost use Rattle.bac_ahead.specs.Ahead.{Asks, Begins, IsOpened, Plays, WalksOn};
 ghost use Rattle.bac_ahead.specs.Ahead.{has_lost, is_lost};
@@ -80,8 +81,8 @@ fn walk_on<L: LogLink>(
     steps: u32,
     batches: u32,
 )
-    ensures { WalksOn L.asks (towards transactions.old.route) transactions.old.retries batches
-        link.old start.hand.walk (why_of start.hand.gathered.step.ended) link.new }
+    ensures { WalksOn L.asks batches (client link.old transactions.old) start.hand.walk
+        (why_of start.hand.gathered.step.ended) (client link.new transactions.new) }
 {
     let Hand {
         gathered,
@@ -105,10 +106,8 @@ impl Opening {
         log: ObjectId,
     ) -> Result<Result<Start, End>, NotDone>
         requires { log.kind ≡ 20 }
-        ensures retries { transactions.new.retries ≡ transactions.old.retries }
-        ensures route { transactions.new.route ≡ transactions.old.route }
-        ensures begins { IfOk result (λ begun. Begins L.asks (towards transactions.old.route)
-            transactions.old.retries link.old self.now log begun link.new) }
+        ensures begins { IfOk result (λ begun. Begins L.asks (client link.old transactions.old)
+            self.now log begun (client link.new transactions.new)) }
         ensures fault { IfErr result WantsMemory }
     {
         match &self.stand {
@@ -136,8 +135,8 @@ impl Opening {
         log: ObjectId,
     ) -> Result<(), NotDone>
         requires { log.kind ≡ 20 }
-        ensures asks { OnOk result (Asks L.asks (towards transactions.old.route)
-            transactions.old.retries link.old self.now log link.new) }
+        ensures asks { OnOk result (Asks L.asks (client link.old transactions.old) self.now log
+            (client link.new transactions.new)) }
         ensures fault { IfErr result WantsMemory }
     {
         let begun = self.begin(alloc, link, transactions, log)?;
@@ -149,8 +148,7 @@ impl Opening {
 
     /// Transactions with its device, of which none is repeated.
     fn transactions(&self) -> Result<Transactions, AllocError>
-        ensures retries { IfOk result (λ made. made.retries ≡ 0) }
-        ensures route { IfOk result (λ made. made.route ≡ self.now.route) }
+        ensures { IfOk result (λ made. made ≡ transactions_with 0 self.now.route) }
     {
         Ok(transactions_by(0, self.route.clone()?))
     }

@@ -38,8 +38,8 @@ where
         sockets.new)) }
     ensures unending { IfOk result (λ ends. IfNone ends (FailsToHear
         (socket_rules S.opens S.closes S.Socket.sends S.Socket.receives
-        S.Socket.receives_within) (paced C.reads clock window) (peers_of firsts.now)
-        asked.now.local asked.now.timeout asked.now.retries sockets.old sockets.new
+        S.Socket.receives_within) (paced C.reads clock window) Plays (peers_of firsts.now)
+        firsts.now asked.now.local asked.now.timeout asked.now.retries sockets.old sockets.new
         NotHeard.Unfinished)) }
     ensures fault { IfErr result (EndsAsking (socket_rules S.opens S.closes S.Socket.sends
         S.Socket.receives S.Socket.receives_within) asked.now sockets.old sockets.new) }
@@ -115,9 +115,9 @@ where
         × (came.new.items ≡ came.old.items ++ map (λ (o : OpenedOf). o.conversation) ends))) }
     ensures unending { IfOk result (λ left. IfNone left (FailsToHear
         (socket_rules S.opens S.closes S.Socket.sends S.Socket.receives
-        S.Socket.receives_within) (paced C.reads clock window) (peers_of split.firsts.items)
-        asked.now.local asked.now.timeout asked.now.retries sockets.old sockets.new
-        NotHeard.Unfinished
+        S.Socket.receives_within) (paced C.reads clock window) Plays
+        (peers_of split.firsts.items) split.firsts.items asked.now.local asked.now.timeout
+        asked.now.retries sockets.old sockets.new NotHeard.Unfinished
         × (came.new.items ≡ came.old.items))) }
     ensures fault { IfErr result (EndsAsking (socket_rules S.opens S.closes S.Socket.sends
         S.Socket.receives S.Socket.receives_within) asked.now sockets.old sockets.new) }

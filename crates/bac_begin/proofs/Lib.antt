@@ -1,2 +1,1 @@
-pub mod Ways
 pub mod Quiet

@@ -5,24 +5,24 @@ use Rattle.sqlite_value.specs.Order.{Row as Values}
 use Rattle.bac_wire.specs.Primitive.{Id}
 use Rattle.bac_link.specs.declared.item.Item.{Item}
 use Rattle.bac_link.specs.declared.item.Item.TheVariants.{Gap}
-use Rattle.bac_link.specs.declared.link.Lost.{Lost as Loss}
-use Rattle.bac_link.specs.Path.{Path}
-use Rattle.bac_walk.specs.Came.{Brought, Came}
+use Rattle.bac_walk.specs.Came.{Came}
 use Rattle.bac_walk.specs.Collects.{Goes}
 use Rattle.bac_walk.specs.Place.{WalkPlace, asking, walk_at}
+use Rattle.bac_walk.specs.Transacted.{BroughtBy}
 use Rattle.bac_walk.specs.declared.outcome.Ended.{Ended}
 use Rattle.bac_walk.specs.declared.outcome.Ended.TheVariants.{CaughtUp, StepLimit, Stopped, Fault}
 use Rattle.bac_walk.specs.declared.outcome.WalkFault.TheVariants as walk
 use Rattle.bac_walk.specs.declared.outcome.Why.TheVariants as why
 use Rattle.bac_archive.specs.Rows.{stored}
-use Rattle.bac_keep.specs.Came.{GathersOver}
+use Rattle.bac_keep.specs.Came.{GathersBy}
 use Rattle.bac_keep.specs.Items.{era, kept_row, kept_rows}
-use Rattle.bac_keep.specs.Questions.{GathersAnswer, RefusesAnswer}
-use Rattle.bac_keep.specs.Rising.{IsCause}
+use Rattle.bac_keep.specs.Questions.{GathersAnswerBy, RefusesAnswerBy}
+use Rattle.bac_keep.specs.Rising.{IsCause, free_after}
 use Rattle.bac_keep.specs.declared.keep.Gathered.{Gathered}
 use Rattle.bac_keep.specs.declared.place.Place.{Place}
 use Rattle.bac_keep.specs.declared.sink.Refusal.{Refusal}
 use Rattle.bac_keep.specs.declared.sink.Refusal.TheVariants as refusal
+use Rattle.bac_query.specs.Tables.{Ask, Client}
 use Rattle.bac_asked.specs.declared.end.Ending.{Ending}
 use Rattle.bac_asked.specs.declared.end.Ending.TheVariants.{Walk, Back, Epochs}
 use Rattle.bac_begin.specs.declared.either.Span.{Span}
@@ -42,53 +42,43 @@ IsStep StepLimit = Unit {0}
 IsStep Stopped = ⊥
 IsStep (Fault fault) = ⊥
 
--- What is in hand came to one step of a walk over a link: its rows from a place on, so many records and gaps, and where
--- it ended.
-abbrev pub IsInHand : {S : Type 0} → (S → List ℕ → Result (List ℕ) Loss → S → Type 0) → Path → ℕ → Place → S
-    → WalkPlace →
-    Gathered → WalkPlace → S → Type 0
-IsInHand asks path retries place link before gathered after left =
-    GathersOver asks path retries place gathered.place (map stored gathered.rows.items) gathered.step.records
-    gathered.step.gaps link left before after gathered.step.ended
+-- What is in hand came to one step of a walk, each question by the next transaction of a client: its rows from a place
+-- on, so many records and gaps, where it ended, and the least number that may come behind them, where it was this one.
+abbrev pub IsInHand : {S : Type 0} → Ask S → Place → ℕ → Client S → WalkPlace → Gathered → WalkPlace → Client S → Type 0
+IsInHand asks place free old before gathered after new =
+    ((came : GathersBy asks old.transactions place gathered.place (map stored gathered.rows.items) gathered.step.records
+    gathered.step.gaps old.link new.link before after gathered.step.ended new.transactions)
+    × (gathered.free ≡ free_after free came.0.0))
     × CoverFrom place (map stored gathered.rows.items) before after
 
--- what came to one step of a walk over a link can't be kept from a place on, where no number below this one may come
-abbrev pub HasNoPlace : {S : Type 0} → (S → List ℕ → Result (List ℕ) Loss → S → Type 0) → Path → ℕ → Place → ℕ → S
-    → WalkPlace →
-    Refusal → S → Type 0
-HasNoPlace asks path retries place free link before refused left =
+-- what came to one step of a walk can't be kept from a place on, where no number below this one may come
+abbrev pub HasNoPlace : {S : Type 0} → Ask S → Place → ℕ → Client S → WalkPlace → Refusal → Client S → Type 0
+HasNoPlace asks place free old before refused new =
     (came : List Came) × (items : List Item) × (after : WalkPlace)
-    × Brought asks path retries link before 1 came items Stopped after left × IsCause place free items refused
+    × BroughtBy asks old.transactions old.link before 1 came items Stopped after new.transactions new.link
+    × IsCause place free items refused
 
--- one step of a walk over a link came to no end but this one
-abbrev pub StopsBy : {S : Type 0} → (S → List ℕ → Result (List ℕ) Loss → S → Type 0) → Path → ℕ → Place → ℕ → S
-    → WalkPlace →
-    Ending → S → Type 0
-StopsBy asks path retries place free link before (Walk (why.Fault fault)) left =
+-- one step of a walk came to no end but this one
+abbrev pub StopsBy : {S : Type 0} → Ask S → Place → ℕ → Client S → WalkPlace → Ending → Client S → Type 0
+StopsBy asks place free old before (Walk (why.Fault fault)) new =
     (came : List Came) × (items : List Item) × (after : WalkPlace)
-    × Brought asks path retries link before 1 came items (Fault fault) after left
-StopsBy asks path retries place free link before Back left =
-    HasNoPlace asks path retries place free link before refusal.Back left
-StopsBy asks path retries place free link before Epochs left =
-    HasNoPlace asks path retries place free link before refusal.Epochs left
-StopsBy asks path retries place free link before other left = ⊥
+    × BroughtBy asks old.transactions old.link before 1 came items (Fault fault) after new.transactions new.link
+StopsBy asks place free old before Back new = HasNoPlace asks place free old before refusal.Back new
+StopsBy asks place free old before Epochs new = HasNoPlace asks place free old before refusal.Epochs new
+StopsBy asks place free old before other new = ⊥
 
--- One step of a walk over a link: what is in hand then, which took that step, or why nothing is.
-abbrev pub Steps : {S : Type 0} → (S → List ℕ → Result (List ℕ) Loss → S → Type 0) → Path → ℕ → Place → ℕ → S
-    → WalkPlace →
-    Result Hand Ending → S → Type 0
-Steps asks path retries place free link before (Ok hand) left =
-    IsInHand asks path retries place link before hand.gathered hand.walk left × IsStep hand.gathered.step.ended
-    × (hand.took ≡ 1)
-Steps asks path retries place free link before (Err ending) left =
-    StopsBy asks path retries place free link before ending left
+-- One step of a walk of a client: what is in hand then, which took that step, or why nothing is.
+abbrev pub Steps : {S : Type 0} → Ask S → Place → ℕ → Client S → WalkPlace → Result Hand Ending → Client S → Type 0
+Steps asks place free old before (Ok hand) new =
+    IsInHand asks place free old before hand.gathered hand.walk new × IsStep hand.gathered.step.ended × (hand.took ≡ 1)
+Steps asks place free old before (Err ending) new = StopsBy asks place free old before ending new
 
 -- the same of a walk from a number on, into an epoch that has no row; 0 is no number, and nothing is asked
-abbrev pub StepsAt : {S : Type 0} → (S → List ℕ → Result (List ℕ) Loss → S → Type 0) → Path → ℕ → Place → S → Id →
-    (many : ℕ) → ℕ → Result Hand Ending → S → Type 0
-StepsAt asks path retries place link object many number hand left =
-    MatchBool (number == 0) ((hand ≡ Err (Walk (why.Fault walk.BadReply))) × (left ≡ link))
-    (Steps asks path retries place 0 link (asking many (walk_at object number)) hand left)
+abbrev pub StepsAt : {S : Type 0} → Ask S → Place → Client S → Id → (many : ℕ) → ℕ → Result Hand Ending → Client S
+    → Type 0
+StepsAt asks place old object many number hand new =
+    MatchBool (number == 0) ((hand ≡ Err (Walk (why.Fault walk.BadReply))) × (new ≡ old))
+    (Steps asks place 0 old (asking many (walk_at object number)) hand new)
 
 -- ---- one question, and then another
 
@@ -99,26 +89,22 @@ steps_of StepLimit = 1
 steps_of Stopped = 0
 steps_of (Fault fault) = 0
 
--- what came to one question of a walk over a link has no place, where no number below this one may come
-abbrev pub IsNotTaken : {S : Type 0} → (S → List ℕ → Result (List ℕ) Loss → S → Type 0) → Path → ℕ → Place → ℕ → S
-    → WalkPlace →
-    Refusal → S → Type 0
-IsNotTaken asks path retries place free link before refused left =
-    (after : WalkPlace) × RefusesAnswer asks path retries place free link before refused after left
+-- what came to one question of a walk has no place, where no number below this one may come
+abbrev pub IsNotTaken : {S : Type 0} → Ask S → Place → ℕ → Client S → WalkPlace → Refusal → Client S → Type 0
+IsNotTaken asks place free old before refused new =
+    (after : WalkPlace)
+    × RefusesAnswerBy asks old.transactions place free old.link before refused after new.transactions new.link
 
--- One question of a walk was asked over a link, and what came is in hand, records, none, or a fault; or it has no
--- place.
-abbrev pub TakesAnswer : {S : Type 0} → (S → List ℕ → Result (List ℕ) Loss → S → Type 0) → Path → ℕ → Place → ℕ → S
-    → WalkPlace →
-    Result Hand Ending → S → Type 0
-TakesAnswer asks path retries place free link before (Ok hand) left =
-    GathersAnswer asks path retries place free link before hand.gathered hand.walk left
+-- One question of a walk was asked by the next transaction of a client, and what came is in hand, records, none, or a
+-- fault; or it has no place.
+abbrev pub TakesAnswer : {S : Type 0} → Ask S → Place → ℕ → Client S → WalkPlace → Result Hand Ending → Client S
+    → Type 0
+TakesAnswer asks place free old before (Ok hand) new =
+    GathersAnswerBy asks old.transactions place free old.link before hand.gathered hand.walk new.transactions new.link
     × (hand.took ≡ steps_of hand.gathered.step.ended)
-TakesAnswer asks path retries place free link before (Err Back) left =
-    IsNotTaken asks path retries place free link before refusal.Back left
-TakesAnswer asks path retries place free link before (Err Epochs) left =
-    IsNotTaken asks path retries place free link before refusal.Epochs left
-TakesAnswer asks path retries place free link before (Err other) left = ⊥
+TakesAnswer asks place free old before (Err Back) new = IsNotTaken asks place free old before refusal.Back new
+TakesAnswer asks place free old before (Err Epochs) new = IsNotTaken asks place free old before refusal.Epochs new
+TakesAnswer asks place free old before (Err other) new = ⊥
 
 -- What came to a question is put behind what was in hand before it, which then ends as that question did. If it has no
 -- place, that stays in hand, and goes on as if it weren't asked.
@@ -135,35 +121,28 @@ IsPutBehind hand (Err ending) all =
     × (all.gathered.place ≡ hand.gathered.place) × (all.gathered.free ≡ hand.gathered.free)
     × (all.walk ≡ hand.walk) × (all.took ≡ hand.took)
 
--- the next question of a walk is asked over a link, from where what is in hand ends, and what comes is put behind that
-abbrev pub TakesMore : {S : Type 0} → (S → List ℕ → Result (List ℕ) Loss → S → Type 0) → Path → ℕ → S → Hand → Hand → S
-    → Type 0
-TakesMore asks path retries link hand all left =
-    (more : Result Hand Ending)
-    × TakesAnswer asks path retries hand.gathered.place hand.gathered.free link hand.walk more left
+-- the next question of a walk is asked, from where what is in hand ends, and what comes is put behind that
+abbrev pub TakesMore : {S : Type 0} → Ask S → Client S → Hand → Hand → Client S → Type 0
+TakesMore asks old hand all new =
+    (more : Result Hand Ending) × TakesAnswer asks hand.gathered.place hand.gathered.free old hand.walk more new
     × IsPutBehind hand more all
 
 -- Behind a first question that ended so: if it brought records, and a run may take another step, the number behind them
 -- is asked for; if it came to a fault, nothing is in hand; else that is all.
-abbrev pub GoesAhead : {S : Type 0} → (S → List ℕ → Result (List ℕ) Loss → S → Type 0) → Path → ℕ → S → Hand → ℕ
-    → Ended →
-    Result Hand Ending → S → Type 0
-GoesAhead asks path retries link hand steps StepLimit ahead left = MatchBool (nat_lt 1 steps)
-    ((all : Hand) × TakesMore asks path retries link hand all left × (ahead ≡ Ok all)) ((ahead ≡ Ok hand)
-    × (left ≡ link))
-GoesAhead asks path retries link hand steps (Fault fault) ahead left = (ahead ≡ Err (Walk (why.Fault fault)))
-    × (left ≡ link)
-GoesAhead asks path retries link hand steps other ahead left = (ahead ≡ Ok hand) × (left ≡ link)
+abbrev pub GoesAhead : {S : Type 0} → Ask S → Client S → Hand → ℕ → Ended → Result Hand Ending → Client S → Type 0
+GoesAhead asks old hand steps StepLimit ahead new = MatchBool (nat_lt 1 steps)
+    ((all : Hand) × TakesMore asks old hand all new × (ahead ≡ Ok all)) ((ahead ≡ Ok hand) × (new ≡ old))
+GoesAhead asks old hand steps (Fault fault) ahead new = (ahead ≡ Err (Walk (why.Fault fault))) × (new ≡ old)
+GoesAhead asks old hand steps other ahead new = (ahead ≡ Ok hand) × (new ≡ old)
 
--- What lies ahead of a walk by number is asked for over a link, of which a run may take so many steps, and what came in
--- hand: by one question, or by two if the first brought records; or why nothing is.
-abbrev pub LooksAhead : {S : Type 0} → (S → List ℕ → Result (List ℕ) Loss → S → Type 0) → Path → ℕ → Place → ℕ → S
-    → WalkPlace → ℕ →
-    Result Hand Ending → S → Type 0
-LooksAhead {S = S} asks path retries place free link before steps ahead left =
-    ((ending : Ending) × TakesAnswer asks path retries place free link before (Err ending) left × (ahead ≡ Err ending))
-    ⊎ ((hand : Hand) × (mid : S) × TakesAnswer asks path retries place free link before (Ok hand) mid
-    × GoesAhead asks path retries mid hand steps hand.gathered.step.ended ahead left)
+-- What lies ahead of a walk by number is asked for, of which a run may take so many steps, and what came in hand: by one
+-- question, or by two if the first brought records; or why nothing is.
+abbrev pub LooksAhead : {S : Type 0} → Ask S → Place → ℕ → Client S → WalkPlace → ℕ → Result Hand Ending → Client S
+    → Type 0
+LooksAhead {S = S} asks place free old before steps ahead new =
+    ((ending : Ending) × TakesAnswer asks place free old before (Err ending) new × (ahead ≡ Err ending))
+    ⊎ ((hand : Hand) × (mid : Client S) × TakesAnswer asks place free old before (Ok hand) mid
+    × GoesAhead asks mid hand steps hand.gathered.step.ended ahead new)
 
 -- the row of a gap over numbers that are missing
 abbrev pub row_of_span : Span → Values

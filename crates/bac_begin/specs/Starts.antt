@@ -5,10 +5,8 @@ use Rattle.std.specs.Prelude.{List, [], ◌∷◌, map, Option, None, Some, Resu
 use Rattle.sqlite_trees.specs.Tree.{Trees}
 use Rattle.bac_wire.specs.Primitive.{Id}
 use Rattle.bac_link.specs.Ordinals.{number_after}
-use Rattle.bac_link.specs.Path.{Path}
 use Rattle.bac_link.specs.declared.item.Item.{Item}
 use Rattle.bac_link.specs.declared.item.Item.TheVariants.{Gap}
-use Rattle.bac_link.specs.declared.link.Lost.{Lost as Loss}
 use Rattle.bac_walk.specs.Place.{asking, walk_at, walk_from_oldest}
 use Rattle.bac_walk.specs.declared.batch.Numbered.{Numbered}
 use Rattle.bac_walk.specs.declared.outcome.Ended.{Ended}
@@ -22,7 +20,7 @@ use Rattle.bac_archive.specs.Rows.{stored}
 use Rattle.bac_archive.specs.declared.epochs.Beginning.{Beginning}
 use Rattle.bac_keep.specs.Courses.{beginning_of, course_of}
 use Rattle.bac_keep.specs.Items.{era, era_after, kept_rows}
-use Rattle.bac_keep.specs.Looks.{CameTo, Looks}
+use Rattle.bac_keep.specs.Looks.{CameToBy, LooksBy}
 use Rattle.bac_keep.specs.Runs.{gaps_among}
 use Rattle.bac_keep.specs.declared.courses.Course.{Course}
 use Rattle.bac_keep.specs.declared.courses.Course.TheVariants.{GoOn, Anew, Both}
@@ -30,6 +28,7 @@ use Rattle.bac_keep.specs.declared.courses.Word.{Word}
 use Rattle.bac_keep.specs.declared.look.Seen.{Seen}
 use Rattle.bac_keep.specs.declared.look.Seen.TheVariants as seen
 use Rattle.bac_keep.specs.declared.place.Place.{Place}
+use Rattle.bac_query.specs.Tables.{Ask, Client}
 use Rattle.bac_asked.specs.declared.began.Began.{Began}
 use Rattle.bac_asked.specs.declared.began.Began.TheVariants as began
 use Rattle.bac_asked.specs.declared.end.End.{End}
@@ -38,7 +37,7 @@ use Rattle.bac_asked.specs.declared.end.Ending.TheVariants.{Walk, Epochs}
 use Rattle.bac_begin.specs.Hands.{LooksAhead, Steps, StepsAt, TakesMore}
 use Rattle.bac_begin.specs.Stands.{IsStand, begins_at_one, epoch_from, epoch_of, free_from, kept_last, word_at}
 use Rattle.bac_begin.specs.declared.hands.Hand.{Hand}
-use Rattle.bac_questions.specs.Counts.{Counts}
+use Rattle.bac_questions.specs.Counts.{CountsBy}
 use Rattle.bac_questions.specs.declared.questions.Count.{Count}
 use Rattle.bac_questions.specs.declared.questions.Count.TheVariants.{Told, Untold, Lost}
 use Rattle.bac_begin.specs.declared.stands.Stand.{Stand}
@@ -76,28 +75,25 @@ OpensWith (Err ending) next how begins_at begun = Ends ending next begun
 -- ---- a log of which nothing is on record
 
 -- a log's first epoch begins at the oldest record, or if it turns out to hold none at this number
-abbrev pub OpensFirst : {S : Type 0} → (S → List ℕ → Result (List ℕ) Loss → S → Type 0) → Path → ℕ → S → S → ℕ → Id →
-    (many : ℕ) → ℕ → Result Start End → Type 0
-OpensFirst asks path retries link left log object many number begun =
+abbrev pub OpensFirst : {S : Type 0} → Ask S → Client S → Client S → ℕ → Id → (many : ℕ) → ℕ → Result Start End → Type 0
+OpensFirst asks old new log object many number begun =
     (place : Place) × (hand : Result Hand Ending) × (place.log ≡ log) × (place.epoch ≡ 0)
-    × Steps asks path retries place 0 link (asking many (walk_from_oldest object)) hand left
+    × Steps asks place 0 old (asking many (walk_from_oldest object)) hand new
     × OpensWith hand 1 began.GoesOn (Some (record { log = log; epoch = 0; number = number })) begun
 
 -- A log of which nothing is on record begins at the oldest record, in epoch 0; if it turns out to hold none, behind its
 -- count. If no answer comes to the question for that, nothing more is asked, and nothing is kept.
-abbrev pub IsFirst : {S : Type 0} → (S → List ℕ → Result (List ℕ) Loss → S → Type 0) → Path → ℕ → S → ℕ → Id →
-    (many : ℕ) → Count → Result Start End → S → Type 0
-IsFirst asks path retries link log object many Lost begun left =
-    Ends (Walk (why.Fault walk.Lost)) 1 begun × (left ≡ link)
-IsFirst asks path retries link log object many count begun left =
-    OpensFirst asks path retries link left log object many (begins_behind count) begun
+abbrev pub IsFirst : {S : Type 0} → Ask S → Client S → ℕ → Id → (many : ℕ) → Count → Result Start End → Client S
+    → Type 0
+IsFirst asks old log object many Lost begun new = Ends (Walk (why.Fault walk.Lost)) 1 begun × (new ≡ old)
+IsFirst asks old log object many count begun new =
+    OpensFirst asks old new log object many (begins_behind count) begun
 
 -- the same, with the question for its count before
-abbrev pub StartsNew : {S : Type 0} → (S → List ℕ → Result (List ℕ) Loss → S → Type 0) → Path → ℕ → S → ℕ → Id →
-    (many : ℕ) → Result Start End → S → Type 0
-StartsNew {S = S} asks path retries link log object many begun left =
-    (count : Count) × (mid : S) × Counts asks path retries link object count mid
-    × IsFirst asks path retries mid log object many count begun left
+abbrev pub StartsNew : {S : Type 0} → Ask S → Client S → ℕ → Id → (many : ℕ) → Result Start End → Client S → Type 0
+StartsNew {S = S} asks old log object many begun new =
+    (count : Count) × (mid : Client S) × CountsBy asks old object count mid
+    × IsFirst asks mid log object many count begun new
 
 -- ---- a log that began anew
 
@@ -113,33 +109,32 @@ IsBeginning (Ok CaughtUp) found = found ≡ Ok 1
 IsBeginning (Ok (BatchOf batch)) found = BeginsBy batch.entries.items found
 
 -- the oldest records are asked for, and tell where a log begins that began anew
-abbrev pub AsksBeginning : {S : Type 0} → (S → List ℕ → Result (List ℕ) Loss → S → Type 0) → Path → ℕ → S → Id →
-    (many : ℕ) → Result ℕ WalkFault → S → Type 0
-AsksBeginning asks path retries link object many found left =
+abbrev pub AsksBeginning : {S : Type 0} → Ask S → Client S → Id → (many : ℕ) → Result ℕ WalkFault → Client S → Type 0
+AsksBeginning asks old object many found new =
     (answer : Result Step WalkFault) × IsBeginning answer found
-    × CameTo asks path retries link (asking many (walk_from_oldest object)) answer left
+    × CameToBy asks old.transactions old.link (asking many (walk_from_oldest object)) answer new.transactions new.link
 
 -- Where a log begins that began anew: by its count, if it holds nothing; else by its oldest record, which is asked for.
-abbrev pub FindsBeginning : {S : Type 0} → (S → List ℕ → Result (List ℕ) Loss → S → Type 0) → Path → ℕ → S → Id →
-    (many : ℕ) → Seen → Count → Result ℕ WalkFault → S → Type 0
-FindsBeginning asks path retries link object many seen.Nothing (Told count) found left =
-    (found ≡ Ok (beginning_of (number_after count 1))) × (left ≡ link)
-FindsBeginning asks path retries link object many other count found left =
-    AsksBeginning asks path retries link object many found left
+abbrev pub FindsBeginning : {S : Type 0} → Ask S → Client S → Id → (many : ℕ) → Seen → Count → Result ℕ WalkFault
+    → Client S → Type 0
+FindsBeginning asks old object many seen.Nothing (Told count) found new =
+    (found ≡ Ok (beginning_of (number_after count 1))) × (new ≡ old)
+FindsBeginning asks old object many other count found new =
+    AsksBeginning asks old object many found new
 
 -- the number behind the one that a log stands behind
 abbrev pub next_from : Stand → ℕ
 next_from stand = number_after (kept_last stand).number 1
 
 -- A new epoch of a log begins at a number, if there is a next one.
-abbrev pub IsAnew : {S : Type 0} → (S → List ℕ → Result (List ℕ) Loss → S → Type 0) → Path → ℕ → S → ℕ → Id →
-    (many : ℕ) → Stand → Result ℕ WalkFault → Result Start End → S → Type 0
-IsAnew asks path retries link log object many stand (Err lost) begun left =
-    Ends (Walk (why.Fault lost)) (next_from stand) begun × (left ≡ link)
-IsAnew asks path retries link log object many stand (Ok number) begun left =
-    ((32767 ≤ epoch_of stand) × Ends Epochs (next_from stand) begun × (left ≡ link))
+abbrev pub IsAnew : {S : Type 0} → Ask S → Client S → ℕ → Id → (many : ℕ) → Stand → Result ℕ WalkFault
+    → Result Start End → Client S → Type 0
+IsAnew asks old log object many stand (Err lost) begun new =
+    Ends (Walk (why.Fault lost)) (next_from stand) begun × (new ≡ old)
+IsAnew asks old log object many stand (Ok number) begun new =
+    ((32767 ≤ epoch_of stand) × Ends Epochs (next_from stand) begun × (new ≡ old))
     ⊎ ((place : Place) × (hand : Result Hand Ending) × (place.log ≡ log) × (place.epoch ≡ epoch_of stand + 1)
-    × StepsAt asks path retries place link object many number hand left
+    × StepsAt asks place old object many number hand new
     × OpensWith hand (next_from stand) began.Anew
     (Some (record { log = place.log; epoch = place.epoch; number = number })) begun)
 
@@ -168,14 +163,14 @@ OpensBehind from gap (Err ending) next begun = Ends ending next begun
 
 -- Both are kept: a gap in the epoch in which the log would go on, up to the oldest record, and behind it a new epoch
 -- from where the log begins if it began anew.
-abbrev pub IsEither : {S : Type 0} → (S → List ℕ → Result (List ℕ) Loss → S → Type 0) → Path → ℕ → S → Id → (many : ℕ) →
-    Stand → Place → ℕ → Result Start End → S → Type 0
-IsEither asks path retries link object many stand from oldest begun left =
+abbrev pub IsEither : {S : Type 0} → Ask S → Client S → Id → (many : ℕ) → Stand → Place → ℕ → Result Start End
+    → Client S → Type 0
+IsEither asks old object many stand from oldest begun new =
     ((from.log * 32768 + 32767 ≤ era_after (era from) (gap_up_to (next_from stand) oldest))
-    × Ends Epochs (next_from stand) begun × (left ≡ link))
+    × Ends Epochs (next_from stand) begun × (new ≡ old))
     ⊎ ((place : Place) × (hand : Result Hand Ending) × (place.log ≡ from.log)
     × (era place ≡ era_after (era from) (gap_up_to (next_from stand) oldest) + 1)
-    × StepsAt asks path retries place link object many (beginning_of oldest) hand left
+    × StepsAt asks place old object many (beginning_of oldest) hand new
     × OpensBehind from (gap_up_to (next_from stand) oldest) hand (next_from stand) begun)
 
 -- ---- the one rule
@@ -189,23 +184,22 @@ asks_oldest_next other ended.CaughtUp = true
 asks_oldest_next other how = false
 
 -- a log goes on with what is in hand, and with the oldest behind that where they are asked for
-abbrev pub GoesOn : {S : Type 0} → (S → List ℕ → Result (List ℕ) Loss → S → Type 0) → Path → ℕ → S → Hand → Seen →
-    Result Start End → S → Type 0
-GoesOn asks path retries link hand found begun left =
+abbrev pub GoesOn : {S : Type 0} → Ask S → Client S → Hand → Seen → Result Start End → Client S → Type 0
+GoesOn asks old hand found begun new =
     MatchBool (asks_oldest_next found hand.gathered.step.ended)
-    ((all : Hand) × TakesMore asks path retries link hand all left × BeginsWith all began.GoesOn None begun)
-    (BeginsWith hand began.GoesOn None begun × (left ≡ link))
+    ((all : Hand) × TakesMore asks old hand all new × BeginsWith all began.GoesOn None begun)
+    (BeginsWith hand began.GoesOn None begun × (new ≡ old))
 
 -- A log goes on with what is in hand, begins anew, or both are kept.
-abbrev pub ByCourse : {S : Type 0} → (S → List ℕ → Result (List ℕ) Loss → S → Type 0) → Path → ℕ → S → ℕ → Id →
-    (many : ℕ) → Stand → Place → Hand → Seen → Count → Course → Result Start End → S → Type 0
-ByCourse asks path retries link log object many stand from hand found count GoOn begun left =
-    GoesOn asks path retries link hand found begun left
-ByCourse {S = S} asks path retries link log object many stand from hand found count Anew begun left =
-    (number : Result ℕ WalkFault) × (mid : S) × FindsBeginning asks path retries link object many found count number mid
-    × IsAnew asks path retries mid log object many stand number begun left
-ByCourse asks path retries link log object many stand from hand found count (Both oldest) begun left =
-    IsEither asks path retries link object many stand from oldest begun left
+abbrev pub ByCourse : {S : Type 0} → Ask S → Client S → ℕ → Id → (many : ℕ) → Stand → Place → Hand → Seen → Count
+    → Course → Result Start End → Client S → Type 0
+ByCourse asks old log object many stand from hand found count GoOn begun new =
+    GoesOn asks old hand found begun new
+ByCourse {S = S} asks old log object many stand from hand found count Anew begun new =
+    (number : Result ℕ WalkFault) × (mid : Client S) × FindsBeginning asks old object many found count number mid
+    × IsAnew asks mid log object many stand number begun new
+ByCourse asks old log object many stand from hand found count (Both oldest) begun new =
+    IsEither asks old object many stand from oldest begun new
 
 -- a count that is told
 abbrev pub counted : Count → Option ℕ
@@ -214,13 +208,13 @@ counted Untold = None
 counted Lost = None
 
 -- by what the device holds of the record that was kept last, by its own word, and by its count
-abbrev pub ByCount : {S : Type 0} → (S → List ℕ → Result (List ℕ) Loss → S → Type 0) → Path → ℕ → S → ℕ → Id →
-    (many : ℕ) → Word → Stand → Place → Hand → Seen → Count → Result Start End → S → Type 0
-ByCount asks path retries link log object many word stand from hand found Lost begun left =
-    Ends (Walk (why.Fault walk.Lost)) (next_from stand) begun × (left ≡ link)
-ByCount asks path retries link log object many word stand from hand found count begun left =
-    ByCourse asks path retries link log object many stand from hand found count
-    (course_of found word (counted count) (kept_last stand).number) begun left
+abbrev pub ByCount : {S : Type 0} → Ask S → Client S → ℕ → Id → (many : ℕ) → Word → Stand → Place → Hand → Seen
+    → Count → Result Start End → Client S → Type 0
+ByCount asks old log object many word stand from hand found Lost begun new =
+    Ends (Walk (why.Fault walk.Lost)) (next_from stand) begun × (new ≡ old)
+ByCount asks old log object many word stand from hand found count begun new =
+    ByCourse asks old log object many stand from hand found count
+    (course_of found word (counted count) (kept_last stand).number) begun new
 
 -- the count decides where nothing is held; before the number 1 it says nothing
 abbrev pub asks_count : Stand → Seen → Bool
@@ -228,45 +222,46 @@ asks_count stand seen.Nothing = not (begins_at_one stand)
 asks_count stand other = false
 
 -- it is asked for where it decides
-abbrev pub CountsWhere : {S : Type 0} → (S → List ℕ → Result (List ℕ) Loss → S → Type 0) → Path → ℕ → S → Id → Bool
-    → Count → S → Type 0
-CountsWhere asks path retries link object true count left = Counts asks path retries link object count left
-CountsWhere asks path retries link object false count left = (count ≡ Untold) × (left ≡ link)
+abbrev pub CountsWhere : {S : Type 0} → Ask S → Client S → Id → Bool → Count → Client S → Type 0
+CountsWhere asks old object true count new = CountsBy asks old object count new
+CountsWhere asks old object false count new = (count ≡ Untold) × (new ≡ old)
 
 -- what the device holds of the record that was kept last tells how a run goes on, unless no answer came
-abbrev pub BySeen : {S : Type 0} → (S → List ℕ → Result (List ℕ) Loss → S → Type 0) → Path → ℕ → S → ℕ → Id →
-    (many : ℕ) → Word → Stand → Place → Hand → Result Seen WalkFault → Result Start End → S → Type 0
-BySeen asks path retries link log object many word stand from hand (Err lost) begun left =
-    Ends (Walk (why.Fault lost)) (next_from stand) begun × (left ≡ link)
-BySeen {S = S} asks path retries link log object many word stand from hand (Ok found) begun left =
-    (count : Count) × (mid : S) × CountsWhere asks path retries link object (asks_count stand found) count mid
-    × ByCount asks path retries mid log object many word stand from hand found count begun left
+abbrev pub BySeen : {S : Type 0} → Ask S → Client S → ℕ → Id → (many : ℕ) → Word → Stand → Place → Hand
+    → Result Seen WalkFault → Result Start End → Client S → Type 0
+BySeen asks old log object many word stand from hand (Err lost) begun new =
+    Ends (Walk (why.Fault lost)) (next_from stand) begun × (new ≡ old)
+BySeen {S = S} asks old log object many word stand from hand (Ok found) begun new =
+    (count : Count) × (mid : Client S) × CountsWhere asks old object (asks_count stand found) count mid
+    × ByCount asks mid log object many word stand from hand found count begun new
 
 -- behind what came from there that record is asked for; if that came to no end, nothing more is
-abbrev pub ByHand : {S : Type 0} → (S → List ℕ → Result (List ℕ) Loss → S → Type 0) → Path → ℕ → S → ℕ → Id →
-    (many : ℕ) → Word → Stand → Place → Result Hand Ending → Result Start End → S → Type 0
-ByHand asks path retries link log object many word stand from (Err ending) begun left =
-    Ends ending (next_from stand) begun × (left ≡ link)
-ByHand {S = S} asks path retries link log object many word stand from (Ok hand) begun left =
-    (found : Result Seen WalkFault) × (mid : S) × Looks asks path retries link object many (kept_last stand) found mid
-    × BySeen asks path retries mid log object many word stand from hand found begun left
+abbrev pub ByHand : {S : Type 0} → Ask S → Client S → ℕ → Id → (many : ℕ) → Word → Stand → Place → Result Hand Ending
+    → Result Start End → Client S → Type 0
+ByHand asks old log object many word stand from (Err ending) begun new =
+    Ends ending (next_from stand) begun × (new ≡ old)
+ByHand {S = S} asks old log object many word stand from (Ok hand) begun new =
+    (found : Result Seen WalkFault) × (mid : Client S)
+    × LooksBy asks old.transactions old.link object many (kept_last stand) found mid.transactions mid.link
+    × BySeen asks mid log object many word stand from hand found begun new
 
 -- Over a log that stands somewhere a run of so many steps asks first for what lies behind, and then for the record that
 -- was kept last. In an archive with no place for the next number it asks nothing.
-abbrev pub GoesFrom : {S : Type 0} → (S → List ℕ → Result (List ℕ) Loss → S → Type 0) → Path → ℕ → S → ℕ → Id →
-    (many : ℕ) → Word → Stand → ℕ → Result Start End → S → Type 0
-GoesFrom {S = S} asks path retries link log object many word stand steps begun left =
-    ((32767 < epoch_from stand) × Ends Epochs (next_from stand) begun × (left ≡ link))
-    ⊎ ((from : Place) × (hand : Result Hand Ending) × (mid : S) × (from.log ≡ log) × (from.epoch ≡ epoch_from stand)
-    × LooksAhead asks path retries from (free_from stand) link (asking many (walk_at object (next_from stand))) steps
-    hand mid
-    × ByHand asks path retries mid log object many word stand from hand begun left)
+abbrev pub GoesFrom : {S : Type 0} → Ask S → Client S → ℕ → Id → (many : ℕ) → Word → Stand → ℕ → Result Start End
+    → Client S → Type 0
+GoesFrom {S = S} asks old log object many word stand steps begun new =
+    ((32767 < epoch_from stand) × Ends Epochs (next_from stand) begun × (new ≡ old))
+    ⊎ ((from : Place) × (hand : Result Hand Ending) × (mid : Client S) × (from.log ≡ log)
+    × (from.epoch ≡ epoch_from stand)
+    × LooksAhead asks from (free_from stand) old (asking many (walk_at object (next_from stand))) steps hand mid
+    × ByHand asks mid log object many word stand from hand begun new)
 
 -- A run of so many steps over a log begins at its oldest record if nothing of it is on record in an archive, once its
--- count was asked for; and else where what came over the link says, which is left so behind these questions.
-abbrev pub IsBegun : {S : Type 0} → (S → List ℕ → Result (List ℕ) Loss → S → Type 0) → Path → ℕ → S → S → ℕ → Id →
-    (many : ℕ) → Word → ℕ → Trees → Result Start End → Type 0
-IsBegun asks path retries link left log object many word steps trees begun =
-    (IsStand log trees None × StartsNew asks path retries link log object many begun left)
+-- count was asked for; and else where what came to a client says. Each of these questions is asked by its next
+-- transaction, none is open after them, and they leave it so.
+abbrev pub IsBegun : {S : Type 0} → Ask S → Client S → Client S → ℕ → Id → (many : ℕ) → Word → ℕ → Trees
+    → Result Start End → Type 0
+IsBegun asks old new log object many word steps trees begun =
+    (IsStand log trees None × StartsNew asks old log object many begun new)
     ⊎ ((stand : Stand) × IsStand log trees (Some stand)
-    × GoesFrom asks path retries link log object many (word_at stand word) stand steps begun left)
+    × GoesFrom asks old log object many (word_at stand word) stand steps begun new)

@@ -1,9 +1,9 @@
 //! What lies behind the record that was kept last: one question of a walk, and then another.
 
 ghost use Rattle.std.specs.Prelude.{◌≡◌, ◌+◌, nat_lt, None, Ok, Err, IfOk, IfErr};
-ghost use Rattle.bac_link.specs.Path.{towards};
 ghost use Rattle.bac_walk.specs.declared.outcome.Ended.TheVariants.{StepLimit};
 ghost use Rattle.bac_asked.specs.declared.end.Ending.{Ending as EndingOf};
+ghost use Rattle.bac_query.specs.Tables.{client};
 ghost use Rattle.bac_asked.specs.Faults.{WantsMemory};
 ghost use Rattle.bac_begin.specs.Hands.{GoesAhead, IsPutBehind, LooksAhead, TakesAnswer, TakesMore};
 ghost use Rattle.bac_begin.specs.Hands.{steps_of};
@@ -56,8 +56,8 @@ fn take_answer<L: LogLink>(
 ) -> Result<Result<Hand, Ending>, NotDone>
     ensures retries { transactions.new.retries ≡ transactions.old.retries }
     ensures route { transactions.new.route ≡ transactions.old.route }
-    ensures takes { IfOk result (λ hand. TakesAnswer L.asks (towards transactions.old.route)
-        transactions.old.retries place free link.old walk hand link.new) }
+    ensures takes { IfOk result (λ hand. TakesAnswer L.asks place free
+        (client link.old transactions.old) walk hand (client link.new transactions.new)) }
     ensures fault { IfErr result WantsMemory }
 {
     match gather_answer(alloc, link, transactions, &mut walk, place, free) {
@@ -110,34 +110,17 @@ fn put_more(hand: Hand, more: Hand) -> Result<Hand, NotDone>
         place: _place,
         free: _free,
     } = gathered;
-    let Hand {
-        gathered,
-        walk,
-        took,
-    } = more;
-    let Gathered {
-        rows: mut others,
-        step: more,
-        place,
-        free,
-    } = gathered;
-    let step = sum_of(step, more)?;
-    let Some(took) = before.checked_add(took) else {
+    let mut all = more;
+    let step = sum_of(step, all.gathered.step)?;
+    let Some(took) = before.checked_add(all.took) else {
         return Err(NotDone::Asking(Fault::Memory));
     };
-    match rows.append(&mut others) {
+    match rows.append(&mut all.gathered.rows) {
         Ok(()) => {
-            let gathered = Gathered {
-                rows,
-                step,
-                place,
-                free,
-            };
-            Ok(Hand {
-                gathered,
-                walk,
-                took,
-            })
+            all.gathered.rows = rows;
+            all.gathered.step = step;
+            all.took = took;
+            Ok(all)
         }
         Err(_) => Err(NotDone::Asking(Fault::Memory)),
     }
@@ -170,8 +153,8 @@ fn take_more<L: LogLink>(
 ) -> Result<Hand, NotDone>
     ensures retries { transactions.new.retries ≡ transactions.old.retries }
     ensures route { transactions.new.route ≡ transactions.old.route }
-    ensures takes { IfOk result (λ all. TakesMore L.asks (towards transactions.old.route)
-        transactions.old.retries link.old hand all link.new) }
+    ensures takes { IfOk result (λ all. TakesMore L.asks (client link.old transactions.old) hand all
+        (client link.new transactions.new)) }
     ensures fault { IfErr result WantsMemory }
 {
     let walk = hand.walk.copy();
@@ -193,8 +176,8 @@ fn take_second<L: LogLink>(
 ) -> Result<Hand, NotDone>
     ensures retries { transactions.new.retries ≡ transactions.old.retries }
     ensures route { transactions.new.route ≡ transactions.old.route }
-    ensures goes { IfOk result (λ all. GoesAhead L.asks (towards transactions.old.route)
-        transactions.old.retries link.old hand steps StepLimit (Ok all) link.new) }
+    ensures goes { IfOk result (λ all. GoesAhead L.asks (client link.old transactions.old) hand
+        steps StepLimit (Ok all) (client link.new transactions.new)) }
     ensures fault { IfErr result WantsMemory }
 {
     if may_take_more(steps) {
@@ -214,8 +197,8 @@ fn go_ahead<L: LogLink>(
 ) -> Result<Result<Hand, Ending>, NotDone>
     ensures retries { transactions.new.retries ≡ transactions.old.retries }
     ensures route { transactions.new.route ≡ transactions.old.route }
-    ensures goes { IfOk result (λ ahead. GoesAhead L.asks (towards transactions.old.route)
-        transactions.old.retries link.old hand steps hand.gathered.step.ended ahead link.new) }
+    ensures goes { IfOk result (λ ahead. GoesAhead L.asks (client link.old transactions.old) hand
+        steps hand.gathered.step.ended ahead (client link.new transactions.new)) }
     ensures fault { IfErr result WantsMemory }
 {
     match hand.gathered.step.ended {
@@ -238,8 +221,8 @@ pub(crate) fn look_ahead<L: LogLink>(
 ) -> Result<Result<Hand, Ending>, NotDone>
     ensures retries { transactions.new.retries ≡ transactions.old.retries }
     ensures route { transactions.new.route ≡ transactions.old.route }
-    ensures looks { IfOk result (λ ahead. LooksAhead L.asks (towards transactions.old.route)
-        transactions.old.retries place free link.old walk steps ahead link.new) }
+    ensures looks { IfOk result (λ ahead. LooksAhead L.asks place free
+        (client link.old transactions.old) walk steps ahead (client link.new transactions.new)) }
     ensures fault { IfErr result WantsMemory }
 {
     match take_answer(alloc, link, transactions, walk, place, free)? {
@@ -271,8 +254,8 @@ pub(crate) fn go_on<L: LogLink>(
 ) -> Result<Result<Start, End>, NotDone>
     ensures retries { transactions.new.retries ≡ transactions.old.retries }
     ensures route { transactions.new.route ≡ transactions.old.route }
-    ensures goes { IfOk result (λ begun. GoesOn L.asks (towards transactions.old.route)
-        transactions.old.retries link.old hand seen begun link.new) }
+    ensures goes { IfOk result (λ begun. GoesOn L.asks (client link.old transactions.old) hand seen
+        begun (client link.new transactions.new)) }
     ensures fault { IfErr result WantsMemory }
 {
     if asks_oldest_next(seen, hand.gathered.step.ended) {

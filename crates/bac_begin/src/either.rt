@@ -3,11 +3,11 @@
 ghost use Rattle.std.specs.Prelude.{◌≡◌, ◌≤◌, ◌+◌, ◌*◌, ◌++◌, List, map, IfNone, IfOk, IfSome};
 ghost use Rattle.std.specs.Prelude.{OnOk, IfErr};
 ghost use Rattle.bac_archive.specs.Rows.{stored};
-ghost use Rattle.bac_link.specs.Path.{towards};
 ghost use Rattle.bac_link.specs.declared.item.Item.{Item};
 ghost use Rattle.bac_keep.specs.declared.place.Place.{Place as PlaceOf};
 ghost use Rattle.bac_keep.specs.Items.{era, era_after, kept_rows};
 ghost use Rattle.bac_keep.specs.Runs.{gaps_among};
+ghost use Rattle.bac_query.specs.Tables.{client};
 ghost use Rattle.bac_asked.specs.Faults.{WantsMemory};
 ghost use Rattle.bac_begin.specs.Hands.{row_of_span, rows_of_span};
 ghost use Rattle.bac_begin.specs.Starts.{IsEither, OpensBehind, gap_up_to};
@@ -190,8 +190,8 @@ pub(crate) fn begin_either<L: LogLink>(
     requires { log.kind ≡ 20 }
     ensures retries { transactions.new.retries ≡ transactions.old.retries }
     ensures route { transactions.new.route ≡ transactions.old.route }
-    ensures either { IfOk result (λ begun. IsEither L.asks (towards transactions.old.route)
-        transactions.old.retries link.old log many stand.now from oldest begun link.new) }
+    ensures either { IfOk result (λ begun. IsEither L.asks (client link.old transactions.old) log
+        many stand.now from oldest begun (client link.new transactions.new)) }
     ensures fault { IfErr result WantsMemory }
 {
     let next = number_behind(last_kept(stand).number);

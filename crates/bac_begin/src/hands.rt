@@ -1,7 +1,7 @@
 //! What comes to the first questions of a run, before any of it is kept.
 
 ghost use Rattle.std.specs.Prelude.{◌≡◌, IfOk, IfErr};
-ghost use Rattle.bac_link.specs.Path.{towards};
+ghost use Rattle.bac_query.specs.Tables.{client};
 ghost use Rattle.bac_asked.specs.Faults.{WantsMemory};
 ghost use Rattle.bac_begin.specs.Hands.{Steps, StepsAt};
 
@@ -34,8 +34,8 @@ pub(crate) fn take_step<L: LogLink>(
 ) -> Result<Result<Hand, Ending>, NotDone>
     ensures retries { transactions.new.retries ≡ transactions.old.retries }
     ensures route { transactions.new.route ≡ transactions.old.route }
-    ensures steps { IfOk result (λ hand. Steps L.asks (towards transactions.old.route)
-        transactions.old.retries place free link.old walk hand link.new) }
+    ensures steps { IfOk result (λ hand. Steps L.asks place free (client link.old transactions.old)
+        walk hand (client link.new transactions.new)) }
     ensures fault { IfErr result WantsMemory }
 {
     match gather(alloc, link, transactions, &mut walk, place, free) {
@@ -67,8 +67,8 @@ pub(crate) fn take_step_at<L: LogLink>(
     requires { log.kind ≡ 20 }
     ensures retries { transactions.new.retries ≡ transactions.old.retries }
     ensures route { transactions.new.route ≡ transactions.old.route }
-    ensures steps { IfOk result (λ hand. StepsAt L.asks (towards transactions.old.route)
-        transactions.old.retries place link.old log many number hand link.new) }
+    ensures steps { IfOk result (λ hand. StepsAt L.asks place (client link.old transactions.old) log
+        many number hand (client link.new transactions.new)) }
     ensures fault { IfErr result WantsMemory }
 {
     match Walk::from_number(log, number) {

@@ -1,7 +1,7 @@
 //! Where a run begins by what was seen of the record that was kept last.
 
 ghost use Rattle.std.specs.Prelude.{◌≡◌, None, Ok, IfOk, IfErr};
-ghost use Rattle.bac_link.specs.Path.{towards};
+ghost use Rattle.bac_query.specs.Tables.{client};
 ghost use Rattle.bac_asked.specs.Faults.{WantsMemory};
 ghost use Rattle.bac_begin.specs.Starts.{ByCount, ByCourse, BySeen, CountsWhere, asks_count};
 ghost use Rattle.bac_begin.specs.Starts.{counted};
@@ -37,9 +37,8 @@ fn start_by<L: LogLink>(
     requires { log.kind ≡ 20 }
     ensures retries { transactions.new.retries ≡ transactions.old.retries }
     ensures route { transactions.new.route ≡ transactions.old.route }
-    ensures starts { IfOk result (λ begun. ByCourse L.asks (towards transactions.old.route)
-        transactions.old.retries link.old id log many stand.now from hand seen count course
-        begun link.new) }
+    ensures starts { IfOk result (λ begun. ByCourse L.asks (client link.old transactions.old) id log
+        many stand.now from hand seen count course begun (client link.new transactions.new)) }
     ensures fault { IfErr result WantsMemory }
 {
     match course {
@@ -83,9 +82,8 @@ fn start_counted<L: LogLink>(
     requires { log.kind ≡ 20 }
     ensures retries { transactions.new.retries ≡ transactions.old.retries }
     ensures route { transactions.new.route ≡ transactions.old.route }
-    ensures starts { IfOk result (λ begun. ByCount L.asks (towards transactions.old.route)
-        transactions.old.retries link.old id log many word stand.now from hand seen count begun
-        link.new) }
+    ensures starts { IfOk result (λ begun. ByCount L.asks (client link.old transactions.old) id log
+        many word stand.now from hand seen count begun (client link.new transactions.new)) }
     ensures fault { IfErr result WantsMemory }
 {
     if count == Count::Lost {
@@ -127,8 +125,8 @@ fn count_where<L: LogLink>(
 ) -> Count
     ensures retries { transactions.new.retries ≡ transactions.old.retries }
     ensures route { transactions.new.route ≡ transactions.old.route }
-    ensures counts { CountsWhere L.asks (towards transactions.old.route) transactions.old.retries
-        link.old log decides result link.new }
+    ensures counts { CountsWhere L.asks (client link.old transactions.old) log decides result
+        (client link.new transactions.new) }
 {
     if decides {
         read_count(link, transactions, log)
@@ -154,9 +152,8 @@ pub(crate) fn start_seen<L: LogLink>(
     requires { log.kind ≡ 20 }
     ensures retries { transactions.new.retries ≡ transactions.old.retries }
     ensures route { transactions.new.route ≡ transactions.old.route }
-    ensures starts { IfOk result (λ begun. BySeen L.asks (towards transactions.old.route)
-        transactions.old.retries link.old id log many word stand.now from hand found begun
-        link.new) }
+    ensures starts { IfOk result (λ begun. BySeen L.asks (client link.old transactions.old) id log
+        many word stand.now from hand found begun (client link.new transactions.new)) }
     ensures fault { IfErr result WantsMemory }
 {
     let seen = match found {

@@ -1,9 +1,9 @@
 //! Where a run over a log begins: the one rule.
 
 ghost use Rattle.std.specs.Prelude.{◌≡◌, Ok, IfOk, IfErr};
-ghost use Rattle.bac_link.specs.Path.{towards};
 ghost use Rattle.bac_walk.specs.Place.{asking, walk_at};
-ghost use Rattle.bac_keep.specs.Looks.{Looks};
+ghost use Rattle.bac_keep.specs.Looks.{LooksBy};
+ghost use Rattle.bac_query.specs.Tables.{client};
 ghost use Rattle.bac_asked.specs.Faults.{WantsMemory};
 ghost use Rattle.bac_begin.specs.Stands.{kept_last, word_at};
 ghost use Rattle.bac_begin.specs.Starts.{AsksBeginning, BeginsBy, ByHand, FindsBeginning, GoesFrom};
@@ -86,8 +86,8 @@ fn begin_first<L: LogLink>(
     requires { log.kind ≡ 20 }
     ensures retries { transactions.new.retries ≡ transactions.old.retries }
     ensures route { transactions.new.route ≡ transactions.old.route }
-    ensures opens { IfOk result (OpensFirst L.asks (towards transactions.old.route)
-        transactions.old.retries link.old link.new id log many number) }
+    ensures opens { IfOk result (OpensFirst L.asks (client link.old transactions.old)
+        (client link.new transactions.new) id log many number) }
     ensures fault { IfErr result WantsMemory }
 {
     let (Some(place), Some(walk)) = (Place::new(id, 0), Walk::oldest(log)) else {
@@ -116,8 +116,8 @@ fn start_first<L: LogLink>(
     requires { log.kind ≡ 20 }
     ensures retries { transactions.new.retries ≡ transactions.old.retries }
     ensures route { transactions.new.route ≡ transactions.old.route }
-    ensures first { IfOk result (λ begun. IsFirst L.asks (towards transactions.old.route)
-        transactions.old.retries link.old id log many count begun link.new) }
+    ensures first { IfOk result (λ begun. IsFirst L.asks (client link.old transactions.old) id log
+        many count begun (client link.new transactions.new)) }
     ensures fault { IfErr result WantsMemory }
 {
     match count {
@@ -157,8 +157,8 @@ fn ask_beginning<L: LogLink>(
     requires { log.kind ≡ 20 }
     ensures retries { transactions.new.retries ≡ transactions.old.retries }
     ensures route { transactions.new.route ≡ transactions.old.route }
-    ensures asks { AsksBeginning L.asks (towards transactions.old.route) transactions.old.retries
-        link.old log many result link.new }
+    ensures asks { AsksBeginning L.asks (client link.old transactions.old) log many result
+        (client link.new transactions.new) }
 {
     let Some(walk) = Walk::oldest(log) else {
         unreachable!()
@@ -183,8 +183,8 @@ pub(crate) fn find_beginning<L: LogLink>(
     requires { log.kind ≡ 20 }
     ensures retries { transactions.new.retries ≡ transactions.old.retries }
     ensures route { transactions.new.route ≡ transactions.old.route }
-    ensures finds { FindsBeginning L.asks (towards transactions.old.route) transactions.old.retries
-        link.old log many seen count result link.new }
+    ensures finds { FindsBeginning L.asks (client link.old transactions.old) log many seen count
+        result (client link.new transactions.new) }
 {
     match (seen, count) {
         (Seen::Nothing, Count::Told(count)) => Ok(beginning_of(number_behind(count))),
@@ -206,8 +206,8 @@ fn begin_anew<L: LogLink>(
     requires { log.kind ≡ 20 }
     ensures retries { transactions.new.retries ≡ transactions.old.retries }
     ensures route { transactions.new.route ≡ transactions.old.route }
-    ensures anew { IfOk result (λ begun. IsAnew L.asks (towards transactions.old.route)
-        transactions.old.retries link.old id log many stand.now (Ok number) begun link.new) }
+    ensures anew { IfOk result (λ begun. IsAnew L.asks (client link.old transactions.old) id log
+        many stand.now (Ok number) begun (client link.new transactions.new)) }
     ensures fault { IfErr result WantsMemory }
 {
     let Some(place) = Place::new(id, epoch_of(stand).saturating_add(1)) else {
@@ -237,8 +237,8 @@ pub(crate) fn start_anew<L: LogLink>(
     requires { log.kind ≡ 20 }
     ensures retries { transactions.new.retries ≡ transactions.old.retries }
     ensures route { transactions.new.route ≡ transactions.old.route }
-    ensures anew { IfOk result (λ begun. IsAnew L.asks (towards transactions.old.route)
-        transactions.old.retries link.old id log many stand.now found begun link.new) }
+    ensures anew { IfOk result (λ begun. IsAnew L.asks (client link.old transactions.old) id log
+        many stand.now found begun (client link.new transactions.new)) }
     ensures fault { IfErr result WantsMemory }
 {
     match found {
@@ -259,8 +259,8 @@ fn look_behind<L: LogLink>(
     requires { log.kind ≡ 20 }
     ensures retries { transactions.new.retries ≡ transactions.old.retries }
     ensures route { transactions.new.route ≡ transactions.old.route }
-    ensures looks { IfOk result (λ found. Looks L.asks (towards transactions.old.route)
-        transactions.old.retries link.old log many (kept_last stand.now) found link.new) }
+    ensures looks { IfOk result (λ found. LooksBy L.asks transactions.old link.old log many
+        (kept_last stand.now) found transactions.new link.new) }
     ensures fault { IfErr result WantsMemory }
 {
     match look_for(alloc, link, transactions, log, many, last_kept(stand)) {
@@ -285,8 +285,8 @@ fn start_behind<L: LogLink>(
     requires { log.kind ≡ 20 }
     ensures retries { transactions.new.retries ≡ transactions.old.retries }
     ensures route { transactions.new.route ≡ transactions.old.route }
-    ensures starts { IfOk result (λ begun. ByHand L.asks (towards transactions.old.route)
-        transactions.old.retries link.old id log many word stand.now from hand begun link.new) }
+    ensures starts { IfOk result (λ begun. ByHand L.asks (client link.old transactions.old) id log
+        many word stand.now from hand begun (client link.new transactions.new)) }
     ensures fault { IfErr result WantsMemory }
 {
     let hand = match hand {
@@ -336,8 +336,8 @@ fn start_from<L: LogLink>(
     requires { log.kind ≡ 20 }
     ensures retries { transactions.new.retries ≡ transactions.old.retries }
     ensures route { transactions.new.route ≡ transactions.old.route }
-    ensures starts { IfOk result (λ begun. GoesFrom L.asks (towards transactions.old.route)
-        transactions.old.retries link.old id log many word stand.now steps begun link.new) }
+    ensures starts { IfOk result (λ begun. GoesFrom L.asks (client link.old transactions.old) id log
+        many word stand.now steps begun (client link.new transactions.new)) }
     ensures fault { IfErr result WantsMemory }
 {
     let Some((from, free)) = from_there(id, stand) else {
@@ -374,9 +374,8 @@ pub fn start_at<L: LogLink>(
     requires { log.kind ≡ 20 }
     ensures retries { transactions.new.retries ≡ transactions.old.retries }
     ensures route { transactions.new.route ≡ transactions.old.route }
-    ensures starts { IfOk result (λ begun. GoesFrom L.asks (towards transactions.old.route)
-        transactions.old.retries link.old id log many (word_at stand.now word) stand.now steps
-        begun link.new) }
+    ensures starts { IfOk result (λ begun. GoesFrom L.asks (client link.old transactions.old) id log
+        many (word_at stand.now word) stand.now steps begun (client link.new transactions.new)) }
     ensures fault { IfErr result WantsMemory }
 {
     let told = word_at(stand, word);
@@ -396,8 +395,8 @@ pub fn start_new<L: LogLink>(
     requires { log.kind ≡ 20 }
     ensures retries { transactions.new.retries ≡ transactions.old.retries }
     ensures route { transactions.new.route ≡ transactions.old.route }
-    ensures starts { IfOk result (λ begun. StartsNew L.asks (towards transactions.old.route)
-        transactions.old.retries link.old id log many begun link.new) }
+    ensures starts { IfOk result (λ begun. StartsNew L.asks (client link.old transactions.old) id
+        log many begun (client link.new transactions.new)) }
     ensures fault { IfErr result WantsMemory }
 {
     let count = read_count(link, transactions, log);

@@ -8,13 +8,18 @@ use Rattle.bac_archive.specs.declared.trend_logs.NotAdded.{NotAdded}
 use Rattle.bac_archive.specs.declared.trend_logs.NotAdded.TheVariants as unadded
 use Rattle.bac_asked.specs.AsLog.{Given}
 use Rattle.bac_asked.specs.Faults.{of_error, of_not_added}
+use Rattle.bac_asked.specs.declared.end.End.{End}
 use Rattle.bac_asked.specs.declared.end.NotDone.{NotDone}
+use Rattle.bac_asked.specs.declared.log_words.Asking.{Asking}
+use Rattle.bac_wire.specs.Primitive.{Id}
 use Rattle.bac_asked.specs.declared.end.NotDone.TheVariants.{File}
 use Rattle.bac_asked.specs.declared.fault.FileFault.{FileFault}
 use Rattle.bac_asked.specs.declared.wanted.Wanted.{Wanted}
 use Rattle.bac_ports.specs.Sockets.{SocketRules}
 use Rattle.bac_fetch.specs.Ahead.{AtOnce}
-use Rattle.bac_fetch.specs.Causes.{EndsFirst, EndsSettling, FailsToEnter, LeavesUnopened}
+use Rattle.bac_fetch.specs.Causes.{EndsFirst, EndsSettling, FailsToEnter, IsShut, LeavesUnopened}
+use Rattle.bac_fetch.specs.Keeps.{KeepsLog}
+use Rattle.bac_fetch.specs.declared.entry.Entry.{Entry}
 use Rattle.sqlite.specs.Effect.{Database}
 use Rattle.bac_asked.specs.Faults.{EndsLog, FailsOnRows}
 use Rattle.bac_fetch.specs.Faults.{EndsChosen}
@@ -69,3 +74,8 @@ entry_leaves old new log trees fault (inr (full, none, fresh)) = λ why is. absu
 -- behind what changes nothing
 pub leaves_behind : (old mid new : Database) (fault : NotDone) → mid ≡ old → LeavesUnopened mid new fault → LeavesUnopened old new fault
 leaves_behind old mid new fault same it = λ why is. it why is ∙ same
+
+-- the socket over which a log was kept is closed
+pub shut_log : {S P : Type 0} (rules : SocketRules S P) (asking : Asking) (before after : S) (entry : Entry) (object : Id) (old new : Database) (end : End)
+    → KeepsLog rules asking before after entry object old new end → IsShut rules asking.asked before after
+shut_log rules asking before after entry object old new end it = inr (it.0, it.1, it.2, it.3, tt, it.5)

@@ -1,15 +1,18 @@
 -- How a run over a log ended, and what it kept by then.
-use Rattle.std.proofs.Common.{◌≡◌, ℕ, ◌<◌, ◌+◌, List, Result, Ok, Err, IfOk, IfErr, refl, subst, sym, ap, ◌∙◌}
+use Rattle.std.proofs.Common.{◌≡◌, ℕ, ◌<◌, ◌+◌, List, Result, Ok, Err, IfOk, IfErr, IsTrue, refl, subst, sym, ap, ◌∙◌}
 use Rattle.sqlite.specs.Effect.{Database}
+use Rattle.sqlite.specs.Held.{Held, state}
+use Rattle.sqlite_trees.specs.declared.store.Store.{Ghosts}
 use Rattle.bac_wire.specs.Primitive.{Id}
 use Rattle.bac_link.specs.Delivery.{History, Moment}
-use Rattle.bac_link.specs.Path.{Path}
-use Rattle.bac_link.specs.declared.link.Lost.{Lost as Loss}
+use Rattle.bac_query.specs.Tables.{Ask, Client, client}
 use Rattle.bac_walk.specs.Collects.{Goes}
 use Rattle.bac_walk.specs.Place.{WalkPlace}
 use Rattle.bac_walk.specs.declared.outcome.Ended.{Ended}
 use Rattle.bac_walk.specs.declared.outcome.Ended.TheVariants.{StepLimit}
-use Rattle.bac_keep.specs.Came.{KeepsOver}
+use Rattle.bac_keep.specs.Came.{KeepsBy}
+use Rattle.bac_keep.specs.Causes.{EndsUnkept, IsWhyNot}
+use Rattle.bac_keep.specs.Rising.{free_after}
 use Rattle.bac_keep.specs.Runs.{KeepsRun}
 use Rattle.bac_keep.specs.declared.keep.KeptStep.{KeptStep}
 use Rattle.bac_keep.specs.declared.keep.NotKept.{NotKept}
@@ -28,6 +31,11 @@ pub either_way : {T E : Type 0} (r : Result T E) (P : T → Type 0) (Q : E → T
 either_way (Ok x) P Q O X ok shows err f g = f x refl ok
 either_way (Err e) P Q O X ok shows err f g = g e refl (err shows)
 
+-- a fact behind what an error says
+pub both : {T E : Type 0} (r : Result T E) (O : Type 0) (Q : E → Type 0) → O → IfErr r Q → IfErr r (λ e. O × Q e)
+both (Ok x) O Q o h = tt
+both (Err e) O Q o h = (o, h)
+
 -- the rows of a run behind a first step
 pub keeps_from : {L : Type 0} (ours : L → Id → ℕ → List Moment → History → Type 0) (failures : L → ℕ) (place reached : Place) (retries : ℕ) (old new : Database) (link half : L)
     (walk after : WalkPlace) (step : KeptStep) (how : Began) (steps : ℕ) (ended : Ended) (records gaps : ℕ) (end : End)
@@ -43,13 +51,13 @@ keeps_from ours failures place reached retries old new link half walk after step
   began = began;
 }
 
--- and they came over a link
-pub comes_from : {L : Type 0} (asks : L → List ℕ → Result (List ℕ) Loss → L → Type 0) (path : Path) (retries : ℕ) (place reached : Place) (old new : Database) (link half left : L)
-    (walk after : WalkPlace) (step : KeptStep) (steps took : ℕ) (ended : Ended) (records gaps : ℕ) (end : End)
-    → KeepsOver asks path retries place reached old new link half walk after took ended records gaps
-    → IsRunTo end.why steps took ended → IsLeftBy end.why half left
-    → end.records ≡ step.records + records → end.gaps ≡ step.gaps + gaps → after.next ≡ end.next → ComesFrom asks path retries link left place walk step steps old new end
-comes_from asks path retries place reached old new link half left walk after step steps took ended records gaps end run runs is_left records_are gaps_are next = record {
+-- and they came over a client's link
+pub comes_from : {L : Type 0} (asks : Ask L) (before half left : Client L) (place reached : Place) (free : ℕ) (old new : Database) (walk after : WalkPlace) (step : KeptStep) (steps took : ℕ)
+    (ended : Ended) (records gaps : ℕ) (end : End)
+    → (kept : KeepsBy asks before.transactions place reached old new before.link half.link walk after took ended records gaps half.transactions)
+    → IsRunTo end.why steps took ended → IsLeftBy asks end.why reached (free_after free kept.over.items) after half left
+    → end.records ≡ step.records + records → end.gaps ≡ step.gaps + gaps → after.next ≡ end.next → ComesFrom asks before left place free walk step steps old new end
+comes_from asks before half left place reached free old new walk after step steps took ended records gaps end kept runs is_left records_are gaps_are next = record {
   reached = reached;
   after = after;
   took = took;
@@ -58,11 +66,11 @@ comes_from asks path retries place reached old new link half left walk after ste
   records = records;
   gaps = gaps;
   run = runs;
-  is_left = is_left;
   next = next;
   records_are = records_are;
   gaps_are = gaps_are;
-  kept = run;
+  kept = kept;
+  is_left = is_left;
 }
 
 -- a run that ended before its walk did took fewer steps
@@ -73,9 +81,25 @@ before_steps (Refused refusal.Memory) ending steps took is fewer = absurd is
 before_steps NoArchive ending steps took is fewer = absurd is
 before_steps (Fails error) ending steps took is fewer = absurd is
 
-pub before_left : {L : Type 0} (e : NotKept) (ending : Ending) (half left : L) → IsEndingOf (Err e) ending → IsLeftBy ending half left
-before_left (Refused refusal.Back) ending half left is = subst (λ w. IsLeftBy w half left) (sym is) tt
-before_left (Refused refusal.Epochs) ending half left is = subst (λ w. IsLeftBy w half left) (sym is) tt
-before_left (Refused refusal.Memory) ending half left is = absurd is
-before_left NoArchive ending half left is = absurd is
-before_left (Fails error) ending half left is = absurd is
+left_by : {L T : Type 0} (asks : Ask L) (half left : Client L) (reached : Place) (free : ℕ) (after last : WalkPlace) (g : Ghosts T) (held : Held T) (why : NotKept) (ending : Ending)
+    → IsWhyNot asks half.transactions reached free half.link after left.transactions left.link last g held why → IsEndingOf (Err why) ending
+    → IsLeftBy asks ending reached free after half left
+left_by asks half left reached free after last g held (Refused refusal.Back) ending it is =
+    subst (λ w. IsLeftBy asks w reached free after half left) (sym is) (it.0, it.1, last, it.2, it.3)
+left_by asks half left reached free after last g held (Refused refusal.Epochs) ending it is =
+    subst (λ w. IsLeftBy asks w reached free after half left) (sym is) (it.0, it.1, last, it.2, it.3)
+left_by asks half left reached free after last g held (Refused refusal.Memory) ending it is = absurd is
+left_by asks half left reached free after last g held NoArchive ending it is = absurd is
+left_by asks half left reached free after last g held (Fails error) ending it is = absurd is
+
+-- a run whose next step has no place came over a client's link with that step
+pub comes_unkept : {L T : Type 0} (asks : Ask L) (before left : Client L) (place reached : Place) (free : ℕ) (g : Ghosts T) (old new : Held T) (walk : WalkPlace) (step : KeptStep)
+    (steps next records gaps : ℕ) (why : NotKept) (end : End)
+    → EndsUnkept asks before.transactions place reached free g old new before.link left.link walk steps next records gaps left.transactions why
+    → IsTrue (state g new).is_open → IsEndingOf (Err why) end.why → end.records ≡ step.records + records → end.gaps ≡ step.gaps + gaps → end.next ≡ next
+    → ComesFrom asks before left place free walk step steps (state g old).now (state g new).now end
+comes_unkept asks before left place reached free g old new walk step steps next records gaps why end it is_open is records_are gaps_are next_is =
+    subst (λ d. ComesFrom asks before left place free walk step steps (state g old).now d end) (sym (it.stays is_open))
+    (comes_from asks before (client it.half it.mid) left place reached free (state g old).now (state g it.held).now walk it.after step steps it.done StepLimit records gaps end it.kept
+    (before_steps why end.why steps it.done is it.few) (left_by asks (client it.half it.mid) left reached (free_after free it.kept.over.items) it.after it.last g it.held why end.why it.cause is)
+    records_are gaps_are (it.next_is ∙ sym next_is))

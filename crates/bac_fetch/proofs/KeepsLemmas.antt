@@ -8,12 +8,11 @@ use Rattle.bac_walk.specs.Outcomes.{why_of}
 use Rattle.bac_walk.specs.declared.outcome.Why.{Why}
 use Rattle.bac_archive.specs.declared.epochs.Beginning.{Beginning}
 use Rattle.bac_asked.specs.declared.end.End.{End}
-use Rattle.bac_begin.proofs.Ways.{over}
 use Rattle.bac_begin.specs.declared.starting.Start.{Start}
 use Rattle.bac_asked.specs.declared.wanted.Wanted.{Wanted}
-use Rattle.bac_apdu.specs.Npdu.{Place}
-use Rattle.bac_link.specs.Path.{Path, towards}
-use Rattle.bac_link.specs.declared.link.Lost.{Lost as Loss}
+use Rattle.bac_link.specs.declared.transactions.Transactions.{Transactions}
+use Rattle.bac_query.specs.Tables.{Ask, Client, client}
+use Rattle.bac_questions.specs.Connecting.{transactions_with}
 use Rattle.bac_ports.specs.declared.udp_link.UdpLink.{UdpLink}
 use Rattle.bac_asked.specs.declared.log_words.Asking.{Asking}
 use Rattle.bac_ports.specs.Sockets.{SocketRules, link_over, own_address, socket_asks}
@@ -35,48 +34,41 @@ use Rattle.bac_questions.proofs.SilentLemmas.{either_holds}
 use Rattle.bac_archive.specs.Schema.{HasArchive}
 use Rattle.bac_archive.proofs.AroundLemmas.{has_still}
 
--- what is kept of a log whose beginning changed nothing, over a link
-pub keeps_begun : {L : Type 0} (asks : L → List ℕ → Result (List ℕ) Loss → L → Type 0) (way route : Option Place) (tries retries : ℕ) (link mid left : L)
-    (steps : ℕ) (entry : Entry) (object : Id) (many : ℕ) (old between new : Database) (start : Start) (end : End)
-    → IsBegun asks (towards way) tries link mid entry.row.id object many entry.word steps old.trees (Ok start) → route ≡ way → retries ≡ tries → between ≡ old
-    → KeepsEntered asks (towards route) retries mid left (Ok start) steps entry between new end
-    → KeepsOverLink asks (towards way) tries link left steps entry object many old new end
-keeps_begun asks way route tries retries link mid left steps entry object many old between new start end begun r n same keeps = (
-  Ok start,
-  mid,
-  begun,
-  subst (λ d. KeepsEntered asks (towards way) tries mid left (Ok start) steps entry d new end) same
-      (over (λ path m. KeepsEntered asks path m mid left (Ok start) steps entry between new end) route way retries tries r n keeps),
-)
+-- what is kept of a log whose beginning changed nothing, over a client's link
+pub keeps_begun : {L : Type 0} (asks : Ask L) (before mid left : Client L) (steps : ℕ) (entry : Entry) (object : Id) (many : ℕ) (old between new : Database) (start : Start) (end : End)
+    → IsBegun asks before mid entry.row.id object many entry.word steps old.trees (Ok start) → between ≡ old
+    → KeepsEntered asks mid left (Ok start) steps entry between new end → KeepsOverLink asks before left steps entry object many old new end
+keeps_begun asks before mid left steps entry object many old between new start end begun same keeps =
+    (Ok start, mid, begun, subst (λ d. KeepsEntered asks mid left (Ok start) steps entry d new end) same keeps)
 
 -- the same over the socket that was opened for it, and closed behind it
 pub keeps_log : {S P : Type 0} (rules : SocketRules S P) (asking : Asking) (before middle after : S) (entry : Entry) (object given : Id) (old new : Database) (kept end : End)
-    (port last : P) (link left : Heeding (UdpLink P)) (route : Option Place) (retries steps : ℕ)
+    (port last : P) (link left : Heeding (UdpLink P)) (first final : Transactions) (steps : ℕ)
     → rules.opens before (own_address asking.asked.local) asking.asked.timeout (Ok port) middle → link ≡ heeding (link_over asking.asked.address port)
-    → route ≡ asking.asked.route → retries ≡ asking.asked.retries → steps ≡ asking.steps → given ≡ object → last ≡ left.link.port → rules.closes middle last after
+    → first ≡ transactions_with asking.asked.retries asking.asked.route → steps ≡ asking.steps → given ≡ object → last ≡ left.link.port → rules.closes middle last after
     → end ≡ end_told left.more kept
-    → KeepsOverLink (heeds (socket_asks rules)) (towards route) retries link left steps entry given asking.count old new kept → KeepsLog rules asking before after entry object old new end
-keeps_log rules asking before middle after entry object given old new kept end port last link left route retries steps opens is_link way tries many is is_last closes told it =
+    → KeepsOverLink (heeds (socket_asks rules)) (client link first) (client left final) steps entry given asking.count old new kept → KeepsLog rules asking before after entry object old new end
+keeps_log rules asking before middle after entry object given old new kept end port last link left first final steps opens is_link is_first many is is_last closes told it =
     let asks = heeds (socket_asks rules) in
-    let path = towards asking.asked.route in
+    let behind = client left final in
     let over = heeding (link_over asking.asked.address port) in
-    let it₁ = subst (λ (q : Option Place). KeepsOverLink asks (towards q) retries link left steps entry given asking.count old new kept) way it in
-    let it₂ = subst (λ m. KeepsOverLink asks path m link left steps entry given asking.count old new kept) tries it₁ in
-    let it₃ = subst (λ l. KeepsOverLink asks path asking.asked.retries l left steps entry given asking.count old new kept) is_link it₂ in
-    let it₄ = subst (λ m. KeepsOverLink asks path asking.asked.retries over left m entry given asking.count old new kept) many it₃ in
-    let it₅ = subst (λ (o : Id). KeepsOverLink asks path asking.asked.retries over left asking.steps entry o asking.count old new kept) is it₄ in
-    (port, middle, last, opens, (left, kept, it₅, told, is_last), closes)
+    let fresh = transactions_with asking.asked.retries asking.asked.route in
+    let it₁ = subst (λ t. KeepsOverLink asks (client link t) behind steps entry given asking.count old new kept) is_first it in
+    let it₂ = subst (λ l. KeepsOverLink asks (client l fresh) behind steps entry given asking.count old new kept) is_link it₁ in
+    let it₃ = subst (λ m. KeepsOverLink asks (client over fresh) behind m entry given asking.count old new kept) many it₂ in
+    let it₄ = subst (λ (o : Id). KeepsOverLink asks (client over fresh) behind asking.steps entry o asking.count old new kept) is it₃ in
+    (port, middle, last, opens, (left, final, kept, it₄, told, is_last), closes)
 
-on_schema : {L : Type 0} (asks : L → List ℕ → Result (List ℕ) Loss → L → Type 0) (path : Path) (retries : ℕ) (link left : L) (start : Start) (why : Option Why) (steps : ℕ)
-    (old new : Database) (end : End) → KeepsOn asks path retries link left start why steps old new end → HasArchive old.schema → HasArchive new.schema
-on_schema asks path retries link left start (Some why) steps old new end h has = subst (λ (d : Database). HasArchive d.schema) (sym h.0) has
-on_schema asks path retries link left start None steps old new end h has = has_still _ _ has h.0.rows.schema
+on_schema : {L : Type 0} (asks : Ask L) (before left : Client L) (start : Start) (why : Option Why) (steps : ℕ)
+    (old new : Database) (end : End) → KeepsOn asks before left start why steps old new end → HasArchive old.schema → HasArchive new.schema
+on_schema asks before left start (Some why) steps old new end h has = subst (λ (d : Database). HasArchive d.schema) (sym h.0) has
+on_schema asks before left start None steps old new end h has = has_still _ _ has h.0.rows.schema
 
-pub log_schema : {L : Type 0} (asks : L → List ℕ → Result (List ℕ) Loss → L → Type 0) (path : Path) (retries : ℕ) (link left : L) (begun : Result Start End) (steps : ℕ)
-    (old new : Database) (end : End) → KeepsBegun asks path retries link left begun steps old new end → HasArchive old.schema → HasArchive new.schema
-log_schema asks path retries link left (Ok start) steps old new end (mid, rows, on) has =
-    on_schema asks path retries link left start (why_of start.hand.gathered.step.ended) (steps - start.hand.took) mid new end on (has_still _ _ has rows.schema)
-log_schema asks path retries link left (Err none) steps old new end h has = subst (λ (d : Database). HasArchive d.schema) (sym h.0) has
+pub log_schema : {L : Type 0} (asks : Ask L) (before left : Client L) (begun : Result Start End) (steps : ℕ)
+    (old new : Database) (end : End) → KeepsBegun asks before left begun steps old new end → HasArchive old.schema → HasArchive new.schema
+log_schema asks before left (Ok start) steps old new end (mid, rows, on) has =
+    on_schema asks before left start (why_of start.hand.gathered.step.ended) (steps - start.hand.took) mid new end on (has_still _ _ has rows.schema)
+log_schema asks before left (Err none) steps old new end h has = subst (λ (d : Database). HasArchive d.schema) (sym h.0) has
 
 mark_schema : (begins_at : Option Beginning) (end : End) (old new : Database) → Marks begins_at end old new → HasArchive old.schema → HasArchive new.schema
 mark_schema None end old new it has = subst (λ (d : Database). HasArchive d.schema) (sym it) has
@@ -100,23 +92,23 @@ renew_schema entry end old new it has =
     either_holds (is_due entry.recorded end) _ (new ≡ old) (HasArchive new.schema) (λ made. has_still _ _ has made.schema) (λ same. subst (λ (d : Database). HasArchive d.schema) (sym same) has) it
 
 -- what was kept from a start on, and marked
-pub marked_schema : {L : Type 0} (asks : L → List ℕ → Result (List ℕ) Loss → L → Type 0) (path : Path) (retries : ℕ) (link left : L) (start : Start) (steps : ℕ)
-    (old last new : Database) (end : End) → KeepsBegun asks path retries link left (Ok start) steps old last end → Marks start.begins_at end last new
+pub marked_schema : {L : Type 0} (asks : Ask L) (before left : Client L) (start : Start) (steps : ℕ)
+    (old last new : Database) (end : End) → KeepsBegun asks before left (Ok start) steps old last end → Marks start.begins_at end last new
     → HasArchive old.schema → HasArchive new.schema
-marked_schema asks path retries link left start steps old last new end keeps marks has =
-    mark_schema start.begins_at end last new marks (log_schema asks path retries link left (Ok start) steps old last end keeps has)
+marked_schema asks before left start steps old last new end keeps marks has =
+    mark_schema start.begins_at end last new marks (log_schema asks before left (Ok start) steps old last end keeps has)
 
-entered_schema : {L : Type 0} (asks : L → List ℕ → Result (List ℕ) Loss → L → Type 0) (path : Path) (retries : ℕ) (link left : L) (begun : Result Start End) (steps : ℕ)
-    (entry : Entry) (old new : Database) (end : End) → KeepsEntered asks path retries link left begun steps entry old new end → HasArchive old.schema → HasArchive new.schema
-entered_schema asks path retries link left (Ok start) steps entry old new end (known, admits, last, keeps, marked, marks, renews) has =
-    renew_schema entry end marked new renews (marked_schema asks path retries link left start steps known last marked end keeps marks (admit_schema entry old known admits has))
-entered_schema asks path retries link left (Err none) steps entry old new end it has = subst (λ (d : Database). HasArchive d.schema) (sym it.0) has
+entered_schema : {L : Type 0} (asks : Ask L) (before left : Client L) (begun : Result Start End) (steps : ℕ)
+    (entry : Entry) (old new : Database) (end : End) → KeepsEntered asks before left begun steps entry old new end → HasArchive old.schema → HasArchive new.schema
+entered_schema asks before left (Ok start) steps entry old new end (known, admits, last, keeps, marked, marks, renews) has =
+    renew_schema entry end marked new renews (marked_schema asks before left start steps known last marked end keeps marks (admit_schema entry old known admits has))
+entered_schema asks before left (Err none) steps entry old new end it has = subst (λ (d : Database). HasArchive d.schema) (sym it.0) has
 
 source_schema : {S P : Type 0} (rules : SocketRules S P) (known : List Log) (wanted : Wanted) (told : Told) (before after : S) (old new : Database) (end : End)
     → KeepsSource rules known wanted told before after old new end → HasArchive old.schema → HasArchive new.schema
 source_schema rules known wanted told before after old new end h has =
-    let (begun, mid, at_begin, keeps) = h.kept.4.2 in
-    entered_schema _ _ _ mid _ begun _ h.entry old new h.kept.4.1 keeps has
+    let (begun, mid, at_begin, keeps) = h.kept.4.3 in
+    entered_schema _ mid _ begun _ h.entry old new h.kept.4.2 keeps has
 
 unless_schema : {S P : Type 0} (rules : SocketRules S P) (known : List Log) (wanted : Wanted) (told : Told) (why : Option Ending) (before after : S) (old new : Database) (end : End)
     → KeepsUnless rules known wanted told why before after old new end → HasArchive old.schema → HasArchive new.schema

@@ -8,14 +8,14 @@ use Rattle.sqlite_trees.specs.Tree.{Trees}
 use Rattle.sqlite.specs.Effect.{Database}
 use Rattle.sqlite.specs.State.{State, HasCleanDisk, Survives}
 use Rattle.sqlite.proofs.StateLemmas.{survives_then}
-use Rattle.bac_archive.specs.Rows.{kept, Adds}
+use Rattle.bac_archive.specs.Rows.{begun, kept, Adds}
 use Rattle.bac_archive.specs.Beginnings.{AddsBeginnings}
 use Rattle.bac_archive.specs.declared.epochs.Beginning.{Beginning}
-use Rattle.bac_link.specs.Path.{Path}
-use Rattle.bac_link.specs.declared.link.Lost.{Lost as Loss}
+use Rattle.bac_query.specs.Tables.{Ask, Client}
 use Rattle.bac_walk.specs.Outcomes.{why_of}
 use Rattle.bac_walk.specs.declared.outcome.Why.{Why}
 use Rattle.bac_asked.specs.declared.end.End.{End}
+use Rattle.bac_keep.proofs.BegunLemmas.{stays as still_begun}
 use Rattle.bac_fetch.specs.Keeps.{KeepsBegun, KeepsOn, Marks, is_idle}
 use Rattle.bac_fetch.specs.Stays.{HasSameLogs}
 use Rattle.bac_begin.specs.declared.starting.Start.{Start}
@@ -32,21 +32,30 @@ survives_as old new P Q f it = record {
 }
 
 pub same_itself : (trees : Trees) → HasSameLogs trees trees
-same_itself trees = record { items = λ row at. at; logs = refl }
+same_itself trees = record { items = λ row at. at; beginnings = λ row at. at; logs = refl }
 
 pub same_then : (a b c : Trees) → HasSameLogs a b → HasSameLogs b c → HasSameLogs a c
-same_then a b c one two = record { items = λ row at. two.items row (one.items row at); logs = two.logs ∙ one.logs }
+same_then a b c one two = record {
+  items = λ row at. two.items row (one.items row at);
+  beginnings = λ row at. two.beginnings row (one.beginnings row at);
+  logs = two.logs ∙ one.logs;
+}
 
 -- rows that are added take none away
 pub adds_same : (a b : Trees) (more : List Values) → Adds a b more → HasSameLogs a b
 adds_same a b more it = record {
   items = λ row at. Contains-permutation _ (kept b) row it.items (Contains-append_left (kept a) more row at);
+  beginnings = λ row at. subst (λ rows. Contains rows row) (sym it.beginnings) (still_begun more (begun a) row at);
   logs = it.logs;
 }
 
 -- nor does a beginning
-begin_same : (a b : Trees) (rows : List Values) → AddsBeginnings a b rows → HasSameLogs a b
-begin_same a b rows it = record { items = λ row at. subst (λ rows. Contains rows row) (sym it.items) at; logs = it.logs }
+pub begin_same : (a b : Trees) (rows : List Values) → AddsBeginnings a b rows → HasSameLogs a b
+begin_same a b rows it = record {
+  items = λ row at. subst (λ rows. Contains rows row) (sym it.items) at;
+  beginnings = λ row at. Contains-permutation _ (begun b) row it.beginnings (Contains-append_left (begun a) rows row at);
+  logs = it.logs;
+}
 
 -- nor what is put on record behind a run
 pub marks_same : (begins_at : Option Beginning) (end : End) (old new : Database) → Marks begins_at end old new → HasSameLogs old.trees new.trees
@@ -57,17 +66,17 @@ marks_same (Some beginning) end old new it = go (is_idle end) refl
     go true is = begin_same old.trees new.trees _ (it.0 is).rows
     go false is = subst (λ (d : Database). HasSameLogs old.trees d.trees) (sym (it.1 is)) (same_itself old.trees)
 
-on_same : {L : Type 0} (asks : L → List ℕ → Result (List ℕ) Loss → L → Type 0) (path : Path) (retries : ℕ) (link left : L) (start : Start) (why : Option Why) (steps : ℕ)
-    (old new : Database) (end : End) → KeepsOn asks path retries link left start why steps old new end → HasSameLogs old.trees new.trees
-on_same asks path retries link left start (Some why) steps old new end h = subst (λ (d : Database). HasSameLogs old.trees d.trees) (sym h.0) (same_itself old.trees)
-on_same asks path retries link left start None steps old new end h = adds_same old.trees new.trees _ h.0.rows.rows
+on_same : {L : Type 0} (asks : Ask L) (before left : Client L) (start : Start) (why : Option Why) (steps : ℕ)
+    (old new : Database) (end : End) → KeepsOn asks before left start why steps old new end → HasSameLogs old.trees new.trees
+on_same asks before left start (Some why) steps old new end h = subst (λ (d : Database). HasSameLogs old.trees d.trees) (sym h.0) (same_itself old.trees)
+on_same asks before left start None steps old new end h = adds_same old.trees new.trees _ h.0.rows.rows
 
-pub begun_same : {L : Type 0} (asks : L → List ℕ → Result (List ℕ) Loss → L → Type 0) (path : Path) (retries : ℕ) (link left : L) (begun : Result Start End) (steps : ℕ)
-    (old new : Database) (end : End) → KeepsBegun asks path retries link left begun steps old new end → HasSameLogs old.trees new.trees
-begun_same asks path retries link left (Ok start) steps old new end (mid, rows, on) =
+pub begun_same : {L : Type 0} (asks : Ask L) (before left : Client L) (begun : Result Start End) (steps : ℕ)
+    (old new : Database) (end : End) → KeepsBegun asks before left begun steps old new end → HasSameLogs old.trees new.trees
+begun_same asks before left (Ok start) steps old new end (mid, rows, on) =
     same_then old.trees mid.trees new.trees (adds_same old.trees mid.trees _ rows.rows)
-    (on_same asks path retries link left start (why_of start.hand.gathered.step.ended) (steps - start.hand.took) mid new end on)
-begun_same asks path retries link left (Err none) steps old new end it = subst (λ (d : Database). HasSameLogs old.trees d.trees) (sym it.0) (same_itself old.trees)
+    (on_same asks before left start (why_of start.hand.gathered.step.ended) (steps - start.hand.took) mid new end on)
+begun_same asks before left (Err none) steps old new end it = subst (λ (d : Database). HasSameLogs old.trees d.trees) (sym it.0) (same_itself old.trees)
 
 -- two calls, the second over what the first made
 pub same_stays_then : (old mid new : State) → HasSameLogs old.now.trees mid.now.trees → Survives old mid (HasSameLogs old.now.trees)

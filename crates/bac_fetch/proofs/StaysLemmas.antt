@@ -11,8 +11,7 @@ use Rattle.sqlite.specs.State.{State, HasCleanDisk, Survives}
 use Rattle.sqlite.proofs.StateLemmas.{survives_then}
 use Rattle.bac_archive.specs.Rows.{known}
 use Rattle.bac_archive.specs.declared.epochs.Beginning.{Beginning}
-use Rattle.bac_link.specs.Path.{Path}
-use Rattle.bac_link.specs.declared.link.Lost.{Lost as Loss}
+use Rattle.bac_query.specs.Tables.{Ask, Client}
 use Rattle.bac_archive.specs.Changes.{ChangesLogs, HasChangedLogs, IsStill, KeepsLogs}
 use Rattle.bac_archive.proofs.ChangeLemmas.{changes_keep, keeps_then}
 use Rattle.bac_archive.specs.Logs.{AddsLog}
@@ -45,18 +44,27 @@ keep_logs : (a b : Trees) → ((row : Values) → Contains (known a) row → Con
 keep_logs a b all = λ row id at is. (row, all row at, still row id is)
 
 pub all_itself : (trees : Trees) → HasAllOf trees trees
-all_itself trees = record { items = λ row at. at; logs = keep_logs trees trees (λ row at. at) }
+all_itself trees = record { items = λ row at. at; beginnings = λ row at. at; logs = keep_logs trees trees (λ row at. at) }
 
 pub all_then : (a b c : Trees) → HasAllOf a b → HasAllOf b c → HasAllOf a c
-all_then a b c one two = record { items = λ row at. two.items row (one.items row at); logs = keeps_then a b c one.logs two.logs }
+all_then a b c one two = record {
+  items = λ row at. two.items row (one.items row at);
+  beginnings = λ row at. two.beginnings row (one.beginnings row at);
+  logs = keeps_then a b c one.logs two.logs;
+}
 
 -- what has the same logs has them all
 pub all_of_same : (a b : Trees) → HasSameLogs a b → HasAllOf a b
-all_of_same a b it = record { items = it.items; logs = keep_logs a b (λ row at. subst (λ rows. Contains rows row) (sym it.logs) at) }
+all_of_same a b it = record {
+  items = it.items;
+  beginnings = it.beginnings;
+  logs = keep_logs a b (λ row at. subst (λ rows. Contains rows row) (sym it.logs) at);
+}
 
 pub log_all : (a b : Trees) (log : Values) → AddsLog a b log → HasAllOf a b
 log_all a b log it = record {
   items = λ row at. subst (λ rows. Contains rows row) (sym it.items) at;
+  beginnings = λ row at. subst (λ rows. Contains rows row) (sym it.beginnings) at;
   logs = keep_logs a b (λ row at. Contains-permutation _ (known b) row it.logs (Contains-append_left (known a) _ row at));
 }
 
@@ -64,6 +72,7 @@ log_all a b log it = record {
 pub changes_all : (a b : Trees) (logs : List Log) → ChangesLogs a b logs → HasAllOf a b
 changes_all a b logs it = record {
   items = λ row at. subst (λ rows. Contains rows row) (sym it.items) at;
+  beginnings = λ row at. subst (λ rows. Contains rows row) (sym it.beginnings) at;
   logs = changes_keep a b logs it;
 }
 
@@ -84,9 +93,9 @@ changed_stays old new logs has it = survives_as old new _ (HasAllOf old.now.tree
 pub marks_stay : (begins_at : Option Beginning) (end : End) (old new : Database) → Marks begins_at end old new → HasAllOf old.trees new.trees
 marks_stay begins_at end old new it = all_of_same old.trees new.trees (marks_same begins_at end old new it)
 
-pub begun_stays : {L : Type 0} (asks : L → List ℕ → Result (List ℕ) Loss → L → Type 0) (path : Path) (retries : ℕ) (link left : L) (begun : Result Start End) (steps : ℕ)
-    (old new : Database) (end : End) → KeepsBegun asks path retries link left begun steps old new end → HasAllOf old.trees new.trees
-begun_stays asks path retries link left begun steps old new end it = all_of_same old.trees new.trees (begun_same asks path retries link left begun steps old new end it)
+pub begun_stays : {L : Type 0} (asks : Ask L) (before left : Client L) (begun : Result Start End) (steps : ℕ)
+    (old new : Database) (end : End) → KeepsBegun asks before left begun steps old new end → HasAllOf old.trees new.trees
+begun_stays asks before left begun steps old new end it = all_of_same old.trees new.trees (begun_same asks before left begun steps old new end it)
 
 admitted_row : (recorded : Recorded) (row : Log) (old new : Database) → AdmitsRow recorded row old new → HasAllOf old.trees new.trees
 admitted_row So row old new it = subst (λ (d : Database). HasAllOf old.trees d.trees) (sym it) (all_itself old.trees)
@@ -105,20 +114,20 @@ renewed_stays entry end old new =
     (λ it. changes_all old.trees new.trees _ it.rows)
     (λ it. subst (λ (d : Database). HasAllOf old.trees d.trees) (sym it) (all_itself old.trees))
 
-entered_stays : {L : Type 0} (asks : L → List ℕ → Result (List ℕ) Loss → L → Type 0) (path : Path) (retries : ℕ) (link left : L) (begun : Result Start End) (steps : ℕ)
-    (entry : Entry) (old new : Database) (end : End) → KeepsEntered asks path retries link left begun steps entry old new end → HasAllOf old.trees new.trees
-entered_stays asks path retries link left (Ok start) steps entry old new end (known, admits, last, keeps, marked, marks, renews) =
+entered_stays : {L : Type 0} (asks : Ask L) (before left : Client L) (begun : Result Start End) (steps : ℕ)
+    (entry : Entry) (old new : Database) (end : End) → KeepsEntered asks before left begun steps entry old new end → HasAllOf old.trees new.trees
+entered_stays asks before left (Ok start) steps entry old new end (known, admits, last, keeps, marked, marks, renews) =
     all_then old.trees known.trees new.trees (admitted_stays entry old known admits)
-    (all_then known.trees last.trees new.trees (begun_stays asks path retries link left (Ok start) steps known last end keeps)
+    (all_then known.trees last.trees new.trees (begun_stays asks before left (Ok start) steps known last end keeps)
     (all_then last.trees marked.trees new.trees (marks_stay start.begins_at end last marked marks) (renewed_stays entry end marked new renews)))
-entered_stays asks path retries link left (Err none) steps entry old new end it = subst (λ (d : Database). HasAllOf old.trees d.trees) (sym it.0) (all_itself old.trees)
+entered_stays asks before left (Err none) steps entry old new end it = subst (λ (d : Database). HasAllOf old.trees d.trees) (sym it.0) (all_itself old.trees)
 
 -- what is kept of a log takes nothing away
 pub source_stays : {S P : Type 0} (over : SocketRules S P) (known : List Log) (wanted : Wanted) (told : Told) (before after : S) (old new : Database) (end : End) →
     KeepsSource over known wanted told before after old new end → HasAllOf old.trees new.trees
 source_stays over known wanted told before after old new end it =
-    let (begun, mid, at_begin, keeps) = it.kept.4.2 in
-    entered_stays _ _ _ mid _ begun _ it.entry old new it.kept.4.1 keeps
+    let (begun, mid, at_begin, keeps) = it.kept.4.3 in
+    entered_stays _ mid _ begun _ it.entry old new it.kept.4.2 keeps
 
 unless_stays : {S P : Type 0} (over : SocketRules S P) (known : List Log) (wanted : Wanted) (told : Told) (why : Option Ending) (before after : S) (old new : Database) (end : End) →
     KeepsUnless over known wanted told why before after old new end → HasAllOf old.trees new.trees

@@ -31,7 +31,7 @@ use Rattle.bac_questions.specs.declared.said.Said.{Said}
 use Rattle.bac_questions.specs.declared.whose.Heard.{Heard}
 use Rattle.bac_fetch.specs.Ahead.{AtOnce}
 use Rattle.bac_fetch.specs.Called.{CallsAhead, EndsCallsAhead}
-use Rattle.bac_ports.specs.Sockets.{SocketRules}
+use Rattle.bac_ports.specs.Sockets.{SocketRules, UsesSocket, own_address}
 use Rattle.bac_ports.specs.declared.port.OpenFault.{OpenFault}
 use Rattle.bac_words.specs.declared.job.Asked.{Asked}
 use Rattle.bac_words.specs.declared.word.Word.TheVariants.{Instance}
@@ -46,10 +46,15 @@ LacksId log trees fault = (fault ≡ File Full) × (log ≡ None) × HasNoFreshI
 abbrev pub FailsToEnter : Option Log → Trees → NotDone → Type 0
 FailsToEnter log trees fault = FailsOnRows fault ⊎ LacksId log trees fault
 
--- What is new of a log of this instance isn't fetched that is asked for so: its rows aren't read or written; no socket
--- was opened for it; or the instance is none, and none was asked for.
+-- no socket was opened, or one as asked, which was closed again
+abbrev pub IsShut : {S P : Type 0} → SocketRules S P → Asked → S → S → Type 0
+IsShut rules asked before after = (after ≡ before)
+    ⊎ UsesSocket rules (own_address asked.local) asked.timeout before (λ port last. Unit {0}) after
+
+-- What is new of a log of this instance isn't fetched that is asked for so: its rows aren't read or written, or its line
+-- isn't, and no socket stays open; no socket was opened for it; or the instance is none, and none was asked for.
 abbrev pub EndsFetch : {S P : Type 0} → SocketRules S P → Asked → ℕ → S → S → NotDone → Type 0
-EndsFetch rules asked instance before after fault = FailsOnRows fault
+EndsFetch rules asked instance before after fault = (FailsOnRows fault × IsShut rules asked before after)
     ⊎ (IsUnopened rules asked before after fault
     ⊎ ((fault ≡ Asking (BadValue Instance)) × IsNoInstance instance × (after ≡ before)))
 

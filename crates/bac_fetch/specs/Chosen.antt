@@ -8,7 +8,7 @@ use Rattle.bac_archive.specs.Logs.{AreLogs}
 use Rattle.bac_archive.specs.declared.trend_logs.Log.{Log}
 use Rattle.bac_archive.specs.declared.trend_logs.Source.{Source}
 use Rattle.bac_asked.specs.AsLog.{Given}
-use Rattle.bac_asked.specs.Wanted.{AsksItsSource, IsAskedAs}
+use Rattle.bac_asked.specs.Wanted.{AsksItsSource, IsAskedAs, IsNameless}
 use Rattle.bac_asked.specs.declared.end.NotDone.{NotDone}
 use Rattle.bac_asked.specs.declared.end.NotDone.TheVariants.{Asking}
 use Rattle.bac_asked.specs.declared.fault.Fault.TheVariants.{Exchange}
@@ -54,10 +54,10 @@ abbrev pub AskTheirSources : Chosen → Type 0
 AskTheirSources chosen.Kept = Unit {0}
 AskTheirSources (chosen.Sought sought) = All AskOneSource sought.items
 
--- What was chosen of an archive: its logs that aren't stopped, each asked for by the options that were given. Of
--- devices `AreFound` tells it.
+-- What was chosen of an archive: its logs that aren't stopped, each without a name, and asked for by the options that
+-- were given. Of devices `AreFound` tells it.
 abbrev pub AreChosen : Given → Chosen → Trees → List Wanted → Type 0
-AreChosen given chosen.Kept trees all = AreKeptLogs trees all × All (IsAskedWith given) all
+AreChosen given chosen.Kept trees all = AreKeptLogs trees all × All (IsAskedWith given) all × All IsNameless all
 AreChosen given (chosen.Sought sought) trees all = Unit {0}
 
 -- a log is one of these
@@ -90,12 +90,12 @@ IsUntold rules silent like before why after = MatchBool (was_silent silent like.
     ((why ≡ Lost) × (after ≡ before))
     (FailsOver rules like.asking before why after)
 
--- The logs of one device: those that it tells, each asked as this one is; or it didn't tell its list, for this reason;
--- or those that are named, for which no socket is opened.
+-- The logs of one device: those that it tells, each asked as this one is, and of the device that it is kept under; or it
+-- didn't tell its list, for this reason; or those that are named, for which no socket is opened.
 abbrev pub AreOfDevice : {S P : Type 0} → SocketRules S P → (silent : List Source) → Sought → S → Listing → S → Type 0
 AreOfDevice rules silent (Device like) before (Told found) after = (was_silent silent like.source ≡ false)
     × FindsOver rules like.asking before found.items after
-    × All (λ wanted. IsAskedAs like.asking wanted.asking) found.items
+    × All (λ wanted. IsAskedAs like.asking wanted.asking) found.items × All AsksItsSource found.items
 AreOfDevice rules silent (Device like) before (Untold device) after =
     (device.like ≡ like) × IsUntold rules silent like before device.why after
 AreOfDevice rules silent (Named named) before (Told found) after = (found ≡ named) × (after ≡ before)

@@ -1,14 +1,14 @@
 -- What a run over a log keeps, and over what link it came.
 use Rattle.std.specs.Prelude.{◌≡◌, ◌<◌, ◌+◌, ℕ, List, Result, Ok, Err}
 use Rattle.sqlite.specs.Effect.{Database}
-use Rattle.bac_link.specs.declared.link.Lost.{Lost as Loss}
-use Rattle.bac_link.specs.Path.{Path}
+use Rattle.bac_query.specs.Tables.{Ask, Client}
 use Rattle.bac_walk.specs.Place.{WalkPlace}
 use Rattle.bac_walk.specs.Outcomes.{IsRunOf}
 use Rattle.bac_walk.specs.declared.outcome.Ended.{Ended}
 use Rattle.bac_walk.specs.declared.outcome.Ended.TheVariants.{StepLimit}
 use Rattle.bac_walk.specs.declared.outcome.Why.{Why}
-use Rattle.bac_keep.specs.Came.{KeepsOver}
+use Rattle.bac_keep.specs.Came.{KeepsBy}
+use Rattle.bac_keep.specs.Rising.{free_after}
 use Rattle.bac_keep.specs.declared.keep.KeptStep.{KeptStep}
 use Rattle.bac_keep.specs.declared.keep.NotKept.{NotKept}
 use Rattle.bac_keep.specs.declared.keep.NotKept.TheVariants.{Refused}
@@ -17,6 +17,7 @@ use Rattle.bac_keep.specs.declared.sink.Refusal.TheVariants as refusal
 use Rattle.bac_asked.specs.declared.end.End.{End}
 use Rattle.bac_asked.specs.declared.end.Ending.{Ending}
 use Rattle.bac_asked.specs.declared.end.Ending.TheVariants.{Walk, SaidMore, Back, Epochs, NotAsked, Other, Twice}
+use Rattle.bac_begin.specs.Hands.{HasNoPlace}
 
 -- why a run over a log ended: as its walk did, or since the file has no place for the numbers that came
 abbrev pub IsEndingOf : Result Why NotKept → Ending → Type 0
@@ -43,26 +44,29 @@ IsRunTo NotAsked steps took ended = ⊥
 IsRunTo (Other told kept) steps took ended = ⊥
 IsRunTo (Twice told) steps took ended = ⊥
 
--- the link is left as behind the last step; where what a step brought has no place, nothing is said of its questions
-abbrev pub IsLeftBy : {S : Type 0} → Ending → S → S → Type 0
-IsLeftBy (Walk why) half left = left ≡ half
-IsLeftBy ending half left = Unit {0}
+-- A client is left as behind the last step; where what came to one step more has no place behind this one, where no
+-- number below this one may come, as that step left it.
+abbrev pub IsLeftBy : {S : Type 0} → Ask S → Ending → Place → ℕ → WalkPlace → Client S → Client S → Type 0
+IsLeftBy asks (Walk why) place free walk half left = left ≡ half
+IsLeftBy asks Back place free walk half left = HasNoPlace asks place free half walk refusal.Back left
+IsLeftBy asks Epochs place free walk half left = HasNoPlace asks place free half walk refusal.Epochs left
+IsLeftBy asks other place free walk half left = ⊥
 
--- What a run of at most so many steps keeps of a walk from a place on, behind a first step, came over a link, in
--- replies to its questions, and that is how the link is left.
-pub record ComesFrom {S : Type 0} (asks : S → List ℕ → Result (List ℕ) Loss → S → Type 0) (path : Path) (retries : ℕ)
-    (link left : S) (place : Place) (walk : WalkPlace) (step : KeptStep) (steps : ℕ) (old new : Database)
-    (end : End) : Type 0 where
+-- What a run of at most so many steps keeps of a walk from a place on, where no number below this one may come, behind
+-- a first step: it came over a client's link, in replies to its next transactions, and that is how the client is left.
+pub record ComesFrom {S : Type 0} (asks : Ask S) (before left : Client S) (place : Place) (free : ℕ) (walk : WalkPlace)
+    (step : KeptStep) (steps : ℕ) (old new : Database) (end : End) : Type 0 where
   pub reached : Place
   pub after : WalkPlace
   pub took : ℕ
   pub ended : Ended
-  pub half : S
+  pub half : Client S
   pub records : ℕ
   pub gaps : ℕ
   pub run : IsRunTo end.why steps took ended
-  pub is_left : IsLeftBy end.why half left
   pub next : after.next ≡ end.next
   pub records_are : end.records ≡ step.records + records
   pub gaps_are : end.gaps ≡ step.gaps + gaps
-  pub kept : KeepsOver asks path retries place reached old new link half walk after took ended records gaps
+  pub kept : KeepsBy asks before.transactions place reached old new before.link half.link walk after took ended records
+      gaps half.transactions
+  pub is_left : IsLeftBy asks end.why reached (free_after free kept.over.items) after half left

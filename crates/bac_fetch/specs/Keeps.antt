@@ -7,9 +7,10 @@ use Rattle.sqlite.specs.Effect.{Database}
 use Rattle.sqlite_trees.specs.Tree.{Trees}
 use Rattle.bac_wire.specs.Primitive.{Id}
 use Rattle.bac_link.specs.Ordinals.{number_after}
-use Rattle.bac_link.specs.Path.{Path, towards}
 use Rattle.bac_link.specs.declared.item.Item.{Item}
-use Rattle.bac_link.specs.declared.link.Lost.{Lost as Loss}
+use Rattle.bac_link.specs.declared.transactions.Transactions.{Transactions}
+use Rattle.bac_query.specs.Tables.{Ask, Client, client}
+use Rattle.bac_questions.specs.Connecting.{transactions_with}
 use Rattle.bac_walk.specs.Collects.{Goes}
 use Rattle.bac_walk.specs.Place.{WalkPlace}
 use Rattle.bac_walk.specs.Outcomes.{why_of}
@@ -76,28 +77,26 @@ pub record KeepsFrom (place : Place) (walk : WalkPlace) (step : KeptStep) (how :
 
 -- What a run keeps behind what is in hand: no more, and nothing more is asked, if that came to an end, caught up or by
 -- a fault; else what comes over the link from there, in at most so many steps.
-abbrev pub KeepsOn : {S : Type 0} → (S → List ℕ → Result (List ℕ) Loss → S → Type 0) → Path → ℕ → S → S → Start
-    → Option Why → ℕ →
-    Database → Database → End → Type 0
-KeepsOn asks path retries link left start (Some why) steps old new end =
-    (new ≡ old) × (left ≡ link) × (end.records ≡ start.hand.gathered.step.records)
+abbrev pub KeepsOn : {S : Type 0} → Ask S → Client S → Client S → Start → Option Why → ℕ → Database → Database → End
+    → Type 0
+KeepsOn asks before left start (Some why) steps old new end =
+    (new ≡ old) × (left ≡ before) × (end.records ≡ start.hand.gathered.step.records)
     × (end.gaps ≡ start.hand.gathered.step.gaps) × (end.why ≡ Walk why) × (end.next ≡ start.hand.walk.next)
     × (end.began ≡ start.began)
-KeepsOn asks path retries link left start None steps old new end =
+KeepsOn asks before left start None steps old new end =
     KeepsFrom start.hand.gathered.place start.hand.walk start.hand.gathered.step start.began old new end
-    × ComesFrom asks path retries link left start.hand.gathered.place start.hand.walk start.hand.gathered.step steps old
-    new end
+    × ComesFrom asks before left start.hand.gathered.place start.hand.gathered.free start.hand.walk
+    start.hand.gathered.step steps old new end
 
 -- What a run of at most so many steps keeps that begins so: what is in hand, which took some of them, and what comes
 -- behind it; nothing, if the device didn't say where.
-abbrev pub KeepsBegun : {S : Type 0} → (S → List ℕ → Result (List ℕ) Loss → S → Type 0) → Path → ℕ → S → S
-    → Result Start End →
-    ℕ → Database → Database → End → Type 0
-KeepsBegun asks path retries link left (Ok start) steps old new end =
+abbrev pub KeepsBegun : {S : Type 0} → Ask S → Client S → Client S → Result Start End → ℕ → Database → Database → End
+    → Type 0
+KeepsBegun asks before left (Ok start) steps old new end =
     (mid : Database) × IsAppended old mid (map stored start.hand.gathered.rows.items)
-    × KeepsOn asks path retries link left start (why_of start.hand.gathered.step.ended) (steps - start.hand.took) mid
+    × KeepsOn asks before left start (why_of start.hand.gathered.step.ended) (steps - start.hand.took) mid
     new end
-KeepsBegun asks path retries link left (Err none) steps old new end = (new ≡ old) × (end ≡ none) × (left ≡ link)
+KeepsBegun asks before left (Err none) steps old new end = (new ≡ old) × (end ≡ none) × (left ≡ before)
 
 -- whether a run is caught up and brought nothing
 abbrev pub is_idle : End → Bool
@@ -114,39 +113,40 @@ Marks (Some beginning) end old new =
 -- What a run of at most so many steps over a log that begins so keeps: first the log has a row, then what is in hand
 -- and what comes behind it is kept, then its epoch begins if nothing came, and then its row says what its device told.
 -- Nothing, if the device didn't say where it begins.
-abbrev pub KeepsEntered : {S : Type 0} → (S → List ℕ → Result (List ℕ) Loss → S → Type 0) → Path → ℕ → S → S
-    → Result Start End →
-    ℕ → Entry → Database → Database → End → Type 0
-KeepsEntered asks path retries link left (Ok start) steps entry old new end =
+abbrev pub KeepsEntered : {S : Type 0} → Ask S → Client S → Client S → Result Start End → ℕ → Entry → Database
+    → Database → End → Type 0
+KeepsEntered asks before left (Ok start) steps entry old new end =
     (known : Database) × Admits entry old known
-    × (last : Database) × KeepsBegun asks path retries link left (Ok start) steps known last end
+    × (last : Database) × KeepsBegun asks before left (Ok start) steps known last end
     × (marked : Database) × Marks start.begins_at end last marked × Renews entry end marked new
-KeepsEntered asks path retries link left (Err none) steps entry old new end = (new ≡ old) × (end ≡ none) × (left ≡ link)
+KeepsEntered asks before left (Err none) steps entry old new end = (new ≡ old) × (end ≡ none) × (left ≡ before)
 
 -- What a crash leaves of a run over a log that keeps so: each log as it was, and so its device's word by which the rows
 -- were kept that are there; or all that the run kept.
 abbrev pub LeavesWord : Trees → (Database → Type 0) → Trees → Type 0
 LeavesWord old keeps left = HasRows old left ⊎ ((db : Database) × keeps db × (left ≡ db.trees))
 
--- A run of at most so many steps over a log, which is this object of its device, over a link that it leaves so: where
--- it begins, by the archive's rows, by what the device tells over the link and by its own word, and what it keeps from
--- there, which came over the link as that was left then.
-abbrev pub KeepsOverLink : {S : Type 0} → (S → List ℕ → Result (List ℕ) Loss → S → Type 0) → Path → ℕ → S → S → ℕ →
-    Entry → Id → (many : ℕ) → Database → Database → End → Type 0
-KeepsOverLink {S = S} asks path retries link left steps entry object many old new end =
-    (begun : Result Start End) × (mid : S)
-    × IsBegun asks path retries link mid entry.row.id object many entry.word steps old.trees begun
-    × KeepsEntered asks path retries mid left begun steps entry old new end
+-- A run of at most so many steps over a log, which is this object of its device, by the next transactions of a client,
+-- which it leaves so: where it begins, by the archive's rows, by what the device tells and by its own word, and what it
+-- keeps from there, which came to the transactions behind these.
+abbrev pub KeepsOverLink : {S : Type 0} → Ask S → Client S → Client S → ℕ → Entry → Id → (many : ℕ) → Database
+    → Database → End → Type 0
+KeepsOverLink {S = S} asks before left steps entry object many old new end =
+    (begun : Result Start End) × (mid : Client S)
+    × IsBegun asks before mid entry.row.id object many entry.word steps old.trees begun
+    × KeepsEntered asks mid left begun steps entry old new end
 
 -- The same over a socket: it was opened as the log is asked for, every datagram was asked of the device that is asked,
--- and it was closed as the last of these left it. It is told if the device said that more is there than it had.
+-- by transactions none of which was begun before, and it was closed as the last of these left it. It is told if the
+-- device said that more is there than it had.
 abbrev pub KeepsLog : {S P : Type 0} → SocketRules S P → Asking → S → S → Entry → Id → Database → Database → End
     → Type 0
 KeepsLog {P = P} rules asking before after entry object old new end =
     UsesSocket rules (own_address asking.asked.local) asking.asked.timeout before
-    (λ port last. (left : Heeding (UdpLink P)) × (before_told : End)
-    × KeepsOverLink (heeds (socket_asks rules)) (towards asking.asked.route) asking.asked.retries
-    (heeding (link_over asking.asked.address port)) left asking.steps entry object asking.count old new before_told
+    (λ port last. (left : Heeding (UdpLink P)) × (final : Transactions) × (before_told : End)
+    × KeepsOverLink (heeds (socket_asks rules))
+    (client (heeding (link_over asking.asked.address port)) (transactions_with asking.asked.retries asking.asked.route))
+    (client left final) asking.steps entry object asking.count old new before_told
     × (end ≡ end_told left.more before_told) × (last ≡ left.link.port))
     after
 

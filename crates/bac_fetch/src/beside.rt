@@ -5,7 +5,7 @@ ghost use Rattle.std.specs.Prelude.{IsTrue, None};
 ghost use Rattle.std.specs.List.{All};
 ghost use Rattle.bac_asked.specs.AsLog.{given_in};
 ghost use Rattle.bac_asked.specs.Faults.{WantsMemory};
-ghost use Rattle.bac_asked.specs.Wanted.{AsksItsSource, HasNoAddress};
+ghost use Rattle.bac_asked.specs.Wanted.{AsksItsSource, HasNoAddress, IsNameless};
 ghost use Rattle.bac_fetch.specs.Beside.{IsAskedWith, IsLast, IsLastOf, IsOfDevice};
 
 use bac_archive::{Log, Source};
@@ -54,6 +54,7 @@ pub(crate) fn kept_beside(
     options: &Options<'_>,
 ) -> Result<Wanted, NotDone>
     ensures source { IfOk result (λ wanted. wanted.source ≡ log.source) }
+    ensures nameless { IfOk result IsNameless }
     ensures asks { All AsksItsSource all.now → IfOk result AsksItsSource }
     ensures by { All (IsAskedWith (given_in options.now)) all.now
         → IfOk result (IsAskedWith (given_in options.now)) }

@@ -6,8 +6,8 @@ ghost use Rattle.sqlite.specs.Effect.{Database};
 ghost use Rattle.sqlite.specs.Held.{state};
 ghost use Rattle.bac_archive.specs.Rows.{IsAppended, stored};
 ghost use Rattle.bac_archive.specs.Schema.{OverArchive, HasArchive};
-ghost use Rattle.bac_link.specs.Path.{towards};
 ghost use Rattle.bac_ports.specs.Sockets.{socket_rules};
+ghost use Rattle.bac_query.specs.Tables.{Client, client};
 ghost use Rattle.bac_fetch.specs.Causes.{EndsFetch, LeavesUnopened};
 ghost use Rattle.bac_asked.specs.Faults.{FailsOnRows, EndsLog};
 ghost use Rattle.bac_fetch.specs.Faults.{EndsRun, IsNoInstance};
@@ -57,8 +57,9 @@ fn where_to_start<L: LogLink, A: Alter>(
     ensures route { transactions.new.route ≡ transactions.old.route }
     // By the rows of the archive, and by what the device tells over the link, which is left so.
     ensures begun { OverArchive (state A.Store conn.old) (state A.Store conn.new)
-        (IfOk result (IsBegun L.asks (towards transactions.old.route) transactions.old.retries
-        link.old link.new id log many word steps (state A.Store conn.old).now.trees)) }
+        (IfOk result (IsBegun L.asks (client link.old transactions.old)
+        (client link.new transactions.new) id log many word steps
+        (state A.Store conn.old).now.trees)) }
     ensures same { OverArchive (state A.Store conn.old) (state A.Store conn.new)
         (OnOk result ((state A.Store conn.new).now ≡ (state A.Store conn.old).now)) }
     // Whatever comes of it, nothing is committed.
@@ -126,11 +127,11 @@ fn keep_on<L: LogLink, A: Alter, P: Progress>(
     ensures kept { OverArchive (state A.Store conn.old) (state A.Store conn.new)
         (IfOk result (KeepsFrom place walk step began (state A.Store conn.old).now
         (state A.Store conn.new).now)) }
-    // In replies that came over the link.
+    // In replies to the next transactions, which it leaves so.
     ensures came { OverArchive (state A.Store conn.old) (state A.Store conn.new)
-        (IfOk result (ComesFrom L.asks (towards transactions.old.route) transactions.old.retries
-        link.old link.new place walk step steps (state A.Store conn.old).now
-        (state A.Store conn.new).now)) }
+        (IfOk result (ComesFrom L.asks (client link.old transactions.old)
+        (client link.new transactions.new) place free walk step steps
+        (state A.Store conn.old).now (state A.Store conn.new).now)) }
     // Whatever comes of it, what a crash leaves then, or at any moment before, has all that was
     // there, and the same logs.
     ensures stays { OverArchive (state A.Store conn.old) (state A.Store conn.new)
@@ -171,8 +172,8 @@ fn keep_from<L: LogLink, A: Alter, P: Progress>(
     progress: &mut P,
 ) -> Result<End, NotDone>
     ensures kept { OverArchive (state A.Store conn.old) (state A.Store conn.new)
-        (IfOk result (KeepsBegun L.asks (towards transactions.old.route) transactions.old.retries
-        link.old link.new (Ok start) steps (state A.Store conn.old).now
+        (IfOk result (KeepsBegun L.asks (client link.old transactions.old)
+        (client link.new transactions.new) (Ok start) steps (state A.Store conn.old).now
         (state A.Store conn.new).now)) }
     // Whatever comes of it, what a crash leaves then, or at any moment before, has all that was
     // there, and the same logs.
@@ -235,8 +236,8 @@ fn keep_and_mark<L: LogLink, A: Alter, P: Progress>(
 ) -> Result<End, NotDone>
     ensures kept { OverArchive (state A.Store conn.old) (state A.Store conn.new)
         (IfOk result (λ end. (last : Database)
-        × KeepsBegun L.asks (towards transactions.old.route) transactions.old.retries
-        link.old link.new (Ok start) steps (state A.Store conn.old).now last end
+        × KeepsBegun L.asks (client link.old transactions.old) (client link.new transactions.new)
+        (Ok start) steps (state A.Store conn.old).now last end
         × Marks start.begins_at end last (state A.Store conn.new).now)) }
     ensures stays { OverArchive (state A.Store conn.old) (state A.Store conn.new)
         (Survives (state A.Store conn.old) (state A.Store conn.new)
@@ -265,9 +266,9 @@ fn keep_entered<L: LogLink, A: Alter, P: Progress>(
     progress: &mut P,
 ) -> Result<End, NotDone>
     ensures kept { OverArchive (state A.Store conn.old) (state A.Store conn.new)
-        (IfOk result (KeepsEntered L.asks (towards transactions.old.route) transactions.old.retries
-        link.old link.new (Ok start) steps entry.now (state A.Store conn.old).now
-        (state A.Store conn.new).now)) }
+        (IfOk result (KeepsEntered L.asks (client link.old transactions.old)
+        (client link.new transactions.new) (Ok start) steps entry.now
+        (state A.Store conn.old).now (state A.Store conn.new).now)) }
     ensures stays { OverArchive (state A.Store conn.old) (state A.Store conn.new)
         (Survives (state A.Store conn.old) (state A.Store conn.new)
         (HasAllOf (state A.Store conn.old).now.trees)) }
@@ -275,9 +276,9 @@ fn keep_entered<L: LogLink, A: Alter, P: Progress>(
     ensures word { OverArchive (state A.Store conn.old) (state A.Store conn.new)
         (Survives (state A.Store conn.old) (state A.Store conn.new)
         (LeavesWord (state A.Store conn.old).now.trees
-        (λ db. (left : L) × (end : EndOf) × KeepsEntered L.asks
-        (towards transactions.old.route) transactions.old.retries link.old left
-        (Ok start) steps entry.now (state A.Store conn.old).now db end))) }
+        (λ db. (left : Client L) × (end : EndOf) × KeepsEntered L.asks
+        (client link.old transactions.old) left (Ok start) steps entry.now
+        (state A.Store conn.old).now db end))) }
     ensures clean { HasCleanDisk (state A.Store conn.new) → HasCleanDisk (state A.Store conn.old) }
     ensures fault { IfErr result EndsLog }
     ensures caused { OverArchive (state A.Store conn.old) (state A.Store conn.new)
@@ -303,8 +304,8 @@ fn fetch_over<L: LogLink, A: Alter, P: Progress>(
 ) -> Result<End, NotDone>
     requires { log.kind ≡ 20 }
     ensures kept { OverArchive (state A.Store conn.old) (state A.Store conn.new)
-        (IfOk result (KeepsOverLink L.asks (towards transactions.old.route)
-        transactions.old.retries link.old link.new steps entry.now log many
+        (IfOk result (KeepsOverLink L.asks (client link.old transactions.old)
+        (client link.new transactions.new) steps entry.now log many
         (state A.Store conn.old).now (state A.Store conn.new).now)) }
     // Whatever comes of it, what a crash leaves then, or at any moment before, has all that was
     // there.
@@ -315,9 +316,9 @@ fn fetch_over<L: LogLink, A: Alter, P: Progress>(
     ensures word { OverArchive (state A.Store conn.old) (state A.Store conn.new)
         (Survives (state A.Store conn.old) (state A.Store conn.new)
         (LeavesWord (state A.Store conn.old).now.trees
-        (λ db. (left : L) × (end : EndOf) × KeepsOverLink L.asks
-        (towards transactions.old.route) transactions.old.retries link.old left
-        steps entry.now log many (state A.Store conn.old).now db end))) }
+        (λ db. (left : Client L) × (end : EndOf) × KeepsOverLink L.asks
+        (client link.old transactions.old) left steps entry.now log many
+        (state A.Store conn.old).now db end))) }
     ensures clean { HasCleanDisk (state A.Store conn.new) → HasCleanDisk (state A.Store conn.old) }
     ensures fault { IfErr result EndsLog }
     ensures caused { OverArchive (state A.Store conn.old) (state A.Store conn.new)

@@ -22,7 +22,7 @@ ghost use Rattle.bac_fetch.specs.Chosen.{AreFound, AreChosen, AreKeptLogs, AskTh
 ghost use Rattle.bac_fetch.specs.Chosen.{Finds, not_stopped};
 ghost use Rattle.bac_fetch.specs.declared.unlisted.Unlisted.{Unlisted as UnlistedOf};
 ghost use Rattle.bac_asked.specs.AsLog.{given_in};
-ghost use Rattle.bac_asked.specs.Wanted.{AsksItsSource, HasNoAddress};
+ghost use Rattle.bac_asked.specs.Wanted.{AsksItsSource, HasNoAddress, IsNameless};
 ghost use Rattle.bac_fetch.specs.Stays.{HasAllOf};
 ghost use Rattle.bac_asked.specs.declared.wanted.Wanted.{Wanted as WantedOf};
 
@@ -60,6 +60,7 @@ fn add_kept(
     ensures asks { OnOk result (All AsksItsSource all.old.items → All AsksItsSource all.new.items) }
     ensures by { OnOk result (All (IsAskedWith (given_in options.now)) all.old.items
         → All (IsAskedWith (given_in options.now)) all.new.items) }
+    ensures nameless { OnOk result (All IsNameless all.old.items → All IsNameless all.new.items) }
     ensures added { OnOk result (map (λ (w : WantedOf). w.source) all.new.items
         ≡ map (λ (w : WantedOf). w.source) all.old.items
         ++ map (λ (l : LogOf). l.source) (not_stopped (log ∷ []))) }
@@ -83,6 +84,7 @@ fn kept_logs<A: Alter>(
 ) -> Result<Vec<Wanted>, NotDone>
     ensures asks { IfOk result (λ all. All AsksItsSource all.items) }
     ensures by { IfOk result (λ all. All (IsAskedWith (given_in options.now)) all.items) }
+    ensures nameless { IfOk result (λ all. All IsNameless all.items) }
     // They are the logs of the archive that aren't stopped, one at least.
     ensures some { IfOk result (λ all. all.items ≢ []) }
     ensures logs { OverArchive (state A.Store conn.old) (state A.Store conn.new)
@@ -253,8 +255,8 @@ where
         S.Socket.receives_within) (at_once S.holds C.reads clock window) (given_in options.now)
         all.items sockets.old sockets.new (state A.Store conn.old).now
         (state A.Store conn.new).now ends))) }
-    // Whatever comes of it, no item and no log is lost: what is on the disk then, or is left by a
-    // crash at any moment before, is what was there or has all of it.
+    // Whatever comes of it, no item, no beginning and no log is lost: what is on the disk then, or
+    // is left by a crash at any moment before, is what was there or has all of it.
     ensures stays { OverArchive (state A.Store conn.old) (state A.Store conn.new)
         (Survives (state A.Store conn.old) (state A.Store conn.new)
         (HasAllOf (state A.Store conn.old).now.trees)) }
@@ -361,7 +363,7 @@ where
         S.Socket.receives_within) (at_once S.holds C.reads clock window) (given_in options.now)
         all between sockets.new (state A.Store conn.old).now (state A.Store conn.new).now ends))
         status) }
-    // Whatever comes of it, no item and no log is lost.
+    // Whatever comes of it, no item, no beginning and no log is lost.
     ensures stays { OverArchive (state A.Store conn.old) (state A.Store conn.new)
         (Survives (state A.Store conn.old) (state A.Store conn.new)
         (HasAllOf (state A.Store conn.old).now.trees)) }

@@ -136,8 +136,8 @@ fn keep_one<S: Heeds, A: Alter, O: Write, E: Write>(
         S.Socket.receives_within) wanted.asking sockets.old sockets.new
         entry (trend_log wanted.source.instance) (state A.Store conn.old).now
         (state A.Store conn.new).now end)))) }
-    // Whatever comes of it, no item and no log is lost: what is on the disk then, or is left by a
-    // crash at any moment before, is what was there or has all of it.
+    // Whatever comes of it, no item, no beginning and no log is lost: what is on the disk then, or
+    // is left by a crash at any moment before, is what was there or has all of it.
     ensures stays { OverArchive (state A.Store conn.old) (state A.Store conn.new)
         (Survives (state A.Store conn.old) (state A.Store conn.new)
         (HasAllOf (state A.Store conn.old).now.trees)) }

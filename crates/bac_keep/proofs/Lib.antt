@@ -8,9 +8,10 @@ mod CoveredLemmas
 mod NewestLemmas
 mod UpToDateLemmas
 mod AskedLemmas
+mod LookLemmas
 mod QuestionLemmas
 mod RunCoverLemmas
 pub mod TurnLemmas
-mod BegunLemmas
+pub mod BegunLemmas
 mod RoundLemmas
 mod CauseLemmas

@@ -14,10 +14,12 @@ use Rattle.bac_keep.specs.declared.look.Seen.{Seen}
 use Rattle.bac_keep.specs.declared.look.Seen.TheVariants.{Same, Another, Later, Earlier, Nothing}
 use Rattle.bac_keep.specs.Items.{stamp_text}
 use Rattle.bac_link.specs.declared.link.Lost.{Lost as Loss}
-use Rattle.bac_link.specs.Path.{Path}
+use Rattle.bac_link.specs.declared.transactions.Transactions.{Transactions}
+use Rattle.bac_link.specs.Path.{Path, towards}
 use Rattle.bac_walk.specs.Place.{WalkPlace, asking, walk_at, walk_from_oldest}
 use Rattle.bac_walk.specs.Came.{Brought, Came}
 use Rattle.bac_walk.specs.Collects.{step_ended, step_items}
+use Rattle.bac_walk.specs.Transacted.{BroughtBy}
 use Rattle.bac_wire.specs.Primitive.{Id}
 
 -- a record as it is kept: its number, and the texts of its date and time, of its datum and of its status flags
@@ -91,3 +93,30 @@ Looks {S = S} asks path retries old log count kept seen new =
     × IsSeen kept answer oldest seen × CameTo asks path retries old (asking count (walk_at log kept.number)) answer half
     × (AsksOldest answer → CameTo asks path retries half (asking count (walk_from_oldest log)) oldest new)
     × ((AsksOldest answer → ⊥) → new ≡ half))
+
+-- ---- by which transactions
+
+-- one step of a walk, as above, each of whose replies came to the next of these transactions, which it leaves so
+abbrev pub CameToBy : {S : Type 0} → (S → List ℕ → Result (List ℕ) Loss → S → Type 0) → Transactions → S → WalkPlace →
+    Result Step WalkFault → Transactions → S → Type 0
+CameToBy asks first old walk answer last new =
+    (came : List Came) × (after : WalkPlace)
+    × BroughtBy asks first old walk 1 came (step_items answer) (step_ended answer) after last new
+
+-- The kept record was looked for, as above, each question by the next of these transactions, which it leaves so.
+abbrev pub LooksBy : {S : Type 0} → (S → List ℕ → Result (List ℕ) Loss → S → Type 0) → Transactions → S → Id →
+    (count : ℕ) → KeptAs → Result Seen WalkFault → Transactions → S → Type 0
+LooksBy {S = S} asks first old log count kept seen last new =
+    (kept.number ≡ 0 → (seen ≡ Ok Another) × (last ≡ first) × (new ≡ old))
+    × (0 < kept.number → (answer : Result Step WalkFault) × (oldest : Result Step WalkFault) × (mid : Transactions)
+    × (half : S) × IsSeen kept answer oldest seen
+    × CameToBy asks first old (asking count (walk_at log kept.number)) answer mid half
+    × (AsksOldest answer → CameToBy asks mid half (asking count (walk_from_oldest log)) oldest last new)
+    × ((AsksOldest answer → ⊥) → (last ≡ mid) × (new ≡ half)))
+
+-- what was looked for by such transactions was looked for over the link
+abbrev pub TransactedIsLooked : {S : Type 0} → (S → List ℕ → Result (List ℕ) Loss → S → Type 0) → Type 0
+TransactedIsLooked {S = S} asks =
+    (first last : Transactions) (old new : S) (log : Id) (count : ℕ) (kept : KeptAs) (seen : Result Seen WalkFault) →
+    LooksBy asks first old log count kept seen last new →
+    Looks asks (towards first.route) first.retries old log count kept seen new

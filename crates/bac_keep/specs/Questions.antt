@@ -15,7 +15,7 @@ use Rattle.bac_walk.specs.Came.{Asks}
 use Rattle.bac_walk.specs.Collects.{Goes, turn_items}
 use Rattle.bac_walk.specs.Place.{WalkPlace}
 use Rattle.bac_walk.specs.Told.{IsFault}
-use Rattle.bac_walk.specs.Transacted.{TurnBy}
+use Rattle.bac_walk.specs.Transacted.{TurnBy, asked}
 use Rattle.bac_walk.specs.Walks.{IsTakenFrom}
 use Rattle.bac_archive.specs.Rows.{stored}
 use Rattle.bac_keep.specs.declared.keep.Gathered.{Gathered}
@@ -68,13 +68,14 @@ GathersAnswer asks path retries place free link before gathered after left =
     × IsGatheredOf place free answer gathered
     × ((s : ℕ) → Goes before.fresh before.next s (turn_items answer) after.fresh after.next)
 
--- the same of the next of these transactions
+-- the same of the next of these transactions, which it leaves so
 abbrev pub GathersAnswerBy : {S : Type 0} → (S → List ℕ → Result (List ℕ) Loss → S → Type 0) → Transactions → Place
     → ℕ →
-    S → WalkPlace → Gathered → WalkPlace → S → Type 0
-GathersAnswerBy asks first place free link before gathered after left =
+    S → WalkPlace → Gathered → WalkPlace → Transactions → S → Type 0
+GathersAnswerBy asks first place free link before gathered after last left =
     (answer : Result Progress WalkFault) × TurnBy asks first link before answer after left
-    × IsGatheredOf place free answer gathered
+    × (last ≡ asked before first) × IsGatheredOf place free answer gathered
+    × ((s : ℕ) → Goes before.fresh before.next s (turn_items answer) after.fresh after.next)
 
 -- what came to one question of a walk over a link can't be gathered from a place on, for this reason
 abbrev pub RefusesAnswer : {S : Type 0} → (S → List ℕ → Result (List ℕ) Loss → S → Type 0) → Path → ℕ → Place → ℕ →
@@ -82,6 +83,14 @@ abbrev pub RefusesAnswer : {S : Type 0} → (S → List ℕ → Result (List ℕ
 RefusesAnswer asks path retries place free link before refusal after left =
     (answer : Result Progress WalkFault) × AsksOnce asks path retries link before answer after left
     × IsCause place free (turn_items answer) refusal
+
+-- nor can what came to the next of these transactions, which it leaves so
+abbrev pub RefusesAnswerBy : {S : Type 0} → (S → List ℕ → Result (List ℕ) Loss → S → Type 0) → Transactions → Place
+    → ℕ →
+    S → WalkPlace → Refusal → WalkPlace → Transactions → S → Type 0
+RefusesAnswerBy asks first place free link before refusal after last left =
+    (answer : Result Progress WalkFault) × TurnBy asks first link before answer after left
+    × (last ≡ asked before first) × IsCause place free (turn_items answer) refusal
 
 -- ---- the sink that they are put into
 

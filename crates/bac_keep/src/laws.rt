@@ -3,6 +3,7 @@ ghost use Rattle.bac_keep.specs.Begun.{RoundsBeginAtOne, RunsBeginAtTheirBeginni
 ghost use Rattle.bac_keep.specs.Begun.{RunsGoOnFromTheBeginning};
 ghost use Rattle.bac_keep.specs.Covered.{RunsBeginCovered, RunsGoOnCovered};
 ghost use Rattle.bac_keep.specs.Honest.{HonestIsKept, HonestRunsAreKept, KeptOverJoin};
+ghost use Rattle.bac_keep.specs.Looks.{TransactedIsLooked};
 ghost use Rattle.bac_keep.specs.Kept.{AllRunsAreKept, BeginsEmpty, KeptIsDelivered, KeptRunsJoin};
 ghost use Rattle.bac_keep.specs.Kept.{OneRowEach, OthersStay, RowsJoin, RunsAreKept};
 ghost use Rattle.bac_keep.specs.Turns.{EachHasItsOwn, HonestTurnsAreKept, HonestTurnsBegin};
@@ -202,4 +203,10 @@ pub fn held_tells_caught_up()
 /// up when none came.
 pub fn asked_tells_caught_up<L: LogLink>()
     ensures { AskedTellsCaughtUp L.asks }
+{}
+
+/// What is held of a record was looked for by transactions, as `look_for` tells it of those that it
+/// was given: so it was over the link.
+pub fn transacted_is_looked<L: LogLink>()
+    ensures { TransactedIsLooked L.asks }
 {}

@@ -23,7 +23,8 @@ pub use laws::{
     newest_is_last, newest_is_own, none_later_stays, one_row_each, others_stay, own_are_one,
     parts_are_kept, parts_end_where_newest_tells, parts_go_on_covered, rounds_begin_at_one,
     rows_join, runs_are_kept, runs_begin_at_their_beginning, runs_begin_covered,
-    runs_go_on_covered, runs_go_on_from_the_beginning, runs_leave_none_later, turns_join,
+    runs_go_on_covered, runs_go_on_from_the_beginning, runs_leave_none_later, transacted_is_looked,
+    turns_join,
 };
 pub use look::{LastKept, Seen, look_for};
 pub use place::Place;

@@ -5,8 +5,8 @@ ghost use Rattle.bac_link.specs.Path.{towards};
 ghost use Rattle.bac_walk.specs.Place.{asking, walk_at, walk_from_oldest};
 ghost use Rattle.bac_walk.specs.declared.outcome.Step.{Step as StepOf};
 ghost use Rattle.bac_walk.specs.declared.outcome.WalkFault.{WalkFault as FaultOf};
-ghost use Rattle.bac_keep.specs.Looks.{AsksOldest, CameTo, IsSeen, IsSeenBy, IsSeenLast, is_before};
-ghost use Rattle.bac_keep.specs.Looks.{is_dated, is_held_as, seen_by};
+ghost use Rattle.bac_keep.specs.Looks.{AsksOldest, CameTo, CameToBy, IsSeen, IsSeenBy, IsSeenLast};
+ghost use Rattle.bac_keep.specs.Looks.{LooksBy, is_before, is_dated, is_held_as, seen_by};
 
 use crate::courses::is_ahead;
 use crate::texts::{datum_of, flags_of, stamp_of};
@@ -70,6 +70,14 @@ pub fn look_for<L: LogLink>(
         × (AsksOldest answer → CameTo L.asks (towards transactions.old.route)
         transactions.old.retries half (asking count (walk_from_oldest log)) oldest
         link.new) × ((AsksOldest answer → ⊥) → link.new ≡ half)) }
+    // Each came to the next transaction, and none is open after it.
+    ensures transacted { IfOk result (λ seen. LooksBy L.asks transactions.old link.old log count
+        (record {
+          number = last.entry.number;
+          stamp = last.entry.stamp.now;
+          datum = last.entry.datum.now;
+          flags = last.entry.flags.now;
+        }) seen transactions.new link.new) }
 {
     let Some(walk) = Walk::from_number(log, last.number) else {
         return Ok(Ok(Seen::Another));
@@ -104,6 +112,15 @@ fn look_at_oldest<L: LogLink>(
         }) oldest seen
         × CameTo L.asks (towards transactions.old.route) transactions.old.retries link.old
         (asking count (walk_from_oldest log)) oldest link.new) }
+    ensures transacted { IfOk result (λ seen. (oldest : Result StepOf FaultOf)
+        × IsSeenLast (record {
+          number = last.entry.number;
+          stamp = last.entry.stamp.now;
+          datum = last.entry.datum.now;
+          flags = last.entry.flags.now;
+        }) oldest seen
+        × CameToBy L.asks transactions.old link.old (asking count (walk_from_oldest log)) oldest
+        transactions.new link.new) }
 {
     let mut walk = oldest_of(log, count);
     match walk.step(link, transactions) {

@@ -9,7 +9,7 @@ ghost use Rattle.bac_walk.specs.Collects.{turn_items};
 ghost use Rattle.bac_walk.specs.Transacted.{TurnBy, asked};
 ghost use Rattle.bac_walk.specs.Walks.{IsTakenFrom, items_in};
 ghost use Rattle.bac_keep.specs.Questions.{GathersAnswer, GathersAnswerBy, HasAll, RefusesAnswer};
-ghost use Rattle.bac_keep.specs.Questions.{answer_ended};
+ghost use Rattle.bac_keep.specs.Questions.{RefusesAnswerBy, answer_ended};
 ghost use Rattle.bac_keep.specs.Rising.{IsCause};
 
 use crate::keep::{Gathered, KeptStep};
@@ -151,11 +151,13 @@ pub fn gather_answer<L: LogLink>(
     ensures gathered { IfOk result (λ it. GathersAnswer L.asks (towards transactions.old.route)
         transactions.old.retries place free link.old walk.old it walk.new link.new) }
     ensures transacted { IfOk result (λ it. GathersAnswerBy L.asks transactions.old place free
-        link.old walk.old it walk.new link.new) }
+        link.old walk.old it walk.new transactions.new link.new) }
     // An error is that of what came: its numbers go back, or come round in the last epoch, or there
     // is no memory.
     ensures cause { IfErr result (λ refusal. RefusesAnswer L.asks (towards transactions.old.route)
         transactions.old.retries place free link.old walk.old refusal walk.new link.new) }
+    ensures refused { IfErr result (λ refusal. RefusesAnswerBy L.asks transactions.old place free
+        link.old walk.old refusal walk.new transactions.new link.new) }
 {
     let answer = ask_next(link, transactions, walk);
     let mut pending = nothing_from(alloc, place, free);

@@ -1,6 +1,5 @@
 use Rattle.std.proofs.Common.{subst}
-use Rattle.bac_link.specs.Path.{towards}
-use Rattle.bac_walk.specs.Came.{Brought}
+use Rattle.bac_walk.specs.Transacted.{BroughtBy}
 use Rattle.bac_walk.specs.declared.outcome.Ended.{Ended}
 use Rattle.bac_keep.specs.Rising.{IsCause}
 use Rattle.bac_keep.specs.declared.sink.Refusal.{Refusal}
@@ -8,9 +7,9 @@ use Rattle.bac_begin.proofs.hands.take_step.Goals as goal
 
 pub returns-in-Fault-clause-steps : goal.returns-in-Fault-clause-steps
 returns-in-Fault-clause-steps g c =
-    let it = c.in-Ok.ensures.brought in
-    let t = c.args.transactions.now in
-    (it.2.0, it.0, c.gather.new.walk, subst (λ (e : Ended). Brought g.L.LogLink.asks (towards t.route) t.retries c.args.link.now c.args.walk 1 it.2.0 it.0 e c.gather.new.walk c.gather.new.link) c.in-Fault.is it.2.1)
+    let it = c.in-Ok.ensures.transacted in
+    let B : Ended → Type 0 = λ e. BroughtBy g.L.LogLink.asks c.args.transactions.now c.args.link.now c.args.walk 1 it.0.2.0 it.0.0 e c.gather.new.walk c.gather.new.transactions c.gather.new.link in
+    (it.0.2.0, it.0.0, c.gather.new.walk, subst B c.in-Fault.is it.1)
 
 pub returns-in-Err-Back-clause-steps : goal.returns-in-Err-Back-clause-steps
 returns-in-Err-Back-clause-steps g c =

@@ -1,13 +1,10 @@
-use Rattle.std.proofs.Common.{◌≡◌, ◌∙◌, ℕ, List, Ok, ap, subst}
-use Rattle.bac_link.specs.Path.{towards}
-use Rattle.bac_keep.specs.Looks.{KeptAs, Looks}
-use Rattle.bac_keep.specs.declared.look.Seen.TheVariants.{Another}
+use Rattle.std.proofs.Common.{◌≡◌, ◌∙◌, ℕ, List, ap, subst}
+use Rattle.bac_keep.specs.Looks.{KeptAs, LooksBy}
 use Rattle.bac_begin.specs.Stands.{kept_last}
 use Rattle.bac_begin.proofs.starting.look_behind.Goals as goal
 
 pub returns-in-Ok-clause-looks : goal.returns-in-Ok-clause-looks
 returns-in-Ok-clause-looks g c =
-    let t = c.args.transactions.now in
     let given = c.last_kept.result in
     let it : KeptAs = kept_last c.args.stand.now in
     let N : ℕ → KeptAs = λ n. record { number = n; stamp = given.stamp.now; datum = given.datum.now; flags = given.flags.now } in
@@ -15,5 +12,5 @@ returns-in-Ok-clause-looks g c =
     let D : List ℕ → KeptAs = λ d. record { number = it.number; stamp = it.stamp; datum = d; flags = given.flags.now } in
     let F : List ℕ → KeptAs = λ f. record { number = it.number; stamp = it.stamp; datum = it.datum; flags = f } in
     let same : N given.number ≡ it = ap N c.last_kept.ensures.number ∙ (ap S c.last_kept.ensures.stamp ∙ (ap D c.last_kept.ensures.datum ∙ ap F c.last_kept.ensures.flags)) in
-    let none : given.number ≡ 0 → (c.in-Ok.found ≡ Ok Another) × (c.look_for.new.link ≡ c.args.link.now) = λ zero. let is = c.in-Ok.ensures.none zero in ((let e = is.0 in cc), is.1) in
-    subst (λ (k : KeptAs). Looks g.L.LogLink.asks (towards t.route) t.retries c.args.link.now c.args.log c.args.many k c.in-Ok.found c.look_for.new.link) same (none, c.in-Ok.ensures.seen)
+    subst (λ (k : KeptAs). LooksBy g.L.LogLink.asks c.args.transactions.now c.args.link.now c.args.log c.args.many k c.in-Ok.found c.look_for.new.transactions c.look_for.new.link)
+    same c.in-Ok.ensures.transacted

@@ -1,8 +1,12 @@
+use Rattle.std.proofs.Common.{◌≡◌, subst, sym}
+use Rattle.sqlite.specs.Effect.{Database}
 use Rattle.sqlite.specs.Held.{state}
+use Rattle.sqlite.specs.State.{HasCleanDisk}
+use Rattle.bac_archive.specs.Schema.{HasArchive}
 use Rattle.bac_fetch.specs.Stays.{HasSameLogs}
 use Rattle.bac_fetch.proofs.StaysLemmas.{does_nothing}
 use Rattle.bac_fetch.proofs.GroupLemmas.{commit_leaves}
-use Rattle.bac_fetch.proofs.SameLemmas.{same_itself}
+use Rattle.bac_fetch.proofs.SameLemmas.{begin_same, same_itself, same_stays_then, survives_as}
 use Rattle.bac_fetch.proofs.ending.mark.Goals as goal
 
 pub returns-in_default-clause-stays : goal.returns-in_default-clause-stays
@@ -18,3 +22,16 @@ returns-then-not-is_idle-clause-stays g c clean has =
 pub returns-in_err-commit-clause-stays : goal.returns-in_err-commit-clause-stays
 returns-in_err-commit-clause-stays g c clean has =
     commit_leaves (λ d. HasSameLogs d.trees) (state g.A.Store c.args.conn.now) (state g.A.Store c.commit.new.conn) (λ d. same_itself d.trees) c.commit.ensures.crash
+
+pub returns-clause-stays : goal.returns-clause-stays
+returns-clause-stays g c clean has =
+    let old = state g.A.Store c.args.conn.now in
+    let mid = state g.A.Store c.commit.new.conn in
+    let new = state g.A.Store c.put_beginning.new.conn in
+    let early : HasCleanDisk mid = c.put_beginning.ensures.clean clean in
+    let still : mid.now ≡ old.now = c.in_ok-commit.ensures.same early in
+    let schema : HasArchive mid.now.schema = subst (λ (d : Database). HasArchive d.schema) (sym still) has in
+    same_stays_then old mid new (subst (λ (d : Database). HasSameLogs old.now.trees d.trees) (sym still) (same_itself old.now.trees))
+    (commit_leaves (λ d. HasSameLogs d.trees) old mid (λ d. same_itself d.trees) c.commit.ensures.crash)
+    (survives_as mid new _ (HasSameLogs mid.now.trees)
+    (λ _ db left. let made = left schema in subst (HasSameLogs mid.now.trees) (sym made.2) (begin_same mid.now.trees made.0.trees _ made.1.rows)) c.put_beginning.ensures.crash)

@@ -20,8 +20,8 @@ returns-clause-kept g c clean has =
     keeps_log over c.args.asking c.args.sockets.now c.connect.new.sockets c.close.new.self c.args.entry.now
     (trend_log c.args.entry.now.row.source.instance) c.in-Some.log old.now new.now c.in_ok-end.field-0 c.end_told.result
     c.in_ok-link.link.port c.into_port.result c.new-link.result c.fetch_over-end.new.link
-    c.in_ok-link.transactions.route c.in_ok-link.transactions.retries c.args.asking.steps
-    c.in_ok-link.ensures.opened (c.new-link.ensures ∙ ap heeding c.in_ok-link.ensures.link) c.in_ok-link.ensures.route c.in_ok-link.ensures.retries
+    c.in_ok-link.transactions c.fetch_over-end.new.transactions c.args.asking.steps
+    c.in_ok-link.ensures.opened (c.new-link.ensures ∙ ap heeding c.in_ok-link.ensures.link) c.in_ok-link.ensures.made
     refl object c.into_port.ensures c.close.ensures c.end_told.ensures (c.in_ok-end.ensures.kept clean has)
 
 pub returns-in_err-link-clause-undone : goal.returns-in_err-link-clause-undone
@@ -61,4 +61,7 @@ returns-in_err-end-clause-fault g c =
 
 pub returns-in_err-end-clause-caused : goal.returns-in_err-end-clause-caused
 returns-in_err-end-clause-caused g c clean has =
-    because c.from_residual-in_err-end.result c.in_err-end.field-0.0 _ (search rules) (inl (c.in_err-end.ensures.caused clean has))
+    because c.from_residual-in_err-end.result c.in_err-end.field-0.0 _ (search rules) (inl (
+      c.in_err-end.ensures.caused clean has,
+      inr (c.in_ok-link.link.port, c.connect.new.sockets, c.into_port.result, c.in_ok-link.ensures.opened, tt, c.close.ensures),
+    ))

@@ -14,8 +14,8 @@ returns-in_err-mark-clause-stays g c clean has =
     let new = state g.A.Store c.mark.new.conn in
     let early : HasCleanDisk mid = c.mark.ensures.clean clean in
     let kept = c.in_ok-end.ensures.kept early has in
-    let schema : HasArchive mid.now.schema = log_schema _ _ _ _ _ (Ok c.args.start) _ old.now mid.now c.in_ok-end.end kept has in
-    same_stays_then old mid new (begun_same _ _ _ _ _ (Ok c.args.start) _ old.now mid.now c.in_ok-end.end kept) (c.keep_from.ensures.stays early has) (c.mark.ensures.stays clean schema)
+    let schema : HasArchive mid.now.schema = log_schema _ _ _ (Ok c.args.start) _ old.now mid.now c.in_ok-end.end kept has in
+    same_stays_then old mid new (begun_same _ _ _ (Ok c.args.start) _ old.now mid.now c.in_ok-end.end kept) (c.keep_from.ensures.stays early has) (c.mark.ensures.stays clean schema)
 
 pub returns-clause-stays : goal.returns-clause-stays
 returns-clause-stays g c clean has =
@@ -24,8 +24,8 @@ returns-clause-stays g c clean has =
     let new = state g.A.Store c.mark.new.conn in
     let early : HasCleanDisk mid = c.mark.ensures.clean clean in
     let kept = c.in_ok-end.ensures.kept early has in
-    let schema : HasArchive mid.now.schema = log_schema _ _ _ _ _ (Ok c.args.start) _ old.now mid.now c.in_ok-end.end kept has in
-    same_stays_then old mid new (begun_same _ _ _ _ _ (Ok c.args.start) _ old.now mid.now c.in_ok-end.end kept) (c.keep_from.ensures.stays early has) (c.mark.ensures.stays clean schema)
+    let schema : HasArchive mid.now.schema = log_schema _ _ _ (Ok c.args.start) _ old.now mid.now c.in_ok-end.end kept has in
+    same_stays_then old mid new (begun_same _ _ _ (Ok c.args.start) _ old.now mid.now c.in_ok-end.end kept) (c.keep_from.ensures.stays early has) (c.mark.ensures.stays clean schema)
 
 pub returns-clause-kept : goal.returns-clause-kept
 returns-clause-kept g c clean has =
@@ -33,7 +33,7 @@ returns-clause-kept g c clean has =
     let mid = state g.A.Store c.keep_from.new.conn in
     let early : HasCleanDisk mid = c.mark.ensures.clean clean in
     let kept = c.in_ok-end.ensures.kept early has in
-    let schema : HasArchive mid.now.schema = log_schema _ _ _ _ _ (Ok c.args.start) _ old.now mid.now c.in_ok-end.end kept has in
+    let schema : HasArchive mid.now.schema = log_schema _ _ _ (Ok c.args.start) _ old.now mid.now c.in_ok-end.end kept has in
     (mid.now, kept, c.in_ok-mark.ensures.marks clean schema)
 
 pub returns-in_err-end-clause-caused : goal.returns-in_err-end-clause-caused

@@ -1,6 +1,7 @@
 use Rattle.std.proofs.Common.{Ok, rules, inl, inr, subst, sym}
 use Rattle.sqlite.specs.State.{HasCleanDisk}
 use Rattle.sqlite.specs.Held.{state}
+use Rattle.bac_query.specs.Tables.{client}
 use Rattle.bac_fetch.proofs.KeepsLemmas.{admit_schema, marked_schema}
 use Rattle.bac_fetch.proofs.StaysLemmas.{admitted_keeps, admitted_stays, all_then, begun_stays, leaves_rows, marks_stay, leaves_word, rows_of_same, rows_then, same_after, stays_then}
 use Rattle.bac_fetch.proofs.SameLemmas.{begun_same, marks_same, same_then}
@@ -18,7 +19,7 @@ returns-clause-kept g c clean has =
     let admits = c.in_ok-admit.ensures.admits early has in
     let schema : HasArchive known.now.schema = admit_schema c.args.entry.now (state g.A.Store c.args.conn.now).now known.now admits has in
     let (last, keeps, marks) = c.in_ok-end.ensures.kept late schema in
-    let is : HasArchive marked.now.schema = marked_schema _ _ _ _ _ c.args.start _ known.now last marked.now c.in_ok-end.end keeps marks schema in
+    let is : HasArchive marked.now.schema = marked_schema _ _ _ c.args.start _ known.now last marked.now c.in_ok-end.end keeps marks schema in
     (known.now, admits, last, keeps, marked.now, marks, c.in_ok-renew.ensures.renews clean is)
 
 pub returns-in_err-end-clause-stays : goal.returns-in_err-end-clause-stays
@@ -41,9 +42,9 @@ returns-in_err-renew-clause-stays g c clean has =
     let admits = c.in_ok-admit.ensures.admits early has in
     let schema : HasArchive known.now.schema = admit_schema c.args.entry.now old.now known.now admits has in
     let (last, keeps, marks) = c.in_ok-end.ensures.kept late schema in
-    let is : HasArchive marked.now.schema = marked_schema _ _ _ _ _ c.args.start _ known.now last marked.now c.in_ok-end.end keeps marks schema in
+    let is : HasArchive marked.now.schema = marked_schema _ _ _ c.args.start _ known.now last marked.now c.in_ok-end.end keeps marks schema in
     let first = admitted_stays c.args.entry.now old.now known.now admits in
-    let second = all_then known.now.trees last.trees marked.now.trees (begun_stays _ _ _ _ _ (Ok c.args.start) _ known.now last c.in_ok-end.end keeps)
+    let second = all_then known.now.trees last.trees marked.now.trees (begun_stays _ _ _ (Ok c.args.start) _ known.now last c.in_ok-end.end keeps)
     (marks_stay c.args.start.begins_at c.in_ok-end.end last marked.now marks) in
     stays_then old marked new (all_then old.now.trees known.now.trees marked.now.trees first second)
     (stays_then old known marked first (c.admit.ensures.stays has) (same_after known marked (c.keep_and_mark.ensures.stays late schema))) (c.renew.ensures.stays is)
@@ -59,9 +60,9 @@ returns-clause-stays g c clean has =
     let admits = c.in_ok-admit.ensures.admits early has in
     let schema : HasArchive known.now.schema = admit_schema c.args.entry.now old.now known.now admits has in
     let (last, keeps, marks) = c.in_ok-end.ensures.kept late schema in
-    let is : HasArchive marked.now.schema = marked_schema _ _ _ _ _ c.args.start _ known.now last marked.now c.in_ok-end.end keeps marks schema in
+    let is : HasArchive marked.now.schema = marked_schema _ _ _ c.args.start _ known.now last marked.now c.in_ok-end.end keeps marks schema in
     let first = admitted_stays c.args.entry.now old.now known.now admits in
-    let second = all_then known.now.trees last.trees marked.now.trees (begun_stays _ _ _ _ _ (Ok c.args.start) _ known.now last c.in_ok-end.end keeps)
+    let second = all_then known.now.trees last.trees marked.now.trees (begun_stays _ _ _ (Ok c.args.start) _ known.now last c.in_ok-end.end keeps)
     (marks_stay c.args.start.begins_at c.in_ok-end.end last marked.now marks) in
     stays_then old marked new (all_then old.now.trees known.now.trees marked.now.trees first second)
     (stays_then old known marked first (c.admit.ensures.stays has) (same_after known marked (c.keep_and_mark.ensures.stays late schema))) (c.renew.ensures.stays is)
@@ -90,15 +91,15 @@ returns-in_err-renew-clause-word g c clean has =
     let admits = c.in_ok-admit.ensures.admits early has in
     let schema : HasArchive known.now.schema = admit_schema c.args.entry.now old.now known.now admits has in
     let (last, keeps, marks) = c.in_ok-end.ensures.kept late schema in
-    let is : HasArchive marked.now.schema = marked_schema _ _ _ _ _ c.args.start _ known.now last marked.now c.in_ok-end.end keeps marks schema in
+    let is : HasArchive marked.now.schema = marked_schema _ _ _ c.args.start _ known.now last marked.now c.in_ok-end.end keeps marks schema in
     let rows = rows_of_same old.now.trees known.now.trees marked.now.trees (admitted_keeps c.args.entry.now old.now known.now admits)
-    (same_then known.now.trees last.trees marked.now.trees (begun_same _ _ _ _ _ (Ok c.args.start) _ known.now last c.in_ok-end.end keeps)
+    (same_then known.now.trees last.trees marked.now.trees (begun_same _ _ _ (Ok c.args.start) _ known.now last c.in_ok-end.end keeps)
     (marks_same c.args.start.begins_at c.in_ok-end.end last marked.now marks)) in
     leaves_word old marked new _ _
     (rows_then old known marked (admitted_keeps c.args.entry.now old.now known.now admits) (c.admit.ensures.rows has) (c.keep_and_mark.ensures.stays late schema))
     (λ _ db left. elim left [
       | inl is ↦ inl (subst (HasRows old.now.trees) (sym is) rows)
-      | inr made ↦ inr (made.0, (c.keep_and_mark.new.link, c.in_ok-end.end, (known.now, admits, last, keeps, marked.now, marks, made.1)), made.2)
+      | inr made ↦ inr (made.0, (client c.keep_and_mark.new.link c.keep_and_mark.new.transactions, c.in_ok-end.end, (known.now, admits, last, keeps, marked.now, marks, made.1)), made.2)
     ])
     (c.renew.ensures.crash is)
 
@@ -113,15 +114,15 @@ returns-clause-word g c clean has =
     let admits = c.in_ok-admit.ensures.admits early has in
     let schema : HasArchive known.now.schema = admit_schema c.args.entry.now old.now known.now admits has in
     let (last, keeps, marks) = c.in_ok-end.ensures.kept late schema in
-    let is : HasArchive marked.now.schema = marked_schema _ _ _ _ _ c.args.start _ known.now last marked.now c.in_ok-end.end keeps marks schema in
+    let is : HasArchive marked.now.schema = marked_schema _ _ _ c.args.start _ known.now last marked.now c.in_ok-end.end keeps marks schema in
     let rows = rows_of_same old.now.trees known.now.trees marked.now.trees (admitted_keeps c.args.entry.now old.now known.now admits)
-    (same_then known.now.trees last.trees marked.now.trees (begun_same _ _ _ _ _ (Ok c.args.start) _ known.now last c.in_ok-end.end keeps)
+    (same_then known.now.trees last.trees marked.now.trees (begun_same _ _ _ (Ok c.args.start) _ known.now last c.in_ok-end.end keeps)
     (marks_same c.args.start.begins_at c.in_ok-end.end last marked.now marks)) in
     leaves_word old marked new _ _
     (rows_then old known marked (admitted_keeps c.args.entry.now old.now known.now admits) (c.admit.ensures.rows has) (c.keep_and_mark.ensures.stays late schema))
     (λ _ db left. elim left [
       | inl is ↦ inl (subst (HasRows old.now.trees) (sym is) rows)
-      | inr made ↦ inr (made.0, (c.keep_and_mark.new.link, c.in_ok-end.end, (known.now, admits, last, keeps, marked.now, marks, made.1)), made.2)
+      | inr made ↦ inr (made.0, (client c.keep_and_mark.new.link c.keep_and_mark.new.transactions, c.in_ok-end.end, (known.now, admits, last, keeps, marked.now, marks, made.1)), made.2)
     ])
     (c.renew.ensures.crash is)
 

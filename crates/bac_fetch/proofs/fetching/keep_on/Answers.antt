@@ -5,13 +5,14 @@ use Rattle.sqlite.specs.State.{HasCleanDisk}
 use Rattle.sqlite.specs.Held.{state}
 use Rattle.bac_archive.specs.Schema.{HasArchive}
 use Rattle.bac_archive.proofs.RowsLemmas.{because}
-use Rattle.bac_link.specs.Path.{towards}
+use Rattle.bac_query.specs.Tables.{client}
+use Rattle.bac_keep.specs.Rising.{free_after}
 use Rattle.bac_keep.specs.declared.keep.NotKept.TheVariants.{NoArchive}
 use Rattle.bac_fetch.specs.Fetched.{ComesFrom, IsEndingOf, IsLeftBy, IsRunTo}
 use Rattle.bac_fetch.specs.Keeps.{KeepsFrom}
 use Rattle.bac_fetch.specs.Stays.{HasSameLogs}
 use Rattle.bac_fetch.proofs.CausesLemmas.{never}
-use Rattle.bac_fetch.proofs.EndsLemmas.{before_left, before_steps, comes_from, either_way, keeps_from}
+use Rattle.bac_fetch.proofs.EndsLemmas.{both, comes_from, comes_unkept, either_way, keeps_from}
 use Rattle.bac_fetch.proofs.GroupLemmas.{commit_leaves}
 use Rattle.bac_fetch.proofs.SameLemmas.{adds_same, same_itself, same_quiet_last, same_stays_then, survives_as}
 use Rattle.bac_fetch.proofs.fetching.keep_on.Goals as goal
@@ -41,13 +42,13 @@ returns-clause-kept g c clean has =
 pub returns-clause-came : goal.returns-clause-came
 returns-clause-came g c clean has =
     let asks = g.L.LogLink.asks in
-    let transactions = c.args.transactions.now in
     let run = c.keep_log-run.result in
     let place = c.args.place in
+    let free = c.args.free in
     let walk = c.args.walk in
     let step = c.args.step in
-    let link = c.args.link.now in
-    let left = c.keep_log-run.new.link in
+    let before = client c.args.link.now c.args.transactions.now in
+    let left = client c.keep_log-run.new.link c.keep_log-run.new.transactions in
     let old = state g.A.Store c.args.conn.now in
     let first = state g.A.Store c.commit.new.conn in
     let mid = state g.A.Store c.keep_log-run.new.conn in
@@ -56,18 +57,19 @@ returns-clause-came g c clean has =
     let same : new.now ≡ mid.now = c.in_ok-look_at.ensures.same clean in
     let still : first.now ≡ old.now = c.in_ok-commit.ensures.same (omega (arith, early, c.keep_log-run.ensures.crash_over.clean)) in
     let schema : HasArchive first.now.schema = subst (λ (d : Database). HasArchive d.schema) (sym still) has in
+    let cause = c.keep_log-run.ensures.cause early schema in
     IfOk-weaker c.end_of.result _ _ (λ end told.
-    subst (λ (d : Database). ComesFrom asks (towards transactions.route) transactions.retries link left place walk step c.args.steps d new.now end) still
-    (subst (λ (d : Database). ComesFrom asks (towards transactions.route) transactions.retries link left place walk step c.args.steps first.now d end) (sym same)
-    (either_way run.end _ _ _ _ (c.keep_log-run.ensures.brought early schema) (c.in_ok-look_at.ensures.open clean) (λ shown. c.keep_log-run.ensures.stands_over early shown schema)
+    subst (λ (d : Database). ComesFrom asks before left place free walk step c.args.steps d new.now end) still
+    (subst (λ (d : Database). ComesFrom asks before left place free walk step c.args.steps first.now d end) (sym same)
+    (either_way run.end _ _ _ _ (c.keep_log-run.ensures.transacted early schema) (c.in_ok-look_at.ensures.open clean) (λ shown. both run.end _ _ shown cause)
     (λ why is it.
     let walked = subst (λ r. IsEndingOf r end.why) is told.0 in
-    comes_from asks (towards transactions.route) transactions.retries place run.place first.now mid.now link left left walk it.2 step c.args.steps it.0 it.1 run.records run.gaps end it.5
-    (subst (λ w. IsRunTo w c.args.steps it.0 it.1) (sym walked) it.3) (subst (λ w. IsLeftBy w left left) (sym walked) refl) told.1 told.2 (it.4 ∙ sym told.3))
+    comes_from asks before left left place run.place free first.now mid.now walk it.2 step c.args.steps it.0 it.1 run.records run.gaps end it.5
+    (subst (λ w. IsRunTo w c.args.steps it.0 it.1) (sym walked) it.3)
+    (subst (λ w. IsLeftBy asks w run.place (free_after free it.5.over.items) it.2 left left) (sym walked) refl) told.1 told.2 (it.4 ∙ sym told.3))
     (λ error is it.
-    let ended = subst (λ r. IsEndingOf r end.why) is told.0 in
-    comes_from asks (towards transactions.route) transactions.retries place run.place first.now mid.now link it.1 left walk it.2 step c.args.steps it.0 _ run.records run.gaps end it.5
-    (before_steps error end.why c.args.steps it.0 ended it.3) (before_left error end.why it.1 left ended) told.1 told.2 (it.4 ∙ sym told.3)))))
+    comes_unkept asks before left place run.place free g.A.Store c.commit.new.conn c.keep_log-run.new.conn walk step c.args.steps run.next run.records run.gaps error end it.1 it.0
+    (subst (λ r. IsEndingOf r end.why) is told.0) told.1 told.2 told.3))))
     c.end_of.ensures.end
 
 pub returns-clause-stays : goal.returns-clause-stays

@@ -22,6 +22,7 @@ loop-log-preserved g c =
     record {
       asks = c.in_ok-add_kept.ensures.asks was.asks;
       by = c.in_ok-add_kept.ensures.by was.by;
+      nameless = c.in_ok-add_kept.ensures.nameless was.nameless;
       sources = c.in_ok-add_kept.ensures.added ∙ ap (λ (l : List Source). l ++ map of_log (not_stopped (log ∷ []))) was.sources
           ∙ sym (ap (map of_log) more ∙ map-append of_log (not_stopped c.loop-log.yielded) (not_stopped (log ∷ [])));
     }

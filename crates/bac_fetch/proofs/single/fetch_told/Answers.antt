@@ -1,6 +1,7 @@
 use Rattle.std.proofs.Common.{inl, rules}
-use Rattle.bac_fetch.proofs.CausesLemmas.{rows_leave}
+use Rattle.bac_fetch.proofs.CausesLemmas.{rows_leave, shut_log}
 use Rattle.bac_archive.proofs.RowsLemmas.{because}
+use Rattle.bac_ports.specs.Sockets.{socket_rules}
 use Rattle.bac_fetch.proofs.single.fetch_told.Goals as goal
 
 pub returns-in_err-tell_end-clause-undone : goal.returns-in_err-tell_end-clause-undone
@@ -13,7 +14,11 @@ returns-in_err-tell_end-clause-fault g c =
 
 pub returns-in_err-tell_end-clause-caused : goal.returns-in_err-tell_end-clause-caused
 returns-in_err-tell_end-clause-caused g c clean has =
-    because c.from_residual-in_err-tell_end.result c.in_err-tell_end.field-0.0 _ (search rules) (inl c.in_err-tell_end.ensures.caused)
+    let over = socket_rules g.S.Sockets.opens g.S.Sockets.closes g.S.Socket.Port.sends g.S.Socket.Port.receives g.S.Socket.Port.receives_within in
+    because c.from_residual-in_err-tell_end.result c.in_err-tell_end.field-0.0 _ (search rules) (inl (
+      c.in_err-tell_end.ensures.caused,
+      shut_log over c.args.asking c.args.sockets.now c.fetch-fetched.new.sockets c.args.entry.now _ _ _ _ (c.in_ok-end.ensures.kept clean has),
+    ))
 
 pub returns-clause-kept : goal.returns-clause-kept
 returns-clause-kept g c clean has = c.in_ok-end.ensures.kept clean has

@@ -12,7 +12,7 @@ use Rattle.bac_fetch.specs.Causes.{EndsFetch}
 use Rattle.bac_fetch.specs.Faults.{EndsRun, IsNoInstance}
 use Rattle.bac_ahead.specs.Ahead.{trend_log}
 use Rattle.bac_fetch.specs.Keeps.{KeepsLog}
-use Rattle.bac_fetch.proofs.CausesLemmas.{entry_leaves, leaves_behind, rows_leave}
+use Rattle.bac_fetch.proofs.CausesLemmas.{entry_leaves, leaves_behind, rows_leave, shut_log}
 use Rattle.bac_fetch.proofs.StaysLemmas.{quiet_first, quiet_stays}
 use Rattle.bac_archive.specs.Schema.{HasArchive}
 use Rattle.bac_archive.proofs.RowsLemmas.{because}
@@ -84,7 +84,7 @@ returns-clause-stays g c clean has =
 pub returns-in_err-entry-clause-caused : goal.returns-in_err-entry-clause-caused
 returns-in_err-entry-clause-caused g c clean has =
     because c.from_residual.result c.in_err-entry.field-0.0 _ (search rules) (elim (c.in_err-entry.ensures.caused clean has) [
-      | inl rows ↦ inl (inl rows)
+      | inl rows ↦ inl (inl (rows, inl refl))
       | inr lacks ↦ inr (lacks, refl)
     ])
 
@@ -137,4 +137,11 @@ returns-in_err-add_heard-clause-fault g c =
 
 pub returns-in_err-add_heard-clause-caused : goal.returns-in_err-add_heard-clause-caused
 returns-in_err-add_heard-clause-caused g c clean has =
-    because c.from_residual-in_err-add_heard.result c.in_err-add_heard.field-0.0 _ (search rules) (inl (inl (inl c.in_err-add_heard.ensures.fault)))
+    let old = state g.A.Store c.args.conn.now in
+    let mid = state g.A.Store c.enter.new.conn in
+    let early : HasCleanDisk mid = c.fetch_told.ensures.clean clean in
+    let same : mid.now ≡ old.now = c.in_ok-entry.ensures.same early has in
+    let schema : HasArchive mid.now.schema = subst (λ (d : Database). HasArchive d.schema) (sym same) has in
+    let over = socket_rules g.S.Sockets.opens g.S.Sockets.closes g.S.Socket.Port.sends g.S.Socket.Port.receives g.S.Socket.Port.receives_within in
+    let shut = shut_log over c.args.wanted.asking c.args.sockets.now c.fetch_told.new.sockets c.in_ok-entry.entry _ _ _ _ (c.in_ok-end.ensures.kept clean schema) in
+    because c.from_residual-in_err-add_heard.result c.in_err-add_heard.field-0.0 _ (search rules) (inl (inl (inl c.in_err-add_heard.ensures.fault, shut)))

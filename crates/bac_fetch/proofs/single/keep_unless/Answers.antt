@@ -62,7 +62,7 @@ returns-in-None-clause-caused g c clean has =
 
 pub returns-in-Some-clause-caused : goal.returns-in-Some-clause-caused
 returns-in-Some-clause-caused g c clean has =
-    IfErr-weaker c.pass_by.result _ _ (λ fault it. (_, c.log_among-log.ensures, inl (inl it))) (c.pass_by.ensures.caused clean has)
+    IfErr-weaker c.pass_by.result _ _ (λ fault it. (_, c.log_among-log.ensures, inl (inl (it, inl refl)))) (c.pass_by.ensures.caused clean has)
 
 pub returns-in-Some-clause-undone : goal.returns-in-Some-clause-undone
 returns-in-Some-clause-undone g c clean has =

@@ -22,9 +22,19 @@ returns-clause-gathered g c =
 
 pub returns-clause-transacted : goal.returns-clause-transacted
 returns-clause-transacted g c =
+    let asks = g.L.LogLink.asks in
+    let t = c.args.transactions.now in
+    let link = c.args.link.now in
+    let walk = c.args.walk.now in
+    let answer = c.ask_next-answer.result in
+    let after = c.ask_next-answer.new.walk in
+    let left = c.ask_next-answer.new.link in
+    let turn = c.ask_next-answer.ensures.came in
     let put = c.in_ok-ended.ensures.put in (
-      c.ask_next-answer.result,
-      c.ask_next-answer.ensures.came,
-      is_gathered c.args.place c.args.free c.ask_next-answer.result c.nothing_from-pending.result c.put_answer.new.pending c.in_ok-ended.ended
+      answer,
+      turn,
+      c.ask_next-answer.ensures.begins,
+      is_gathered c.args.place c.args.free answer c.nothing_from-pending.result c.put_answer.new.pending c.in_ok-ended.ended
           c.nothing_from-pending.ensures.place c.nothing_from-pending.ensures.none c.nothing_from-pending.ensures.rows put.0 put.1,
+      once_goes asks (towards t.route) t.retries link walk answer after left (asks_once asks t link walk answer after left turn),
     )

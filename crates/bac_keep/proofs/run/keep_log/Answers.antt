@@ -315,9 +315,9 @@ returns-in-Err-clause-cause g c clean has =
     let there = still_archive (c.loop-done.invariant.transacted early has) has in
     let up_to = c.loop-done.invariant.behind early has in
     let why = c.in-Err.ensures.cause clean there in
-    unkept_at g.L.LogLink.asks c.args.transactions.now c.loop-done.transactions c.args.place c.loop-done.place c.keep_next.new.place c.args.free c.loop-done.free g.S.Store c.args.conn.now c.loop-done.conn
+    unkept_at g.L.LogLink.asks c.args.transactions.now c.loop-done.transactions c.keep_next.new.transactions c.args.place c.loop-done.place c.keep_next.new.place c.args.free c.loop-done.free g.S.Store c.args.conn.now c.keep_next.new.conn c.loop-done.conn
     c.args.link.now c.loop-done.link c.keep_next.new.link c.args.walk c.loop-done.walk c.keep_next.new.walk c.args.steps c.loop-done.done _ c.loop-done.records c.loop-done.gaps c.in-Err.error
-    (omega (arith, c.loop-done-test.true)) (λ e. (c.loop-done.invariant.none e).0) c.loop-done.invariant.ended (sym c.next_number-next.ensures.next) c.in-Err.ensures.stays c.loop-done.invariant.route c.loop-done.invariant.retries up_to why
+    (omega (arith, c.loop-done-test.true)) (λ e. (c.loop-done.invariant.none e).0) c.loop-done.invariant.ended (sym c.next_number-next.ensures.next) (λ is_open. (c.in-Err.ensures.neither clean is_open).0) c.in-Err.ensures.stays up_to why
 
 pub returns-in-Err-clause-foreign : goal.returns-in-Err-clause-foreign
 returns-in-Err-clause-foreign g c foreign some = elim (eq-zero-or-pos c.loop-done.done) [

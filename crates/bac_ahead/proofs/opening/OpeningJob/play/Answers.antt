@@ -1,5 +1,6 @@
 use Rattle.std.proofs.Common.{◌≡◌, ◌≤◌, inl, inr, refl, arith}
 use Rattle.std.proofs.lemmas.Result.{IfOk-weaker}
+use Rattle.bac_questions.specs.Connecting.{transactions_with}
 use Rattle.bac_ahead.specs.Ahead.{trend_log}
 use Rattle.bac_ahead.proofs.Asked.{asks_as}
 use Rattle.bac_ahead.proofs.opening.OpeningJob.play.Goals as goal
@@ -18,9 +19,9 @@ returns-in-Ok c =
     (λ turn it. inr (
       c.new-link.result,
       c.ask.new.link,
+      c.ask.new.transactions,
       (c.new-link.ensures.outcomes, c.new-link.ensures.wet),
-      asks_as opening _ opening.route _ 0 c.in-Some.log (trend_log opening.source.instance) c.new-link.result c.ask.new.link t.ensures.route t.ensures.retries
-          log c.in-Ok.ensures.asks,
+      asks_as opening _ (transactions_with 0 opening.route) c.in-Some.log (trend_log opening.source.instance) c.new-link.result _ t.ensures log c.in-Ok.ensures.asks,
       it,
     ))
     c.turn_by.ensures
