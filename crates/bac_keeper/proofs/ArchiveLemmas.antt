@@ -1,28 +1,17 @@
 -- What is kept in an archive, and that nothing of it is lost.
-use Rattle.std.proofs.Common.{◌≡◌, ◌⊎◌, ◌∙◌, inl, inr, ℕ, IsTrue, List, ap, refl, subst, sym}
+use Rattle.std.proofs.Common.{◌≡◌, ◌∙◌, inl, inr, ℕ, List, ap, subst, sym}
 use Rattle.std.specs.List.{Contains}
 use Rattle.sqlite.specs.Effect.{Database}
 use Rattle.sqlite.specs.State.{HasCleanDisk, State, Survives}
 use Rattle.sqlite_trees.specs.Tree.{Trees}
-use Rattle.sqlite.specs.Held.{Held as Connected, state}
-use Rattle.sqlite.specs.declared.error.Error.{Error}
-use Rattle.sqlite.specs.declared.error.Error.TheVariants.{SqliteFailure}
-use Rattle.sqlite.specs.declared.error.ErrorCode.TheVariants.{OutOfMemory}
-use Rattle.sqlite_trees.specs.declared.store.Store.{Ghosts}
-use Rattle.bac_archive.specs.declared.opening.Refused.TheVariants as refused
-use Rattle.bac_asked.specs.Faults.{of_error}
-use Rattle.bac_check.specs.Asked.{IsAsLeft}
-use Rattle.bac_check.specs.declared.tally.Uncounted.{Uncounted}
-use Rattle.bac_check.specs.declared.tally.Uncounted.TheVariants as uncounted
-use Rattle.bac_archive.specs.Schema.{HasArchive, no_schema}
-use Rattle.bac_keeper.specs.Ends.{IsNoArchive, uncounted_fault}
 use Rattle.bac_asked.specs.declared.end.End.{End}
 use Rattle.bac_asked.specs.declared.wanted.Wanted.{Wanted}
 use Rattle.bac_fetch.proofs.StaysLemmas.{all_itself}
 use Rattle.bac_fetch.specs.Ahead.{AtOnce}
 use Rattle.bac_fetch.specs.Stays.{HasAllOf}
 use Rattle.bac_fetch.specs.declared.keeping.Chosen.{Chosen}
-use Rattle.bac_keeper.specs.Archives.{HasSameItems, KeepsRows, LeavesOthers, LosesNothing}
+use Rattle.bac_offline.specs.Archives.{HasSameItems, KeepsItems, KeepsRows}
+use Rattle.bac_keeper.specs.Archives.{LosesNothing}
 use Rattle.bac_keeper.specs.Done.{TellsThese}
 use Rattle.bac_ports.specs.Sockets.{SocketRules}
 use Rattle.bac_print.specs.Output.{Held}
@@ -35,26 +24,13 @@ tells_weaker rules by chosen sockets before after kept told status f it =
     let ends = it.5 in
     (it.0, it.1, it.2, it.3, it.4, (ends.0, ends.1, ends.2, ends.3, f it.0 it.2 ends.0 ends.4))
 
--- a database that is taken as an archive is no other one
-pub taken_fits : (found left : Database) → HasArchive found.schema ⊎ (found.schema ≡ no_schema) → LeavesOthers found left
-taken_fits found left fit = λ other some. elim fit [ inl has ↦ absurd (other has) | inr none ↦ absurd (some none) ]
-
 -- the same items are there, and none is lost
 pub all_of_items : (a b : Trees) → HasSameItems a b → HasAllOf a b
-all_of_items a b it = record { items = λ row at. subst (λ rows. Contains rows row) (sym it.items) at; logs = it.logs }
-
-pub items_themselves : (a : Trees) → HasSameItems a a
-items_themselves a = record { items = refl; logs = (all_itself a).logs }
-
--- what is committed behind an archive that was found has its items
-pub keeps_items : (found archive last : State) → (found.committed ≡ found.now) → (archive.committed ≡ archive.now) → (archive.now ≡ found.now)
-    → ((db : Trees) → archive.may_leave db → db ≡ archive.committed.trees) → last.may_leave last.committed.trees → HasCleanDisk last
-    → Survives archive last (HasSameItems archive.now.trees) → HasSameItems found.now.trees last.committed.trees
-keeps_items found archive last was settled same only may clean survives =
-    subst (λ (d : Database). HasSameItems d.trees last.committed.trees) same (elim (survives.crash clean last.committed.trees may) [
-      | inl left ↦ subst (HasSameItems archive.now.trees) (ap (λ (d : Database). d.trees) (sym settled) ∙ sym (only last.committed.trees left)) (items_themselves archive.now.trees)
-      | inr all ↦ all
-    ])
+all_of_items a b it = record {
+  items = λ row at. subst (λ rows. Contains rows row) (sym it.items) at;
+  beginnings = λ row at. subst (λ rows. Contains rows row) (sym it.beginnings) at;
+  logs = it.logs;
+}
 
 -- what is committed behind an archive that was found has all of it
 pub loses_nothing : (found archive last : State) → (found.committed ≡ found.now) → (archive.committed ≡ archive.now) → (archive.now ≡ found.now)
@@ -66,29 +42,10 @@ loses_nothing found archive last was settled same only may clean survives =
       | inr all ↦ all
     ])
 
--- what is committed behind an archive that was found has its rows, if nothing was committed
-pub keeps_rows : (found archive last : State) → (found.committed ≡ found.now) → (archive.committed ≡ archive.now) → (archive.now ≡ found.now)
-    → ((db : Trees) → archive.may_leave db → db ≡ archive.committed.trees) → last.may_leave last.committed.trees → HasCleanDisk last
-    → Survives archive last (λ _. ⊥) → last.committed.trees ≡ found.now.trees
-keeps_rows found archive last was settled same only may clean survives = elim (survives.crash clean last.committed.trees may) [
-  | inl left ↦ only last.committed.trees left ∙ ap (λ (d : Database). d.trees) (settled ∙ same)
-  | inr none ↦ absurd none
-]
+-- where the items stay nothing is lost
+pub items_stay : (found left : Database) → KeepsItems found left → LosesNothing found left
+items_stay found left it = ((λ has. all_of_items found.trees left.trees (it.0 has)), it.1)
 
--- where the rows stay nothing is lost
+-- nor where the rows stay
 pub rows_stay : (found left : Database) → KeepsRows found left → LosesNothing found left
 rows_stay found left it = ((λ has. subst (HasAllOf found.trees) (sym (it.0 has)) (all_itself found.trees)), it.1)
-
--- ---- an archive whose rows were counted
-
--- what is committed stays, also where the rows aren't counted
-pub still_committed : {S : Type 0} (g : Ghosts S) (a b : Connected S) → IsAsLeft g a b → IsTrue (state g b).is_open → (state g b).committed ≡ (state g a).committed
-still_committed g a b (inl none) is = ap (λ (h : Connected _). (state g h).committed) none
-still_committed g a b (inr (inl same)) is = same.0.committed_is
-still_committed g a b (inr (inr back)) is = (back.undone is).1
-
--- why they aren't: the database answers by an error, or the file is no archive
-pub uncounted_so : (held : Type 0) (found : Database) (why : Uncounted) → ((error : Error) × (uncounted_fault why ≡ of_error error)) ⊎ (held → IsNoArchive found (uncounted_fault why))
-uncounted_so held found uncounted.Overlap = inr (λ _. (refused.Overlap, tt, refl))
-uncounted_so held found uncounted.Memory = inl (SqliteFailure OutOfMemory, refl)
-uncounted_so held found (uncounted.Database error) = inl (error, refl)

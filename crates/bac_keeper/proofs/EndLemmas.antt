@@ -1,22 +1,12 @@
 -- How a tool ends.
-use Rattle.std.proofs.Common.{◌≡◌, ◌⊎◌, ◌∙◌, inl, inr, ℕ, Result, Ok, Err, IfErr, IfOk, OnOk, ap, subst, sym}
-use Rattle.std.specs.Result.{IsErrAnd}
-use Rattle.std.proofs.lemmas.Result.{err_from_is_err_and}
+use Rattle.std.proofs.Common.{◌≡◌, ◌⊎◌, inl, inr, ℕ, Result, Ok, Err, IfErr, IfOk, OnOk, subst, sym}
 use Rattle.bac_asked.specs.declared.end.NotDone.{NotDone}
 use Rattle.bac_asked.specs.declared.end.NotDone.TheVariants as done
 use Rattle.bac_asked.specs.declared.fault.Fault.{Fault}
 use Rattle.bac_asked.specs.declared.fault.Fault.TheVariants.{Memory}
 use Rattle.bac_asked.specs.declared.fault.FileFault.{FileFault}
-use Rattle.bac_keeper.specs.Ends.{EndsBy, IsOfFile, IsUntold, MayAsk, MayFail}
+use Rattle.bac_offline.specs.Ends.{EndsBy, IsOfFile, IsUntold, MayAsk, MayFail}
 use Rattle.bac_print.specs.Output.{Held}
-
--- what a `?` hands on
-pub err_is : {A E : Type 0} (r : Result A E) (e : E) → IsErrAnd r (λ given. given ≡ e) → r ≡ Err e
-err_is r e it = let given = err_from_is_err_and r it in given.1 ∙ ap Err given.2
-
--- what holds of an error holds of what a `?` hands on
-pub handed_on : {A E : Type 0} (r : Result A E) (e : E) (X : E → Type 0) → IsErrAnd r (λ given. given ≡ e) → X e → IfErr r X
-handed_on r e X it x = rw (err_is r e it) x
 
 -- what was done of words that name a file, by the status of it
 pub ended : (named : Type 0) (fails : FileFault → Type 0) (does : ℕ → Type 0) (r : Result ℕ NotDone) (result : Result ℕ Fault) → IfOk r does → OnOk r named → IfErr r (MayFail fails)

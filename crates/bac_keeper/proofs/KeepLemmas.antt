@@ -16,9 +16,9 @@ use Rattle.bac_archive.specs.Schema.{OverArchive, HasArchive}
 use Rattle.bac_asked.specs.AsLog.{Given}
 use Rattle.bac_fetch.proofs.CausesLemmas.{chosen_so}
 use Rattle.bac_fetch.proofs.FaultsLemmas.{ends_so}
-use Rattle.bac_keeper.specs.Archives.{IsHeld, IsTakenAs}
+use Rattle.bac_offline.specs.Archives.{IsHeld, IsTakenAs}
 use Rattle.bac_keeper.specs.Done.{RefusesKeep}
-use Rattle.bac_keeper.specs.Ends.{MayFail}
+use Rattle.bac_offline.specs.Ends.{MayFail}
 
 -- what ends for one reason ends for another
 pub keeping_so : {S P C : Type 0} (rules : SocketRules S P) (by : AtOnce S C) (N M A B : Type 0) → (N → M) → (A → B) → (which : Chosen) (before after : S) (fault : NotDone)

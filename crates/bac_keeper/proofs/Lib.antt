@@ -1,11 +1,6 @@
 pub mod ArchiveLemmas
 pub mod EndLemmas
 pub mod FileLemmas
-pub mod StopLemmas
 pub mod NamesLemmas
 pub mod SeekLemmas
 pub mod KeepLemmas
-pub mod PrintLemmas
-pub mod BegunLemmas
-pub mod PartedLemmas
-pub mod WorkLemmas

@@ -1,5 +1,5 @@
 -- The logs of one device after the other.
-use Rattle.std.proofs.Common.{◌≡◌, ◌⊎◌, List, [], ◌∷◌, ◌++◌, Vec, Global, refl}
+use Rattle.std.proofs.Common.{◌≡◌, ◌⊎◌, List, [], ◌∷◌, ◌++◌, None, Vec, Global, refl}
 use Rattle.std.specs.List.{AllZip, Contains}
 use Rattle.bac_asked.specs.AsLog.{Given}
 use Rattle.bac_asked.specs.Faults.{WantsMemory}
@@ -7,7 +7,8 @@ use Rattle.bac_asked.specs.Wanted.{AreNoOptions}
 use Rattle.bac_asked.specs.declared.end.NotDone.{NotDone}
 use Rattle.bac_fetch.specs.declared.keeping.Chosen.TheVariants.{Kept, Sought}
 use Rattle.bac_fetch.specs.declared.sought.Sought.{Sought as Seeking}
-use Rattle.bac_keeper.specs.Done.{ChoosesBy, ChoosesNoneBy, Seeks, SeeksNone}
+use Rattle.bac_keeper.specs.Done.{ChoosesBy, ChoosesNoneBy, Seeks}
+use Rattle.bac_offline.specs.Options.{SeeksNone}
 use Rattle.bac_words.specs.declared.group.Group.{Group}
 
 -- one more at the end of both
@@ -24,9 +25,9 @@ seeks_these [] given all some zip = absurd (some refl)
 seeks_these (group ∷ more) given all some zip = zip
 
 -- none is
-pub seeks_kept : (groups : List Group) (given : Given) → groups ≡ [] → ChoosesBy groups given Kept
-seeks_kept [] given none = tt
-seeks_kept (group ∷ more) given none = absurd (cc)
+pub seeks_kept : (groups : List Group) (given : Given) → groups ≡ [] → (given.dnet ≡ None) × (given.dadr ≡ None) → ChoosesBy groups given Kept
+seeks_kept [] given none wayless = wayless
+seeks_kept (group ∷ more) given none wayless = absurd (cc)
 
 -- the words of one device name no logs
 pub none_these : (groups : List Group) (given : Given) (fault : NotDone) → (groups ≡ [] → ⊥)

@@ -1,5 +1,5 @@
 -- What was done of the words of `bac keep`. Read from the end.
-use Rattle.std.specs.Prelude.{◌≡◌, ◌≢◌, ◌⊎◌, ℕ, Bool, List, [], ◌∷◌, codes, Option, None, Some, IfSome, IsSome}
+use Rattle.std.specs.Prelude.{◌≡◌, ◌≢◌, ◌⊎◌, ℕ, Bool, List, [], ◌∷◌, codes, None, Option, IfSome, IsSome}
 use Rattle.std.specs.List.{All, AllZip, Contains}
 use Rattle.clap.specs.Words.{Text}
 use Rattle.sqlite_disk.specs.declared.Disk as disk
@@ -7,7 +7,7 @@ use Rattle.sqlite_disk.specs.declared.Files.{Files}
 use Rattle.sqlite_wal.specs.Recovery.{Image}
 use Rattle.bac_asked.specs.AsLog.{Given, IsAskedBy, log_words}
 use Rattle.bac_asked.specs.Faults.{WantsMemory}
-use Rattle.bac_asked.specs.Wanted.{AddNamed, AreNoOptions, AreUnnamed, AsksItsSource, IsUnnamed}
+use Rattle.bac_asked.specs.Wanted.{AddNamed, AreNoOptions, AsksItsSource}
 use Rattle.bac_asked.specs.declared.end.End.{End}
 use Rattle.bac_asked.specs.declared.wanted.Wanted.{Wanted}
 use Rattle.bac_fetch.specs.Causes.{EndsRunOver}
@@ -26,32 +26,15 @@ use Rattle.bac_asked.specs.declared.fault.FileFault.{FileFault}
 use Rattle.bac_fetch.specs.Faults.{EndsKeeping}
 use Rattle.bac_files.specs.Files.{FileOf, IsDoneTo}
 use Rattle.bac_files.specs.declared.disk_files.DiskFiles.{DiskFiles}
-use Rattle.bac_keeper.specs.Archives.{IsTakenAs, KeepsArchive}
-use Rattle.bac_keeper.specs.Ends.{FailsOpened, IsNoArchive, IsNotOpened, IsUnclosedBySome}
+use Rattle.bac_keeper.specs.Archives.{KeepsArchive}
+use Rattle.bac_offline.specs.Archives.{IsTakenAs}
+use Rattle.bac_offline.specs.Ends.{FailsOpened, IsNoArchive, IsNotOpened, IsUnclosedBySome}
+use Rattle.bac_offline.specs.Options.{SeeksNone, given_for, given_of}
 use Rattle.bac_fetch.specs.Ahead.{AtOnce}
 use Rattle.bac_ports.specs.Sockets.{SocketRules}
 use Rattle.bac_print.specs.Output.{Held}
 use Rattle.bac_words.specs.declared.group.Group.{Group}
-use Rattle.bac_words.specs.declared.group.Way.{Way}
 use Rattle.bac_words.specs.declared.job.Keep.{Keep}
-use Rattle.bac_words.specs.declared.job.KeepOptions.{KeepOptions}
-
--- the options of `keep` as those by which a log is asked for
-abbrev pub given_of : KeepOptions → Given
-given_of options = record {
-  steps = options.steps;
-  count = options.count;
-  timeout = options.timeout;
-  local = options.local;
-  retries = options.retries;
-  dnet = options.dnet;
-  dadr = options.dadr;
-}
-
--- the options for a device: its own place behind a router, if it has one, goes before theirs
-abbrev pub given_for : Given → Option Way → Given
-given_for given None = given
-given_for given (Some way) = record given { dnet = Some way.dnet; dadr = Some way.dadr }
 
 -- With ADDRESS alone those of the device, which a line would name, each asked for as `bac log` with these words asks
 -- for log 0; with INSTANCEs the logs that they name, each once.
@@ -64,9 +47,10 @@ SeeksBy given address instances (Named all) = (instances ≢ []) × AddNamed add
 abbrev pub Seeks : Given → Group → Sought → Type 0
 Seeks given group = SeeksBy (given_for given group.way) group.address group.instances
 
--- with FILE alone those of the file; else those of each device that is named, in the order of the words
+-- with FILE alone those of the file, and no way to a device; else those of each device that is named, in the order of the
+-- words
 abbrev pub ChoosesBy : List Group → Given → Chosen → Type 0
-ChoosesBy [] given chosen.Kept = Unit {0}
+ChoosesBy [] given chosen.Kept = (given.dnet ≡ None) × (given.dadr ≡ None)
 ChoosesBy (group ∷ more) given (chosen.Sought sought) = AllZip (Seeks given) (group ∷ more) sought.items
 ChoosesBy _ _ _ = ⊥
 
@@ -121,16 +105,6 @@ abbrev pub FailsToKeep : {S P C F : Type 0} {s : start.Ghosts F} → SocketRules
 FailsToKeep rules by g image bars quiet keep path may before after files why = (which : Chosen) × Chooses keep which
     × ((quiet × IsNotOpened path may files why) ⊎ FailsOpened g image path may
     (RefusesKeep rules (by keep.at_once) bars quiet which (given_of keep.options) before after) files why)
-
--- why words name no logs of a device: `bac log` with them asks for none
-abbrev pub SeeksNoneBy : Given → Text → List Text → NotDone → Type 0
-SeeksNoneBy given address instances fault =
-    ((instances ≡ []) × IsUnnamed (log_words address (codes "0") given) fault)
-    ⊎ AreUnnamed address given instances fault
-
--- so it is by the words of a group
-abbrev pub SeeksNone : Given → Group → NotDone → Type 0
-SeeksNone given group = SeeksNoneBy (given_for given group.way) group.address group.instances
 
 -- Why words choose no logs: without ADDRESS the options are none; else those of one device name none, or memory is
 -- wanting.

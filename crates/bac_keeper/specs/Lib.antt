@@ -1,9 +1,3 @@
 pub mod Archives
-pub mod Ends
-pub mod Begun
 pub mod Done
-pub mod Shown
-pub mod Stops
 pub mod Places
-pub mod Parted
-pub mod Works

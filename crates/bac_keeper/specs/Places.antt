@@ -10,9 +10,9 @@ use Rattle.bac_files.specs.Parts.{IsPlaced}
 use Rattle.bac_files.specs.declared.disk_files.DiskFiles.{DiskFiles}
 use Rattle.bac_files.specs.declared.folder.Place.{Place}
 use Rattle.bac_fetch.specs.Ahead.{AtOnce}
-use Rattle.bac_keeper.specs.Begun.{BarsPart, BeginsOn}
 use Rattle.bac_keeper.specs.Done.{FailsToKeep, IsQuiet, KeepsIn}
-use Rattle.bac_keeper.specs.Ends.{IsNotOpened}
+use Rattle.bac_offline.specs.Begun.{BarsPart, BeginsOn}
+use Rattle.bac_offline.specs.Ends.{IsNotOpened}
 use Rattle.bac_ports.specs.Sockets.{SocketRules}
 use Rattle.bac_print.specs.Output.{Held}
 use Rattle.bac_words.specs.Groups.{are_any}

@@ -1,7 +1,7 @@
 //! `bac keep`: the logs that words name are kept in a file.
 
 ghost use Rattle.std.specs.Prelude.{◌≡◌, ◌⊎◌, ◌++◌, ◌∷◌, [], IfErr, IfOk, IfSome, IsTrue, OnOk};
-ghost use Rattle.std.specs.Prelude.{◌||◌, is_some, option_map};
+ghost use Rattle.std.specs.Prelude.{◌||◌, is_some};
 ghost use Rattle.std.specs.List.{All, AllZip, Contains};
 ghost use Rattle.std.specs.String.{string_bytes};
 ghost use Rattle.sqlite.specs.Held.{state};
@@ -12,71 +12,29 @@ ghost use Rattle.bac_asked.specs.Faults.{IsOfDatabase, WantsMemory, of_error};
 ghost use Rattle.bac_fetch.specs.Chosen.{AskOneSource, AskTheirSources};
 ghost use Rattle.bac_fetch.specs.Faults.{EndsKeeping};
 ghost use Rattle.bac_files.specs.Files.{IsDoneTo, IsNamed, IsUnused};
-ghost use Rattle.bac_keeper.specs.Archives.{IsHeld, KeepsArchive, LosesNothing};
-ghost use Rattle.bac_keeper.specs.Begun.{BarsPart, BeginsOn};
+ghost use Rattle.bac_offline.specs.Archives.{IsHeld, KeepsRows};
+ghost use Rattle.bac_keeper.specs.Archives.{KeepsArchive, LosesNothing};
+ghost use Rattle.bac_offline.specs.Begun.{BarsPart, BeginsOn};
 ghost use Rattle.bac_keeper.specs.Done.{Chooses, ChoosesNone, EndsKeep, EndsOver, FailsToKeep};
-ghost use Rattle.bac_keeper.specs.Done.{IsQuiet, KeepsIn, RefusesKeep, Seeks, SeeksBy, SeeksNone};
-ghost use Rattle.bac_keeper.specs.Done.{SeeksNoneBy, TellsThese, given_for, given_of};
-ghost use Rattle.bac_keeper.specs.Ends.{MayAsk, MayFail};
+ghost use Rattle.bac_keeper.specs.Done.{IsQuiet, KeepsIn, RefusesKeep, Seeks, SeeksBy};
+ghost use Rattle.bac_keeper.specs.Done.{TellsThese};
+ghost use Rattle.bac_offline.specs.Ends.{MayAsk, MayFail};
+ghost use Rattle.bac_offline.specs.Options.{SeeksNone, SeeksNoneBy, given_of};
 ghost use Rattle.bac_fetch.specs.Ahead.{at_once};
 ghost use Rattle.bac_ports.specs.Sockets.{socket_rules};
 ghost use Rattle.bac_words.specs.Groups.{are_any};
 
-use crate::archives::{close_file, open_file};
-use crate::begun::begin_archive;
 use bac_asked::{Fault, FileFault, NotDone, Options, check_options, named, named_all};
 use bac_desks::Clock;
 use bac_fetch::{Chosen, Sought, keep_chosen};
 use bac_files::{DiskFiles, FileOf, Place};
+use bac_offline::{begin_archive, close_file, open_file, options_for, options_of};
 use bac_recall::Recalls;
-use bac_words::{Group, Keep, KeepOptions, Name, Way};
+use bac_words::{Group, Keep, Name};
 use sqlite::{Alter, Connection, Error, ErrorCode, Start};
 use sqlite_disk::Disk;
 use std::alloc::Global;
 use std::io::Write;
-
-/// A text, if there is one.
-pub(crate) fn text_of(name: &Option<Name>) -> Option<&str>
-    ensures { option_map (λ s. s.now) result ≡ name.now }
-{
-    match name {
-        Some(name) => Some(name.as_str()),
-        None => None,
-    }
-}
-
-pub(crate) fn options_of(options: &KeepOptions) -> Options<'_>
-    ensures { given_in result ≡ given_of options.now }
-{
-    Options {
-        steps: text_of(&options.steps),
-        count: text_of(&options.count),
-        timeout: text_of(&options.timeout),
-        local: text_of(&options.local),
-        retries: text_of(&options.retries),
-        dnet: text_of(&options.dnet),
-        dadr: text_of(&options.dadr),
-    }
-}
-
-/// The options for a device, which may have its own place behind a router.
-pub(crate) fn options_for<'a>(options: &Options<'a>, way: &'a Option<Way>) -> Options<'a>
-    ensures { given_in result ≡ given_for (given_in options.now) way.now }
-{
-    let (dnet, dadr) = match way {
-        Some(way) => (Some(way.dnet.as_str()), Some(way.dadr.as_str())),
-        None => (options.dnet, options.dadr),
-    };
-    Options {
-        steps: options.steps,
-        count: options.count,
-        timeout: options.timeout,
-        local: options.local,
-        retries: options.retries,
-        dnet,
-        dadr,
-    }
-}
 
 /// The logs of one device that words name.
 fn seek_by(
@@ -178,10 +136,13 @@ where
         (given_in options.now) chosen all between sockets.new
         (BeginsOn ⟦<FileOf<G> as Disk>⟧ (image_at G.Start) place.old.before parts.new) ends
         (state A.Store conn.old).now (state A.Store conn.new).committed)) }
-    // Whatever comes of it, no item and no log is lost.
+    // Whatever comes of it, no item, no beginning and no log is lost.
     ensures stays { IsHeld (state A.Store conn.new)
         → (state A.Store conn.old).committed ≡ (state A.Store conn.old).now
         → LosesNothing (state A.Store conn.old).now (state A.Store conn.new).committed }
+    // The part before keeps its rows, whatever comes of it.
+    ensures part { IsUnused parts.old → IfSome parts.new.closed
+        (IsDoneTo ⟦<FileOf<G> as Disk>⟧ (image_at G.Start) KeepsRows) }
     ensures clean { HasCleanDisk (state A.Store conn.new) → HasCleanDisk (state A.Store conn.old) }
     ensures fault { IfErr result (MayFail (λ why. ((error : Error) × (why ≡ of_error error))
         ⊎ (IsHeld (state A.Store conn.new) → RefusesKeep
@@ -260,6 +221,9 @@ where
         files.new)) }
     ensures stays { IsUnused files.old → IfSome files.new.closed
         (IsDoneTo ⟦<FileOf<F> as Disk>⟧ (image_at F.Start) LosesNothing) }
+    // The part before keeps its rows, whatever comes of it.
+    ensures part { IsUnused parts.old → IfSome parts.new.closed
+        (IsDoneTo ⟦<FileOf<G> as Disk>⟧ (image_at G.Start) KeepsRows) }
     ensures ends { IfErr result (MayAsk (EndsKeep
         (socket_rules S.opens S.closes S.Socket.sends S.Socket.receives
         S.Socket.receives_within) (at_once S.holds C.reads clock)

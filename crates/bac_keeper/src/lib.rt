@@ -6,16 +6,9 @@
 //! come from anyone, and a file may have been written by anyone.
 #![tactic(auto)]
 
-mod archives;
-mod begun;
 mod keeping;
-mod parts;
-mod printing;
 mod program;
-mod stopping;
-mod works;
 
 pub use bac_asked::Fault;
 pub use bac_files::{DiskFiles, FolderFiles, Parts};
-pub use parts::Printer;
 pub use program::{run_keep, run_kept};

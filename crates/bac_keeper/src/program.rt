@@ -6,26 +6,25 @@ ghost use Rattle.std.specs.String.{string_bytes};
 ghost use Rattle.sqlite_wal.specs.Files.{image_at};
 ghost use Rattle.bac_files.specs.Files.{IsDoneTo, IsNamed, IsUnused};
 ghost use Rattle.bac_files.specs.Parts.{IsPlaced, Listing};
-ghost use Rattle.bac_keeper.specs.Archives.{KeepsItems, KeepsRows, LosesNothing};
-ghost use Rattle.bac_keeper.specs.Begun.{BarsPart, BeginsOn};
+ghost use Rattle.bac_offline.specs.Archives.{KeepsItems, KeepsRows};
+ghost use Rattle.bac_keeper.specs.Archives.{LosesNothing};
+ghost use Rattle.bac_offline.specs.Begun.{BarsPart, BeginsOn};
 ghost use Rattle.bac_keeper.specs.Done.{EndsKeep, FailsToKeep, IsQuiet, KeepsIn};
 ghost use Rattle.bac_keeper.specs.Places.{FailsAt, KeepsAt};
-ghost use Rattle.bac_keeper.specs.Ends.{EndsBy, IsNotOpened, IsOfFile, IsOfSomeFile, IsUntold};
-ghost use Rattle.bac_keeper.specs.Ends.{MayFail};
-ghost use Rattle.bac_keeper.specs.Parted.{IsNoFolder, PrintsFile, PrintsListed, PrintsOfFolder};
-ghost use Rattle.bac_keeper.specs.Shown.{EndsPrint};
-ghost use Rattle.bac_keeper.specs.Stops.{EndsStop, FailsToStopAt, StopsAt};
+ghost use Rattle.bac_offline.specs.Ends.{EndsBy, IsNotOpened, IsOfFile, IsOfSomeFile, IsUntold};
+ghost use Rattle.bac_offline.specs.Ends.{MayFail};
+ghost use Rattle.bac_offline.specs.Parted.{IsNoFolder, PrintsFile, PrintsListed, PrintsOfFolder};
+ghost use Rattle.bac_offline.specs.Shown.{EndsPrint};
+ghost use Rattle.bac_offline.specs.Stops.{EndsStop, FailsToStopAt, StopsAt};
 ghost use Rattle.bac_fetch.specs.Ahead.{at_once};
 ghost use Rattle.bac_ports.specs.Sockets.{socket_rules};
 ghost use Rattle.bac_words.specs.Groups.{are_any};
 
 use crate::keeping::keep;
-use crate::parts::kept_parts;
-use crate::printing::kept;
-use crate::stopping::stop;
 use bac_asked::{Fault, FileFault, NotDone};
 use bac_desks::Clock;
 use bac_files::{DiskFiles, FileOf, Parts, Place};
+use bac_offline::{kept, kept_parts, stop};
 use bac_recall::Recalls;
 use bac_words::{Keep, Kept};
 use sqlite::Start;
@@ -132,6 +131,9 @@ where
         sockets.old sockets.new files.new) status) }
     ensures stays { IsUnused files.old → IfSome files.new.closed
         (IsDoneTo ⟦<FileOf<F> as Disk>⟧ (image_at F.Start) LosesNothing) }
+    // The part before keeps its rows, whatever comes of it.
+    ensures part { IsUnused parts.old → IfSome parts.new.closed
+        (IsDoneTo ⟦<FileOf<G> as Disk>⟧ (image_at G.Start) KeepsRows) }
     ensures ends { IfErr result (λ why. EndsKeep (socket_rules S.opens S.closes S.Socket.sends
         S.Socket.receives S.Socket.receives_within) (at_once S.holds C.reads clock)
         ⟦<FileOf<F> as Disk>⟧ (image_at F.Start) asked.now sockets.old sockets.new files.new
@@ -191,9 +193,13 @@ where
     ensures untold { asked.now.stop ≡ true
         → OnErr result (E.contents errors.new ≡ E.contents errors.old) }
     ensures silent { asked.now.stop ≡ true → sockets.new ≡ sockets.old }
-    // Whatever comes of it, of an archive that the files held no item and no log is lost.
+    // Whatever comes of it, of an archive that the files held no item, no beginning and no log is
+    // lost.
     ensures stays { IsUnused files.old → IfSome files.new.closed
         (IsDoneTo ⟦<FileOf<F> as Disk>⟧ (image_at F.Start) LosesNothing) }
+    // The part before keeps its rows, whatever comes of it.
+    ensures part { IsUnused parts.old → IfSome parts.new.closed
+        (IsDoneTo ⟦<FileOf<G> as Disk>⟧ (image_at G.Start) KeepsRows) }
     // With `--stop` no item comes to it either.
     ensures items { asked.now.stop ≡ true → IsUnused files.old
         → IfSome files.new.closed (IsDoneTo ⟦<FileOf<F> as Disk>⟧ (image_at F.Start) KeepsItems) }

@@ -17,11 +17,11 @@ use Rattle.bac_fetch.specs.Ahead.{AtOnce}
 use Rattle.bac_heeding.specs.Notes.{nothing}
 use Rattle.bac_heeding.specs.declared.notes.Passed.{Passed}
 use Rattle.bac_keeper.specs.Done.{EndsKeep}
-use Rattle.bac_keeper.specs.Ends.{IsOfFile}
+use Rattle.bac_offline.specs.Ends.{IsOfFile}
 use Rattle.bac_keeper.specs.Places.{FailsAt, KeepsAt}
-use Rattle.bac_keeper.specs.Parted.{IsNoFolder, PrintsListed}
-use Rattle.bac_keeper.specs.Shown.{EndsPrint}
-use Rattle.bac_keeper.specs.Stops.{EndsStop, FailsToStopAt, StopsAt}
+use Rattle.bac_offline.specs.Parted.{IsNoFolder, PrintsListed}
+use Rattle.bac_offline.specs.Shown.{EndsPrint}
+use Rattle.bac_offline.specs.Stops.{EndsStop, FailsToStopAt, StopsAt}
 use Rattle.bac_ports.specs.Sockets.{SocketRules}
 use Rattle.bac_print.specs.Output.{Held}
 use Rattle.bac_run.specs.Faults.{ending_of, fault_of}
@@ -193,12 +193,12 @@ module _ {S P C F G T Q : Type 0} {s : start.Ghosts F} {t : start.Ghosts G} (rul
       → ((words : CheckWords) → asked ≡ job.Check words → ⊥)
       → RunsRead rules passes tells (Ok asked) old status new → (left ≡ files) × (q ≡ p) → DoesAll g h parts waits folders p q rules passes tells asked old files status new left
   other_done job.Replay none never apart ran same = (ran, same.0, same.1)
-  other_done (job.Wi stations min max dnet local timeout trace) none never apart ran same = (ran, same.0, same.1)
-  other_done (job.Rp asked object_type instance property index numbers trace) none never apart ran same = (ran, same.0, same.1)
-  other_done (job.Wp asked object_type instance property priority given index trace) none never apart ran same = (ran, same.0, same.1)
-  other_done (job.Log asked instance from steps count csv trace) none never apart ran same = (ran, same.0, same.1)
-  other_done (job.Logs asked instances trace) none never apart ran same = (ran, same.0, same.1)
-  other_done (job.Serve address count) none never apart ran same = (ran, same.0, same.1)
+  other_done (job.Wi words) none never apart ran same = (ran, same.0, same.1)
+  other_done (job.Rp words) none never apart ran same = (ran, same.0, same.1)
+  other_done (job.Wp words) none never apart ran same = (ran, same.0, same.1)
+  other_done (job.Log words) none never apart ran same = (ran, same.0, same.1)
+  other_done (job.Logs words) none never apart ran same = (ran, same.0, same.1)
+  other_done (job.Serve words) none never apart ran same = (ran, same.0, same.1)
   other_done (job.Keep words) none never apart ran same = absurd (none words refl)
   other_done (job.Kept words) none never apart ran same = absurd (never words refl)
   other_done (job.Check words) none never apart ran same = absurd (apart words refl)

@@ -1,26 +1,28 @@
 -- What the program does with its words: its streams, its sockets and its clock, and the files, before and now. Read
 -- from the end.
-use Rattle.std.specs.Prelude.{◌≡◌, ◌⊎◌, ℕ, Bool, true, false, List, Option, Result, Ok, Err}
+use Rattle.std.specs.Prelude.{◌≡◌, ◌⊎◌, ℕ, Bool, true, false, IfSome, List, Option, Result, Ok, Err}
 use Rattle.sqlite_disk.specs.declared.Disk as disk
 use Rattle.sqlite_disk.specs.declared.start.Start as start
 use Rattle.sqlite_wal.specs.Files.{image_at}
+use Rattle.sqlite.specs.Effect.{Database}
 use Rattle.bac_asked.specs.declared.end.NotDone.{NotDone}
 use Rattle.bac_asked.specs.declared.end.NotDone.TheVariants.{Asking}
 use Rattle.bac_asked.specs.declared.fault.Fault.{Fault as KeepFault}
 use Rattle.bac_asked.specs.declared.fault.Fault.TheVariants.{Memory as NoMemory, Write as Refused}
 use Rattle.bac_check.specs.Checked.{EndsCheck, RefusesCheck}
-use Rattle.bac_files.specs.Files.{FileOf}
+use Rattle.bac_files.specs.Files.{FileOf, IsDoneTo, IsUnused}
 use Rattle.bac_files.specs.Parts.{Listing, PartRules}
 use Rattle.bac_files.specs.declared.disk_files.DiskFiles.{DiskFiles}
 use Rattle.bac_fetch.specs.Ahead.{AtOnce}
 use Rattle.bac_heeding.specs.Notes.{nothing}
 use Rattle.bac_heeding.specs.declared.notes.Passed.{Passed}
+use Rattle.bac_offline.specs.Archives.{KeepsItems, KeepsRows}
 use Rattle.bac_keeper.specs.Done.{EndsKeep}
-use Rattle.bac_keeper.specs.Ends.{IsOfFile}
+use Rattle.bac_offline.specs.Ends.{IsOfFile}
 use Rattle.bac_keeper.specs.Places.{FailsAt, KeepsAt}
-use Rattle.bac_keeper.specs.Parted.{IsNoFolder, PrintsListed}
-use Rattle.bac_keeper.specs.Shown.{EndsPrint}
-use Rattle.bac_keeper.specs.Stops.{EndsStop, FailsToStopAt, StopsAt}
+use Rattle.bac_offline.specs.Parted.{IsNoFolder, PrintsListed}
+use Rattle.bac_offline.specs.Shown.{EndsPrint}
+use Rattle.bac_offline.specs.Stops.{EndsStop, FailsToStopAt, StopsAt}
 use Rattle.bac_ports.specs.Sockets.{SocketRules}
 use Rattle.std.specs.Io.KnownBytes.{Keeps}
 use Rattle.bac_print.specs.Output.{Held}
@@ -60,6 +62,11 @@ TellsFault ends passed said errors status =
 abbrev pub HasFaultStatus : (NotDone → Type 0) → ℕ → Type 0
 HasFaultStatus ends status =
     (why : KeepFault) × ends (Asking why) × ((status ≡ exit_status (fault_of why)) ⊎ (status ≡ exit_status Memory))
+
+-- what the files held, if they were closed, is left so
+abbrev pub Leaves : {F : Type 0} {s : start.Ghosts F} → disk.Ghosts (FileOf s) → (Database → Database → Type 0)
+    → DiskFiles F s → DiskFiles F s → Type 0
+Leaves {s = s} g does files left = IsUnused files → IfSome left.closed (IsDoneTo g (image_at s) does)
 
 module _ {S C F Q : Type 0} {s : start.Ghosts F} (g : disk.Ghosts (FileOf s)) (folders : PartRules Q) (p q : Q) where
   -- `kept` ends so, and its status is a fault's; unless parts were read, it alone is told on the errors
@@ -145,15 +152,16 @@ module _ {S C F G T : Type 0} {s : start.Ghosts F} {t : start.Ghosts G} (g : dis
 module _ {S C F G T Q : Type 0} {s : start.Ghosts F} {t : start.Ghosts G} (g : disk.Ghosts (FileOf s))
     (h : disk.Ghosts (FileOf t)) (parts : DiskFiles G t) (waits : ℕ → AtOnce S T) (folders : PartRules Q) (p q : Q)
   where
-    -- The tool of a job. `keep` works on files; `kept` and `check` read parts, too, and open no socket. Each other one
-    -- leaves the files alone.
+    -- The tool of a job. `keep` works on files, and with `--stop` keeps each item; `kept` and `check` read parts, too,
+    -- and open no socket, and `kept` keeps each row. Each other one leaves the files alone.
     abbrev pub DoesAll : {P : Type 0} → SocketRules S P → (S → Passed) → (C → Option CivilTime → C → Type 0) → Job →
         Streams S C → DiskFiles F s → ℕ → Streams S C → DiskFiles F s → Type 0
     DoesAll rules passes tells (job.Keep asked) old files status new left =
         RunsGroups g h parts waits rules passes (reads_input asked) asked old files status new left
-        × (new.clock ≡ old.clock) × (q ≡ p)
+        × (new.clock ≡ old.clock) × (q ≡ p) × (asked.stop ≡ true → Leaves g KeepsItems files left)
     DoesAll rules passes tells (job.Kept asked) old files status new left =
         RunsKept g folders p q asked old files status new left × IsStill old new × (new.sockets ≡ old.sockets)
+        × Leaves g KeepsRows files left
     DoesAll rules passes tells (job.Check asked) old files status new left =
         RunsCheck folders p q asked old status new × (left ≡ files) × IsStill old new × (new.sockets ≡ old.sockets)
     DoesAll rules passes tells other old files status new left = Runs rules passes tells other old status new

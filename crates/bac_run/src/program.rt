@@ -1,11 +1,12 @@
 //! All tools of the program.
 
-ghost use Rattle.std.specs.Prelude.{◌≡◌, [], map, None, IfSome};
+ghost use Rattle.std.specs.Prelude.{◌≡◌, [], map, None, IfSome, true};
 ghost use Rattle.std.specs.String.{string_bytes};
 ghost use Rattle.sqlite_wal.specs.Files.{image_at};
 ghost use Rattle.bac_files.specs.Files.{IsDoneTo, IsUnused};
 ghost use Rattle.bac_files.specs.Parts.{part_rules};
 ghost use Rattle.bac_keeper.specs.Archives.{LosesNothing};
+ghost use Rattle.bac_offline.specs.Archives.{KeepsItems, KeepsRows};
 ghost use Rattle.bac_fetch.specs.Ahead.{at_once};
 ghost use Rattle.bac_ports.specs.Sockets.{socket_rules};
 ghost use Rattle.bac_tools.specs.Run.{AnswersWords, AreWrong, AskFor, Ends, OnlyTells, wrong_fault};
@@ -84,8 +85,12 @@ where
         (streams None (O.contents output.old) (E.contents errors.old) sockets.old (tt {0})) result
         (streams None (O.contents output.new) (E.contents errors.new) sockets.new (tt {0}))
         files.new }
+    ensures items { asked.now.stop ≡ true → IsUnused files.old → IfSome files.new.closed
+        (IsDoneTo ⟦<FileOf<F> as Disk>⟧ (image_at F.Start) KeepsItems) }
     ensures stays { IsUnused files.old → IfSome files.new.closed
         (IsDoneTo ⟦<FileOf<F> as Disk>⟧ (image_at F.Start) LosesNothing) }
+    ensures part { IsUnused parts.old → IfSome parts.new.closed
+        (IsDoneTo ⟦<FileOf<G> as Disk>⟧ (image_at G.Start) KeepsRows) }
 {
     let done = run_keep(
         sockets, files, parts, alloc, waits, asked, counts, output, errors,
@@ -125,8 +130,12 @@ where
         sockets.old (tt {0})) files.old result
         (streams (I.remaining input.new) (O.contents output.new) (E.contents errors.new)
         sockets.new (tt {0})) files.new }
+    ensures items { asked.stop ≡ true → IsUnused files.old → IfSome files.new.closed
+        (IsDoneTo ⟦<FileOf<F> as Disk>⟧ (image_at F.Start) KeepsItems) }
     ensures stays { IsUnused files.old → IfSome files.new.closed
         (IsDoneTo ⟦<FileOf<F> as Disk>⟧ (image_at F.Start) LosesNothing) }
+    ensures part { IsUnused parts.old → IfSome parts.new.closed
+        (IsDoneTo ⟦<FileOf<G> as Disk>⟧ (image_at G.Start) KeepsRows) }
 {
     match listed_devices(alloc, input) {
         Ok(groups) => {
@@ -170,8 +179,12 @@ where
         sockets.old (tt {0})) files.old result
         (streams (I.remaining input.new) (O.contents output.new) (E.contents errors.new)
         sockets.new (tt {0})) files.new }
+    ensures items { asked.stop ≡ true → IsUnused files.old → IfSome files.new.closed
+        (IsDoneTo ⟦<FileOf<F> as Disk>⟧ (image_at F.Start) KeepsItems) }
     ensures stays { IsUnused files.old → IfSome files.new.closed
         (IsDoneTo ⟦<FileOf<F> as Disk>⟧ (image_at F.Start) LosesNothing) }
+    ensures part { IsUnused parts.old → IfSome parts.new.closed
+        (IsDoneTo ⟦<FileOf<G> as Disk>⟧ (image_at G.Start) KeepsRows) }
 {
     if asked.reads_input() {
         return keep_listed(
@@ -197,6 +210,8 @@ fn print_and_tell<F: Start, Q: Parts, O: Write, E: Write>(
         (streams None (O.contents output.old) (E.contents errors.old) (tt {0}) (tt {0})) files.old
         result
         (streams None (O.contents output.new) (E.contents errors.new) (tt {0}) (tt {0})) files.new }
+    ensures rows { IsUnused files.old → IfSome files.new.closed
+        (IsDoneTo ⟦<FileOf<F> as Disk>⟧ (image_at F.Start) KeepsRows) }
     ensures stays { IsUnused files.old → IfSome files.new.closed
         (IsDoneTo ⟦<FileOf<F> as Disk>⟧ (image_at F.Start) LosesNothing) }
 {
@@ -256,6 +271,8 @@ where
         clock.new) files.new }
     ensures stays { IsUnused files.old → IfSome files.new.closed
         (IsDoneTo ⟦<FileOf<F> as Disk>⟧ (image_at F.Start) LosesNothing) }
+    ensures part { IsUnused parts.old → IfSome parts.new.closed
+        (IsDoneTo ⟦<FileOf<G> as Disk>⟧ (image_at G.Start) KeepsRows) }
 {
     match job {
         Job::Keep(asked) => keep_job(
@@ -304,6 +321,8 @@ where
         clock.new) files.new }
     ensures stays { IsUnused files.old → IfSome files.new.closed
         (IsDoneTo ⟦<FileOf<F> as Disk>⟧ (image_at F.Start) LosesNothing) }
+    ensures part { IsUnused parts.old → IfSome parts.new.closed
+        (IsDoneTo ⟦<FileOf<G> as Disk>⟧ (image_at G.Start) KeepsRows) }
 {
     sockets.trace(job.is_traced());
     run_job(
@@ -354,10 +373,13 @@ where
         sockets.old clock.old) files.old result
         (streams (I.remaining input.new) (O.contents output.new) (E.contents errors.new)
         sockets.new clock.new) files.new }
-    // Whatever comes of it, of an archive that the files held no item and no log is lost, and a
-    // database that is none is left as it was.
+    // Whatever comes of it, of an archive that the files held no item, no beginning and no log is
+    // lost, and a database that is none is left as it was.
     ensures stays { IsUnused files.old → IfSome files.new.closed
         (IsDoneTo ⟦<FileOf<F> as Disk>⟧ (image_at F.Start) LosesNothing) }
+    // And of the part before it, if one is begun, each row stays as it is.
+    ensures part { IsUnused parts.old → IfSome parts.new.closed
+        (IsDoneTo ⟦<FileOf<G> as Disk>⟧ (image_at G.Start) KeepsRows) }
     // Of words with a wrong value this is told, and nothing else is done.
     ensures bad_value { (word : AnyWord) → AreWrong (map string_bytes words.now) word
         → (files.new ≡ files.old) × (folders.new ≡ folders.old)

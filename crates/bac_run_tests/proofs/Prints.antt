@@ -16,7 +16,7 @@ use Rattle.bac_files.specs.declared.not_opened.NotOpened.{NotOpened}
 use Rattle.bac_files.specs.declared.not_opened.NotOpened.TheVariants as why
 use Rattle.bac_fetch.specs.Ahead.{AtOnce}
 use Rattle.bac_heeding.specs.declared.notes.Passed.{Passed}
-use Rattle.bac_keeper.specs.Parted.{At, ComesTo, PrintsAll, PrintsListed, PrintsOfFolder, PrintsPath, PrintsPaths, ReadsBy, at_part, unclosed, unopened}
+use Rattle.bac_offline.specs.Parted.{At, ComesTo, PrintsAll, PrintsListed, PrintsOfFolder, PrintsPath, PrintsPaths, ReadsBy, at_part, unclosed, unopened}
 use Rattle.bac_ports.specs.Sockets.{SocketRules}
 use Rattle.bac_print.specs.Output.{Held}
 use Rattle.bac_run.specs.Run.{RunsAll, RunsKept}

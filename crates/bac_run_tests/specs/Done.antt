@@ -19,8 +19,9 @@ use Rattle.bac_files.specs.declared.disk_files.DiskFiles.{DiskFiles}
 use Rattle.bac_files.specs.declared.folder.Place.{Place}
 use Rattle.bac_fetch.specs.Ahead.{AtOnce}
 use Rattle.bac_keeper.specs.Archives.{KeepsArchive}
-use Rattle.bac_keeper.specs.Begun.{BeginsOn}
-use Rattle.bac_keeper.specs.Done.{Chooses, given_of}
+use Rattle.bac_offline.specs.Begun.{BeginsOn}
+use Rattle.bac_keeper.specs.Done.{Chooses}
+use Rattle.bac_offline.specs.Options.{given_of}
 use Rattle.bac_ports.specs.Sockets.{SocketRules}
 use Rattle.bac_print.specs.Output.{Held}
 use Rattle.bac_tools.specs.Finding.{IsListWithin}

@@ -3,9 +3,9 @@ use Rattle.std.specs.Prelude.{◌≡◌, ◌⊎◌, ℕ, List, [], ◌∷◌, �
 use Rattle.std.specs.Io.KnownBytes.{Appends, Keeps}
 use Rattle.csv.specs.Writing.{default_writer, row_text}
 use Rattle.bac_files.specs.Parts.{PartRules, Reading}
-use Rattle.bac_keeper.specs.Parted.{At, IsClean, PrintsFound, at_part}
-use Rattle.bac_keeper.specs.Shown.{Shows}
-use Rattle.bac_keeper.specs.declared.parts.Printer.{Printer}
+use Rattle.bac_offline.specs.Parted.{At, IsClean, PrintsFound, at_part}
+use Rattle.bac_offline.specs.Shown.{Shows}
+use Rattle.bac_offline.specs.declared.parts.Printer.{Printer}
 use Rattle.bac_kept.specs.Csv.{names}
 use Rattle.bac_kept.specs.declared.printing.Shown.{Shown}
 use Rattle.bac_print.specs.Output.{Held}

@@ -1,21 +1,23 @@
-use Rattle.std.proofs.Common.{◌≡◌, ◌∙◌, ◌⊎◌, List, [], arith, length, rules, subst, subst₂, sym}
+use Rattle.std.proofs.Common.{◌≡◌, ◌∙◌, ◌⊎◌, List, [], None, arith, length, rules, subst, subst₂, sym}
 use Rattle.std.proofs.lemmas.Bool.Decides.{nat_tests}
 use Rattle.std.proofs.lemmas.List.{nil_from_length}
 use Rattle.std.specs.List.{AllZip, Contains}
 use Rattle.bac_asked.specs.AsLog.{Given}
 use Rattle.bac_asked.specs.Faults.{WantsMemory}
 use Rattle.bac_asked.specs.Wanted.{AreNoOptions}
-use Rattle.bac_keeper.specs.Done.{Seeks, SeeksNone, given_of}
+use Rattle.bac_keeper.specs.Done.{Seeks}
+use Rattle.bac_offline.specs.Options.{SeeksNone, given_of}
 use Rattle.bac_keeper.proofs.SeekLemmas.{none_kept, none_these, seeks_kept, seeks_these}
 use Rattle.bac_words.specs.declared.group.Group.{Group}
 use Rattle.bac_keeper.proofs.keeping.choose.Goals as goal
-use Rattle.bac_keeper.proofs.EndLemmas.{handed_on}
+use Rattle.bac_offline.proofs.EndLemmas.{handed_on}
 
 pub returns-then-is_empty-clause-chosen : goal.returns-then-is_empty-clause-chosen
 returns-then-is_empty-clause-chosen c =
     let zero : length c.as_slice-groups.result.now ≡ 0 = first_of (omega arith, grind (arith, nat_tests)) in
     let none : c.as_slice-groups.result.now ≡ [] = nil_from_length _ zero in
     seeks_kept c.args.asked.now.groups (given_of c.args.asked.now.options) (sym c.as_slice-groups.ensures ∙ none)
+    (subst (λ (g : Given). (g.dnet ≡ None) × (g.dadr ≡ None)) c.requires c.in_ok-check_options.ensures.wayless)
 
 pub returns-clause-chosen : goal.returns-clause-chosen
 returns-clause-chosen c =
@@ -31,7 +33,7 @@ returns-in_err-check_options-clause-none c =
     let fault = c.in_err-check_options.field-0.0 in
     handed_on c.from_residual.result fault _ c.from_residual.ensures.1
     (none_kept c.args.asked.now.groups (given_of c.args.asked.now.options) fault (sym c.as_slice-groups.ensures ∙ none)
-    (subst (λ (g : Given). AreNoOptions g fault) c.requires c.in_err-check_options.ensures))
+    (subst (λ (g : Given). AreNoOptions g fault) c.requires c.in_err-check_options.ensures.fault))
 
 pub returns-in_err-seek_each-clause-none : goal.returns-in_err-seek_each-clause-none
 returns-in_err-seek_each-clause-none c =

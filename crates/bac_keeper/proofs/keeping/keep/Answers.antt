@@ -7,15 +7,18 @@ use Rattle.bac_fetch.specs.Ahead.{at_once}
 use Rattle.bac_ports.specs.Sockets.{socket_rules}
 use Rattle.bac_asked.specs.AsLog.{given_in}
 use Rattle.bac_fetch.specs.Faults.{EndsKeeping}
-use Rattle.bac_keeper.specs.Done.{EndsChosenKeep, EndsKeep, EndsOver, IsQuiet, RefusesKeep, given_of}
+use Rattle.bac_keeper.specs.Done.{EndsChosenKeep, EndsKeep, EndsOver, IsQuiet, RefusesKeep}
+use Rattle.bac_offline.specs.Options.{given_of}
 use Rattle.std.specs.String.{string_bytes}
-use Rattle.bac_keeper.specs.Begun.{BarsPart, BeginsOn}
-use Rattle.bac_keeper.specs.Ends.{IsNotOpened}
-use Rattle.bac_keeper.proofs.FileLemmas.{all_ask_so, all_fail, asks_file, ended_by, file_asks, done_named, fails_clean, fails_file, fails_so, keeps_in, loses_none, none_closed, refused_by}
+use Rattle.bac_offline.specs.Begun.{BarsPart, BeginsOn}
+use Rattle.bac_offline.specs.Ends.{IsNotOpened}
+use Rattle.bac_offline.proofs.FileLemmas.{all_ask_so, all_fail, file_asks, done_named, fails_clean, fails_file, fails_so, none_closed}
+use Rattle.bac_keeper.proofs.FileLemmas.{asks_file, ended_by, keeps_in, loses_none, refused_by}
 use Rattle.bac_words.specs.Groups.{are_any}
-use Rattle.bac_keeper.proofs.NamesLemmas.{asks_none, may_ask, never_fails}
+use Rattle.bac_keeper.proofs.NamesLemmas.{asks_none}
+use Rattle.bac_offline.proofs.NamesLemmas.{may_ask, never_fails}
 use Rattle.bac_keeper.proofs.keeping.keep.Goals as goal
-use Rattle.bac_keeper.proofs.EndLemmas.{handed_on}
+use Rattle.bac_offline.proofs.EndLemmas.{handed_on}
 
 pub returns-clause-kept : goal.returns-clause-kept
 returns-clause-kept g c =

@@ -5,24 +5,27 @@ use Rattle.sqlite.specs.Held.{state}
 use Rattle.sqlite.specs.State.{HasCleanDisk}
 use Rattle.bac_fetch.specs.Chosen.{AreChosen}
 use Rattle.bac_fetch.specs.Keeps.{KeepsLogs}
-use Rattle.bac_keeper.proofs.ArchiveLemmas.{loses_nothing, taken_fits, tells_weaker}
-use Rattle.bac_keeper.proofs.BegunLemmas.{not_both}
+use Rattle.bac_keeper.proofs.ArchiveLemmas.{loses_nothing, tells_weaker}
+use Rattle.bac_offline.proofs.ArchiveLemmas.{taken_fits}
+use Rattle.bac_offline.proofs.BegunLemmas.{not_both}
 use Rattle.bac_fetch.specs.Faults.{EndsKeeping, HasNone, LacksAddress}
-use Rattle.bac_keeper.specs.Archives.{IsHeld, KeepsArchive}
+use Rattle.bac_offline.specs.Archives.{IsHeld}
+use Rattle.bac_keeper.specs.Archives.{KeepsArchive}
 use Rattle.bac_archive.specs.Schema.{OverArchive, HasArchive, no_schema}
-use Rattle.bac_keeper.proofs.EndLemmas.{handed_on}
+use Rattle.bac_offline.proofs.EndLemmas.{handed_on}
 use Rattle.bac_keeper.specs.Done.{EndsOver, IsQuiet, TellsThese}
 use Rattle.bac_fetch.specs.Ahead.{at_once}
 use Rattle.bac_ports.specs.Sockets.{socket_rules}
 use Rattle.bac_asked.specs.AsLog.{given_in}
-use Rattle.bac_keeper.proofs.FileLemmas.{all_database_ask, all_database_fail, fails_so, file_asks}
+use Rattle.bac_keeper.proofs.FileLemmas.{all_database_ask, all_database_fail}
+use Rattle.bac_offline.proofs.FileLemmas.{fails_so, file_asks}
 use Rattle.bac_keeper.proofs.KeepLemmas.{keeping_so, refused_so}
-use Rattle.bac_keeper.proofs.NamesLemmas.{may_ask}
+use Rattle.bac_offline.proofs.NamesLemmas.{may_ask}
 use Rattle.bac_files.proofs.FileGhosts.{file_ghosts}
 use Rattle.sqlite_wal.specs.Files.{image_at}
 use Rattle.bac_fetch.proofs.StaysLemmas.{all_itself}
 use Rattle.bac_fetch.specs.Stays.{HasAllOf}
-use Rattle.bac_keeper.specs.Begun.{BarsPart, BeginsOn}
+use Rattle.bac_offline.specs.Begun.{BarsPart, BeginsOn}
 use Rattle.bac_keeper.proofs.keeping.keep_in.Goals as goal
 
 pub returns-clause-told : goal.returns-clause-told

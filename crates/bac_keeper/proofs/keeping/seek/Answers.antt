@@ -1,7 +1,8 @@
 use Rattle.std.proofs.Common.{IfErr, IfOk, List, subst, subst₂}
 use Rattle.clap.specs.Words.{Text}
 use Rattle.bac_asked.specs.AsLog.{Given, given_in}
-use Rattle.bac_keeper.specs.Done.{SeeksBy, SeeksNoneBy}
+use Rattle.bac_keeper.specs.Done.{SeeksBy}
+use Rattle.bac_offline.specs.Options.{SeeksNoneBy}
 use Rattle.bac_keeper.proofs.keeping.seek.Goals as goal
 
 pub returns-clause-seeks : goal.returns-clause-seeks

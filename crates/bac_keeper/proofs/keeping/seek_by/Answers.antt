@@ -2,7 +2,7 @@ use Rattle.std.proofs.Common.{◌≡◌, [], inl, inr, length, arith, rules}
 use Rattle.std.proofs.lemmas.Bool.Decides.{nat_tests}
 use Rattle.std.proofs.lemmas.List.{nil_from_length}
 use Rattle.bac_keeper.proofs.keeping.seek_by.Goals as goal
-use Rattle.bac_keeper.proofs.EndLemmas.{handed_on}
+use Rattle.bac_offline.proofs.EndLemmas.{handed_on}
 
 pub returns-then-is_empty-clause-seeks : goal.returns-then-is_empty-clause-seeks
 returns-then-is_empty-clause-seeks c =

@@ -9,7 +9,7 @@ use Rattle.bac_keeper.specs.Done.{Seeks}
 use Rattle.bac_keeper.proofs.SeekLemmas.{zip_push}
 use Rattle.bac_words.specs.declared.group.Group.{Group}
 use Rattle.bac_keeper.proofs.keeping.seek_each.Goals as goal
-use Rattle.bac_keeper.proofs.EndLemmas.{handed_on}
+use Rattle.bac_offline.proofs.EndLemmas.{handed_on}
 
 -- those that were taken and this one
 one_more : (groups : List Group) (i : ℕ) (group : Group) → i < length groups → group ≡ get_or groups i group → take (i + 1) groups ≡ take i groups ++ group ∷ []

@@ -1,7 +1,7 @@
 use Rattle.std.proofs.Common.{inl, refl, inr, false}
 use Rattle.bac_files.specs.Files.{IsNamed}
 use Rattle.bac_keeper.proofs.EndLemmas.{ended_untold, not_done}
-use Rattle.bac_keeper.specs.Shown.{EndsPrint}
+use Rattle.bac_offline.specs.Shown.{EndsPrint}
 use Rattle.bac_keeper.proofs.program.kept_file.Goals as goal
 
 pub returns-clause-printed : goal.returns-clause-printed

@@ -1,6 +1,6 @@
 use Rattle.std.proofs.Common.{map}
 use Rattle.std.specs.String.{string_bytes}
-use Rattle.bac_keeper.proofs.PartedLemmas.{folder_told}
+use Rattle.bac_offline.proofs.PartedLemmas.{folder_told}
 use Rattle.bac_keeper.proofs.program.kept_folder.Goals as goal
 
 pub returns-clause-printed : goal.returns-clause-printed

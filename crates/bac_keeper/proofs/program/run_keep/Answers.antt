@@ -1,9 +1,9 @@
 use Rattle.bac_files.proofs.FileGhosts.{file_ghosts}
 use Rattle.std.proofs.Common.{◌≡◌, inl, refl, inr, Err, ◌∙◌, subst}
 use Rattle.bac_words.specs.Groups.{are_any}
-use Rattle.bac_keeper.specs.Ends.{IsNotOpened}
+use Rattle.bac_offline.specs.Ends.{IsNotOpened}
 use Rattle.std.proofs.lemmas.Result.{IfOk-weaker}
-use Rattle.bac_keeper.proofs.FileLemmas.{fails_so, file_asks, none_closed}
+use Rattle.bac_offline.proofs.FileLemmas.{fails_so, file_asks, none_closed}
 use Rattle.sqlite_wal.specs.Files.{image_at}
 use Rattle.bac_keeper.proofs.EndLemmas.{ended_early, not_done}
 use Rattle.bac_fetch.specs.Ahead.{at_once}

@@ -4,9 +4,13 @@ use Rattle.sqlite_wal.specs.Files.{image_at}
 use Rattle.std.proofs.lemmas.Result.{IfOk-weaker}
 use Rattle.std.specs.String.{string_bytes}
 use Rattle.bac_files.specs.Files.{IsNamed}
+use Rattle.bac_keeper.proofs.ArchiveLemmas.{items_stay}
 use Rattle.bac_keeper.proofs.EndLemmas.{ended_early, ended_untold, not_done}
-use Rattle.bac_keeper.proofs.FileLemmas.{fails_so, file_asks, none_closed}
-use Rattle.bac_keeper.specs.Stops.{EndsStop, FailsToStop}
+use Rattle.bac_offline.proofs.FileLemmas.{fails_so, file_asks, none_closed}
+use Rattle.bac_keeper.specs.Archives.{LosesNothing}
+use Rattle.bac_offline.proofs.BegunLemmas.{done_so}
+use Rattle.bac_offline.specs.Archives.{KeepsItems}
+use Rattle.bac_offline.specs.Stops.{EndsStop, FailsToStop}
 use Rattle.bac_keeper.proofs.program.stop_at.Goals as goal
 
 pub returns-clause-stopped : goal.returns-clause-stopped
@@ -36,7 +40,9 @@ returns-clause-ends g c =
     not_done (EndsStop c.args.asked.now) done.result c.tell_done-2.result (inr (inl refl)) done.ensures.ends c.tell_done-2.ensures.why
 
 pub returns-clause-stays : goal.returns-clause-stays
-returns-clause-stays g c unused = c.stop-done.ensures.stays (c.place_of.ensures.kept ∙ unused)
+returns-clause-stays g c unused =
+    let disk = file_ghosts g.row.F g.F.Start g.F.Start-dict g.F.Destruct-dict in
+    done_so disk (image_at g.F.Start) KeepsItems LosesNothing items_stay c.stop-done.new.files.closed (c.stop-done.ensures.items (c.place_of.ensures.kept ∙ unused))
 
 pub returns-clause-items : goal.returns-clause-items
 returns-clause-items g c unused = c.stop-done.ensures.items (c.place_of.ensures.kept ∙ unused)

@@ -1,11 +1,12 @@
-use Rattle.std.proofs.Common.{Err, Ok, refl}
+use Rattle.std.proofs.Common.{◌≡◌, Err, Ok, refl, subst, sym, true}
 use Rattle.bac_files.proofs.FileGhosts.{file_ghosts}
-use Rattle.bac_keeper.proofs.FileLemmas.{none_closed}
+use Rattle.bac_offline.proofs.FileLemmas.{none_closed}
 use Rattle.bac_fetch.specs.Ahead.{at_once}
 use Rattle.bac_ports.specs.Sockets.{socket_rules}
 use Rattle.bac_run.proofs.Ran.{keep_over}
 use Rattle.bac_tools.specs.Streams.{streams}
 use Rattle.bac_words.specs.Jobs.{with_groups}
+use Rattle.bac_words.specs.declared.job.Keep.{Keep as KeepWords}
 use Rattle.bac_run.proofs.program.keep_listed.Goals as goal
 
 pub returns-in-Ok-clause-ran : goal.returns-in-Ok-clause-ran
@@ -27,3 +28,13 @@ returns-in-Err-clause-ran g c = (Err c.in-Err.fault, rw c.in-Err.is at c.listed_
 
 pub returns-in-Err-clause-stays : goal.returns-in-Err-clause-stays
 returns-in-Err-clause-stays g c unused = none_closed c.args.files.now.closed _ unused
+
+pub returns-in-Ok-clause-items : goal.returns-in-Ok-clause-items
+returns-in-Ok-clause-items g c is unused =
+    c.keep_and_tell.ensures.items (subst (λ (k : KeepWords). k.stop ≡ true) (sym c.with_groups-asked.ensures) is) unused
+
+pub returns-in-Err-clause-items : goal.returns-in-Err-clause-items
+returns-in-Err-clause-items g c is unused = none_closed c.args.files.now.closed _ unused
+
+pub returns-in-Err-clause-part : goal.returns-in-Err-clause-part
+returns-in-Err-clause-part g c unused = none_closed c.args.parts.now.closed _ unused

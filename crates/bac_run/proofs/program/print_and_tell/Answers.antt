@@ -2,8 +2,9 @@ use Rattle.sqlite_wal.specs.Files.{image_at}
 use Rattle.bac_files.proofs.FileGhosts.{file_ghosts}
 use Rattle.bac_files.specs.Parts.{part_rules}
 use Rattle.bac_keeper.proofs.ArchiveLemmas.{rows_stay}
-use Rattle.bac_keeper.proofs.BegunLemmas.{done_so}
-use Rattle.bac_keeper.specs.Archives.{KeepsRows, LosesNothing}
+use Rattle.bac_offline.proofs.BegunLemmas.{done_so}
+use Rattle.bac_offline.specs.Archives.{KeepsRows}
+use Rattle.bac_keeper.specs.Archives.{LosesNothing}
 use Rattle.bac_run.proofs.Ran.{kept_ran}
 use Rattle.bac_run.proofs.program.print_and_tell.Goals as goal
 

@@ -1,7 +1,7 @@
 use Rattle.std.proofs.Common.{Err, map, refl}
 use Rattle.std.specs.String.{string_bytes}
 use Rattle.bac_files.proofs.FileGhosts.{file_ghosts}
-use Rattle.bac_keeper.proofs.FileLemmas.{none_closed}
+use Rattle.bac_offline.proofs.FileLemmas.{none_closed}
 use Rattle.bac_fetch.specs.Ahead.{at_once}
 use Rattle.bac_files.specs.Parts.{part_rules}
 use Rattle.bac_ports.specs.Sockets.{socket_rules}
@@ -59,3 +59,9 @@ returns-in-Err-clause-explained g c mistaken =
     let old = streams (g.I.Read.remaining c.args.input.now) (g.O.Write.contents c.args.output.now) (g.E.Write.contents c.args.errors.now) c.args.sockets.now c.args.clock.now in
     let new = streams (g.I.Read.remaining c.run_read.new.input) (g.O.Write.contents c.run_read.new.output) (g.E.Write.contents c.run_read.new.errors) c.run_read.new.sockets c.run_read.new.clock in
     (refl, refl, explained_of rules g.S.Heeds.passes g.C.Clock.tells words (Err c.in-Err.fault) old c.run_read.result new tt c.in-Err.ensures.err c.run_read.ensures mistaken)
+
+pub returns-in-Ok-clause-part : goal.returns-in-Ok-clause-part
+returns-in-Ok-clause-part g c unused = c.run_told.ensures.part unused
+
+pub returns-in-Err-clause-part : goal.returns-in-Err-clause-part
+returns-in-Err-clause-part g c unused = none_closed c.args.parts.now.closed _ unused

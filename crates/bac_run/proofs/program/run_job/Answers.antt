@@ -1,6 +1,6 @@
 use Rattle.std.proofs.Common.{refl}
 use Rattle.bac_files.proofs.FileGhosts.{file_ghosts}
-use Rattle.bac_keeper.proofs.FileLemmas.{none_closed}
+use Rattle.bac_offline.proofs.FileLemmas.{none_closed}
 use Rattle.bac_fetch.specs.Ahead.{at_once}
 use Rattle.bac_files.specs.Parts.{part_rules}
 use Rattle.bac_ports.specs.Sockets.{socket_rules}
@@ -17,7 +17,7 @@ returns-in-Keep-clause-ran g c =
     let done = c.keep_job in
     let old = streams (g.I.Read.remaining c.args.input.now) (g.O.Write.contents c.args.output.now) (g.E.Write.contents c.args.errors.now) c.args.sockets.now c.args.clock.now in
     let new = streams (g.I.Read.remaining done.new.input) (g.O.Write.contents done.new.output) (g.E.Write.contents done.new.errors) done.new.sockets c.args.clock.now in
-    rw c.in-Keep.is (groups_over disk part done.new.parts (at_once g.S.Recalls.holds g.W.Clock.reads c.args.waits) rules g.S.Heeds.passes c.in-Keep.asked (reads_input c.in-Keep.asked) old new c.args.files.now done.new.files done.result done.ensures.ran, refl, refl)
+    rw c.in-Keep.is (groups_over disk part done.new.parts (at_once g.S.Recalls.holds g.W.Clock.reads c.args.waits) rules g.S.Heeds.passes c.in-Keep.asked (reads_input c.in-Keep.asked) old new c.args.files.now done.new.files done.result done.ensures.ran, refl, refl, λ stop. done.ensures.items stop)
 
 pub returns-in_default-clause-ran : goal.returns-in_default-clause-ran
 returns-in_default-clause-ran g c =
@@ -34,3 +34,17 @@ returns-in_default-clause-stays g c unused = none_closed c.args.files.now.closed
 
 pub returns-in-Check-clause-stays : goal.returns-in-Check-clause-stays
 returns-in-Check-clause-stays g c unused = none_closed c.args.files.now.closed _ unused
+
+pub returns-in_default-clause-part : goal.returns-in_default-clause-part
+returns-in_default-clause-part g c unused = none_closed c.args.parts.now.closed _ unused
+
+pub returns-in-Check-clause-part : goal.returns-in-Check-clause-part
+returns-in-Check-clause-part g c unused = none_closed c.args.parts.now.closed _ unused
+
+pub returns-in-Kept-clause-part : goal.returns-in-Kept-clause-part
+returns-in-Kept-clause-part g c unused = none_closed c.args.parts.now.closed _ unused
+
+pub returns-in-Kept-clause-ran : goal.returns-in-Kept-clause-ran
+returns-in-Kept-clause-ran g c =
+    let done = c.print_and_tell in
+    rw c.in-Kept.is (done.ensures.ran, (refl, refl), refl, λ unused. done.ensures.rows unused)

@@ -1,0 +1,60 @@
+-- An archive in a file, of which nothing was committed, or other rows than those of items.
+use Rattle.std.proofs.Common.{◌≡◌, ◌⊎◌, ◌∙◌, inl, inr, IsTrue, ap, refl, subst, sym}
+use Rattle.sqlite.specs.Effect.{Database}
+use Rattle.sqlite.specs.State.{HasCleanDisk, State, Survives}
+use Rattle.sqlite_trees.specs.Tree.{Trees}
+use Rattle.sqlite.specs.Held.{Held as Connected, state}
+use Rattle.sqlite.specs.declared.error.Error.{Error}
+use Rattle.sqlite.specs.declared.error.Error.TheVariants.{SqliteFailure}
+use Rattle.sqlite.specs.declared.error.ErrorCode.TheVariants.{OutOfMemory}
+use Rattle.sqlite_trees.specs.declared.store.Store.{Ghosts}
+use Rattle.bac_archive.specs.declared.opening.Refused.TheVariants as refused
+use Rattle.bac_asked.specs.Faults.{of_error}
+use Rattle.bac_check.specs.Asked.{IsAsLeft}
+use Rattle.bac_check.specs.declared.tally.Uncounted.{Uncounted}
+use Rattle.bac_check.specs.declared.tally.Uncounted.TheVariants as uncounted
+use Rattle.bac_archive.proofs.ChangeLemmas.{keeps_itself}
+use Rattle.bac_archive.specs.Schema.{HasArchive, no_schema}
+use Rattle.bac_offline.specs.Ends.{IsNoArchive, uncounted_fault}
+use Rattle.bac_offline.specs.Archives.{HasSameItems, LeavesOthers}
+
+-- a database that is taken as an archive is no other one
+pub taken_fits : (found left : Database) → HasArchive found.schema ⊎ (found.schema ≡ no_schema) → LeavesOthers found left
+taken_fits found left fit = λ other some. elim fit [ inl has ↦ absurd (other has) | inr none ↦ absurd (some none) ]
+
+-- the same items are there
+pub items_themselves : (a : Trees) → HasSameItems a a
+items_themselves a = record { items = refl; beginnings = refl; logs = keeps_itself a }
+
+-- what is committed behind an archive that was found has its items
+pub keeps_items : (found archive last : State) → (found.committed ≡ found.now) → (archive.committed ≡ archive.now) → (archive.now ≡ found.now)
+    → ((db : Trees) → archive.may_leave db → db ≡ archive.committed.trees) → last.may_leave last.committed.trees → HasCleanDisk last
+    → Survives archive last (HasSameItems archive.now.trees) → HasSameItems found.now.trees last.committed.trees
+keeps_items found archive last was settled same only may clean survives =
+    subst (λ (d : Database). HasSameItems d.trees last.committed.trees) same (elim (survives.crash clean last.committed.trees may) [
+      | inl left ↦ subst (HasSameItems archive.now.trees) (ap (λ (d : Database). d.trees) (sym settled) ∙ sym (only last.committed.trees left)) (items_themselves archive.now.trees)
+      | inr all ↦ all
+    ])
+
+-- what is committed behind an archive that was found has its rows, if nothing was committed
+pub keeps_rows : (found archive last : State) → (found.committed ≡ found.now) → (archive.committed ≡ archive.now) → (archive.now ≡ found.now)
+    → ((db : Trees) → archive.may_leave db → db ≡ archive.committed.trees) → last.may_leave last.committed.trees → HasCleanDisk last
+    → Survives archive last (λ _. ⊥) → last.committed.trees ≡ found.now.trees
+keeps_rows found archive last was settled same only may clean survives = elim (survives.crash clean last.committed.trees may) [
+  | inl left ↦ only last.committed.trees left ∙ ap (λ (d : Database). d.trees) (settled ∙ same)
+  | inr none ↦ absurd none
+]
+
+-- ---- an archive whose rows were counted
+
+-- what is committed stays, also where the rows aren't counted
+pub still_committed : {S : Type 0} (g : Ghosts S) (a b : Connected S) → IsAsLeft g a b → IsTrue (state g b).is_open → (state g b).committed ≡ (state g a).committed
+still_committed g a b (inl none) is = ap (λ (h : Connected _). (state g h).committed) none
+still_committed g a b (inr (inl same)) is = same.0.committed_is
+still_committed g a b (inr (inr back)) is = (back.undone is).1
+
+-- why they aren't: the database answers by an error, or the file is no archive
+pub uncounted_so : (held : Type 0) (found : Database) (why : Uncounted) → ((error : Error) × (uncounted_fault why ≡ of_error error)) ⊎ (held → IsNoArchive found (uncounted_fault why))
+uncounted_so held found uncounted.Overlap = inr (λ _. (refused.Overlap, tt, refl))
+uncounted_so held found uncounted.Memory = inl (SqliteFailure OutOfMemory, refl)
+uncounted_so held found (uncounted.Database error) = inl (error, refl)

@@ -1,0 +1,9 @@
+pub mod ArchiveLemmas
+pub mod EndLemmas
+pub mod FileLemmas
+pub mod StopLemmas
+pub mod NamesLemmas
+pub mod PrintLemmas
+pub mod BegunLemmas
+pub mod PartedLemmas
+pub mod WorkLemmas

@@ -1,0 +1,94 @@
+-- What is done over the database in a file, which is opened, and closed behind it. Read `Works`.
+use Rattle.std.specs.Prelude.{◌≡◌, ◌⊎◌, ℕ, Bool, false, List, Result, Ok, Err, IfErr, IfOk, OnOk}
+use Rattle.sqlite_disk.specs.declared.Disk as disk
+use Rattle.sqlite_disk.specs.declared.start.Start as start
+use Rattle.sqlite_store.specs.declared.store.FileStore.{FileStore}
+use Rattle.sqlite_wal.specs.Recovery.{Image}
+use Rattle.sqlite.specs.Files.{file_state}
+use Rattle.sqlite.specs.Held.{Held as Connected}
+use Rattle.sqlite.specs.State.{HasCleanDisk, State}
+use Rattle.sqlite.specs.declared.error.Error.{Error}
+use Rattle.bac_asked.specs.Faults.{RefusesLine, WantsMemory, of_error}
+use Rattle.bac_asked.specs.declared.end.NotDone.{NotDone}
+use Rattle.bac_files.specs.Files.{FileOf, IsClosedBy, IsNamed, IsOpenedBy}
+use Rattle.bac_files.specs.declared.disk_files.DiskFiles.{DiskFiles}
+use Rattle.bac_offline.specs.Archives.{IsHeld, KeepsItems, KeepsRows}
+use Rattle.bac_offline.specs.Begun.{FollowsFound}
+use Rattle.bac_offline.specs.Ends.{IsNoArchive, IsNotOpened, IsOfSomeFile, IsUnclosedBySome, MayAsk, MayFail}
+use Rattle.bac_offline.specs.Shown.{PrintsArchive, RefusesPrint}
+use Rattle.bac_offline.specs.Stops.{RefusesStop, StopsArchive}
+use Rattle.bac_offline.specs.declared.stopping.Meant.{Meant}
+use Rattle.bac_kept.specs.declared.printing.Shown.{Shown}
+use Rattle.bac_print.specs.Output.{Held}
+
+-- how a work ends
+abbrev pub Ended : Type 0
+Ended = Result ℕ NotDone
+
+-- what a work is: the database as it was opened and as it is left, what it is done with before it and behind it, and
+-- how it ends
+abbrev pub Does : Type 0 → Type 1
+Does X = State → State → X → X → Ended → Type 0
+
+module _ {F X : Type 0} {s : start.Ghosts F} where
+  -- the file isn't opened, and nothing is done
+  pub record IsUndone (path : List ℕ) (old new : DiskFiles F s) (before after : X) (ended : Ended) : Type 0 where
+    pub cause : NotDone
+    pub ends : ended ≡ Err cause
+    pub why : MayFail (IsNotOpened path false new) cause
+    pub file : IsOfSomeFile cause
+    pub still : after ≡ before
+    pub closed : new.closed ≡ old.closed
+
+  -- this was done over the open database, which was closed, unless it couldn't be
+  pub record IsDone (g : disk.Ghosts (FileOf s)) (image : Image) (does : Does X) (path : List ℕ)
+      (old new : DiskFiles F s) (before after : X) (ended : Ended) : Type 0 where
+    pub opened : Connected (FileStore (FileOf s) g)
+    pub last : Connected (FileStore (FileOf s) g)
+    pub done : Ended
+    pub is : IsOpenedBy image opened
+    pub did : does (file_state opened) (file_state last) before after done
+    pub named : IsNamed path false new
+    pub same : IfOk ended (λ value. done ≡ Ok value)
+    pub closed : OnOk ended (IsClosedBy last new.closed)
+    pub fault : IfErr ended (λ cause. (done ≡ Err cause) ⊎ (IsOfSomeFile cause × IsUnclosedBySome new))
+    pub shut : IsClosedBy last new.closed ⊎ IsUnclosedBySome new
+    pub either : (new.closed ≡ old.closed) ⊎ IsClosedBy last new.closed
+
+  -- a work was done over the database in the file of this name, if that is opened
+  abbrev pub Works : disk.Ghosts (FileOf s) → Image → Does X → List ℕ → DiskFiles F s → DiskFiles F s → X → X →
+      Ended → Type 0
+  Works g image does path old new before after ended =
+      IsUndone path old new before after ended ⊎ IsDone g image does path old new before after ended
+
+-- what an archive keeps of these logs is printed, behind the output before
+pub record PrintsOver (which : Shown) (csv : Bool) (old new : State) (before after : Held)
+    (ended : Ended) : Type 0 where
+  pub status : IfOk ended (λ status. status ≡ 0)
+  pub printed : HasCleanDisk new → OnOk ended (PrintsArchive which csv before after old.now new.committed)
+  pub stays : IsHeld new → old.committed ≡ old.now → KeepsRows old.now new.committed
+  pub clean : HasCleanDisk new → HasCleanDisk old
+  pub fault : IfErr ended (MayFail (λ why. ((error : Error) × (why ≡ of_error error))
+      ⊎ (IsHeld new → RefusesPrint which old.now why)))
+  pub ends : IfErr ended (MayAsk (λ fault. WantsMemory fault ⊎ RefusesLine fault))
+
+-- the logs that are meant are stopped in an archive
+pub record StopsOver (which : Meant) (old new : State) (before after : Held) (ended : Ended) : Type 0 where
+  pub status : IfOk ended (λ status. status ≡ 0)
+  pub stopped : HasCleanDisk new → OnOk ended (StopsArchive which before after old.now new.committed)
+  pub stays : IsHeld new → old.committed ≡ old.now → KeepsItems old.now new.committed
+  pub clean : HasCleanDisk new → HasCleanDisk old
+  pub fault : IfErr ended (MayFail (λ why. ((error : Error) × (why ≡ of_error error))
+      ⊎ (IsHeld new → RefusesStop which old.now why)))
+  pub ends : IfErr ended (MayAsk (λ fault. WantsMemory fault ⊎ RefusesLine fault))
+
+-- a part that had nothing follows on the archive of a database, which is left as it is, and keeps its rows whatever
+-- comes of it
+pub record FollowsOver (found last part made : State) (ended : Ended) : Type 0 where
+  pub followed : HasCleanDisk last → HasCleanDisk made → OnOk ended (FollowsFound found.now last.committed made.now)
+  pub clean : HasCleanDisk made → HasCleanDisk part
+  pub read : HasCleanDisk last → HasCleanDisk found
+  pub stays : IsHeld last → found.committed ≡ found.now → KeepsRows found.now last.committed
+  pub file : IfErr ended IsOfSomeFile
+  pub refused : IfErr ended (MayFail (λ why. ((error : Error) × (why ≡ of_error error))
+      ⊎ (IsHeld last → IsNoArchive found.now why)))
