@@ -159,7 +159,7 @@ module _ {S P C F G T Q : Type 0} {s : start.Ghosts F} {t : start.Ghosts G} (tra
       × IsAllKept rules waits g h (image_at s) (image_at t) which told new.sockets old.output new.output left.closed parts
   all_kept asked (inl ((inl its, keeps, untouched), same, apart)) still none = absurd (let e = its.0 in cc)
   all_kept asked (inl ((inr its, keeps, untouched), same, apart)) still none = absurd (let e = its.0 in cc)
-  all_kept asked (inr (told, on, (ran, quiet, apart))) still none =
+  all_kept asked (inr (told, on, (ran, quiet, apart, items))) still none =
       let it = groups_kept (reads_input asked) asked told still ran none in
       (told, on, it.0, it.1, it.2)
 
@@ -167,4 +167,4 @@ module _ {S P C F G T Q : Type 0} {s : start.Ghosts F} {t : start.Ghosts G} (tra
   pub none_asked : (asked : KeptWords) → RunsAll g h parts waits folders p q traces rules passes tells (job.Kept asked) old files status new left
       → (new.sockets ≡ old.sockets) ⊎ traces old.sockets false new.sockets
   none_asked asked (inl ((told, keeps, (input, sockets, clock)), same, apart)) = inl sockets
-  none_asked asked (inr (told, off, (ran, still, same))) = inr (subst (λ t. traces old.sockets false t) (sym same) off)
+  none_asked asked (inr (told, off, (ran, still, same, rows))) = inr (subst (λ t. traces old.sockets false t) (sym same) off)

@@ -145,4 +145,4 @@ module _ {S P C F G T Q : Type 0} {s : start.Ghosts F} {t : start.Ghosts G} (tra
       → IsFolderPrinted folders asked paths listed q old.output new.output old.errors × Keeps old.errors new.errors)
   printed asked (inl ((inl its, keeps, untouched), same, apart)) none = absurd (let e = its.0 in cc)
   printed asked (inl ((inr its, keeps, untouched), same, apart)) none = absurd (let e = its.0 in cc)
-  printed asked (inr (told, on, (ran, quiet, apart))) none = folder_printed g folders p q (streams old.input old.output old.errors told old.clock) new files left status asked ran none
+  printed asked (inr (told, on, (ran, quiet, apart, rows))) none = folder_printed g folders p q (streams old.input old.output old.errors told old.clock) new files left status asked ran none
