@@ -1,9 +1,7 @@
 //! All tools of the program.
 
-ghost use Rattle.std.specs.Prelude.{◌≡◌, [], map, None, IfSome, true};
+ghost use Rattle.std.specs.Prelude.{◌≡◌, [], map, None, true};
 ghost use Rattle.std.specs.String.{string_bytes};
-ghost use Rattle.sqlite_wal.specs.Files.{image_at};
-ghost use Rattle.bac_files.specs.Files.{IsDoneTo, IsUnused};
 ghost use Rattle.bac_files.specs.Parts.{part_rules};
 ghost use Rattle.bac_keeper.specs.Archives.{LosesNothing};
 ghost use Rattle.bac_offline.specs.Archives.{KeepsItems, KeepsRows};
@@ -16,7 +14,7 @@ ghost use Rattle.bac_words.specs.Outcome.{mistakes_of};
 ghost use Rattle.bac_words.specs.declared.job.Job.{Job as AnyJob};
 ghost use Rattle.bac_words.specs.declared.word.Word.{Word as AnyWord};
 ghost use Rattle.bac_run.specs.Faults.{ending_of, fault_of};
-ghost use Rattle.bac_run.specs.Run.{DoesAll, DoesTold, RunsAll, RunsGroups};
+ghost use Rattle.bac_run.specs.Run.{DoesAll, DoesTold, Leaves, RunsAll, RunsGroups};
 ghost use Rattle.bac_run.specs.Run.{RunsCheck, RunsKeep, RunsKept, RunsListed};
 
 use bac_check::run_check;
@@ -58,14 +56,7 @@ fn ended<E: Write>(alloc: Global, passed: Passed, done: Result<u8, KeepFault>, e
 }
 
 /// `keep`, and its fault is told.
-fn keep_and_tell<
-    S: Recalls,
-    F: Start,
-    G: Start,
-    O: Write,
-    E: Write,
-    W: WaitClock + Copy + Copy + Copy,
->(
+fn keep_and_tell<S: Recalls, F: Start, G: Start, O: Write, E: Write, W: WaitClock + Copy>(
     sockets: &mut S,
     files: &mut DiskFiles<'_, F>,
     parts: &mut DiskFiles<'_, G>,
@@ -85,12 +76,10 @@ where
         (streams None (O.contents output.old) (E.contents errors.old) sockets.old (tt {0})) result
         (streams None (O.contents output.new) (E.contents errors.new) sockets.new (tt {0}))
         files.new }
-    ensures items { asked.now.stop ≡ true → IsUnused files.old → IfSome files.new.closed
-        (IsDoneTo ⟦<FileOf<F> as Disk>⟧ (image_at F.Start) KeepsItems) }
-    ensures stays { IsUnused files.old → IfSome files.new.closed
-        (IsDoneTo ⟦<FileOf<F> as Disk>⟧ (image_at F.Start) LosesNothing) }
-    ensures part { IsUnused parts.old → IfSome parts.new.closed
-        (IsDoneTo ⟦<FileOf<G> as Disk>⟧ (image_at G.Start) KeepsRows) }
+    ensures items { asked.now.stop ≡ true
+        → Leaves ⟦<FileOf<F> as Disk>⟧ KeepsItems files.old files.new }
+    ensures stays { Leaves ⟦<FileOf<F> as Disk>⟧ LosesNothing files.old files.new }
+    ensures part { Leaves ⟦<FileOf<G> as Disk>⟧ KeepsRows parts.old parts.new }
 {
     let done = run_keep(
         sockets, files, parts, alloc, waits, asked, counts, output, errors,
@@ -100,15 +89,7 @@ where
 
 /// `keep` of the devices that the input lists; without a list it is told why, and nothing else is
 /// done.
-fn keep_listed<
-    S: Recalls,
-    F: Start,
-    G: Start,
-    I: Read,
-    O: Write,
-    E: Write,
-    W: WaitClock + Copy + Copy + Copy,
->(
+fn keep_listed<S: Recalls, F: Start, G: Start, I: Read, O: Write, E: Write, W: WaitClock + Copy>(
     sockets: &mut S,
     files: &mut DiskFiles<'_, F>,
     parts: &mut DiskFiles<'_, G>,
@@ -130,12 +111,10 @@ where
         sockets.old (tt {0})) files.old result
         (streams (I.remaining input.new) (O.contents output.new) (E.contents errors.new)
         sockets.new (tt {0})) files.new }
-    ensures items { asked.stop ≡ true → IsUnused files.old → IfSome files.new.closed
-        (IsDoneTo ⟦<FileOf<F> as Disk>⟧ (image_at F.Start) KeepsItems) }
-    ensures stays { IsUnused files.old → IfSome files.new.closed
-        (IsDoneTo ⟦<FileOf<F> as Disk>⟧ (image_at F.Start) LosesNothing) }
-    ensures part { IsUnused parts.old → IfSome parts.new.closed
-        (IsDoneTo ⟦<FileOf<G> as Disk>⟧ (image_at G.Start) KeepsRows) }
+    ensures items { asked.stop ≡ true
+        → Leaves ⟦<FileOf<F> as Disk>⟧ KeepsItems files.old files.new }
+    ensures stays { Leaves ⟦<FileOf<F> as Disk>⟧ LosesNothing files.old files.new }
+    ensures part { Leaves ⟦<FileOf<G> as Disk>⟧ KeepsRows parts.old parts.new }
 {
     match listed_devices(alloc, input) {
         Ok(groups) => {
@@ -149,15 +128,7 @@ where
 }
 
 /// `keep` of the devices of its words, or of those that the input lists.
-fn keep_job<
-    S: Recalls,
-    F: Start,
-    G: Start,
-    I: Read,
-    O: Write,
-    E: Write,
-    W: WaitClock + Copy + Copy + Copy,
->(
+fn keep_job<S: Recalls, F: Start, G: Start, I: Read, O: Write, E: Write, W: WaitClock + Copy>(
     sockets: &mut S,
     files: &mut DiskFiles<'_, F>,
     parts: &mut DiskFiles<'_, G>,
@@ -179,12 +150,10 @@ where
         sockets.old (tt {0})) files.old result
         (streams (I.remaining input.new) (O.contents output.new) (E.contents errors.new)
         sockets.new (tt {0})) files.new }
-    ensures items { asked.stop ≡ true → IsUnused files.old → IfSome files.new.closed
-        (IsDoneTo ⟦<FileOf<F> as Disk>⟧ (image_at F.Start) KeepsItems) }
-    ensures stays { IsUnused files.old → IfSome files.new.closed
-        (IsDoneTo ⟦<FileOf<F> as Disk>⟧ (image_at F.Start) LosesNothing) }
-    ensures part { IsUnused parts.old → IfSome parts.new.closed
-        (IsDoneTo ⟦<FileOf<G> as Disk>⟧ (image_at G.Start) KeepsRows) }
+    ensures items { asked.stop ≡ true
+        → Leaves ⟦<FileOf<F> as Disk>⟧ KeepsItems files.old files.new }
+    ensures stays { Leaves ⟦<FileOf<F> as Disk>⟧ LosesNothing files.old files.new }
+    ensures part { Leaves ⟦<FileOf<G> as Disk>⟧ KeepsRows parts.old parts.new }
 {
     if asked.reads_input() {
         return keep_listed(
@@ -210,10 +179,8 @@ fn print_and_tell<F: Start, Q: Parts, O: Write, E: Write>(
         (streams None (O.contents output.old) (E.contents errors.old) (tt {0}) (tt {0})) files.old
         result
         (streams None (O.contents output.new) (E.contents errors.new) (tt {0}) (tt {0})) files.new }
-    ensures rows { IsUnused files.old → IfSome files.new.closed
-        (IsDoneTo ⟦<FileOf<F> as Disk>⟧ (image_at F.Start) KeepsRows) }
-    ensures stays { IsUnused files.old → IfSome files.new.closed
-        (IsDoneTo ⟦<FileOf<F> as Disk>⟧ (image_at F.Start) LosesNothing) }
+    ensures rows { Leaves ⟦<FileOf<F> as Disk>⟧ KeepsRows files.old files.new }
+    ensures stays { Leaves ⟦<FileOf<F> as Disk>⟧ LosesNothing files.old files.new }
 {
     let done = run_kept(files, folders, alloc, asked, output, errors);
     ended(alloc, Passed::nothing(), done, errors)
@@ -245,7 +212,7 @@ fn run_job<
     O: Write,
     E: Write,
     C: Clock,
-    W: WaitClock + Copy + Copy + Copy,
+    W: WaitClock + Copy,
 >(
     sockets: &mut S,
     files: &mut DiskFiles<'_, F>,
@@ -269,10 +236,8 @@ where
         (E.contents errors.old) sockets.old clock.old) files.old result
         (streams (I.remaining input.new) (O.contents output.new) (E.contents errors.new) sockets.new
         clock.new) files.new }
-    ensures stays { IsUnused files.old → IfSome files.new.closed
-        (IsDoneTo ⟦<FileOf<F> as Disk>⟧ (image_at F.Start) LosesNothing) }
-    ensures part { IsUnused parts.old → IfSome parts.new.closed
-        (IsDoneTo ⟦<FileOf<G> as Disk>⟧ (image_at G.Start) KeepsRows) }
+    ensures stays { Leaves ⟦<FileOf<F> as Disk>⟧ LosesNothing files.old files.new }
+    ensures part { Leaves ⟦<FileOf<G> as Disk>⟧ KeepsRows parts.old parts.new }
 {
     match job {
         Job::Keep(asked) => keep_job(
@@ -294,7 +259,7 @@ fn run_told<
     O: Write,
     E: Write,
     C: Clock,
-    W: WaitClock + Copy + Copy + Copy,
+    W: WaitClock + Copy,
 >(
     sockets: &mut S,
     files: &mut DiskFiles<'_, F>,
@@ -319,10 +284,8 @@ where
         (E.contents errors.old) sockets.old clock.old) files.old result
         (streams (I.remaining input.new) (O.contents output.new) (E.contents errors.new) sockets.new
         clock.new) files.new }
-    ensures stays { IsUnused files.old → IfSome files.new.closed
-        (IsDoneTo ⟦<FileOf<F> as Disk>⟧ (image_at F.Start) LosesNothing) }
-    ensures part { IsUnused parts.old → IfSome parts.new.closed
-        (IsDoneTo ⟦<FileOf<G> as Disk>⟧ (image_at G.Start) KeepsRows) }
+    ensures stays { Leaves ⟦<FileOf<F> as Disk>⟧ LosesNothing files.old files.new }
+    ensures part { Leaves ⟦<FileOf<G> as Disk>⟧ KeepsRows parts.old parts.new }
 {
     sockets.trace(job.is_traced());
     run_job(
@@ -345,7 +308,7 @@ pub fn run<
     O: Write,
     E: Write,
     C: Clock,
-    W: WaitClock + Copy + Copy + Copy,
+    W: WaitClock + Copy,
 >(
     sockets: &mut S,
     files: &mut DiskFiles<'_, F>,
@@ -375,11 +338,9 @@ where
         sockets.new clock.new) files.new }
     // Whatever comes of it, of an archive that the files held no item, no beginning and no log is
     // lost, and a database that is none is left as it was.
-    ensures stays { IsUnused files.old → IfSome files.new.closed
-        (IsDoneTo ⟦<FileOf<F> as Disk>⟧ (image_at F.Start) LosesNothing) }
+    ensures stays { Leaves ⟦<FileOf<F> as Disk>⟧ LosesNothing files.old files.new }
     // And of the part before it, if one is begun, each row stays as it is.
-    ensures part { IsUnused parts.old → IfSome parts.new.closed
-        (IsDoneTo ⟦<FileOf<G> as Disk>⟧ (image_at G.Start) KeepsRows) }
+    ensures part { Leaves ⟦<FileOf<G> as Disk>⟧ KeepsRows parts.old parts.new }
     // Of words with a wrong value this is told, and nothing else is done.
     ensures bad_value { (word : AnyWord) → AreWrong (map string_bytes words.now) word
         → (files.new ≡ files.old) × (folders.new ≡ folders.old)
