@@ -1,8 +1,8 @@
 -- What a service shows of its fields is all of them.
-use Rattle.std.proofs.Common.{◌≡◌, ℕ, ◌/◌, ◌%◌, ◌^◌, ◌<◌, eqb, List, [], ◌∷◌, Option, Some, None, ℤ, refl, ap, ◌∙◌, arith, inl, inr}
+use Rattle.std.proofs.Common.{◌≡◌, ℕ, ◌/◌, ◌%◌, ◌^◌, ◌<◌, eqb, List, [], ◌∷◌, Option, Some, None, refl, ap, ◌∙◌, arith, inl, inr}
 use Rattle.std.proofs.lemmas.Bool.{cases_Bool, eqb-true, eqb-false}
 use Rattle.bac_wire.specs.Number.{bit}
-use Rattle.bac_wire.specs.Primitive.{Id, Primitive, Unsigned, Signed, Bits, Enumerated, Object}
+use Rattle.bac_wire.specs.Primitive.{Id, Primitive, Unsigned, Bits, Enumerated, Object}
 use Rattle.bac_wire.specs.Stamp.{date_octets, time_octets}
 use Rattle.bac_wire.specs.declared.stamp.Date4.{Date4}
 use Rattle.bac_wire.specs.declared.stamp.Time4.{Time4}

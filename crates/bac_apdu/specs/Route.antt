@@ -1,6 +1,6 @@
 -- Places behind a router (clause 6.2.2): where a request goes that names
 -- another network, and where its answer comes from.
-use Rattle.std.specs.Prelude.{ℕ, ◌≤◌, Option, Some, None, List, length}
+use Rattle.std.specs.Prelude.{◌≤◌, Option, Some, None, length}
 use Rattle.bac_apdu.specs.Npdu.{Place}
 
 -- A network that is neither this one, 0, nor all of them, FFFF; and an address of 1 to 15 octets there.

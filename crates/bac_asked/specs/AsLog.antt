@@ -1,5 +1,5 @@
 -- A log is asked for by the rules of `bac log`.
-use Rattle.std.specs.Prelude.{◌≡◌, ◌⊎◌, ℕ, Bool, List, [], ◌∷◌, ◌++◌, codes, Option, None, Some, option_map, unwrap_or}
+use Rattle.std.specs.Prelude.{◌≡◌, ◌⊎◌, List, [], ◌∷◌, ◌++◌, codes, Option, None, Some, option_map, unwrap_or}
 use Rattle.std.specs.Prelude.{Ok}
 use Rattle.clap.specs.Words.{Text}
 use Rattle.bac_link.specs.Standard.{IsCount}

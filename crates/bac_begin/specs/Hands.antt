@@ -135,8 +135,8 @@ GoesAhead asks old hand steps StepLimit ahead new = MatchBool (nat_lt 1 steps)
 GoesAhead asks old hand steps (Fault fault) ahead new = (ahead ≡ Err (Walk (why.Fault fault))) × (new ≡ old)
 GoesAhead asks old hand steps other ahead new = (ahead ≡ Ok hand) × (new ≡ old)
 
--- What lies ahead of a walk by number is asked for, of which a run may take so many steps, and what came in hand: by one
--- question, or by two if the first brought records; or why nothing is.
+-- What lies ahead of a walk by number is asked for, of which a run may take so many steps, and what came in hand: by
+-- one question, or by two if the first brought records; or why nothing is.
 abbrev pub LooksAhead : {S : Type 0} → Ask S → Place → ℕ → Client S → WalkPlace → ℕ → Result Hand Ending → Client S
     → Type 0
 LooksAhead {S = S} asks place free old before steps ahead new =

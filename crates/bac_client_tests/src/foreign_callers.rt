@@ -11,7 +11,9 @@ ghost use Rattle.bac_link.specs.Standard.{IsCount};
 ghost use Rattle.bac_walk.specs.declared.outcome.WalkFault.{WalkFault as WalkFaultOf};
 ghost use Rattle.bac_walk.specs.declared.outcome.WalkFault.TheVariants as fault;
 ghost use Rattle.bac_walk.specs.declared.outcome.Why.TheVariants as why;
-ghost use Rattle.bac_client_tests.specs.declared.foreign_callers.ForeignLink.{ForeignLink as ForeignLinkOf};
+ghost use Rattle.bac_client_tests.specs.declared.foreign_callers.ForeignLink.{
+  ForeignLink as ForeignLinkOf,
+};
 ghost use Rattle.bac_client_tests.specs.Foreign.{all_held, held, history, log as log_one, said_to};
 ghost use Rattle.bac_client_tests.specs.Foreign.{IsSaid};
 

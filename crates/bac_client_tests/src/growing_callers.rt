@@ -8,7 +8,9 @@ ghost use Rattle.bac_link.specs.Standard.{IsCount};
 ghost use Rattle.bac_link.specs.Path.{towards};
 ghost use Rattle.bac_walk.specs.Growing.{most_asks, HasDelivered};
 ghost use Rattle.bac_walk.specs.Told.{ended_of};
-ghost use Rattle.bac_client_tests.specs.declared.growing_callers.GrowingLink.{GrowingLink as GrowingLinkOf};
+ghost use Rattle.bac_client_tests.specs.declared.growing_callers.GrowingLink.{
+  GrowingLink as GrowingLinkOf,
+};
 ghost use Rattle.bac_client_tests.specs.Foreign.{log as log_one};
 ghost use Rattle.bac_client_tests.specs.Growing.{about, answer_to, logged_so_far, MayGrow};
 

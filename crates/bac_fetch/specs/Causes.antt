@@ -51,8 +51,8 @@ abbrev pub IsShut : {S P : Type 0} → SocketRules S P → Asked → S → S →
 IsShut rules asked before after = (after ≡ before)
     ⊎ UsesSocket rules (own_address asked.local) asked.timeout before (λ port last. Unit {0}) after
 
--- What is new of a log of this instance isn't fetched that is asked for so: its rows aren't read or written, or its line
--- isn't, and no socket stays open; no socket was opened for it; or the instance is none, and none was asked for.
+-- What is new of a log of this instance isn't fetched that is asked for so: its rows aren't read or written, or its
+-- line isn't, and no socket stays open; no socket was opened for it; or the instance is none, and none was asked for.
 abbrev pub EndsFetch : {S P : Type 0} → SocketRules S P → Asked → ℕ → S → S → NotDone → Type 0
 EndsFetch rules asked instance before after fault = (FailsOnRows fault × IsShut rules asked before after)
     ⊎ (IsUnopened rules asked before after fault

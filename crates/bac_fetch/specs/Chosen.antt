@@ -90,8 +90,8 @@ IsUntold rules silent like before why after = MatchBool (was_silent silent like.
     ((why ≡ Lost) × (after ≡ before))
     (FailsOver rules like.asking before why after)
 
--- The logs of one device: those that it tells, each asked as this one is, and of the device that it is kept under; or it
--- didn't tell its list, for this reason; or those that are named, for which no socket is opened.
+-- The logs of one device: those that it tells, each asked as this one is, and of the device that it is kept under; or
+-- it didn't tell its list, for this reason; or those that are named, for which no socket is opened.
 abbrev pub AreOfDevice : {S P : Type 0} → SocketRules S P → (silent : List Source) → Sought → S → Listing → S → Type 0
 AreOfDevice rules silent (Device like) before (Told found) after = (was_silent silent like.source ≡ false)
     × FindsOver rules like.asking before found.items after

@@ -1,5 +1,5 @@
 -- What a run over a log keeps, and over what link it came.
-use Rattle.std.specs.Prelude.{◌≡◌, ◌<◌, ◌+◌, ℕ, List, Result, Ok, Err}
+use Rattle.std.specs.Prelude.{◌≡◌, ◌<◌, ◌+◌, ℕ, Result, Ok, Err}
 use Rattle.sqlite.specs.Effect.{Database}
 use Rattle.bac_query.specs.Tables.{Ask, Client}
 use Rattle.bac_walk.specs.Place.{WalkPlace}

@@ -3,8 +3,8 @@ use Rattle.std.specs.Fs.{dir_entry_name}
 use Rattle.std.specs.Iterator.{Drains}
 use Rattle.std.specs.List.{Contains, range_with_len}
 use Rattle.std.specs.Prelude.{◌≡◌, ◌⊎◌, ◌++◌, ◌+◌, ◌-◌, ◌<◌, ◌≤◌, ℕ, zero, suc, Bool, List, length, map, replicate}
-use Rattle.std.specs.Prelude.{Option, None, Some, IfSome, option_map, Result, Ok, Err, IfOk, String, Vec, codes, decimal}
-use Rattle.std.specs.Prelude.{if◌then◌else◌, unwrap_or}
+use Rattle.std.specs.Prelude.{Option, None, Some, IfSome, option_map, unwrap_or, Result, Ok, Err, IfOk, String, Vec}
+use Rattle.std.specs.Prelude.{codes, decimal, if◌then◌else◌}
 use Rattle.std.specs.declared.alloc.Global.{Global}
 use Rattle.std.specs.declared.fs.dir.DirEntry.{DirEntry}
 use Rattle.std.specs.String.{string_bytes}

@@ -75,8 +75,8 @@ Waits {C = C} sends receives reads plays jobs rounds port start fresh last =
     (stop : C) × (left : TableState)
     × MakesRounds sends receives reads plays jobs rounds port start fresh last stop left
 
--- What happened at the port and by the clock leads from these desks to some: nothing was done but to ask devices so, and
--- nothing was asked but what the jobs wanted.
+-- What happened at the port and by the clock leads from these desks to some: nothing was done but to ask devices so,
+-- and nothing was asked but what the jobs wanted.
 abbrev pub Stops : {P C J E : Type 0} → (P → List ℕ → List ℕ → Sending → P → Type 0) →
     (P → ℕ → Receiving → P → Type 0) → (C → ℕ → C → Type 0) → (J → List Outcome → Turn E → Type 0) → List J → P → C →
     TableState → P → Type 0

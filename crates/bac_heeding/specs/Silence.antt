@@ -54,11 +54,13 @@ stray_text address stray =
     address_text stray.from ++ (codes ": " ++ content_text address (bytes_eq stray.from address) stray.content)
 
 -- what helps where as many datagrams came to each try as it may take
+abbrev pub advice : List ℕ
+advice = codes "; 16 datagrams end a try: --retries=10 takes more, and fewer come to a port of its own, as "
+    ++ codes "with --local=0.0.0.0:50000"
+
+-- that, if it was so
 unfoldable pub full_text : Passed → List ℕ
-full_text passed =
-    if passed.full == passed.tries
-    then codes "; 16 datagrams end a try: --retries=10 takes more, and fewer come to a port of its own, as with --local=0.0.0.0:50000"
-    else []
+full_text passed = if passed.full == passed.tries then advice else []
 
 -- how many tries there were, and how many datagrams came
 unfoldable pub counts_text : Passed → List ℕ

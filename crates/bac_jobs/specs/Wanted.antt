@@ -10,7 +10,8 @@ use Rattle.bac_desks.specs.declared.seat.Seat.{Seat}
 use Rattle.bac_jobs.specs.declared.job.Turn.{Turn}
 use Rattle.bac_jobs.specs.declared.job.Turn.TheVariants.{Wants}
 
--- these octets are what the job at a place wants to ask next, by all that came to the questions of the desk at its place
+-- these octets are what the job at a place wants to ask next, by all that came to the questions of the desk at its
+-- place
 abbrev pub IsWantedAt : {J E : Type 0} → (J → List Outcome → Turn E → Type 0) → List J → TableState → ℕ → List ℕ →
     Type 0
 IsWantedAt {J = J} plays jobs t place octets =

@@ -47,8 +47,8 @@ SeeksBy given address instances (Named all) = (instances ≢ []) × AddNamed add
 abbrev pub Seeks : Given → Group → Sought → Type 0
 Seeks given group = SeeksBy (given_for given group.way) group.address group.instances
 
--- with FILE alone those of the file, and no way to a device; else those of each device that is named, in the order of the
--- words
+-- with FILE alone those of the file, and no way to a device; else those of each device that is named, in the order of
+-- the words
 abbrev pub ChoosesBy : List Group → Given → Chosen → Type 0
 ChoosesBy [] given chosen.Kept = (given.dnet ≡ None) × (given.dadr ≡ None)
 ChoosesBy (group ∷ more) given (chosen.Sought sought) = AllZip (Seeks given) (group ∷ more) sought.items

@@ -36,8 +36,8 @@ pub record HasSameItems (old new : Trees) : Type 0 where
   pub beginnings : beginnings_in new ≡ beginnings_in old
   pub logs : HasLogs old new
 
--- of an archive that was found the items and beginnings are the same, and no log is lost; another database is left as it
--- was
+-- of an archive that was found the items and beginnings are the same, and no log is lost; another database is left as
+-- it was
 abbrev pub KeepsItems : Database → Database → Type 0
 KeepsItems found left = (HasArchive found.schema → HasSameItems found.trees left.trees) × LeavesOthers found left
 

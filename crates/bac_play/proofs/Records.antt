@@ -3,7 +3,7 @@ use Rattle.std.proofs.Common.{◌≡◌, ◌<◌, ℕ, false, inl, inr, Result, 
 use Rattle.bac_wire.specs.Primitive.{Id}
 use Rattle.bac_link.specs.declared.link.Lost.{Lost as Loss}
 use Rattle.bac_link.specs.Delivery.{History, Moment}
-use Rattle.bac_link.specs.Honest.{IsAskedIn, IsHonestWhere, IsHonest, IsSaidOrLost, asked_octets}
+use Rattle.bac_link.specs.Honest.{IsAskedIn, IsHonestWhere, IsSaidOrLost, asked_octets}
 use Rattle.bac_link.specs.Moments.{AreInWindow}
 use Rattle.bac_link.specs.Path.{Path}
 use Rattle.bac_link.specs.Standard.{Asked}

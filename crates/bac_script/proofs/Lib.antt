@@ -14,3 +14,4 @@ pub mod Unbuilt
 pub mod Places
 pub mod OtherWords
 pub mod Reading
+pub mod Opened

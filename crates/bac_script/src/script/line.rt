@@ -218,7 +218,7 @@ fn source_in(kind: &[u8], instance: &[u8]) -> Option<ObjectId>
 }
 
 /// What the words of a log line say; its name still lies in the script.
-#[tactic(auto, using(crate::proofs::OtherWords::log_other), unfolding(crate::specs::Script::Line::log_line))]
+#[tactic(auto, using(crate::proofs::OtherWords::log_other), unfolding(crate::proofs::Opened::log))]
 fn log_words(words: &[u8]) -> Option<(u32, &str, ObjectId, u32, u32, u32)>
     ensures { GivesSome (λ x. log_of x.0 x.1.now x.2 x.3 x.4 x.5) result
         (log_line (words_of words.now)) }

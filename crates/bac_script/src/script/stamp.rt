@@ -82,7 +82,7 @@ fn stamp_of(
 }
 
 /// The moment that a word says.
-#[tactic(auto, unfolding(crate::specs::Script::Stamp::stamp_in, crate::specs::Script::Stamp::moment_at))]
+#[tactic(auto, unfolding(crate::proofs::Opened::stamp))]
 pub(crate) fn stamp_in(word: &[u8]) -> Option<Stamp>
     ensures { result ≡ stamp_in word.now }
 {
