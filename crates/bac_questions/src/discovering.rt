@@ -2,13 +2,13 @@
 //! its answer wouldn't fit a datagram.
 
 ghost use Rattle.std.specs.Prelude.{◌≡◌, ◌<◌, ◌⊎◌, true, Some, None, IfErr, IfNone, IfOk, IfSome};
-ghost use Rattle.std.specs.Prelude.{IsNone, List, Ok, OnOk, ℕ};
+ghost use Rattle.std.specs.Prelude.{Ok, OnOk};
 ghost use Rattle.std.specs.List.{All};
 ghost use Rattle.bac_asked.specs.Faults.{WantsMemory};
 ghost use Rattle.bac_questions.specs.Discovered.{AddsObject, Finds, FindsAmong, FindsBy};
 ghost use Rattle.bac_questions.specs.Discovered.{FindsOf, FindsOver, FindsTo, ReadsName};
 ghost use Rattle.bac_questions.specs.Discovered.{ReadsNumber, ReadsObject, TellsName};
-ghost use Rattle.bac_query.specs.ObjectList.{AreObjects, TellsObjects};
+ghost use Rattle.bac_query.specs.ObjectList.{AreObjects};
 ghost use Rattle.bac_query.specs.Tables.{Questions, client};
 ghost use Rattle.bac_questions.specs.Discovered.{name_of};
 ghost use Rattle.bac_questions.specs.Faults.{EndsFinding};

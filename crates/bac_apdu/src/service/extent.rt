@@ -1,6 +1,6 @@
 //! The range of ReadRange (clause 15.8).
 
-ghost use Rattle.std.specs.Prelude.{◌≡◌, ◌≤◌, [], ◌∷◌};
+ghost use Rattle.std.specs.Prelude.{◌≡◌, [], ◌∷◌};
 ghost use Rattle.bac_wire.specs.Primitive.{Unsigned, Signed, Date, Time};
 ghost use Rattle.bac_wire.specs.Chain.{Gives};
 ghost use Rattle.bac_wire.specs.Stamp.{date_octets, time_octets};

@@ -1,6 +1,6 @@
 //! I-Am (clause 16.10).
 
-ghost use Rattle.std.specs.Prelude.{◌≡◌, ◌≤◌, Some, length, List, ℕ, IfSome, IsSomeAnd, OnOk};
+ghost use Rattle.std.specs.Prelude.{◌≡◌, ◌≤◌, Some, length, List, IfSome, IsSomeAnd, OnOk};
 ghost use Rattle.std.specs.Result.{result_ok};
 ghost use Rattle.bac_wire.specs.Datagram.{Writes};
 ghost use Rattle.bac_wire.specs.Chain.{Gives};

@@ -1,6 +1,6 @@
 //! The ACK of ReadProperty (clause 15.5).
 
-ghost use Rattle.std.specs.Prelude.{◌≡◌, Some, List, ℕ, IfSome, IsSomeAnd, OnOk};
+ghost use Rattle.std.specs.Prelude.{◌≡◌, Some, List, IfSome, IsSomeAnd, OnOk};
 ghost use Rattle.std.specs.Result.{result_ok};
 ghost use Rattle.bac_wire.specs.Datagram.{Writes};
 ghost use Rattle.bac_wire.specs.Chain.{Gives};

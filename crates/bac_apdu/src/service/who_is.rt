@@ -1,6 +1,6 @@
 //! Who-Is (clause 16.10).
 
-ghost use Rattle.std.specs.Prelude.{◌≡◌, Some, List, ℕ, IfSome, IsSomeAnd};
+ghost use Rattle.std.specs.Prelude.{◌≡◌, Some, List, IfSome, IsSomeAnd};
 ghost use Rattle.std.specs.Result.{result_ok};
 ghost use Rattle.bac_wire.specs.Datagram.{Writes};
 ghost use Rattle.bac_wire.specs.Primitive.{Unsigned};
