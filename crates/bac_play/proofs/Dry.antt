@@ -16,7 +16,7 @@ use Rattle.bac_walk.specs.Walks.{question_of}
 use Rattle.bac_walk.specs.declared.outcome.Ended.{Ended}
 use Rattle.bac_walk.specs.declared.outcome.Ended.TheVariants.{CaughtUp, StepLimit, Stopped, Fault}
 use Rattle.bac_play.specs.declared.play.Play.{Play}
-use Rattle.bac_play.specs.Play.{DryWantsMore, IsOf, Plays, Takes, WantsMore}
+use Rattle.bac_play.specs.Play.{DryWantsMore, HasNoNext, IsOf, Plays, Takes, WantsMore}
 use Rattle.bac_play.proofs.Nexts.{never}
 use Rattle.bac_play.proofs.Mapped.{comes, unanswered}
 use Rattle.bac_play.proofs.Records.{IsWet, wet}
@@ -24,6 +24,7 @@ use Rattle.bac_play.proofs.Records.{IsWet, wet}
 -- what was tried so often, and is wanted then
 abbrev Tried : List ℕ → ℕ → Play → Play → Type 0
 Tried octets most old new = (tries : ℕ) × (tries < most) × Unanswered Takes octets tries old.outcomes.now new.outcomes.now × IsOf octets new.wanted
+    × HasNoNext new.outcomes.now octets
 
 -- one more ask without an answer, of a link that was dry then or wasn't
 once_more : (octets : List ℕ) (n : ℕ) (old mid new : Play) (answer : Result (List ℕ) Loss) → Unanswered Plays octets n old mid → Plays mid octets answer new → new.is_dry ≡ true →
@@ -35,10 +36,11 @@ once_more octets n old mid new answer before (inr (lost, same, is, still, wants)
     go true b =
         let had = early b in
         let few : had.0 < n = had.1 in
-        (had.0, omega (arith, few), subst (λ xs. Unanswered Takes octets had.0 old.outcomes.now xs) (sym same) had.2, subst (IsOf octets) (sym (still b)) had.3)
+        (had.0, omega (arith, few), subst (λ xs. Unanswered Takes octets had.0 old.outcomes.now xs) (sym same) had.2, subst (IsOf octets) (sym (still b)) had.3,
+            subst (λ xs. HasNoNext xs octets) (sym same) had.4)
     go false b =
         let had = unanswered Plays Takes (λ link. link.outcomes.now) IsWet wet octets n old mid before b in
-        (n, omega arith, subst (λ xs. Unanswered Takes octets n old.outcomes.now xs) (sym same) had.1, wants b)
+        (n, omega arith, subst (λ xs. Unanswered Takes octets n old.outcomes.now xs) (sym same) had.1, (wants b).0, subst (λ xs. HasNoNext xs octets) (sym same) (wants b).1)
 
 unanswered_dry : (octets : List ℕ) (n : ℕ) (old new : Play) → Unanswered Plays octets n old new → old.is_dry ≡ false → new.is_dry ≡ true → Tried octets n old new
 unanswered_dry octets zero old new same was dry = never old.is_dry (ap (λ (l : Play). l.is_dry) (sym same) ∙ dry) was
@@ -77,7 +79,7 @@ dry path retries steps old mid new before here after came (Fault e) comes_all (f
     let tried = exchange_dry path ask.0 (question here.log (question_of here)) retries mid new result ask.1 was is in
     let few : tried.0 < retries + 1 = tried.1 in
     let first = comes Plays Takes (λ link. link.outcomes.now) IsWet wet path retries old (restarted before) came here mid comes_all was in
-    (came, here, mid.outcomes.now, ask.0, tried.0, omega (arith, few), first.1, tried.2, tried.3)
+    (came, here, mid.outcomes.now, ask.0, tried.0, omega (arith, few), first.1, tried.2, tried.3, tried.4)
 
 pub dry_wants : DryWantsMore
 dry_wants = λ path retries old new before after steps came items ended (here, mid, comes_all, end, of) was is.

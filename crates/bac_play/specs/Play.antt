@@ -1,5 +1,5 @@
 -- Links that answer from a record of what came to asks, one after the other. Read Takes and AreSaid, and then the laws.
-use Rattle.std.specs.Prelude.{◌≡◌, ℕ, ◌<◌, ◌≤◌, ◌⊎◌, true, false, Option, Some, None, Result, Err, List, [], ◌∷◌}
+use Rattle.std.specs.Prelude.{◌≡◌, ◌≢◌, ℕ, ◌<◌, ◌≤◌, ◌⊎◌, true, false, Option, Some, None, Result, Err, List, [], ◌∷◌}
 use Rattle.std.specs.Prelude.{length}
 use Rattle.bac_wire.specs.Primitive.{Id}
 use Rattle.bac_link.specs.declared.item.Item.{Item}
@@ -25,9 +25,14 @@ use Rattle.bac_play.specs.declared.play.Play.{Play}
 abbrev pub Takes : List Outcome → List ℕ → Result (List ℕ) Loss → List Outcome → Type 0
 Takes old octets answer new = old ≡ record { request = octets; answer = answer } ∷ new
 
--- the same, if the next one is that of the request
+-- a record has no outcome, or its next one is that of another request
+abbrev pub HasNoNext : List Outcome → List ℕ → Type 0
+HasNoNext [] octets = Unit {0}
+HasNoNext (outcome ∷ outcomes) octets = outcome.request ≢ octets
+
+-- the next outcome is taken, if it is that of the request
 abbrev pub IsNext : List Outcome → List ℕ → Option (Result (List ℕ) Loss) → List Outcome → Type 0
-IsNext old octets None new = new ≡ old
+IsNext old octets None new = (new ≡ old) × HasNoNext old octets
 IsNext old octets (Some answer) new = Takes old octets answer new
 
 -- Each outcome of a record that is one of a question for so many of a log's records is by the standard, at the moment
@@ -46,25 +51,27 @@ abbrev pub IsOf : List ℕ → Option (List ℕ) → Type 0
 IsOf octets None = 1501 < length octets
 IsOf octets (Some datagram) = datagram ≡ octets
 
--- The next outcome of the record, as long as it isn't dry; or none, and then it is dry, and wants what was asked first
--- of all that it had no outcome for.
+-- The next outcome of the record, as long as it isn't dry; or none, since it was dry, or has no such outcome next. Then
+-- it is dry, and wants what was asked first of all that it had no outcome for.
 abbrev pub Plays : Play → List ℕ → Result (List ℕ) Loss → Play → Type 0
 Plays old octets answer new =
     (Takes old.outcomes.now octets answer new.outcomes.now × (old.is_dry ≡ false) × (new.is_dry ≡ false))
     ⊎ (((lost : Loss) × (answer ≡ Err lost)) × (new.outcomes.now ≡ old.outcomes.now) × (new.is_dry ≡ true)
-    × (old.is_dry ≡ true → new.wanted ≡ old.wanted) × (old.is_dry ≡ false → IsOf octets new.wanted))
+    × (old.is_dry ≡ true → new.wanted ≡ old.wanted)
+    × (old.is_dry ≡ false → IsOf octets new.wanted × HasNoNext old.outcomes.now octets))
 
 -- the octets that a walk asks that is here
 abbrev pub asked_at : Path → ℕ → WalkPlace → List ℕ
 asked_at path invoke here = request_octets path invoke (question here.log (question_of here))
 
 -- A run over a record wants more than that has: by these replies of it the walk came here, its question was tried so
--- often, and is asked next.
+-- often, and is asked next, for which there is no outcome.
 abbrev pub WantsMore : Path → ℕ → List Outcome → WalkPlace → List Outcome → Option (List ℕ) → Type 0
 WantsMore path retries outcomes before left wanted =
     (came : List Came) × (here : WalkPlace) × (half : List Outcome) × (invoke : ℕ) × (tries : ℕ) × (tries ≤ retries)
     × Comes Takes path retries outcomes (restarted before) came here half
     × Unanswered Takes (asked_at path invoke here) tries half left × IsOf (asked_at path invoke here) wanted
+    × HasNoNext left (asked_at path invoke here)
 
 -- ---- laws
 

@@ -1,6 +1,6 @@
 //! Links that answer from a record.
 
-ghost use Rattle.std.specs.Prelude.{◌≡◌, ◌↔◌, true, false, [], None, IfSome, IsTrue};
+ghost use Rattle.std.specs.Prelude.{◌≡◌, ◌≢◌, ◌↔◌, true, false, [], None, IfNone, IfSome, IsTrue};
 ghost use Rattle.bac_play.specs.Play.{IsNext, Plays};
 
 use bac_link::{LogLink, Lost};
@@ -16,8 +16,9 @@ pub struct Outcome {
 impl Outcome {
     /// What came of it, if this was asked.
     fn answer_to(&self, request: &[u8]) -> Option<Result<Datagram, Lost>>
-        ensures { IfSome result
+        ensures answer { IfSome result
             (λ answer. self.now ≡ record { request = request.now; answer = answer }) }
+        ensures other { IfNone result (self.now.request ≢ request.now) }
     {
         if self.request.octets() == request {
             Some(self.answer())
