@@ -1,5 +1,5 @@
 -- What runs keep of replies that came by transactions, one after the other.
-use Rattle.std.proofs.Common.{◌≡◌, ◌≢◌, ℕ, ◌+◌, ◌≤◌, List, [], ◌∷◌, ◌++◌, refl, sym, ap, subst, ◌∙◌, arith}
+use Rattle.std.proofs.Common.{◌≡◌, ◌≢◌, ℕ, false, ◌+◌, ◌≤◌, List, [], ◌∷◌, ◌++◌, refl, sym, ap, subst, ◌∙◌, arith}
 use Rattle.sqlite.specs.Effect.{Database}
 use Rattle.sqlite_value.specs.Order.{Row as Values}
 use Rattle.bac_link.specs.declared.item.Item.{Item}
@@ -17,7 +17,8 @@ use Rattle.bac_archive.proofs.BeginLemmas.{adds_nothing}
 use Rattle.bac_keep.specs.declared.place.Place.{Place}
 use Rattle.bac_keep.specs.Items.{era, era_after, kept_rows}
 use Rattle.bac_keep.specs.Came.{CameBy, GathersBy, KeepsBy}
-use Rattle.bac_keep.specs.Rising.{free_after, free_behind}
+use Rattle.bac_keep.specs.Rising.{free_after, free_behind, goes_back}
+use Rattle.bac_keep.proofs.Taken.{rises-append}
 use Rattle.bac_keep.specs.Runs.{records_in, gaps_among}
 use Rattle.bac_keep.proofs.Eras.{rows-append, era-append}
 use Rattle.bac_keep.proofs.RunLemmas.{appended_then, gaps-append, records-append}
@@ -112,10 +113,11 @@ module _ {S : Type 0} (asks : Asking S) where
   abbrev pub KeepsUpTo : Transactions → Place → Place → Database → Database → S → S → WalkPlace → WalkPlace → ℕ → Ended → ℕ → ℕ → Transactions → ℕ → ℕ → Type 0
   KeepsUpTo first place reached old new link left before after steps ended records gaps last free now =
       (kept : KeepsBy asks first place reached old new link left before after steps ended records gaps last) × (now ≡ free_after free kept.over.items)
+      × (goes_back free kept.over.items ≡ false)
 
   pub up_to_nothing : (t : Transactions) (place : Place) (db : Database) (link : S) (w : WalkPlace) (free : ℕ) → KeepsUpTo t place place db db link link w w 0 StepLimit 0 0 t free free
   unfolding by_nothing kept_by
-  up_to_nothing t place db link w free = (by_nothing t place db link w, refl)
+  up_to_nothing t place db link w free = (by_nothing t place db link w, refl, refl)
 
   free_after-append : (free : ℕ) (xs ys : List Item) → free_after free (xs ++ ys) ≡ free_after (free_after free xs) ys
   free_after-append free [] ys = refl
@@ -126,14 +128,15 @@ module _ {S : Type 0} (asks : Asking S) where
       KeepsUpTo u halfway reached b c half left middle after more ended records_then gaps_then z there now →
       KeepsUpTo t place reached a c link left before after (steps + more) ended (records + records_then) (gaps + gaps_then) z free now
   unfolding by_then kept_by
-  up_to_then t u z place halfway reached a b c link half left before middle after steps more ended records gaps records_then gaps_then free there now (p, is) (q, then) = (
+  up_to_then t u z place halfway reached a b c link half left before middle after steps more ended records gaps records_then gaps_then free there now (p, is, rise) (q, then, rises) = (
     by_then t u z place halfway reached a b c link half left before middle after steps more ended records gaps records_then gaps_then p q,
     then ∙ ap (λ n. free_after n q.over.items) is ∙ sym (free_after-append free p.over.items q.over.items),
+    rises-append free p.over.items q.over.items rise ∙ ap (λ n. goes_back n q.over.items) (sym is) ∙ rises,
   )
 
   pub up_to_one : (t z : Transactions) (place reached : Place) (old new : Database) (link left : S) (before after : WalkPlace) (ended : Ended) (rows : List Values) (records gaps free now : ℕ) → after.log ≡ before.log →
-      (came : GathersBy asks t place reached rows records gaps link left before after ended z) × (now ≡ free_after free came.0.0) → IsAppended old new rows →
+      (came : GathersBy asks t place reached rows records gaps link left before after ended z) × (now ≡ free_after free came.0.0) × (goes_back free came.0.0 ≡ false) → IsAppended old new rows →
       KeepsUpTo t place reached old new link left before after 1 ended records gaps z free now
   unfolding by_one kept_by
-  up_to_one t z place reached old new link left before after ended rows records gaps free now log ((g, run), is) added =
-      (by_one t z place reached old new link left before after ended rows records gaps log (g, run) added, is)
+  up_to_one t z place reached old new link left before after ended rows records gaps free now log ((g, run), is, rises) added =
+      (by_one t z place reached old new link left before after ended rows records gaps log (g, run) added, is, rises)

@@ -14,6 +14,8 @@ use Rattle.bac_archive.proofs.RowsLemmas.{stays}
 use Rattle.bac_keep.specs.declared.place.Place.{Place}
 use Rattle.bac_link.specs.Path.{towards}
 use Rattle.bac_keep.specs.Came.{KeepsBy}
+use Rattle.bac_keep.specs.Rising.{AddsRising}
+use Rattle.bac_walk.specs.Place.{WalkPlace}
 use Rattle.bac_keep.specs.Runs.{KeepsRun}
 use Rattle.bac_keep.proofs.ByLemmas.{KeepsUpTo, by_early, by_nothing, by_then, came_last, came_then, none_came, up_to_nothing, up_to_then}
 use Rattle.bac_keep.proofs.CauseLemmas.{still_archive, unkept_at}
@@ -36,7 +38,7 @@ loop-done-init g c = record {
   few_gaps = omega arith;
   tested = λ h. absurd (omega (arith, h));
   ended = λ h. absurd (omega (arith, h));
-  none = λ h. (refl, refl, refl);
+  none = λ h. (refl, refl, refl, refl, refl, refl, refl);
   kept = λ clean has. keeps_nothing (λ link id r M H. g.L.LogLink.is_ours link id r M H) (λ link. g.L.LogLink.failures link) c.args.place c.args.transactions.now.retries (state g.S.Store c.args.conn.now).now c.args.link.now c.args.walk;
   transacted = λ clean has. by_nothing g.L.LogLink.asks c.args.transactions.now c.args.place (state g.S.Store c.args.conn.now).now c.args.link.now c.args.walk;
   behind = λ clean has. up_to_nothing g.L.LogLink.asks c.args.transactions.now c.args.place (state g.S.Store c.args.conn.now).now c.args.link.now c.args.walk c.args.free;
@@ -325,7 +327,9 @@ returns-in-Err-clause-foreign g c foreign some = elim (eq-zero-or-pos c.loop-don
       let same = c.loop-done.invariant.none zero in
       let it = c.in-Err.ensures.foreign (λ has. foreign (subst (λ (h : Held g.row.S.Denot). HasArchive (state g.S.Store h).now.schema) same.0 has)) in
       let is : c.in-Err.error ≡ NoArchive = let e = it.0 in cc in
-      (ap Err is, same.2, it.1 ∙ same.0, it.2 ∙ same.1)
+      let stays : c.keep_next.new.place ≡ c.loop-done.place = c.in-Err.ensures.stays in
+      let next : c.next_number-next.result ≡ c.args.walk.next = c.next_number-next.ensures.next ∙ ap (λ (w : WalkPlace). w.next) same.4 in
+      (ap Err is, same.2, same.3, next, stays ∙ same.5, it.1 ∙ same.0, it.2 ∙ same.1, it.3 ∙ same.6)
   | inr done ↦ absurd (foreign (c.loop-done.invariant.tested done))
 ]
 
@@ -337,6 +341,28 @@ returns-in-Some-clause-foreign g c foreign some = absurd (elim (eq-zero-or-pos c
 
 pub returns-clause-foreign : goal.returns-clause-foreign
 returns-clause-foreign g c foreign some = absurd (foreign (c.loop-done.invariant.tested (omega arith)))
+
+-- none of the numbers that were added goes back
+pub returns-in-Err-clause-rises : goal.returns-in-Err-clause-rises
+returns-in-Err-clause-rises g c clean is_open has =
+    let early : HasCleanDisk (state g.S.Store c.loop-done.conn) = omega (arith, clean, c.keep_next.ensures.crash.clean) in
+    let up_to = c.loop-done.invariant.behind early has in
+    subst (AddsRising c.args.place c.args.free (state g.S.Store c.args.conn.now).now) (sym (c.in-Err.ensures.neither clean is_open).0)
+    (up_to.0.over.items, up_to.0.over.rows, up_to.2)
+
+pub returns-in-Some-clause-rises : goal.returns-in-Some-clause-rises
+returns-in-Some-clause-rises g c clean is_open has =
+    let early : HasCleanDisk (state g.S.Store c.loop-done.conn) = omega (arith, clean, c.keep_next.ensures.crash.clean) in
+    let up_to = up_to_then g.L.LogLink.asks c.args.transactions.now c.loop-done.transactions c.keep_next.new.transactions c.args.place c.loop-done.place c.keep_next.new.place
+    (state g.S.Store c.args.conn.now).now (state g.S.Store c.loop-done.conn).now (state g.S.Store c.keep_next.new.conn).now
+    c.args.link.now c.loop-done.link c.keep_next.new.link c.args.walk c.loop-done.walk c.keep_next.new.walk c.loop-done.done 1 c.in-Ok.step.ended c.loop-done.records c.loop-done.gaps c.in-Ok.step.records c.in-Ok.step.gaps
+    c.args.free c.loop-done.free c.keep_next.new.free (c.loop-done.invariant.behind early has) (c.in-Ok.ensures.behind clean) in
+    (up_to.0.over.items, up_to.0.over.rows, up_to.2)
+
+pub returns-clause-rises : goal.returns-clause-rises
+returns-clause-rises g c clean is_open has =
+    let up_to = c.loop-done.invariant.behind clean has in
+    (up_to.0.over.items, up_to.0.over.rows, up_to.2)
 
 pub returns-in-Err-clause-committed : goal.returns-in-Err-clause-committed
 returns-in-Err-clause-committed g c clean is_open same =

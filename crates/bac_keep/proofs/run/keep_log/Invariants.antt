@@ -25,7 +25,7 @@ invariant-loop-done g l = record {
   few_gaps : l.gaps ≤ l.done;
   tested : 0 < l.done → HasArchive (state g.S.Store l.fn.conn).now.schema;
   ended : 0 < l.done → l.conn.in_transaction ≡ false;
-  none : l.done ≡ 0 → (l.conn ≡ l.fn.conn) × (l.link ≡ l.fn.link) × (l.records ≡ 0);
+  none : l.done ≡ 0 → (l.conn ≡ l.fn.conn) × (l.link ≡ l.fn.link) × (l.records ≡ 0) × (l.gaps ≡ 0) × (l.walk ≡ l.fn.walk) × (l.place ≡ l.fn.place) × (l.transactions ≡ l.fn.transactions);
   kept : HasCleanDisk (state g.S.Store l.conn) → HasArchive (state g.S.Store l.fn.conn).now.schema →
       KeepsRun (λ link id r M H. g.L.LogLink.is_ours link id r M H) (λ link. g.L.LogLink.failures link) l.fn.place l.place l.fn.transactions.retries
       (state g.S.Store l.fn.conn).now (state g.S.Store l.conn).now l.fn.link l.link l.fn.walk l.walk l.done StepLimit l.records l.gaps;
