@@ -3,12 +3,8 @@ use Rattle.std.specs.Prelude.{◌≡◌, ◌<◌, ◌^◌, ℕ, List, None, Resu
 use Rattle.bac_wire.specs.Primitive.{Id}
 use Rattle.bac_wire.specs.Primitive as primitive
 use Rattle.bac_apdu.specs.declared.service.read_property.ReadProperty.{ReadProperty}
-use Rattle.bac_link.specs.Exchanges.{Exchanges}
-use Rattle.bac_link.specs.Path.{Path}
 use Rattle.bac_link.specs.declared.exchanges.ExchangeFault.{ExchangeFault}
 use Rattle.bac_link.specs.declared.exchanges.ExchangeFault.TheVariants as fault
-use Rattle.bac_link.specs.declared.link.Lost.{Lost as Loss}
-use Rattle.bac_link.specs.declared.request.Request.TheVariants as request
 use Rattle.bac_query.specs.Answers.{Tells}
 use Rattle.bac_query.specs.Tables.{Ask, Client, Questions}
 use Rattle.bac_questions.specs.declared.questions.Count.{Count}
@@ -35,14 +31,3 @@ AsksFor reads old object property count new =
 -- so was the Total_Record_Count of a log (145, clause 12.25), which the next transaction asked for
 abbrev pub CountsBy : {S : Type 0} → Ask S → Client S → Id → Count → Client S → Type 0
 CountsBy asks old log count new = AsksFor (Questions asks) old log 145 count new
-
--- a ReadProperty was exchanged over a link, under some invoke ID: a datagram with its ACK came, or why none did
-abbrev pub Reads : {S : Type 0} → (S → List ℕ → Result (List ℕ) Loss → S → Type 0) → Path → ℕ →
-    ReadProperty → S → Result (List ℕ) ExchangeFault → S → Type 0
-Reads asks path retries asked old answer new =
-    (invoke : ℕ) × Exchanges asks path invoke (request.ReadProperty asked) retries old answer new
-
--- the same count, of the link alone
-abbrev pub Counts : {S : Type 0} → (S → List ℕ → Result (List ℕ) Loss → S → Type 0) → Path → ℕ → S → Id → Count → S
-    → Type 0
-Counts asks path retries old log count new = AsksFor (Reads asks path retries) old log 145 count new

@@ -1,11 +1,10 @@
 //! Single questions to a device.
 
 ghost use Rattle.std.specs.Prelude.{◌≡◌, Err, IfErr, IfOk};
-ghost use Rattle.bac_link.specs.Path.{towards};
 ghost use Rattle.bac_query.specs.Tables.{Questions, client};
 ghost use Rattle.bac_questions.specs.Discovered.{ReadsNumber};
 ghost use Rattle.bac_questions.specs.Unfound.{LacksNumber};
-ghost use Rattle.bac_questions.specs.Counts.{AsksFor, Counts, CountsBy};
+ghost use Rattle.bac_questions.specs.Counts.{AsksFor, CountsBy};
 
 use bac_apdu::ReadProperty;
 use bac_link::{ExchangeFault, LogLink, Request, Transactions, exchange};
@@ -79,8 +78,6 @@ pub fn read_count<L: LogLink>(link: &mut L, transactions: &mut Transactions, log
     // By the next transaction, and none is open after it.
     ensures asked { CountsBy L.asks (client link.old transactions.old) log result
         (client link.new transactions.new) }
-    ensures counts { Counts L.asks (towards transactions.old.route) transactions.old.retries
-        link.old log result link.new }
     ensures retries { transactions.new.retries ≡ transactions.old.retries }
     ensures route { transactions.new.route ≡ transactions.old.route }
 {
