@@ -1,6 +1,6 @@
 -- What came to the first questions of a run, before any of it is kept.
 use Rattle.std.specs.Prelude.{◌≡◌, ◌==◌, ◌+◌, ◌++◌, ◌⊎◌, ℕ, nat_lt, List, [], ◌∷◌, MatchBool, map, Option, None, Some}
-use Rattle.std.specs.Prelude.{Result, Ok, Err}
+use Rattle.std.specs.Prelude.{false, Result, Ok, Err}
 use Rattle.sqlite_value.specs.Order.{Row as Values}
 use Rattle.bac_wire.specs.Primitive.{Id}
 use Rattle.bac_link.specs.declared.item.Item.{Item}
@@ -17,7 +17,7 @@ use Rattle.bac_archive.specs.Rows.{stored}
 use Rattle.bac_keep.specs.Came.{GathersBy}
 use Rattle.bac_keep.specs.Items.{era, kept_row, kept_rows}
 use Rattle.bac_keep.specs.Questions.{GathersAnswerBy, RefusesAnswerBy}
-use Rattle.bac_keep.specs.Rising.{IsCause, free_after}
+use Rattle.bac_keep.specs.Rising.{IsCause, free_after, goes_back}
 use Rattle.bac_keep.specs.declared.keep.Gathered.{Gathered}
 use Rattle.bac_keep.specs.declared.place.Place.{Place}
 use Rattle.bac_keep.specs.declared.sink.Refusal.{Refusal}
@@ -43,12 +43,13 @@ IsStep Stopped = ⊥
 IsStep (Fault fault) = ⊥
 
 -- What is in hand came to one step of a walk, each question by the next transaction of a client: its rows from a place
--- on, so many records and gaps, where it ended, and the least number that may come behind them, where it was this one.
+-- on, none of which goes back behind this least number that may come there, so many records and gaps, where it ended,
+-- and the least number that may come behind them.
 abbrev pub IsInHand : {S : Type 0} → Ask S → Place → ℕ → Client S → WalkPlace → Gathered → WalkPlace → Client S → Type 0
 IsInHand asks place free old before gathered after new =
     ((came : GathersBy asks old.transactions place gathered.place (map stored gathered.rows.items) gathered.step.records
     gathered.step.gaps old.link new.link before after gathered.step.ended new.transactions)
-    × (gathered.free ≡ free_after free came.0.0))
+    × (gathered.free ≡ free_after free came.0.0) × (goes_back free came.0.0 ≡ false))
     × CoverFrom place (map stored gathered.rows.items) before after
 
 -- what came to one step of a walk can't be kept from a place on, where no number below this one may come
