@@ -2,6 +2,7 @@
 use Rattle.std.proofs.Common.{◌≡◌, ◌<◌, ◌≤◌, ◌+◌, ◌-◌, ◌∙◌, ◌||◌, ◌&&◌, not, ℕ, zero, suc, Bool, true, false, All, List, [], ◌∷◌, ◌++◌, length, map, take, drop, Option, Some, None, IfNone, IfSome, is_some, slice_get, refl, ap, sym, subst, arith}
 use Rattle.std.proofs.lemmas.Bool.{false_from_ne_true}
 use Rattle.std.proofs.lemmas.List.{append_assoc, length-drop, length-map, length-take-le, take-append-drop, take_all}
+use Rattle.std.proofs.Math.Bool.{or-false}
 use Rattle.std.proofs.Math.Seq.{drop-nil}
 use Rattle.std.proofs.lemmas.List.Elements.{All-cons, All-drop, All-head, All-nil, All-tail, All-take}
 use Rattle.std.proofs.lemmas.List.Folds.{list_any-append}
@@ -17,7 +18,6 @@ use Rattle.bac_desks.specs.Seat.{IsAwaited, after_heard, holds_place, holds_plac
 use Rattle.bac_desks.specs.Span.{AreOpenAmong, AreOpenWithin}
 use Rattle.bac_desks.specs.Table.{IsAwaiting, IsToNextDue, TableState}
 use Rattle.bac_desks.proofs.Limits.{tally}
-use Rattle.bac_link.proofs.Flags.{or_none}
 
 -- ---- so many places from the first on
 
@@ -196,7 +196,7 @@ unheard known heard s shut =
     let near : Bool = is_from known s.desk.peer heard.from && not (is_taken s.desk heard) in
     let S : DeskState → Bool → Seat = λ d b. record { desk = d; sends = s.sends; since = s.since; has_stray = b } in
     ap (λ (d : DeskState). S d (s.has_stray || (is_open s && near))) (unheard_desk s.desk s.desk.pending heard shut)
-    ∙ ap (λ (b : Bool). S s.desk (s.has_stray || (b && near))) shut ∙ ap (λ (b : Bool). S s.desk b) (or_none s.has_stray)
+    ∙ ap (λ (b : Bool). S s.desk (s.has_stray || (b && near))) shut ∙ ap (λ (b : Bool). S s.desk b) (or-false s.has_stray)
 
 pub heard_among : (known : Bool) (heard : Heard) (first behind : ℕ) (seats : List Seat) → AreOpenWithin first behind seats →
     take first seats ++ (map (after_heard known heard) (slice_range seats first behind) ++ drop (behind - first) (drop first seats)) ≡ map (after_heard known heard) seats

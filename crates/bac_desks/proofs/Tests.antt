@@ -9,7 +9,7 @@ use Rattle.bac_desks.specs.Seat.{IsDue, holds_place, holds_place_at, is_open}
 use Rattle.bac_desks.specs.Table.{IsFree, IsLost, MayAsk, TableState}
 
 -- one seat stands at a place
-same_seat : (a b : Seat) (o : Option Seat) → o ≡ Some a → o ≡ Some b → a ≡ b
+pub same_seat : (a b : Seat) (o : Option Seat) → o ≡ Some a → o ≡ Some b → a ≡ b
 same_seat a b o e f = let s : Some a ≡ Some b = sym e ∙ f in cc
 
 none_pending : (o : Option (List ℕ)) → is_some o ≡ false → o ≡ None

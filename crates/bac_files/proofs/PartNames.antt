@@ -4,10 +4,10 @@ use Rattle.std.specs.Str.Parse.{AllDigits, IsNumeral, ParsesUnsigned, digits_val
 use Rattle.std.proofs.lemmas.Fmt.{decimal-digits_value, decimal_is_IsNumeral, length-decimal-le}
 use Rattle.std.proofs.lemmas.List.{append_cancel_right, length-append, length-replicate}
 use Rattle.std.proofs.lemmas.Str.Parse.{digit_at, digit_from_value, digits_value_short, numerals_by_value, tells_digits, without_leading_plus_none}
-use Rattle.std.proofs.lemmas.Bool.{cases_order}
+use Rattle.std.proofs.lemmas.Bool.{cases_lt}
 use Rattle.std.proofs.lemmas.Option.{none-some}
 use Rattle.std.specs.Bool.{Decides}
-use Rattle.std.specs.Prelude.{◌⊎◌, ◌↔◌}
+use Rattle.std.specs.Prelude.{◌↔◌}
 use Rattle.bac_files.specs.Parts.{IsPartFile}
 
 -- so many zeros fill the digits of a number up
@@ -41,14 +41,11 @@ no_zero c digits all some small =
     let zeros : length (c ∷ digits) - length (decimal (digits_value 10 (c ∷ digits))) ≡ 0 = omega (arith, long) in
     (omega (arith, long), sym (ap (λ z. filled z (decimal (digits_value 10 (c ∷ digits)))) zeros ∙ same))
 
-lower_or : (a b : ℕ) → (a < b) ⊎ (b ≤ a)
-lower_or a b = elim (cases_order a b) [ inl same ↦ inr (omega (arith, same)) | inr (inl low) ↦ inl low | inr (inr high) ↦ inr (omega (arith, high)) ]
-
 is_filled : (digits : List ℕ) → AllDigits 10 digits → 0 < digits_value 10 digits → digits_value 10 digits < 2 ^ 64 → IsFilled digits
 is_filled [] all some small = absurd (omega (arith, some))
 is_filled (c ∷ digits) all some small =
     let digit = digit_from_value c all.0 in
-    elim (lower_or c 49) [
+    elim (cases_lt c 49) [
       | inl low ↦
           let is : 48 ≡ c = omega (arith, low, digit.0) in
           subst (λ d. IsFilled (d ∷ digits)) is (one_more_zero digits (is_filled digits all.1

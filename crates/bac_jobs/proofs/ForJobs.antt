@@ -1,6 +1,6 @@
 -- What is asked for jobs, and the open questions by it.
-use Rattle.std.proofs.Common.{◌≡◌, ◌<◌, ◌==◌, ◌⊎◌, inl, inr, ℕ, Bool, true, false, List, [], ◌∷◌, ◌++◌, All, Option, Some, None, get_or, length, slice_get, refl, ap, sym, subst, ◌∙◌}
-use Rattle.std.proofs.lemmas.Bool.Decides.{eqb_tells}
+use Rattle.std.proofs.Common.{◌≡◌, ◌<◌, ◌⊎◌, inl, inr, ℕ, Bool, true, false, List, [], ◌∷◌, ◌++◌, All, Option, Some, None, get_or, length, slice_get, refl, ap, sym, subst, ◌∙◌}
+use Rattle.std.proofs.lemmas.Bool.{cases_eq}
 use Rattle.std.proofs.lemmas.List.Elements.{All-head, All-tail}
 use Rattle.std.proofs.lemmas.Option.{slice_get-get_or}
 use Rattle.std.proofs.Math.ListN.{set}
@@ -9,6 +9,7 @@ use Rattle.bac_ports.specs.Port.{Receiving, Sending}
 use Rattle.bac_ports.specs.declared.port.Heard.{Heard}
 use Rattle.bac_play.specs.declared.play.Outcome.{Outcome}
 use Rattle.bac_site.specs.Desk.{DeskState, answered, asked, given_up, heard_by}
+use Rattle.bac_desks.proofs.Tests.{same_seat}
 use Rattle.bac_desks.specs.Chain.{Chain}
 use Rattle.bac_desks.specs.Event.{Asked, ClockStep, Event, GivenUp, PortStep, Read, Received, Sent, Waited}
 use Rattle.bac_desks.specs.Seat.{after_ask, after_heard, after_loss, after_send, is_known}
@@ -51,24 +52,13 @@ opens d (Some request) asks octets some opened = absurd (let e : Some request �
 
 -- ---- a seat among others
 
-same_seat : (a b : Seat) (o : Option Seat) → o ≡ Some a → o ≡ Some b → a ≡ b
-same_seat a b o e f = let s : Some a ≡ Some b = sym e ∙ f in cc
-
--- at one place, or at another
-here_or : (m n : ℕ) → (m ≡ n) ⊎ (m ≡ n → ⊥)
-here_or m n = by (eqb_tells m n)
-  where
-    by : (((m == n) ≡ true) × (m ≡ n)) ⊎ (((m == n) ≡ false) × (m ≡ n → ⊥)) → (m ≡ n) ⊎ (m ≡ n → ⊥)
-    by (inl (yes', same)) = inl same
-    by (inr (no', other)) = inr other
-
 -- a seat that stands at a place stood there before, so
 abbrev Was : List Seat → ℕ → Seat → Type 0
 Was seats place seat = (before : Seat) × (slice_get seats place ≡ Some before) × StaysOpen before.desk seat.desk
 
 was_there : (seats : List Seat) (k : ℕ) (there x : Seat) → slice_get seats k ≡ Some there → StaysOpen there.desk x.desk →
     (place : ℕ) (seat : Seat) → slice_get (set seats k x) place ≡ Some seat → Was seats place seat
-was_there seats k there x at open_so place seat is = by (here_or k place)
+was_there seats k there x at open_so place seat is = by (cases_eq k place)
   where
     by : (k ≡ place) ⊎ (k ≡ place → ⊥) → Was seats place seat
     by (inl same) =
@@ -104,7 +94,7 @@ module _ {J E : Type 0} (plays : J → List Outcome → Turn E → Type 0) (jobs
   wanted_asked : (old new : TableState) (k : ℕ) (asks : List ℕ) → Step old (Asked k asks) new → IsWantedAt plays jobs old k asks →
       AreWanted plays jobs old → AreWanted plays jobs new
   wanted_asked old new k asks ((there, at, none, free), is) (job, found, job_at, found_at, wants) are =
-      subst (λ (t : TableState). AreWanted plays jobs t) (sym is) (λ place seat octets seat_at opened. by place seat octets seat_at opened (here_or k place))
+      subst (λ (t : TableState). AreWanted plays jobs t) (sym is) (λ place seat octets seat_at opened. by place seat octets seat_at opened (cases_eq k place))
     where
       by : (place : ℕ) (seat : Seat) (octets : List ℕ) → slice_get (set old.seats k (after_ask there asks)) place ≡ Some seat → seat.desk.pending ≡ Some octets →
           (k ≡ place) ⊎ (k ≡ place → ⊥) → IsWantedAt plays jobs (with_seat old k (after_ask there asks)) place octets

@@ -5,4 +5,3 @@ pub mod Tries
 pub mod Client
 pub mod Honest
 pub mod Growing
-pub mod Flags

@@ -35,9 +35,13 @@ once_more octets n old mid new answer before (inr (lost, same, is, still, wants)
     go : (b : Bool) → mid.is_dry ≡ b → Tried octets (suc n) old new
     go true b =
         let had = early b in
-        let few : had.0 < n = had.1 in
-        (had.0, omega (arith, few), subst (λ xs. Unanswered Takes octets had.0 old.outcomes.now xs) (sym same) had.2, subst (IsOf octets) (sym (still b)) had.3,
-            subst (λ xs. HasNoNext xs octets) (sym same) had.4)
+        let few : had.0 < n = had.1 in (
+          had.0,
+          omega (arith, few),
+          subst (λ xs. Unanswered Takes octets had.0 old.outcomes.now xs) (sym same) had.2,
+          subst (IsOf octets) (sym (still b)) had.3,
+          subst (λ xs. HasNoNext xs octets) (sym same) had.4,
+        )
     go false b =
         let had = unanswered Plays Takes (λ link. link.outcomes.now) IsWet wet octets n old mid before b in
         (n, omega arith, subst (λ xs. Unanswered Takes octets n old.outcomes.now xs) (sym same) had.1, (wants b).0, subst (λ xs. HasNoNext xs octets) (sym same) (wants b).1)

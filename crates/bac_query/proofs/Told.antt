@@ -1,7 +1,8 @@
 -- What the turns of a search come to.
-use Rattle.std.proofs.Common.{◌≡◌, inl, inr, ℕ, zero, suc, ◌||◌, Bool, true, false, is_some, List, [], ◌∷◌, ◌++◌, length, Option, None, Some, Ok, Err, refl, sym, ap, ◌∙◌, arith}
+use Rattle.std.proofs.Common.{◌≡◌, inl, inr, ℕ, zero, suc, ◌||◌, Bool, false, is_some, List, [], ◌∷◌, ◌++◌, length, Option, None, Some, Ok, Err, refl, sym, ap, ◌∙◌, arith}
 use Rattle.std.proofs.lemmas.List.{append-nil, append_assoc, length-append}
 use Rattle.std.specs.Io.KnownBytes.{Appends}
+use Rattle.std.proofs.Math.Bool.{or-false, or_assoc}
 use Rattle.std.proofs.KnownBytes.{Appends-nil, Appends-trans, Appends-kept}
 use Rattle.bac_query.specs.Announcements.{Announcement, announced}
 use Rattle.bac_query.specs.Finding.{Seeks, Settles, Turns, asked}
@@ -12,13 +13,8 @@ use Rattle.bac_query.specs.declared.find_fault.FindFault.TheVariants.{Socket, Re
 use Rattle.bac_ports.specs.Port.{Receiving, Sending}
 use Rattle.bac_ports.specs.declared.port.Heard.{Heard}
 use Rattle.bac_ports.specs.declared.port.SocketFault.TheVariants.{Timeout, Failed}
-use Rattle.bac_link.proofs.Flags.{or_none}
 
 -- ---- lists
-
-or_more : (a b c : Bool) → (a || (b || c)) ≡ ((a || b) || c)
-or_more true b c = refl
-or_more false b c = refl
 
 asked_both : (xs ys : List Turn) → asked_in (xs ++ ys) ≡ asked_in xs ++ asked_in ys
 asked_both [] ys = refl
@@ -39,7 +35,7 @@ lines_both (heard ∷ xs) ys =
 device_both : (xs ys : List Heard) → has_device (xs ++ ys) ≡ (has_device xs || has_device ys)
 device_both [] ys = refl
 device_both (heard ∷ xs) ys =
-    ap (λ b. is_some (announced heard) || b) (device_both xs ys) ∙ or_more (is_some (announced heard)) (has_device xs) (has_device ys)
+    ap (λ b. is_some (announced heard) || b) (device_both xs ys) ∙ sym (or_assoc (is_some (announced heard)) (has_device xs) (has_device ys))
 
 -- ---- lines after lines
 
@@ -83,7 +79,7 @@ comes_both limit left xs ys us vs old mid new (Ok rest) (asks, count, taken, wro
     let e = came_both us vs in (
       asked_both us vs ∙ ap (λ l. l ++ asked_in vs) asks ∙ ap (λ l. xs ++ l) asks',
       omega (arith, ap length e, length-append (came_in us) (came_in vs), count, count'),
-      taken' ∙ ap (λ b. b || has_device (came_in vs)) taken ∙ sym (or_more old.taken (has_device (came_in us)) (has_device (came_in vs)))
+      taken' ∙ ap (λ b. b || has_device (came_in vs)) taken ∙ or_assoc old.taken (has_device (came_in us)) (has_device (came_in vs))
           ∙ ap (λ b. old.taken || b) (sym (device_both (came_in us) (came_in vs))) ∙ ap (λ l. old.taken || has_device l) (sym e),
       rw e (appends_both old.held mid.held new.held (came_in us) (came_in vs) wrote wrote'),
     )
@@ -118,12 +114,12 @@ module _ {P : Type 0} (sends : P → List ℕ → List ℕ → Sending → P →
   tells_nothing : (limit : ℕ) (port : P) (old new : Standing) → new.held ≡ old.held → new.taken ≡ old.taken →
       Tells sends receives within octets [] limit port old (Ok limit) port new
   tells_nothing limit port old new held taken =
-      ([], refl, (refl, omega arith, taken ∙ sym (or_none old.taken), rw held (Appends-nil old.held)))
+      ([], refl, (refl, omega arith, taken ∙ sym (or-false old.taken), rw held (Appends-nil old.held)))
 
   tells_sent : (limit : ℕ) (port mid : P) (address : List ℕ) (sent : Sending) (old : Standing) → sends port octets address sent mid →
       Tells sends receives within octets (address ∷ []) limit port old (Ok limit) mid (asked address sent old)
   tells_sent limit port mid address sent old did =
-      (Sent address sent ∷ [], (mid, did, refl), (refl, omega arith, sym (or_none old.taken), Appends-nil old.held))
+      (Sent address sent ∷ [], (mid, did, refl), (refl, omega arith, sym (or-false old.taken), Appends-nil old.held))
 
   -- ---- a wait
 
@@ -135,7 +131,7 @@ module _ {P : Type 0} (sends : P → List ℕ → List ℕ → Sending → P →
   hears_told wait least (suc limit) port after old new result (inl (few, (e, same, kept))) =
       rw (e, same, kept) (tells_nothing (suc limit) port old old refl refl)
   hears_told wait least (suc limit) port after old new result (inr (many, (Err Timeout, mid, got, (e, same, kept)))) =
-      rw (e, same, kept) (Received wait (Err Timeout) ∷ [], (mid, got, refl), (refl, omega arith, sym (or_none old.taken), Appends-nil old.held))
+      rw (e, same, kept) (Received wait (Err Timeout) ∷ [], (mid, got, refl), (refl, omega arith, sym (or-false old.taken), Appends-nil old.held))
   hears_told wait least (suc limit) port after old new result (inr (many, (Err Failed, mid, got, (e, same, kept)))) =
       rw (e, same, kept) (Received wait (Err Failed) ∷ [], (mid, got, refl), (([], refl), omega arith, Appends-nil old.held))
   hears_told wait least (suc limit) port after old new result (inr (many, (Ok heard, mid, got, (Err fault, then, (shows, pend, taken, ref), (e, same, kept))))) =
@@ -143,7 +139,7 @@ module _ {P : Type 0} (sends : P → List ℕ → List ℕ → Sending → P →
   hears_told wait least (suc limit) port after old new result (inr (many, (Ok heard, mid, got, (Ok shown, then, (shows, pend, taken, ref), more)))) =
       let (some, wrote) = shown_well (announced heard) shown old.held then.held shows in
       tells_both [] [] (suc limit) limit port mid after old then new result
-      (Received wait (Ok heard) ∷ [], (mid, got, refl), (refl, omega arith, taken ∙ ap (λ b. old.taken || b) (sym some ∙ sym (or_none (is_some (announced heard)))), rw (append-nil (line_of (announced heard))) wrote))
+      (Received wait (Ok heard) ∷ [], (mid, got, refl), (refl, omega arith, taken ∙ ap (λ b. old.taken || b) (sym some ∙ sym (or-false (is_some (announced heard)))), rw (append-nil (line_of (announced heard))) wrote))
       (hears_told wait least limit mid after then new result more)
 
   -- ---- a turn, and all of them

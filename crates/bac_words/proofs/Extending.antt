@@ -1,5 +1,6 @@
 -- Words that are added in two steps, and words and tools that are added one after the other.
-use Rattle.std.proofs.Common.{◌≡◌, Bool, true, false, ◌||◌, ℕ, ◌+◌, ◌<◌, List, [], ◌∷◌, ◌++◌, ◌∙◌, length, get_or, drop, map, ap, sym, refl}
+use Rattle.std.proofs.Common.{◌≡◌, Bool, false, ◌||◌, ℕ, ◌+◌, ◌<◌, List, [], ◌∷◌, ◌++◌, ◌∙◌, length, get_or, drop, map, ap, sym, refl}
+use Rattle.std.proofs.Math.Bool.{or-false}
 use Rattle.std.proofs.lemmas.List.{at_drop_more}
 use Rattle.clap.specs.Words.{AddsArg, App, Rule, app_of, rule_of, with_rule, with_subcommand}
 use Rattle.clap.specs.declared.builder.arg.Arg.{Arg}
@@ -22,15 +23,11 @@ paged {a} {b} {own} {shared} {old} c is p q = record {
   globals = q.globals ∙ p.globals ∙ c.globals;
 }
 
-or_false : (b : Bool) → (b || false) ≡ b
-or_false true = refl
-or_false false = refl
-
 -- a command with one more argument has its rule behind its own
 pub with_arg : (old new : Command) (a : Arg) → a.global ≡ false → AddsArg old a new → Extends old (rule_of a ∷ []) new
 with_arg old new a local adds = record {
   app = adds.shape local;
-  globals = adds.globals ∙ ap (λ (b : Bool). (out-Command old).has_globals || b) local ∙ or_false (out-Command old).has_globals;
+  globals = adds.globals ∙ ap (λ (b : Bool). (out-Command old).has_globals || b) local ∙ or-false (out-Command old).has_globals;
 }
 
 -- a command with one more word has the rest to come
