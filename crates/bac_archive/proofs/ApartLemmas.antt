@@ -124,7 +124,7 @@ lower a b m n one two lt = rw (one, two) (value_cmp-Int (pos m) (pos n) ∙ less
     less : (m n : ℕ) → m < n → int_cmp (pos m) (pos n) ≡ Less
     less m n lt = grind (arith, nat_tests)
 
-ends_behind : (v : Value) (id last : ℕ) → EndsAt v id last → id ≤ last
+pub ends_behind : (v : Value) (id last : ℕ) → EndsAt v id last → id ≤ last
 ends_behind Null id last is = omega (arith, is)
 ends_behind (Int (pos to)) id last (from, below, is) = omega (arith, from, below, is)
 ends_behind _ id last is = absurd is
@@ -148,7 +148,7 @@ rise_on free (row ∷ rows) (next, (id, last, is, ends, from, behind), rise) =
     let up : id < next = let e = ends_behind (column row 1) id last ends in omega (arith, e, behind) in
     (((id, is, from), later free next rows (omega (arith, from, up)) rest.0), (above row id next rows is up rest.0, rest.1))
 
-front_rises : (free : ℕ) (rows more : List Values) → RiseFrom free (rows ++ more) → RiseFrom free rows
+pub front_rises : (free : ℕ) (rows more : List Values) → RiseFrom free (rows ++ more) → RiseFrom free rows
 front_rises free [] more rise = tt
 front_rises free (row ∷ rows) more (next, one, rise) = (next, one, front_rises next rows more rise)
 

@@ -22,7 +22,7 @@ use Rattle.sqlite.proofs.Callers.{IsPlain, command_of, reads_as}
 use Rattle.bac_archive.specs.Schema.{HasArchive}
 use Rattle.bac_archive.specs.Rows.{begun, known}
 use Rattle.bac_archive.specs.Beginnings.{IsFreshId, epochs, greatest_beginning_text}
-use Rattle.bac_archive.specs.Causes.{HadIdFrom, IsGreatestId, IsNextId}
+use Rattle.bac_archive.specs.Causes.{HadIdFrom, IsGreatestId}
 use Rattle.bac_archive.specs.Logs.{greatest_log_text}
 use Rattle.bac_archive.proofs.AroundLemmas.{around, is_around}
 use Rattle.bac_archive.proofs.CauseLemmas.{le_or_gt}
@@ -168,7 +168,3 @@ had_greatest trees log beginning most logs starts is above =
 pub had_from : (trees : Trees) (least most : ℕ) → least ≤ most → HadIdFrom trees most → HadIdFrom trees least
 had_from trees least most le (inl it) = inl (it.0, it.1, it.2, it.3, omega (arith, le, it.4))
 had_from trees least most le (inr it) = inr (it.0, it.1, it.2, it.3, omega (arith, le, it.4))
-
--- the id behind the greatest one is the next
-pub next_is : (trees : Trees) (most id : ℕ) → (0 < most → HadIdFrom trees most) → id ≡ most + 1 → IsNextId trees id
-next_is trees most id had is = (omega (arith, is), λ above. had_from trees (id - 1) most (omega (arith, is)) (had (omega (arith, is, above))))

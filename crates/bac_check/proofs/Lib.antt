@@ -1,11 +1,13 @@
 pub mod HoleLemmas
 pub mod TallyLemmas
 pub mod EpochLemmas
+pub mod ApartLemmas
 pub mod CourseLemmas
 pub mod JoinLemmas
 pub mod AskedLemmas
 pub mod CheckedLemmas
 pub mod WholeLemmas
+pub mod TakenLemmas
 pub mod MissingLemmas
 pub mod CountLemmas
 pub mod EachLemmas

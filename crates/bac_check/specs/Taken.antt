@@ -1,6 +1,7 @@
 -- A part of an archive is read, which has to be an archive.
 use Rattle.std.specs.Prelude.{◌≡◌, ◌≢◌, ◌⊎◌, Bool, IsTrue, true, false, Option, None, Some}
 use Rattle.sqlite.specs.Effect.{Database}
+use Rattle.sqlite.specs.declared.error.Error.{Error}
 use Rattle.sqlite_trees.specs.View.{doubt}
 use Rattle.bac_archive.specs.Archive.{IsArchive, IsOfVersion, LieApart}
 use Rattle.bac_archive.specs.Beginnings.{AreBegun}
@@ -23,14 +24,15 @@ of_uncounted uncounted.Overlap = file.Overlap
 of_uncounted uncounted.Memory = file.Memory
 of_uncounted (uncounted.Database error) = of_error error
 
--- Why a database is no archive, of what it held.
+-- Why a database is no archive, of what it held: it hasn't an archive's tables; or it has them, and another version or
+-- items that no archive has. An error of the database says nothing of it.
 abbrev pub IsRefusedBy : Database → Refused → Type 0
 IsRefusedBy found refused.Foreign =
     (¬ HasArchive found.schema) × (found.schema.tables ≢ first_tables) × (found.schema ≢ no_schema)
 IsRefusedBy found refused.First = found.schema.tables ≡ first_tables
-IsRefusedBy found refused.Version = IsOfVersion (versions found.trees) → ⊥
-IsRefusedBy found refused.Overlap = ¬ LieApart (kept found.trees)
-IsRefusedBy found refused.Orphan = ¬ AreBegun found.trees
+IsRefusedBy found refused.Version = HasArchive found.schema × ¬ IsOfVersion (versions found.trees)
+IsRefusedBy found refused.Overlap = HasArchive found.schema × ¬ LieApart (kept found.trees)
+IsRefusedBy found refused.Orphan = HasArchive found.schema × ¬ AreBegun found.trees
 IsRefusedBy found (refused.Database error) = Unit {0}
 
 -- the fault of a part that doesn't go on where the one before it ends
@@ -63,12 +65,13 @@ pub record IsCounted (old : Counts) (found : Reading) (why : Option FileFault) (
   pub counted : CountsPart found.found.trees old new joined
   pub told : why ≡ unless_joined joined
 
--- It is an archive, which is left as it is, and its rows aren't counted: memory is wanting, the database answers by an
--- error, or rows lie over one another. What was counted then isn't told.
+-- It is an archive, which is left as it is, and its rows aren't counted: memory is wanting, or the database answers by
+-- an error. No row of it is found to lie over another. What was counted then isn't told.
 pub record IsUncounted (found : Reading) (why : Option FileFault) : Type 0 where
   pub archive : IsArchive found.found
   pub left : IsTrue found.is_open → found.left ≡ found.found
   pub failed : Uncounted
+  pub apart : failed ≢ uncounted.Overlap
   pub told : why ≡ Some (of_uncounted failed)
 
 -- what becomes of what is counted where a part is read, and why the part is no use or doesn't go on
@@ -79,3 +82,9 @@ TakesPart old found why new =
 -- the same where the disk has given back what was written
 abbrev pub ReadsPart : Counts → Reading → Option FileFault → Counts → Type 0
 ReadsPart old found why new = doubt found.is_clean ≡ 0 → TakesPart old found why new
+
+-- A part that is an archive, whoever wrote it, is counted, unless memory is wanting or its database fails.
+abbrev pub ArchivesAreCounted : Type 0
+ArchivesAreCounted = (old new : Counts) (found : Reading) (why : Option FileFault) → IsArchive found.found
+    → TakesPart old found why new
+    → IsCounted old found why new ⊎ ((why ≡ Some file.Memory) ⊎ ((error : Error) × (why ≡ Some (of_error error))))

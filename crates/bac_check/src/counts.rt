@@ -1,9 +1,11 @@
 //! What is counted of an archive, part by part.
 
-ghost use Rattle.std.specs.Prelude.{◌≡◌, IfOk, OnErr, OnOk, fold};
+ghost use Rattle.std.specs.Prelude.{◌≡◌, ◌≢◌, Err, IfOk, OnErr, OnOk, fold};
 ghost use Rattle.std.specs.List.{All, list_any};
 ghost use Rattle.sqlite.specs.State.{HasCleanDisk, IsUnchanged};
 ghost use Rattle.sqlite.specs.Held.{state};
+ghost use Rattle.bac_archive.specs.Archive.{LieApart};
+ghost use Rattle.bac_archive.specs.Rows.{kept};
 ghost use Rattle.bac_archive.specs.Schema.{OverArchive};
 ghost use Rattle.bac_check.specs.Asked.{IsAsLeft};
 ghost use Rattle.bac_check.specs.Counted.{CountsPart, CountsRows, IsBefore, IsCountOf, IsEmpty};
@@ -111,6 +113,9 @@ impl Counts {
     fn add<A: Alter>(&mut self, alloc: Global, conn: &mut Connection<A>) -> Result<(), Uncounted>
         ensures counted { OverArchive (state A.Store conn.old) (state A.Store conn.new)
             (OnOk result (CountsRows (state A.Store conn.old).now.trees self.old self.new)) }
+        ensures apart { OverArchive (state A.Store conn.old) (state A.Store conn.new)
+            (LieApart (kept (state A.Store conn.old).now.trees)
+            → result ≢ Err Uncounted.Overlap) }
         ensures same { OverArchive (state A.Store conn.old) (state A.Store conn.new)
             (OnOk result (IsUnchanged (state A.Store conn.old) (state A.Store conn.new))) }
         ensures left { OverArchive (state A.Store conn.old) (state A.Store conn.new)
@@ -135,6 +140,9 @@ impl Counts {
     ) -> Result<bool, Uncounted>
         ensures counted { OverArchive (state A.Store conn.old) (state A.Store conn.new)
             (IfOk result (CountsPart (state A.Store conn.old).now.trees self.old self.new)) }
+        ensures apart { OverArchive (state A.Store conn.old) (state A.Store conn.new)
+            (LieApart (kept (state A.Store conn.old).now.trees)
+            → result ≢ Err Uncounted.Overlap) }
         ensures same { OverArchive (state A.Store conn.old) (state A.Store conn.new)
             (OnOk result ((state A.Store conn.new).now ≡ (state A.Store conn.old).now)) }
         ensures left { OverArchive (state A.Store conn.old) (state A.Store conn.new)
@@ -155,6 +163,8 @@ pub(crate) fn count_archive<A: Alter>(
 ) -> Result<Counts, Uncounted>
     ensures counted { OverArchive (state A.Store conn.old) (state A.Store conn.new)
         (IfOk result (IsCountOf (state A.Store conn.old).now.trees)) }
+    ensures apart { OverArchive (state A.Store conn.old) (state A.Store conn.new)
+        (LieApart (kept (state A.Store conn.old).now.trees) → result ≢ Err Uncounted.Overlap) }
     ensures same { OverArchive (state A.Store conn.old) (state A.Store conn.new)
         (OnOk result (IsUnchanged (state A.Store conn.old) (state A.Store conn.new))) }
     ensures left { OverArchive (state A.Store conn.old) (state A.Store conn.new)

@@ -1,15 +1,18 @@
 //! The epochs of logs, and what is counted of each.
 
-ghost use Rattle.std.specs.Prelude.{◌≡◌, ◌∷◌, ◌++◌, [], List, OnErr, OnOk, map};
+ghost use Rattle.std.specs.Prelude.{◌≡◌, ◌≢◌, ◌⊎◌, ◌∷◌, ◌++◌, [], Err, List, OnErr, OnOk, Some};
+ghost use Rattle.std.specs.Prelude.{map, true};
 ghost use Rattle.std.specs.List.{filter};
 ghost use Rattle.sqlite.specs.State.{HasCleanDisk, IsUnchanged};
 ghost use Rattle.sqlite.specs.Held.{state};
+ghost use Rattle.bac_archive.specs.Archive.{LieApart};
 ghost use Rattle.bac_archive.specs.Rows.{kept};
 ghost use Rattle.bac_archive.specs.Schema.{OverArchive};
 ghost use Rattle.bac_check.specs.Asked.{IsAsLeft, IsAsWas};
 ghost use Rattle.bac_check.specs.Epochs.{AreItemsIn, CountsCourse, CountsEach, is_new};
 ghost use Rattle.bac_check.specs.Epochs.{last_of, span_of};
-ghost use Rattle.bac_check.specs.Tallies.{IsTallied};
+ghost use Rattle.bac_check.specs.Holes.{end_of};
+ghost use Rattle.bac_check.specs.Tallies.{GoesOn, IsTallied};
 ghost use Rattle.bac_check.specs.declared.tally.Span.{Span as SpanOf};
 
 use crate::rows::{EPOCHS, read_span, spans_in};
@@ -46,8 +49,12 @@ fn count_row(
     behind: Option<u32>,
     tally: &mut Option<Tally>,
 ) -> Result<(), Uncounted>
-    ensures { (before : List SpanOf) → IsTallied before tally.old → OnOk result
+    ensures counted { (before : List SpanOf) → IsTallied before tally.old → OnOk result
         (IsTallied (before ++ filter (is_new behind) (span_of row.now ∷ [])) tally.new) }
+    ensures last { OnOk result ((tally.new ≡ tally.old)
+        ⊎ (last_of tally.new ≡ Some (end_of (span_of row.now)))) }
+    ensures over { result ≡ Err Uncounted.Overlap
+        → (is_new behind (span_of row.now) ≡ true) × ¬ GoesOn tally.old (span_of row.now) }
 {
     let span = match read_span(row) {
         Ok(span) => span,
@@ -73,6 +80,10 @@ fn count_rows<A: Alter>(
         × AreItemsIn log epoch (kept (state A.Store conn.old).now.trees) rows
         × ((before : List SpanOf) → IsTallied before tally.old
         → IsTallied (before ++ filter (is_new behind) (map span_of rows)) tally.new))) }
+    // Of items that lie apart none is refused: those that were counted end before it.
+    ensures apart { OverArchive (state A.Store conn.old) (state A.Store conn.new)
+        (behind ≡ last_of tally.old → LieApart (kept (state A.Store conn.old).now.trees)
+        → result ≢ Err Uncounted.Overlap) }
     ensures same { OverArchive (state A.Store conn.old) (state A.Store conn.new)
         (OnOk result (IsUnchanged (state A.Store conn.old) (state A.Store conn.new))) }
     ensures left { OverArchive (state A.Store conn.old) (state A.Store conn.new)
@@ -112,6 +123,9 @@ impl Course {
     fn count<A: Alter>(&mut self, alloc: Global, conn: &mut Connection<A>) -> Result<(), Uncounted>
         ensures counted { OverArchive (state A.Store conn.old) (state A.Store conn.new)
             (OnOk result (CountsCourse (state A.Store conn.old).now.trees self.old self.new)) }
+        ensures apart { OverArchive (state A.Store conn.old) (state A.Store conn.new)
+            (LieApart (kept (state A.Store conn.old).now.trees)
+            → result ≢ Err Uncounted.Overlap) }
         ensures same { OverArchive (state A.Store conn.old) (state A.Store conn.new)
             (OnOk result (IsUnchanged (state A.Store conn.old) (state A.Store conn.new))) }
         ensures left { OverArchive (state A.Store conn.old) (state A.Store conn.new)
@@ -133,6 +147,9 @@ pub fn count_each<A: Alter>(
 ) -> Result<(), Uncounted>
     ensures counted { OverArchive (state A.Store conn.old) (state A.Store conn.new)
         (OnOk result (CountsEach (state A.Store conn.old).now.trees courses.old courses.new)) }
+    // No item that lies apart from the others is refused.
+    ensures apart { OverArchive (state A.Store conn.old) (state A.Store conn.new)
+        (LieApart (kept (state A.Store conn.old).now.trees) → result ≢ Err Uncounted.Overlap) }
     ensures same { OverArchive (state A.Store conn.old) (state A.Store conn.new)
         (OnOk result (IsAsWas A.Store conn.old conn.new)) }
     // An error leaves it as it was, or takes back what wasn't committed.

@@ -2,6 +2,7 @@
 
 ghost use Rattle.bac_files.specs.Parts.{part_rules};
 ghost use Rattle.bac_check.specs.Lines.{HolesAreMissing};
+ghost use Rattle.bac_check.specs.Taken.{ArchivesAreCounted};
 ghost use Rattle.bac_check.specs.Whole.{WholeHasEach, ZeroIsWhole};
 
 use bac_files::Parts;
@@ -25,4 +26,10 @@ pub fn holes_are_missing()
 /// from its beginning on, up to the last that is in a row.
 pub fn whole_has_each()
     ensures { WholeHasEach }
+{}
+
+/// A part that is an archive is counted, whoever wrote it, unless memory is wanting or its database
+/// answers by an error. So it is told of none that it is no archive.
+pub fn archives_are_counted()
+    ensures { ArchivesAreCounted }
 {}

@@ -16,7 +16,7 @@ mod tally;
 
 pub use checking::run_check;
 pub use course::{Course, count_each};
-pub use laws::{holes_are_missing, whole_has_each, zero_is_whole};
+pub use laws::{archives_are_counted, holes_are_missing, whole_has_each, zero_is_whole};
 pub use lines::push_log;
 pub use missing::tell_missing;
 pub use tally::{Hole, Span, Tally, Uncounted, front_hole, none_is_missing, take};

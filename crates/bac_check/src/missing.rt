@@ -1,9 +1,11 @@
 //! The numbers that are missing in an archive, each stretch of them in a line.
 
-ghost use Rattle.std.specs.Prelude.{◌≡◌, ◌++◌, IfOk, OnErr, OnOk, filter, flat_map, map};
+ghost use Rattle.std.specs.Prelude.{◌≡◌, ◌≢◌, ◌++◌, Err, IfOk, OnErr, OnOk, filter, flat_map, map};
 ghost use Rattle.std.specs.List.{list_any};
 ghost use Rattle.sqlite.specs.State.{HasCleanDisk, IsUnchanged};
 ghost use Rattle.sqlite.specs.Held.{state};
+ghost use Rattle.bac_archive.specs.Archive.{LieApart};
+ghost use Rattle.bac_archive.specs.Rows.{kept};
 ghost use Rattle.bac_archive.specs.Schema.{OverArchive};
 ghost use Rattle.bac_check.specs.Asked.{IsAsLeft};
 ghost use Rattle.bac_check.specs.Missing.{TellsMissing, from_in, hole_head, is_before, lacks};
@@ -246,6 +248,10 @@ pub fn tell_missing<A: Alter, E: Write>(
         (OnOk result (TellsMissing (state A.Store conn.old).now.trees path.now follows
         (E.contents errors.old) (E.contents errors.new))) }
     ensures untold { OnErr result (E.contents errors.new ≡ E.contents errors.old) }
+    // It fails by the database or for want of memory: no item that lies apart from the others is
+    // refused.
+    ensures apart { OverArchive (state A.Store conn.old) (state A.Store conn.new)
+        (LieApart (kept (state A.Store conn.old).now.trees) → result ≢ Err Uncounted.Overlap) }
     ensures same { OverArchive (state A.Store conn.old) (state A.Store conn.new)
         (OnOk result (IsUnchanged (state A.Store conn.old) (state A.Store conn.new))) }
     // An error leaves the archive as it was, or takes back what wasn't committed.

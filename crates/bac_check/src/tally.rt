@@ -2,7 +2,8 @@
 
 ghost use Rattle.std.specs.Prelude.{◌≡◌, ◌<◌, ◌≤◌, ◌+◌, ◌∷◌};
 ghost use Rattle.std.specs.Prelude.{◌++◌, ◌↔◌, []};
-ghost use Rattle.std.specs.Prelude.{Err, IsTrue, List, OnOk, if◌then◌else◌, is_none, is_some};
+ghost use Rattle.std.specs.Prelude.{Err, IsTrue, List, OnOk, Some, if◌then◌else◌, is_none, is_some};
+ghost use Rattle.bac_check.specs.Epochs.{last_of};
 ghost use Rattle.bac_check.specs.Holes.{NoneIsMissing, end_of, front_of, if_any, stretch};
 ghost use Rattle.bac_check.specs.Tallies.{GoesOn, IsTally, IsTallied, gap_numbers};
 ghost use Rattle.bac_check.specs.declared.tally.Span.{Span as SpanOf};
@@ -83,7 +84,8 @@ impl Span {
 impl Tally {
     /// The first row.
     fn of(alloc: Global, span: Span) -> Tally
-        ensures { span.number ≤ end_of span → IsTally (span ∷ []) result }
+        ensures counted { span.number ≤ end_of span → IsTally (span ∷ []) result }
+        ensures last { result.last ≡ end_of span }
     {
         let (records, gaps, gone) = match span.last {
             None => (1, 0, 0),
@@ -140,9 +142,10 @@ impl Tally {
 
     /// One row more.
     fn extend(&mut self, span: Span) -> Result<(), AllocError>
-        ensures { (spans : List SpanOf) → IsTally spans self.old → self.old.last < span.number
-            → span.number ≤ end_of span
+        ensures counted { (spans : List SpanOf) → IsTally spans self.old
+            → self.old.last < span.number → span.number ≤ end_of span
             → OnOk result (IsTally (spans ++ span ∷ []) self.new) }
+        ensures last { OnOk result (self.new.last ≡ end_of span) }
     {
         self.leave(span.number)?;
         self.count(span);
@@ -169,6 +172,7 @@ fn goes_on(tally: &Option<Tally>, span: Span) -> bool
 pub fn take(alloc: Global, tally: &mut Option<Tally>, span: Span) -> Result<(), Uncounted>
     ensures counted { (spans : List SpanOf) → IsTallied spans tally.old
         → OnOk result (IsTallied (spans ++ span ∷ []) tally.new) }
+    ensures last { OnOk result (last_of tally.new ≡ Some (end_of span)) }
     ensures over { result ≡ Err Uncounted.Overlap
         → (tally.new ≡ tally.old) × ¬ GoesOn tally.old span }
 {

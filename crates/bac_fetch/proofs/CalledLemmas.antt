@@ -27,10 +27,10 @@ module _ {S P C : Type 0} (rules : SocketRules S P) (by : AtOnce S C) where
   logs_kept given all before half after old mid new known heard ends are settles kept = (known, are, heard, half, mid, settles, kept)
 
   -- it ends at one of them
-  pub logs_end : (given : Given) (all : List Wanted) (before half after : S) (old mid : Database) (known : List Log) (heard : List Heard) (fault : NotDone)
-      → AreLogs old.trees known → Settles rules given known all before heard half old mid → EndsSettled rules by heard all half after mid fault
-      → EndsLogs rules by given all before after old fault
-  logs_end given all before half after old mid known heard fault are settles it = inr (known, are, heard, half, mid, settles, it)
+  pub logs_end : (given : Given) (all : List Wanted) (before half after : S) (old mid : Database) (known : List Log) (heard : List Heard) (left : Trees) (fault : NotDone)
+      → AreLogs old.trees known → Settles rules given known all before heard half old mid → EndsSettled rules by heard all half after mid left fault
+      → EndsLogs rules by given all before after old left fault
+  logs_end given all before half after old mid known heard left fault are settles it = inr (known, are, heard, half, mid, settles, it)
 
   -- what is asked at once for the same logs
   pub calls_as : (trees : Trees) (known : List Log) (all all' : List Wanted) (heard found : List Heard) (called : Bool) (before after : S) → all ≡ all'

@@ -17,7 +17,10 @@ use Rattle.bac_asked.specs.declared.fault.FileFault.{FileFault}
 use Rattle.bac_asked.specs.declared.wanted.Wanted.{Wanted}
 use Rattle.bac_ports.specs.Sockets.{SocketRules}
 use Rattle.bac_fetch.specs.Ahead.{AtOnce}
-use Rattle.bac_fetch.specs.Causes.{EndsFirst, EndsSettling, FailsToEnter, IsShut, LeavesUnopened}
+use Rattle.bac_fetch.specs.Causes.{EndsFirst, EndsSettling, FailsToEnter, IsShut, LeavesUndone, LeavesUnopened}
+use Rattle.sqlite.specs.State.{State, Survives}
+use Rattle.bac_begin.proofs.Quiet.{quiet_then}
+use Rattle.bac_fetch.proofs.StaysLemmas.{does_nothing}
 use Rattle.bac_fetch.specs.Keeps.{KeepsLog}
 use Rattle.bac_fetch.specs.declared.entry.Entry.{Entry}
 use Rattle.sqlite.specs.Effect.{Database}
@@ -61,19 +64,29 @@ settling_of_first rules given known [] first before after fault lt is it = absur
 settling_of_first rules given known (x ∷ xs) first before after fault lt is it = subst (λ (w : Wanted). EndsFirst rules given known w before after fault) is it
 
 -- what fails on rows is no socket that wasn't opened
-pub rows_leave : (old new : Database) (fault : NotDone) → FailsOnRows fault → LeavesUnopened old new fault
-rows_leave old new fault (inl memory) = λ why is. absurd (cc)
-rows_leave old new fault (inr (inl line)) = λ why is. absurd (cc)
-rows_leave old new fault (inr (inr (error, wrong))) = λ why is. absurd (cc)
+rows_open : (old new : Database) (fault : NotDone) → FailsOnRows fault → LeavesUnopened old new fault
+rows_open old new fault (inl memory) = λ why is. absurd (cc)
+rows_open old new fault (inr (inl line)) = λ why is. absurd (cc)
+rows_open old new fault (inr (inr (error, wrong))) = λ why is. absurd (cc)
+
+pub rows_leave : (old new : State) (fault : NotDone) → FailsOnRows fault → LeavesUndone old new fault
+rows_leave old new fault rows = (rows_open old.now new.now fault rows, inl rows)
+
+-- nothing was done
+pub nothing_done : (old : State) (fault : NotDone) → LeavesUndone old old fault
+nothing_done old fault = ((λ why is. refl), inr (does_nothing old (λ _. ⊥)))
 
 -- nor is a log that isn't entered
-pub entry_leaves : (old new : Database) (log : Option Log) (trees : Trees) (fault : NotDone) → FailsToEnter log trees fault → LeavesUnopened old new fault
-entry_leaves old new log trees fault (inl rows) = rows_leave old new fault rows
-entry_leaves old new log trees fault (inr (full, none, fresh)) = λ why is. absurd (cc)
+pub entry_leaves : (old new : State) (log : Option Log) (trees : Trees) (fault : NotDone) → Survives old new (λ _. ⊥) → FailsToEnter log trees fault → LeavesUndone old new fault
+entry_leaves old new log trees fault quiet (inl rows) = rows_leave old new fault rows
+entry_leaves old new log trees fault quiet (inr (full, none, fresh)) = ((λ why is. absurd (cc)), inr quiet)
 
 -- behind what changes nothing
-pub leaves_behind : (old mid new : Database) (fault : NotDone) → mid ≡ old → LeavesUnopened mid new fault → LeavesUnopened old new fault
-leaves_behind old mid new fault same it = λ why is. it why is ∙ same
+pub leaves_behind : (old mid new : State) (fault : NotDone) → mid.now ≡ old.now → Survives old mid (λ _. ⊥) → LeavesUndone mid new fault → LeavesUndone old new fault
+leaves_behind old mid new fault same quiet it = (
+  (λ why is. it.0 why is ∙ same),
+  elim it.1 [ inl rows ↦ inl rows | inr still ↦ inr (quiet_then old mid new quiet still) ],
+)
 
 -- the socket over which a log was kept is closed
 pub shut_log : {S P : Type 0} (rules : SocketRules S P) (asking : Asking) (before after : S) (entry : Entry) (object : Id) (old new : Database) (end : End)

@@ -1,5 +1,5 @@
 -- What the commit of a group leaves, what comes behind it, and the lines that wait for it.
-use Rattle.std.proofs.Common.{◌≡◌, ◌≢◌, ◌∙◌, ◌++◌, [], ◌∷◌, ℕ, List, Option, None, Some, inl, refl, subst, sym, ap, append_assoc, arith}
+use Rattle.std.proofs.Common.{◌≡◌, ◌≢◌, ◌∙◌, ◌++◌, [], ◌∷◌, ℕ, List, Option, None, Some, IsTrue, ◌⊎◌, inl, inr, refl, subst, sym, ap, append_assoc, arith}
 use Rattle.std.specs.Io.KnownBytes.{Appends, Keeps, append_known}
 use Rattle.sqlite.specs.Effect.{Database}
 use Rattle.sqlite.specs.State.{State, HasCleanDisk, Survives}
@@ -15,8 +15,8 @@ use Rattle.bac_asked.specs.declared.wanted.Wanted.{Wanted}
 use Rattle.bac_ports.specs.declared.port.OpenFault.{OpenFault}
 use Rattle.bac_ports.specs.Sockets.{SocketRules}
 use Rattle.bac_questions.specs.declared.whose.Heard.{Heard}
-use Rattle.bac_fetch.specs.Causes.{EndsAll, LeavesUnopened}
-use Rattle.bac_fetch.specs.Stays.{HasAllOf}
+use Rattle.bac_fetch.specs.Causes.{EndsAll, LeavesUndone, LeavesUnopened}
+use Rattle.bac_fetch.specs.Stays.{HasAllOf, LeavesBehind, LeavesSeen}
 use Rattle.bac_fetch.proofs.SameLemmas.{survives_as}
 use Rattle.bac_fetch.proofs.StaysLemmas.{all_itself, stays_then}
 
@@ -48,6 +48,41 @@ unopened_stays old mid new fault undone one two = survives_then old mid new (Has
     (λ _ db left. subst (HasAllOf old.now.trees) (sym (left.2 ∙ ap (λ (d : Database). d.trees) (undone left.0 left.1))) (all_itself old.now.trees))
     one two
 
+-- nor was anything committed but what was there before it
+pub unopened_leaves : (old mid new : State) (fault : NotDone) → LeavesUndone old mid fault
+    → Survives mid new (λ trees. (why : OpenFault) × (fault ≡ Asking (Unopened why)) × (trees ≡ mid.now.trees))
+    → FailsOnRows fault ⊎ Survives old new (λ trees. trees ≡ old.now.trees)
+unopened_leaves old mid new fault undone two = elim undone.1 [
+  | inl rows ↦ inl rows
+  | inr one ↦ inr (survives_then old mid new (λ _. ⊥) _ (λ trees. trees ≡ old.now.trees) (λ _ db none. absurd none)
+      (λ _ db left. left.2 ∙ ap (λ (d : Database). d.trees) (undone.0 left.0 left.1)) one two)
+]
+
+-- what the first log leaves
+pub first_leaves : (old new : State) (front : List Wanted) (fault : NotDone) → HasCleanDisk new → (IsTrue new.is_open → new.may_leave new.committed.trees)
+    → FailsOnRows fault ⊎ (front ≡ [] → Survives old new (λ trees. trees ≡ old.now.trees))
+    → LeavesBehind old new (λ left. FailsOnRows fault ⊎ (front ≡ [] → left ≡ old.now.trees))
+first_leaves old new front fault clean stays (inl rows) = (new.committed.trees, (λ seen opened. refl), inl rows)
+first_leaves old new [] fault clean stays (inr still) = (
+  old.now.trees,
+  (λ seen opened. sym (elim ((still refl).crash clean new.committed.trees (stays opened)) [ inl was ↦ seen new.committed.trees was | inr is ↦ is ])),
+  inr (λ none. refl),
+)
+first_leaves old new (x ∷ xs) fault clean stays (inr still) = (new.committed.trees, (λ seen opened. refl), inr (λ none. absurd (cc)))
+
+-- a log came behind others
+pub not_first : (front : List Wanted) (wanted : Wanted) → front ++ wanted ∷ [] ≡ [] → ⊥
+not_first [] wanted is = cc
+not_first (x ∷ xs) wanted is = cc
+
+-- a crash leaves what is seen behind calls that commit nothing, the first over a connection that is open then
+pub seen_behind : (old mid late : State) → mid.committed ≡ old.committed → late.now ≡ old.now → HasCleanDisk late → Survives mid late (λ _. ⊥)
+    → ((db : Trees) → mid.may_leave db → db ≡ mid.committed.trees) → old.committed ≡ old.now → LeavesSeen late
+seen_behind old mid late kept same clean quiet only was = λ db may. elim (quiet.crash clean db may) [
+  | inl left ↦ only db left ∙ ap (λ (d : Database). d.trees) (kept ∙ was ∙ sym same)
+  | inr none ↦ absurd none
+]
+
 -- ---- what is printed, with what waits
 
 -- nothing waits
@@ -71,10 +106,10 @@ line_waits (Some x) (Some y) xs ys zs line is it = it ∙ ap (λ l. x ++ l) is �
 -- ---- why a run ends
 
 -- what is done isn't committed, or isn't told
-pub ends_uncommitted : {S P : Type 0} (rules : SocketRules S P) (known : List Log) (heard : List Heard) (all : List Wanted) (before after : S) (old : Database) (fault : NotDone)
-    → all ≢ [] → FailsOnRows fault → EndsAll rules known heard all before after old fault
-ends_uncommitted rules known heard [] before after old fault some fails = absurd (some refl)
-ends_uncommitted rules known heard (first ∷ more) before after old fault some fails = record {
+pub ends_uncommitted : {S P : Type 0} (rules : SocketRules S P) (known : List Log) (heard : List Heard) (all : List Wanted) (before after : S) (old : Database) (left : Trees) (fault : NotDone)
+    → all ≢ [] → FailsOnRows fault → EndsAll rules known heard all before after old left fault
+ends_uncommitted rules known heard [] before after old left fault some fails = absurd (some refl)
+ends_uncommitted rules known heard (first ∷ more) before after old left fault some fails = record {
   front = [];
   wanted = first;
   rest = more;
@@ -85,4 +120,5 @@ ends_uncommitted rules known heard (first ∷ more) before after old fault some 
   now = heard;
   kept = (refl, refl, refl);
   cause = inl fails;
+  first = inl fails;
 }

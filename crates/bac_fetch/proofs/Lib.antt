@@ -4,7 +4,7 @@ pub mod StaysLemmas
 pub mod EndsLemmas
 pub mod KeepsLemmas
 pub mod MovesLemmas
-pub mod QuietLemmas
+pub mod LeftLemmas
 pub mod GroupLemmas
 pub mod FaultsLemmas
 pub mod CausesLemmas

@@ -1,5 +1,5 @@
 -- What becomes of an archive while it is settled whether a device has moved.
-use Rattle.std.proofs.Common.{◌≡◌, ◌++◌, ◌∷◌, [], ◌+◌, ◌<◌, ◌≤◌, ℕ, Bool, true, false, List, Option, None, Some, ap, refl, subst, sym, ◌∙◌, map, if◌then◌else◌, take, length, get_or, slice_index_or, arith}
+use Rattle.std.proofs.Common.{◌≡◌, MatchBool, ◌++◌, ◌∷◌, [], ◌+◌, ◌<◌, ◌≤◌, ℕ, Bool, true, false, List, Option, None, Some, ap, refl, subst, sym, ◌∙◌, map, if◌then◌else◌, take, length, get_or, slice_index_or, arith}
 use Rattle.std.specs.List.{filter}
 use Rattle.std.proofs.lemmas.List.{map-append, take_all, take_more}
 use Rattle.std.proofs.lemmas.List.Elements.{filter-append}
@@ -90,3 +90,10 @@ pub settles_of_first : {S P : Type 0} (rules : SocketRules S P) (given : Given) 
     → 1 ≤ length all → first ≡ slice_index_or all 0 first → SettlesUnless rules given known first before heard after old new → Settles rules given known all before heard after old new
 settles_of_first rules given known [] first before heard after old new lt is it = absurd (omega (arith, lt))
 settles_of_first rules given known (x ∷ xs) first before heard after old new lt is it = subst (λ (w : Wanted). SettlesUnless rules given known w before heard after old new) is it
+
+-- the device of a log of which none is on record
+pub settles_of_one : {S P : Type 0} (rules : SocketRules S P) (given : Given) (known : List Log) (first : Wanted) (before : S) (one : Heard) (after : S) (old new : Database)
+    → is_placed known first.source ≡ false → SettlesFirst rules given known first before one after old new → SettlesUnless rules given known first before (one ∷ []) after old new
+settles_of_one rules given known first before one after old new none it =
+    subst (λ b. MatchBool b (((one ∷ []) ≡ []) × (after ≡ before) × (new ≡ old))
+    ((two : Heard) × ((one ∷ []) ≡ two ∷ []) × SettlesFirst rules given known first before two after old new)) (sym none) (one, refl, it)

@@ -1,7 +1,9 @@
--- Why a run over logs of an archive on a clean disk ends before each of them was told, from what its caller has on.
+-- Why a run over logs of an archive on a clean disk ends before each of them was told, from what its caller has on, and
+-- what it leaves.
 -- Read `EndsLogs`.
 use Rattle.std.specs.Prelude.{◌≡◌, ◌⊎◌, ℕ, List, [], ◌∷◌, ◌++◌, Option, None, Some, Bool}
 use Rattle.sqlite.specs.Effect.{Database}
+use Rattle.sqlite.specs.State.{State, Survives}
 use Rattle.sqlite_trees.specs.Tree.{Trees}
 use Rattle.bac_archive.specs.Causes.{HasNoFreshId}
 use Rattle.bac_archive.specs.Logs.{AreLogs}
@@ -83,12 +85,17 @@ EndsNext {S = S} rules known heard wanted trees before after fault = FailsOnRows
 abbrev pub LeavesUnopened : Database → Database → NotDone → Type 0
 LeavesUnopened old new fault = (why : OpenFault) → fault ≡ Asking (Unopened why) → new ≡ old
 
+-- so it does, and a fault that isn't of rows commits nothing
+abbrev pub LeavesUndone : State → State → NotDone → Type 0
+LeavesUndone old new fault =
+    LeavesUnopened old.now new.now fault × (FailsOnRows fault ⊎ Survives old new (λ _. ⊥))
+
 -- ---- one log after the other
 
 -- A run over logs ends at one of them: those before it were kept or passed over, as they are in a run that doesn't end,
 -- and from where they left the archive, the sockets and what was heard, this one isn't.
 pub record EndsAll {S P : Type 0} (rules : SocketRules S P) (known : List Log) (heard : List Heard) (all : List Wanted)
-    (before after : S) (old : Database) (fault : NotDone) : Type 0 where
+    (before after : S) (old : Database) (left : Trees) (fault : NotDone) : Type 0 where
   pub front : List Wanted
   pub wanted : Wanted
   pub rest : List Wanted
@@ -99,22 +106,25 @@ pub record EndsAll {S P : Type 0} (rules : SocketRules S P) (known : List Log) (
   pub now : List Heard
   pub kept : KeepsAll rules known heard now front before half old mid ends
   pub cause : EndsNext rules known now wanted mid.trees half after fault
+  -- unless the rows failed, what is left is as it was, if no log was before this one
+  pub first : FailsOnRows fault ⊎ (front ≡ [] → left ≡ old.trees)
 
--- Devices aren't called, nor their logs asked for ahead; or they were, and the run ends at one of the logs.
+-- Devices aren't called, nor their logs asked for ahead, and what is left is as it was; or they were, and the run ends
+-- at one of the logs.
 abbrev pub EndsCalled : {S P C : Type 0} → SocketRules S P → AtOnce S C → List Log → List Heard → List Wanted → S → S →
-    Database → NotDone → Type 0
-EndsCalled {S = S} rules by known heard all before after old fault =
-    EndsCallsAhead rules by old.trees known all heard before after fault
+    Database → Trees → NotDone → Type 0
+EndsCalled {S = S} rules by known heard all before after old left fault =
+    (EndsCallsAhead rules by old.trees known all heard before after fault × (left ≡ old.trees))
     ⊎ ((found : List Heard) × (called : Bool) × (held : S)
     × CallsAhead rules by old.trees known all heard before found called held
-    × EndsAll rules known found all held after old fault)
+    × EndsAll rules known found all held after old left fault)
 
 -- so it does in an archive that has these logs, or they aren't told
 abbrev pub EndsSettled : {S P C : Type 0} → SocketRules S P → AtOnce S C → List Heard → List Wanted → S → S → Database
-    → NotDone → Type 0
-EndsSettled rules by heard all before after old fault = FailsOnRows fault
+    → Trees → NotDone → Type 0
+EndsSettled rules by heard all before after old left fault = FailsOnRows fault
     ⊎ ((known : List Log) × AreLogs old.trees known
-    × EndsCalled rules by known heard all before after old fault)
+    × EndsCalled rules by known heard all before after old left fault)
 
 -- ---- before them, whether a device has moved
 
@@ -143,26 +153,38 @@ abbrev pub EndsSettling : {S P : Type 0} → SocketRules S P → Given → List 
 EndsSettling rules given known [] before after fault = WantsMemory fault
 EndsSettling rules given known (first ∷ more) before after fault = EndsFirst rules given known first before after fault
 
--- so it is in an archive that has these logs, or they aren't told
-abbrev pub FailsToSettle : {S P : Type 0} → SocketRules S P → Given → List Wanted → S → S → Database → NotDone → Type 0
-FailsToSettle rules given all before after old fault = FailsOnRows fault
-    ⊎ ((known : List Log) × AreLogs old.trees known × EndsSettling rules given known all before after fault)
+-- What is left behind a fault in settling where a device stands is as it was; or that was settled, as this says and to
+-- what is left, and memory was wanting behind it.
+abbrev pub LeavesUnsettled : (Database → Type 0) → Trees → Trees → NotDone → Type 0
+LeavesUnsettled settles old left fault = (left ≡ old)
+    ⊎ (WantsMemory fault × (new : Database) × settles new × (left ≡ new.trees))
+
+-- so it is in an archive that has these logs; or they aren't told, and what is left is as it was
+abbrev pub FailsToSettle : {S P : Type 0} → SocketRules S P → Given → List Wanted → S → S → Database → Trees → NotDone
+    → Type 0
+FailsToSettle rules given all before after old left fault = (FailsOnRows fault × (left ≡ old.trees))
+    ⊎ ((known : List Log) × AreLogs old.trees known × EndsSettling rules given known all before after fault
+    × LeavesUnsettled (λ new. (heard : List Heard) × Settles rules given known all before heard after old new) old.trees
+    left fault)
 
 -- ---- the whole run
 
 -- A run over logs ends: where the device of the first one stands isn't settled; or it was, and the run ends behind it.
 abbrev pub EndsLogs : {S P C : Type 0} → SocketRules S P → AtOnce S C → Given → List Wanted → S → S → Database
-    → NotDone → Type 0
-EndsLogs {S = S} rules by given all before after old fault = FailsToSettle rules given all before after old fault
+    → Trees → NotDone → Type 0
+EndsLogs {S = S} rules by given all before after old left fault =
+    FailsToSettle rules given all before after old left fault
     ⊎ ((known : List Log) × AreLogs old.trees known × (heard : List Heard) × (half : S) × (mid : Database)
-    × Settles rules given known all before heard half old mid × EndsSettled rules by heard all half after mid fault)
+    × Settles rules given known all before heard half old mid
+    × EndsSettled rules by heard all half after mid left fault)
 
--- A run over the logs that were chosen ends: they aren't found; or they were, and from where that left the sockets the
--- run over them ends.
+-- A run over the logs that were chosen ends: they aren't found, and what is left is as it was; or they were, and from
+-- where that left the sockets the run over them ends.
 abbrev pub EndsRunOver : {S P C : Type 0} → SocketRules S P → AtOnce S C → Given → Chosen → S → S → Database
-    → NotDone → Type 0
-EndsRunOver {S = S} rules by given chosen before after old fault =
-    EndsChosen rules by chosen (HasNone old.trees) (LacksAddress given old.trees) before after fault
+    → Trees → NotDone → Type 0
+EndsRunOver {S = S} rules by given chosen before after old left fault =
+    (EndsChosen rules by chosen (HasNone old.trees) (LacksAddress given old.trees) before after fault
+    × (left ≡ old.trees))
     ⊎ ((all : List Wanted) × (unlisted : List Unlisted) × (between : S)
     × AreFound rules by chosen before all unlisted between
-    × EndsLogs rules by given all between after old fault)
+    × EndsLogs rules by given all between after old left fault)

@@ -8,7 +8,7 @@ ghost use Rattle.bac_archive.specs.Rows.{IsAppended, stored};
 ghost use Rattle.bac_archive.specs.Schema.{OverArchive, HasArchive};
 ghost use Rattle.bac_ports.specs.Sockets.{socket_rules};
 ghost use Rattle.bac_query.specs.Tables.{Client, client};
-ghost use Rattle.bac_fetch.specs.Causes.{EndsFetch, LeavesUnopened};
+ghost use Rattle.bac_fetch.specs.Causes.{EndsFetch, LeavesUndone};
 ghost use Rattle.bac_asked.specs.Faults.{FailsOnRows, EndsLog};
 ghost use Rattle.bac_fetch.specs.Faults.{EndsRun, IsNoInstance};
 ghost use Rattle.bac_fetch.specs.Fetched.{ComesFrom};
@@ -371,10 +371,10 @@ pub(crate) fn fetch<S: Sockets, A: Alter, P: Progress>(
         (Survives (state A.Store conn.old) (state A.Store conn.new)
         (HasAllOf (state A.Store conn.old).now.trees)) }
     ensures clean { HasCleanDisk (state A.Store conn.new) → HasCleanDisk (state A.Store conn.old) }
-    // Where no socket was opened, nothing was done.
+    // Where no socket was opened, nothing was done, and after no fault but of rows was anything
+    // committed.
     ensures undone { OverArchive (state A.Store conn.old) (state A.Store conn.new)
-        (IfErr result
-        (LeavesUnopened (state A.Store conn.old).now (state A.Store conn.new).now)) }
+        (IfErr result (LeavesUndone (state A.Store conn.old) (state A.Store conn.new))) }
     ensures fault { IfErr result (EndsRun (socket_rules S.opens S.closes S.Socket.sends
         S.Socket.receives S.Socket.receives_within)
         (IsNoInstance entry.now.row.source.instance) ⊥ sockets.new) }

@@ -1,15 +1,16 @@
 //! Logs are kept one after the other, in groups that are committed at once.
 
-ghost use Rattle.std.specs.Prelude.{◌≡◌, ◌≢◌, false, IfErr, IfOk, OnOk, List, []};
+ghost use Rattle.std.specs.Prelude.{◌≡◌, ◌≢◌, ◌⊎◌, false, IfErr, IfOk, OnOk, List, []};
 ghost use Rattle.std.specs.Io.KnownBytes.{append_known};
 ghost use Rattle.sqlite.specs.State.{HasCleanDisk, Survives};
 ghost use Rattle.sqlite.specs.Held.{state};
 ghost use Rattle.bac_archive.specs.Schema.{OverArchive};
 ghost use Rattle.bac_ports.specs.Sockets.{socket_rules};
+ghost use Rattle.bac_asked.specs.Faults.{FailsOnRows};
 ghost use Rattle.bac_fetch.specs.Causes.{EndsAll, EndsNext};
 ghost use Rattle.bac_fetch.specs.Faults.{EndsRun, HasNoInstance, IsNoInstance};
 ghost use Rattle.bac_fetch.specs.Keeps.{AreToldBy, IsToldBy, KeepsAll, KeepsNext};
-ghost use Rattle.bac_fetch.specs.Stays.{HasAllOf};
+ghost use Rattle.bac_fetch.specs.Stays.{HasAllOf, LeavesBehind};
 ghost use Rattle.bac_questions.specs.declared.whose.Heard.{Heard as HeardOf};
 
 use crate::group::{end_group, end_if_due, end_unopened};
@@ -57,6 +58,10 @@ fn keep_grouped<S: Heeds, A: Alter, O: Write, E: Write>(
     ensures fault { IfErr result (EndsRun (socket_rules S.opens S.closes S.Socket.sends
         S.Socket.receives S.Socket.receives_within) (IsNoInstance wanted.source.instance) ⊥
         sockets.new) }
+    // Unless the rows failed, what was committed is, or what was kept before.
+    ensures undone { OverArchive (state A.Store conn.old) (state A.Store conn.new)
+        (IfErr result (λ fault. FailsOnRows fault ⊎ Survives (state A.Store conn.old)
+        (state A.Store conn.new) (λ trees. trees ≡ (state A.Store conn.old).now.trees))) }
     ensures caused { OverArchive (state A.Store conn.old) (state A.Store conn.new)
         (IfErr result (EndsNext (socket_rules S.opens S.closes S.Socket.sends S.Socket.receives
         S.Socket.receives_within) known.now heard.old.items wanted
@@ -108,9 +113,10 @@ where
         S.Socket.receives S.Socket.receives_within) (HasNoInstance all.items) ⊥
         sockets.new) }
     ensures caused { OverArchive (state A.Store conn.old) (state A.Store conn.new)
-        (IfErr result (EndsAll (socket_rules S.opens S.closes S.Socket.sends S.Socket.receives
-        S.Socket.receives_within) known.now heard.items all.items sockets.old
-        sockets.new (state A.Store conn.old).now)) }
+        (IfErr result (λ fault. LeavesBehind (state A.Store conn.old) (state A.Store conn.new)
+        (λ left. EndsAll (socket_rules S.opens S.closes S.Socket.sends S.Socket.receives
+        S.Socket.receives_within) known.now heard.items all.items sockets.old sockets.new
+        (state A.Store conn.old).now left fault))) }
 {
     // Of no logs nothing is kept, and nothing waits.
     if all.is_empty() {

@@ -1,7 +1,7 @@
 //! Logs are added to an archive, and what is new of them is kept.
 
-ghost use Rattle.std.specs.Prelude.{◌≡◌, ◌≢◌, ◌⊎◌, ◌∷◌, ◌++◌, IfErr, IfOk, OnOk, List, []};
-ghost use Rattle.std.specs.Prelude.{false, map};
+ghost use Rattle.std.specs.Prelude.{◌≡◌, ◌≢◌, ◌⊎◌, ◌∷◌, ◌++◌, IfErr, IfOk, OnErr, OnOk, List, []};
+ghost use Rattle.std.specs.Prelude.{false, map, IsTrue};
 ghost use Rattle.std.specs.List.{All};
 ghost use Rattle.sqlite.specs.State.{HasCleanDisk, Survives};
 ghost use Rattle.sqlite.specs.Held.{state};
@@ -23,7 +23,7 @@ ghost use Rattle.bac_fetch.specs.Chosen.{Finds, not_stopped};
 ghost use Rattle.bac_fetch.specs.declared.unlisted.Unlisted.{Unlisted as UnlistedOf};
 ghost use Rattle.bac_asked.specs.AsLog.{given_in};
 ghost use Rattle.bac_asked.specs.Wanted.{AsksItsSource, HasNoAddress, IsNameless};
-ghost use Rattle.bac_fetch.specs.Stays.{HasAllOf};
+ghost use Rattle.bac_fetch.specs.Stays.{HasAllOf, Leaves};
 ghost use Rattle.bac_asked.specs.declared.wanted.Wanted.{Wanted as WantedOf};
 
 use crate::beside::kept_beside;
@@ -91,6 +91,10 @@ fn kept_logs<A: Alter>(
         (IfOk result (λ all. AreKeptLogs (state A.Store conn.old).now.trees all.items)) }
     ensures same { OverArchive (state A.Store conn.old) (state A.Store conn.new)
         (OnOk result ((state A.Store conn.new).now ≡ (state A.Store conn.old).now)) }
+    // Whatever comes of it, nothing is committed.
+    ensures kept { OverArchive (state A.Store conn.old) (state A.Store conn.new)
+        (OnErr result (IsTrue (state A.Store conn.new).is_open)
+        → (state A.Store conn.new).committed ≡ (state A.Store conn.old).committed) }
     ensures crash { HasArchive (state A.Store conn.old).now.schema
         → Survives (state A.Store conn.old) (state A.Store conn.new) (λ _. ⊥) }
     ensures clean { HasCleanDisk (state A.Store conn.new) → HasCleanDisk (state A.Store conn.old) }
@@ -120,6 +124,12 @@ fn logs_of<A: Alter>(conn: &mut Connection<A>, alloc: Global) -> Result<Vec<Log>
         (IfOk result (λ all. AreLogs (state A.Store conn.old).now.trees all.items)) }
     ensures same { OverArchive (state A.Store conn.old) (state A.Store conn.new)
         (OnOk result ((state A.Store conn.new).now ≡ (state A.Store conn.old).now)) }
+    ensures open { OverArchive (state A.Store conn.old) (state A.Store conn.new)
+        (OnOk result (IsTrue (state A.Store conn.new).is_open)) }
+    // Whatever comes of it, nothing is committed.
+    ensures kept { OverArchive (state A.Store conn.old) (state A.Store conn.new)
+        (OnErr result (IsTrue (state A.Store conn.new).is_open)
+        → (state A.Store conn.new).committed ≡ (state A.Store conn.old).committed) }
     ensures crash { HasArchive (state A.Store conn.old).now.schema
         → Survives (state A.Store conn.old) (state A.Store conn.new) (λ _. ⊥) }
     ensures clean { HasCleanDisk (state A.Store conn.new) → HasCleanDisk (state A.Store conn.old) }
@@ -163,9 +173,10 @@ where
         S.Socket.receives S.Socket.receives_within) (HasNoInstance all.items) ⊥
         sockets.new) }
     ensures caused { OverArchive (state A.Store conn.old) (state A.Store conn.new)
-        (IfErr result (EndsSettled (socket_rules S.opens S.closes S.Socket.sends S.Socket.receives
+        (IfErr result (λ fault. Leaves (state A.Store conn.old) (state A.Store conn.new)
+        (λ left. EndsSettled (socket_rules S.opens S.closes S.Socket.sends S.Socket.receives
         S.Socket.receives_within) (at_once S.holds C.reads clock window) heard.items all.items
-        sockets.old sockets.new (state A.Store conn.old).now)) }
+        sockets.old sockets.new (state A.Store conn.old).now left fault))) }
 {
     let known = logs_of(conn, alloc)?;
     let logs = known.as_slice();
@@ -200,6 +211,10 @@ fn settle_known<S: Sockets, A: Alter, E: Write>(
         × Settles (socket_rules S.opens S.closes S.Socket.sends S.Socket.receives
         S.Socket.receives_within) (given_in options.now) known all.now sockets.old heard.items
         sockets.new (state A.Store conn.old).now (state A.Store conn.new).now)) }
+    // Nothing waits for a commit, unless something did before.
+    ensures committed { OverArchive (state A.Store conn.old) (state A.Store conn.new)
+        ((state A.Store conn.old).committed ≡ (state A.Store conn.old).now
+        → OnOk result ((state A.Store conn.new).committed ≡ (state A.Store conn.new).now)) }
     ensures stays { OverArchive (state A.Store conn.old) (state A.Store conn.new)
         (Survives (state A.Store conn.old) (state A.Store conn.new)
         (HasAllOf (state A.Store conn.old).now.trees)) }
@@ -210,9 +225,10 @@ fn settle_known<S: Sockets, A: Alter, E: Write>(
         (LacksAddress (given_in options.now) (state A.Store conn.old).now.trees))
         sockets.new) }
     ensures caused { OverArchive (state A.Store conn.old) (state A.Store conn.new)
-        (IfErr result (FailsToSettle (socket_rules S.opens S.closes S.Socket.sends
-        S.Socket.receives S.Socket.receives_within) (given_in options.now) all.now
-        sockets.old sockets.new (state A.Store conn.old).now)) }
+        (IfErr result (λ fault. Leaves (state A.Store conn.old) (state A.Store conn.new)
+        (λ left. FailsToSettle (socket_rules S.opens S.closes S.Socket.sends S.Socket.receives
+        S.Socket.receives_within) (given_in options.now) all.now sockets.old sockets.new
+        (state A.Store conn.old).now left fault))) }
 {
     let known = logs_of(conn, alloc)?;
     settle(sockets, conn, alloc, known.as_slice(), all, options, errors)
@@ -270,9 +286,10 @@ where
         (LacksAddress (given_in options.now) (state A.Store conn.old).now.trees))
         sockets.new) }
     ensures caused { OverArchive (state A.Store conn.old) (state A.Store conn.new)
-        (IfErr result (EndsLogs (socket_rules S.opens S.closes S.Socket.sends S.Socket.receives
+        (IfErr result (λ fault. Leaves (state A.Store conn.old) (state A.Store conn.new)
+        (λ left. EndsLogs (socket_rules S.opens S.closes S.Socket.sends S.Socket.receives
         S.Socket.receives_within) (at_once S.holds C.reads clock window) (given_in options.now)
-        all.items sockets.old sockets.new (state A.Store conn.old).now)) }
+        all.items sockets.old sockets.new (state A.Store conn.old).now left fault))) }
 {
     let heard = settle_known(sockets, conn, alloc, all.as_slice(), options, errors)?;
     keep_settled(
@@ -308,6 +325,10 @@ where
         (O.contents output.old) found sockets.new (O.contents output.new)) }
     ensures same { OverArchive (state A.Store conn.old) (state A.Store conn.new)
         (OnOk result ((state A.Store conn.new).now ≡ (state A.Store conn.old).now)) }
+    // Whatever comes of it, nothing is committed.
+    ensures kept { OverArchive (state A.Store conn.old) (state A.Store conn.new)
+        (OnErr result (IsTrue (state A.Store conn.new).is_open)
+        → (state A.Store conn.new).committed ≡ (state A.Store conn.old).committed) }
     ensures crash { HasArchive (state A.Store conn.old).now.schema
         → Survives (state A.Store conn.old) (state A.Store conn.new) (λ _. ⊥) }
     ensures clean { HasCleanDisk (state A.Store conn.new) → HasCleanDisk (state A.Store conn.old) }
@@ -378,9 +399,10 @@ where
         (LacksAddress (given_in options.now) (state A.Store conn.old).now.trees))
         sockets.old sockets.new) }
     ensures caused { OverArchive (state A.Store conn.old) (state A.Store conn.new)
-        (IfErr result (EndsRunOver (socket_rules S.opens S.closes S.Socket.sends S.Socket.receives
+        (IfErr result (λ fault. Leaves (state A.Store conn.old) (state A.Store conn.new)
+        (λ left. EndsRunOver (socket_rules S.opens S.closes S.Socket.sends S.Socket.receives
         S.Socket.receives_within) (at_once S.holds C.reads clock window) (given_in options.now)
-        chosen sockets.old sockets.new (state A.Store conn.old).now)) }
+        chosen sockets.old sockets.new (state A.Store conn.old).now left fault))) }
 {
     let found = chosen_logs(
         sockets, conn, alloc, clock, window, chosen, options, output, errors,

@@ -1,7 +1,8 @@
 //! A device that has moved: it tells at one place the instance that is on record of logs at
 //! another.
 
-ghost use Rattle.std.specs.Prelude.{◌≡◌, ◌++◌, ℕ, map, true, IfOk, OnOk, option_map, IfErr};
+ghost use Rattle.std.specs.Prelude.{◌≡◌, ◌++◌, ℕ, List, map, true, IfOk, OnErr, OnOk, option_map};
+ghost use Rattle.std.specs.Prelude.{IfErr, IsTrue};
 ghost use Rattle.sqlite.specs.State.{HasCleanDisk, Survives};
 ghost use Rattle.sqlite.specs.Held.{state};
 ghost use Rattle.bac_archive.specs.Changes.{HasChangedLogs};
@@ -12,12 +13,14 @@ ghost use Rattle.bac_asked.specs.Wanted.{HasNoAddress};
 ghost use Rattle.bac_asked.specs.AsLog.{given_in};
 ghost use Rattle.bac_asked.specs.Faults.{WantsMemory, FailsOnRows, EndsLog};
 ghost use Rattle.bac_fetch.specs.Causes.{EndsFirst, EndsMoving, EndsSettling, EndsThere};
+ghost use Rattle.bac_fetch.specs.Causes.{LeavesUnsettled};
 ghost use Rattle.bac_fetch.specs.Faults.{EndsRun, HaveNoAddress};
 ghost use Rattle.bac_fetch.specs.Moves.{AreMoved, AsksThere, IsAskedThere, IsElsewhere, Settles};
 ghost use Rattle.bac_fetch.specs.Moves.{SettlesBy, SettlesFirst, SettlesUnless, is_placed};
 ghost use Rattle.bac_fetch.specs.Moves.{moved_columns, moved_of};
 ghost use Rattle.bac_questions.specs.Said.{Identifies};
-ghost use Rattle.bac_fetch.specs.Stays.{HasAllOf};
+ghost use Rattle.bac_fetch.specs.Stays.{HasAllOf, Leaves};
+ghost use Rattle.bac_questions.specs.declared.whose.Heard.{Heard as HeardOf};
 
 use bac_archive::{Log, Source, Told, change_logs};
 use bac_asked::{Fault, FileFault, NotDone, Options, Wanted, kept_at, push_both, push_moved};
@@ -124,6 +127,11 @@ fn move_logs<A: Alter>(
     ensures moved { OverArchive (state A.Store conn.old) (state A.Store conn.new)
         (OnOk result ((moved : _) × AreMoved device from.now to.now known.now moved
         × HasChangedLogs (state A.Store conn.old).now (state A.Store conn.new).now moved)) }
+    ensures committed { OverArchive (state A.Store conn.old) (state A.Store conn.new)
+        (OnOk result ((state A.Store conn.new).committed ≡ (state A.Store conn.new).now)) }
+    ensures left { OverArchive (state A.Store conn.old) (state A.Store conn.new)
+        (OnErr result (IsTrue (state A.Store conn.new).is_open
+        → (state A.Store conn.new).committed ≡ (state A.Store conn.old).committed)) }
     ensures stays { HasArchive (state A.Store conn.old).now.schema
         → Survives (state A.Store conn.old) (state A.Store conn.new)
         (HasAllOf (state A.Store conn.old).now.trees) }
@@ -202,6 +210,15 @@ fn settle_from<S: Sockets, A: Alter, E: Write>(
         (OnOk result (AsksThere (socket_rules S.opens S.closes S.Socket.sends S.Socket.receives
         S.Socket.receives_within) (given_in options.now) device from.now to.now known.now
         sockets.old sockets.new (state A.Store conn.old).now (state A.Store conn.new).now)) }
+    ensures committed { OverArchive (state A.Store conn.old) (state A.Store conn.new)
+        ((state A.Store conn.old).committed ≡ (state A.Store conn.old).now
+        → OnOk result ((state A.Store conn.new).committed ≡ (state A.Store conn.new).now)) }
+    ensures left { OverArchive (state A.Store conn.old) (state A.Store conn.new)
+        (IfErr result (λ fault. Leaves (state A.Store conn.old) (state A.Store conn.new)
+        (λ left. LeavesUnsettled (AsksThere (socket_rules S.opens S.closes
+        S.Socket.sends S.Socket.receives S.Socket.receives_within) (given_in options.now) device
+        from.now to.now known.now sockets.old sockets.new (state A.Store conn.old).now)
+        (state A.Store conn.old).now.trees left fault))) }
     ensures stays { HasArchive (state A.Store conn.old).now.schema
         → Survives (state A.Store conn.old) (state A.Store conn.new)
         (HasAllOf (state A.Store conn.old).now.trees) }
@@ -236,6 +253,15 @@ fn settle_by<S: Sockets, A: Alter, E: Write>(
         (OnOk result (SettlesBy (socket_rules S.opens S.closes S.Socket.sends S.Socket.receives
         S.Socket.receives_within) (given_in options.now) known.now to.now identity sockets.old
         sockets.new (state A.Store conn.old).now (state A.Store conn.new).now)) }
+    ensures committed { OverArchive (state A.Store conn.old) (state A.Store conn.new)
+        ((state A.Store conn.old).committed ≡ (state A.Store conn.old).now
+        → OnOk result ((state A.Store conn.new).committed ≡ (state A.Store conn.new).now)) }
+    ensures left { OverArchive (state A.Store conn.old) (state A.Store conn.new)
+        (IfErr result (λ fault. Leaves (state A.Store conn.old) (state A.Store conn.new)
+        (λ left. LeavesUnsettled (SettlesBy (socket_rules S.opens S.closes
+        S.Socket.sends S.Socket.receives S.Socket.receives_within) (given_in options.now) known.now
+        to.now identity sockets.old sockets.new (state A.Store conn.old).now)
+        (state A.Store conn.old).now.trees left fault))) }
     ensures stays { HasArchive (state A.Store conn.old).now.schema
         → Survives (state A.Store conn.old) (state A.Store conn.new)
         (HasAllOf (state A.Store conn.old).now.trees) }
@@ -282,6 +308,16 @@ fn settle_first<S: Sockets, A: Alter, E: Write>(
         S.Socket.receives S.Socket.receives_within) (given_in options.now) known.now first.now
         sockets.old one sockets.new (state A.Store conn.old).now
         (state A.Store conn.new).now)) }
+    ensures committed { OverArchive (state A.Store conn.old) (state A.Store conn.new)
+        ((state A.Store conn.old).committed ≡ (state A.Store conn.old).now
+        → OnOk result ((state A.Store conn.new).committed ≡ (state A.Store conn.new).now)) }
+    ensures left { OverArchive (state A.Store conn.old) (state A.Store conn.new)
+        (IfErr result (λ fault. Leaves (state A.Store conn.old) (state A.Store conn.new)
+        (λ left. LeavesUnsettled (λ db. (one : HeardOf) × SettlesFirst (socket_rules
+        S.opens S.closes S.Socket.sends S.Socket.receives S.Socket.receives_within)
+        (given_in options.now) known.now first.now sockets.old one sockets.new
+        (state A.Store conn.old).now db)
+        (state A.Store conn.old).now.trees left fault))) }
     ensures stays { HasArchive (state A.Store conn.old).now.schema
         → Survives (state A.Store conn.old) (state A.Store conn.new)
         (HasAllOf (state A.Store conn.old).now.trees) }
@@ -329,6 +365,16 @@ fn settle_unless<S: Sockets, A: Alter, E: Write>(
         S.Socket.receives S.Socket.receives_within) (given_in options.now) known.now first.now
         sockets.old heard.items sockets.new (state A.Store conn.old).now
         (state A.Store conn.new).now)) }
+    ensures committed { OverArchive (state A.Store conn.old) (state A.Store conn.new)
+        ((state A.Store conn.old).committed ≡ (state A.Store conn.old).now
+        → OnOk result ((state A.Store conn.new).committed ≡ (state A.Store conn.new).now)) }
+    ensures left { OverArchive (state A.Store conn.old) (state A.Store conn.new)
+        (IfErr result (λ fault. Leaves (state A.Store conn.old) (state A.Store conn.new)
+        (λ left. LeavesUnsettled (λ db. (heard : List HeardOf) × SettlesUnless
+        (socket_rules S.opens S.closes S.Socket.sends S.Socket.receives S.Socket.receives_within)
+        (given_in options.now) known.now first.now sockets.old heard sockets.new
+        (state A.Store conn.old).now db)
+        (state A.Store conn.old).now.trees left fault))) }
     ensures stays { HasArchive (state A.Store conn.old).now.schema
         → Survives (state A.Store conn.old) (state A.Store conn.new)
         (HasAllOf (state A.Store conn.old).now.trees) }
@@ -369,6 +415,18 @@ pub(crate) fn settle<S: Sockets, A: Alter, E: Write>(
         S.Socket.receives S.Socket.receives_within) (given_in options.now) known.now all.now
         sockets.old heard.items sockets.new (state A.Store conn.old).now
         (state A.Store conn.new).now)) }
+    // Nothing waits for a commit, unless something did before.
+    ensures committed { OverArchive (state A.Store conn.old) (state A.Store conn.new)
+        ((state A.Store conn.old).committed ≡ (state A.Store conn.old).now
+        → OnOk result ((state A.Store conn.new).committed ≡ (state A.Store conn.new).now)) }
+    // After an error all is as it was, unless memory was wanting when it was settled.
+    ensures left { OverArchive (state A.Store conn.old) (state A.Store conn.new)
+        (IfErr result (λ fault. Leaves (state A.Store conn.old) (state A.Store conn.new)
+        (λ left. LeavesUnsettled (λ db. (heard : List HeardOf) × Settles
+        (socket_rules S.opens S.closes S.Socket.sends S.Socket.receives S.Socket.receives_within)
+        (given_in options.now) known.now all.now sockets.old heard sockets.new
+        (state A.Store conn.old).now db)
+        (state A.Store conn.old).now.trees left fault))) }
     ensures stays { HasArchive (state A.Store conn.old).now.schema
         → Survives (state A.Store conn.old) (state A.Store conn.new)
         (HasAllOf (state A.Store conn.old).now.trees) }

@@ -9,7 +9,7 @@ ghost use Rattle.bac_archive.specs.Schema.{OverArchive};
 ghost use Rattle.bac_asked.specs.Faults.{EndsLog, FailsOnRows};
 ghost use Rattle.bac_asked.specs.Lines.{summary_line};
 ghost use Rattle.bac_ports.specs.Sockets.{socket_rules};
-ghost use Rattle.bac_fetch.specs.Causes.{EndsAmong, EndsFetch, EndsNext, EndsOne, LeavesUnopened};
+ghost use Rattle.bac_fetch.specs.Causes.{EndsAmong, EndsFetch, EndsNext, EndsOne, LeavesUndone};
 ghost use Rattle.bac_fetch.specs.Faults.{EndsRun, IsNoInstance};
 ghost use Rattle.bac_fetch.specs.Keeps.{IsRowOf, IsToldBy, KeepsHeard, KeepsLog, KeepsNext};
 ghost use Rattle.bac_ahead.specs.Ahead.{trend_log};
@@ -80,8 +80,7 @@ fn fetch_told<S: Heeds, A: Alter, O: Write, E: Write>(
         (HasAllOf (state A.Store conn.old).now.trees)) }
     ensures clean { HasCleanDisk (state A.Store conn.new) → HasCleanDisk (state A.Store conn.old) }
     ensures undone { OverArchive (state A.Store conn.old) (state A.Store conn.new)
-        (IfErr result
-        (LeavesUnopened (state A.Store conn.old).now (state A.Store conn.new).now)) }
+        (IfErr result (LeavesUndone (state A.Store conn.old) (state A.Store conn.new))) }
     ensures fault { IfErr result (EndsRun (socket_rules S.opens S.closes S.Socket.sends
         S.Socket.receives S.Socket.receives_within)
         (IsNoInstance entry.now.row.source.instance) ⊥ sockets.new) }
@@ -143,8 +142,7 @@ fn keep_one<S: Heeds, A: Alter, O: Write, E: Write>(
         (HasAllOf (state A.Store conn.old).now.trees)) }
     ensures clean { HasCleanDisk (state A.Store conn.new) → HasCleanDisk (state A.Store conn.old) }
     ensures undone { OverArchive (state A.Store conn.old) (state A.Store conn.new)
-        (IfErr result
-        (LeavesUnopened (state A.Store conn.old).now (state A.Store conn.new).now)) }
+        (IfErr result (LeavesUndone (state A.Store conn.old) (state A.Store conn.new))) }
     ensures fault { IfErr result (EndsRun (socket_rules S.opens S.closes S.Socket.sends
         S.Socket.receives S.Socket.receives_within) (IsNoInstance wanted.source.instance) ⊥
         sockets.new) }
@@ -200,8 +198,7 @@ fn keep_unless<S: Heeds, A: Alter, O: Write, E: Write>(
         (HasAllOf (state A.Store conn.old).now.trees)) }
     ensures clean { HasCleanDisk (state A.Store conn.new) → HasCleanDisk (state A.Store conn.old) }
     ensures undone { OverArchive (state A.Store conn.old) (state A.Store conn.new)
-        (IfErr result
-        (LeavesUnopened (state A.Store conn.old).now (state A.Store conn.new).now)) }
+        (IfErr result (LeavesUndone (state A.Store conn.old) (state A.Store conn.new))) }
     ensures fault { IfErr result (EndsRun (socket_rules S.opens S.closes S.Socket.sends
         S.Socket.receives S.Socket.receives_within) (IsNoInstance wanted.source.instance) ⊥
         sockets.new) }
@@ -262,8 +259,7 @@ fn keep_heard<S: Heeds, A: Alter, O: Write, E: Write>(
         (HasAllOf (state A.Store conn.old).now.trees)) }
     ensures clean { HasCleanDisk (state A.Store conn.new) → HasCleanDisk (state A.Store conn.old) }
     ensures undone { OverArchive (state A.Store conn.old) (state A.Store conn.new)
-        (IfErr result
-        (LeavesUnopened (state A.Store conn.old).now (state A.Store conn.new).now)) }
+        (IfErr result (LeavesUndone (state A.Store conn.old) (state A.Store conn.new))) }
     ensures fault { IfErr result (EndsRun (socket_rules S.opens S.closes S.Socket.sends
         S.Socket.receives S.Socket.receives_within) (IsNoInstance wanted.source.instance) ⊥
         sockets.new) }
@@ -314,10 +310,10 @@ pub(crate) fn keep_next<S: Heeds, A: Alter, O: Write, E: Write>(
         (Survives (state A.Store conn.old) (state A.Store conn.new)
         (HasAllOf (state A.Store conn.old).now.trees)) }
     ensures clean { HasCleanDisk (state A.Store conn.new) → HasCleanDisk (state A.Store conn.old) }
-    // Where no socket was opened, nothing was done.
+    // Where no socket was opened, nothing was done, and after no fault but of rows was anything
+    // committed.
     ensures undone { OverArchive (state A.Store conn.old) (state A.Store conn.new)
-        (IfErr result
-        (LeavesUnopened (state A.Store conn.old).now (state A.Store conn.new).now)) }
+        (IfErr result (LeavesUndone (state A.Store conn.old) (state A.Store conn.new))) }
     ensures fault { IfErr result (EndsRun (socket_rules S.opens S.closes S.Socket.sends
         S.Socket.receives S.Socket.receives_within) (IsNoInstance wanted.source.instance) ⊥
         sockets.new) }

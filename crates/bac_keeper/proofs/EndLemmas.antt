@@ -1,40 +1,70 @@
 -- How a tool ends.
-use Rattle.std.proofs.Common.{◌≡◌, ◌⊎◌, inl, inr, ℕ, Result, Ok, Err, IfErr, IfOk, OnOk, subst, sym}
+use Rattle.std.proofs.Common.{◌≡◌, ◌⊎◌, inl, inr, ℕ, Bool, true, false, List, String, Global, Option, None, Some, IsSomeAnd, unwrap_or, if◌then◌else◌, Result, Ok, Err, IfErr, IfOk, OnOk, ap, refl, subst, sym}
+use Rattle.std.proofs.KnownBytes.{Appends-kept}
+use Rattle.std.specs.Io.KnownBytes.{Keeps}
+use Rattle.std.specs.String.{string_bytes}
+use Rattle.bac_asked.specs.Reasons.{TellsFault}
 use Rattle.bac_asked.specs.declared.end.NotDone.{NotDone}
 use Rattle.bac_asked.specs.declared.end.NotDone.TheVariants as done
 use Rattle.bac_asked.specs.declared.fault.Fault.{Fault}
 use Rattle.bac_asked.specs.declared.fault.Fault.TheVariants.{Memory}
 use Rattle.bac_asked.specs.declared.fault.FileFault.{FileFault}
-use Rattle.bac_offline.specs.Ends.{EndsBy, IsOfFile, IsUntold, MayAsk, MayFail}
+use Rattle.bac_files.specs.Parts.{blamed}
+use Rattle.bac_files.specs.declared.folder.Place.{Place}
+use Rattle.bac_keeper.specs.Places.{IsPathOf}
+use Rattle.bac_offline.specs.Ends.{EndsBy, IsOfFile, MayAsk, MayFail, TellsEnd}
 use Rattle.bac_print.specs.Output.{Held}
 
--- what was done of words that name a file, by the status of it
-pub ended : (named : Type 0) (fails : FileFault → Type 0) (does : ℕ → Type 0) (r : Result ℕ NotDone) (result : Result ℕ Fault) → IfOk r does → OnOk r named → IfErr r (MayFail fails)
-    → IfOk result (EndsBy r) → IfOk result (λ status. (named × does status) ⊎ IsOfFile fails status)
-ended named fails does r (Err e) did asked fault by = tt
-ended named fails does (Ok v) (Ok s) did asked fault by = inl (asked, subst does (sym by) did)
-ended named fails does (Err (done.File why)) (Ok s) did asked fault by = inr (why, by, fault)
-ended named fails does (Err (done.Asking why)) (Ok s) did asked fault by = absurd by
+-- what was done of words that name a file, by the status of it; that it is no use is told
+pub ended : (named : Type 0) (fails useless : FileFault → Type 0) (does : ℕ → Type 0) (path : List ℕ) (old new : Held) (r : Result ℕ NotDone) (result : Result ℕ Fault)
+    → ((why : FileFault) → fails why → TellsFault why path old new → useless why) → IfOk r does → OnOk r named → IfErr r (MayFail fails)
+    → IfOk result (EndsBy r) → OnOk result (TellsEnd path r old new) → IfOk result (λ status. (named × does status) ⊎ IsOfFile useless status)
+ended named fails useless does path old new r (Err e) f did asked fault by said = tt
+ended named fails useless does path old new (Ok v) (Ok s) f did asked fault by said = inl (asked, subst does (sym by) did)
+ended named fails useless does path old new (Err (done.File why)) (Ok s) f did asked fault by said = inr (why, by, f why fault said)
+ended named fails useless does path old new (Err (done.Asking why)) (Ok s) f did asked fault by said = absurd by
 
 -- a fault before anything was done, by the status of it
-pub ended_early : (fails : FileFault → Type 0) (does : ℕ → Type 0) (e : NotDone) (result : Result ℕ Fault) → MayFail fails e → IfOk result (EndsBy (Err e))
-    → IfOk result (λ status. does status ⊎ IsOfFile fails status)
-ended_early fails does (done.File why) (Ok s) fault by = inr (why, by, fault)
-ended_early fails does (done.File why) (Err e) fault by = tt
-ended_early fails does (done.Asking why) (Ok s) fault by = absurd by
-ended_early fails does (done.Asking why) (Err e) fault by = tt
+pub ended_early : (fails useless : FileFault → Type 0) (does : ℕ → Type 0) (path : List ℕ) (old new : Held) (e : NotDone) (result : Result ℕ Fault)
+    → ((why : FileFault) → fails why → TellsFault why path old new → useless why) → MayFail fails e
+    → IfOk result (EndsBy (Err e)) → OnOk result (TellsEnd path (Err e) old new) → IfOk result (λ status. does status ⊎ IsOfFile useless status)
+ended_early fails useless does path old new (done.File why) (Ok s) f fault by said = inr (why, by, f why fault said)
+ended_early fails useless does path old new (done.File why) (Err e) f fault by said = tt
+ended_early fails useless does path old new (done.Asking why) (Ok s) f fault by said = absurd by
+ended_early fails useless does path old new (done.Asking why) (Err e) f fault by said = tt
 
 -- the same of one that tells nothing on the errors but that the file is at fault
-pub ended_untold : (named : Type 0) (fails : FileFault → Type 0) (does : ℕ → Type 0) (r : Result ℕ NotDone) (result : Result ℕ Fault) (old new : Held) → IfOk r does → OnOk r named
-    → IfErr r (MayFail fails) → IfOk result (EndsBy r) → IsUntold r old new → IfOk result (λ status. ((named × does status) × (new ≡ old)) ⊎ IsOfFile fails status)
-ended_untold named fails does r (Err e) old new did asked fault by same = tt
-ended_untold named fails does (Ok v) (Ok s) old new did asked fault by same = inl ((asked, subst does (sym by) did), same)
-ended_untold named fails does (Err (done.File why)) (Ok s) old new did asked fault by same = inr (why, by, fault)
-ended_untold named fails does (Err (done.Asking why)) (Ok s) old new did asked fault by same = absurd by
+pub ended_untold : (named : Type 0) (fails useless : FileFault → Type 0) (does : ℕ → Type 0) (path : List ℕ) (old new : Held) (r : Result ℕ NotDone) (result : Result ℕ Fault)
+    → ((why : FileFault) → fails why → TellsFault why path old new → useless why) → IfOk r does → OnOk r named → IfErr r (MayFail fails)
+    → IfOk result (EndsBy r) → OnOk result (TellsEnd path r old new) → IfOk result (λ status. ((named × does status) × (new ≡ old)) ⊎ IsOfFile useless status)
+ended_untold named fails useless does path old new r (Err e) f did asked fault by said = tt
+ended_untold named fails useless does path old new (Ok v) (Ok s) f did asked fault by said = inl ((asked, subst does (sym by) did), said)
+ended_untold named fails useless does path old new (Err (done.File why)) (Ok s) f did asked fault by said = inr (why, by, f why fault said)
+ended_untold named fails useless does path old new (Err (done.Asking why)) (Ok s) f did asked fault by said = absurd by
 
--- why it isn't done
-pub not_done : (ends : NotDone → Type 0) (r : Result ℕ NotDone) (result : Result ℕ Fault) → ends (done.Asking Memory) → IfErr r (MayAsk ends)
-    → IfErr result (λ why. (r ≡ Err (done.Asking why)) ⊎ (why ≡ Memory)) → IfErr result (λ why. ends (done.Asking why))
+-- why it isn't done; without the memory to tell that the file is at fault it ends so, too
+pub not_done : (ends : NotDone → Type 0) (r : Result ℕ NotDone) (result : Result ℕ Fault) → ((file : FileFault) → r ≡ Err (done.File file) → ends (done.Asking Memory)) → IfErr r (MayAsk ends)
+    → IfErr result (λ why. (r ≡ Err (done.Asking why)) ⊎ ((why ≡ Memory) × (file : FileFault) × (r ≡ Err (done.File file)))) → IfErr result (λ why. ends (done.Asking why))
 not_done ends r (Ok s) memory asked why = tt
 not_done ends r (Err e) memory asked (inl is) = subst (λ (x : Result ℕ NotDone). IfErr x (MayAsk ends)) is asked
-not_done ends r (Err e) memory asked (inr is) = subst (λ (f : Fault). ends (done.Asking f)) (sym is) memory
+not_done ends r (Err e) memory asked (inr (is, file, of)) = subst (λ (f : Fault). ends (done.Asking f)) (sym is) (memory file of)
+
+-- a fault of the file, as what was done failed
+pub failed : (fails : FileFault → Type 0) (r : Result ℕ NotDone) (why : FileFault) → r ≡ Err (done.File why) → IfErr r (MayFail fails) → fails why
+failed fails r why is it = subst (λ (x : Result ℕ NotDone). IfErr x (MayFail fails)) is it
+
+-- a fault that was told is told still
+pub tells_kept : (why : FileFault) (path : List ℕ) (old new after : Held) → TellsFault why path old new → Keeps new after → TellsFault why path old after
+tells_kept why path old new after (text, are, (written, rest, is, appends)) keeps = (text, are, (written, rest, is, Appends-kept old new after written appends keeps))
+
+path_in : (path path' : String Global) (before before' : Option (String Global)) (blames : Bool) → path' ≡ path → before' ≡ before
+    → ((if blames then string_bytes (unwrap_or before' path') else string_bytes path') ≡ string_bytes path)
+    ⊎ IsSomeAnd before (λ b. (if blames then string_bytes (unwrap_or before' path') else string_bytes path') ≡ string_bytes b)
+path_in path path' before before' false same alike = inl (ap string_bytes same)
+path_in path path' before None true same alike = inl (ap string_bytes same)
+path_in path path' before (Some b) true same alike = inr (subst (λ (o : Option (String Global)). IsSomeAnd o (λ x. string_bytes b ≡ string_bytes x)) alike refl)
+
+-- the file that is blamed is the one at the place, or the part before it
+pub blamed_is : (old new : Place) (path : List ℕ) → new.path ≡ old.path → new.before ≡ old.before → path ≡ blamed new → IsPathOf old path
+blamed_is old new path same alike is =
+    subst (IsPathOf old) (sym is) (path_in old.path new.path old.before new.before new.blames_before same alike)

@@ -13,13 +13,13 @@ use Rattle.sqlite.specs.declared.error.Error.{Error}
 use Rattle.bac_asked.specs.Faults.{IsOfDatabase, of_error}
 use Rattle.bac_asked.specs.declared.end.NotDone.{NotDone}
 use Rattle.bac_asked.specs.declared.end.NotDone.TheVariants as done
-use Rattle.bac_asked.specs.declared.fault.Fault.{Fault}
 use Rattle.bac_asked.specs.declared.fault.FileFault.{FileFault}
 use Rattle.bac_fetch.specs.declared.keeping.Chosen.{Chosen}
 use Rattle.bac_files.proofs.FilesLemmas.{opened_settled}
 use Rattle.bac_files.specs.Files.{FileOf, IsClosedBy, IsDoneTo, IsOpenedBy}
 use Rattle.bac_files.specs.declared.disk_files.DiskFiles.{DiskFiles}
 use Rattle.bac_keeper.proofs.ArchiveLemmas.{tells_weaker}
+use Rattle.bac_offline.proofs.WorkLemmas.{asking_not_file}
 use Rattle.bac_offline.specs.Archives.{IsHeld}
 use Rattle.bac_keeper.specs.Archives.{KeepsArchive, LosesNothing}
 use Rattle.bac_asked.specs.AsLog.{Given}
@@ -54,39 +54,36 @@ module _ {D : Type 0} {g : disk.Ghosts D} (image : Image) (opened last : Connect
             (λ c open'. subst (λ (o : Given). KeepsArchive rules (by words.at_once) o chosen all between after begins ends (file_state opened).now (file_state last).committed) alike (kept (c, open'))) shut.1) these,
       )
 
-asking_not_file : (why : Fault) → IsOfSomeFile (done.Asking why) → ⊥
-asking_not_file why (file, is) = cc
-
 -- what was done over a connection ends so, by no fault of the file; and so it is of the closed files
 pub asks_file : {F : Type 0} {s : start.Ghosts F} {g : disk.Ghosts (FileOf s)} (image : Image) (opened last : Connected (FileStore (FileOf s) g)) (files : DiskFiles F s)
-    → IsOpenedBy image opened → (HasCleanDisk (file_state last) → HasCleanDisk (file_state opened)) → (ends : NotDone → Type 0) (over : Database → NotDone → Type 0) (did result : Result ℕ NotDone)
-    → IfErr did (MayAsk (λ fault. ends fault × (IsHeld (file_state last) → over (file_state opened).now fault)))
+    → IsOpenedBy image opened → (HasCleanDisk (file_state last) → HasCleanDisk (file_state opened)) → (ends : NotDone → Type 0) (over : Database → Database → NotDone → Type 0) (did result : Result ℕ NotDone)
+    → IfErr did (MayAsk (λ fault. ends fault × (IsHeld (file_state last) → over (file_state opened).now (file_state last).committed fault)))
     → IfErr result (λ fault. (did ≡ Err fault) ⊎ (IsOfSomeFile fault × IsUnclosedBySome files)) → (IsClosedBy last files.closed ⊎ IsUnclosedBySome files)
-    → IfErr result (MayAsk (λ fault. ends fault × (IsUnclosedBySome files ⊎ (IsSome files.closed × IfSome files.closed (IsDoneTo g image (λ found left. over found fault))))))
+    → IfErr result (MayAsk (λ fault. ends fault × (IsUnclosedBySome files ⊎ (IsSome files.closed × IfSome files.closed (IsDoneTo g image (λ found left. over found left fault))))))
 asks_file image opened last files is clean ends over did (Ok v) asked same shut = tt
 asks_file image opened last files is clean ends over did (Err (done.File why)) asked same shut = tt
 asks_file image opened last files is clean ends over did (Err (done.Asking why)) asked (inr (file, unclosed)) shut = absurd (asking_not_file why file)
 asks_file image opened last files is clean ends over did (Err (done.Asking why)) asked (inl same) (inr unclosed) =
-    let it = subst (λ (r : Result ℕ NotDone). IfErr r (MayAsk (λ fault. ends fault × (IsHeld (file_state last) → over (file_state opened).now fault)))) same asked in
+    let it = subst (λ (r : Result ℕ NotDone). IfErr r (MayAsk (λ fault. ends fault × (IsHeld (file_state last) → over (file_state opened).now (file_state last).committed fault)))) same asked in
     (it.0, inl unclosed)
 asks_file image opened last files is clean ends over did (Err (done.Asking why)) asked (inl same) (inl shut) =
-    let it = subst (λ (r : Result ℕ NotDone). IfErr r (MayAsk (λ fault. ends fault × (IsHeld (file_state last) → over (file_state opened).now fault)))) same asked in
-    (it.0, inr (shut.0, some_done image opened last files.closed is clean (λ found left. over found (done.Asking why)) (λ c open'. it.1 (c, open')) shut.1))
+    let it = subst (λ (r : Result ℕ NotDone). IfErr r (MayAsk (λ fault. ends fault × (IsHeld (file_state last) → over (file_state opened).now (file_state last).committed fault)))) same asked in
+    (it.0, inr (shut.0, some_done image opened last files.closed is clean (λ found left. over found left (done.Asking why)) (λ c open'. it.1 (c, open')) shut.1))
 
 -- what a run over an archive fails by, by options that are the same
 pub refused_by : {S P C : Type 0} (rules : SocketRules S P) (clock : AtOnce S C) (bars : FileFault → Type 0) (quiet : Type 0) (which : Chosen) (before after : S) (found : Database) (last : State) (given by : Given) (r : Result ℕ NotDone) → given ≡ by
-    → IfErr r (MayFail (λ why. ((error : Error) × (why ≡ of_error error)) ⊎ (IsHeld last → RefusesKeep rules clock bars quiet which given before after found why)))
-    → IfErr r (MayFail (λ why. ((error : Error) × (why ≡ of_error error)) ⊎ (IsHeld last → RefusesKeep rules clock bars quiet which by before after found why)))
+    → IfErr r (MayFail (λ why. ((error : Error) × (why ≡ of_error error)) ⊎ (IsHeld last → RefusesKeep rules clock bars quiet which given before after found last.committed why)))
+    → IfErr r (MayFail (λ why. ((error : Error) × (why ≡ of_error error)) ⊎ (IsHeld last → RefusesKeep rules clock bars quiet which by before after found last.committed why)))
 refused_by rules clock bars quiet which before after found last given by r is it =
-    subst (λ (x : Given). IfErr r (MayFail (λ why. ((error : Error) × (why ≡ of_error error)) ⊎ (IsHeld last → RefusesKeep rules clock bars quiet which x before after found why)))) is it
+    subst (λ (x : Given). IfErr r (MayFail (λ why. ((error : Error) × (why ≡ of_error error)) ⊎ (IsHeld last → RefusesKeep rules clock bars quiet which x before after found last.committed why)))) is it
 
 -- so what it ends by, by options that are the same
 pub ended_by : {S P C : Type 0} (rules : SocketRules S P) (clock : AtOnce S C) (which : Chosen) (before after : S) (found : Database) (last : State) (given by : Given) (ends : NotDone → Type 0) (r : Result ℕ NotDone)
     → given ≡ by
-    → IfErr r (MayAsk (λ fault. ends fault × (IsHeld last → EndsOver rules clock which given before after found fault)))
-    → IfErr r (MayAsk (λ fault. ends fault × (IsHeld last → EndsOver rules clock which by before after found fault)))
+    → IfErr r (MayAsk (λ fault. ends fault × (IsHeld last → EndsOver rules clock which given before after found last.committed fault)))
+    → IfErr r (MayAsk (λ fault. ends fault × (IsHeld last → EndsOver rules clock which by before after found last.committed fault)))
 ended_by rules clock which before after found last given by ends r is it =
-    subst (λ (x : Given). IfErr r (MayAsk (λ fault. ends fault × (IsHeld last → EndsOver rules clock which x before after found fault)))) is it
+    subst (λ (x : Given). IfErr r (MayAsk (λ fault. ends fault × (IsHeld last → EndsOver rules clock which x before after found last.committed fault)))) is it
 
 pub all_database_fail : (P : FileFault → Type 0) (r : Result ℕ NotDone) → IfErr r IsOfDatabase → IfErr r (MayFail (λ why. ((error : Error) × (why ≡ of_error error)) ⊎ P why))
 all_database_fail P (Ok v) it = tt

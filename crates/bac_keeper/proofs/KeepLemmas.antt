@@ -16,6 +16,8 @@ use Rattle.bac_archive.specs.Schema.{OverArchive, HasArchive}
 use Rattle.bac_asked.specs.AsLog.{Given}
 use Rattle.bac_fetch.proofs.CausesLemmas.{chosen_so}
 use Rattle.bac_fetch.proofs.FaultsLemmas.{ends_so}
+use Rattle.bac_fetch.proofs.LeftLemmas.{leaves_committed}
+use Rattle.bac_fetch.specs.Stays.{Leaves}
 use Rattle.bac_offline.specs.Archives.{IsHeld, IsTakenAs}
 use Rattle.bac_keeper.specs.Done.{RefusesKeep}
 use Rattle.bac_offline.specs.Ends.{MayFail}
@@ -27,11 +29,13 @@ keeping_so rules by N M A B f h which before after fault (inl it) = inl (chosen_
 keeping_so rules by N M A B f h which before after fault (inr (all, unlisted, between, found, it)) =
     inr (all, unlisted, between, found, ends_so rules (HasNoInstance all) (HasNoInstance all) A B after fault (λ n. n) h it)
 
--- so a run ends over what two files held, which became this archive
+-- so a run ends over what two files held, which became this archive, in which nothing waited for a commit
 pub refused_so : {S P C : Type 0} (rules : SocketRules S P) (clock : AtOnce S C) (bars : FileFault → Type 0) (quiet : Type 0) (which : Chosen) (given : Given) (found : Database) (archive last : State) (before after : S) (fault : NotDone)
-    → (IsHeld last → IsTakenAs found archive.now × (HasArchive archive.now.schema))
-    → OverArchive archive last (EndsRunOver rules clock given which before after archive.now fault)
-    → MayFail (λ why. ((error : Error) × (why ≡ of_error error)) ⊎ (IsHeld last → RefusesKeep rules clock bars quiet which given before after found why)) fault
+    → (IsHeld last → IsTakenAs found archive.now × HasArchive archive.now.schema × (archive.committed ≡ archive.now))
+    → OverArchive archive last (Leaves archive last (λ left. EndsRunOver rules clock given which before after archive.now left fault))
+    → MayFail (λ why. ((error : Error) × (why ≡ of_error error)) ⊎ (IsHeld last → RefusesKeep rules clock bars quiet which given before after found last.committed why)) fault
 refused_so rules clock bars quiet which given found archive last before after (done.Asking why) is ends = tt
 refused_so rules clock bars quiet which given found archive last before after (done.File why) is ends =
-    inr (λ held. let (of, has) = is held in inr (archive.now, of, ends held.0 has))
+    inr (λ held.
+    let (of, has, was) = is held in
+    inr (archive.now, of, leaves_committed archive last (λ left. EndsRunOver rules clock given which before after archive.now left (done.File why)) was held.1 (ends held.0 has)))

@@ -81,22 +81,22 @@ KeepsIn rules by g image begins keep sockets sockets_after before after closed s
     (KeepsArchive rules (by keep.at_once) (given_of keep.options) chosen all between sockets_after begins ends)))
     status
 
--- what two files held is an archive, or becomes one, and the run over the logs that were chosen ends so
-abbrev pub EndsOver : {S P C : Type 0} → SocketRules S P → AtOnce S C → Chosen → Given → S → S → Database
+-- what two files held is an archive, or becomes one, and the run over the logs that were chosen ends so and leaves this
+abbrev pub EndsOver : {S P C : Type 0} → SocketRules S P → AtOnce S C → Chosen → Given → S → S → Database → Database
     → NotDone → Type 0
-EndsOver rules by which given before after found fault =
-    (archive : Database) × IsTakenAs found archive × EndsRunOver rules by given which before after archive fault
+EndsOver rules by which given before after found left fault = (archive : Database) × IsTakenAs found archive
+    × EndsRunOver rules by given which before after archive left.trees fault
 
 -- no socket was opened, and no line printed
 abbrev pub IsQuiet : {S : Type 0} → S → S → Held → Held → Type 0
 IsQuiet sockets sockets_after before after = (sockets_after ≡ sockets) × (after ≡ before)
 
 -- Why the logs that were chosen aren't kept in the archive that two files held: it is none, or what it is to begin on
--- is no use, and then it was quiet; or the run over it ends so.
+-- is no use, and then it was quiet; or the run over it ends so, and leaves this.
 abbrev pub RefusesKeep : {S P C : Type 0} → SocketRules S P → AtOnce S C → (FileFault → Type 0) → Type 0 → Chosen
-    → Given → S → S → Database → FileFault → Type 0
-RefusesKeep rules by bars quiet which given before after found why = (quiet × (IsNoArchive found why ⊎ bars why))
-    ⊎ EndsOver rules by which given before after found (File why)
+    → Given → S → S → Database → Database → FileFault → Type 0
+RefusesKeep rules by bars quiet which given before after found left why = (quiet × (IsNoArchive found why ⊎ bars why))
+    ⊎ EndsOver rules by which given before after found left (File why)
 
 -- so the file is no use to `keep`; where it isn't opened, it was quiet
 abbrev pub FailsToKeep : {S P C F : Type 0} {s : start.Ghosts F} → SocketRules S P → (ℕ → AtOnce S C)
@@ -126,7 +126,7 @@ module _ {S P C F : Type 0} {s : start.Ghosts F} (rules : SocketRules S P) (by :
       EndsKeeping rules by which (Unit {0}) (Unit {0}) before after fault × (IsUnclosedBySome files
       ⊎ (IsSome files.closed
       × IfSome files.closed
-      (IsDoneTo g image (λ found left. EndsOver rules by which given before after found fault))))
+      (IsDoneTo g image (λ found left. EndsOver rules by which given before after found left fault))))
 
 module _ {S P C F : Type 0} {s : start.Ghosts F} (rules : SocketRules S P) (by : ℕ → AtOnce S C)
     (g : disk.Ghosts (FileOf s)) (image : Image) where

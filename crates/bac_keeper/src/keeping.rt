@@ -149,8 +149,10 @@ where
         (socket_rules S.opens S.closes S.Socket.sends S.Socket.receives
         S.Socket.receives_within) (at_once S.holds C.reads clock window)
         (BarsPart ⟦<FileOf<G> as Disk>⟧ (image_at G.Start) place.old.before parts.new)
-        (IsQuiet sockets.old sockets.new (O.contents output.old) (O.contents output.new)) chosen
-        (given_in options.now) sockets.old sockets.new (state A.Store conn.old).now why))) }
+        (IsQuiet sockets.old sockets.new (O.contents output.old) (O.contents output.new)
+        × (E.contents errors.new ≡ E.contents errors.old)) chosen
+        (given_in options.now) sockets.old sockets.new (state A.Store conn.old).now
+        (state A.Store conn.new).committed why))) }
     ensures ends { IfErr result (MayAsk (λ fault. EndsKeeping
         (socket_rules S.opens S.closes S.Socket.sends S.Socket.receives
         S.Socket.receives_within) (at_once S.holds C.reads clock window) chosen (Unit {0})
@@ -158,7 +160,9 @@ where
         × (IsHeld (state A.Store conn.new) → EndsOver
         (socket_rules S.opens S.closes S.Socket.sends S.Socket.receives
         S.Socket.receives_within) (at_once S.holds C.reads clock window) chosen
-        (given_in options.now) sockets.old sockets.new (state A.Store conn.old).now fault))) }
+        (given_in options.now) sockets.old sockets.new (state A.Store conn.old).now
+        (state A.Store conn.new).committed fault))) }
+    ensures place { (place.new.path ≡ place.old.path) × (place.new.before ≡ place.old.before) }
 {
     begin_archive(alloc, conn, parts, place, errors)?;
     let status = keep_chosen(
@@ -215,8 +219,8 @@ where
         S.Socket.receives_within) (at_once S.holds C.reads clock)
         ⟦<FileOf<F> as Disk>⟧ (image_at F.Start)
         (BarsPart ⟦<FileOf<G> as Disk>⟧ (image_at G.Start) place.old.before parts.new)
-        (IsQuiet sockets.old sockets.new (O.contents output.old) (O.contents output.new))
-        asked.now (string_bytes place.old.path)
+        (IsQuiet sockets.old sockets.new (O.contents output.old) (O.contents output.new)
+        × (E.contents errors.new ≡ E.contents errors.old)) asked.now (string_bytes place.old.path)
         (are_any asked.now.groups || is_some place.old.before) sockets.old sockets.new
         files.new)) }
     ensures stays { IsUnused files.old → IfSome files.new.closed
@@ -229,6 +233,7 @@ where
         S.Socket.receives_within) (at_once S.holds C.reads clock)
         ⟦<FileOf<F> as Disk>⟧ (image_at F.Start) asked.now
         sockets.old sockets.new files.new)) }
+    ensures place { (place.new.path ≡ place.old.path) × (place.new.before ≡ place.old.before) }
 {
     let options = options_of(&asked.options);
     let chosen = choose(alloc, asked, &options)?;

@@ -1,18 +1,18 @@
 //! The tools `keep` and `kept`.
 
-ghost use Rattle.std.specs.Prelude.{◌≡◌, ◌⊎◌, Err, IfErr, IfOk, IfSome, OnErr, false, is_some};
-ghost use Rattle.std.specs.Prelude.{◌||◌, map, true};
+ghost use Rattle.std.specs.Prelude.{◌≡◌, ◌⊎◌, Err, IfErr, IfOk, IfSome, OnErr, OnOk, false};
+ghost use Rattle.std.specs.Prelude.{◌||◌, is_some, map, true};
 ghost use Rattle.std.specs.String.{string_bytes};
 ghost use Rattle.sqlite_wal.specs.Files.{image_at};
 ghost use Rattle.bac_files.specs.Files.{IsDoneTo, IsNamed, IsUnused};
 ghost use Rattle.bac_files.specs.Parts.{IsPlaced, Listing};
 ghost use Rattle.bac_offline.specs.Archives.{KeepsItems, KeepsRows};
 ghost use Rattle.bac_keeper.specs.Archives.{LosesNothing};
-ghost use Rattle.bac_offline.specs.Begun.{BarsPart, BeginsOn};
-ghost use Rattle.bac_keeper.specs.Done.{EndsKeep, FailsToKeep, IsQuiet, KeepsIn};
-ghost use Rattle.bac_keeper.specs.Places.{FailsAt, KeepsAt};
-ghost use Rattle.bac_offline.specs.Ends.{EndsBy, IsNotOpened, IsOfFile, IsOfSomeFile, IsUntold};
-ghost use Rattle.bac_offline.specs.Ends.{MayFail};
+ghost use Rattle.bac_offline.specs.Begun.{BeginsOn};
+ghost use Rattle.bac_keeper.specs.Done.{EndsKeep, KeepsIn};
+ghost use Rattle.bac_keeper.specs.Places.{FailsAt, FailsAtPlace, KeepsAt};
+ghost use Rattle.bac_offline.specs.Ends.{EndsBy, IsNotOpened, IsOfFile, IsOfSomeFile, MayFail};
+ghost use Rattle.bac_offline.specs.Ends.{TellsEnd};
 ghost use Rattle.bac_offline.specs.Parted.{IsNoFolder, PrintsFile, PrintsListed, PrintsOfFolder};
 ghost use Rattle.bac_offline.specs.Shown.{EndsPrint};
 ghost use Rattle.bac_offline.specs.Stops.{EndsStop, FailsToStopAt, StopsAt};
@@ -40,9 +40,11 @@ fn tell_done<E: Write>(
     errors: &mut E,
 ) -> Result<u8, Fault>
     ensures ends { IfOk result (λ status. EndsBy done status) }
-    ensures said { IsUntold done (E.contents errors.old) (E.contents errors.new) }
+    ensures said { OnOk result
+        (TellsEnd path.now done (E.contents errors.old) (E.contents errors.new)) }
     ensures untold { OnErr result (E.contents errors.new ≡ E.contents errors.old) }
-    ensures why { IfErr result (λ why. (done ≡ Err (NotDone.Asking why)) ⊎ (why ≡ Fault.Memory)) }
+    ensures why { IfErr result (λ why. (done ≡ Err (NotDone.Asking why))
+        ⊎ ((why ≡ Fault.Memory) × (file : FileFault) × (done ≡ Err (NotDone.File file)))) }
 {
     match done {
         Ok(status) => Ok(status),
@@ -81,14 +83,17 @@ fn stop_at<F: Start, O: Write, E: Write>(
     ensures stopped { IfOk result (λ status. (StopsAt ⟦<FileOf<F> as Disk>⟧ (image_at F.Start)
         asked.now (O.contents output.old) (O.contents output.new) files.new status
         × (E.contents errors.new ≡ E.contents errors.old))
-        ⊎ IsOfFile (FailsToStopAt ⟦<FileOf<F> as Disk>⟧ (image_at F.Start) asked.now files.new)
-        status) }
+        ⊎ IsOfFile (FailsToStopAt ⟦<FileOf<F> as Disk>⟧ (image_at F.Start) asked.now
+        (O.contents output.old) (O.contents output.new) (E.contents errors.old)
+        (E.contents errors.new) files.new) status) }
     ensures untold { OnErr result (E.contents errors.new ≡ E.contents errors.old) }
     ensures stays { IsUnused files.old → IfSome files.new.closed
         (IsDoneTo ⟦<FileOf<F> as Disk>⟧ (image_at F.Start) LosesNothing) }
     ensures items { IsUnused files.old
         → IfSome files.new.closed (IsDoneTo ⟦<FileOf<F> as Disk>⟧ (image_at F.Start) KeepsItems) }
-    ensures ends { IfErr result (λ why. EndsStop asked.now (NotDone.Asking why)) }
+    ensures ends { IfErr result (λ why. EndsStop ⟦<FileOf<F> as Disk>⟧ (image_at F.Start)
+        asked.now (O.contents output.old) (O.contents output.new) files.new
+        (NotDone.Asking why)) }
 {
     let place = match place_of(files, asked, false, u64::MAX) {
         Ok(place) => place,
@@ -122,13 +127,11 @@ where
         (BeginsOn ⟦<FileOf<G> as Disk>⟧ (image_at G.Start) place.before parts.new)
         asked.now sockets.old sockets.new (O.contents output.old)
         (O.contents output.new) files.new.closed status)
-        ⊎ IsOfFile (FailsToKeep (socket_rules S.opens S.closes S.Socket.sends
-        S.Socket.receives S.Socket.receives_within) (at_once S.holds C.reads clock)
-        ⟦<FileOf<F> as Disk>⟧ (image_at F.Start)
-        (BarsPart ⟦<FileOf<G> as Disk>⟧ (image_at G.Start) place.before parts.new)
-        (IsQuiet sockets.old sockets.new (O.contents output.old) (O.contents output.new)) asked.now
-        (string_bytes place.path) (are_any asked.now.groups || is_some place.before)
-        sockets.old sockets.new files.new) status) }
+        ⊎ IsOfFile (FailsAtPlace (socket_rules S.opens S.closes S.Socket.sends S.Socket.receives
+        S.Socket.receives_within) (at_once S.holds C.reads clock) ⟦<FileOf<F> as Disk>⟧
+        ⟦<FileOf<G> as Disk>⟧ (image_at F.Start) (image_at G.Start) asked.now place sockets.old
+        sockets.new (O.contents output.old) (O.contents output.new) (E.contents errors.old)
+        (E.contents errors.new) files.new parts.new) status) }
     ensures stays { IsUnused files.old → IfSome files.new.closed
         (IsDoneTo ⟦<FileOf<F> as Disk>⟧ (image_at F.Start) LosesNothing) }
     // The part before keeps its rows, whatever comes of it.
@@ -169,7 +172,8 @@ where
     C: Drop,
     // The logs that the words choose were kept, in the archive that the files held, of a folder
     // those of a part; their lines were printed, and the status is the greatest of theirs. Or the
-    // file is no use; of one that isn't opened, or is no archive, nothing was asked or printed.
+    // file is no use; of one that isn't opened, or is no archive, nothing was asked or printed, and
+    // that alone is told on the errors.
     ensures kept { asked.now.stop ≡ false
         → IfOk result (λ status. KeepsAt (socket_rules S.opens S.closes S.Socket.sends
         S.Socket.receives S.Socket.receives_within) (at_once S.holds C.reads clock)
@@ -179,17 +183,18 @@ where
         ⊎ IsOfFile (FailsAt (socket_rules S.opens S.closes S.Socket.sends S.Socket.receives
         S.Socket.receives_within) (at_once S.holds C.reads clock) ⟦<FileOf<F> as Disk>⟧
         ⟦<FileOf<G> as Disk>⟧ (image_at F.Start) (image_at G.Start) asked.now sockets.old
-        sockets.new (O.contents output.old) (O.contents output.new) files.new parts.new)
-        status) }
-    // With `--stop` they were stopped, and nothing else of the archive changed; no socket is
-    // opened, and only that the file is no use is told on the errors.
+        sockets.new (O.contents output.old) (O.contents output.new) (E.contents errors.old)
+        (E.contents errors.new) files.new parts.new) status) }
+    // With `--stop` they were stopped, and nothing else of the archive changed; or nothing is
+    // printed, unless the file couldn't be closed. No socket is opened, and only that the file is
+    // no use is told on the errors.
     ensures stopped { asked.now.stop ≡ true
         → IfOk result (λ status. (StopsAt ⟦<FileOf<F> as Disk>⟧ (image_at F.Start) asked.now
         (O.contents output.old) (O.contents output.new) files.new status
         × (E.contents errors.new ≡ E.contents errors.old))
-        ⊎ IsOfFile
-        (FailsToStopAt ⟦<FileOf<F> as Disk>⟧ (image_at F.Start) asked.now files.new)
-        status) }
+        ⊎ IsOfFile (FailsToStopAt ⟦<FileOf<F> as Disk>⟧ (image_at F.Start) asked.now
+        (O.contents output.old) (O.contents output.new) (E.contents errors.old)
+        (E.contents errors.new) files.new) status) }
     ensures untold { asked.now.stop ≡ true
         → OnErr result (E.contents errors.new ≡ E.contents errors.old) }
     ensures silent { asked.now.stop ≡ true → sockets.new ≡ sockets.old }
@@ -210,7 +215,8 @@ where
         ⟦<FileOf<F> as Disk>⟧ (image_at F.Start) asked.now sockets.old sockets.new files.new
         (NotDone.Asking why)) }
     ensures stop_ends { asked.now.stop ≡ true
-        → IfErr result (λ why. EndsStop asked.now (NotDone.Asking why)) }
+        → IfErr result (λ why. EndsStop ⟦<FileOf<F> as Disk>⟧ (image_at F.Start) asked.now
+        (O.contents output.old) (O.contents output.new) files.new (NotDone.Asking why)) }
 {
     if asked.stop {
         return stop_at(files, alloc, asked, output, errors);

@@ -3,3 +3,4 @@ pub mod CsvLemmas
 pub mod LogLinesLemmas
 pub mod PartsLemmas
 pub mod RisingLemmas
+pub mod ReadLemmas

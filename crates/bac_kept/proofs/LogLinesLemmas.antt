@@ -3,17 +3,18 @@ use Rattle.std.proofs.Common.{◌≡◌, ◌≢◌, refl, sym, ap, subst, ◌∙
 use Rattle.std.proofs.Math.Dec.{lt→ltb}
 use Rattle.std.proofs.lemmas.Bool.{eq-eqb, eqb-false, leb-false, ne_eqb}
 use Rattle.std.proofs.lemmas.List.Sorted.{IsPermutation-map, IsPermutation-trans}
-use Rattle.std.specs.Cmp.{IsTotalOrder, int_cmp_is}
+use Rattle.std.specs.Cmp.{int_cmp_is}
 use Rattle.std.specs.List.{AllByRecursion}
 use Rattle.std.specs.List.Sorted.{IsPermutation}
 use Rattle.std.specs.declared.cmp.Ordering.TheVariants.{Less}
 use Rattle.sqlite_keyed.proofs.SortLemmas.{sorted_unique}
 use Rattle.sqlite_trees.specs.Tree.{IsAscending, rowid}
-use Rattle.sqlite_value.proofs.OrderLemmas.{value_cmp-Int, value_cmp_total}
+use Rattle.sqlite_value.proofs.OrderLemmas.{value_cmp-Int}
 use Rattle.sqlite_value.specs.Order.{Row as Values, value_cmp}
 use Rattle.sqlite_value.specs.declared.value.Value.TheVariants.{Int}
 use Rattle.std.specs.Prelude.{decimal}
 use Rattle.bac_archive.proofs.RowsLemmas.{cast_int, cast_null}
+use Rattle.bac_archive.proofs.ApartLemmas.{by_id_total}
 use Rattle.bac_archive.specs.Items.{by_id, epoch_in, item_columns, last_at}
 use Rattle.bac_keep.specs.Items.{era_after, era_behind, kept_row, kept_rows, stamp_text}
 use Rattle.bac_keep.proofs.Eras.{behind-up, era-up, one_row}
@@ -157,13 +158,6 @@ rising era s t (Logged number entry ∷ items) (is, more) one =
     let rest = ends_later era x items one in
     subst (λ l. IsAscending (λ a b. by_id a b ≡ Less) (map item_columns l)) (sym (first_row era x items here))
     (all_below era number (s + 1) t items (omega (arith, is, other)) more rest, rising era (s + 1) t items more rest)
-
-by_id_total : IsTotalOrder by_id
-by_id_total = record {
-  antisymm = λ a b. value_cmp_total.antisymm (rowid a) (rowid b);
-  trans = λ a b c. value_cmp_total.trans (rowid a) (rowid b) (rowid c);
-  congr = λ a b c. value_cmp_total.congr (rowid a) (rowid b) (rowid c);
-}
 
 pub log_is : KeptLogIsThatOfLog
 log_is log era s t rows items text same covers one (shown, are, is) =

@@ -1,6 +1,9 @@
 -- What is printed of the items of logs.
-use Rattle.std.proofs.Common.{◌≡◌, refl, sym, ap, subst, ◌∙◌, ℕ, List, [], ◌∷◌, ◌++◌, append_assoc, append-nil, Option, None, Some, true, ◌+◌, ◌≤◌, arith}
+use Rattle.std.proofs.Common.{◌≡◌, ◌⊎◌, inl, inr, refl, sym, ap, subst, ◌∙◌, ℕ, Bool, true, false, ◌||◌, nat_lt, List, [], ◌∷◌, ◌++◌, append_assoc, append-nil, Option, None, Some, ◌≤◌, arith}
+use Rattle.std.proofs.Math.Bool.{or-false}
+use Rattle.std.proofs.lemmas.Bool.{or_parts}
 use Rattle.std.proofs.lemmas.List.Elements.{filter-append}
+use Rattle.std.proofs.lemmas.List.Folds.{list_any-append}
 use Rattle.std.specs.List.{filter}
 use Rattle.std.specs.Io.KnownBytes.{Appends, Keeps}
 use Rattle.std.proofs.KnownBytes.{Appends-nil, Appends-trans}
@@ -20,7 +23,8 @@ use Rattle.bac_print.specs.Output.{AppendsPart, Held}
 use Rattle.bac_archive.specs.declared.trend_logs.Log.{Log}
 use Rattle.bac_query.proofs.Delivered.{behind_first, kept_behind}
 use Rattle.bac_kept.specs.declared.printing.Shown.{Shown as Which}
-use Rattle.bac_kept.specs.Printed.{PrintsBehind, PrintsItems, PrintsLog, PrintsLogs, anew_if, item_line, lines_behind, row_lines, rows_lines}
+use Rattle.bac_kept.specs.declared.printing.Shown.TheVariants.{All as Each}
+use Rattle.bac_kept.specs.Printed.{IsThere, PrintsBehind, PrintsItems, PrintsLog, PrintsLogs, anew_if, has_chosen, is_chosen, item_line, lines_behind, row_lines, rows_lines}
 use Rattle.bac_kept.specs.Seen.{epoch_of, is_new, is_newer, item_at, newest_of}
 use Rattle.bac_kept.specs.declared.seen.Newest.{Newest}
 use Rattle.bac_archive.specs.Schema.{HasArchive}
@@ -139,13 +143,39 @@ log_more which items [] log text one all it = (one, [], ap (λ l. l ++ one) all 
 log_more which items (l ∷ logs) log text one all it =
     (all.0, all.1 ++ one, ap (λ x. x ++ one) all.2 ∙ append_assoc all.0 all.1 one, all.3, log_more which items logs log all.1 one all.4 it)
 
+-- ---- whether a log is chosen
+
+-- one of these logs is, or the one behind them
+pub chosen_more : (which : Which) (before : List Log) (log : Log) (all : List Log) (any was : Bool) → all ≡ before ++ log ∷ [] → any ≡ has_chosen which before
+    → was ≡ is_chosen which log → (any || was) ≡ has_chosen which all
+chosen_more which before log all any was is earlier here =
+    ap (λ b. b || was) earlier ∙ ap (λ b. has_chosen which before || b) (here ∙ sym (or-false (is_chosen which log)))
+    ∙ sym (list_any-append (λ (l : Log). is_chosen which l) before (log ∷ [])) ∙ ap (has_chosen which) (sym is)
+
+-- what is asked for is there where each log was, or more than none was chosen
+pub there_by : (which : Which) (all : List Log) (count : ℕ) → nat_lt 0 count ≡ has_chosen which all → (which ≡ Each) ⊎ (nat_lt 0 count ≡ true) → IsThere which all
+there_by which all count chosen (inl each) = inl each
+there_by which all count chosen (inr some) = inr (sym chosen ∙ some)
+
+-- and none is where none was
+pub none_by : (which : Which) (all : List Log) (count : ℕ) → nat_lt 0 count ≡ has_chosen which all → count ≡ 0 → has_chosen which all ≡ false
+none_by which all count chosen zero = sym chosen ∙ ap (λ n. nat_lt 0 n) zero
+
+-- where none is chosen nothing is printed
+pub none_printed : (which : Which) (items : List Values) (all : List Log) (text : List ℕ) → has_chosen which all ≡ false → PrintsLogs which items all text → text ≡ []
+none_printed which items [] text none it = it
+none_printed which items (l ∷ logs) text none it =
+    let both = or_parts (is_chosen which l) (has_chosen which logs) none in
+    it.2 ∙ ap (λ t. t ++ it.1) (it.3.1 both.0) ∙ none_printed which items logs it.1 both.1 it.4
+
 -- what was printed of the logs of an archive is so of the archive as it was
-pub are_shown : (Prints : List Values → List Log → List ℕ → Type 0) (whole : List ℕ → List ℕ) (old mid : Database) (all these : List Log) (a b c : Held)
-    → mid ≡ old → these ≡ all → AreLogs old.trees all → ((text : List ℕ) × Prints (kept mid.trees) these text × Appends a b (whole text)) → Keeps b c
-    → (all : List Log) × AreLogs old.trees all × (text : List ℕ) × Prints (kept old.trees) all text × Appends a c (whole text)
-are_shown Prints whole old mid all these a b c same is are (text, printed, written) keeps = (
+pub are_shown : (which : Which) (Prints : List Values → List Log → List ℕ → Type 0) (whole : List ℕ → List ℕ) (old mid : Database) (all these : List Log) (a b c : Held)
+    → mid ≡ old → these ≡ all → AreLogs old.trees all → IsThere which these → ((text : List ℕ) × Prints (kept mid.trees) these text × Appends a b (whole text)) → Keeps b c
+    → (all : List Log) × AreLogs old.trees all × IsThere which all × (text : List ℕ) × Prints (kept old.trees) all text × Appends a c (whole text)
+are_shown which Prints whole old mid all these a b c same is are there (text, printed, written) keeps = (
   all,
   are,
+  subst (λ (l : List Log). IsThere which l) is there,
   text,
   subst (λ (d : Database). Prints (kept d.trees) all text) same (subst (λ (l : List Log). Prints (kept mid.trees) l text) is printed),
   kept_behind a b c (whole text) written keeps,

@@ -1,5 +1,6 @@
 -- The rows of `bac kept --csv`.
-use Rattle.std.specs.Prelude.{◌≡◌, ℕ, true, false, List, [], ◌∷◌, ◌++◌, codes, decimal, Option, None, Some, String}
+use Rattle.std.specs.Prelude.{◌≡◌, ℕ, Bool, true, false, if◌then◌else◌, List, [], ◌∷◌, ◌++◌, codes, decimal, Option}
+use Rattle.std.specs.Prelude.{None, Some, String}
 use Rattle.std.specs.Float.Ieee.{Float, binary64}
 use Rattle.std.specs.List.{filter}
 use Rattle.std.specs.String.{string_bytes}
@@ -21,6 +22,10 @@ abbrev pub names : List (List ℕ)
 names = codes "address" ∷ codes "device" ∷ codes "trend_log" ∷ codes "name" ∷ codes "epoch" ∷ codes "number"
     ∷ codes "stamp"
     ∷ codes "value" ∷ codes "datum" ∷ codes "flags" ∷ []
+
+-- what is written before the logs: as CSV the first row, and in lines nothing
+abbrev pub names_text : Bool → List ℕ
+names_text csv = if csv then row_text default_writer names else []
 
 -- in place of the datum of a gap its first number and its last
 abbrev pub gap_text : ℕ → Option ℕ → List ℕ

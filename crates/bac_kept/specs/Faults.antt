@@ -1,6 +1,6 @@
 -- What ends a print of what is kept, and what can be seen of it.
-use Rattle.std.specs.Prelude.{◌≡◌, ◌≢◌, ◌⊎◌, false, List}
-use Rattle.std.specs.List.{All}
+use Rattle.std.specs.Prelude.{◌≡◌, ◌≢◌, ◌⊎◌, false, IsTrue, List}
+use Rattle.sqlite.specs.State.{State}
 use Rattle.sqlite_trees.specs.Tree.{Trees}
 use Rattle.bac_archive.specs.Logs.{AreLogs}
 use Rattle.bac_archive.specs.declared.trend_logs.Log.{Log}
@@ -8,7 +8,7 @@ use Rattle.bac_asked.specs.Faults.{IsOfDatabase, RefusesLine, WantsMemory}
 use Rattle.bac_asked.specs.declared.end.NotDone.{NotDone}
 use Rattle.bac_asked.specs.declared.end.NotDone.TheVariants.{File}
 use Rattle.bac_asked.specs.declared.fault.FileFault.TheVariants.{NoLog}
-use Rattle.bac_kept.specs.Printed.{is_chosen}
+use Rattle.bac_kept.specs.Printed.{has_chosen}
 use Rattle.bac_kept.specs.declared.printing.Shown.{Shown}
 use Rattle.bac_kept.specs.declared.printing.Shown.TheVariants.{All as Each}
 
@@ -26,8 +26,18 @@ EndsPrinting none fault = EndsLines fault ⊎ ((fault ≡ File NoLog) × none)
 
 -- not each log was chosen, and none of these was
 abbrev pub AreUnchosen : Shown → List Log → Type 0
-AreUnchosen shown all = (shown ≢ Each) × All (λ log. is_chosen shown log ≡ false) all
+AreUnchosen shown all = (shown ≢ Each) × (has_chosen shown all ≡ false)
 
 -- none of an archive was
 abbrev pub HasNoneOf : Shown → Trees → Type 0
 HasNoneOf shown trees = (all : List Log) × AreLogs trees all × AreUnchosen shown all
+
+-- a connection that is open was so, and sees what it saw, or what was committed; nothing more was committed
+pub record IsOnlyRead (old new : State) : Type 0 where
+  pub was_open : IsTrue old.is_open
+  pub seen : (new.now ≡ old.now) ⊎ (new.now ≡ old.committed)
+  pub committed : new.committed ≡ old.committed
+
+-- so it is, if it is open
+abbrev pub IsLeftAs : State → State → Type 0
+IsLeftAs old new = IsTrue new.is_open → IsOnlyRead old new

@@ -1,7 +1,7 @@
 -- What `bac kept` prints of an archive.
 use Rattle.std.specs.Prelude.{◌≡◌, ◌⊎◌, ◌&&◌, ◌==◌, if◌then◌else◌, ℕ, Bool, true, false}
 use Rattle.std.specs.Prelude.{List, [], ◌∷◌, ◌++◌, codes, decimal, Option, None, Some}
-use Rattle.std.specs.List.{filter}
+use Rattle.std.specs.List.{filter, list_any}
 use Rattle.std.specs.String.{string_eq}
 use Rattle.sqlite_value.specs.Order.{Row as Values, column}
 use Rattle.bac_archive.specs.Items.{AreFirst, AreItems, epoch_in, last_at, number_in, text_at}
@@ -64,6 +64,14 @@ is_chosen shown.All log = true
 is_chosen (shown.Device source) log = string_eq source.address log.source.address
 is_chosen (shown.One source) log =
     string_eq source.address log.source.address && (source.instance == log.source.instance)
+
+-- whether one of these logs is
+abbrev pub has_chosen : Shown → List Log → Bool
+has_chosen which all = list_any (λ (log : Log). is_chosen which log) all
+
+-- what is asked for is there: each log, or one of these is chosen
+abbrev pub IsThere : Shown → List Log → Type 0
+IsThere which all = (which ≡ shown.All) ⊎ (has_chosen which all ≡ true)
 
 -- the line that names a log, and tells whether it isn't asked any more
 unfoldable pub log_line : Log → List ℕ

@@ -9,7 +9,7 @@ ghost use Rattle.sqlite.specs.Held.{state};
 ghost use Rattle.bac_archive.specs.Rows.{kept};
 ghost use Rattle.bac_archive.specs.Schema.{HasArchive, OverArchive};
 ghost use Rattle.bac_asked.specs.Faults.{RefusesLine, WantsMemory};
-ghost use Rattle.bac_kept.specs.Faults.{EndsLines, EndsText};
+ghost use Rattle.bac_kept.specs.Faults.{EndsLines, EndsText, IsLeftAs};
 ghost use Rattle.bac_kept.specs.Csv.{AreFieldsOf, AreRowTexts, IsItemText, IsValueText};
 ghost use Rattle.bac_kept.specs.Csv.{WritesBehind, device_text};
 ghost use Rattle.bac_kept.specs.Csv.{gap_text, item_fields, name_text, names};
@@ -321,9 +321,11 @@ pub(crate) fn write_items<A: Alter, O: Write>(
         × Appends (O.contents output.old) (O.contents output.new) text)) }
     ensures same { OverArchive (state A.Store conn.old) (state A.Store conn.new)
         (OnOk result (IsUnchanged (state A.Store conn.old) (state A.Store conn.new))) }
-    // Whatever comes of it, nothing is committed.
+    // Whatever comes of it, nothing is committed; an error may take back what wasn't.
     ensures crash { HasArchive (state A.Store conn.old).now.schema
         → Survives (state A.Store conn.old) (state A.Store conn.new) (λ _. ⊥) }
+    ensures left { OverArchive (state A.Store conn.old) (state A.Store conn.new)
+        (IsLeftAs (state A.Store conn.old) (state A.Store conn.new)) }
     ensures clean { HasCleanDisk (state A.Store conn.new) → HasCleanDisk (state A.Store conn.old) }
     ensures fault { IfErr result EndsLines }
 {

@@ -8,7 +8,7 @@ ghost use Rattle.sqlite.specs.Held.{state};
 ghost use Rattle.bac_archive.specs.Rows.{kept};
 ghost use Rattle.bac_archive.specs.Schema.{HasArchive, OverArchive};
 ghost use Rattle.bac_print.specs.Output.{AppendsPart};
-ghost use Rattle.bac_kept.specs.Faults.{EndsLines};
+ghost use Rattle.bac_kept.specs.Faults.{EndsLines, IsLeftAs};
 ghost use Rattle.bac_kept.specs.Printed.{PrintsBehind, PrintsFront, anew_if, item_line, log_line};
 ghost use Rattle.bac_kept.specs.Printed.{rows_lines};
 ghost use Rattle.bac_kept.specs.Seen.{epoch_of, is_new, newest_of};
@@ -176,9 +176,11 @@ pub(crate) fn print_items<A: Alter, O: Write>(
         log.now.id (kept (state A.Store conn.old).now.trees))) }
     ensures same { OverArchive (state A.Store conn.old) (state A.Store conn.new)
         (OnOk result (IsUnchanged (state A.Store conn.old) (state A.Store conn.new))) }
-    // Whatever comes of it, nothing is committed.
+    // Whatever comes of it, nothing is committed; an error may take back what wasn't.
     ensures crash { HasArchive (state A.Store conn.old).now.schema
         → Survives (state A.Store conn.old) (state A.Store conn.new) (λ _. ⊥) }
+    ensures left { OverArchive (state A.Store conn.old) (state A.Store conn.new)
+        (IsLeftAs (state A.Store conn.old) (state A.Store conn.new)) }
     ensures clean { HasCleanDisk (state A.Store conn.new) → HasCleanDisk (state A.Store conn.old) }
     ensures fault { IfErr result EndsLines }
 {

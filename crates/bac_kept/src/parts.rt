@@ -1,19 +1,17 @@
 //! What a part of an archive keeps is printed, behind what was printed of the parts before it.
 
-ghost use Rattle.std.specs.Prelude.{◌≡◌, [], IfErr, IfOk, OnOk, List, false, if◌then◌else◌};
+ghost use Rattle.std.specs.Prelude.{◌≡◌, IfErr, IfOk, OnOk, List};
 ghost use Rattle.std.specs.Io.KnownBytes.{Appends};
-ghost use Rattle.std.specs.List.{All};
-ghost use Rattle.csv.specs.Writing.{default_writer, row_text};
 ghost use Rattle.sqlite.specs.State.{HasCleanDisk};
 ghost use Rattle.sqlite.specs.Held.{state};
 ghost use Rattle.bac_archive.specs.Logs.{AreLogs};
 ghost use Rattle.bac_archive.specs.Rows.{kept};
 ghost use Rattle.bac_archive.specs.Schema.{OverArchive};
 ghost use Rattle.bac_archive.specs.declared.trend_logs.Log.{Log as LogOf};
-ghost use Rattle.bac_kept.specs.Csv.{names};
-ghost use Rattle.bac_kept.specs.Faults.{EndsLines, EndsText};
+ghost use Rattle.bac_kept.specs.Csv.{names_text};
+ghost use Rattle.bac_kept.specs.Faults.{EndsLines, EndsText, IsLeftAs};
 ghost use Rattle.bac_kept.specs.Parts.{PrintsMore, PrintsMoreOf, PrintsPart};
-ghost use Rattle.bac_kept.specs.Printed.{is_chosen};
+ghost use Rattle.bac_kept.specs.Printed.{has_chosen, is_chosen};
 
 use crate::csv_lines::{write_items, write_names};
 use crate::kept::print_items;
@@ -27,8 +25,8 @@ use std::io::Write;
 
 /// Writes the row of names, where the parts are printed as CSV.
 pub fn print_names<O: Write>(alloc: Global, csv: bool, output: &mut O) -> Result<(), NotDone>
-    ensures written { OnOk result (Appends (O.contents output.old) (O.contents output.new)
-        (if csv then row_text default_writer names else [])) }
+    ensures written { OnOk result
+        (Appends (O.contents output.old) (O.contents output.new) (names_text csv)) }
     ensures fault { IfErr result EndsText }
 {
     if csv {
@@ -38,6 +36,7 @@ pub fn print_names<O: Write>(alloc: Global, csv: bool, output: &mut O) -> Result
 }
 
 /// Prints the items of a log that lie behind one, in lines behind the one that names it, or as CSV.
+#[tactic(auto, using(crate::proofs::ReadLemmas::left_still))]
 fn print_more<A: Alter, O: Write>(
     alloc: Global,
     conn: &mut Connection<A>,
@@ -53,8 +52,9 @@ fn print_more<A: Alter, O: Write>(
         × Appends (O.contents output.old) (O.contents output.new) text)) }
     ensures same { OverArchive (state A.Store conn.old) (state A.Store conn.new)
         (OnOk result ((state A.Store conn.new).now ≡ (state A.Store conn.old).now)) }
-    ensures clean { OnOk result
-        (HasCleanDisk (state A.Store conn.new) → HasCleanDisk (state A.Store conn.old)) }
+    ensures left { OverArchive (state A.Store conn.old) (state A.Store conn.new)
+        (IsLeftAs (state A.Store conn.old) (state A.Store conn.new)) }
+    ensures clean { HasCleanDisk (state A.Store conn.new) → HasCleanDisk (state A.Store conn.old) }
     ensures fault { IfErr result EndsLines }
 {
     if csv {
@@ -65,6 +65,7 @@ fn print_more<A: Alter, O: Write>(
 }
 
 /// The same, if the log was chosen; answers whether it was.
+#[tactic(auto, using(crate::proofs::ReadLemmas::left_still))]
 fn print_if<A: Alter, O: Write>(
     alloc: Global,
     conn: &mut Connection<A>,
@@ -80,8 +81,9 @@ fn print_if<A: Alter, O: Write>(
         × Appends (O.contents output.old) (O.contents output.new) text)) }
     ensures same { OverArchive (state A.Store conn.old) (state A.Store conn.new)
         (OnOk result ((state A.Store conn.new).now ≡ (state A.Store conn.old).now)) }
-    ensures clean { OnOk result
-        (HasCleanDisk (state A.Store conn.new) → HasCleanDisk (state A.Store conn.old)) }
+    ensures left { OverArchive (state A.Store conn.old) (state A.Store conn.new)
+        (IsLeftAs (state A.Store conn.old) (state A.Store conn.new)) }
+    ensures clean { HasCleanDisk (state A.Store conn.new) → HasCleanDisk (state A.Store conn.old) }
     ensures fault { IfErr result EndsLines }
     ensures chosen { IfOk result (λ was. was ≡ is_chosen shown.now log.now) }
 {
@@ -98,6 +100,7 @@ fn print_if<A: Alter, O: Write>(
 
 /// Prints of each of the logs that was chosen what lies behind what was seen of it; answers
 /// whether one was.
+#[tactic(auto, using(crate::proofs::ReadLemmas::left_still))]
 fn print_each<A: Alter, O: Write>(
     alloc: Global,
     conn: &mut Connection<A>,
@@ -113,10 +116,11 @@ fn print_each<A: Alter, O: Write>(
         × Appends (O.contents output.old) (O.contents output.new) text)) }
     ensures same { OverArchive (state A.Store conn.old) (state A.Store conn.new)
         (OnOk result ((state A.Store conn.new).now ≡ (state A.Store conn.old).now)) }
-    ensures clean { OnOk result
-        (HasCleanDisk (state A.Store conn.new) → HasCleanDisk (state A.Store conn.old)) }
+    ensures left { OverArchive (state A.Store conn.old) (state A.Store conn.new)
+        (IsLeftAs (state A.Store conn.old) (state A.Store conn.new)) }
+    ensures clean { HasCleanDisk (state A.Store conn.new) → HasCleanDisk (state A.Store conn.old) }
     ensures fault { IfErr result EndsLines }
-    ensures none { result ≡ Ok false → All (λ log. is_chosen shown.now log ≡ false) all.now }
+    ensures chosen { IfOk result (λ any. any ≡ has_chosen shown.now all.now) }
 {
     let mut any = false;
     for log in all {
@@ -137,21 +141,19 @@ pub fn print_part<A: Alter, O: Write>(
     output: &mut O,
 ) -> Result<bool, NotDone>
     ensures printed { OverArchive (state A.Store conn.old) (state A.Store conn.new)
-        (OnOk result ((all : List LogOf) × AreLogs (state A.Store conn.old).now.trees all
-        × (text : List _) × PrintsPart shown.now csv all
+        (IfOk result (λ any. (all : List LogOf) × AreLogs (state A.Store conn.old).now.trees all
+        × (any ≡ has_chosen shown.now all) × (text : List _) × PrintsPart shown.now csv all
         (kept (state A.Store conn.old).now.trees) seen.old text seen.new
         × Appends (O.contents output.old) (O.contents output.new) text)) }
     ensures same { OverArchive (state A.Store conn.old) (state A.Store conn.new)
         (OnOk result ((state A.Store conn.new).now ≡ (state A.Store conn.old).now)) }
-    ensures clean { OnOk result
-        (HasCleanDisk (state A.Store conn.new) → HasCleanDisk (state A.Store conn.old)) }
+    // Whatever comes of it, nothing is committed; an error may take back what wasn't.
+    ensures left { OverArchive (state A.Store conn.old) (state A.Store conn.new)
+        (IsLeftAs (state A.Store conn.old) (state A.Store conn.new)) }
+    ensures clean { HasCleanDisk (state A.Store conn.new) → HasCleanDisk (state A.Store conn.old) }
     // Or it ends before that: memory is wanting, the output refused a line, or the database answers
     // by an error.
     ensures fault { IfErr result EndsLines }
-    // That no log was chosen is told only of an archive that has none such.
-    ensures none { OverArchive (state A.Store conn.old) (state A.Store conn.new)
-        (result ≡ Ok false → (all : List LogOf) × AreLogs (state A.Store conn.old).now.trees all
-        × All (λ log. is_chosen shown.now log ≡ false) all) }
 {
     let all = match logs(alloc, conn) {
         Ok(all) => all,

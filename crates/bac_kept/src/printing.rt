@@ -1,7 +1,7 @@
 //! What an archive keeps of logs is printed, in lines or as CSV.
 
-ghost use Rattle.std.specs.Prelude.{◌≡◌, ◌≢◌, ◌++◌, true, false, IfErr, IfOk, OnOk, List};
-ghost use Rattle.std.specs.List.{All};
+ghost use Rattle.std.specs.Prelude.{◌≡◌, ◌≢◌, ◌⊎◌, ◌||◌, ◌++◌, nat_lt, true, false, IfErr, IfOk};
+ghost use Rattle.std.specs.Prelude.{OnOk, List};
 ghost use Rattle.std.specs.Io.KnownBytes.{Appends, Keeps};
 ghost use Rattle.csv.specs.Writing.{default_writer, row_text};
 ghost use Rattle.sqlite.specs.State.{HasCleanDisk, Survives};
@@ -11,8 +11,9 @@ ghost use Rattle.bac_archive.specs.Rows.{kept};
 ghost use Rattle.bac_archive.specs.Schema.{OverArchive, HasArchive};
 ghost use Rattle.bac_archive.specs.declared.trend_logs.Log.{Log as LogOf};
 ghost use Rattle.bac_kept.specs.Faults.{EndsLines, EndsPrinting, HasNoneOf};
-ghost use Rattle.bac_kept.specs.Csv.{WritesLog, WritesLogs, names};
-ghost use Rattle.bac_kept.specs.Printed.{PrintsLog, PrintsLogs, head_line, is_chosen};
+ghost use Rattle.bac_kept.specs.Csv.{WritesLog, WritesLogs, names, names_text};
+ghost use Rattle.bac_kept.specs.Printed.{IsThere, PrintsLog, PrintsLogs, has_chosen, head_line};
+ghost use Rattle.bac_kept.specs.Printed.{is_chosen};
 
 use crate::csv_lines::{write_items, write_names};
 use crate::kept::{print_head, print_items};
@@ -97,7 +98,7 @@ fn print_log<A: Alter, O: Write>(
 
 /// How many logs were chosen, behind one more that was, or wasn't.
 fn counted(count: usize, was: bool) -> usize
-    ensures { result ≡ 0 → (count ≡ 0) × (was ≡ false) }
+    ensures { nat_lt 0 result ≡ (nat_lt 0 count || was) }
 {
     if was {
         return count.saturating_add(1);
@@ -123,8 +124,8 @@ fn print_logs<A: Alter, O: Write>(
         (Survives (state A.Store conn.old) (state A.Store conn.new) (λ _. ⊥)) }
     ensures clean { HasCleanDisk (state A.Store conn.new) → HasCleanDisk (state A.Store conn.old) }
     ensures fault { IfErr result EndsLines }
-    ensures none { IfOk result
-        (λ count. count ≡ 0 → All (λ log. is_chosen shown.now log ≡ false) all.now) }
+    // More than none, exactly where one of the logs is chosen.
+    ensures chosen { IfOk result (λ count. nat_lt 0 count ≡ has_chosen shown.now all.now) }
 {
     let mut count = 0usize;
     for log in all {
@@ -181,8 +182,8 @@ fn write_logs<A: Alter, O: Write>(
         (Survives (state A.Store conn.old) (state A.Store conn.new) (λ _. ⊥)) }
     ensures clean { HasCleanDisk (state A.Store conn.new) → HasCleanDisk (state A.Store conn.old) }
     ensures fault { IfErr result EndsLines }
-    ensures none { IfOk result
-        (λ count. count ≡ 0 → All (λ log. is_chosen shown.now log ≡ false) all.now) }
+    // More than none, exactly where one of the logs is chosen.
+    ensures chosen { IfOk result (λ count. nat_lt 0 count ≡ has_chosen shown.now all.now) }
 {
     write_names(alloc, output)?;
     let mut count = 0usize;
@@ -216,8 +217,8 @@ fn print_all<A: Alter, O: Write>(
         (Survives (state A.Store conn.old) (state A.Store conn.new) (λ _. ⊥)) }
     ensures clean { HasCleanDisk (state A.Store conn.new) → HasCleanDisk (state A.Store conn.old) }
     ensures fault { IfErr result EndsLines }
-    ensures none { IfOk result
-        (λ count. count ≡ 0 → All (λ log. is_chosen shown.now log ≡ false) all.now) }
+    // More than none, exactly where one of the logs is chosen.
+    ensures chosen { IfOk result (λ count. nat_lt 0 count ≡ has_chosen shown.now all.now) }
 {
     if csv {
         return write_logs(alloc, conn, all, shown, output);
@@ -235,17 +236,17 @@ pub fn print_shown<A: Alter, O: Write>(
 ) -> Result<u8, NotDone>
     ensures status { IfOk result (λ status. status ≡ 0) }
     // The lines of the archive's logs, each of which is told once: of each that was chosen its
-    // head, and its items by their ids.
+    // head, and its items by their ids. What was asked for is there.
     ensures printed { OverArchive (state A.Store conn.old) (state A.Store conn.new) (csv ≡ false
         → OnOk result ((all : List LogOf) × AreLogs (state A.Store conn.old).now.trees all
-        × (text : List _)
+        × IsThere shown.now all × (text : List _)
         × PrintsLogs shown.now (kept (state A.Store conn.old).now.trees) all text
         × Appends (O.contents output.old) (O.contents output.new) text)) }
     // As CSV the row of names, and of each of those logs that was chosen a row for each of its
     // items.
     ensures written { OverArchive (state A.Store conn.old) (state A.Store conn.new) (csv ≡ true
         → OnOk result ((all : List LogOf) × AreLogs (state A.Store conn.old).now.trees all
-        × (text : List _)
+        × IsThere shown.now all × (text : List _)
         × WritesLogs shown.now (kept (state A.Store conn.old).now.trees) all text
         × Appends (O.contents output.old) (O.contents output.new)
         (row_text default_writer names ++ text))) }
@@ -255,12 +256,14 @@ pub fn print_shown<A: Alter, O: Write>(
     ensures crash { OverArchive (state A.Store conn.old) (state A.Store conn.new)
         (Survives (state A.Store conn.old) (state A.Store conn.new) (λ _. ⊥)) }
     ensures clean { HasCleanDisk (state A.Store conn.new) → HasCleanDisk (state A.Store conn.old) }
-    // Or it ends before that; that no log was chosen is told only of an archive that has none such.
+    // Or it ends before that; that no log was chosen is told only of an archive that has none such,
+    // and then nothing was printed but, as CSV, the row of names.
     ensures fault { IfErr result (EndsPrinting
         (HasCleanDisk (state A.Store conn.new)
         → HasCleanDisk (state A.Store conn.old)
         × (HasArchive (state A.Store conn.old).now.schema
-        → HasNoneOf shown.now (state A.Store conn.old).now.trees))) }
+        → HasNoneOf shown.now (state A.Store conn.old).now.trees
+        × Appends (O.contents output.old) (O.contents output.new) (names_text csv)))) }
 {
     let all = match logs(alloc, conn) {
         Ok(all) => all,
@@ -273,6 +276,7 @@ pub fn print_shown<A: Alter, O: Write>(
 /// What was printed goes out; that no log was chosen is told.
 fn ended<O: Write>(shown: &Shown, count: usize, output: &mut O) -> Result<u8, NotDone>
     ensures status { IfOk result (λ status. status ≡ 0) }
+    ensures there { OnOk result ((shown.now ≡ Shown.All) ⊎ (nat_lt 0 count ≡ true)) }
     ensures stays { Keeps (O.contents output.old) (O.contents output.new) }
     ensures fault { IfErr result (EndsPrinting ((count ≡ 0) × (shown.now ≢ Shown.All))) }
 {

@@ -8,7 +8,6 @@ use Rattle.sqlite.specs.declared.error.Error.{Error}
 use Rattle.sqlite.specs.declared.error.Error.TheVariants.{SqliteFailure}
 use Rattle.sqlite.specs.declared.error.ErrorCode.TheVariants.{OutOfMemory}
 use Rattle.sqlite_trees.specs.declared.store.Store.{Ghosts}
-use Rattle.bac_archive.specs.declared.opening.Refused.TheVariants as refused
 use Rattle.bac_asked.specs.Faults.{of_error}
 use Rattle.bac_check.specs.Asked.{IsAsLeft}
 use Rattle.bac_check.specs.declared.tally.Uncounted.{Uncounted}
@@ -53,8 +52,9 @@ still_committed g a b (inl none) is = ap (λ (h : Connected _). (state g h).comm
 still_committed g a b (inr (inl same)) is = same.0.committed_is
 still_committed g a b (inr (inr back)) is = (back.undone is).1
 
--- why they aren't: the database answers by an error, or the file is no archive
-pub uncounted_so : (held : Type 0) (found : Database) (why : Uncounted) → ((error : Error) × (uncounted_fault why ≡ of_error error)) ⊎ (held → IsNoArchive found (uncounted_fault why))
-uncounted_so held found uncounted.Overlap = inr (λ _. (refused.Overlap, tt, refl))
-uncounted_so held found uncounted.Memory = inl (SqliteFailure OutOfMemory, refl)
-uncounted_so held found (uncounted.Database error) = inl (error, refl)
+-- why they aren't: the database answers by an error, since no row of an archive lies over another
+pub uncounted_so : (held : Type 0) (found : Database) (why : Uncounted) → (held → why ≡ uncounted.Overlap → ⊥)
+    → ((error : Error) × (uncounted_fault why ≡ of_error error)) ⊎ (held → IsNoArchive found (uncounted_fault why))
+uncounted_so held found uncounted.Overlap apart = inr (λ is_held. absurd (apart is_held refl))
+uncounted_so held found uncounted.Memory apart = inl (SqliteFailure OutOfMemory, refl)
+uncounted_so held found (uncounted.Database error) apart = inl (error, refl)

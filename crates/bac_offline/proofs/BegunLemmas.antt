@@ -1,5 +1,5 @@
 -- A part that is begun, from one function to the next.
-use Rattle.std.proofs.Common.{ℕ, true, false, IfOk, ◌≡◌, ◌⊎◌, ◌∙◌, inl, inr, Option, Some, None, String, Global, IfSome, IsSome, IfErr, OnOk, OnErr, Result, Ok, Err, ap, subst, sym, ◌++◌}
+use Rattle.std.proofs.Common.{ℕ, true, false, IfOk, ◌≡◌, ◌⊎◌, ◌∙◌, inl, inr, Option, Some, None, String, Global, IfSome, IsSome, IfErr, OnOk, OnErr, Result, Ok, Err, ap, subst, sym}
 use Rattle.sqlite_disk.specs.declared.Disk as disk
 use Rattle.sqlite_disk.specs.declared.Files.{Files}
 use Rattle.sqlite_disk.specs.declared.start.Start as start
@@ -9,9 +9,8 @@ use Rattle.sqlite.specs.Files.{file_state}
 use Rattle.sqlite.specs.Held.{Held as Connected}
 use Rattle.sqlite.specs.State.{HasCleanDisk}
 use Rattle.sqlite_store.specs.declared.store.FileStore.{FileStore}
-use Rattle.sqlite_schema.specs.declared.schema.Schema.{Schema}
 use Rattle.bac_archive.specs.Parts.{FollowsOn}
-use Rattle.bac_archive.specs.Schema.{no_schema, HasArchive, archive_tables}
+use Rattle.bac_archive.specs.Schema.{no_schema}
 use Rattle.bac_asked.specs.declared.fault.FileFault.{FileFault}
 use Rattle.bac_files.specs.Files.{FileOf, IsClosedBy, IsDoneTo, IsOpenedBy}
 use Rattle.bac_files.specs.declared.disk_files.DiskFiles.{DiskFiles}
@@ -19,6 +18,7 @@ use Rattle.bac_offline.specs.Archives.{IsArchiveOf, IsTakenAs}
 use Rattle.bac_offline.specs.Begun.{BarsPart, BeginsOn, FollowsFound, FollowsPart}
 use Rattle.bac_offline.specs.Ends.{IsNoArchive, IsOfSomeFile, MayFail}
 use Rattle.bac_asked.specs.declared.end.NotDone.{NotDone}
+pub use Rattle.bac_check.proofs.TakenLemmas.{not_both}
 use Rattle.bac_offline.proofs.FileLemmas.{fails_so, some_done}
 use Rattle.bac_archive.proofs.AroundLemmas.{made_is}
 
@@ -29,10 +29,6 @@ on_err_so (Err e) P Q f it = f it
 pub all_fail_so : {V : Type 0} (P Q : FileFault → Type 0) (r : Result V NotDone) → ((why : FileFault) → P why → Q why) → IfErr r (MayFail P) → IfErr r (MayFail Q)
 all_fail_so P Q (Ok v) f it = tt
 all_fail_so P Q (Err e) f it = fails_so P Q e f it
-
--- an archive has tables
-pub not_both : (s : Schema) → s ≡ no_schema → HasArchive s → ⊥
-not_both s none has = let e : no_schema.tables ≡ archive_tables ++ has.tables.others = ap (λ (x : Schema). x.tables) (sym none) ∙ has.tables.are in absurd (cc)
 
 -- what is opened of a database that had nothing, or that is as it was, is the archive of that
 pub archive_of : (found mid archive : Database) → (mid ≡ found) ⊎ (found.schema ≡ no_schema) → IsArchiveOf mid archive → IsTakenAs found archive

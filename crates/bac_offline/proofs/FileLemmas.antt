@@ -73,6 +73,17 @@ pub fails_so : (P Q : FileFault → Type 0) (e : NotDone) → ((why : FileFault)
 fails_so P Q (done.File why) f p = f why p
 fails_so P Q (done.Asking why) f p = tt
 
+-- whatever the file's fault is, it fails so
+pub fails_all : (P : FileFault → Type 0) (e : NotDone) → ((why : FileFault) → P why) → MayFail P e
+fails_all P (done.File why) f = f why
+fails_all P (done.Asking why) f = tt
+
+-- it fails by both
+pub both_fail : (P Q R : FileFault → Type 0) (r : Result ℕ NotDone) → ((why : FileFault) → P why → Q why → R why) → IfErr r (MayFail P) → IfErr r (MayFail Q) → IfErr r (MayFail R)
+both_fail P Q R (Ok v) f p q = tt
+both_fail P Q R (Err (done.File why)) f p q = f why p q
+both_fail P Q R (Err (done.Asking why)) f p q = tt
+
 pub all_fail : (P Q : FileFault → Type 0) (r : Result ℕ NotDone) → ((why : FileFault) → P why → Q why) → IfErr r (MayFail P) → IfErr r (MayFail Q)
 all_fail P Q (Ok v) f p = tt
 all_fail P Q (Err e) f p = fails_so P Q e f p
@@ -82,8 +93,8 @@ fails_clean C P Q r clean failed = all_fail _ _ r (λ why it. elim it [ inl p �
 
 -- what was done over a connection failed, or it couldn't be closed
 pub fails_file : {F : Type 0} {s : start.Ghosts F} {g : disk.Ghosts (FileOf s)} (image : Image) (opened last : Connected (FileStore (FileOf s) g)) (files : DiskFiles F s)
-    → IsOpenedBy image opened → (path : List ℕ) (may : Bool) → IsNamed path may files → (refuses : Database → FileFault → Type 0) (did result : Result ℕ NotDone)
-    → IfErr did (MayFail (λ why. ((error : Error) × (why ≡ of_error error)) ⊎ ((HasCleanDisk (file_state last) → HasCleanDisk (file_state opened)) × (IsHeld (file_state last) → refuses (file_state opened).now why))))
+    → IsOpenedBy image opened → (path : List ℕ) (may : Bool) → IsNamed path may files → (refuses : Database → Database → FileFault → Type 0) (did result : Result ℕ NotDone)
+    → IfErr did (MayFail (λ why. ((error : Error) × (why ≡ of_error error)) ⊎ ((HasCleanDisk (file_state last) → HasCleanDisk (file_state opened)) × (IsHeld (file_state last) → refuses (file_state opened).now (file_state last).committed why))))
     → IfErr result (λ fault. (did ≡ Err fault) ⊎ (IsOfSomeFile fault × IsUnclosedBySome files)) → (IsClosedBy last files.closed ⊎ IsUnclosedBySome files)
     → IfErr result (MayFail (FailsOpened g image path may refuses files))
 fails_file image opened last files is path may named refuses did (Ok v) failed same shut = tt
@@ -91,13 +102,13 @@ fails_file image opened last files is path may named refuses did (Err (done.Aski
 fails_file image opened last files is path may named refuses did (Err (done.File why)) failed (inr (file, unclosed)) shut = (named, inl unclosed)
 fails_file image opened last files is path may named refuses did (Err (done.File why)) failed (inl same) (inr unclosed) = (named, inl unclosed)
 fails_file {s = s} {g = g} image opened last files is path may named refuses did (Err (done.File why)) failed (inl same) (inl shut) =
-    let it = subst (λ (r : Result ℕ NotDone). IfErr r (MayFail (λ why'. ((error : Error) × (why' ≡ of_error error)) ⊎ ((HasCleanDisk (file_state last) → HasCleanDisk (file_state opened)) × (IsHeld (file_state last) → refuses (file_state opened).now why'))))) same failed in (
+    let it = subst (λ (r : Result ℕ NotDone). IfErr r (MayFail (λ why'. ((error : Error) × (why' ≡ of_error error)) ⊎ ((HasCleanDisk (file_state last) → HasCleanDisk (file_state opened)) × (IsHeld (file_state last) → refuses (file_state opened).now (file_state last).committed why'))))) same failed in (
       named,
       inr (
         shut.0,
         elim it [
           | inl answered ↦ inl answered
-          | inr refused ↦ inr (some_done image opened last files.closed is refused.0 (λ found left. refuses found why) (λ c open'. refused.1 (c, open')) shut.1)
+          | inr refused ↦ inr (some_done image opened last files.closed is refused.0 (λ found left. refuses found left why) (λ c open'. refused.1 (c, open')) shut.1)
         ],
       ),
     )

@@ -20,50 +20,48 @@ use Rattle.bac_offline.specs.Stops.{RefusesStop, are_there}
 use Rattle.bac_offline.specs.declared.stopping.Meant.{Meant}
 use Rattle.bac_offline.proofs.FileLemmas.{database_fails, file_asks, database_file}
 use Rattle.bac_offline.proofs.NamesLemmas.{may_ask, never_fails}
-use Rattle.bac_kept.specs.Csv.{WritesLogs, names}
+use Rattle.bac_kept.specs.Csv.{WritesLogs, names, names_text}
 use Rattle.bac_kept.specs.Faults.{EndsPrinting, HasNoneOf}
-use Rattle.bac_kept.specs.Printed.{PrintsLogs}
+use Rattle.bac_kept.specs.Printed.{IsThere, PrintsLogs}
 use Rattle.bac_print.specs.Output.{Held}
 use Rattle.bac_kept.specs.declared.printing.Shown.{Shown}
 use Rattle.bac_archive.specs.Schema.{HasArchive}
 
--- memory is wanting, or the output refused a line
-pub printing_fails : (P : FileFault → Type 0) (fault : NotDone) → WantsMemory fault ⊎ RefusesLine fault → MayFail P fault
-printing_fails P fault (inl memory) = never_fails P fault (_, memory)
-printing_fails P fault (inr line) = never_fails P fault (_, line)
+module _ (which : Shown) (csv : Bool) (before after : Held) where
+  -- none of the archive is chosen, and no more than the row of names is written
+  abbrev pub NoneBy : State → State → Type 0
+  NoneBy archive last =
+      HasCleanDisk last → HasCleanDisk archive × (HasArchive archive.now.schema → HasNoneOf which archive.now.trees × Appends before after (names_text csv))
 
--- none of the archive is chosen
-abbrev pub NoneBy : Shown → State → State → Type 0
-NoneBy which archive last = HasCleanDisk last → HasCleanDisk archive × (HasArchive archive.now.schema → HasNoneOf which archive.now.trees)
+  -- what a print fails by
+  abbrev pub PrintFails : State → State → NotDone → Type 0
+  PrintFails found last = MayFail (λ why. ((error : Error) × (why ≡ of_error error)) ⊎ (IsHeld last → RefusesPrint which csv before after found.now why))
 
--- what a print fails by
-abbrev pub PrintFails : Shown → State → State → NotDone → Type 0
-PrintFails which found last = MayFail (λ why. ((error : Error) × (why ≡ of_error error)) ⊎ (IsHeld last → RefusesPrint which found.now why))
+  print_fails : (found archive last : State) → (HasCleanDisk archive → IsArchiveOf found.now archive.now)
+      → (fault : NotDone) → EndsPrinting (NoneBy archive last) fault → PrintFails found last fault
+  print_fails found archive last of fault (inl (inl memory)) = never_fails _ fault (_, memory)
+  print_fails found archive last of fault (inl (inr (inl line))) = never_fails _ fault (_, line)
+  print_fails found archive last of fault (inl (inr (inr database))) = database_fails _ fault database
+  print_fails found archive last of fault (inr (is, none)) = subst (PrintFails found last) (sym is) (inr (λ held.
+      let (early, nothing) = none held.0 in
+      let (unchosen, head) = nothing (of early).is.schema in
+      inr (refl, archive.now, of early, unchosen, head)))
 
-print_fails : (which : Shown) (found archive last : State) → (HasCleanDisk archive → IsArchiveOf found.now archive.now)
-    → (fault : NotDone) → EndsPrinting (NoneBy which archive last) fault → PrintFails which found last fault
-print_fails which found archive last of fault (inl (inl memory)) = never_fails _ fault (_, memory)
-print_fails which found archive last of fault (inl (inr (inl line))) = never_fails _ fault (_, line)
-print_fails which found archive last of fault (inl (inr (inr database))) = database_fails _ fault database
-print_fails which found archive last of fault (inr (is, none)) = subst (PrintFails which found last) (sym is) (inr (λ held.
-    let (early, nothing) = none held.0 in
-    inr (refl, archive.now, of early, nothing (of early).is.schema)))
-
-pub all_print_fails : (which : Shown) (found archive last : State) → (HasCleanDisk archive → IsArchiveOf found.now archive.now)
-    → (r : Result ℕ NotDone) → IfErr r (EndsPrinting (NoneBy which archive last)) → IfErr r (PrintFails which found last)
-all_print_fails which found archive last of (Ok v) it = tt
-all_print_fails which found archive last of (Err e) it = print_fails which found archive last of e it
+  pub all_print_fails : (found archive last : State) → (HasCleanDisk archive → IsArchiveOf found.now archive.now)
+      → (r : Result ℕ NotDone) → IfErr r (EndsPrinting (NoneBy archive last)) → IfErr r (PrintFails found last)
+  all_print_fails found archive last of (Ok v) it = tt
+  all_print_fails found archive last of (Err e) it = print_fails found archive last of e it
 
 -- the text of an archive was written, and it is left as it was
 pub prints_archive : (which : Shown) (csv : Bool) (before after : Held) (found archive left : Database) (r : Result ℕ NotDone) → IsArchiveOf found archive
-    → (csv ≡ false → OnOk r ((all : List Log) × AreLogs archive.trees all × (text : List ℕ) × PrintsLogs which (kept archive.trees) all text × Appends before after text))
-    → (csv ≡ true → OnOk r ((all : List Log) × AreLogs archive.trees all × (text : List ℕ) × WritesLogs which (kept archive.trees) all text × Appends before after (row_text default_writer names ++ text)))
+    → (csv ≡ false → OnOk r ((all : List Log) × AreLogs archive.trees all × IsThere which all × (text : List ℕ) × PrintsLogs which (kept archive.trees) all text × Appends before after text))
+    → (csv ≡ true → OnOk r ((all : List Log) × AreLogs archive.trees all × IsThere which all × (text : List ℕ) × WritesLogs which (kept archive.trees) all text × Appends before after (row_text default_writer names ++ text)))
     → OnOk r (left ≡ archive) → OnOk r (PrintsArchive which csv before after found left)
 prints_archive which csv before after found archive left (Err e) of lines rows same = tt
 prints_archive which false before after found archive left (Ok v) of lines rows same =
-    let it = lines refl in (archive, of, same, it.0, it.1, it.2, it.3, it.4)
+    let it = lines refl in (archive, of, same, it.0, it.1, it.2, it.3, it.4, it.5)
 prints_archive which true before after found archive left (Ok v) of lines rows same =
-    let it = rows refl in (archive, of, same, it.0, it.1, row_text default_writer names ++ it.2, (it.2, it.3, refl), it.4)
+    let it = rows refl in (archive, of, same, it.0, it.1, it.2, row_text default_writer names ++ it.3, (it.3, it.4, refl), it.5)
 
 print_asks : (N : Type 0) (fault : NotDone) → EndsPrinting N fault → MayAsk (λ f. WantsMemory f ⊎ RefusesLine f) fault
 print_asks N fault (inl (inl memory)) = may_ask (λ f. WantsMemory f ⊎ RefusesLine f) fault (inl memory)
@@ -90,7 +88,12 @@ stop_fails which found archive last of fault (inr (inl database)) = database_fai
 stop_fails which found archive last of fault (inr (inr (is, missing))) = subst (StopFails which found last) (sym is)
     (inr (λ held. let (known, are, gone) = missing held.0 (of held).is.schema in inr (refl, archive.now, of held, known, are, gone)))
 
-pub stop_asks : (N : Type 0) (fault : NotDone) → WantsMemory fault ⊎ (IsOfDatabase fault ⊎ ((fault ≡ done.File file.NoLog) × N)) → MayAsk (λ f. WantsMemory f ⊎ RefusesLine f) fault
-stop_asks N fault (inl memory) = may_ask (λ f. WantsMemory f ⊎ RefusesLine f) fault (inl memory)
-stop_asks N fault (inr (inl database)) = file_asks (λ f. WantsMemory f ⊎ RefusesLine f) fault (database_file fault database)
-stop_asks N fault (inr (inr (is, missing))) = file_asks (λ f. WantsMemory f ⊎ RefusesLine f) fault (file.NoLog, is)
+pub stop_asks : (P : NotDone → Type 0) (N : Type 0) (fault : NotDone) → (WantsMemory fault → P fault) → WantsMemory fault ⊎ (IsOfDatabase fault ⊎ ((fault ≡ done.File file.NoLog) × N)) → MayAsk P fault
+stop_asks P N fault ends (inl memory) = may_ask P fault (ends memory)
+stop_asks P N fault ends (inr (inl database)) = file_asks P fault (database_file fault database)
+stop_asks P N fault ends (inr (inr (is, missing))) = file_asks P fault (file.NoLog, is)
+
+-- printing them fails by no file
+pub told_fails : (P : FileFault → Type 0) (Q R : Type 0) (fault : NotDone) → (WantsMemory fault × Q) ⊎ (RefusesLine fault × R) → MayFail P fault
+told_fails P Q R fault (inl memory) = never_fails P fault (_, memory.0)
+told_fails P Q R fault (inr line) = never_fails P fault (_, line.0)

@@ -1,10 +1,13 @@
 -- What stopping logs comes to.
-use Rattle.std.proofs.Common.{◌≡◌, ◌∙◌, ◌∷◌, ◌++◌, [], ◌+◌, ◌<◌, ℕ, List, Option, Result, Ok, Err, IfOk, IfSome, OnOk, ap, subst, sym, take, get_or, length, map, filter, append-nil}
+use Rattle.std.proofs.Common.{◌≡◌, ◌∙◌, ◌∷◌, ◌++◌, [], ◌+◌, ◌<◌, ℕ, List, Option, Result, Ok, Err, IfOk, IfSome, OnOk, ap, inl, inr, refl, subst, sym, take, get_or, length, map, filter, append-nil}
+use Rattle.std.proofs.KnownBytes.{Appends-nil}
+use Rattle.std.specs.Io.KnownBytes.{Appends}
 use Rattle.std.proofs.lemmas.List.{map-append, take_more}
 use Rattle.std.proofs.lemmas.List.Elements.{filter-append}
 use Rattle.std.proofs.lemmas.Grind.{flat_map-append}
 use Rattle.sqlite_disk.specs.declared.Disk as disk
 use Rattle.sqlite_disk.specs.declared.Files.{Files}
+use Rattle.sqlite_disk.specs.declared.start.Start as start
 use Rattle.sqlite_store.specs.declared.store.FileStore.{FileStore}
 use Rattle.sqlite_wal.specs.Recovery.{Image}
 use Rattle.sqlite.specs.Effect.{Database}
@@ -18,13 +21,15 @@ use Rattle.bac_archive.specs.Changes.{ChangesLogs, HasChangedLogs}
 use Rattle.bac_archive.specs.declared.trend_logs.Log.{Log}
 use Rattle.bac_asked.specs.Lines.{stopped_line}
 use Rattle.bac_asked.specs.declared.end.NotDone.{NotDone}
+use Rattle.bac_asked.specs.declared.fault.FileFault.{FileFault}
 use Rattle.bac_files.proofs.FilesLemmas.{opened_settled}
-use Rattle.bac_files.specs.Files.{IsClosedBy, IsDoneTo, IsOpenedBy}
+use Rattle.bac_files.specs.Files.{FileOf, IsClosedBy, IsDoneTo, IsOpenedBy}
+use Rattle.bac_files.specs.declared.disk_files.DiskFiles.{DiskFiles}
 use Rattle.bac_offline.proofs.FileLemmas.{some_done}
 use Rattle.bac_offline.specs.Archives.{HasSameItems, IsHeld, KeepsItems}
-use Rattle.bac_offline.specs.Stops.{Means, StopsArchive, StopsIn, is_meant, stopped, stopped_lines, stopped_logs}
+use Rattle.bac_offline.specs.Stops.{FailsToStop, IsQuietStop, Means, StopsArchive, StopsIn, TellsMeant, is_meant, stopped, stopped_lines, stopped_logs}
 use Rattle.bac_offline.specs.declared.stopping.Meant.{Meant}
-use Rattle.bac_print.specs.Output.{Held}
+use Rattle.bac_print.specs.Output.{AppendsPart, Held}
 use Rattle.bac_words.specs.declared.job.Keep.{Keep}
 use Rattle.bac_archive.specs.Schema.{HasArchive}
 
@@ -37,6 +42,25 @@ one_line_more all at x lt is =
     ap (λ l. stopped_lines (take at all) ++ l) (sym (append-nil (stopped_line x.source)))
     ∙ sym (flat_map-append (λ (log : Log). stopped_line log.source) (take at all) (x ∷ []))
     ∙ ap stopped_lines (ap (λ z. take at all ++ z ∷ []) is ∙ sym (take_more all at x lt))
+
+-- where nothing was printed there are no lines
+pub tells_none : (which : Meant) (out out' : Held) → out' ≡ out → TellsMeant which out out'
+tells_none which out out' is = subst (λ (h : Held). TellsMeant which out h) (sym is) ([], ([], [], refl, Appends-nil out))
+
+-- a front part of the lines of those that are meant
+pub tells_part : (which : Meant) (these known : List Log) (out out' : Held) → these ≡ stopped_logs which known → AppendsPart out out' (stopped_lines these) → TellsMeant which out out'
+tells_part which these known out out' is it = (known, subst (λ (l : List Log). AppendsPart out out' (stopped_lines l)) is it)
+
+-- all of them
+pub tells_whole : (which : Meant) (these known : List Log) (out out' : Held) → these ≡ stopped_logs which known → Appends out out' (stopped_lines these) → TellsMeant which out out'
+tells_whole which these known out out' is it =
+    tells_part which these known out out' is (stopped_lines these, [], sym (append-nil (stopped_lines these)), it)
+
+-- a file that is no use, and what was printed
+pub quiet_stop : {F : Type 0} {s : start.Ghosts F} (g : disk.Ghosts (FileOf s)) (image : Image) (words : Keep) (path : List ℕ) (out out' : Held) (files : DiskFiles F s) (why : FileFault)
+    → FailsToStop g image words path out out' files why → IsQuietStop words out out' files
+quiet_stop g image words path out out' files why (which, means, inl quiet) = inl quiet.0
+quiet_stop g image words path out out' files why (which, means, inr unclosed) = inr (which, means, unclosed.1)
 
 -- what changes in the rows of logs leaves the items
 items_of_changes : (a b : Trees) (logs : List Log) → ChangesLogs a b logs → HasSameItems a b

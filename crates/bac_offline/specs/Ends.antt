@@ -7,18 +7,15 @@ use Rattle.sqlite.specs.Effect.{Database}
 use Rattle.sqlite.specs.declared.error.Error.{Error}
 use Rattle.sqlite.specs.declared.error.Error.TheVariants.{SqliteFailure}
 use Rattle.sqlite.specs.declared.error.ErrorCode.TheVariants.{OutOfMemory}
-use Rattle.bac_archive.specs.Archive.{IsOfVersion}
-use Rattle.bac_archive.specs.Beginnings.{AreBegun}
-use Rattle.bac_archive.specs.Rows.{versions}
-use Rattle.bac_archive.specs.Schema.{first_tables, no_schema, HasArchive}
 use Rattle.bac_archive.specs.declared.opening.Refused.{Refused}
-use Rattle.bac_archive.specs.declared.opening.Refused.TheVariants as refused
 use Rattle.bac_asked.specs.Faults.{of_error, of_refusal, of_unopened}
+use Rattle.bac_asked.specs.Reasons.{TellsFault}
 use Rattle.bac_asked.specs.Status.{file_status}
 use Rattle.bac_asked.specs.declared.end.NotDone.{NotDone}
 use Rattle.bac_asked.specs.declared.end.NotDone.TheVariants as done
 use Rattle.bac_asked.specs.declared.fault.FileFault.{FileFault}
 use Rattle.bac_asked.specs.declared.fault.FileFault.TheVariants as file
+pub use Rattle.bac_check.specs.Taken.{IsRefusedBy}
 use Rattle.bac_check.specs.declared.tally.Uncounted.{Uncounted}
 use Rattle.bac_check.specs.declared.tally.Uncounted.TheVariants as uncounted
 use Rattle.bac_print.specs.Output.{Held}
@@ -27,18 +24,7 @@ use Rattle.bac_files.specs.declared.disk_files.DiskFiles.{DiskFiles}
 use Rattle.bac_files.specs.declared.not_opened.NotOpened.{NotOpened}
 use Rattle.bac_files.specs.declared.not_opened.NotOpened.TheVariants as why
 
--- Why a database isn't taken as an archive, of what it held. Of items that lie over one another `open` of bac_archive
--- says more, of the rows that the connection read.
-abbrev pub IsRefusedBy : Database → Refused → Type 0
-IsRefusedBy found refused.Foreign =
-    (¬ HasArchive found.schema) × (found.schema.tables ≢ first_tables) × (found.schema ≢ no_schema)
-IsRefusedBy found refused.First = found.schema.tables ≡ first_tables
-IsRefusedBy found refused.Version = IsOfVersion (versions found.trees) → ⊥
-IsRefusedBy found refused.Overlap = Unit {0}
-IsRefusedBy found refused.Orphan = ¬ AreBegun found.trees
-IsRefusedBy found (refused.Database error) = Unit {0}
-
--- the fault of a file whose database isn't taken so
+-- the fault of a file whose database isn't taken as an archive
 abbrev pub IsNoArchive : Database → FileFault → Type 0
 IsNoArchive found why = (refused : Refused) × IsRefusedBy found refused × (why ≡ of_refusal refused)
 
@@ -79,18 +65,18 @@ module _ {F : Type 0} {s : start.Ghosts F} where
       × (refused ≢ why.Memory → IsNamed path may files)
 
   -- Why a file that was opened is no use: it can't be closed, or its database answers by an error, or what it held is
-  -- refused so.
-  abbrev pub FailsOpened : disk.Ghosts (FileOf s) → Image → List ℕ → Bool → (Database → FileFault → Type 0) →
-      DiskFiles F s → FileFault → Type 0
+  -- refused so, by what was left.
+  abbrev pub FailsOpened : disk.Ghosts (FileOf s) → Image → List ℕ → Bool → (Database → Database → FileFault → Type 0)
+      → DiskFiles F s → FileFault → Type 0
   FailsOpened g image path may refuses files why = IsNamed path may files × (IsUnclosedBySome files
       ⊎ (IsSome files.closed × (((error : Error) × (why ≡ of_error error))
-      ⊎ IfSome files.closed (IsDoneTo g image (λ found left. refuses found why)))))
+      ⊎ IfSome files.closed (IsDoneTo g image (λ found left. refuses found left why)))))
 
   -- why the file of a tool is no use: it isn't opened, or fails so
   abbrev pub FailsFile : disk.Ghosts (FileOf s) → Image → List ℕ → Bool → (Database → FileFault → Type 0) →
       DiskFiles F s → FileFault → Type 0
   FailsFile g image path may refuses files why =
-      IsNotOpened path may files why ⊎ FailsOpened g image path may refuses files why
+      IsNotOpened path may files why ⊎ FailsOpened g image path may (λ found left. refuses found) files why
 
 -- the status of what was done, or of a file that is no use
 abbrev pub EndsBy : Result ℕ NotDone → ℕ → Type 0
@@ -98,8 +84,8 @@ EndsBy (Ok value) status = status ≡ value
 EndsBy (Err (done.File why)) status = status ≡ file_status why
 EndsBy (Err (done.Asking why)) status = ⊥
 
--- nothing is told on the errors, unless the file is at fault
-abbrev pub IsUntold : Result ℕ NotDone → Held → Held → Type 0
-IsUntold (Ok value) old new = new ≡ old
-IsUntold (Err (done.Asking why)) old new = new ≡ old
-IsUntold (Err (done.File why)) old new = Unit {0}
+-- what is told on the errors of how a tool ended: of the file with this name that it is no use, and else nothing
+abbrev pub TellsEnd : List ℕ → Result ℕ NotDone → Held → Held → Type 0
+TellsEnd path (Ok value) old new = new ≡ old
+TellsEnd path (Err (done.Asking why)) old new = new ≡ old
+TellsEnd path (Err (done.File why)) old new = TellsFault why path old new

@@ -1,5 +1,6 @@
 pub mod Archives
 pub mod Ends
+pub mod Good
 pub mod Begun
 pub mod Options
 pub mod Shown

@@ -1,9 +1,7 @@
 -- What was printed of an archive in parts by the words of `bac kept`. Read from the end.
-use Rattle.std.specs.Prelude.{◌≡◌, ◌≢◌, ◌⊎◌, ◌++◌, ℕ, max, Bool, true, false, List, [], ◌∷◌}
+use Rattle.std.specs.Prelude.{◌≡◌, ◌≢◌, ◌⊎◌, ◌||◌, ◌++◌, ℕ, max, Bool, true, false, List, [], ◌∷◌}
 use Rattle.std.specs.Prelude.{if◌then◌else◌, IsTrue, None, Some, Result, Ok, Err}
-use Rattle.std.specs.List.{All}
 use Rattle.std.specs.Io.KnownBytes.{Appends, Keeps}
-use Rattle.csv.specs.Writing.{default_writer, row_text}
 use Rattle.sqlite.specs.Effect.{Database}
 use Rattle.sqlite.specs.declared.error.Error.{Error}
 use Rattle.sqlite_disk.specs.declared.Disk as disk
@@ -15,6 +13,7 @@ use Rattle.bac_archive.specs.Rows.{kept}
 use Rattle.bac_archive.specs.Schema.{no_schema}
 use Rattle.bac_archive.specs.declared.trend_logs.Log.{Log}
 use Rattle.bac_asked.specs.Faults.{RefusesLine, WantsMemory, of_error, of_unopened}
+use Rattle.bac_asked.specs.Reasons.{TellsFault}
 use Rattle.bac_asked.specs.Status.{file_status}
 use Rattle.bac_asked.specs.declared.end.NotDone.{NotDone}
 use Rattle.bac_asked.specs.declared.end.NotDone.TheVariants as done
@@ -29,9 +28,9 @@ use Rattle.bac_offline.specs.Archives.{IsArchiveOf}
 use Rattle.bac_offline.specs.Ends.{IsNoArchive, IsOfFile}
 use Rattle.bac_offline.specs.Shown.{FailsToPrint, PrintsIn, Shows}
 use Rattle.bac_offline.specs.declared.parts.Printer.{Printer}
-use Rattle.bac_kept.specs.Csv.{names}
+use Rattle.bac_kept.specs.Csv.{names_text}
 use Rattle.bac_kept.specs.Parts.{PrintsPart}
-use Rattle.bac_kept.specs.Printed.{is_chosen}
+use Rattle.bac_kept.specs.Printed.{has_chosen}
 use Rattle.bac_kept.specs.Seen.{newest_in}
 use Rattle.bac_kept.specs.declared.printing.Shown.{Shown}
 use Rattle.bac_kept.specs.declared.printing.Shown.TheVariants.{All as Each}
@@ -43,31 +42,42 @@ abbrev pub IsClean : Reading → Type 0
 IsClean found = doubt found.is_clean ≡ 0
 
 -- What an archive keeps of the logs that are chosen, behind what was printed before, was written, and it is left as it
--- was; whether a log was chosen is noted.
+-- was; that one of its logs is chosen is noted.
 abbrev pub PrintsFound : Printer → Reading → Held → Held → Printer → Type 0
 PrintsFound old found before after new =
     (archive : Database) × IsArchiveOf found.found archive × (found.left ≡ archive)
     × (all : List Log) × AreLogs archive.trees all
     × (text : List ℕ) × PrintsPart old.shown old.csv all (kept archive.trees) old.seen text new.seen
-    × Appends before after text
-    × (new.has_any ≡ false → (old.has_any ≡ false)
-    × (known : List Log) × AreLogs archive.trees known × All (λ log. is_chosen old.shown log ≡ false) known)
+    × Appends before after text × (new.has_any ≡ (old.has_any || has_chosen old.shown all))
+
+-- it is left as it was found, if the connection is open
+abbrev pub IsAsFound : Reading → Type 0
+IsAsFound found = IsClean found → IsTrue found.is_open → found.left ≡ found.found
 
 -- A part was read: it has nothing, and is left so; or it is an archive, which was printed; or it is no use, as the
--- database says or for what it held; or memory is wanting, or the output refused a line.
+-- database says or for what it held; or memory is wanting, or the output refused a line. Then it is left as it was.
 abbrev pub ReadsBy : Result Bool NotDone → Printer → Reading → Held → Held → Printer → Type 0
 ReadsBy (Ok false) old found before after new = (found.found.schema ≡ no_schema) × (after ≡ before)
     × (new.seen ≡ old.seen) × (new.has_any ≡ old.has_any) × (found.left ≡ found.found)
 ReadsBy (Ok true) old found before after new = IsClean found → PrintsFound old found before after new
-ReadsBy (Err (done.File why)) old found before after new = ((error : Error) × (why ≡ of_error error))
-    ⊎ (IsClean found → IsTrue found.is_open → IsNoArchive found.found why)
+ReadsBy (Err (done.File why)) old found before after new = (((error : Error) × (why ≡ of_error error))
+    ⊎ (IsClean found → IsTrue found.is_open → IsNoArchive found.found why)) × IsAsFound found
 ReadsBy (Err (done.Asking why)) old found before after new =
-    WantsMemory (done.Asking why) ⊎ RefusesLine (done.Asking why)
+    (WantsMemory (done.Asking why) ⊎ RefusesLine (done.Asking why)) × IsAsFound found
 
 -- it was read by a printer, which knows what came of it
 abbrev pub ReadsPart : Printer → Reading → Held → Held → Printer → Type 0
 ReadsPart old found before after new = ((new.shown ≡ old.shown) × (new.csv ≡ old.csv))
     × ReadsBy new.done old found before after new
+
+-- it prints these logs, and has printed nothing yet
+abbrev pub IsFresh : Shown → Bool → Printer → Type 0
+IsFresh which csv begun = (begun.shown ≡ which) × (begun.csv ≡ csv) × ((log : ℕ) → newest_in begun.seen log ≡ None)
+    × (begun.has_any ≡ false)
+
+-- what was asked for is there: each log, or one was chosen in a part
+abbrev pub HasAsked : Printer → Type 0
+HasAsked printer = (printer.shown ≡ Each) ⊎ (printer.has_any ≡ true)
 
 -- what an open part came to that couldn't be closed
 abbrev pub unclosed : Result Bool NotDone → Error → Result Bool NotDone
@@ -104,11 +114,12 @@ abbrev pub at_part : {P : Type 0} → P → Printer → Held → Held → At P
 at_part parts printer output errors = record { parts = parts; printer = printer; output = output; errors = errors }
 
 module _ {F : Type 0} {s : start.Ghosts F} (g : disk.Ghosts (FileOf s)) (image : Image) where
-  -- what comes of a file: what its archive keeps was printed, and nothing is told; or it is no use, which is told
+  -- what comes of a file: what its archive keeps was printed, and nothing is told; or it is no use, which alone is told
   abbrev pub PrintsFile : Kept → Held → Held → Held → Held → DiskFiles F s → ℕ → Type 0
   PrintsFile words before after told now files status =
       ((IsNamed words.file false files × PrintsIn g image words before after files.closed status) × (now ≡ told))
-      ⊎ IsOfFile (FailsToPrint g image words files) status
+      ⊎ IsOfFile (λ why. FailsToPrint g image words before after files why × TellsFault why words.file told now)
+      status
 
 module _ {P : Type 0} (holds : P → List ℕ → Reading → P → Type 0) (bars : P → List ℕ → NotOpened → P → Type 0) where
   -- what came of a part: it wasn't opened, and nothing was printed; or it was read, and could be closed or not
@@ -140,16 +151,15 @@ module _ {P : Type 0} (holds : P → List ℕ → Reading → P → Type 0) (bar
   -- the parts of an archive were printed, as CSV behind the row of names
   abbrev pub PrintsParts : Kept → List (List ℕ) → P → P → Held → Held → Held → Held → ℕ → Printer → Type 0
   PrintsParts words paths p q before after told now status new =
-      (which : Shown) × Shows words which × (begun : Printer) × (begun.shown ≡ which) × (begun.csv ≡ words.csv)
-      × ((log : ℕ) → newest_in begun.seen log ≡ None)
-      × (first : Held) × (end : Held)
-      × Appends before first (if words.csv then row_text default_writer names else [])
+      (which : Shown) × Shows words which × (begun : Printer) × IsFresh which words.csv begun
+      × (first : Held) × (end : Held) × Appends before first (names_text words.csv)
       × PrintsAll paths (at_part p begun first told) status (at_part q new end now) × Keeps end after
 
-  -- The parts were printed of an archive, and the status is the greatest of theirs.
+  -- The parts were printed of an archive, and the status is the greatest of theirs; where it is 0, what was asked for
+  -- is there.
   abbrev pub PrintsFolder : Kept → List (List ℕ) → P → P → Held → Held → Held → Held → ℕ → Type 0
   PrintsFolder words paths p q before after told now status =
-      (new : Printer) × PrintsParts words paths p q before after told now status new
+      (new : Printer) × PrintsParts words paths p q before after told now status new × (status ≡ 0 → HasAsked new)
 
   -- So the folder is no use: no log of its parts was chosen.
   abbrev pub FailsFolder : Kept → List (List ℕ) → P → P → Held → Held → Held → Held → FileFault → Type 0
@@ -157,15 +167,16 @@ module _ {P : Type 0} (holds : P → List ℕ → Reading → P → Type 0) (bar
       (why ≡ fault.NoLog) × (new : Printer) × PrintsParts words paths p q before after told now 0 new
       × (new.has_any ≡ false) × (new.shown ≢ Each)
 
-  -- what comes of a folder: its parts were printed; or it is no use, which is told
+  -- what comes of a folder: its parts were printed; or it is no use, which is told behind what they told
   abbrev pub PrintsOfFolder : Kept → List (List ℕ) → P → P → Held → Held → Held → Held → ℕ → Type 0
   PrintsOfFolder words paths p q before after told now status =
       PrintsFolder words paths p q before after told now status
-      ⊎ ((errors : Held) × IsOfFile (FailsFolder words paths p q before after told errors) status)
+      ⊎ ((errors : Held) × IsOfFile (λ why. FailsFolder words paths p q before after told errors why
+      × TellsFault why words.file errors now) status)
 
   module _ {F : Type 0} {s : start.Ghosts F} (g : disk.Ghosts (FileOf s)) (image : Image) where
-    -- What comes of a name by what is listed of it: of no folder, what comes of a file; of one that can't be read that
-    -- it is no use, and of another the parts are printed. No other file is opened.
+    -- What comes of a name by what is listed of it: of no folder, what comes of a file; of one that can't be read it is
+    -- told that it is no use, and of another the parts are printed. No other file is opened.
     abbrev pub PrintsListed : Kept → Listing → P → P → DiskFiles F s → DiskFiles F s → Held → Held → Held → Held → ℕ
         → Type 0
     PrintsListed words (Ok None) p q old new before after told now status =
@@ -173,4 +184,5 @@ module _ {P : Type 0} (holds : P → List ℕ → Reading → P → Type 0) (bar
     PrintsListed words (Ok (Some paths)) p q old new before after told now status =
         PrintsOfFolder words paths p q before after told now status × (new ≡ old)
     PrintsListed words (Err why) p q old new before after told now status =
-        (status ≡ file_status (of_unopened why)) × (after ≡ before) × (q ≡ p) × (new ≡ old)
+        (status ≡ file_status (of_unopened why)) × TellsFault (of_unopened why) words.file told now
+        × (after ≡ before) × (q ≡ p) × (new ≡ old)

@@ -23,10 +23,10 @@ use Rattle.bac_asked.specs.declared.fault.FileFault.TheVariants as fault
 use Rattle.bac_files.specs.Files.{FileOf, IsDoneTo}
 use Rattle.bac_files.specs.declared.disk_files.DiskFiles.{DiskFiles}
 use Rattle.bac_offline.specs.Archives.{IsArchiveOf}
-use Rattle.bac_offline.specs.Ends.{FailsFile, IsNoArchive}
+use Rattle.bac_offline.specs.Ends.{FailsOpened, IsNoArchive, IsNotOpened}
 use Rattle.bac_kept.specs.Faults.{HasNoneOf}
-use Rattle.bac_kept.specs.Csv.{WritesLogs, names}
-use Rattle.bac_kept.specs.Printed.{PrintsLogs}
+use Rattle.bac_kept.specs.Csv.{WritesLogs, names, names_text}
+use Rattle.bac_kept.specs.Printed.{IsThere, PrintsLogs}
 use Rattle.bac_kept.specs.declared.printing.Shown.{Shown}
 use Rattle.bac_kept.specs.declared.printing.Shown.TheVariants as shown
 use Rattle.bac_print.specs.Output.{Held}
@@ -61,12 +61,12 @@ IsTextOf which items all false text = PrintsLogs which items all text
 IsTextOf which items all true text = (rows : List ℕ) × WritesLogs which items all rows
     × (text ≡ row_text default_writer names ++ rows)
 
--- the text of what the archive keeps of the logs that were chosen, which was found in a file, was written, and the
--- archive is left as it was
+-- The text of what the archive keeps of the logs that were chosen, which was found in a file, was written, and the
+-- archive is left as it was. What was asked for is there.
 abbrev pub PrintsArchive : Shown → Bool → Held → Held → Database → Database → Type 0
 PrintsArchive which csv before after found left =
     (archive : Database) × IsArchiveOf found archive × (left ≡ archive) × (all : List Log) × AreLogs archive.trees all
-    × (text : List ℕ) × IsTextOf which (kept archive.trees) all csv text × Appends before after text
+    × IsThere which all × (text : List ℕ) × IsTextOf which (kept archive.trees) all csv text × Appends before after text
 
 -- What the archive keeps of the logs that the words choose was printed, of two files that were opened and closed, which
 -- hold it as it was.
@@ -75,16 +75,19 @@ PrintsIn g image words before after closed status =
     (status ≡ 0) × IsSome closed × (which : Shown) × Shows words which
     × IfSome closed (IsDoneTo g image (PrintsArchive which words.csv before after))
 
--- why nothing is printed of what two files held: it is no archive; or none of its logs is chosen
-abbrev pub RefusesPrint : Shown → Database → FileFault → Type 0
-RefusesPrint which found why = IsNoArchive found why
-    ⊎ ((why ≡ fault.NoLog) × (archive : Database) × IsArchiveOf found archive × HasNoneOf which archive.trees)
+-- Why nothing is printed of what two files held: it is no archive, and the output is as it was; or none of its logs is
+-- chosen, and the output has no more than the row of names, as CSV.
+abbrev pub RefusesPrint : Shown → Bool → Held → Held → Database → FileFault → Type 0
+RefusesPrint which csv before after found why = (IsNoArchive found why × (after ≡ before))
+    ⊎ ((why ≡ fault.NoLog) × (archive : Database) × IsArchiveOf found archive × HasNoneOf which archive.trees
+    × Appends before after (names_text csv))
 
--- so the file is no use to `kept`
-abbrev pub FailsToPrint : {F : Type 0} {s : start.Ghosts F} → disk.Ghosts (FileOf s) → Image → Kept → DiskFiles F s →
-    FileFault → Type 0
-FailsToPrint g image words files why =
-    (which : Shown) × Shows words which × FailsFile g image words.file false (RefusesPrint which) files why
+-- so the file is no use to `kept`; where it isn't opened, nothing was printed
+abbrev pub FailsToPrint : {F : Type 0} {s : start.Ghosts F} → disk.Ghosts (FileOf s) → Image → Kept → Held → Held
+    → DiskFiles F s → FileFault → Type 0
+FailsToPrint g image words before after files why = (which : Shown) × Shows words which
+    × (((after ≡ before) × IsNotOpened words.file false files why)
+    ⊎ FailsOpened g image words.file false (λ found left. RefusesPrint which words.csv before after found) files why)
 
 -- why words choose no logs: `bac log` with them asks for none
 abbrev pub ShowsNoneBy : Option Text → Option Text → NotDone → Type 0

@@ -15,6 +15,7 @@ use Rattle.bac_archive.specs.declared.trend_logs.Log.{Log}
 use Rattle.bac_asked.specs.AsLog.{Given, IsAskedBy, log_words}
 use Rattle.bac_asked.specs.Lines.{stopped_line}
 use Rattle.bac_asked.specs.Faults.{RefusesLine, WantsMemory}
+use Rattle.bac_asked.specs.Reasons.{TellsFault}
 use Rattle.bac_asked.specs.Wanted.{AddNamed, AsksItsSource}
 use Rattle.bac_asked.specs.declared.end.NotDone.{NotDone}
 use Rattle.bac_asked.specs.declared.end.NotDone.TheVariants.{Asking}
@@ -31,10 +32,10 @@ use Rattle.bac_files.specs.declared.folder.Place.{Place}
 use Rattle.bac_files.specs.declared.disk_files.DiskFiles.{DiskFiles}
 use Rattle.bac_offline.specs.Archives.{IsArchiveOf}
 use Rattle.bac_offline.specs.Options.{SeeksNone, given_for, given_of}
-use Rattle.bac_offline.specs.Ends.{FailsFile, IsNoArchive, IsNotOpened}
+use Rattle.bac_offline.specs.Ends.{FailsFile, IsNoArchive, IsNotOpened, IsUnclosedBySome}
 use Rattle.bac_offline.specs.declared.stopping.Meant.{Meant}
 use Rattle.bac_offline.specs.declared.stopping.Meant.TheVariants as meant
-use Rattle.bac_print.specs.Output.{Held}
+use Rattle.bac_print.specs.Output.{AppendsPart, Held}
 use Rattle.bac_words.specs.declared.group.Group.{Group}
 use Rattle.bac_words.specs.declared.job.Keep.{Keep}
 
@@ -82,12 +83,26 @@ stopped_logs which known = map stopped (filter (is_meant which) known)
 abbrev pub stopped_lines : List Log → List ℕ
 stopped_lines = flat_map (λ (log : Log). stopped_line log.source)
 
--- The logs that are meant are there, each is stopped, and nothing else of the archive changes; a line tells each.
-abbrev pub StopsArchive : Meant → Held → Held → Database → Database → Type 0
-StopsArchive which before after found left =
+-- The logs that are meant are there, each is stopped, and nothing else of the archive changes; and so the lines are
+-- printed that tell each.
+abbrev pub StopsAs : (List ℕ → Type 0) → Meant → Database → Database → Type 0
+StopsAs prints which found left =
     (archive : Database) × IsArchiveOf found archive × (known : List Log) × AreLogs archive.trees known
     × (are_there which known ≡ true) × HasChangedLogs archive left (stopped_logs which known)
-    × Appends before after (stopped_lines (stopped_logs which known))
+    × prints (stopped_lines (stopped_logs which known))
+
+-- a line tells each
+abbrev pub StopsArchive : Meant → Held → Held → Database → Database → Type 0
+StopsArchive which before after found left = StopsAs (Appends before after) which found left
+
+-- a front part of the lines was printed, as the output refused more
+abbrev pub StopsUntold : Meant → Held → Held → Database → Database → Type 0
+StopsUntold which before after found left = StopsAs (AppendsPart before after) which found left
+
+-- lines of logs that are meant, or a front part of them, were printed, and nothing else
+abbrev pub TellsMeant : Meant → Held → Held → Type 0
+TellsMeant which before after =
+    (known : List Log) × AppendsPart before after (stopped_lines (stopped_logs which known))
 
 -- The logs that the words mean were stopped in the archive that two files held, which the closed files hold now.
 abbrev pub StopsIn : {D : Type 0} → (g : disk.Ghosts D) → Image → Keep → Held → Held → Option (Files D) → ℕ → Type 0
@@ -102,23 +117,6 @@ RefusesStop which found why = IsNoArchive found why
     × AreLogs archive.trees known
     × (are_there which known ≡ false))
 
-module _ {F : Type 0} {s : start.Ghosts F} (g : disk.Ghosts (FileOf s)) (image : Image) where
-  -- so the file of this name is no use to `keep --stop`
-  abbrev pub FailsToStop : Keep → List ℕ → DiskFiles F s → FileFault → Type 0
-  FailsToStop words path files why =
-      (which : Meant) × Means words which × FailsFile g image path false (RefusesStop which) files why
-
-  -- the logs were stopped in the file of the words, or in the newest part of the folder
-  abbrev pub StopsAt : Keep → Held → Held → DiskFiles F s → ℕ → Type 0
-  StopsAt words before after files status = (place : Place) × IsPlaced words.file place
-      × IsNamed (string_bytes place.path) false files × StopsIn g image words before after files.closed status
-
-  -- that file is no use; or it can't be told which one it is
-  abbrev pub FailsToStopAt : Keep → DiskFiles F s → FileFault → Type 0
-  FailsToStopAt words files why =
-      ((place : Place) × IsPlaced words.file place × FailsToStop words (string_bytes place.path) files why)
-      ⊎ IsNotOpened words.file false files why
-
 -- why words mean no logs: `bac log` with those of the one device asks for none; without it, or of more, none is stopped
 abbrev pub MeansNoneBy : List Group → Given → NotDone → Type 0
 MeansNoneBy (group ∷ []) given fault = SeeksNone given group fault
@@ -128,7 +126,46 @@ MeansNoneBy _ given fault = fault ≡ Asking (BadValue Stop)
 abbrev pub MeansNone : Keep → NotDone → Type 0
 MeansNone words = MeansNoneBy words.groups (given_of words.options)
 
--- why `keep --stop` isn't done, if the file isn't at fault: its words mean no logs; memory is wanting; or the output
--- refused a line
-abbrev pub EndsStop : Keep → NotDone → Type 0
-EndsStop words fault = MeansNone words fault ⊎ (WantsMemory fault ⊎ RefusesLine fault)
+module _ {F : Type 0} {s : start.Ghosts F} where
+  -- the file couldn't be closed, behind lines of logs that are meant
+  abbrev pub IsUnclosedBehind : Meant → Held → Held → DiskFiles F s → Type 0
+  IsUnclosedBehind which before after files = IsUnclosedBySome files × TellsMeant which before after
+
+  -- nothing was printed; or the file couldn't be closed, behind lines of logs that the words mean
+  abbrev pub IsQuietStop : Keep → Held → Held → DiskFiles F s → Type 0
+  IsQuietStop words before after files = (after ≡ before)
+      ⊎ ((which : Meant) × Means words which × IsUnclosedBehind which before after files)
+
+module _ {F : Type 0} {s : start.Ghosts F} (g : disk.Ghosts (FileOf s)) (image : Image) where
+  -- So the file of this name is no use to `keep --stop`, and nothing was printed; or it couldn't be closed, and then
+  -- lines of logs that are meant may have been.
+  abbrev pub FailsToStop : Keep → List ℕ → Held → Held → DiskFiles F s → FileFault → Type 0
+  FailsToStop words path before after files why = (which : Meant) × Means words which
+      × (((after ≡ before) × FailsFile g image path false (RefusesStop which) files why)
+      ⊎ (IsNamed path false files × IsUnclosedBehind which before after files))
+
+  -- the logs were stopped in the file of the words, or in the newest part of the folder
+  abbrev pub StopsAt : Keep → Held → Held → DiskFiles F s → ℕ → Type 0
+  StopsAt words before after files status = (place : Place) × IsPlaced words.file place
+      × IsNamed (string_bytes place.path) false files × StopsIn g image words before after files.closed status
+
+  -- That file is no use; or it can't be told which one it is, and nothing was printed. Only this is told.
+  abbrev pub FailsToStopAt : Keep → Held → Held → Held → Held → DiskFiles F s → FileFault → Type 0
+  FailsToStopAt words before after told now files why = ((place : Place) × IsPlaced words.file place
+      × FailsToStop words (string_bytes place.path) before after files why
+      × TellsFault why (string_bytes place.path) told now)
+      ⊎ ((after ≡ before) × IsNotOpened words.file false files why × TellsFault why words.file told now)
+
+  -- The output refused a line, behind others of logs that the words mean; of two closed files these were stopped in the
+  -- archive that they held, unless they couldn't be closed.
+  abbrev pub RefusesStopped : Keep → Held → Held → DiskFiles F s → Type 0
+  RefusesStopped words before after files = (which : Meant) × Means words which × TellsMeant which before after
+      × (IsUnclosedBySome files
+      ⊎ (IsSome files.closed × IfSome files.closed (IsDoneTo g image (StopsUntold which before after))))
+
+  -- Why `keep --stop` isn't done, if the file isn't at fault: its words mean no logs, and nothing was printed; memory
+  -- is wanting; or the output refused a line.
+  abbrev pub EndsStop : Keep → Held → Held → DiskFiles F s → NotDone → Type 0
+  EndsStop words before after files fault = (MeansNone words fault × (after ≡ before))
+      ⊎ ((WantsMemory fault × IsQuietStop words before after files)
+      ⊎ (RefusesLine fault × RefusesStopped words before after files))

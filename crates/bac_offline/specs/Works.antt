@@ -16,7 +16,7 @@ use Rattle.bac_offline.specs.Archives.{IsHeld, KeepsItems, KeepsRows}
 use Rattle.bac_offline.specs.Begun.{FollowsFound}
 use Rattle.bac_offline.specs.Ends.{IsNoArchive, IsNotOpened, IsOfSomeFile, IsUnclosedBySome, MayAsk, MayFail}
 use Rattle.bac_offline.specs.Shown.{PrintsArchive, RefusesPrint}
-use Rattle.bac_offline.specs.Stops.{RefusesStop, StopsArchive}
+use Rattle.bac_offline.specs.Stops.{RefusesStop, StopsArchive, StopsUntold, TellsMeant}
 use Rattle.bac_offline.specs.declared.stopping.Meant.{Meant}
 use Rattle.bac_kept.specs.declared.printing.Shown.{Shown}
 use Rattle.bac_print.specs.Output.{Held}
@@ -69,18 +69,25 @@ pub record PrintsOver (which : Shown) (csv : Bool) (old new : State) (before aft
   pub stays : IsHeld new → old.committed ≡ old.now → KeepsRows old.now new.committed
   pub clean : HasCleanDisk new → HasCleanDisk old
   pub fault : IfErr ended (MayFail (λ why. ((error : Error) × (why ≡ of_error error))
-      ⊎ (IsHeld new → RefusesPrint which old.now why)))
+      ⊎ (IsHeld new → RefusesPrint which csv before after old.now why)))
   pub ends : IfErr ended (MayAsk (λ fault. WantsMemory fault ⊎ RefusesLine fault))
 
--- the logs that are meant are stopped in an archive
+-- memory is wanting, and nothing was printed; or the output refused a line of the logs that were stopped
+abbrev pub EndsStopping : Meant → State → State → Held → Held → NotDone → Type 0
+EndsStopping which old new before after fault = (WantsMemory fault × (after ≡ before))
+    ⊎ (RefusesLine fault × (HasCleanDisk new → StopsUntold which before after old.now new.committed))
+
+-- the logs that are meant are stopped in an archive; where the file is at fault nothing was printed
 pub record StopsOver (which : Meant) (old new : State) (before after : Held) (ended : Ended) : Type 0 where
   pub status : IfOk ended (λ status. status ≡ 0)
   pub stopped : HasCleanDisk new → OnOk ended (StopsArchive which before after old.now new.committed)
   pub stays : IsHeld new → old.committed ≡ old.now → KeepsItems old.now new.committed
   pub clean : HasCleanDisk new → HasCleanDisk old
+  pub told : TellsMeant which before after
+  pub quiet : IfErr ended (MayFail (λ why. after ≡ before))
   pub fault : IfErr ended (MayFail (λ why. ((error : Error) × (why ≡ of_error error))
       ⊎ (IsHeld new → RefusesStop which old.now why)))
-  pub ends : IfErr ended (MayAsk (λ fault. WantsMemory fault ⊎ RefusesLine fault))
+  pub ends : IfErr ended (MayAsk (EndsStopping which old new before after))
 
 -- a part that had nothing follows on the archive of a database, which is left as it is, and keeps its rows whatever
 -- comes of it

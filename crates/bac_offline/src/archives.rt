@@ -82,6 +82,8 @@ pub(crate) fn open_archive<A: Alter>(conn: &mut Connection<A>) -> Result<(), Not
         → IsNoArchive (state A.Store conn.old).now why))) }
     ensures left { IsHeld (state A.Store conn.new)
         → OnErr result ((state A.Store conn.new).committed ≡ (state A.Store conn.old).committed) }
+    ensures seen { IsHeld (state A.Store conn.new)
+        → OnErr result ((state A.Store conn.new).now ≡ (state A.Store conn.old).now) }
     ensures clean { HasCleanDisk (state A.Store conn.new) → HasCleanDisk (state A.Store conn.old) }
 {
     match bac_archive::open(conn) {

@@ -165,7 +165,7 @@ pub fn begin_archive<A: Alter, G: Start, E: Write>(
     ensures rows { IsUnused parts.old → IfSome parts.new.closed
         (IsDoneTo ⟦<FileOf<G> as Disk>⟧ (image_at G.Start) KeepsRows) }
     ensures clean { HasCleanDisk (state A.Store conn.new) → HasCleanDisk (state A.Store conn.old) }
-    ensures place { place.new.path ≡ place.old.path }
+    ensures place { (place.new.path ≡ place.old.path) × (place.new.before ≡ place.old.before) }
 {
     place.blames_before = true;
     begin_part(alloc, conn, parts, &place.before)?;

@@ -4,6 +4,7 @@
 
 mod archives;
 mod begun;
+mod laws;
 mod options;
 mod parts;
 mod printing;
@@ -12,6 +13,7 @@ mod works;
 
 pub use archives::{close_file, open_file};
 pub use begun::begin_archive;
+pub use laws::archives_are_taken;
 pub use options::{options_for, options_of};
 pub use parts::{Printer, kept_parts};
 pub use printing::kept;

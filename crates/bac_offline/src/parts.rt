@@ -1,17 +1,16 @@
 //! `bac kept` of a folder: what an archive in parts keeps is printed, part after part.
 
-ghost use Rattle.std.specs.Prelude.{◌≡◌, ◌≢◌, ◌⊎◌, ℕ, None, IfErr, IfOk, max, false};
+ghost use Rattle.std.specs.Prelude.{◌≡◌, ◌≢◌, ◌⊎◌, IfErr, IfOk, false, max};
 ghost use Rattle.std.specs.Prelude.{map};
 ghost use Rattle.std.specs.Io.KnownBytes.{Keeps};
 ghost use Rattle.std.specs.String.{string_bytes};
 ghost use Rattle.sqlite.specs.Held.{state};
 ghost use Rattle.sqlite.specs.declared.error.Error.{Error as ErrorOf};
 ghost use Rattle.bac_files.specs.Parts.{reading};
-ghost use Rattle.bac_kept.specs.Seen.{newest_in};
 ghost use Rattle.bac_offline.specs.Ends.{MayAsk, MayFail};
-ghost use Rattle.bac_offline.specs.Parted.{ComesTo, FailsFolder, IsPartStatus, PrintsAll};
-ghost use Rattle.bac_offline.specs.Parted.{PrintsFolder, PrintsPath, PrintsPaths, ReadsBy};
-ghost use Rattle.bac_offline.specs.Parted.{ReadsPart, at_part, unclosed};
+ghost use Rattle.bac_offline.specs.Parted.{ComesTo, FailsFolder, HasAsked, IsFresh, IsPartStatus};
+ghost use Rattle.bac_offline.specs.Parted.{PrintsAll, PrintsFolder, PrintsPath, PrintsPaths};
+ghost use Rattle.bac_offline.specs.Parted.{ReadsBy, ReadsPart, at_part, unclosed};
 ghost use Rattle.bac_offline.specs.Shown.{EndsPrint};
 
 use crate::archives::open_archive;
@@ -44,8 +43,7 @@ pub struct Printer {
 impl Printer {
     /// Nothing was printed yet.
     fn new(alloc: Global, shown: Shown, csv: bool) -> Printer
-        ensures { (result.shown ≡ shown) × (result.csv ≡ csv)
-            × ((log : ℕ) → newest_in result.seen log ≡ None) }
+        ensures { IsFresh shown csv result }
     {
         Printer {
             alloc,
@@ -212,6 +210,7 @@ fn print_all<P: Parts, O: Write, E: Write>(
 /// What was printed goes out; that no log was chosen is told.
 fn ended<O: Write>(printer: &Printer, status: u8, output: &mut O) -> Result<u8, NotDone>
     ensures status { IfOk result (λ same. same ≡ status) }
+    ensures there { IfOk result (λ same. same ≡ 0 → HasAsked printer.now) }
     ensures stays { Keeps (O.contents output.old) (O.contents output.new) }
     ensures fault { IfErr result (λ why. (why ≡ NotDone.Asking Fault.Write)
         ⊎ ((why ≡ NotDone.File FileFault.NoLog) × (status ≡ 0)

@@ -66,7 +66,8 @@ fn print_in<A: Alter, O: Write>(
     ensures clean { HasCleanDisk (state A.Store conn.new) → HasCleanDisk (state A.Store conn.old) }
     ensures fault { IfErr result (MayFail (λ why. ((error : Error) × (why ≡ of_error error))
         ⊎ (IsHeld (state A.Store conn.new)
-        → RefusesPrint shown.now (state A.Store conn.old).now why))) }
+        → RefusesPrint shown.now csv (O.contents output.old) (O.contents output.new)
+        (state A.Store conn.old).now why))) }
     ensures ends { IfErr result (MayAsk (λ fault. WantsMemory fault ⊎ RefusesLine fault)) }
 {
     open_archive(conn)?;
@@ -104,7 +105,8 @@ pub fn kept<F: Start, O: Write>(
         (O.contents output.old) (O.contents output.new) files.new.closed) }
     ensures named { OnOk result (IsNamed asked.now.file false files.new) }
     ensures fault { IfErr result
-        (MayFail (FailsToPrint ⟦<FileOf<F> as Disk>⟧ (image_at F.Start) asked.now files.new)) }
+        (MayFail (FailsToPrint ⟦<FileOf<F> as Disk>⟧ (image_at F.Start) asked.now
+        (O.contents output.old) (O.contents output.new) files.new)) }
     ensures stays { IsUnused files.old
         → IfSome files.new.closed (IsDoneTo ⟦<FileOf<F> as Disk>⟧ (image_at F.Start) KeepsRows) }
     ensures ends { IfErr result (MayAsk (EndsPrint asked.now)) }

@@ -20,9 +20,10 @@ ghost use Rattle.bac_offline.specs.Archives.{HasSameItems, IsHeld, KeepsItems};
 ghost use Rattle.bac_offline.specs.Options.{SeeksNone, SeeksNoneBy, given_of};
 ghost use Rattle.bac_offline.specs.Ends.{MayAsk, MayFail};
 ghost use Rattle.bac_offline.specs.Stops.{EndsStop, FailsToStop, Means, MeansAt, MeansNone};
-ghost use Rattle.bac_offline.specs.Stops.{MeansOf, RefusesStop, StopsArchive, StopsIn, are_there};
-ghost use Rattle.bac_offline.specs.Stops.{is_meant, stopped_lines, stopped_logs};
-ghost use Rattle.bac_offline.specs.Works.{StopsOver};
+ghost use Rattle.bac_offline.specs.Stops.{MeansOf, RefusesStop, StopsArchive, StopsIn, TellsMeant};
+ghost use Rattle.bac_offline.specs.Stops.{are_there, is_meant, stopped_lines, stopped_logs};
+ghost use Rattle.bac_offline.specs.Works.{EndsStopping, StopsOver};
+ghost use Rattle.bac_print.specs.Output.{AppendsPart};
 
 use crate::archives::open_archive;
 use crate::options::{options_for, options_of};
@@ -178,19 +179,35 @@ fn lines_of(alloc: Global, these: &[Log]) -> Result<Vec<u8>, AllocError>
     Ok(text)
 }
 
+/// Writes a text, which goes out.
+fn print_text<O: Write>(text: &[u8], output: &mut O) -> Result<(), NotDone>
+    ensures printed { OnOk result
+        (Appends (O.contents output.old) (O.contents output.new) text.now) }
+    ensures fault { IfErr result (λ fault. RefusesLine fault
+        × AppendsPart (O.contents output.old) (O.contents output.new) text.now) }
+{
+    match write_text(output, text) {
+        Ok(()) => match output.flush() {
+            Ok(()) => Ok(()),
+            Err(_) => Err(NotDone::Asking(Fault::Write)),
+        },
+        Err(_) => Err(NotDone::Asking(Fault::Write)),
+    }
+}
+
 /// Prints them.
 fn print_stopped<O: Write>(alloc: Global, these: &[Log], output: &mut O) -> Result<(), NotDone>
     ensures printed { OnOk result
         (Appends (O.contents output.old) (O.contents output.new) (stopped_lines these.now)) }
-    ensures fault { IfErr result (λ fault. WantsMemory fault ⊎ RefusesLine fault) }
+    ensures fault { IfErr result
+        (λ fault. (WantsMemory fault × (O.contents output.new ≡ O.contents output.old))
+        ⊎ (RefusesLine fault × AppendsPart (O.contents output.old) (O.contents output.new)
+        (stopped_lines these.now))) }
 {
-    let Ok(text) = lines_of(alloc, these) else {
-        return Err(NotDone::Asking(Fault::Memory));
-    };
-    if write_text(output, &text).is_err() || output.flush().is_err() {
-        return Err(NotDone::Asking(Fault::Write));
+    match lines_of(alloc, these) {
+        Ok(text) => print_text(&text, output),
+        Err(_) => Err(NotDone::Asking(Fault::Memory)),
     }
-    Ok(())
 }
 
 /// Stops those logs of an archive that are meant, and answers them.
@@ -206,6 +223,8 @@ fn stop_known<A: Alter>(
         × HasChangedLogs (state A.Store conn.old).now (state A.Store conn.new).now
         these.items
         × ((state A.Store conn.new).committed ≡ (state A.Store conn.new).now))) }
+    ensures meant { IfOk result
+        (λ these. (known : List LogOf) × (these.items ≡ stopped_logs meant.now known)) }
     // Whatever comes of it, the items and beginnings are the same, and no log is lost.
     ensures stays { OverArchive (state A.Store conn.old) (state A.Store conn.new)
         (Survives (state A.Store conn.old) (state A.Store conn.new)
@@ -247,10 +266,14 @@ fn stop_in<A: Alter, O: Write>(
         → (state A.Store conn.old).committed ≡ (state A.Store conn.old).now
         → KeepsItems (state A.Store conn.old).now (state A.Store conn.new).committed }
     ensures clean { HasCleanDisk (state A.Store conn.new) → HasCleanDisk (state A.Store conn.old) }
+    ensures told { TellsMeant meant.now (O.contents output.old) (O.contents output.new) }
+    // Where the file is at fault nothing is printed.
+    ensures quiet { IfErr result (MayFail (λ why. O.contents output.new ≡ O.contents output.old)) }
     ensures fault { IfErr result (MayFail (λ why. ((error : Error) × (why ≡ of_error error))
         ⊎ (IsHeld (state A.Store conn.new)
         → RefusesStop meant.now (state A.Store conn.old).now why))) }
-    ensures ends { IfErr result (MayAsk (λ fault. WantsMemory fault ⊎ RefusesLine fault)) }
+    ensures ends { IfErr result (MayAsk (EndsStopping meant.now (state A.Store conn.old)
+        (state A.Store conn.new) (O.contents output.old) (O.contents output.new))) }
 {
     open_archive(conn)?;
     let these = stop_known(conn, alloc, meant)?;
@@ -289,11 +312,12 @@ pub fn stop<F: Start, O: Write>(
         (O.contents output.old) (O.contents output.new) files.new.closed) }
     ensures named { OnOk result (IsNamed path.now false files.new) }
     ensures fault { IfErr result (MayFail (FailsToStop ⟦<FileOf<F> as Disk>⟧ (image_at F.Start)
-        asked.now path.now files.new)) }
+        asked.now path.now (O.contents output.old) (O.contents output.new) files.new)) }
     // Whatever comes of it, the items and beginnings are the same, and no log is lost.
     ensures items { IsUnused files.old
         → IfSome files.new.closed (IsDoneTo ⟦<FileOf<F> as Disk>⟧ (image_at F.Start) KeepsItems) }
-    ensures ends { IfErr result (MayAsk (EndsStop asked.now)) }
+    ensures ends { IfErr result (MayAsk (EndsStop ⟦<FileOf<F> as Disk>⟧ (image_at F.Start)
+        asked.now (O.contents output.old) (O.contents output.new) files.new)) }
 {
     let options = options_of(&asked.options);
     let meant = choose(alloc, asked, &options)?;

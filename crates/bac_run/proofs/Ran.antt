@@ -16,6 +16,7 @@ use Rattle.bac_files.specs.declared.disk_files.DiskFiles.{DiskFiles}
 use Rattle.bac_fetch.specs.Ahead.{AtOnce}
 use Rattle.bac_heeding.specs.Notes.{nothing}
 use Rattle.bac_heeding.specs.declared.notes.Passed.{Passed}
+use Rattle.bac_keeper.proofs.EndLemmas.{tells_kept}
 use Rattle.bac_keeper.specs.Done.{EndsKeep}
 use Rattle.bac_offline.specs.Ends.{IsOfFile}
 use Rattle.bac_keeper.specs.Places.{FailsAt, KeepsAt}
@@ -27,6 +28,7 @@ use Rattle.bac_print.specs.Output.{Held}
 use Rattle.bac_run.specs.Faults.{ending_of, fault_of}
 use Rattle.bac_run.specs.Run.{DoesAll, DoesTold, HasFaultStatus, RunsAll, RunsGroups, RunsCheck, RunsKeepBy, RunsKept, TellsFault, EndsUnchecked}
 use Rattle.std.specs.Io.KnownBytes.{Keeps}
+use Rattle.std.specs.String.{string_bytes}
 use Rattle.bac_tools.specs.Run.{AskFor, Ends, IsToldAfter, RunsRead}
 use Rattle.bac_tools.specs.Streams.{Streams, streams}
 use Rattle.bac_wire.specs.Stamp.{CivilTime}
@@ -50,48 +52,69 @@ status_told ends passed why said errors status so told = elim told [
 ]
 
 -- a tool of the archive, and its fault is told
-told_so : (Done : ℕ → Type 0) (fails : FileFault → Type 0) (ends : NotDone → Type 0) (passed : Passed) (said errors : Held) (done : Result ℕ KeepFault)
-    (status : ℕ) → IfOk done (λ n. Done n ⊎ IsOfFile fails n) → IfErr done (λ why. ends (Asking why)) → Ends passed (ending_of done) said errors status
-    → Done status ⊎ (IsOfFile fails status ⊎ HasFaultStatus ends status)
-told_so Done fails ends passed said errors (Ok n) status ok so told =
-    subst (λ (m : ℕ). Done m ⊎ (IsOfFile fails m ⊎ HasFaultStatus ends m)) (sym told.0)
+told_so : (Done : ℕ → Type 0) (fails useless : FileFault → Type 0) (ends : NotDone → Type 0) (passed : Passed) (said errors : Held) (done : Result ℕ KeepFault)
+    (status : ℕ) → (Keeps said errors → (why : FileFault) → fails why → useless why) → IfOk done (λ n. Done n ⊎ IsOfFile fails n) → IfErr done (λ why. ends (Asking why))
+    → Ends passed (ending_of done) said errors status → Done status ⊎ (IsOfFile useless status ⊎ HasFaultStatus ends status)
+told_so Done fails useless ends passed said errors (Ok n) status f ok so told =
+    subst (λ (m : ℕ). Done m ⊎ (IsOfFile useless m ⊎ HasFaultStatus ends m)) (sym told.0)
     (elim ok [
       | inl is ↦ inl is
-      | inr useless ↦ inr (inl useless)
+      | inr (why, is, fails') ↦ inr (inl (why, is, f told.1 why fails'))
     ])
-told_so Done fails ends passed said errors (Err why) status ok so told = inr (inr (status_told ends passed why said errors status so told))
+told_so Done fails useless ends passed said errors (Err why) status f ok so told = inr (inr (status_told ends passed why said errors status so told))
 
 -- the same of one that told nothing before, unless the file is at fault
-told_alone : (Done : ℕ → Type 0) (fails : FileFault → Type 0) (ends : NotDone → Type 0) (passed : Passed) (before said errors : Held)
-    (done : Result ℕ KeepFault) (status : ℕ) → IfOk done (λ n. (Done n × (said ≡ before)) ⊎ IsOfFile fails n) → OnErr done (said ≡ before)
-    → IfErr done (λ why. ends (Asking why)) → Ends passed (ending_of done) said errors status
-    → (Done status × Keeps before errors) ⊎ (IsOfFile fails status ⊎ TellsFault ends passed before errors status)
-told_alone Done fails ends passed before said errors (Ok n) status ok quiet so told = elim ok [
+told_alone : (Done : ℕ → Type 0) (fails useless : FileFault → Type 0) (ends : NotDone → Type 0) (passed : Passed) (before said errors : Held)
+    (done : Result ℕ KeepFault) (status : ℕ) → (Keeps said errors → (why : FileFault) → fails why → useless why) → IfOk done (λ n. (Done n × (said ≡ before)) ⊎ IsOfFile fails n)
+    → OnErr done (said ≡ before) → IfErr done (λ why. ends (Asking why)) → Ends passed (ending_of done) said errors status
+    → (Done status × Keeps before errors) ⊎ (IsOfFile useless status ⊎ TellsFault ends passed before errors status)
+told_alone Done fails useless ends passed before said errors (Ok n) status f ok quiet so told = elim ok [
   | inl is ↦ inl (subst Done (sym told.0) is.0, subst (λ (h : Held). Keeps h errors) is.1 told.1)
-  | inr useless ↦ inr (inl (subst (IsOfFile fails) (sym told.0) useless))
+  | inr (why, is, fails') ↦ inr (inl (subst (IsOfFile useless) (sym told.0) (why, is, f told.1 why fails')))
 ]
-told_alone Done fails ends passed before said errors (Err why) status ok quiet so told =
+told_alone Done fails useless ends passed before said errors (Err why) status f ok quiet so told =
     inr (inr (why, so, subst (λ (h : Held). IsToldAfter passed (fault_of why) h errors status) quiet told))
+
+module _ {F : Type 0} {s : start.Ghosts F} (g : disk.Ghosts (FileOf s)) (before said errors : Held) (keeps : Keeps said errors) where
+  -- what was told of a file that is no use is told still
+  stop_kept : (asked : KeepWords) (out out' : Held) (left : DiskFiles F s) (why : FileFault)
+      → FailsToStopAt g (image_at s) asked out out' before said left why → FailsToStopAt g (image_at s) asked out out' before errors left why
+  stop_kept asked out out' left why (inl (place, placed, fails, told)) = inl (place, placed, fails, tells_kept why (string_bytes place.path) before said errors told keeps)
+  stop_kept asked out out' left why (inr (quiet, fails, told)) = inr (quiet, fails, tells_kept why asked.file before said errors told keeps)
+
+  useless_kept : {S P G T : Type 0} {t : start.Ghosts G} (h : disk.Ghosts (FileOf t)) (parts : DiskFiles G t) (waits : ℕ → AtOnce S T) (rules : SocketRules S P) (asked : KeepWords)
+      (sockets sockets' : S) (out out' : Held) (left : DiskFiles F s) (why : FileFault)
+      → FailsAt rules waits g h (image_at s) (image_at t) asked sockets sockets' out out' before said left parts why
+      → FailsAt rules waits g h (image_at s) (image_at t) asked sockets sockets' out out' before errors left parts why
+  useless_kept h parts waits rules asked sockets sockets' out out' left why (inl (place, placed, (mid, fails, path, is, told))) =
+      inl (place, placed, (mid, fails, path, is, tells_kept why path mid said errors told keeps))
+  useless_kept h parts waits rules asked sockets sockets' out out' left why (inr (quiet, fails, told)) =
+      inr (quiet, fails, tells_kept why asked.file before said errors told keeps)
 
 -- `keep`, and its fault is told
 pub keep_ran : {S P F G T : Type 0} {s : start.Ghosts F} {t : start.Ghosts G} (g : disk.Ghosts (FileOf s)) (h : disk.Ghosts (FileOf t)) (parts : DiskFiles G t) (waits : ℕ → AtOnce S T) (rules : SocketRules S P) (passes : S → Passed) (asked : KeepWords) (sockets sockets' : S)
     (out out' before said errors : Held) (left : DiskFiles F s) (done : Result ℕ KeepFault) (status : ℕ) (stops : Bool)
     → (stops ≡ false → IfOk done (λ n. KeepsAt rules waits g h (image_at s) (image_at t) asked sockets sockets' out out' left parts n
-    ⊎ IsOfFile (FailsAt rules waits g h (image_at s) (image_at t) asked sockets sockets' out out' left parts) n))
+    ⊎ IsOfFile (FailsAt rules waits g h (image_at s) (image_at t) asked sockets sockets' out out' before said left parts) n))
     → (stops ≡ true → IfOk done (λ n. (StopsAt g (image_at s) asked out out' left n × (said ≡ before))
-    ⊎ IsOfFile (FailsToStopAt g (image_at s) asked left) n))
+    ⊎ IsOfFile (FailsToStopAt g (image_at s) asked out out' before said left) n))
     → (stops ≡ true → OnErr done (said ≡ before))
     → (stops ≡ true → sockets' ≡ sockets)
     → (stops ≡ false → IfErr done (λ why. EndsKeep rules waits g (image_at s) asked sockets sockets' left (Asking why)))
-    → (stops ≡ true → IfErr done (λ why. EndsStop asked (Asking why)))
+    → (stops ≡ true → IfErr done (λ why. EndsStop g (image_at s) asked out out' left (Asking why)))
     → Ends (passes sockets') (ending_of done) said errors status
     → RunsKeepBy g h parts waits rules passes stops asked (streams None out before sockets (tt {0})) status (streams None out' errors sockets' (tt {0})) left
 keep_ran {s = s} {t = t} g h parts waits rules passes asked sockets sockets' out out' before said errors left done status false kept stopped untold silent so still told =
     told_so (λ n. KeepsAt rules waits g h (image_at s) (image_at t) asked sockets sockets' out out' left parts n)
-    (FailsAt rules waits g h (image_at s) (image_at t) asked sockets sockets' out out' left parts) (EndsKeep rules waits g (image_at s) asked sockets sockets' left) (passes sockets') said errors done status (kept refl) (so refl) told
+    (FailsAt rules waits g h (image_at s) (image_at t) asked sockets sockets' out out' before said left parts)
+    (FailsAt rules waits g h (image_at s) (image_at t) asked sockets sockets' out out' before errors left parts)
+    (EndsKeep rules waits g (image_at s) asked sockets sockets' left) (passes sockets') said errors done status
+    (λ keeps. useless_kept g before said errors keeps h parts waits rules asked sockets sockets' out out' left) (kept refl) (so refl) told
 keep_ran {s = s} {t = t} g h parts waits rules passes asked sockets sockets' out out' before said errors left done status true kept stopped untold silent so still told = (
   told_alone (λ n. StopsAt g (image_at s) asked out out' left n)
-      (FailsToStopAt g (image_at s) asked left) (EndsStop asked) (passes sockets') before said errors done status (stopped refl) (untold refl) (still refl) told,
+      (FailsToStopAt g (image_at s) asked out out' before said left) (FailsToStopAt g (image_at s) asked out out' before errors left)
+      (EndsStop g (image_at s) asked out out' left) (passes sockets') before said errors done status
+      (λ keeps. stop_kept g before said errors keeps asked out out' left) (stopped refl) (untold refl) (still refl) told,
   silent refl,
 )
 

@@ -103,21 +103,22 @@ module _ {S C Q : Type 0} (folders : PartRules Q) (p q : Q) where
 module _ {S C F G T : Type 0} {s : start.Ghosts F} {t : start.Ghosts G} (g : disk.Ghosts (FileOf s))
     (h : disk.Ghosts (FileOf t)) (parts : DiskFiles G t) (waits : ℕ → AtOnce S T) where
   -- `keep`: the logs that the words choose were kept in the archive that the files held, of a folder in a part, which
-  -- follows on the one before it where it was begun; these are the files of that. Or the file is no use; or the
-  -- status is a fault's. With `--stop` those that the words mean were stopped, or the file is no use, or a fault is
-  -- told; and no socket is opened.
+  -- follows on the one before it where it was begun; these are the files of that. Or the file is no use, which is
+  -- told; or the status is a fault's. With `--stop` those that the words mean were stopped; or the file is no use, or a
+  -- fault is told, and then nothing was printed but where a write was refused or a close failed. No socket is opened.
   abbrev pub RunsKeepBy : {P : Type 0} → SocketRules S P → (S → Passed) → Bool → Keep → Streams S C → ℕ → Streams S C
       → DiskFiles F s → Type 0
   RunsKeepBy rules passes false asked old status new left =
       KeepsAt rules waits g h (image_at s) (image_at t) asked old.sockets new.sockets old.output new.output left parts
       status
       ⊎ (IsOfFile (FailsAt rules waits g h (image_at s) (image_at t) asked old.sockets new.sockets old.output
-      new.output left parts) status
+      new.output old.errors new.errors left parts) status
       ⊎ HasFaultStatus (EndsKeep rules waits g (image_at s) asked old.sockets new.sockets left) status)
   RunsKeepBy rules passes true asked old status new left =
       ((StopsAt g (image_at s) asked old.output new.output left status × Keeps old.errors new.errors)
-      ⊎ (IsOfFile (FailsToStopAt g (image_at s) asked left) status
-      ⊎ TellsFault (EndsStop asked) (passes new.sockets) old.errors new.errors status))
+      ⊎ (IsOfFile (FailsToStopAt g (image_at s) asked old.output new.output old.errors new.errors left) status
+      ⊎ TellsFault (EndsStop g (image_at s) asked old.output new.output left) (passes new.sockets) old.errors
+      new.errors status))
       × (new.sockets ≡ old.sockets)
 
   -- the same by the words

@@ -11,7 +11,6 @@ use Rattle.bac_asked.specs.declared.end.Ending.{Ending}
 use Rattle.bac_asked.specs.declared.end.Ending.TheVariants.{Walk, SaidMore, Back, Epochs, NotAsked, Other, Twice}
 use Rattle.bac_asked.specs.declared.fault.Fault.{Fault as KeepFault}
 use Rattle.bac_asked.specs.declared.fault.Fault.TheVariants as keep
-use Rattle.bac_asked.specs.declared.fault.FileFault.TheVariants as fault
 use Rattle.bac_check.proofs.WholeLemmas.{told as file_is_told}
 use Rattle.bac_fetch.specs.Chosen.{AreFound}
 use Rattle.bac_fetch.specs.Keeps.{greatest_status, lines_of}

@@ -1,10 +1,14 @@
--- What the status 0 of `kept` over a folder tells.
-use Rattle.std.proofs.Common.{◌≡◌, ℕ, Bool, false, true, List, [], ◌∷◌, inl, inr, max, subst, sym, ap, ◌∙◌, Option, Some, Result, Ok, Err}
+-- What the status 0 of `kept` tells.
+use Rattle.std.proofs.Common.{◌≡◌, ℕ, Bool, false, true, List, [], ◌∷◌, inl, inr, max, subst, sym, ap, ◌∙◌, Option, None, Some, IsSome, Result, Ok, Err}
+use Rattle.std.specs.List.{Any}
+use Rattle.std.proofs.lemmas.List.Folds.{Any-from_list_any}
+use Rattle.clap.specs.Words.{Text}
 use Rattle.std.specs.Io.KnownBytes.{Keeps}
 use Rattle.sqlite_disk.specs.declared.Disk as disk
 use Rattle.sqlite_disk.specs.declared.start.Start as start
 use Rattle.sqlite_wal.specs.Files.{image_at}
 use Rattle.sqlite.specs.declared.error.Error.{Error}
+use Rattle.bac_archive.specs.declared.trend_logs.Log.{Log}
 use Rattle.bac_asked.specs.declared.end.NotDone.{NotDone}
 use Rattle.bac_asked.specs.declared.end.NotDone.TheVariants as done
 use Rattle.bac_asked.specs.declared.fault.FileFault.TheVariants as fault
@@ -16,12 +20,18 @@ use Rattle.bac_files.specs.declared.not_opened.NotOpened.{NotOpened}
 use Rattle.bac_files.specs.declared.not_opened.NotOpened.TheVariants as why
 use Rattle.bac_fetch.specs.Ahead.{AtOnce}
 use Rattle.bac_heeding.specs.declared.notes.Passed.{Passed}
-use Rattle.bac_offline.specs.Parted.{At, ComesTo, PrintsAll, PrintsListed, PrintsOfFolder, PrintsPath, PrintsPaths, ReadsBy, at_part, unclosed, unopened}
+use Rattle.bac_offline.specs.Parted.{At, ComesTo, PrintsAll, PrintsFile, PrintsListed, PrintsOfFolder, PrintsPath, PrintsPaths, ReadsBy, at_part, unclosed, unopened}
+use Rattle.bac_offline.specs.Shown.{PrintsArchive, ShowsBy}
+use Rattle.bac_offline.proofs.BegunLemmas.{done_so}
+use Rattle.bac_kept.specs.Printed.{IsThere, is_chosen}
+use Rattle.bac_kept.specs.declared.printing.Shown.{Shown}
+use Rattle.bac_kept.specs.declared.printing.Shown.TheVariants as shown
 use Rattle.bac_ports.specs.Sockets.{SocketRules}
 use Rattle.bac_print.specs.Output.{Held}
 use Rattle.bac_run.specs.Run.{RunsAll, RunsKept}
 use Rattle.bac_run_tests.proofs.Ended.{both_none, fault_is_told}
-use Rattle.bac_run_tests.specs.Printed.{AreAllPrinted, ArePrinted, IsFolderPrinted, IsLastPrinted, IsPrinted}
+use Rattle.bac_offline.specs.declared.parts.Printer.{Printer}
+use Rattle.bac_run_tests.specs.Printed.{AreAllPrinted, ArePrinted, HasLog, HasLogOf, IsFolderPrinted, IsLastPrinted, IsPrinted, PrintsAlike}
 use Rattle.bac_tools.specs.Streams.{Streams, streams}
 use Rattle.bac_wire.specs.Stamp.{CivilTime}
 use Rattle.bac_words.specs.declared.job.Job.TheVariants as job
@@ -35,6 +45,17 @@ not_opened why.Absent is = absurd (cc)
 not_opened (why.Barred obstacle) is = absurd (cc)
 not_opened why.Memory is = absurd (cc)
 not_opened (why.Database error) is = absurd (cc)
+
+-- words with an address choose some logs, and not each
+not_each : (address instance : Option Text) (which : Shown) → IsSome address → ShowsBy address instance which → which ≡ shown.All → ⊥
+not_each None instance which some shows each = absurd (let e : false ≡ true = some in cc)
+not_each (Some a) None which some (source, named, is) each = absurd (let e : shown.Device source ≡ shown.All = sym is ∙ each in cc)
+not_each (Some a) (Some i) which some (source, named, is) each = absurd (let e : shown.One source ≡ shown.All = sym is ∙ each in cc)
+
+-- so one of them is there
+one_there : (which : Shown) (all : List Log) → (which ≡ shown.All → ⊥) → IsThere which all → Any (λ log. is_chosen which log ≡ true) all
+one_there which all some (inl each) = absurd (some each)
+one_there which all some (inr has) = Any-from_list_any (λ log. is_chosen which log) all has
 
 -- nor does one that can't be closed end well
 not_closed : (came : Result Bool NotDone) (b : Bool) (error : Error) → Ok b ≡ unclosed came error → ⊥
@@ -50,16 +71,19 @@ module _ {Q : Type 0} (rules : PartRules Q) where
     found,
     holds,
     subst (λ (r : Result Bool NotDone). ReadsBy r old.printer found old.output new.output new.printer) (sym is) reads.1,
+    reads.0,
     quiet,
   )
   is_printed path old new (inr (found, holds, reads, inr (error, is))) quiet = absurd (not_closed new.printer.done true error is)
 
   -- one that had nothing
   is_passed : (path : List ℕ) (old new : At Q) → ComesTo rules.holds rules.bars path (Ok false) old.parts new.parts old.printer new.printer old.output new.output
-      → new.output ≡ old.output
-  is_passed path old new (inl (reason, barred, is, same, out)) = out
+      → (new.output ≡ old.output) × PrintsAlike old.printer new.printer × (new.printer.has_any ≡ old.printer.has_any)
+  is_passed path old new (inl (reason, barred, is, same, out)) =
+      (out, (ap (λ (p : Printer). p.shown) same, ap (λ (p : Printer). p.csv) same), ap (λ (p : Printer). p.has_any) same)
   is_passed path old new (inr (found, holds, reads, inl is)) =
-      (subst (λ (r : Result Bool NotDone). ReadsBy r old.printer found old.output new.output new.printer) (sym is) reads.1).1
+      let it = subst (λ (r : Result Bool NotDone). ReadsBy r old.printer found old.output new.output new.printer) (sym is) reads.1 in
+      (it.1, reads.0, it.3)
   is_passed path old new (inr (found, holds, reads, inr (error, is))) = absurd (not_closed new.printer.done false error is)
 
   one_printed : (path : List ℕ) (old new : At Q) (status : ℕ) → PrintsPath rules.holds rules.bars false path old status new → status ≡ 0 → IsPrinted rules path old new
@@ -70,7 +94,7 @@ module _ {Q : Type 0} (rules : PartRules Q) where
 
   last_printed : (path : List ℕ) (old new : At Q) (status : ℕ) → PrintsPath rules.holds rules.bars true path old status new → status ≡ 0 → IsLastPrinted rules path old new
   last_printed path old new status (Ok true, comes, is, quiet) none = inl (is_printed path old new comes (quiet none))
-  last_printed path old new status (Ok false, comes, is, quiet) none = inr (is_passed path old new comes, quiet none)
+  last_printed path old new status (Ok false, comes, is, quiet) none = let it = is_passed path old new comes in inr (it.0, quiet none, it.1, it.2)
   last_printed path old new status (Err (done.File reason), comes, is, quiet) none = absurd (file_is_told reason (sym is ∙ none))
   last_printed path old new status (Err (done.Asking reason), comes, is, quiet) none = absurd is
 
@@ -96,10 +120,10 @@ module _ {Q : Type 0} (rules : PartRules Q) where
   -- nothing is told where all parts were printed
   each_quiet : (paths : List (List ℕ)) (old new : At Q) → ArePrinted rules paths old new → new.errors ≡ old.errors
   each_quiet [] old new same = ap (λ (a : At Q). a.errors) same
-  each_quiet (path ∷ paths) old new (mid, one, rest) = each_quiet paths mid new rest ∙ one.3
+  each_quiet (path ∷ paths) old new (mid, one, rest) = each_quiet paths mid new rest ∙ one.4
 
   last_quiet : (path : List ℕ) (old new : At Q) → IsLastPrinted rules path old new → new.errors ≡ old.errors
-  last_quiet path old new (inl it) = it.3
+  last_quiet path old new (inl it) = it.4
   last_quiet path old new (inr it) = it.1
 
   all_quiet : (paths : List (List ℕ)) (old new : At Q) → AreAllPrinted rules paths old new → new.errors ≡ old.errors
@@ -115,15 +139,39 @@ module _ {S C F Q : Type 0} {s : start.Ghosts F} (g : disk.Ghosts (FileOf s)) (f
       go (subst (λ l. PrintsListed folders.holds folders.bars g (image_at s) asked l listed q files left old.output new.output old.errors told status) is prints).0
     where
       go : PrintsOfFolder folders.holds folders.bars asked paths listed q old.output new.output old.errors told status → IsFolderPrinted folders asked paths listed q old.output new.output old.errors × Keeps old.errors new.errors
-      go (inl (last, (which, shows, begun, shown, csv, fresh, first, end, head, all, after))) =
+      go (inl (last, (which, shows, begun, fresh, first, end, head, all, after), there)) =
           let a = at_part listed begun first old.errors in
           let b = at_part q last end told in
           let it = all_printed folders paths a b status all none in
           let quiet : told ≡ old.errors = all_quiet folders paths a b it in (
-            (which, shows, begun, shown, csv, first, end, last, head, subst (λ h. AreAllPrinted folders paths a (at_part q last end h)) quiet it, after),
+            (which, shows, begun, fresh, first, end, last, there none, head, subst (λ h. AreAllPrinted folders paths a (at_part q last end h)) quiet it, after),
             subst (λ h. Keeps h new.errors) quiet keeps,
           )
       go (inr (errors, (reason, is', fails))) = absurd (file_is_told reason (sym is' ∙ none))
+
+  -- of a file, where the words have an address
+  log_there : (asked : KeptWords) → IsSome asked.address → (listing : Listing) (listed : Q) (told : Held) → listing ≡ Ok None
+      → PrintsListed folders.holds folders.bars g (image_at s) asked listing listed q files left old.output new.output old.errors told status → status ≡ 0
+      → HasLogOf g (image_at s) asked left.closed
+  log_there asked some listing listed told is prints none =
+      go (subst (λ l. PrintsListed folders.holds folders.bars g (image_at s) asked l listed q files left old.output new.output old.errors told status) is prints).0
+    where
+      go : PrintsFile g (image_at s) asked old.output new.output old.errors told left status → HasLogOf g (image_at s) asked left.closed
+      go (inl ((named, (zero, closed, which, shows, done)), quiet)) = (
+        closed,
+        which,
+        shows,
+        done_so g (image_at s) (PrintsArchive which asked.csv old.output new.output) (λ found after. HasLog which found)
+            (λ found after it. (it.0, it.1, it.3, it.4, one_there which it.3 (not_each asked.address asked.instance which some shows) it.5)) left.closed done,
+      )
+      go (inr (reason, is', fails)) = absurd (file_is_told reason (sym is' ∙ none))
+
+  log_printed : (asked : KeptWords) → IsSome asked.address → RunsKept g folders p q asked old files status new left → status ≡ 0
+      → (listing : Listing) × (listed : Q) × folders.lists p asked.file listing listed × (listing ≡ Ok None → HasLogOf g (image_at s) asked left.closed)
+  log_printed asked some (inl (listing, listed, lists, told, keeps, prints)) none =
+      (listing, listed, lists, λ is. log_there asked some listing listed told is prints none)
+  log_printed asked some (inr (reason, ends, inl is, listing, listed, lists, quiet)) none = absurd (fault_is_told reason (sym is ∙ none))
+  log_printed asked some (inr (reason, ends, inr is, listing, listed, lists, quiet)) none = absurd (cc)
 
   folder_printed : (asked : KeptWords) → RunsKept g folders p q asked old files status new left → status ≡ 0
       → (listing : Listing) × (listed : Q) × folders.lists p asked.file listing listed
@@ -146,3 +194,11 @@ module _ {S P C F G T Q : Type 0} {s : start.Ghosts F} {t : start.Ghosts G} (tra
   printed asked (inl ((inl its, keeps, untouched), same, apart)) none = absurd (let e = its.0 in cc)
   printed asked (inl ((inr its, keeps, untouched), same, apart)) none = absurd (let e = its.0 in cc)
   printed asked (inr (told, on, (ran, quiet, apart, rows))) none = folder_printed g folders p q (streams old.input old.output old.errors told old.clock) new files left status asked ran none
+
+  -- and named a log that is in the file
+  pub named_there : (asked : KeptWords) → IsSome asked.address → RunsAll g h parts waits folders p q traces rules passes tells (job.Kept asked) old files status new left
+      → status ≡ 0
+      → (listing : Listing) × (listed : Q) × folders.lists p asked.file listing listed × (listing ≡ Ok None → HasLogOf g (image_at s) asked left.closed)
+  named_there asked some (inl ((inl its, keeps, untouched), same, apart)) none = absurd (let e = its.0 in cc)
+  named_there asked some (inl ((inr its, keeps, untouched), same, apart)) none = absurd (let e = its.0 in cc)
+  named_there asked some (inr (told, on, (ran, quiet, apart, rows))) none = log_printed g folders p q (streams old.input old.output old.errors told old.clock) new files left status asked some ran none

@@ -1,6 +1,6 @@
 //! Runs of `keep`, `kept` and `check`, and what their status and their sockets tell.
 
-ghost use Rattle.std.specs.Prelude.{◌≡◌, ◌⊎◌, ℕ, List, Ok, Some, false, map};
+ghost use Rattle.std.specs.Prelude.{◌≡◌, ◌⊎◌, ℕ, List, Ok, None, Some, IsSome, false, map};
 ghost use Rattle.std.specs.Io.KnownBytes.{Keeps};
 ghost use Rattle.std.specs.String.{string_bytes};
 ghost use Rattle.sqlite_wal.specs.Files.{image_at};
@@ -14,7 +14,7 @@ ghost use Rattle.bac_words.specs.declared.job.Keep.{Keep as KeepWords};
 ghost use Rattle.bac_words.specs.declared.job.Kept.{Kept as KeptWords};
 ghost use Rattle.bac_words.specs.Jobs.{reads_input};
 ghost use Rattle.bac_run_tests.specs.Done.{HasDevices, IsAllKept};
-ghost use Rattle.bac_run_tests.specs.Printed.{IsFolderPrinted};
+ghost use Rattle.bac_run_tests.specs.Printed.{HasLogOf, IsFolderPrinted};
 ghost use Rattle.bac_run_tests.specs.Whole.{IsFoundWhole};
 
 use bac_check::zero_is_whole;
@@ -142,6 +142,44 @@ where
         → IsFolderPrinted (part_rules Q.lists Q.holds Q.bars) asked paths listed folders.new
         (O.contents output.old) (O.contents output.new) (E.contents errors.old)
         × Keeps (E.contents errors.old) (E.contents errors.new)) }
+{
+    run(
+        sockets, files, parts, folders, alloc, waits, words, false, input, output, errors, clock,
+    )
+}
+
+/// The program with the words of `kept` that have an address. Where it ends with 0 and they name no
+/// folder, the file held an archive that has such a log.
+pub fn print_log<
+    S: Tracing + Recalls,
+    F: Start,
+    G: Start,
+    Q: Parts,
+    I: Read,
+    O: Write,
+    E: Write,
+    C: Clock,
+    W: WaitClock + Copy,
+>(
+    sockets: &mut S,
+    files: &mut DiskFiles<'_, F>,
+    parts: &mut DiskFiles<'_, G>,
+    folders: &mut Q,
+    alloc: Global,
+    waits: W,
+    words: &[String],
+    input: &mut I,
+    output: &mut O,
+    errors: &mut E,
+    clock: &mut C,
+) -> u8
+where
+    W: Drop,
+    ensures { (asked : KeptWords) → AskFor (map string_bytes words.now) (job.Kept asked)
+        → IsSome asked.address → result ≡ 0
+        → (listing : Listing) × (listed : Q) × Q.lists folders.old asked.file listing listed
+        × (listing ≡ Ok None
+        → HasLogOf ⟦<FileOf<F> as Disk>⟧ (image_at F.Start) asked files.new.closed) }
 {
     run(
         sockets, files, parts, folders, alloc, waits, words, false, input, output, errors, clock,

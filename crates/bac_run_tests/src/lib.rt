@@ -3,4 +3,4 @@
 
 mod callers;
 
-pub use callers::{check_until_whole, keep_until_done, print_folder, print_kept};
+pub use callers::{check_until_whole, keep_until_done, print_folder, print_kept, print_log};

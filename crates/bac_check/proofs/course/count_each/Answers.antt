@@ -1,7 +1,9 @@
-use Rattle.std.proofs.Common.{get_or, subst, ◌∙◌, rules, sym}
+use Rattle.std.proofs.Common.{◌≡◌, Err, get_or, subst, ◌∙◌, rules, sym}
 use Rattle.std.proofs.lemmas.List.{length-set}
 use Rattle.sqlite.specs.Effect.{Database}
 use Rattle.sqlite.specs.Held.{state}
+use Rattle.bac_archive.specs.Archive.{LieApart}
+use Rattle.bac_archive.specs.Rows.{kept}
 use Rattle.bac_check.specs.Epochs.{CountsCourse}
 use Rattle.bac_check.proofs.AskedLemmas.{as_was_then, still}
 use Rattle.bac_check.proofs.CourseLemmas.{each_step, later_step}
@@ -26,3 +28,11 @@ loop-course-preserved g c =
                 (subst (λ (d : Database). CountsCourse d.trees (get_or c.loop-course.courses c.loop-course.course-index c.course-item.result) c.count.new.self) same (it.counted late schema)),
           ),
     )
+
+pub returns-in_err-count-clause-apart : goal.returns-in_err-count-clause-apart
+returns-in_err-count-clause-apart g c clean has apart is =
+    let (asked, early) = c.loop-course.invariant.3 (c.count.ensures.clean clean) has in
+    let same = still g.A.Store c.args.conn.now c.loop-course.conn asked in
+    let err : c.from_residual.result ≡ Err c.in_err-count.field-0.0 = search rules in
+    c.in_err-count.ensures.apart clean (subst (λ (d : Database). HasArchive d.schema) (sym same) has)
+    (subst (λ (d : Database). LieApart (kept d.trees)) (sym same) apart) (sym err ∙ is)

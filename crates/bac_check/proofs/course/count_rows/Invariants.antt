@@ -7,9 +7,10 @@ use Rattle.bac_check.specs.Epochs.{ReadsSpans, is_new, span_of}
 use Rattle.bac_check.specs.Tallies.{IsTallied}
 use Rattle.bac_check.specs.declared.tally.Span.{Span}
 use Rattle.bac_archive.specs.Schema.{HasArchive}
+use Rattle.bac_check.proofs.ApartLemmas.{EndsIn}
 use Rattle.bac_check.proofs.course.count_rows.Given as goal
 
--- the rows that were given so far are counted
+-- the rows that were given so far are counted, and what was counted ends at one of them or where it did before
 abbrev pub invariant-rows : goal.invariant-rows
 invariant-rows g l =
     let old = state g.A.Store l.fn.conn in
@@ -17,4 +18,5 @@ invariant-rows g l =
     (l.rows.conn.ghost_name ≡ l.initial.rows.conn.ghost_name) × (HasCleanDisk now → HasCleanDisk old)
     × (HasCleanDisk now → HasArchive old.now.schema
     → (given : List Values) × ReadsSpans g.A.Store l.fn.log l.fn.epoch l.rows.conn.now given × IsUnchanged old now
-    × ((before : List Span) → IsTallied before l.fn.tally → IsTallied (before ++ filter (is_new l.fn.behind) (map span_of given)) l.tally))
+    × ((before : List Span) → IsTallied before l.fn.tally → IsTallied (before ++ filter (is_new l.fn.behind) (map span_of given)) l.tally)
+    × EndsIn l.fn.tally given l.tally)

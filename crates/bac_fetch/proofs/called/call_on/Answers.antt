@@ -11,7 +11,7 @@ use Rattle.bac_ports.specs.Sockets.{socket_rules}
 use Rattle.bac_questions.specs.declared.whose.Heard.{Heard}
 use Rattle.bac_fetch.specs.Ahead.{EndsOpening, OpensAhead, at_once}
 use Rattle.bac_fetch.specs.Called.{told_early}
-use Rattle.bac_fetch.proofs.QuietLemmas.{then_on_ok}
+use Rattle.bac_archive.proofs.PartsLemmas.{on_ok_then}
 use Rattle.bac_fetch.proofs.called.call_on.Goals as goal
 
 pub returns-clause-quiet : goal.returns-clause-quiet
@@ -54,7 +54,7 @@ returns-clause-calls g c clean has =
     let opens = subst (λ (l : List Heard). OpensAhead over by.pace old.now.trees known l all c.args.sockets.now c.in_ok-early.early.items half) told (c.in_ok-early.ensures.opens early has) in
     let late = subst (λ (d : Database). OpensAhead over by.pace d.trees known (drop (length (told_early all heard)) found) all between c.in_ok-late.late.items last) same
     (subst (λ (l : List Heard). OpensAhead over by.pace mid.now.trees known l all between c.in_ok-late.late.items last) rest (c.in_ok-late.ensures.opens clean schema)) in
-    then_on_ok c.hold_both.result _ _
+    on_ok_then c.hold_both.result _ _
     (λ holds. record {
       early = c.in_ok-early.early.items;
       half = half;

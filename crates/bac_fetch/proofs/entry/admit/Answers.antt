@@ -9,7 +9,7 @@ use Rattle.bac_fetch.specs.Stays.{HasAllOf, HasRows}
 use Rattle.bac_fetch.specs.declared.entry.Recorded.{Recorded}
 use Rattle.bac_fetch.specs.declared.entry.Recorded.TheVariants.{Not}
 use Rattle.bac_fetch.proofs.GroupLemmas.{commit_leaves, commit_then}
-use Rattle.bac_fetch.proofs.QuietLemmas.{then_on_ok}
+use Rattle.bac_archive.proofs.PartsLemmas.{on_ok_then}
 use Rattle.bac_fetch.proofs.StaysLemmas.{all_itself, does_nothing, itself_stays, log_all, rows_itself, rows_of_new}
 use Rattle.bac_fetch.proofs.entry.admit.Goals as goal
 
@@ -43,7 +43,7 @@ returns-clause-admits g c clean has =
     let same : mid.now ≡ old.now = c.in_ok-commit.ensures.same early in
     let schema : HasArchive mid.now.schema = subst (λ (d : Database). HasArchive d.schema) (sym same) has in
     let is : c.args.entry.now.recorded ≡ Not = c.in-Not.is in
-    then_on_ok c.add_row.result (AdmitsRow Not row mid.now new.now) (AdmitsRow c.args.entry.now.recorded row old.now new.now)
+    on_ok_then c.add_row.result (AdmitsRow Not row mid.now new.now) (AdmitsRow c.args.entry.now.recorded row old.now new.now)
     (λ it. subst (λ (r : Recorded). AdmitsRow r row old.now new.now) (sym is) (subst (λ (d : Database). AdmitsRow Not row d new.now) same it))
     (c.add_row.ensures.added clean schema)
 

@@ -8,7 +8,7 @@ use Rattle.bac_archive.specs.Schema.{HasArchive}
 use Rattle.bac_fetch.specs.Entries.{Renews, is_due}
 use Rattle.bac_fetch.specs.Stays.{HasAllOf}
 use Rattle.bac_fetch.proofs.GroupLemmas.{commit_leaves, commit_then}
-use Rattle.bac_fetch.proofs.QuietLemmas.{then_on_ok}
+use Rattle.bac_archive.proofs.PartsLemmas.{on_ok_then}
 use Rattle.bac_fetch.proofs.StaysLemmas.{all_itself, changes_all, itself_stays}
 use Rattle.bac_fetch.proofs.entry.renew.Goals as goal
 
@@ -32,7 +32,7 @@ returns-clause-renews g c clean has =
     let same : mid.now ≡ old.now = c.in_ok-commit.ensures.same early in
     let schema : HasArchive mid.now.schema = subst (λ (d : Database). HasArchive d.schema) (sym same) has in
     let due : is_due c.args.entry.now.recorded c.args.end.now ≡ true = search rules in
-    then_on_ok c.change_row.result (HasChangedLogs mid.now new.now rows) (Renews c.args.entry.now c.args.end.now old.now new.now)
+    on_ok_then c.change_row.result (HasChangedLogs mid.now new.now rows) (Renews c.args.entry.now c.args.end.now old.now new.now)
     (λ it. subst (λ b. MatchBool b (HasChangedLogs old.now new.now rows) (new.now ≡ old.now)) (sym due) (subst (λ (d : Database). HasChangedLogs d new.now rows) same it))
     (c.change_row.ensures.changed clean schema)
 

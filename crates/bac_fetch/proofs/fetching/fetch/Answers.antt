@@ -4,7 +4,7 @@ use Rattle.sqlite.specs.Held.{state}
 use Rattle.bac_ports.specs.Sockets.{socket_rules}
 use Rattle.bac_fetch.specs.Heeds.{heeding}
 use Rattle.bac_ahead.specs.Ahead.{trend_log}
-use Rattle.bac_fetch.proofs.CausesLemmas.{rows_leave}
+use Rattle.bac_fetch.proofs.CausesLemmas.{nothing_done, rows_leave}
 use Rattle.bac_fetch.proofs.KeepsLemmas.{keeps_log}
 use Rattle.bac_fetch.proofs.StaysLemmas.{itself_stays}
 use Rattle.bac_fetch.specs.Faults.{IsNoInstance}
@@ -25,11 +25,13 @@ returns-clause-kept g c clean has =
     refl object c.into_port.ensures c.close.ensures c.end_told.ensures (c.in_ok-end.ensures.kept clean has)
 
 pub returns-in_err-link-clause-undone : goal.returns-in_err-link-clause-undone
-returns-in_err-link-clause-undone g c clean has = because c.from_residual.result c.in_err-link.field-0.0 _ (search rules) (λ why is. refl)
+returns-in_err-link-clause-undone g c clean has =
+    because c.from_residual.result c.in_err-link.field-0.0 _ (search rules) (nothing_done (state g.A.Store c.args.conn.now) c.in_err-link.field-0.0)
 
 pub returns-in_err-end-clause-undone : goal.returns-in_err-end-clause-undone
 returns-in_err-end-clause-undone g c clean has =
-    because c.from_residual-in_err-end.result c.in_err-end.field-0.0 _ (search rules) (rows_leave _ _ _ (c.in_err-end.ensures.caused clean has))
+    because c.from_residual-in_err-end.result c.in_err-end.field-0.0 _ (search rules)
+    (rows_leave (state g.A.Store c.args.conn.now) (state g.A.Store c.fetch_over-end.new.conn) _ (c.in_err-end.ensures.caused clean has))
 
 pub returns-in_default-clause-fault : goal.returns-in_default-clause-fault
 returns-in_default-clause-fault g c =
@@ -65,3 +67,6 @@ returns-in_err-end-clause-caused g c clean has =
       c.in_err-end.ensures.caused clean has,
       inr (c.in_ok-link.link.port, c.connect.new.sockets, c.into_port.result, c.in_ok-link.ensures.opened, tt, c.close.ensures),
     ))
+
+pub returns-in_default-clause-undone : goal.returns-in_default-clause-undone
+returns-in_default-clause-undone g c clean has = nothing_done (state g.A.Store c.args.conn.now) _

@@ -6,7 +6,7 @@ use Rattle.bac_archive.proofs.RowsLemmas.{because}
 use Rattle.bac_asked.specs.Lines.{summary_line}
 use Rattle.bac_ports.specs.Sockets.{socket_rules}
 use Rattle.bac_fetch.specs.Keeps.{KeepsNext}
-use Rattle.bac_fetch.proofs.GroupLemmas.{commit_stays, line_waits, unopened_stays}
+use Rattle.bac_fetch.proofs.GroupLemmas.{commit_stays, line_waits, unopened_leaves, unopened_stays}
 use Rattle.bac_fetch.proofs.StaysLemmas.{next_stays}
 use Rattle.bac_fetch.proofs.grouped.keep_grouped.Goals as goal
 
@@ -60,10 +60,21 @@ returns-in-Err-clause-stays g c clean has =
     let mid = state g.A.Store c.keep_next.new.conn in
     let early : HasCleanDisk mid = c.end_unopened.ensures.clean clean in
     unopened_stays (state g.A.Store c.args.conn.now) mid (state g.A.Store c.end_unopened.new.conn) c.in-Err.fault
-    (c.in-Err.ensures.undone early has) (c.keep_next.ensures.stays early has) c.end_unopened.ensures.crash
+    (c.in-Err.ensures.undone early has).0 (c.keep_next.ensures.stays early has) c.end_unopened.ensures.crash
 
 pub returns-in-Err-clause-caused : goal.returns-in-Err-clause-caused
 returns-in-Err-clause-caused g c clean has = c.in-Err.ensures.caused (c.end_unopened.ensures.clean clean) has
 
 pub returns-in-Err-clause-fault : goal.returns-in-Err-clause-fault
 returns-in-Err-clause-fault g c = c.in-Err.ensures.fault
+
+pub returns-in_err-end_if_due-clause-undone : goal.returns-in_err-end_if_due-clause-undone
+returns-in_err-end_if_due-clause-undone g c clean has =
+    because c.from_residual.result c.in_err-end_if_due.field-0.0 _ (search rules) (inl c.in_err-end_if_due.ensures.caused)
+
+pub returns-in-Err-clause-undone : goal.returns-in-Err-clause-undone
+returns-in-Err-clause-undone g c clean has =
+    let mid = state g.A.Store c.keep_next.new.conn in
+    let early : HasCleanDisk mid = c.end_unopened.ensures.clean clean in
+    unopened_leaves (state g.A.Store c.args.conn.now) mid (state g.A.Store c.end_unopened.new.conn) c.in-Err.fault
+    (c.in-Err.ensures.undone early has) c.end_unopened.ensures.crash

@@ -1,18 +1,19 @@
-use Rattle.std.proofs.Common.{rules, arith, ap, inl, length, ◌≡◌, ◌≢◌, ◌<◌, ◌++◌, ◌∷◌, List, [], refl, ap₂, max, subst, sym, ◌∙◌}
+use Rattle.std.proofs.Common.{rules, arith, ap, inl, inr, ◌⊎◌, length, ◌≡◌, ◌≢◌, ◌<◌, ◌++◌, ◌∷◌, List, [], refl, ap₂, max, subst, sym, ◌∙◌}
 use Rattle.std.proofs.IntoIterSteps.{All-taken}
 use Rattle.std.proofs.KnownBytes.{Appends-nil, Appends-trans}
 use Rattle.std.proofs.lemmas.Bool.Decides.{nat_tests}
 use Rattle.std.proofs.lemmas.List.{nil_from_length}
 use Rattle.std.specs.Io.KnownBytes.{Appends, append_known}
 use Rattle.sqlite.specs.Effect.{Database}
-use Rattle.sqlite.specs.State.{HasCleanDisk}
+use Rattle.sqlite.specs.State.{HasCleanDisk, Survives}
+use Rattle.bac_asked.specs.Faults.{FailsOnRows}
 use Rattle.sqlite.specs.Held.{state}
 use Rattle.bac_questions.specs.declared.whose.Heard.{Heard}
 use Rattle.bac_ports.specs.Sockets.{socket_rules}
 use Rattle.bac_fetch.specs.Keeps.{AreToldBy, KeepsAll, lines_of}
 use Rattle.bac_asked.specs.Lines.{summary_line}
 use Rattle.bac_asked.specs.declared.wanted.Wanted.{Wanted}
-use Rattle.bac_fetch.proofs.GroupLemmas.{commit_stays, ends_uncommitted, none_waits, printed_behind}
+use Rattle.bac_fetch.proofs.GroupLemmas.{commit_stays, ends_uncommitted, first_leaves, none_waits, not_first, printed_behind}
 use Rattle.bac_fetch.proofs.KeepsLemmas.{all_schema, greatest_more, length_more, lines_more, one_more}
 use Rattle.bac_fetch.proofs.StaysLemmas.{all_itself, all_then, itself_stays, next_stays, stays_then}
 use Rattle.std.specs.List.{Contains}
@@ -62,6 +63,7 @@ loop-wanted-preserved g c =
             all_then old.now.trees mid.now.trees new.now.trees stays.0 (next_stays over known heard more wanted half after mid.now new.now it.0 (it.3 clean schema)),
             stays_then old mid new stays.0 stays.1 (c.keep_grouped.ensures.stays clean schema),
           );
+      first = λ none. absurd (not_first yielded wanted none);
     }
 
 pub loop-wanted-init : goal.loop-wanted-init
@@ -72,6 +74,7 @@ loop-wanted-init g c =
       told = ([], refl, refl, quiet, (λ clean has. (refl, refl, refl)));
       clean = λ clean. clean;
       stays = λ clean has. (all_itself old.now.trees, itself_stays old);
+      first = λ none. refl;
     }
 
 pub returns-clause-told : goal.returns-clause-told
@@ -118,8 +121,12 @@ returns-in_err-end_group-clause-caused g c clean has =
     let over = socket_rules g.S.Sockets.opens g.S.Sockets.closes g.S.Socket.Port.sends g.S.Socket.Port.receives g.S.Socket.Port.receives_within in
     let more : 0 < length c.args.all.items = first_of (omega arith, grind (arith, nat_tests)) in
     let some : c.args.all.items ≢ [] = λ none. let zero : length c.args.all.items ≡ 0 = ap length none in absurd (omega (arith, more, zero)) in
-    because c.from_residual-in_err-end_group.result c.in_err-end_group.field-0.0 _ (search rules)
-    (ends_uncommitted over c.args.known.now c.args.heard.items c.args.all.items c.args.sockets.now c.loop-wanted.sockets (state g.A.Store c.args.conn.now).now c.in_err-end_group.field-0.0 some c.in_err-end_group.ensures.caused)
+    let left = (state g.A.Store c.end_group.new.conn).committed.trees in
+    because c.from_residual-in_err-end_group.result c.in_err-end_group.field-0.0 _ (search rules) (
+      left,
+      (λ seen opened. refl),
+      ends_uncommitted over c.args.known.now c.args.heard.items c.args.all.items c.args.sockets.now c.loop-wanted.sockets (state g.A.Store c.args.conn.now).now left c.in_err-end_group.field-0.0 some c.in_err-end_group.ensures.caused,
+    )
 
 pub returns-then-is_empty-clause-told : goal.returns-then-is_empty-clause-told
 returns-then-is_empty-clause-told g c =
@@ -167,18 +174,30 @@ returns-in_err-status-clause-caused g c clean has =
     let kept = was.4 early has in
     let schema = all_schema over c.args.known.now c.args.heard.items c.loop-wanted.heard.items yielded c.args.sockets.now c.loop-wanted.sockets old.now mid.now was.0 kept has in
     let (rest, are) = taken_apart c.into_iter-wanted-iterator.result yielded c.loop-wanted.wanted-iterator c.next.new.self c.in-Some.wanted c.loop-wanted.yielded_by c.in-Some.ensures.steps in
-    because c.from_residual.result c.in_err-status.field-0.0 _ (search rules) (record {
-      front = yielded;
-      wanted = c.in-Some.wanted;
-      rest = rest;
-      all_are = sym c.into_iter-wanted-iterator.ensures.into_iter_gives.0 ∙ are;
-      ends = was.0;
-      half = c.loop-wanted.sockets;
-      mid = mid.now;
-      now = c.loop-wanted.heard.items;
-      kept = kept;
-      cause = c.in_err-status.ensures.caused clean schema;
-    })
+    let new = state g.A.Store c.keep_grouped.new.conn in
+    let fault = c.in_err-status.field-0.0 in
+    let still : FailsOnRows fault ⊎ (yielded ≡ [] → Survives old new (λ trees. trees ≡ old.now.trees)) = elim (c.in_err-status.ensures.undone clean schema) [
+      | inl rows ↦ inl rows
+      | inr quiet ↦ inr (λ none. rw (c.loop-wanted.invariant.first none) at quiet)
+    ] in
+    let leaves = first_leaves old new yielded fault clean (λ opened. g.met.A.Store.stays c.keep_grouped.new.conn.store opened) still in
+    because c.from_residual.result fault _ (search rules) (
+      leaves.0,
+      leaves.1,
+      record {
+        front = yielded;
+        wanted = c.in-Some.wanted;
+        rest = rest;
+        all_are = sym c.into_iter-wanted-iterator.ensures.into_iter_gives.0 ∙ are;
+        ends = was.0;
+        half = c.loop-wanted.sockets;
+        mid = mid.now;
+        now = c.loop-wanted.heard.items;
+        kept = kept;
+        cause = c.in_err-status.ensures.caused clean schema;
+        first = leaves.2;
+      },
+    )
 
 pub returns-then-is_empty-clause-ended : goal.returns-then-is_empty-clause-ended
 returns-then-is_empty-clause-ended g c some =

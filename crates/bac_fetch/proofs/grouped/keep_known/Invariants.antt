@@ -1,3 +1,4 @@
+use Rattle.std.specs.Prelude.{◌≡◌, []}
 use Rattle.std.specs.Io.KnownBytes.{append_known}
 use Rattle.sqlite.specs.State.{HasCleanDisk, Survives}
 use Rattle.sqlite.specs.Held.{state}
@@ -7,7 +8,8 @@ use Rattle.bac_fetch.specs.Stays.{HasAllOf}
 use Rattle.bac_archive.specs.Schema.{HasArchive}
 use Rattle.bac_fetch.proofs.grouped.keep_known.Given as goal
 
--- so far the logs that were taken are kept or passed over, their lines are printed or wait, and nothing is taken away
+-- so far the logs that were taken are kept or passed over, their lines are printed or wait, and nothing is taken away;
+-- before the first one nothing is done
 abbrev pub invariant-loop-wanted : goal.invariant-loop-wanted
 invariant-loop-wanted g l = record {
   told : AreToldBy (g.O.Write.contents l.fn.output) (append_known (g.O.Write.contents l.output) l.lines.items) l.yielded
@@ -17,4 +19,5 @@ invariant-loop-wanted g l = record {
   stays : HasCleanDisk (state g.A.Store l.conn) → HasArchive (state g.A.Store l.fn.conn).now.schema →
       HasAllOf (state g.A.Store l.fn.conn).now.trees (state g.A.Store l.conn).now.trees
       × Survives (state g.A.Store l.fn.conn) (state g.A.Store l.conn) (HasAllOf (state g.A.Store l.fn.conn).now.trees);
+  first : l.yielded ≡ [] → l.conn ≡ l.fn.conn;
 }

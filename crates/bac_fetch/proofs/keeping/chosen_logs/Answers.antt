@@ -5,6 +5,7 @@ use Rattle.bac_fetch.specs.Chosen.{AskTheirSources}
 use Rattle.bac_fetch.proofs.FaultsLemmas.{kept_there}
 use Rattle.sqlite.specs.Held.{state}
 use Rattle.bac_archive.proofs.QueryLemmas.{on_ok}
+use Rattle.bac_fetch.proofs.LeftLemmas.{on_err_so}
 use Rattle.bac_fetch.proofs.StaysLemmas.{does_nothing}
 use Rattle.bac_fetch.proofs.keeping.chosen_logs.Goals as goal
 use Rattle.bac_archive.proofs.RowsLemmas.{because}
@@ -23,3 +24,13 @@ returns-in-Sought-clause-crash g c has = does_nothing (state g.A.Store c.args.co
 
 pub returns-in-Sought-clause-same : goal.returns-in-Sought-clause-same
 returns-in-Sought-clause-same g c clean has = on_ok c.found_logs.result _ refl
+
+pub returns-in_err-all-in-Kept-clause-kept : goal.returns-in_err-all-in-Kept-clause-kept
+returns-in_err-all-in-Kept-clause-kept g c clean has opened =
+    c.in_err-all-in-Kept.ensures.kept clean has (on_err_so c.from_residual.result c.in_err-all-in-Kept.field-0.0 _ (search rules) opened)
+
+pub returns-in_ok-all-in-Kept-clause-kept : goal.returns-in_ok-all-in-Kept-clause-kept
+returns-in_ok-all-in-Kept-clause-kept g c clean has done = c.in_ok-all-in-Kept.ensures.kept clean has tt
+
+pub returns-in-Sought-clause-kept : goal.returns-in-Sought-clause-kept
+returns-in-Sought-clause-kept g c clean has opened = refl

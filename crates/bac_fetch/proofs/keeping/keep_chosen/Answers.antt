@@ -1,11 +1,11 @@
-use Rattle.std.proofs.Common.{ap₂, inl, inr, max, rules, subst, ◌∙◌, sym}
+use Rattle.std.proofs.Common.{ap₂, inl, inr, max, refl, rules, subst, ◌∙◌, sym}
 use Rattle.std.proofs.KnownBytes.{Appends-trans}
 use Rattle.sqlite.specs.Effect.{Database}
 use Rattle.sqlite.specs.State.{HasCleanDisk}
 use Rattle.sqlite.specs.Held.{state}
 use Rattle.bac_fetch.specs.Ahead.{at_once}
 use Rattle.bac_ports.specs.Sockets.{socket_rules}
-use Rattle.bac_fetch.specs.Causes.{EndsLogs, EndsRunOver}
+use Rattle.bac_fetch.specs.Causes.{EndsLogs}
 use Rattle.bac_fetch.specs.Keeps.{KeepsLogs, lines_of}
 use Rattle.bac_fetch.specs.Unlisted.{unlisted_lines}
 use Rattle.bac_asked.specs.AsLog.{given_in}
@@ -14,6 +14,7 @@ use Rattle.bac_archive.proofs.RowsLemmas.{because}
 use Rattle.bac_fetch.specs.Faults.{EndsKeeping, HasNone, LacksAddress}
 use Rattle.bac_fetch.proofs.CausesLemmas.{chosen_so}
 use Rattle.bac_fetch.proofs.FaultsLemmas.{run_of}
+use Rattle.bac_fetch.proofs.LeftLemmas.{left_as_was, left_then}
 use Rattle.bac_fetch.proofs.StaysLemmas.{quiet_first, quiet_stays}
 use Rattle.bac_fetch.proofs.keeping.keep_chosen.Goals as goal
 
@@ -90,15 +91,19 @@ returns-in_err-kept-clause-caused g c clean has =
     let mid = state g.A.Store c.chosen_logs.new.conn in
     let early : HasCleanDisk mid = c.keep_each.ensures.clean clean in
     let same = c.in_ok-found.ensures.same early has in
-    because c.from_residual-in_err-kept.result fault (EndsRunOver over (at_once g.S.Recalls.holds g.C.Clock.reads c.args.clock c.args.window) (given_in c.args.options.now) c.args.chosen c.args.sockets.now c.keep_each.new.sockets (state g.A.Store c.args.conn.now).now) (search rules)
-    (inr (
-      all,
-      found.0,
-      c.chosen_logs.new.sockets,
-      found.1,
-      subst (λ (d : Database). EndsLogs over (at_once g.S.Recalls.holds g.C.Clock.reads c.args.clock c.args.window) (given_in c.args.options.now) all c.chosen_logs.new.sockets c.keep_each.new.sockets d fault) same
-          (c.in_err-kept.ensures.caused clean (subst (λ (d : Database). HasArchive d.schema) (sym same) has)),
-    ))
+    let old = state g.A.Store c.args.conn.now in
+    let it = c.in_err-kept.ensures.caused clean (subst (λ (d : Database). HasArchive d.schema) (sym same) has) in
+    because c.from_residual-in_err-kept.result fault _ (search rules) (
+      it.0,
+      left_then old mid (state g.A.Store c.keep_each.new.conn) it.0 (λ was. c.in_ok-found.ensures.kept early has tt ∙ was ∙ sym same) it.1,
+      inr (
+        all,
+        found.0,
+        c.chosen_logs.new.sockets,
+        found.1,
+        subst (λ (d : Database). EndsLogs over (at_once g.S.Recalls.holds g.C.Clock.reads c.args.clock c.args.window) (given_in c.args.options.now) all c.chosen_logs.new.sockets c.keep_each.new.sockets d it.0 fault) same it.2,
+      ),
+    )
 
 pub returns-in_err-found-clause-stays : goal.returns-in_err-found-clause-stays
 returns-in_err-found-clause-stays g c clean has =
@@ -111,7 +116,8 @@ returns-in_err-found-clause-caused g c clean has =
     let given = given_in c.args.options.now in
     let old = state g.A.Store c.args.conn.now in
     let new = state g.A.Store c.chosen_logs.new.conn in
-    because c.from_residual.result fault (EndsRunOver over (at_once g.S.Recalls.holds g.C.Clock.reads c.args.clock c.args.window) given c.args.chosen c.args.sockets.now c.chosen_logs.new.sockets old.now) (search rules)
-    (inl (chosen_so over (at_once g.S.Recalls.holds g.C.Clock.reads c.args.clock c.args.window) c.args.chosen (HasCleanDisk new → HasArchive old.now.schema → HasNone old.now.trees) (HasNone old.now.trees)
+    let ends = chosen_so over (at_once g.S.Recalls.holds g.C.Clock.reads c.args.clock c.args.window) c.args.chosen (HasCleanDisk new → HasArchive old.now.schema → HasNone old.now.trees) (HasNone old.now.trees)
     (HasCleanDisk new → HasArchive old.now.schema → LacksAddress given old.now.trees) (LacksAddress given old.now.trees)
-    c.args.sockets.now c.chosen_logs.new.sockets fault (λ none. none clean has) (λ wrong. wrong clean has) c.in_err-found.ensures.fault))
+    c.args.sockets.now c.chosen_logs.new.sockets fault (λ none. none clean has) (λ wrong. wrong clean has) c.in_err-found.ensures.fault in
+    because c.from_residual.result fault _ (search rules)
+    (old.now.trees, left_as_was old new (λ opened. c.in_err-found.ensures.kept clean has opened), inl (ends, refl))

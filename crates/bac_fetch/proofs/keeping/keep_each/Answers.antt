@@ -8,6 +8,7 @@ use Rattle.bac_fetch.specs.Faults.{HasNoInstance, LacksAddress}
 use Rattle.bac_fetch.proofs.FaultsLemmas.{all_end_so, ends_so}
 use Rattle.bac_asked.specs.AsLog.{given_in}
 use Rattle.bac_fetch.proofs.CalledLemmas.{logs_end, logs_kept}
+use Rattle.bac_fetch.proofs.LeftLemmas.{left_then}
 use Rattle.bac_fetch.proofs.MovesLemmas.{settles_schema, settles_stay}
 use Rattle.bac_fetch.proofs.StaysLemmas.{stays_then}
 use Rattle.bac_archive.specs.Schema.{HasArchive}
@@ -62,12 +63,17 @@ returns-clause-caused g c clean has =
     let (known, are, settles) = rw c.as_slice.ensures.value at c.in_ok-heard.ensures.settled early has in
     let schema = settles_schema over (given_in c.args.options.now) known all c.args.sockets.now heard half old.now mid.now settles has in
     IfErr-weaker c.keep_settled.result _ _
-    (λ fault it. logs_end over by (given_in c.args.options.now) all c.args.sockets.now half c.keep_settled.new.sockets old.now mid.now known heard fault are settles it)
+    (λ fault it. (
+      it.0,
+      left_then old mid (state g.A.Store c.keep_settled.new.conn) it.0 (λ was. c.in_ok-heard.ensures.committed early has was) it.1,
+      logs_end over by (given_in c.args.options.now) all c.args.sockets.now half c.keep_settled.new.sockets old.now mid.now known heard it.0 fault are settles it.2,
+    ))
     (c.keep_settled.ensures.caused clean schema)
 
 pub returns-in_err-heard-clause-caused : goal.returns-in_err-heard-clause-caused
 returns-in_err-heard-clause-caused g c clean has =
-    because c.from_residual.result c.in_err-heard.field-0.0 _ (search rules) (inl (rw c.as_slice.ensures.value at c.in_err-heard.ensures.caused clean has))
+    let it = rw c.as_slice.ensures.value at c.in_err-heard.ensures.caused clean has in
+    because c.from_residual.result c.in_err-heard.field-0.0 _ (search rules) (it.0, it.1, inl it.2)
 
 pub returns-clause-fault : goal.returns-clause-fault
 returns-clause-fault g c =

@@ -1,4 +1,4 @@
-use Rattle.std.proofs.Common.{◌≡◌, ◌∙◌, List, inl, inr, rules, subst, sym}
+use Rattle.std.proofs.Common.{◌≡◌, ◌∙◌, List, inl, inr, refl, rules, subst, sym}
 use Rattle.std.proofs.lemmas.Result.{IfErr-weaker, IfOk-weaker}
 use Rattle.sqlite.specs.Effect.{Database}
 use Rattle.sqlite.specs.State.{HasCleanDisk}
@@ -16,6 +16,8 @@ use Rattle.bac_fetch.specs.Faults.{HasNoInstance}
 use Rattle.bac_fetch.specs.Keeps.{KeepsAll}
 use Rattle.bac_fetch.proofs.CalledLemmas.{call_ends_as, calls_as}
 use Rattle.bac_fetch.proofs.FaultsLemmas.{ends_so}
+use Rattle.bac_fetch.proofs.LeftLemmas.{left_quiet}
+use Rattle.bac_fetch.proofs.GroupLemmas.{seen_behind}
 use Rattle.bac_fetch.proofs.StaysLemmas.{quiet_first, quiet_stays}
 use Rattle.bac_fetch.proofs.keeping.keep_settled.Goals as goal
 
@@ -108,7 +110,13 @@ returns-clause-caused g c clean has =
     let calls = subst (λ (d : Database). CallsAhead over by d.trees known all heard before found called held) same
     (calls_as over by mid.now.trees known _ all heard found called before held c.as_slice.ensures.value (c.in_ok-called.ensures.calls shown schema)) in
     IfErr-weaker c.keep_known.result _ _
-    (λ fault it. inr (known, are, inr (found, called, held, calls, subst (λ (d : Database). EndsAll over known found all held after d fault) (still ∙ same) it)))
+    (λ fault it. (
+      it.0,
+      (λ was opened.
+          it.1 (seen_behind old mid late (c.in_ok-known.ensures.kept early has tt) (still ∙ same) shown (c.call_ahead.ensures.quiet shown schema)
+          (λ db may. g.met.A.Store.settled c.logs_of.new.conn.store db (c.in_ok-known.ensures.open early has) may) was) opened),
+      inr (known, are, inr (found, called, held, calls, subst (λ (d : Database). EndsAll over known found all held after d it.0 fault) (still ∙ same) it.2)),
+    ))
     (c.keep_known.ensures.caused clean late_schema)
 
 pub returns-in_err-known-clause-fault : goal.returns-in_err-known-clause-fault
@@ -117,7 +125,8 @@ returns-in_err-known-clause-fault g c =
 
 pub returns-in_err-known-clause-caused : goal.returns-in_err-known-clause-caused
 returns-in_err-known-clause-caused g c clean has =
-    because c.from_residual.result c.in_err-known.field-0.0 _ (search rules) (inl c.in_err-known.ensures.caused)
+    because c.from_residual.result c.in_err-known.field-0.0 _ (search rules)
+    ((state g.A.Store c.logs_of.new.conn).committed.trees, (λ was opened. refl), inl c.in_err-known.ensures.caused)
 
 pub returns-in_err-called-clause-caused : goal.returns-in_err-called-clause-caused
 returns-in_err-called-clause-caused g c clean has =
@@ -137,7 +146,10 @@ returns-in_err-called-clause-caused g c clean has =
     let are : AreLogs old.now.trees known = subst (λ (l : List Log). AreLogs old.now.trees l) (sym c.as_slice-logs.ensures.value) (c.in_ok-known.ensures.logs early has) in
     let ends = subst (λ (d : Database). EndsCallsAhead over by d.trees known all heard before held fault) same
     (call_ends_as over by mid.now.trees known _ all heard before held fault c.as_slice.ensures.value (c.in_err-called.ensures.caused clean schema)) in
-    because c.from_residual-in_err-called.result fault _ (search rules) (inr (known, are, inl ends))
+    let left = left_quiet old mid (state g.A.Store c.call_ahead.new.conn) (c.in_ok-known.ensures.kept early has tt) clean (c.call_ahead.ensures.quiet clean schema)
+    (λ db may. g.met.A.Store.settled c.logs_of.new.conn.store db (c.in_ok-known.ensures.open early has) may)
+    (λ opened. g.met.A.Store.stays c.call_ahead.new.conn.store opened) in
+    because c.from_residual-in_err-called.result fault _ (search rules) (old.now.trees, left, inr (known, are, inl (ends, refl)))
 
 pub returns-in_err-called-clause-fault : goal.returns-in_err-called-clause-fault
 returns-in_err-called-clause-fault g c =

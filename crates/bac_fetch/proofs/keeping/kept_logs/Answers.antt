@@ -10,7 +10,9 @@ use Rattle.std.proofs.lemmas.Bool.Decides.{nat_tests}
 use Rattle.std.proofs.lemmas.List.{nil_from_length}
 use Rattle.std.specs.List.{Contains}
 use Rattle.bac_asked.specs.declared.wanted.Wanted.{Wanted}
+use Rattle.bac_fetch.proofs.LeftLemmas.{still_committed}
 use Rattle.bac_fetch.proofs.TakenLemmas.{has_taken}
+use Rattle.sqlite.specs.Held.{state}
 use Rattle.bac_fetch.proofs.keeping.kept_logs.Goals as goal
 
 pub loop-log-preserved : goal.loop-log-preserved
@@ -58,3 +60,15 @@ returns-then-is_empty-clause-fault g c =
     let nothing : c.loop-log.all.items ≡ [] = nil_from_length _ zero in
     let left : map of_log (not_stopped c.loop-log.yielded) ≡ [] = sym c.loop-log.invariant.sources ∙ ap (map (λ (w : Wanted). w.source)) nothing in
     inr (inr (inl (refl, λ clean has. (known, c.in-Ok.ensures.logs clean has, ap not_stopped (sym all) ∙ none_left _ of_log left))))
+
+pub returns-clause-kept : goal.returns-clause-kept
+returns-clause-kept g c clean has done = (c.in-Ok.ensures.same clean has).0.committed_is
+
+pub returns-in_err-add_kept-clause-kept : goal.returns-in_err-add_kept-clause-kept
+returns-in_err-add_kept-clause-kept g c clean has opened = (c.in-Ok.ensures.same clean has).0.committed_is
+
+pub returns-then-is_empty-clause-kept : goal.returns-then-is_empty-clause-kept
+returns-then-is_empty-clause-kept g c clean has opened = (c.in-Ok.ensures.same clean has).0.committed_is
+
+pub returns-in-Err-clause-kept : goal.returns-in-Err-clause-kept
+returns-in-Err-clause-kept g c clean has opened = still_committed (state g.A.Store c.args.conn.now) (state g.A.Store c.logs.new.conn) (c.logs.ensures.left clean has) opened

@@ -1,4 +1,4 @@
-use Rattle.std.proofs.Common.{◌≡◌, List, inr, subst, sym, rules, inl}
+use Rattle.std.proofs.Common.{◌≡◌, ◌∙◌, List, inr, refl, subst, sym, rules, inl}
 use Rattle.std.proofs.lemmas.Result.{IfErr-weaker, IfOk-weaker}
 use Rattle.sqlite.specs.Effect.{Database}
 use Rattle.sqlite.specs.State.{HasCleanDisk}
@@ -6,7 +6,11 @@ use Rattle.sqlite.specs.Held.{state}
 use Rattle.bac_archive.specs.Logs.{AreLogs}
 use Rattle.bac_archive.specs.declared.trend_logs.Log.{Log}
 use Rattle.bac_ports.specs.Sockets.{socket_rules}
+use Rattle.bac_fetch.specs.Causes.{EndsSettling, LeavesUnsettled}
 use Rattle.bac_fetch.specs.Moves.{Settles}
+use Rattle.bac_fetch.specs.Stays.{Leaves}
+use Rattle.bac_questions.specs.declared.whose.Heard.{Heard}
+use Rattle.bac_fetch.proofs.LeftLemmas.{both_err, left_as_was, left_then}
 use Rattle.bac_fetch.proofs.StaysLemmas.{quiet_first, quiet_stays}
 use Rattle.bac_asked.specs.AsLog.{given_in}
 use Rattle.bac_fetch.specs.Faults.{HaveNoAddress}
@@ -55,10 +59,34 @@ returns-clause-fault g c =
 
 pub returns-clause-caused : goal.returns-clause-caused
 returns-clause-caused g c clean has =
+    let over = socket_rules g.S.Sockets.opens g.S.Sockets.closes g.S.Socket.Port.sends g.S.Socket.Port.receives g.S.Socket.Port.receives_within in
+    let given = given_in c.args.options.now in
+    let known = c.as_slice.result.now in
+    let all = c.args.all.now in
+    let before = c.args.sockets.now in
+    let after = c.settle.new.sockets in
     let old = state g.A.Store c.args.conn.now in
-    let early = c.settle.ensures.clean clean in
-    let are = subst (λ (l : List Log). AreLogs old.now.trees l) (sym c.as_slice.ensures.value) (c.in_ok-known.ensures.logs early has) in
-    IfErr-weaker c.settle.result _ _ (λ fault it. inr (c.as_slice.result.now, are, it)) c.settle.ensures.caused
+    let mid = state g.A.Store c.logs_of.new.conn in
+    let new = state g.A.Store c.settle.new.conn in
+    let early : HasCleanDisk mid = c.settle.ensures.clean clean in
+    let same : mid.now ≡ old.now = c.in_ok-known.ensures.same early has in
+    let kept : mid.committed ≡ old.committed = c.in_ok-known.ensures.kept early has tt in
+    let schema : HasArchive mid.now.schema = subst (λ (d : Database). HasArchive d.schema) (sym same) has in
+    let are : AreLogs old.now.trees known = subst (λ (l : List Log). AreLogs old.now.trees l) (sym c.as_slice.ensures.value) (c.in_ok-known.ensures.logs early has) in
+    IfErr-weaker c.settle.result _ _
+    (λ fault it. (
+      it.1.0,
+      left_then old mid new it.1.0 (λ was. kept ∙ was ∙ sym same) it.1.1,
+      inr (
+        known,
+        are,
+        it.0,
+        subst (λ (d : Database). LeavesUnsettled (λ db. (heard : List Heard) × Settles over given known all before heard after d db) d.trees it.1.0 fault) same it.1.2,
+      ),
+    ))
+    (both_err c.settle.result (EndsSettling over given known all before after)
+    (λ fault. Leaves mid new (λ left. LeavesUnsettled (λ db. (heard : List Heard) × Settles over given known all before heard after mid.now db) mid.now.trees left fault))
+    c.settle.ensures.caused (c.settle.ensures.left clean schema))
 
 pub returns-in_err-known-clause-fault : goal.returns-in_err-known-clause-fault
 returns-in_err-known-clause-fault g c =
@@ -66,4 +94,16 @@ returns-in_err-known-clause-fault g c =
 
 pub returns-in_err-known-clause-caused : goal.returns-in_err-known-clause-caused
 returns-in_err-known-clause-caused g c clean has =
-    because c.from_residual.result c.in_err-known.field-0.0 _ (search rules) (inl c.in_err-known.ensures.caused)
+    let old = state g.A.Store c.args.conn.now in
+    let new = state g.A.Store c.logs_of.new.conn in
+    because c.from_residual.result c.in_err-known.field-0.0 _ (search rules)
+    (old.now.trees, left_as_was old new (λ opened. c.in_err-known.ensures.kept clean has opened), inl (c.in_err-known.ensures.caused, refl))
+
+pub returns-clause-committed : goal.returns-clause-committed
+returns-clause-committed g c clean has was =
+    let old = state g.A.Store c.args.conn.now in
+    let mid = state g.A.Store c.logs_of.new.conn in
+    let early : HasCleanDisk mid = c.settle.ensures.clean clean in
+    let same : mid.now ≡ old.now = c.in_ok-known.ensures.same early has in
+    let schema : HasArchive mid.now.schema = subst (λ (d : Database). HasArchive d.schema) (sym same) has in
+    c.settle.ensures.committed clean schema (c.in_ok-known.ensures.kept early has tt ∙ was ∙ sym same)

@@ -1,4 +1,9 @@
+use Rattle.std.proofs.Common.{List}
 use Rattle.std.proofs.lemmas.Result.{IfErr-weaker, IfOk-weaker}
+use Rattle.sqlite.specs.Effect.{Database}
+use Rattle.bac_questions.specs.declared.whose.Heard.{Heard}
+use Rattle.bac_fetch.specs.Moves.{Settles, SettlesUnless}
+use Rattle.bac_fetch.proofs.LeftLemmas.{unsettled_so}
 use Rattle.bac_asked.specs.AsLog.{given_in}
 use Rattle.bac_fetch.proofs.CausesLemmas.{settling_of_first}
 use Rattle.sqlite.specs.Held.{state}
@@ -23,3 +28,20 @@ returns-in-len1-up-clause-caused g c =
     (λ fault it. settling_of_first over (given_in c.args.options.now) c.args.known.now c.args.all.now c.first-item.result c.args.sockets.now c.settle_unless.new.sockets fault
     c.in-len1-up.len_at_least c.first-item.is it)
     c.settle_unless.ensures.caused
+
+pub returns-in-len1-up-clause-left : goal.returns-in-len1-up-clause-left
+returns-in-len1-up-clause-left g c clean has =
+    let over = socket_rules g.S.Sockets.opens g.S.Sockets.closes g.S.Socket.Port.sends g.S.Socket.Port.receives g.S.Socket.Port.receives_within in
+    let given = given_in c.args.options.now in
+    let known = c.args.known.now in
+    let all = c.args.all.now in
+    let first = c.first-item.result in
+    let before = c.args.sockets.now in
+    let after = c.settle_unless.new.sockets in
+    let old = state g.A.Store c.args.conn.now in
+    let new = state g.A.Store c.settle_unless.new.conn in
+    IfErr-weaker c.settle_unless.result _ _
+    (λ fault it. unsettled_so (λ (db : Database). (heard : List Heard) × SettlesUnless over given known first before heard after old.now db)
+    (λ (db : Database). (heard : List Heard) × Settles over given known all before heard after old.now db) old new fault
+    (λ db one. (one.0, settles_of_first over given known all first before one.0 after old.now db c.in-len1-up.len_at_least c.first-item.is one.1)) it)
+    (c.settle_unless.ensures.left clean has)

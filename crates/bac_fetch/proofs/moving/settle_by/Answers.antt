@@ -1,8 +1,13 @@
+use Rattle.std.proofs.Common.{Some, subst, sym}
 use Rattle.std.proofs.lemmas.Result.{IfErr-weaker}
+use Rattle.sqlite.specs.Held.{state}
 use Rattle.bac_asked.specs.AsLog.{given_in}
 use Rattle.bac_asked.specs.Wanted.{HasNoAddress}
 use Rattle.bac_ports.specs.Sockets.{socket_rules}
 use Rattle.bac_fetch.specs.Faults.{HaveNoAddress}
+use Rattle.bac_fetch.specs.Moves.{AsksThere, SettlesBy}
+use Rattle.bac_questions.specs.declared.said.Identity.{Identity}
+use Rattle.bac_fetch.proofs.LeftLemmas.{unsettled_so}
 use Rattle.bac_fetch.proofs.FaultsLemmas.{all_end_so}
 use Rattle.bac_fetch.proofs.moving.settle_by.Goals as goal
 
@@ -15,3 +20,20 @@ returns-in-Some-clause-fault g c =
 pub returns-in-Some-clause-caused : goal.returns-in-Some-clause-caused
 returns-in-Some-clause-caused g c =
     IfErr-weaker c.settle_from.result _ _ (λ fault it. (c.in-Told.device, c.in-Told.is, (c.in-Some.log.now, c.in-Some.ensures {u = tt}, it))) c.settle_from.ensures.caused
+
+pub returns-in-Some-clause-left : goal.returns-in-Some-clause-left
+returns-in-Some-clause-left g c clean has =
+    let over = socket_rules g.S.Sockets.opens g.S.Sockets.closes g.S.Socket.Port.sends g.S.Socket.Port.receives g.S.Socket.Port.receives_within in
+    let given = given_in c.args.options.now in
+    let known = c.args.known.now in
+    let to = c.args.to.now in
+    let device = c.in-Told.device in
+    let log = c.in-Some.log.now in
+    let before = c.args.sockets.now in
+    let after = c.settle_from.new.sockets in
+    let old = state g.A.Store c.args.conn.now in
+    let new = state g.A.Store c.settle_from.new.conn in
+    IfErr-weaker c.settle_from.result _ _
+    (λ fault it. unsettled_so (AsksThere over given device log.source to known before after old.now) (SettlesBy over given known to c.args.identity before after old.now) old new fault
+    (λ db asks. subst (λ (i : Identity). SettlesBy over given known to i before after old.now db) (sym c.in-Told.is) (Some log, c.in-Some.ensures {u = tt}, asks)) it)
+    (c.settle_from.ensures.left clean has)

@@ -8,6 +8,7 @@ use Rattle.bac_archive.proofs.RowsLemmas.{because}
 use Rattle.bac_ports.specs.Sockets.{socket_rules}
 use Rattle.bac_asked.specs.AsLog.{given_in}
 use Rattle.bac_fetch.specs.Moves.{AreMoved, AsksThere}
+use Rattle.bac_fetch.proofs.LeftLemmas.{settled_before, unsettled_as_was}
 use Rattle.bac_fetch.proofs.StaysLemmas.{itself_stays}
 use Rattle.bac_fetch.proofs.moving.settle_from.Goals as goal
 
@@ -67,3 +68,52 @@ returns-clause-fault g c = IfErr-weaker c.tell_place-2.result _ _ (λ fault memo
 
 pub returns-clause-caused : goal.returns-clause-caused
 returns-clause-caused g c = IfErr-weaker c.tell_place-2.result _ _ (λ fault memory. inl (inl memory)) c.tell_place-2.ensures.fault
+
+pub returns-clause-committed : goal.returns-clause-committed
+returns-clause-committed g c clean has was = on_ok _ _ (c.in_ok-move_logs.ensures.committed clean has)
+
+pub returns-then-is_told-clause-committed : goal.returns-then-is_told-clause-committed
+returns-then-is_told-clause-committed g c clean has was = on_ok _ _ was
+
+pub returns-in_err-said-clause-left : goal.returns-in_err-said-clause-left
+returns-in_err-said-clause-left g c clean has =
+    let over = socket_rules g.S.Sockets.opens g.S.Sockets.closes g.S.Socket.Port.sends g.S.Socket.Port.receives g.S.Socket.Port.receives_within in
+    let old = state g.A.Store c.args.conn.now in
+    because c.from_residual.result c.in_err-said.field-0.0 _ (search rules)
+    (unsettled_as_was (AsksThere over (given_in c.args.options.now) c.args.device c.args.from.now c.args.to.now c.args.known.now c.args.sockets.now c.identify_there.new.sockets old.now) old old
+    c.in_err-said.field-0.0 (λ opened. refl))
+
+pub returns-then-is_told-clause-left : goal.returns-then-is_told-clause-left
+returns-then-is_told-clause-left g c clean has =
+    let over = socket_rules g.S.Sockets.opens g.S.Sockets.closes g.S.Socket.Port.sends g.S.Socket.Port.receives g.S.Socket.Port.receives_within in
+    let old = state g.A.Store c.args.conn.now in
+    IfErr-weaker c.tell_place.result _ _
+    (λ fault memory. unsettled_as_was (AsksThere over (given_in c.args.options.now) c.args.device c.args.from.now c.args.to.now c.args.known.now c.args.sockets.now c.identify_there.new.sockets old.now) old old
+    fault (λ opened. refl)) c.tell_place.ensures.fault
+
+pub returns-in_err-move_logs-clause-left : goal.returns-in_err-move_logs-clause-left
+returns-in_err-move_logs-clause-left g c clean has =
+    let over = socket_rules g.S.Sockets.opens g.S.Sockets.closes g.S.Socket.Port.sends g.S.Socket.Port.receives g.S.Socket.Port.receives_within in
+    let old = state g.A.Store c.args.conn.now in
+    let new = state g.A.Store c.move_logs.new.conn in
+    because c.from_residual-in_err-move_logs.result c.in_err-move_logs.field-0.0 _ (search rules)
+    (unsettled_as_was (AsksThere over (given_in c.args.options.now) c.args.device c.args.from.now c.args.to.now c.args.known.now c.args.sockets.now c.identify_there.new.sockets old.now) old new
+    c.in_err-move_logs.field-0.0 (λ opened. c.in_err-move_logs.ensures.left clean has opened))
+
+pub returns-clause-left : goal.returns-clause-left
+returns-clause-left g c clean has =
+    let over = socket_rules g.S.Sockets.opens g.S.Sockets.closes g.S.Socket.Port.sends g.S.Socket.Port.receives g.S.Socket.Port.receives_within in
+    let old = state g.A.Store c.args.conn.now in
+    let new = state g.A.Store c.move_logs.new.conn in
+    let asks = AsksThere over (given_in c.args.options.now) c.args.device c.args.from.now c.args.to.now c.args.known.now c.args.sockets.now c.identify_there.new.sockets old.now in
+    let (there, asked_there, identifies) = c.in_ok-said.ensures.identifies in
+    let asked : AsksThere over (given_in c.args.options.now) c.args.device c.args.from.now c.args.to.now c.args.known.now c.args.sockets.now c.identify_there.new.sockets old.now new.now = (
+      there,
+      asked_there,
+      c.in_ok-said.said,
+      identifies,
+      subst (λ b. MatchBool b (new.now ≡ old.now) ((moved : List Log) × AreMoved c.args.device c.args.from.now c.args.to.now c.args.known.now moved × HasChangedLogs old.now new.now moved))
+          (sym (sym c.is_told.ensures ∙ c.if-is_told.false)) (c.in_ok-move_logs.ensures.moved clean has),
+    ) in
+    IfErr-weaker c.tell_place-2.result _ _
+    (λ fault memory. settled_before asks old new fault memory asked (λ was. c.in_ok-move_logs.ensures.committed clean has)) c.tell_place-2.ensures.fault

@@ -2,7 +2,11 @@ use Rattle.std.proofs.Common.{◌≡◌, ◌∙◌, ◌∷◌, [], MatchBool, Li
 use Rattle.sqlite.specs.Held.{state}
 use Rattle.bac_ports.specs.Sockets.{socket_rules}
 use Rattle.bac_asked.specs.AsLog.{given_in}
-use Rattle.bac_fetch.specs.Moves.{SettlesFirst}
+use Rattle.sqlite.specs.Effect.{Database}
+use Rattle.bac_archive.proofs.RowsLemmas.{because}
+use Rattle.bac_fetch.specs.Moves.{SettlesFirst, SettlesUnless}
+use Rattle.bac_fetch.proofs.LeftLemmas.{settled_before, unsettled_so}
+use Rattle.bac_fetch.proofs.MovesLemmas.{settles_of_one}
 use Rattle.bac_questions.specs.declared.whose.Heard.{Heard}
 use Rattle.bac_fetch.proofs.StaysLemmas.{itself_stays}
 use Rattle.bac_fetch.proofs.moving.settle_unless.Goals as goal
@@ -32,3 +36,32 @@ returns-in-Ok-clause-settled g c clean has =
 
 pub returns-then-is_placed-clause-stays : goal.returns-then-is_placed-clause-stays
 returns-then-is_placed-clause-stays g c has = itself_stays (state g.A.Store c.args.conn.now)
+
+pub returns-in_err-one-clause-left : goal.returns-in_err-one-clause-left
+returns-in_err-one-clause-left g c clean has =
+    let over = socket_rules g.S.Sockets.opens g.S.Sockets.closes g.S.Socket.Port.sends g.S.Socket.Port.receives g.S.Socket.Port.receives_within in
+    let given = given_in c.args.options.now in
+    let known = c.args.known.now in
+    let first = c.args.first.now in
+    let before = c.args.sockets.now in
+    let after = c.settle_first.new.sockets in
+    let old = state g.A.Store c.args.conn.now in
+    let new = state g.A.Store c.settle_first.new.conn in
+    because c.from_residual.result c.in_err-one.field-0.0 _ (search rules)
+    (unsettled_so (λ (db : Database). (one : Heard) × SettlesFirst over given known first before one after old.now db) (λ (db : Database). (heard : List Heard) × SettlesUnless over given known first before heard after old.now db) old new
+    c.in_err-one.field-0.0 (λ db it. (it.0 ∷ [], settles_of_one over given known first before it.0 after old.now db (sym c.is_placed.ensures ∙ c.if-is_placed.false) it.1)) (c.in_err-one.ensures.left clean has))
+
+pub returns-in-Err-clause-left : goal.returns-in-Err-clause-left
+returns-in-Err-clause-left g c clean has =
+    let over = socket_rules g.S.Sockets.opens g.S.Sockets.closes g.S.Socket.Port.sends g.S.Socket.Port.receives g.S.Socket.Port.receives_within in
+    let given = given_in c.args.options.now in
+    let known = c.args.known.now in
+    let first = c.args.first.now in
+    let before = c.args.sockets.now in
+    let after = c.settle_first.new.sockets in
+    let old = state g.A.Store c.args.conn.now in
+    let new = state g.A.Store c.settle_first.new.conn in
+    let one = c.in_ok-one.one in
+    settled_before (λ (db : Database). (heard : List Heard) × SettlesUnless over given known first before heard after old.now db) old new _ refl
+    (one ∷ [], settles_of_one over given known first before one after old.now new.now (sym c.is_placed.ensures ∙ c.if-is_placed.false) (c.in_ok-one.ensures.settled clean has))
+    (λ was. c.in_ok-one.ensures.committed clean has was)

@@ -1,12 +1,14 @@
 use Rattle.std.proofs.Common.{inl, rules}
 use Rattle.bac_fetch.proofs.CausesLemmas.{rows_leave, shut_log}
 use Rattle.bac_archive.proofs.RowsLemmas.{because}
+use Rattle.sqlite.specs.Held.{state}
 use Rattle.bac_ports.specs.Sockets.{socket_rules}
 use Rattle.bac_fetch.proofs.single.fetch_told.Goals as goal
 
 pub returns-in_err-tell_end-clause-undone : goal.returns-in_err-tell_end-clause-undone
 returns-in_err-tell_end-clause-undone g c clean has =
-    because c.from_residual-in_err-tell_end.result c.in_err-tell_end.field-0.0 _ (search rules) (rows_leave _ _ _ c.in_err-tell_end.ensures.caused)
+    because c.from_residual-in_err-tell_end.result c.in_err-tell_end.field-0.0 _ (search rules)
+    (rows_leave (state g.A.Store c.args.conn.now) (state g.A.Store c.fetch-fetched.new.conn) _ c.in_err-tell_end.ensures.caused)
 
 pub returns-in_err-tell_end-clause-fault : goal.returns-in_err-tell_end-clause-fault
 returns-in_err-tell_end-clause-fault g c =

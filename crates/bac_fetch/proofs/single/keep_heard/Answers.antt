@@ -1,4 +1,4 @@
-use Rattle.std.proofs.Common.{inl, inr, refl, rules, subst}
+use Rattle.std.proofs.Common.{inl, inr, rules, subst}
 use Rattle.std.specs.Prelude.{Option}
 use Rattle.std.proofs.lemmas.Result.{IfErr-weaker, IfOk-weaker}
 use Rattle.sqlite.specs.Held.{state}
@@ -8,6 +8,7 @@ use Rattle.bac_fetch.specs.Keeps.{KeepsUnless}
 use Rattle.bac_fetch.proofs.single.keep_heard.Goals as goal
 use Rattle.bac_archive.proofs.RowsLemmas.{because}
 use Rattle.bac_fetch.proofs.FaultsLemmas.{asking_ends_run}
+use Rattle.bac_fetch.proofs.CausesLemmas.{nothing_done}
 use Rattle.bac_fetch.proofs.StaysLemmas.{itself_stays}
 
 pub returns-clause-told : goal.returns-clause-told
@@ -50,7 +51,8 @@ returns-clause-caused g c clean has =
     IfErr-weaker c.keep_unless.result _ _ (λ fault it. inr (inr (c.in_ok-said.said, c.said_of.new.sockets, asked, it))) (c.keep_unless.ensures.caused clean has)
 
 pub returns-in_err-said-clause-undone : goal.returns-in_err-said-clause-undone
-returns-in_err-said-clause-undone g c clean has = because c.from_residual.result c.in_err-said.field-0.0 _ (search rules) (λ why is. refl)
+returns-in_err-said-clause-undone g c clean has =
+    because c.from_residual.result c.in_err-said.field-0.0 _ (search rules) (nothing_done (state g.A.Store c.args.conn.now) c.in_err-said.field-0.0)
 
 pub returns-in_err-said-clause-fault : goal.returns-in_err-said-clause-fault
 returns-in_err-said-clause-fault g c =

@@ -64,7 +64,7 @@ returns-then-is_silent-clause-caused g c clean has = IfErr-weaker c.pass_over.re
 
 pub returns-then-is_silent-clause-undone : goal.returns-then-is_silent-clause-undone
 returns-then-is_silent-clause-undone g c clean has =
-    IfErr-weaker c.pass_over.result _ _ (λ fault it. rows_leave _ _ fault it) (c.pass_over.ensures.caused clean has)
+    IfErr-weaker c.pass_over.result _ _ (λ fault it. rows_leave (state g.A.Store c.args.conn.now) (state g.A.Store c.pass_over.new.conn) fault it) (c.pass_over.ensures.caused clean has)
 
 pub returns-then-is_silent-clause-fault : goal.returns-then-is_silent-clause-fault
 returns-then-is_silent-clause-fault g c = IfErr-weaker c.pass_over.result _ _ (λ fault it. inl it) c.pass_over.ensures.fault

@@ -107,7 +107,8 @@ returns-in_err-entry-clause-fault g c =
 
 pub returns-in_err-entry-clause-undone : goal.returns-in_err-entry-clause-undone
 returns-in_err-entry-clause-undone g c clean has =
-    because c.from_residual.result c.in_err-entry.field-0.0 _ (search rules) (entry_leaves _ _ _ (state g.A.Store c.args.conn.now).now.trees _ (c.in_err-entry.ensures.caused clean has))
+    because c.from_residual.result c.in_err-entry.field-0.0 _ (search rules)
+    (entry_leaves (state g.A.Store c.args.conn.now) (state g.A.Store c.enter.new.conn) _ (state g.A.Store c.args.conn.now).now.trees _ (c.enter.ensures.crash has) (c.in_err-entry.ensures.caused clean has))
 
 pub returns-in_err-end-clause-undone : goal.returns-in_err-end-clause-undone
 returns-in_err-end-clause-undone g c clean has =
@@ -118,11 +119,12 @@ returns-in_err-end-clause-undone g c clean has =
     let schema : HasArchive mid.now.schema = subst (λ (d : Database). HasArchive d.schema) (sym same) has in
     let fault = c.in_err-end.field-0.0 in
     because c.from_residual-in_err-end.result fault _ (search rules)
-    (leaves_behind old.now mid.now (state g.A.Store c.fetch_told.new.conn).now fault same (c.in_err-end.ensures.undone clean schema))
+    (leaves_behind old mid (state g.A.Store c.fetch_told.new.conn) fault same (c.enter.ensures.crash has) (c.in_err-end.ensures.undone clean schema))
 
 pub returns-in_err-add_heard-clause-undone : goal.returns-in_err-add_heard-clause-undone
 returns-in_err-add_heard-clause-undone g c clean has =
-    because c.from_residual-in_err-add_heard.result c.in_err-add_heard.field-0.0 _ (search rules) (rows_leave _ _ _ (inl c.in_err-add_heard.ensures.fault))
+    because c.from_residual-in_err-add_heard.result c.in_err-add_heard.field-0.0 _ (search rules)
+    (rows_leave (state g.A.Store c.args.conn.now) (state g.A.Store c.fetch_told.new.conn) _ (inl c.in_err-add_heard.ensures.fault))
 
 pub returns-in_err-end-clause-fault : goal.returns-in_err-end-clause-fault
 returns-in_err-end-clause-fault g c =

@@ -66,7 +66,7 @@ returns-in-Some-clause-caused g c clean has =
 
 pub returns-in-Some-clause-undone : goal.returns-in-Some-clause-undone
 returns-in-Some-clause-undone g c clean has =
-    IfErr-weaker c.pass_by.result _ _ (λ fault it. rows_leave _ _ fault it) (c.pass_by.ensures.caused clean has)
+    IfErr-weaker c.pass_by.result _ _ (λ fault it. rows_leave (state g.A.Store c.args.conn.now) (state g.A.Store c.pass_by.new.conn) fault it) (c.pass_by.ensures.caused clean has)
 
 pub returns-in-Some-clause-fault : goal.returns-in-Some-clause-fault
 returns-in-Some-clause-fault g c = IfErr-weaker c.pass_by.result _ _ (λ fault it. inl it) c.pass_by.ensures.fault

@@ -1,5 +1,5 @@
 use Rattle.bac_files.proofs.FileGhosts.{file_ghosts}
-use Rattle.std.proofs.Common.{refl, ◌∙◌, ℕ, List, Bool, inl, inr, ◌||◌, is_some, subst₂}
+use Rattle.std.proofs.Common.{refl, ◌≡◌, ◌∙◌, ℕ, List, Bool, inl, inr, ◌||◌, is_some, subst₂}
 use Rattle.sqlite.specs.Files.{file_state}
 use Rattle.sqlite_wal.specs.Files.{image_at}
 use Rattle.bac_files.specs.Files.{IsNamed}
@@ -42,7 +42,8 @@ returns-clause-fault g c =
     let done = c.keep_in-done in
     let part = file_ghosts g.row.G g.G.Start g.G.Start-dict g.G.Destruct-dict in
     let bars = BarsPart part (image_at g.G.Start) c.args.place.now.before done.new.parts in
-    let quiet = IsQuiet c.args.sockets.now done.new.sockets (g.O.Write.contents c.args.output.now) (g.O.Write.contents done.new.output) in
+    let quiet = IsQuiet c.args.sockets.now done.new.sockets (g.O.Write.contents c.args.output.now) (g.O.Write.contents done.new.output)
+    × (g.E.Write.contents done.new.errors ≡ g.E.Write.contents c.args.errors.now) in
     let may = are_any c.args.asked.now.groups || is_some c.args.place.now.before in
     let named = subst₂ (λ (p : List ℕ) (b : Bool). IsNamed p b c.close_file.new.files) c.as_str.ensures.value c.may_make.ensures
     (c.close_file.ensures.named c.as_str.result.now c.may_make.result c.in_ok-conn.ensures.named) in
@@ -56,7 +57,7 @@ returns-clause-fault g c =
 pub returns-in_err-conn-clause-fault : goal.returns-in_err-conn-clause-fault
 returns-in_err-conn-clause-fault g c =
     handed_on c.from_residual-in_err-conn.result c.in_err-conn.field-0.0 _ c.from_residual-in_err-conn.ensures.1
-    (fails_so _ _ c.in_err-conn.field-0.0 (λ why it. (c.in_ok-chosen.chosen, c.in_ok-chosen.ensures.chosen, inl ((refl, refl), subst₂ (λ (p : List ℕ) (b : Bool). IsNotOpened p b c.open_file.new.files why) c.as_str.ensures.value c.may_make.ensures it))) c.in_err-conn.ensures.fault)
+    (fails_so _ _ c.in_err-conn.field-0.0 (λ why it. (c.in_ok-chosen.chosen, c.in_ok-chosen.ensures.chosen, inl (((refl, refl), refl), subst₂ (λ (p : List ℕ) (b : Bool). IsNotOpened p b c.open_file.new.files why) c.as_str.ensures.value c.may_make.ensures it))) c.in_err-conn.ensures.fault)
 
 pub returns-clause-stays : goal.returns-clause-stays
 returns-clause-stays g c unused =

@@ -8,7 +8,9 @@ use Rattle.bac_fetch.specs.Keeps.{KeepsLogs}
 use Rattle.bac_keeper.proofs.ArchiveLemmas.{loses_nothing, tells_weaker}
 use Rattle.bac_offline.proofs.ArchiveLemmas.{taken_fits}
 use Rattle.bac_offline.proofs.BegunLemmas.{not_both}
+use Rattle.bac_fetch.specs.Causes.{EndsRunOver}
 use Rattle.bac_fetch.specs.Faults.{EndsKeeping, HasNone, LacksAddress}
+use Rattle.bac_fetch.proofs.LeftLemmas.{leaves_committed}
 use Rattle.bac_offline.specs.Archives.{IsHeld}
 use Rattle.bac_keeper.specs.Archives.{KeepsArchive}
 use Rattle.bac_archive.specs.Schema.{OverArchive, HasArchive, no_schema}
@@ -90,14 +92,14 @@ returns-in_err-status-clause-stays g c held was =
 pub returns-in_err-begin_archive-clause-fault : goal.returns-in_err-begin_archive-clause-fault
 returns-in_err-begin_archive-clause-fault g c =
     handed_on c.from_residual.result c.in_err-begin_archive.field-0.0 _ c.from_residual.ensures.1
-    (fails_so _ _ c.in_err-begin_archive.field-0.0 (λ why it. elim it [ inl answered ↦ inl answered | inr refused ↦ inr (λ held. inl ((refl, refl), refused held)) ]) c.in_err-begin_archive.ensures.refused)
+    (fails_so _ _ c.in_err-begin_archive.field-0.0 (λ why it. elim it [ inl answered ↦ inl answered | inr refused ↦ inr (λ held. inl (((refl, refl), c.in_err-begin_archive.ensures.untold), refused held)) ]) c.in_err-begin_archive.ensures.refused)
 
 pub returns-in_err-begin_archive-clause-ends : goal.returns-in_err-begin_archive-clause-ends
 returns-in_err-begin_archive-clause-ends g c =
     let over = socket_rules g.S.Sockets.opens g.S.Sockets.closes g.S.Socket.Port.sends g.S.Socket.Port.receives g.S.Socket.Port.receives_within in
     handed_on c.from_residual.result c.in_err-begin_archive.field-0.0 _ c.from_residual.ensures.1
     (file_asks (λ fault. EndsKeeping over (at_once g.S.Recalls.holds g.C.Clock.reads c.args.clock c.args.window) c.args.chosen (Unit {0}) (Unit {0}) c.args.sockets.now c.args.sockets.now fault
-    × (IsHeld (state g.A.Store c.begin_archive.new.conn) → EndsOver over (at_once g.S.Recalls.holds g.C.Clock.reads c.args.clock c.args.window) c.args.chosen (given_in c.args.options.now) c.args.sockets.now c.args.sockets.now (state g.A.Store c.args.conn.now).now fault))
+    × (IsHeld (state g.A.Store c.begin_archive.new.conn) → EndsOver over (at_once g.S.Recalls.holds g.C.Clock.reads c.args.clock c.args.window) c.args.chosen (given_in c.args.options.now) c.args.sockets.now c.args.sockets.now (state g.A.Store c.args.conn.now).now (state g.A.Store c.begin_archive.new.conn).committed fault))
     c.in_err-begin_archive.field-0.0 c.in_err-begin_archive.ensures.file)
 
 pub returns-in_err-status-clause-fault : goal.returns-in_err-status-clause-fault
@@ -106,10 +108,14 @@ returns-in_err-status-clause-fault g c =
     let archive = state g.A.Store c.begin_archive.new.conn in
     let part = file_ghosts g.row.G g.G.Start g.G.Start-dict g.G.Destruct-dict in
     let bars = BarsPart part (image_at g.G.Start) c.args.place.now.before c.begin_archive.new.parts in
-    let quiet = IsQuiet c.args.sockets.now c.keep_chosen.new.sockets (g.O.Write.contents c.args.output.now) (g.O.Write.contents c.keep_chosen.new.output) in
+    let quiet = IsQuiet c.args.sockets.now c.keep_chosen.new.sockets (g.O.Write.contents c.args.output.now) (g.O.Write.contents c.keep_chosen.new.output)
+    × (g.E.Write.contents c.keep_chosen.new.errors ≡ g.E.Write.contents c.args.errors.now) in
     handed_on c.from_residual-in_err-status.result c.in_err-status.field-0.0 _ c.from_residual-in_err-status.ensures.1
     (refused_so over (at_once g.S.Recalls.holds g.C.Clock.reads c.args.clock c.args.window) bars quiet c.args.chosen (given_in c.args.options.now) (state g.A.Store c.args.conn.now).now archive (state g.A.Store c.keep_chosen.new.conn) c.args.sockets.now c.keep_chosen.new.sockets c.in_err-status.field-0.0
-    (λ held. let opened = c.in_ok-begin_archive.ensures.archive (c.keep_chosen.ensures.clean held.0) in (opened, opened.is.schema)) c.in_err-status.ensures.caused)
+    (λ held.
+    let early : HasCleanDisk archive = c.keep_chosen.ensures.clean held.0 in
+    let opened = c.in_ok-begin_archive.ensures.archive early in
+    (opened, opened.is.schema, c.in_ok-begin_archive.ensures.committed early)) c.in_err-status.ensures.caused)
 
 pub returns-in_err-status-clause-ends : goal.returns-in_err-status-clause-ends
 returns-in_err-status-clause-ends g c =
@@ -118,10 +124,17 @@ returns-in_err-status-clause-ends g c =
     let last = state g.A.Store c.keep_chosen.new.conn in
     handed_on c.from_residual-in_err-status.result c.in_err-status.field-0.0 _ c.from_residual-in_err-status.ensures.1
     (may_ask (λ fault. EndsKeeping over (at_once g.S.Recalls.holds g.C.Clock.reads c.args.clock c.args.window) c.args.chosen (Unit {0}) (Unit {0}) c.args.sockets.now c.keep_chosen.new.sockets fault
-    × (IsHeld last → EndsOver over (at_once g.S.Recalls.holds g.C.Clock.reads c.args.clock c.args.window) c.args.chosen (given_in c.args.options.now) c.args.sockets.now c.keep_chosen.new.sockets (state g.A.Store c.args.conn.now).now fault)) c.in_err-status.field-0.0 (
+    × (IsHeld last → EndsOver over (at_once g.S.Recalls.holds g.C.Clock.reads c.args.clock c.args.window) c.args.chosen (given_in c.args.options.now) c.args.sockets.now c.keep_chosen.new.sockets (state g.A.Store c.args.conn.now).now last.committed fault)) c.in_err-status.field-0.0 (
       keeping_so over (at_once g.S.Recalls.holds g.C.Clock.reads c.args.clock c.args.window) (OverArchive archive last (HasNone archive.now.trees)) (Unit {0}) (OverArchive archive last (LacksAddress (given_in c.args.options.now) archive.now.trees)) (Unit {0})
           (λ n. tt {0}) (λ n. tt {0}) c.args.chosen c.args.sockets.now c.keep_chosen.new.sockets c.in_err-status.field-0.0 c.in_err-status.ensures.fault,
-      λ held. let opened = c.in_ok-begin_archive.ensures.archive (c.keep_chosen.ensures.clean held.0) in (archive.now, opened, c.in_err-status.ensures.caused held.0 opened.is.schema),
+      λ held.
+          let early : HasCleanDisk archive = c.keep_chosen.ensures.clean held.0 in
+          let opened = c.in_ok-begin_archive.ensures.archive early in (
+            archive.now,
+            opened,
+            leaves_committed archive last (λ left. EndsRunOver over (at_once g.S.Recalls.holds g.C.Clock.reads c.args.clock c.args.window) (given_in c.args.options.now) c.args.chosen c.args.sockets.now c.keep_chosen.new.sockets archive.now left c.in_err-status.field-0.0)
+                (c.in_ok-begin_archive.ensures.committed early) held.1 (c.in_err-status.ensures.caused held.0 opened.is.schema),
+          ),
     ))
 
 pub returns-clause-fault : goal.returns-clause-fault
@@ -131,7 +144,7 @@ pub returns-clause-ends : goal.returns-clause-ends
 returns-clause-ends g c =
     let over = socket_rules g.S.Sockets.opens g.S.Sockets.closes g.S.Socket.Port.sends g.S.Socket.Port.receives g.S.Socket.Port.receives_within in
     all_database_ask (λ fault. EndsKeeping over (at_once g.S.Recalls.holds g.C.Clock.reads c.args.clock c.args.window) c.args.chosen (Unit {0}) (Unit {0}) c.args.sockets.now c.keep_chosen.new.sockets fault
-    × (IsHeld (state g.A.Store c.keep_chosen.new.conn) → EndsOver over (at_once g.S.Recalls.holds g.C.Clock.reads c.args.clock c.args.window) c.args.chosen (given_in c.args.options.now) c.args.sockets.now c.keep_chosen.new.sockets (state g.A.Store c.args.conn.now).now fault))
+    × (IsHeld (state g.A.Store c.keep_chosen.new.conn) → EndsOver over (at_once g.S.Recalls.holds g.C.Clock.reads c.args.clock c.args.window) c.args.chosen (given_in c.args.options.now) c.args.sockets.now c.keep_chosen.new.sockets (state g.A.Store c.args.conn.now).now (state g.A.Store c.keep_chosen.new.conn).committed fault))
     c.settled.result c.settled.ensures.fault
 
 pub returns-in_err-begin_archive-clause-stays : goal.returns-in_err-begin_archive-clause-stays

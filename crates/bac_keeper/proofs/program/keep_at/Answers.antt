@@ -3,7 +3,7 @@ use Rattle.std.proofs.Common.{inl, refl, is_some, ◌||◌}
 use Rattle.std.specs.String.{string_bytes}
 use Rattle.bac_files.specs.Files.{IsNamed}
 use Rattle.sqlite_wal.specs.Files.{image_at}
-use Rattle.bac_keeper.proofs.EndLemmas.{ended, not_done}
+use Rattle.bac_keeper.proofs.EndLemmas.{blamed_is, ended, not_done}
 use Rattle.bac_fetch.specs.Ahead.{at_once}
 use Rattle.bac_ports.specs.Sockets.{socket_rules}
 use Rattle.bac_words.specs.Groups.{are_any}
@@ -14,11 +14,15 @@ pub returns-clause-kept : goal.returns-clause-kept
 returns-clause-kept g c =
     let done = c.keep-done in
     let named = IsNamed (string_bytes c.args.place.path) (are_any c.args.asked.now.groups || is_some c.args.place.before) done.new.files in
-    ended named _ _ done.result c.tell_done.result done.ensures.kept done.ensures.named done.ensures.fault c.tell_done.ensures.ends
+    let mid = g.E.Write.contents done.new.errors in
+    let path = c.blamed.result.now in
+    let is = blamed_is c.args.place done.new.place path done.ensures.place.0 done.ensures.place.1 c.blamed.ensures in
+    ended named _ _ _ path mid (g.E.Write.contents c.tell_done.new.errors) done.result c.tell_done.result
+    (λ why fails told. (mid, fails, path, is, told)) done.ensures.kept done.ensures.named done.ensures.fault c.tell_done.ensures.ends c.tell_done.ensures.said
 
 pub returns-clause-ends : goal.returns-clause-ends
 returns-clause-ends g c =
     let disk = file_ghosts g.row.F g.F.Start g.F.Start-dict g.F.Destruct-dict in
     let over = socket_rules g.S.Sockets.opens g.S.Sockets.closes g.S.Socket.Port.sends g.S.Socket.Port.receives g.S.Socket.Port.receives_within in
     let done = c.keep-done in
-    not_done (EndsKeep over (at_once g.S.Recalls.holds g.C.Clock.reads c.args.clock) disk (image_at g.F.Start) c.args.asked.now c.args.sockets.now done.new.sockets done.new.files) done.result c.tell_done.result (inl refl) done.ensures.ends c.tell_done.ensures.why
+    not_done (EndsKeep over (at_once g.S.Recalls.holds g.C.Clock.reads c.args.clock) disk (image_at g.F.Start) c.args.asked.now c.args.sockets.now done.new.sockets done.new.files) done.result c.tell_done.result (λ file is. inl refl) done.ensures.ends c.tell_done.ensures.why

@@ -8,6 +8,8 @@ use Rattle.sqlite.specs.declared.error.Error.TheVariants.{SqliteFailure}
 use Rattle.sqlite.specs.declared.error.ErrorCode.TheVariants.{OperationInterrupted}
 use Rattle.bac_kept.specs.Printed.{lines_behind}
 use Rattle.bac_archive.proofs.RowsLemmas.{on_err}
+use Rattle.bac_kept.specs.Faults.{IsLeftAs}
+use Rattle.bac_kept.proofs.ReadLemmas.{left_failed, left_same, left_then}
 use Rattle.bac_kept.proofs.PrintedLemmas.{all_given, clean_before, first_given, newest_next, part_next, written_next}
 use Rattle.bac_kept.proofs.kept.print_items.Goals as goal
 use Rattle.bac_print.proofs.Octets.{whole_part}
@@ -89,3 +91,43 @@ returns-in_err-newest-clause-crash g c has =
     let now = c.next.follows.lender-at-none.conn.now in
     let same : now ≡ c.conn-in_err-newest-1.given.0 = search rules in
     subst (λ h. Survives old (state g.A.Store h) (λ _. ⊥)) same (survives_then old mid (state g.A.Store now) _ _ _ (λ _ db none. none) (λ _ db none. none) (c.rows.invariant.3 has) moved.survives)
+
+pub returns-in-Ok-None-clause-left : goal.returns-in-Ok-None-clause-left
+returns-in-Ok-None-clause-left g c clean has =
+    let old = state g.A.Store c.args.conn.now in
+    let mid = state g.A.Store c.rows.rows.conn.now in
+    let moved = c.next.follows.holds-at-none in
+    let now = c.next.follows.lender-at-none.conn.now in
+    let late : HasCleanDisk (state g.A.Store now) = search rules in
+    let was = c.rows.invariant.2 (clean_before mid (state g.A.Store now) moved.survives.clean late) has in
+    let same : now ≡ c.conn-in-Ok-None-1.given.0 = search rules in
+    subst (λ h. IsLeftAs old (state g.A.Store h)) same (left_same old (state g.A.Store now) (unchanged_then old mid (state g.A.Store now) was.2 (rw (c.in-Ok-None.is) at (moved.same late))))
+
+pub returns-in-Err-next-clause-left : goal.returns-in-Err-next-clause-left
+returns-in-Err-next-clause-left g c clean has =
+    let old = state g.A.Store c.args.conn.now in
+    let mid = state g.A.Store c.rows.rows.conn.now in
+    let moved = c.next.follows.holds-at-none in
+    let now = c.next.follows.lender-at-none.conn.now in
+    let late : HasCleanDisk (state g.A.Store now) = search rules in
+    let was = c.rows.invariant.2 (clean_before mid (state g.A.Store now) moved.survives.clean late) has in
+    let same : now ≡ c.conn-in-Err-next-1.given.0 = search rules in
+    subst (λ h. IsLeftAs old (state g.A.Store h)) same (left_then old mid (state g.A.Store now) (left_same old mid was.2) (left_failed mid (state g.A.Store now) _ (rw (c.in-Err-next.is) at (moved.kept late))))
+
+pub returns-in_err-newest-clause-left : goal.returns-in_err-newest-clause-left
+returns-in_err-newest-clause-left g c clean has =
+    let old = state g.A.Store c.args.conn.now in
+    let mid = state g.A.Store c.rows.rows.conn.now in
+    let moved = c.next.follows.holds-at-none in
+    let now = c.next.follows.lender-at-none.conn.now in
+    let late : HasCleanDisk (state g.A.Store now) = search rules in
+    let was = c.rows.invariant.2 (clean_before mid (state g.A.Store now) moved.survives.clean late) has in
+    let same : now ≡ c.conn-in_err-newest-1.given.0 = search rules in
+    subst (λ h. IsLeftAs old (state g.A.Store h)) same (left_same old (state g.A.Store now) (unchanged_then old mid (state g.A.Store now) was.2 (rw (c.in-Ok-Some.is) at (moved.same late))))
+
+pub returns-clause-left : goal.returns-clause-left
+returns-clause-left g c clean has =
+    let old = state g.A.Store c.args.conn.now in
+    let late : HasCleanDisk (state g.A.Store c.rows.rows.conn.now) = search rules in
+    let same : c.rows.rows.conn.now ≡ c.conn-2-1.given.0 = search rules in
+    subst (λ h. IsLeftAs old (state g.A.Store h)) same (left_same old (state g.A.Store c.rows.rows.conn.now) (c.rows.invariant.2 late has).2)

@@ -1,11 +1,11 @@
-use Rattle.std.proofs.Common.{false, ◌≡◌, ℕ, List, take}
-use Rattle.std.specs.List.{All}
+use Rattle.std.proofs.Common.{◌≡◌, ℕ, List, take}
 use Rattle.std.specs.Io.KnownBytes.{Appends}
 use Rattle.sqlite.specs.State.{HasCleanDisk}
 use Rattle.sqlite.specs.Held.{state}
 use Rattle.bac_archive.specs.Rows.{kept}
+use Rattle.bac_kept.specs.Faults.{IsLeftAs}
 use Rattle.bac_kept.specs.Parts.{PrintsPart}
-use Rattle.bac_kept.specs.Printed.{is_chosen}
+use Rattle.bac_kept.specs.Printed.{has_chosen}
 use Rattle.bac_archive.specs.Schema.{HasArchive}
 use Rattle.bac_kept.proofs.parts.print_each.Given as goal
 
@@ -18,4 +18,5 @@ invariant-loop-log g l =
     × (HasCleanDisk now → HasArchive old.now.schema → (now.now ≡ old.now)
     × (text : List ℕ) × PrintsPart l.fn.shown l.fn.csv (take l.log-index l.fn.all) (kept old.now.trees) l.fn.seen text l.seen
     × Appends (g.O.Write.contents l.fn.output) (g.O.Write.contents l.output) text)
-    × (l.any ≡ false → All (λ log. is_chosen l.fn.shown log ≡ false) (take l.log-index l.fn.all))
+    × (l.any ≡ has_chosen l.fn.shown (take l.log-index l.fn.all))
+    × (HasCleanDisk now → HasArchive old.now.schema → IsLeftAs old now)

@@ -1,15 +1,13 @@
-use Rattle.std.proofs.Common.{◌≡◌, List, false, ◌++◌, subst, sym, ◌∙◌, arith, rules}
-use Rattle.std.specs.List.{All}
+use Rattle.std.proofs.Common.{◌≡◌, List, ◌++◌, nat_lt, take, subst, sym, ◌∙◌, arith, rules}
 use Rattle.std.proofs.lemmas.List.{take_all}
-use Rattle.std.proofs.lemmas.List.Elements.{All-push}
 use Rattle.std.proofs.KnownBytes.{Appends-trans}
 use Rattle.sqlite.specs.Effect.{Database}
 use Rattle.sqlite.specs.Held.{state}
 use Rattle.sqlite.proofs.StateLemmas.{survives_then}
 use Rattle.bac_archive.specs.Rows.{kept}
 use Rattle.bac_archive.specs.declared.trend_logs.Log.{Log}
-use Rattle.bac_kept.specs.Printed.{is_chosen, PrintsLog, PrintsLogs}
-use Rattle.bac_kept.proofs.PrintedLemmas.{log_more}
+use Rattle.bac_kept.specs.Printed.{PrintsLog, PrintsLogs, has_chosen}
+use Rattle.bac_kept.proofs.PrintedLemmas.{chosen_more, log_more}
 use Rattle.bac_archive.specs.Schema.{HasArchive}
 use Rattle.bac_kept.proofs.printing.print_logs.Goals as goal
 use Rattle.bac_asked.proofs.Results.{take_one}
@@ -32,10 +30,7 @@ loop-log-preserved g c =
             subst (λ l. PrintsLogs c.args.shown.now items l (was.1 ++ one.0)) (sym taken) (log_more c.args.shown.now items _ log was.1 one.0 was.2 mine),
             Appends-trans (g.O.Write.contents c.args.output.now) (g.O.Write.contents c.loop-log.output) (g.O.Write.contents c.print_log.new.output) was.1 one.0 was.3 one.2,
           ),
-      λ zero.
-          let (before, unchosen) = c.counted-count.ensures zero in
-          subst (λ l. All (λ log. is_chosen c.args.shown.now log ≡ false) l) (sym taken)
-          (All-push (λ log. is_chosen c.args.shown.now log ≡ false) _ log (c.loop-log.invariant.2 before) (sym it.chosen ∙ unchosen)),
+      c.counted-count.ensures ∙ chosen_more c.args.shown.now (take c.loop-log.log-index c.args.all.now) log _ (nat_lt 0 c.loop-log.count) _ taken c.loop-log.invariant.2 it.chosen,
       λ late has.
           let clean = it.clean late in
           let schema = subst (λ (d : Database). HasArchive d.schema) (sym (c.loop-log.invariant.1 clean has).0) has in
@@ -52,10 +47,10 @@ returns-clause-printed g c late has =
     let whole = take_all c.loop-log.log-index c.args.all.now (omega (arith, c.loop-log-test.false)) in
     (was.1, subst (λ (l : List Log). PrintsLogs c.args.shown.now (kept old.now.trees) l was.1) whole was.2, was.3)
 
-pub returns-clause-none : goal.returns-clause-none
-returns-clause-none g c zero =
+pub returns-clause-chosen : goal.returns-clause-chosen
+returns-clause-chosen g c =
     let whole = take_all c.loop-log.log-index c.args.all.now (omega (arith, c.loop-log-test.false)) in
-    subst (λ (l : List Log). All (λ log. is_chosen c.args.shown.now log ≡ false) l) whole (c.loop-log.invariant.2 zero)
+    subst (λ (l : List Log). nat_lt 0 c.loop-log.count ≡ has_chosen c.args.shown.now l) whole c.loop-log.invariant.2
 
 pub returns-in_err-print_log-clause-crash : goal.returns-in_err-print_log-clause-crash
 returns-in_err-print_log-clause-crash g c late has =

@@ -1,10 +1,9 @@
-use Rattle.std.proofs.Common.{false, ◌≡◌, ℕ, List, take}
-use Rattle.std.specs.List.{All}
+use Rattle.std.proofs.Common.{◌≡◌, ℕ, nat_lt, List, take}
 use Rattle.std.specs.Io.KnownBytes.{Appends}
 use Rattle.sqlite.specs.State.{HasCleanDisk, Survives}
 use Rattle.sqlite.specs.Held.{state}
 use Rattle.bac_archive.specs.Rows.{kept}
-use Rattle.bac_kept.specs.Printed.{is_chosen, PrintsLogs}
+use Rattle.bac_kept.specs.Printed.{PrintsLogs, has_chosen}
 use Rattle.bac_archive.specs.Schema.{HasArchive}
 use Rattle.bac_kept.proofs.printing.print_logs.Given as goal
 
@@ -17,5 +16,5 @@ invariant-loop-log g l =
     × (HasCleanDisk now → HasArchive old.now.schema → (now.now ≡ old.now)
     × (text : List ℕ) × PrintsLogs l.fn.shown (kept old.now.trees) (take l.log-index l.fn.all) text
     × Appends (g.O.Write.contents l.fn.output) (g.O.Write.contents l.output) text)
-    × (l.count ≡ 0 → All (λ log. is_chosen l.fn.shown log ≡ false) (take l.log-index l.fn.all))
+    × (nat_lt 0 l.count ≡ has_chosen l.fn.shown (take l.log-index l.fn.all))
     × (HasCleanDisk now → HasArchive old.now.schema → (now.committed ≡ old.committed) × Survives old now (λ _. ⊥))

@@ -1,8 +1,6 @@
-use Rattle.std.proofs.Common.{◌≡◌, List, false, ◌++◌, subst, sym, append_assoc, ◌∙◌, arith, rules}
+use Rattle.std.proofs.Common.{◌≡◌, List, ◌++◌, nat_lt, take, subst, sym, append_assoc, ◌∙◌, arith, rules}
 use Rattle.std.specs.Io.KnownBytes.{Appends}
-use Rattle.std.specs.List.{All}
 use Rattle.std.proofs.lemmas.List.{take_all}
-use Rattle.std.proofs.lemmas.List.Elements.{All-push}
 use Rattle.std.proofs.KnownBytes.{Appends-trans}
 use Rattle.csv.specs.Writing.{default_writer, row_text}
 use Rattle.sqlite.specs.Effect.{Database}
@@ -11,8 +9,9 @@ use Rattle.sqlite.proofs.StateLemmas.{survives_then}
 use Rattle.bac_archive.specs.Rows.{kept}
 use Rattle.bac_archive.specs.declared.trend_logs.Log.{Log}
 use Rattle.bac_kept.specs.Csv.{WritesLog, WritesLogs, names}
-use Rattle.bac_kept.specs.Printed.{is_chosen}
+use Rattle.bac_kept.specs.Printed.{has_chosen}
 use Rattle.bac_kept.proofs.CsvLemmas.{log_more}
+use Rattle.bac_kept.proofs.PrintedLemmas.{chosen_more}
 use Rattle.bac_archive.specs.Schema.{HasArchive}
 use Rattle.bac_kept.proofs.printing.write_logs.Goals as goal
 use Rattle.bac_asked.proofs.Results.{take_one}
@@ -37,10 +36,7 @@ loop-log-preserved g c =
             subst (λ l. WritesLogs c.args.shown.now items l (was.1 ++ one.0)) (sym taken) (log_more c.args.shown.now items _ log was.1 one.0 was.2 mine),
             subst (Appends (g.O.Write.contents c.args.output.now) (g.O.Write.contents c.write_log.new.output)) (append_assoc first was.1 one.0) all,
           ),
-      λ zero.
-          let (before, unchosen) = c.counted-count.ensures zero in
-          subst (λ l. All (λ log. is_chosen c.args.shown.now log ≡ false) l) (sym taken)
-          (All-push (λ log. is_chosen c.args.shown.now log ≡ false) _ log (c.loop-log.invariant.2 before) (sym it.chosen ∙ unchosen)),
+      c.counted-count.ensures ∙ chosen_more c.args.shown.now (take c.loop-log.log-index c.args.all.now) log _ (nat_lt 0 c.loop-log.count) _ taken c.loop-log.invariant.2 it.chosen,
       λ late has.
           let clean = it.clean late in
           let schema = subst (λ (d : Database). HasArchive d.schema) (sym (c.loop-log.invariant.1 clean has).0) has in
@@ -57,10 +53,10 @@ returns-clause-written g c late has =
     let whole = take_all c.loop-log.log-index c.args.all.now (omega (arith, c.loop-log-test.false)) in
     (was.1, subst (λ (l : List Log). WritesLogs c.args.shown.now (kept old.now.trees) l was.1) whole was.2, was.3)
 
-pub returns-clause-none : goal.returns-clause-none
-returns-clause-none g c zero =
+pub returns-clause-chosen : goal.returns-clause-chosen
+returns-clause-chosen g c =
     let whole = take_all c.loop-log.log-index c.args.all.now (omega (arith, c.loop-log-test.false)) in
-    subst (λ (l : List Log). All (λ log. is_chosen c.args.shown.now log ≡ false) l) whole (c.loop-log.invariant.2 zero)
+    subst (λ (l : List Log). nat_lt 0 c.loop-log.count ≡ has_chosen c.args.shown.now l) whole c.loop-log.invariant.2
 
 pub returns-in_err-write_log-clause-crash : goal.returns-in_err-write_log-clause-crash
 returns-in_err-write_log-clause-crash g c late has =

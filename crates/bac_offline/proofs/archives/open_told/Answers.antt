@@ -1,4 +1,4 @@
-use Rattle.std.proofs.Common.{◌≡◌, ◌⊎◌, ◌∙◌, inl, inr, subst, subst₂, sym, is_some, rules}
+use Rattle.std.proofs.Common.{◌≡◌, ◌⊎◌, ◌∙◌, Err, ap, inl, inr, subst, subst₂, sym, is_some, rules}
 use Rattle.std.specs.String.{string_bytes}
 use Rattle.sqlite.specs.Effect.{Database}
 use Rattle.sqlite.specs.Held.{state}
@@ -44,7 +44,9 @@ returns-in-Ok-clause-same g c clean has =
 pub returns-in-Err-clause-refused : goal.returns-in-Err-clause-refused
 returns-in-Err-clause-refused g c =
     subst (λ (why : FileFault). ((error : Error) × (why ≡ of_error error)) ⊎ (IsHeld (state g.A.Store c.tell_missing.new.conn) → IsNoArchive (state g.A.Store c.args.conn.now).now why))
-    (sym c.uncounted_fault.ensures) (uncounted_so (IsHeld (state g.A.Store c.tell_missing.new.conn)) (state g.A.Store c.args.conn.now).now c.in-Err.why)
+    (sym c.uncounted_fault.ensures) (uncounted_so (IsHeld (state g.A.Store c.tell_missing.new.conn)) (state g.A.Store c.args.conn.now).now c.in-Err.why (λ held over.
+    let opened = c.in_ok-open_archive.ensures.archive (c.tell_missing.ensures.clean held.0) in
+    c.in-Err.ensures.apart held.0 opened.is.schema opened.is.apart (ap Err over)))
 
 pub returns-in-Err-clause-left : goal.returns-in-Err-clause-left
 returns-in-Err-clause-left g c held some =

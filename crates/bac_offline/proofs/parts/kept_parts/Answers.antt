@@ -1,6 +1,7 @@
 use Rattle.std.proofs.Common.{inl, inr, map, refl, subst, sym}
-use Rattle.std.proofs.lemmas.Result.{IfErr-weaker, IfOk-weaker}
+use Rattle.std.proofs.lemmas.Result.{IfErr-weaker}
 use Rattle.std.specs.String.{string_bytes}
+use Rattle.bac_asked.proofs.Results.{both_ok}
 use Rattle.bac_offline.specs.Ends.{MayFail}
 use Rattle.bac_offline.specs.Parted.{FailsFolder, PrintsAll, at_part}
 use Rattle.bac_offline.proofs.NamesLemmas.{never_fails}
@@ -12,24 +13,23 @@ returns-in-Ok-clause-printed g c =
     let end = g.O.Write.contents c.print_all.new.output in
     let begun = at_part c.args.parts.now c.new-printer.result first (g.E.Write.contents c.args.errors.now) in
     let ended = at_part c.print_all.new.parts c.print_all.new.printer end (g.E.Write.contents c.print_all.new.errors) in
-    IfOk-weaker c.ended.result _ _
-    (λ status same. (
+    both_ok c.ended.result _ _ _
+    (λ status same there. (
       c.print_all.new.printer,
       (
         c.in_ok-shown.shown,
         c.in_ok-shown.ensures.shows,
         c.new-printer.result,
-        c.new-printer.ensures.0,
-        c.new-printer.ensures.1,
-        c.new-printer.ensures.2,
+        c.new-printer.ensures,
         first,
         end,
         c.in_ok-print_names.ensures.written,
         subst (λ n. PrintsAll g.P.Parts.holds g.P.Parts.bars (map string_bytes c.args.paths.now) begun n ended) (sym same) c.in-Ok.ensures.printed,
         c.ended.ensures.stays,
       ),
+      there,
     ))
-    c.ended.ensures.status
+    c.ended.ensures.status c.ended.ensures.there
 
 pub returns-in-Ok-clause-fault : goal.returns-in-Ok-clause-fault
 returns-in-Ok-clause-fault g c =
@@ -53,9 +53,7 @@ returns-in-Ok-clause-fault g c =
           c.in_ok-shown.shown,
           c.in_ok-shown.ensures.shows,
           c.new-printer.result,
-          c.new-printer.ensures.0,
-          c.new-printer.ensures.1,
-          c.new-printer.ensures.2,
+          c.new-printer.ensures,
           first,
           end,
           c.in_ok-print_names.ensures.written,

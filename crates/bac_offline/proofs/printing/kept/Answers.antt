@@ -6,7 +6,7 @@ use Rattle.bac_offline.specs.Shown.{EndsPrint, RefusesPrint}
 use Rattle.bac_offline.specs.Works.{PrintsOver}
 use Rattle.bac_offline.proofs.FileLemmas.{all_ask_so, all_fail, fails_clean}
 use Rattle.bac_offline.proofs.NamesLemmas.{asks_unshown, may_ask, never_fails}
-use Rattle.bac_offline.proofs.WorkLemmas.{work_asks, work_fails, work_named, work_prints, work_rows}
+use Rattle.bac_offline.proofs.WorkLemmas.{work_asks, work_named, work_prints, work_rows, work_still}
 use Rattle.bac_offline.proofs.printing.kept.Goals as goal
 use Rattle.bac_offline.proofs.EndLemmas.{handed_on}
 
@@ -18,9 +18,10 @@ returns-clause-named g c =
 pub returns-clause-fault : goal.returns-clause-fault
 returns-clause-fault g c =
     all_fail _ _ c.work_in.result (λ why it. (c.in_ok-shown.shown, c.in_ok-shown.ensures.shows, it))
-    (work_fails (image_at g.F.Start) c.as_str.result.now c.args.files.now c.work_in.new.files
-    c.args.output.now c.work_in.new.with c.work_in.result (λ old new before after. PrintsOver c.in_ok-shown.shown c.args.asked.now.csv old new (g.O.Write.contents before) (g.O.Write.contents after)) c.args.asked.now.file (search rules)
-    (RefusesPrint c.in_ok-shown.shown) (λ found last done did. fails_clean _ _ _ done did.clean did.fault) c.work_in.ensures)
+    (work_still (image_at g.F.Start) c.as_str.result.now c.args.files.now c.work_in.new.files
+    c.args.output.now c.work_in.new.with c.work_in.result g.O.Write.contents
+    (λ old new before after. PrintsOver c.in_ok-shown.shown c.args.asked.now.csv old new (g.O.Write.contents before) (g.O.Write.contents after)) c.args.asked.now.file (search rules)
+    (RefusesPrint c.in_ok-shown.shown c.args.asked.now.csv (g.O.Write.contents c.args.output.now) (g.O.Write.contents c.work_in.new.with)) (λ found last done did. fails_clean _ _ _ done did.clean did.fault) c.work_in.ensures)
 
 pub returns-clause-printed : goal.returns-clause-printed
 returns-clause-printed g c =

@@ -1,14 +1,19 @@
-use Rattle.std.proofs.Common.{◌⊎◌, ◌≡◌, ◌∙◌, inl, inr, subst, sym}
-use Rattle.bac_asked.specs.Faults.{RefusesLine, WantsMemory}
-use Rattle.bac_asked.specs.declared.end.NotDone.{NotDone}
+use Rattle.std.proofs.Common.{◌≡◌, ◌∙◌, List, inl, inr, refl, subst, subst₂, sym}
+use Rattle.bac_archive.specs.Changes.{HasChangedLogs}
+use Rattle.bac_archive.specs.declared.trend_logs.Log.{Log}
+use Rattle.bac_asked.specs.declared.fault.FileFault.{FileFault}
 use Rattle.sqlite.specs.Effect.{Database}
 use Rattle.sqlite.specs.Held.{state}
 use Rattle.sqlite.specs.State.{HasCleanDisk}
 use Rattle.bac_offline.proofs.ArchiveLemmas.{items_themselves, keeps_items, taken_fits}
 use Rattle.bac_offline.specs.Archives.{HasSameItems}
-use Rattle.bac_offline.proofs.FileLemmas.{fails_so, file_asks}
+use Rattle.bac_offline.proofs.FileLemmas.{fails_all, fails_so, file_asks}
 use Rattle.bac_offline.proofs.NamesLemmas.{may_ask}
-use Rattle.bac_offline.proofs.PrintLemmas.{printing_fails, stop_asks, stop_fails}
+use Rattle.bac_offline.proofs.PrintLemmas.{stop_asks, stop_fails, told_fails}
+use Rattle.bac_offline.proofs.StopLemmas.{tells_none, tells_part, tells_whole}
+use Rattle.bac_offline.specs.Stops.{stopped_lines}
+use Rattle.bac_offline.specs.Works.{EndsStopping}
+use Rattle.bac_print.specs.Output.{AppendsPart}
 use Rattle.bac_archive.specs.Schema.{HasArchive}
 use Rattle.bac_offline.proofs.EndLemmas.{handed_on}
 use Rattle.bac_offline.proofs.stopping.stop_in.Goals as goal
@@ -63,7 +68,18 @@ returns-in_err-open_archive-clause-fault g c =
 pub returns-in_err-open_archive-clause-ends : goal.returns-in_err-open_archive-clause-ends
 returns-in_err-open_archive-clause-ends g c =
     handed_on c.from_residual.result c.in_err-open_archive.field-0.0 _ c.from_residual.ensures.1
-    (file_asks (λ (f : NotDone). WantsMemory f ⊎ RefusesLine f) c.in_err-open_archive.field-0.0 c.in_err-open_archive.ensures.file)
+    (file_asks (EndsStopping c.args.meant.now (state g.A.Store c.args.conn.now) (state g.A.Store c.open_archive.new.conn) (g.O.Write.contents c.args.output.now) (g.O.Write.contents c.args.output.now))
+    c.in_err-open_archive.field-0.0 c.in_err-open_archive.ensures.file)
+
+pub returns-in_err-open_archive-clause-quiet : goal.returns-in_err-open_archive-clause-quiet
+returns-in_err-open_archive-clause-quiet g c =
+    let out = g.O.Write.contents c.args.output.now in
+    handed_on c.from_residual.result c.in_err-open_archive.field-0.0 _ c.from_residual.ensures.1
+    (fails_all (λ (why : FileFault). out ≡ out) c.in_err-open_archive.field-0.0 (λ why. refl))
+
+pub returns-in_err-open_archive-clause-told : goal.returns-in_err-open_archive-clause-told
+returns-in_err-open_archive-clause-told g c =
+    tells_none c.args.meant.now (g.O.Write.contents c.args.output.now) (g.O.Write.contents c.args.output.now) refl
 
 pub returns-in_err-these-clause-fault : goal.returns-in_err-these-clause-fault
 returns-in_err-these-clause-fault g c =
@@ -75,17 +91,73 @@ returns-in_err-these-clause-fault g c =
 pub returns-in_err-these-clause-ends : goal.returns-in_err-these-clause-ends
 returns-in_err-these-clause-ends g c =
     handed_on c.from_residual-in_err-these.result c.in_err-these.field-0.0 _ c.from_residual-in_err-these.ensures.1
-    (stop_asks _ c.in_err-these.field-0.0 c.in_err-these.ensures.fault)
+    (stop_asks (EndsStopping c.args.meant.now (state g.A.Store c.args.conn.now) (state g.A.Store c.stop_known.new.conn) (g.O.Write.contents c.args.output.now) (g.O.Write.contents c.args.output.now))
+    _ c.in_err-these.field-0.0 (λ memory. inl (memory, refl)) c.in_err-these.ensures.fault)
+
+pub returns-in_err-these-clause-quiet : goal.returns-in_err-these-clause-quiet
+returns-in_err-these-clause-quiet g c =
+    let out = g.O.Write.contents c.args.output.now in
+    handed_on c.from_residual-in_err-these.result c.in_err-these.field-0.0 _ c.from_residual-in_err-these.ensures.1
+    (fails_all (λ (why : FileFault). out ≡ out) c.in_err-these.field-0.0 (λ why. refl))
+
+pub returns-in_err-these-clause-told : goal.returns-in_err-these-clause-told
+returns-in_err-these-clause-told g c =
+    tells_none c.args.meant.now (g.O.Write.contents c.args.output.now) (g.O.Write.contents c.args.output.now) refl
 
 pub returns-in_err-print_stopped-clause-fault : goal.returns-in_err-print_stopped-clause-fault
 returns-in_err-print_stopped-clause-fault g c =
     handed_on c.from_residual-in_err-print_stopped.result c.in_err-print_stopped.field-0.0 _ c.from_residual-in_err-print_stopped.ensures.1
-    (printing_fails _ c.in_err-print_stopped.field-0.0 c.in_err-print_stopped.ensures.fault)
+    (told_fails _ _ _ c.in_err-print_stopped.field-0.0 c.in_err-print_stopped.ensures.fault)
+
+pub returns-in_err-print_stopped-clause-quiet : goal.returns-in_err-print_stopped-clause-quiet
+returns-in_err-print_stopped-clause-quiet g c =
+    let out = g.O.Write.contents c.args.output.now in
+    let out' = g.O.Write.contents c.print_stopped.new.output in
+    handed_on c.from_residual-in_err-print_stopped.result c.in_err-print_stopped.field-0.0 _ c.from_residual-in_err-print_stopped.ensures.1
+    (told_fails (λ (why : FileFault). out' ≡ out) _ _ c.in_err-print_stopped.field-0.0 c.in_err-print_stopped.ensures.fault)
+
+pub returns-in_err-print_stopped-clause-told : goal.returns-in_err-print_stopped-clause-told
+returns-in_err-print_stopped-clause-told g c =
+    let out = g.O.Write.contents c.args.output.now in
+    let out' = g.O.Write.contents c.print_stopped.new.output in
+    let meant = c.in_ok-these.ensures.meant in
+    elim c.in_err-print_stopped.ensures.fault [
+      | inl memory ↦ tells_none c.args.meant.now out out' memory.1
+      | inr line ↦ tells_part c.args.meant.now c.as_slice.result.now meant.0 out out' (c.as_slice.ensures.value ∙ meant.1) line.1
+    ]
+
+pub returns-clause-told : goal.returns-clause-told
+returns-clause-told g c =
+    let out = g.O.Write.contents c.args.output.now in
+    let out' = g.O.Write.contents c.print_stopped.new.output in
+    let meant = c.in_ok-these.ensures.meant in
+    tells_whole c.args.meant.now c.as_slice.result.now meant.0 out out' (c.as_slice.ensures.value ∙ meant.1) c.in_ok-print_stopped.ensures.printed
 
 pub returns-in_err-print_stopped-clause-ends : goal.returns-in_err-print_stopped-clause-ends
 returns-in_err-print_stopped-clause-ends g c =
+    let out = g.O.Write.contents c.args.output.now in
+    let out' = g.O.Write.contents c.print_stopped.new.output in
+    let found = state g.A.Store c.args.conn.now in
+    let archive = state g.A.Store c.open_archive.new.conn in
+    let last = state g.A.Store c.stop_known.new.conn in
     handed_on c.from_residual-in_err-print_stopped.result c.in_err-print_stopped.field-0.0 _ c.from_residual-in_err-print_stopped.ensures.1
-    (may_ask (λ (f : NotDone). WantsMemory f ⊎ RefusesLine f) c.in_err-print_stopped.field-0.0 c.in_err-print_stopped.ensures.fault)
+    (may_ask (EndsStopping c.args.meant.now found last out out') c.in_err-print_stopped.field-0.0 (elim c.in_err-print_stopped.ensures.fault [
+      | inl memory ↦ inl memory
+      | inr line ↦ inr (
+        line.0,
+        λ clean.
+            let opened = c.in_ok-open_archive.ensures.archive (c.stop_known.ensures.clean clean) in
+            let it = c.in_ok-these.ensures.stopped clean opened.is.schema in (
+              archive.now,
+              opened,
+              it.0,
+              it.1,
+              it.2,
+              subst₂ (λ (logs : List Log) (d : Database). HasChangedLogs archive.now d logs) it.3 (sym it.5) it.4,
+              subst (λ (logs : List Log). AppendsPart out out' (stopped_lines logs)) (c.as_slice.ensures.value ∙ it.3) line.1,
+            ),
+      )
+    ]))
 
 pub returns-in_err-open_archive-clause-stays : goal.returns-in_err-open_archive-clause-stays
 returns-in_err-open_archive-clause-stays g c held was =

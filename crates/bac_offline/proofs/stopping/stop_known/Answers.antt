@@ -49,3 +49,6 @@ returns-in-Ok-change_logs-clause-stopped g c clean has =
       subst₂ (λ (d : Database) (logs : List Log). HasChangedLogs d last logs) same c.as_slice-2.ensures.value changed.0,
       changed.1,
     )
+
+pub returns-in-Ok-change_logs-clause-meant : goal.returns-in-Ok-change_logs-clause-meant
+returns-in-Ok-change_logs-clause-meant g c = (c.in-Ok.known.items, c.in_ok-these.ensures.stopped)

@@ -1,5 +1,8 @@
-use Rattle.std.proofs.Common.{inl, inr}
+use Rattle.std.proofs.Common.{◌≡◌, ◌∙◌, Err, inl, inr, rules, subst, sym}
+use Rattle.sqlite.specs.Effect.{Database}
 use Rattle.sqlite.specs.Held.{state}
+use Rattle.bac_archive.specs.Archive.{LieApart}
+use Rattle.bac_archive.specs.Rows.{kept}
 use Rattle.bac_archive.proofs.QueryLemmas.{left_then}
 use Rattle.bac_archive.proofs.RowsLemmas.{on_err}
 use Rattle.bac_check.proofs.AskedLemmas.{as_left_behind, as_was_behind, has_still, twice_asked}
@@ -42,3 +45,14 @@ returns-in_err-count_each-clause-left g c late has =
     let both = twice_asked old mid last has (c.in_ok-known.ensures.same (c.beginnings.ensures.clean early) has) (c.in_ok-begun.ensures.same early) in
     on_err c.from_residual-in_err-count_each.result _
     (inr (as_left_behind g.A.Store c.args.conn.now c.beginnings.new.conn c.count_each.new.conn both (c.in_err-count_each.ensures.left late (has_still old last both has))))
+
+pub returns-in_err-count_each-clause-apart : goal.returns-in_err-count_each-clause-apart
+returns-in_err-count_each-clause-apart g c late has apart is =
+    let old = state g.A.Store c.args.conn.now in
+    let mid = state g.A.Store c.logs.new.conn in
+    let last = state g.A.Store c.beginnings.new.conn in
+    let early = c.count_each.ensures.clean late in
+    let both = twice_asked old mid last has (c.in_ok-known.ensures.same (c.beginnings.ensures.clean early) has) (c.in_ok-begun.ensures.same early) in
+    let err : c.from_residual-in_err-count_each.result ≡ Err c.in_err-count_each.field-0.0 = search rules in
+    c.in_err-count_each.ensures.apart late (has_still old last both has)
+    (subst (λ (d : Database). LieApart (kept d.trees)) (sym both.0.now_is) apart) (sym err ∙ is)

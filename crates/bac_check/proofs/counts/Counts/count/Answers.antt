@@ -1,9 +1,12 @@
-use Rattle.std.proofs.Common.{◌∙◌, subst, sym}
+use Rattle.std.proofs.Common.{◌≡◌, ◌∙◌, Err, ap, rules, subst, sym}
 use Rattle.sqlite.specs.Effect.{Database}
 use Rattle.bac_archive.proofs.RowsLemmas.{on_err}
+use Rattle.bac_archive.specs.Archive.{LieApart}
+use Rattle.bac_archive.specs.Rows.{kept}
 use Rattle.bac_archive.specs.Schema.{HasArchive}
 use Rattle.bac_check.proofs.AskedLemmas.{as_left_then, still}
 use Rattle.bac_check.specs.Counted.{CountsRows}
+use Rattle.bac_check.specs.declared.tally.Uncounted.TheVariants.{Overlap}
 use Rattle.bac_check.proofs.counts.Counts.count.Goals as goal
 
 pub returns-in_err-add-clause-left : goal.returns-in_err-add-clause-left
@@ -27,3 +30,12 @@ returns-clause-counted g c late has =
       joins = rw c.as_slice.ensures.value at (c.in_ok-joined.ensures.told early has);
       rows = subst (λ (d : Database). CountsRows d.trees c.args.self.now c.add.new.self) same (c.in_ok-add.ensures.counted late schema);
     }
+
+pub returns-in_err-add-clause-apart : goal.returns-in_err-add-clause-apart
+returns-in_err-add-clause-apart g c late has apart is =
+    let was = c.in_ok-joined.ensures.same (c.add.ensures.clean late) has in
+    let same = still g.A.Store c.args.conn.now c.are_joined.new.conn was in
+    let err : c.from_residual-in_err-add.result ≡ Err c.in_err-add.field-0.0 = search rules in
+    let over : c.in_err-add.field-0.0 ≡ Overlap = let both = sym err ∙ is in cc in
+    c.in_err-add.ensures.apart late (subst (λ (d : Database). HasArchive d.schema) (sym same) has)
+    (subst (λ (d : Database). LieApart (kept d.trees)) (sym same) apart) (ap Err over)

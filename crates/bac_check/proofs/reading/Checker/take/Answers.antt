@@ -1,8 +1,9 @@
-use Rattle.std.proofs.Common.{◌≡◌, ◌∙◌, inr, subst, sym, rules}
+use Rattle.std.proofs.Common.{◌≡◌, ◌∙◌, Err, ap, inr, subst, sym, rules}
 use Rattle.sqlite.specs.Effect.{Database}
 use Rattle.sqlite.specs.Held.{state}
 use Rattle.sqlite.specs.State.{HasCleanDisk}
-use Rattle.bac_archive.specs.Archive.{IsArchive}
+use Rattle.bac_archive.specs.Archive.{IsArchive, LieApart}
+use Rattle.bac_archive.specs.Rows.{kept}
 use Rattle.bac_archive.specs.Schema.{HasArchive}
 use Rattle.bac_check.proofs.AskedLemmas.{as_committed}
 use Rattle.bac_check.proofs.reading.Checker.take.Goals as goal
@@ -20,5 +21,6 @@ returns-in-Err-count g c clean =
       archive = is.0;
       left = λ is_open. as_committed g.A.Store c.accept.new.conn c.count.new.conn settled (c.in-Err-count.ensures.left clean schema) is_open ∙ is.1;
       failed = c.in-Err-count.why;
+      apart = λ over. c.in-Err-count.ensures.apart clean schema (subst (λ (d : Database). LieApart (kept d.trees)) (sym is.1) is.0.apart) (ap Err over);
       told = search rules;
     })))

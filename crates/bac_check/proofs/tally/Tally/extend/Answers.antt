@@ -3,8 +3,8 @@ use Rattle.bac_check.specs.Tallies.{gap_numbers}
 use Rattle.bac_check.proofs.TallyLemmas.{one_more}
 use Rattle.bac_check.proofs.tally.Tally.extend.Goals as goal
 
-pub returns : goal.returns
-returns c spans was up in_order =
+pub returns-clause-counted : goal.returns-clause-counted
+returns-clause-counted c spans was up in_order =
     let fits : c.args.self.now.last < 4294967296 = search rules in
     let same = c.in_ok-leave.ensures.same in
     let kept = c.count.ensures.same in

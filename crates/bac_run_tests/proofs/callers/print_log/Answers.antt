@@ -1,0 +1,18 @@
+use Rattle.bac_files.proofs.FileGhosts.{file_ghosts}
+use Rattle.bac_fetch.specs.Ahead.{at_once}
+use Rattle.bac_files.specs.Parts.{part_rules}
+use Rattle.bac_ports.specs.Sockets.{socket_rules}
+use Rattle.bac_run_tests.proofs.Prints.{named_there}
+use Rattle.bac_tools.specs.Streams.{streams}
+use Rattle.bac_words.specs.declared.job.Job.TheVariants as job
+use Rattle.bac_run_tests.proofs.callers.print_log.Goals as goal
+
+pub returns : goal.returns
+returns g c asked ask some zero =
+    let disk = file_ghosts g.row.F g.F.Start g.F.Start-dict g.F.Destruct-dict in
+    let part = file_ghosts g.row.G g.G.Start g.G.Start-dict g.G.Destruct-dict in
+    let rules = socket_rules g.S.Sockets.opens g.S.Sockets.closes g.S.Socket.Port.sends g.S.Socket.Port.receives g.S.Socket.Port.receives_within in
+    let old = streams (g.I.Read.remaining c.args.input.now) (g.O.Write.contents c.args.output.now) (g.E.Write.contents c.args.errors.now) c.args.sockets.now c.args.clock.now in
+    let new = streams (g.I.Read.remaining c.run.new.input) (g.O.Write.contents c.run.new.output) (g.E.Write.contents c.run.new.errors) c.run.new.sockets c.run.new.clock in
+    named_there g.S.Tracing.traces rules g.S.Heeds.passes g.C.Clock.tells disk part c.run.new.parts (at_once g.S.Recalls.holds g.W.Clock.reads c.args.waits) (part_rules g.Q.Parts.lists g.Q.Parts.holds g.Q.Parts.bars) c.args.folders.now c.run.new.folders old new c.args.files.now c.run.new.files c.run.result asked some
+    (c.run.ensures.done (job.Kept asked) ask) zero
