@@ -16,8 +16,8 @@ use Rattle.bac_link.specs.declared.transactions.Transactions.{Transactions}
 use Rattle.bac_link.specs.Datagrams.{answers_to, apdu_in}
 use Rattle.bac_link.specs.Delivery.{History, Moment, now, later}
 use Rattle.bac_link.specs.Links.{IsReply, IsUnknown, RisesBy}
-use Rattle.bac_link.specs.Path.{Path}
-use Rattle.bac_link.specs.Requests.{has_result, request_octets, service_of}
+use Rattle.bac_link.specs.Path.{Path, towards}
+use Rattle.bac_link.specs.Requests.{has_result, next_invoke, request_octets, service_of}
 use Rattle.bac_link.specs.Transactions.{begun_with, closed}
 
 -- What an answer is to its request (clause 5.4.4): the ACK of the request's service, which is a SimpleACK for a service
@@ -45,6 +45,31 @@ Concludes path invoke r (Err (fault.Refused refusal)) =
 Concludes path invoke r (Err fault.BadReply) = (datagram : List ℕ) × IsAnswer path invoke r BadReply datagram
 Concludes path invoke r (Err fault.Lost) = Unit {0}
 Concludes path invoke r (Err fault.TooLong) = Unit {0}
+
+-- ---- who asks, and how
+
+-- what an ask of a link does: the link before it, the octets, what came, and the link after it
+abbrev pub Ask : Type 0 → Type 1
+Ask S = S → List ℕ → Result (List ℕ) Loss → S → Type 0
+
+-- how a request goes: by a path, under an invoke ID, and so many times more as long as no answer comes (clause 5.4)
+pub record Way : Type 0 where
+  pub path : Path
+  pub invoke : ℕ
+  pub retries : ℕ
+
+-- the way of the next request of these transactions
+abbrev pub next_way : Transactions → Way
+next_way t = record { path = towards t.route; invoke = next_invoke t.invoke; retries = t.retries }
+
+-- a link, and the transactions over it
+pub record Client (S : Type 0) : Type 0 where
+  pub link : S
+  pub transactions : Transactions
+
+-- the two together
+abbrev pub client : {S : Type 0} → S → Transactions → Client S
+client link transactions = record { link = link; transactions = transactions }
 
 -- ---- over any link
 

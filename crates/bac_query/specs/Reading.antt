@@ -4,13 +4,12 @@ use Rattle.std.specs.Io.KnownBytes.{Appends, Keeps}
 use Rattle.bac_apdu.specs.declared.service.read_property.ReadProperty.{ReadProperty}
 use Rattle.bac_link.specs.Datagrams.{apdu_in}
 use Rattle.bac_link.specs.Exchanges.{Concludes, Exchanges}
-use Rattle.bac_link.specs.Path.{Path, towards}
-use Rattle.bac_link.specs.Requests.{next_invoke}
+pub use Rattle.bac_link.specs.Exchanges.{Way, next_way}
+use Rattle.bac_link.specs.Path.{Path}
 use Rattle.bac_link.specs.declared.exchanges.ExchangeFault.{ExchangeFault}
 use Rattle.bac_link.specs.declared.exchanges.ExchangeFault.TheVariants.{BadReply}
 use Rattle.bac_link.specs.declared.link.Lost.{Lost}
 use Rattle.bac_link.specs.declared.request.Request.TheVariants as request
-use Rattle.bac_link.specs.declared.transactions.Transactions.{Transactions}
 pub use Rattle.bac_print.specs.Output.{Held}
 use Rattle.bac_print.specs.Output.{AppendsPart}
 use Rattle.bac_query.specs.Answers.{values_in}
@@ -52,16 +51,6 @@ abbrev pub ReadsProperty : Path → ℕ → ReadProperty → Reals → Answer �
 ReadsProperty path invoke asked reals result old new =
     (answer : Result (List ℕ) ExchangeFault) × Concludes path invoke (request.ReadProperty asked) answer
     × PrintsAnswer reals answer result old new
-
--- how a request goes: by a path, under an invoke ID, and so many times more as long as no answer comes (clause 5.4)
-pub record Way : Type 0 where
-  pub path : Path
-  pub invoke : ℕ
-  pub retries : ℕ
-
--- the way of the next request of these transactions
-abbrev pub next_way : Transactions → Way
-next_way t = record { path = towards t.route; invoke = next_invoke t.invoke; retries = t.retries }
 
 -- and that exchange was one over the link, which is left so
 abbrev pub ReadsOver : {S : Type 0} → (S → List ℕ → Result (List ℕ) Lost → S → Type 0) →

@@ -4,13 +4,12 @@ use Rattle.std.specs.Prelude.{codes, decimal, None, Result, Ok, Err, IfOk}
 use Rattle.bac_apdu.specs.declared.service.read_property.ReadProperty.{ReadProperty}
 use Rattle.bac_wire.specs.Primitive.{Id, Unsigned}
 use Rattle.bac_link.specs.Exchanges.{Exchanges, Leaves}
+pub use Rattle.bac_link.specs.Exchanges.{Ask, Client, client}
 use Rattle.bac_link.specs.Path.{towards}
 use Rattle.bac_link.specs.Requests.{next_invoke}
 use Rattle.bac_link.specs.declared.exchanges.ExchangeFault.{ExchangeFault}
 use Rattle.bac_link.specs.declared.exchanges.ExchangeFault.TheVariants.{BadReply}
-use Rattle.bac_link.specs.declared.link.Lost.{Lost as Loss}
 use Rattle.bac_link.specs.declared.request.Request.TheVariants as request
-use Rattle.bac_link.specs.declared.transactions.Transactions.{Transactions}
 use Rattle.bac_query.specs.Cells.{IsUnanswered, ShowsCell}
 use Rattle.bac_query.specs.Answers.{Tells}
 use Rattle.bac_query.specs.ObjectList.{IsObject, TellsObject, TellsObjects, list_at, octets_at, whole_list}
@@ -19,19 +18,6 @@ use Rattle.bac_query.specs.declared.fault.QueryFault.{QueryFault}
 use Rattle.bac_query.specs.declared.fault.QueryFault.TheVariants.{Exchange, Write, Memory}
 
 -- ---- one question
-
--- what an ask of a link does
-abbrev pub Ask : Type 0 → Type 1
-Ask S = S → List ℕ → Result (List ℕ) Loss → S → Type 0
-
--- a link, and the transactions over it
-pub record Client (S : Type 0) : Type 0 where
-  pub link : S
-  pub transactions : Transactions
-
--- the two together
-abbrev pub client : {S : Type 0} → S → Transactions → Client S
-client link transactions = record { link = link; transactions = transactions }
 
 -- a property is asked for by the next transaction, and as often again as its retries say: an ACK came, or why none did
 abbrev pub Questions : {S : Type 0} → Ask S → ReadProperty → Client S → Result (List ℕ) ExchangeFault → Client S
