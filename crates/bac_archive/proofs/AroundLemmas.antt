@@ -1,5 +1,5 @@
 -- A schema that has what an archive has to have, written with that first and the others behind it.
-use Rattle.std.proofs.Common.{◌≡◌, refl, sym, ap, subst, ◌∙◌, ℕ, Bool, true, false, ◌==◌, codes, None, Ok, List, [], ◌∷◌, ◌++◌, arith, flat_map, filter_map}
+use Rattle.std.proofs.Common.{◌≡◌, ◌≤◌, ◌<◌, refl, sym, ap, subst, ◌∙◌, ℕ, Bool, true, false, ◌==◌, codes, None, Ok, List, [], ◌∷◌, ◌++◌, arith, flat_map, filter_map}
 use Rattle.std.specs.Fmt.{digits}
 use Rattle.std.proofs.lemmas.Bool.{eqb-true}
 use Rattle.std.specs.List.{All, AllByRecursion, list_any}
@@ -11,11 +11,13 @@ use Rattle.sqlite_schema.specs.declared.schema.Table.{Table}
 use Rattle.sqlite_schema.specs.declared.schema.Index.{Index}
 use Rattle.sqlite_schema.specs.declared.schema.View.{View}
 use Rattle.sqlite_schema.specs.declared.schema.Schema.{Schema}
-use Rattle.sqlite_rules.specs.Edit.{Edit, Applies, taken_by}
+use Rattle.sqlite_rules.specs.Edit.{Edit, Applies, IsNoIndex, taken_by}
 use Rattle.sqlite_rules.specs.Action.{work_for, Writes}
 use Rattle.sqlite_rules.specs.Keys.{shares}
 use Rattle.sqlite_schema.specs.Rules.{guards}
 use Rattle.sqlite.proofs.Callers.{one_step}
+use Rattle.sqlite.specs.Effect.{Database}
+use Rattle.bac_archive.specs.Rows.{SparesOthers}
 use Rattle.bac_archive.specs.Schema.{HasArchive, HasView, HasViews, RefersNowhere, is_of_archive, lets_in, archive_schema, archive_tables, archive_views, gaps_text, epochs_text, records_text, log_index, plain_view}
 
 pub parts_are : archive_schema ≡ record { tables = archive_tables; indexes = log_index ∷ []; views = archive_views }
@@ -49,6 +51,15 @@ pub one_step_around : (s : Schema) (has : HasArchive s) (keys : Keys) (db next :
 one_step_around s has keys db next edit wrote =
     one_step (around s has) keys db next edit
     (none_follow (around s has) keys edit.table.tree (taken_by db edit) edit.news has.tables.others (recursion_from_All RefersNowhere has.tables.others has.tables.alone)) wrote
+
+-- which leaves the rows of others as they were
+pub others_stay : (s : Schema) (has : HasArchive s) (keys : Keys) (db next : Trees) (edit : Edit) → Applies (around s has) keys db edit next → edit.table.tree ≤ 4
+    → (tree : ℕ) → 4 < tree → IsNoIndex s tree → next tree ≡ db tree
+others_stay s has keys db next edit step ours tree behind none = step.others tree (λ e. omega (arith, e, ours, behind)) (subst (λ h. IsNoIndex h tree) (is_around s has) none)
+
+-- so do two steps, one after the other
+pub spares_then : (a b c : Database) → b.schema ≡ a.schema → SparesOthers a b → SparesOthers b c → SparesOthers a c
+spares_then a b c same p q tree behind none = q tree behind (subst (λ h. IsNoIndex h tree) (sym same) none) ∙ p tree behind none
 
 -- an index that lets the rows of an archive in guards none of its tables
 no_guard : (i : Index) (table : Table) → is_of_archive table.tree ≡ true → lets_in i ≡ true → guards i table ≡ false
