@@ -48,7 +48,7 @@ module _ {S : Type 0} (asks : Asking S) where
   pub by_nothing : (t : Transactions) (place : Place) (db : Database) (link : S) (w : WalkPlace) → KeepsBy asks t place place db db link link w w 0 StepLimit 0 0 t
   by_nothing t place db link w =
       let none = no_brought asks t link w in
-      kept_by t t place place db db link link w w 0 StepLimit 0 0 [] none.0 (record { schema = refl; rows = adds_nothing db.trees }) none.1 refl refl refl refl refl
+      kept_by t t place place db db link link w w 0 StepLimit 0 0 [] none.0 (record { schema = refl; rows = adds_nothing db.trees; others = λ tree behind none. refl }) none.1 refl refl refl refl refl
 
   -- what a run keeps, and one that goes on from there
   pub by_then : (t u z : Transactions) (place halfway reached : Place) (a b c : Database) (link half left : S) (before middle after : WalkPlace) (steps more : ℕ) (ended : Ended) (records gaps records_then gaps_then : ℕ) →

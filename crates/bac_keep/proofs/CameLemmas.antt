@@ -43,7 +43,7 @@ module _ {S : Type 0} (asks : Asking S) where
       record {
         items = [];
         came = none.0;
-        rows = record { schema = refl; rows = adds_nothing db.trees };
+        rows = record { schema = refl; rows = adds_nothing db.trees; others = λ tree behind none. refl };
         brought = none.1;
         log = refl;
         records_are = refl;

@@ -16,7 +16,7 @@ returns-in-Ok-clause-put g c clean has =
     let same : mid.now ≡ old.now = c.in_ok-begin.ensures.same early in
     let schema : HasArchive mid.now.schema = subst (λ (d : Database). HasArchive d.schema) (sym same) has in
     let put = c.in-Ok.ensures.put clean schema in
-    let made : IsAppended mid.now new.now (map stored c.args.rows.now) = record { schema = put.schema; rows = put.rows } in
+    let made : IsAppended mid.now new.now (map stored c.args.rows.now) = record { schema = put.schema; rows = put.rows; others = put.others } in
     subst (λ (d : Database). IsAppended d new.now (map stored c.args.rows.now)) same made
 
 pub returns-in-Ok-clause-crash : goal.returns-in-Ok-clause-crash
