@@ -25,7 +25,7 @@ tells_weaker rules by chosen sockets before after kept told status f it =
     (it.0, it.1, it.2, it.3, it.4, (ends.0, ends.1, ends.2, ends.3, f it.0 it.2 ends.0 ends.4))
 
 -- the same items are there, and none is lost
-pub all_of_items : (a b : Trees) → HasSameItems a b → HasAllOf a b
+pub all_of_items : (a : Database) (b : Trees) → HasSameItems a b → HasAllOf a.trees b
 all_of_items a b it = record {
   items = λ row at. subst (λ rows. Contains rows row) (sym it.items) at;
   beginnings = λ row at. subst (λ rows. Contains rows row) (sym it.beginnings) at;
@@ -44,7 +44,7 @@ loses_nothing found archive last was settled same only may clean survives =
 
 -- where the items stay nothing is lost
 pub items_stay : (found left : Database) → KeepsItems found left → LosesNothing found left
-items_stay found left it = ((λ has. all_of_items found.trees left.trees (it.0 has)), it.1)
+items_stay found left it = ((λ has. all_of_items found left.trees (it.0 has)), it.1)
 
 -- nor where the rows stay
 pub rows_stay : (found left : Database) → KeepsRows found left → LosesNothing found left

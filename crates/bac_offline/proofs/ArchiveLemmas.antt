@@ -22,16 +22,16 @@ pub taken_fits : (found left : Database) → HasArchive found.schema ⊎ (found.
 taken_fits found left fit = λ other some. elim fit [ inl has ↦ absurd (other has) | inr none ↦ absurd (some none) ]
 
 -- the same items are there
-pub items_themselves : (a : Trees) → HasSameItems a a
-items_themselves a = record { items = refl; beginnings = refl; logs = keeps_itself a }
+pub items_themselves : (a : Database) → HasSameItems a a.trees
+items_themselves a = record { items = refl; beginnings = refl; logs = keeps_itself a.trees; others = λ tree behind none. refl }
 
 -- what is committed behind an archive that was found has its items
 pub keeps_items : (found archive last : State) → (found.committed ≡ found.now) → (archive.committed ≡ archive.now) → (archive.now ≡ found.now)
     → ((db : Trees) → archive.may_leave db → db ≡ archive.committed.trees) → last.may_leave last.committed.trees → HasCleanDisk last
-    → Survives archive last (HasSameItems archive.now.trees) → HasSameItems found.now.trees last.committed.trees
+    → Survives archive last (HasSameItems archive.now) → HasSameItems found.now last.committed.trees
 keeps_items found archive last was settled same only may clean survives =
-    subst (λ (d : Database). HasSameItems d.trees last.committed.trees) same (elim (survives.crash clean last.committed.trees may) [
-      | inl left ↦ subst (HasSameItems archive.now.trees) (ap (λ (d : Database). d.trees) (sym settled) ∙ sym (only last.committed.trees left)) (items_themselves archive.now.trees)
+    subst (λ (d : Database). HasSameItems d last.committed.trees) same (elim (survives.crash clean last.committed.trees may) [
+      | inl left ↦ subst (HasSameItems archive.now) (ap (λ (d : Database). d.trees) (sym settled) ∙ sym (only last.committed.trees left)) (items_themselves archive.now)
       | inr all ↦ all
     ])
 

@@ -15,9 +15,8 @@ use Rattle.sqlite.specs.Files.{file_state}
 use Rattle.sqlite.specs.Held.{Held as Connected}
 use Rattle.sqlite.specs.State.{HasCleanDisk, State, Survives}
 use Rattle.sqlite.proofs.StateLemmas.{survives_then}
-use Rattle.sqlite_trees.specs.Tree.{Trees}
 use Rattle.bac_archive.proofs.ChangeLemmas.{changes_keep}
-use Rattle.bac_archive.specs.Changes.{ChangesLogs, HasChangedLogs}
+use Rattle.bac_archive.specs.Changes.{HasChangedLogs}
 use Rattle.bac_archive.specs.declared.trend_logs.Log.{Log}
 use Rattle.bac_asked.specs.Lines.{stopped_line}
 use Rattle.bac_asked.specs.declared.end.NotDone.{NotDone}
@@ -62,21 +61,22 @@ pub quiet_stop : {F : Type 0} {s : start.Ghosts F} (g : disk.Ghosts (FileOf s)) 
 quiet_stop g image words path out out' files why (which, means, inl quiet) = inl quiet.0
 quiet_stop g image words path out out' files why (which, means, inr unclosed) = inr (which, means, unclosed.1)
 
--- what changes in the rows of logs leaves the items
-items_of_changes : (a b : Trees) (logs : List Log) → ChangesLogs a b logs → HasSameItems a b
-items_of_changes a b logs it = record { items = it.items; beginnings = it.beginnings; logs = changes_keep a b logs it }
+-- what changes in the rows of logs leaves the items and the rows of others
+items_of_changes : (a b : Database) (logs : List Log) → HasChangedLogs a b logs → HasSameItems a b.trees
+items_of_changes a b logs it =
+    record { items = it.rows.items; beginnings = it.rows.beginnings; logs = changes_keep a.trees b.trees logs it.rows; others = it.others }
 
 -- logs are read, and then some are changed
 pub changes_stay : (old mid new : State) (logs : List Log) → (HasCleanDisk mid → mid.now ≡ old.now) → HasArchive old.now.schema → Survives old mid (λ _. ⊥)
     → Survives mid new (λ trees. HasArchive mid.now.schema → (db : Database) × HasChangedLogs mid.now db logs × (trees ≡ db.trees))
-    → HasCleanDisk mid → Survives old new (HasSameItems old.now.trees)
+    → HasCleanDisk mid → Survives old new (HasSameItems old.now)
 changes_stay old mid new logs same has one two clean =
     let is = same clean in
     survives_then old mid new (λ _. ⊥) (λ trees. HasArchive mid.now.schema → (db : Database) × HasChangedLogs mid.now db logs × (trees ≡ db.trees))
-    (HasSameItems old.now.trees) (λ _ db none. absurd none)
+    (HasSameItems old.now) (λ _ db none. absurd none)
     (λ _ db left. let made = left (subst (λ (d : Database). HasArchive d.schema) (sym is) has) in
-    subst (λ (d : Database). HasSameItems d.trees db) is
-    (subst (HasSameItems mid.now.trees) (sym made.2) (items_of_changes mid.now.trees made.0.trees logs made.1.rows)))
+    subst (λ (d : Database). HasSameItems d db) is
+    (subst (HasSameItems mid.now) (sym made.2) (items_of_changes mid.now made.0 logs made.1)))
     one two
 
 module _ {D : Type 0} {g : disk.Ghosts D} (image : Image) (opened last : Connected (FileStore D g)) (closed : Option (Files D)) (is : IsOpenedBy image opened)

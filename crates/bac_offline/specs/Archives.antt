@@ -5,7 +5,7 @@ use Rattle.sqlite.specs.State.{State, HasCleanDisk}
 use Rattle.sqlite_trees.specs.Tree.{Trees}
 use Rattle.bac_archive.specs.Archive.{IsArchive}
 use Rattle.bac_archive.specs.Changes.{KeepsLogs as HasLogs}
-use Rattle.bac_archive.specs.Rows.{IsNew, begun as beginnings_in, kept as items_in}
+use Rattle.bac_archive.specs.Rows.{HasOthers, IsNew, begun as beginnings_in, kept as items_in}
 use Rattle.bac_archive.specs.Schema.{HasArchive, no_schema}
 
 -- a connection is open, and its disk has given back what was written
@@ -29,17 +29,18 @@ pub record IsArchiveOf (found archive : Database) : Type 0 where
 abbrev pub LeavesOthers : Database → Database → Type 0
 LeavesOthers found left = (¬ HasArchive found.schema) → found.schema ≢ no_schema → left ≡ found
 
--- an archive has the items and beginnings of another and no other, and each log under its id, with its instance and its
--- name
-pub record HasSameItems (old new : Trees) : Type 0 where
-  pub items : items_in new ≡ items_in old
-  pub beginnings : beginnings_in new ≡ beginnings_in old
-  pub logs : HasLogs old new
+-- The trees of an archive have the items and beginnings of another and no other, each log under its id, with its instance
+-- and its name, and the rows of others beside them.
+pub record HasSameItems (old : Database) (new : Trees) : Type 0 where
+  pub items : items_in new ≡ items_in old.trees
+  pub beginnings : beginnings_in new ≡ beginnings_in old.trees
+  pub logs : HasLogs old.trees new
+  pub others : HasOthers old.schema old.trees new
 
--- of an archive that was found the items and beginnings are the same, and no log is lost; another database is left as
--- it was
+-- of an archive that was found the items, the beginnings and the rows of others are the same, and no log is lost; another
+-- database is left as it was
 abbrev pub KeepsItems : Database → Database → Type 0
-KeepsItems found left = (HasArchive found.schema → HasSameItems found.trees left.trees) × LeavesOthers found left
+KeepsItems found left = (HasArchive found.schema → HasSameItems found left.trees) × LeavesOthers found left
 
 -- of an archive that was found each table has the rows that it had; another database is left as it was
 abbrev pub KeepsRows : Database → Database → Type 0

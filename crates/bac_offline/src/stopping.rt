@@ -225,10 +225,11 @@ fn stop_known<A: Alter>(
         × ((state A.Store conn.new).committed ≡ (state A.Store conn.new).now))) }
     ensures meant { IfOk result
         (λ these. (known : List LogOf) × (these.items ≡ stopped_logs meant.now known)) }
-    // Whatever comes of it, the items and beginnings are the same, and no log is lost.
+    // Whatever comes of it, items, beginnings and the rows of others are the same, and no log
+    // is lost.
     ensures stays { OverArchive (state A.Store conn.old) (state A.Store conn.new)
         (Survives (state A.Store conn.old) (state A.Store conn.new)
-        (HasSameItems (state A.Store conn.old).now.trees)) }
+        (HasSameItems (state A.Store conn.old).now)) }
     ensures clean { HasCleanDisk (state A.Store conn.new) → HasCleanDisk (state A.Store conn.old) }
     ensures fault { IfErr result (λ fault. WantsMemory fault
         ⊎ (IsOfDatabase fault ⊎ ((fault ≡ NotDone.File FileFault.NoLog)
@@ -261,7 +262,8 @@ fn stop_in<A: Alter, O: Write>(
     ensures stopped { HasCleanDisk (state A.Store conn.new)
         → OnOk result (StopsArchive meant.now (O.contents output.old) (O.contents output.new)
         (state A.Store conn.old).now (state A.Store conn.new).committed) }
-    // Whatever comes of it, the items and beginnings are the same, and no log is lost.
+    // Whatever comes of it, items, beginnings and the rows of others are the same, and no log
+    // is lost.
     ensures stays { IsHeld (state A.Store conn.new)
         → (state A.Store conn.old).committed ≡ (state A.Store conn.old).now
         → KeepsItems (state A.Store conn.old).now (state A.Store conn.new).committed }
@@ -313,7 +315,8 @@ pub fn stop<F: Start, O: Write>(
     ensures named { OnOk result (IsNamed path.now false files.new) }
     ensures fault { IfErr result (MayFail (FailsToStop ⟦<FileOf<F> as Disk>⟧ (image_at F.Start)
         asked.now path.now (O.contents output.old) (O.contents output.new) files.new)) }
-    // Whatever comes of it, the items and beginnings are the same, and no log is lost.
+    // Whatever comes of it, items, beginnings and the rows of others are the same, and no log
+    // is lost.
     ensures items { IsUnused files.old
         → IfSome files.new.closed (IsDoneTo ⟦<FileOf<F> as Disk>⟧ (image_at F.Start) KeepsItems) }
     ensures ends { IfErr result (MayAsk (EndsStop ⟦<FileOf<F> as Disk>⟧ (image_at F.Start)

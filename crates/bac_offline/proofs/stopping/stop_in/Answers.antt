@@ -164,6 +164,6 @@ returns-in_err-open_archive-clause-stays g c held was =
     let found = state g.A.Store c.args.conn.now in
     let last = state g.A.Store c.open_archive.new.conn in
     let still : last.committed ≡ found.now = c.in_err-open_archive.ensures.left held ∙ was in (
-      λ has. subst (λ (d : Database). HasSameItems found.now.trees d.trees) (sym still) (items_themselves found.now.trees),
+      λ has. subst (λ (d : Database). HasSameItems found.now d.trees) (sym still) (items_themselves found.now),
       λ other some. still,
     )

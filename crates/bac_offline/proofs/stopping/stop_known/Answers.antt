@@ -28,7 +28,7 @@ returns-then-not-are_there-clause-fault g c =
 
 pub returns-in_err-these-clause-stays : goal.returns-in_err-these-clause-stays
 returns-in_err-these-clause-stays g c clean has =
-    survives_weaker (state g.A.Store c.args.conn.now) (state g.A.Store c.logs.new.conn) (λ _. ⊥) (HasSameItems (state g.A.Store c.args.conn.now).now.trees)
+    survives_weaker (state g.A.Store c.args.conn.now) (state g.A.Store c.logs.new.conn) (λ _. ⊥) (HasSameItems (state g.A.Store c.args.conn.now).now)
     (λ _ db none. absurd none) (c.logs.ensures.crash has)
 
 pub returns-in_err-these-clause-fault : goal.returns-in_err-these-clause-fault
