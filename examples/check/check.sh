@@ -133,6 +133,10 @@ for help in bac.help {wi,rp,wp,log,logs,keep,kept,check,serve,replay}.help; do
 done > "$room/out" 2> "$room/err"
 ended 'help of 80 columns' 0 ''
 
+# No definition takes more arguments by position than a reader keeps apart, and no line passes its columns.
+./shape.py ../.. > "$room/out" 2> "$room/err"
+ended 'the shape of definitions and lines' 0 ''
+
 # Values that a word or an option can't have: the second line tells which.
 wrong() {
     ended "$1" 1 $'bad value\n'"$2"$'\n'

@@ -6,11 +6,11 @@ use denote.Ref.{Bor}
 use Rattle.bac_asked.specs.Faults.{WantsMemory}
 use Rattle.bac_asked.specs.declared.end.NotDone.{NotDone}
 use Rattle.bac_asked.specs.declared.wanted.Wanted.{Wanted}
-use Rattle.bac_desks.specs.Table.{TableState}
 use Rattle.bac_hearing.specs.Beside.{BeginsToHear, EndsHearing, FailsToEnd}
-use Rattle.bac_hearing.specs.Hearing.{FailsToHear, Pace}
+use Rattle.bac_hearing.specs.Hearing.{FailsToHear, Inquiry, Pace, inquiring}
 use Rattle.bac_hearing.specs.declared.beside.Begun.{Begun}
 use Rattle.bac_hearing.specs.declared.hearing.NotHeard.TheVariants.{Unfinished}
+use Rattle.bac_jobs.specs.Wanted.{work_of}
 use Rattle.bac_jobs.specs.declared.job.Ending.{Ending}
 use Rattle.bac_ports.specs.Sockets.{SocketRules}
 use Rattle.bac_questions.specs.Faults.{IsUnopened}
@@ -19,21 +19,28 @@ use Rattle.bac_questions.specs.declared.whose.Heard.{Heard}
 use Rattle.bac_absent.specs.Each.{AreCalled, PutsEach, is_called, jobs_of, late_of, peers_of}
 use Rattle.bac_absent.specs.Identifying.{IsPlayed}
 use Rattle.bac_absent.specs.declared.calling.Calling.{Calling}
+use Rattle.bac_absent.specs.declared.identifying.Identifying.{Identifying}
 use Rattle.bac_words.specs.declared.job.Asked.{Asked}
 
--- The devices of these logs were asked at once what they say of themselves, each by its route, with the waits and
--- retries of this one, over one socket that was opened as it says and is open. For those of which an ending is here it
--- ended so; the others are waited for.
-abbrev pub HearsFirst : {S P C : Type 0} → SocketRules S P → Pace C → Asked → List Wanted → S →
-    List (Option (Ending Said)) → P → C → TableState → S → Type 0
-HearsFirst rules pace asked called before early port clock table after = BeginsToHear rules pace IsPlayed
-    (peers_of called) (jobs_of called) asked.local asked.timeout asked.retries before early port clock table after
+-- how far a run came before its logs are read: its sockets, and what devices were heard to say in it
+pub record SoFar (S : Type 0) : Type 0 where
+  pub sockets : S
+  pub heard : List Heard
+
+-- so far it came
+abbrev pub so_far : {S : Type 0} → S → List Heard → SoFar S
+so_far sockets heard = record { sockets = sockets; heard = heard }
+
+-- The devices of these logs are asked at once what they say of themselves, each by its route, with the waits and
+-- retries of this one, over one socket that is opened as it says.
+abbrev pub identities_of : Asked → List Wanted → Inquiry Identifying Said
+identities_of asked called =
+    inquiring (peers_of called) (work_of IsPlayed (jobs_of called)) asked.local asked.timeout asked.retries
 
 -- as many rounds as fit 64 bits weren't enough for that
 abbrev pub Unending : {S P C : Type 0} → SocketRules S P → Pace C → Asked → List Wanted → S → S → Type 0
 Unending rules pace asked called before after =
-    FailsToHear rules pace IsPlayed (peers_of called) (jobs_of called) asked.local asked.timeout asked.retries before
-    after Unfinished
+    FailsToHear rules pace (identities_of asked called) before after Unfinished
 
 -- one log of each device that is called
 abbrev pub seen : List (Bor Wanted) → List Wanted
@@ -53,42 +60,44 @@ abbrev pub IsCallingOf : {P C : Type 0} → List (Bor Wanted) → Begun P C Said
 IsCallingOf called begun heard now calling =
     IsLeft (seen called) begun.early.items heard now calling × (calling.desks ≡ begun.desks)
 
--- These devices were asked so, as this one is, and this is left to wait for; or the questions have no end, and none is.
-abbrev pub IsBegunIf : {S P C : Type 0} → SocketRules S P → Pace C → Asked → List Wanted → List Heard → S →
-    List Heard → S → Option (Calling P C) → Type 0
-IsBegunIf rules pace asked called heard before now after (Some calling) = (early : List (Option (Ending Said)))
-    × HearsFirst rules pace asked called before early calling.desks.port calling.desks.clock calling.desks.table after
-    × IsLeft called early heard now calling
-IsBegunIf rules pace asked called heard before now after None =
-    Unending rules pace asked called before after × (now ≡ heard)
+-- These devices were asked so, as this one is, and the socket is open. For those of which an ending is here it ended
+-- so; the others are left to wait for. Or the questions have no end, and none is.
+abbrev pub IsBegunIf : {S P C : Type 0} → SocketRules S P → Pace C → Asked → List Wanted → SoFar S → SoFar S →
+    Option (Calling P C) → Type 0
+IsBegunIf rules pace asked called before after (Some calling) = (early : List (Option (Ending Said)))
+    × BeginsToHear rules pace (identities_of asked called) before.sockets early calling.desks after.sockets
+    × IsLeft called early before.heard after.heard calling
+IsBegunIf rules pace asked called before after None =
+    Unending rules pace asked called before.sockets after.sockets × (after.heard ≡ before.heard)
 
 -- Two or more were asked so, as the first of them is; fewer aren't asked.
-abbrev pub CallsMany : {S P C : Type 0} → SocketRules S P → Pace C → List Wanted → List Heard → S →
-    List Heard → Option (Calling P C) → S → Type 0
-CallsMany rules pace (one ∷ two ∷ more) heard before now begun after =
-    IsBegunIf rules pace one.asking.asked (one ∷ two ∷ more) heard before now after begun
-CallsMany rules pace called heard before now begun after = (begun ≡ None) × (now ≡ heard) × (after ≡ before)
+abbrev pub CallsMany : {S P C : Type 0} → SocketRules S P → Pace C → List Wanted → SoFar S → Option (Calling P C) →
+    SoFar S → Type 0
+CallsMany rules pace (one ∷ two ∷ more) before begun after =
+    IsBegunIf rules pace one.asking.asked (one ∷ two ∷ more) before after begun
+CallsMany rules pace called before begun after =
+    (begun ≡ None) × (after.heard ≡ before.heard) × (after.sockets ≡ before.sockets)
 
 -- The devices of these logs that weren't heard of are asked at once what they say of themselves, each once, if there
 -- are two or more; what those said that have told it is what they are heard to say in this run, and the others are
 -- waited for.
-abbrev pub BeginsToCall : {S P C : Type 0} → SocketRules S P → Pace C → List Wanted → List Heard → S →
-    List Heard → Option (Calling P C) → S → Type 0
-BeginsToCall rules pace all heard before now begun after =
-    (called : List Wanted) × AreCalled heard all called × CallsMany rules pace called heard before now begun after
+abbrev pub BeginsToCall : {S P C : Type 0} → SocketRules S P → Pace C → List Wanted → SoFar S → Option (Calling P C) →
+    SoFar S → Type 0
+BeginsToCall rules pace all before begun after =
+    (called : List Wanted) × AreCalled before.heard all called × CallsMany rules pace called before begun after
 
 -- They were waited for: what each said, or that it gave no answer, is what it is heard to say in this run, unless it is
 -- left out. Or the questions have no end, and nothing more was heard.
-abbrev pub EndsCall : {S P C : Type 0} → SocketRules S P → (C → ℕ → C → Type 0) → Calling P C → List Heard → S →
-    List Heard → S → Type 0
-EndsCall rules reads calling heard before now after =
+abbrev pub EndsCall : {S P C : Type 0} → SocketRules S P → (C → ℕ → C → Type 0) → Calling P C → SoFar S → SoFar S →
+    Type 0
+EndsCall rules reads calling before after =
     ((ends : List (Ending Said))
-    × EndsHearing rules reads IsPlayed (jobs_of (seen calling.called.items)) calling.desks.port calling.desks.clock
-    calling.desks.table before ends after
-    × PutsEach (seen calling.called.items) (late_of calling.waiting.items ends) heard now)
-    ⊎ (FailsToEnd rules reads IsPlayed (jobs_of (seen calling.called.items)) calling.desks.port calling.desks.clock
-    calling.desks.table before after Unfinished
-    × (now ≡ heard))
+    × EndsHearing rules reads (work_of IsPlayed (jobs_of (seen calling.called.items))) calling.desks before.sockets
+    ends after.sockets
+    × PutsEach (seen calling.called.items) (late_of calling.waiting.items ends) before.heard after.heard)
+    ⊎ (FailsToEnd rules reads (work_of IsPlayed (jobs_of (seen calling.called.items))) calling.desks before.sockets
+    after.sockets Unfinished
+    × (after.heard ≡ before.heard))
 
 -- They aren't called: memory is wanting; or no socket was opened for it, as one of them is asked.
 abbrev pub EndsCalling : {S P : Type 0} → SocketRules S P → List Wanted → List Heard → S → S → NotDone → Type 0

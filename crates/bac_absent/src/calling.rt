@@ -5,11 +5,12 @@ ghost use Rattle.std.specs.Prelude.{◌≡◌, ◌⊎◌, IfErr, IfNone, IfOk, I
 ghost use Rattle.std.specs.List.{Contains};
 ghost use Rattle.bac_asked.specs.Faults.{WantsMemory};
 ghost use Rattle.bac_asked.specs.declared.wanted.Wanted.{Wanted as WantedOf};
+ghost use Rattle.bac_hearing.specs.Beside.{BeginsToHear};
 ghost use Rattle.bac_hearing.specs.Hearing.{paced};
 ghost use Rattle.bac_ports.specs.Sockets.{socket_rules};
 ghost use Rattle.bac_questions.specs.Faults.{EndsAsking, IsUnopened};
 ghost use Rattle.bac_absent.specs.Calling.{BeginsToCall, CallsMany, EndsCall, EndsCalling};
-ghost use Rattle.bac_absent.specs.Calling.{HearsFirst, IsBegunIf, IsCallingOf, Unending};
+ghost use Rattle.bac_absent.specs.Calling.{IsBegunIf, IsCallingOf, Unending, identities_of, so_far};
 ghost use Rattle.bac_absent.specs.Each.{PutsEach, late_of};
 
 use crate::each::{called_of, jobs_of, peers_of};
@@ -45,11 +46,10 @@ fn begin_called<S: Sockets, C: Clock>(
 ) -> Result<Option<Begun<S::Socket, C, Said>>, NotDone>
 where
     C: Drop,
-    ensures begun { IfOk result (λ begun. IfSome begun (λ b. HearsFirst
-        (socket_rules S.opens S.closes S.Socket.sends S.Socket.receives
-        S.Socket.receives_within) (paced C.reads clock window) asked.now
-        (map (λ one. one.now) called.now) sockets.old b.early.items b.desks.port b.desks.clock
-        b.desks.table sockets.new)) }
+    ensures begun { IfOk result (λ begun. IfSome begun (λ b. BeginsToHear
+        (socket_rules S.opens S.closes S.Socket.sends S.Socket.receives S.Socket.receives_within)
+        (paced C.reads clock window) (identities_of asked.now (map (λ one. one.now) called.now))
+        sockets.old b.early.items b.desks sockets.new)) }
     ensures each { IfOk result (λ begun. IfSome begun
         (λ b. length b.early.items ≡ length called.now)) }
     ensures unending { IfOk result (λ begun. IfNone begun (Unending
@@ -123,8 +123,8 @@ where
     C: Drop,
     ensures begun { IfOk result (IsBegunIf (socket_rules S.opens S.closes S.Socket.sends
         S.Socket.receives S.Socket.receives_within) (paced C.reads clock window) asked.now
-        (map (λ one. one.now) called.entry.items) heard.old.items sockets.old heard.new.items
-        sockets.new) }
+        (map (λ one. one.now) called.entry.items) (so_far sockets.old heard.old.items)
+        (so_far sockets.new heard.new.items)) }
     ensures fault { IfErr result (EndsAsking (socket_rules S.opens S.closes S.Socket.sends
         S.Socket.receives S.Socket.receives_within) asked.now sockets.old sockets.new) }
 {
@@ -145,10 +145,10 @@ fn begin_many<'a, S: Sockets, C: Clock>(
 ) -> Result<Option<Calling<'a, S::Socket, C>>, NotDone>
 where
     C: Drop,
-    ensures called { IfOk result (λ begun. CallsMany (socket_rules S.opens S.closes
-        S.Socket.sends S.Socket.receives S.Socket.receives_within) (paced C.reads clock window)
-        (map (λ one. one.now) called.entry.items) heard.old.items sockets.old heard.new.items
-        begun sockets.new) }
+    ensures called { IfOk result (λ begun. CallsMany (socket_rules S.opens S.closes S.Socket.sends
+        S.Socket.receives S.Socket.receives_within) (paced C.reads clock window)
+        (map (λ one. one.now) called.entry.items) (so_far sockets.old heard.old.items) begun
+        (so_far sockets.new heard.new.items)) }
     ensures fault { IfErr result (λ fault. WantsMemory fault
         ⊎ ((one : WantedOf) × Contains (map (λ one. one.now) called.entry.items) one
         × IsUnopened (socket_rules S.opens S.closes S.Socket.sends S.Socket.receives
@@ -188,7 +188,7 @@ where
     C: Drop,
     ensures called { IfOk result (λ begun. BeginsToCall (socket_rules S.opens S.closes
         S.Socket.sends S.Socket.receives S.Socket.receives_within) (paced C.reads clock window)
-        all.now heard.old.items sockets.old heard.new.items begun sockets.new) }
+        all.now (so_far sockets.old heard.old.items) begun (so_far sockets.new heard.new.items)) }
     ensures fault { IfErr result (EndsCalling (socket_rules S.opens S.closes S.Socket.sends
         S.Socket.receives S.Socket.receives_within) all.now heard.old.items sockets.old
         sockets.new) }
@@ -228,8 +228,8 @@ pub fn end_calls<S: Sockets, C: Clock>(
 where
     C: Drop,
     ensures ended { OnOk result (EndsCall (socket_rules S.opens S.closes S.Socket.sends
-        S.Socket.receives S.Socket.receives_within) C.reads calling.entry heard.old.items
-        sockets.old heard.new.items sockets.new) }
+        S.Socket.receives S.Socket.receives_within) C.reads calling.entry
+        (so_far sockets.old heard.old.items) (so_far sockets.new heard.new.items)) }
     ensures fault { IfErr result WantsMemory }
 {
     let Calling {

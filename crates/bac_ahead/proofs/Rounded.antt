@@ -10,9 +10,8 @@ use Rattle.bac_questions.specs.Faults.{EndsAsking}
 use Rattle.bac_recall.specs.declared.conversations.Conversation.{Conversation}
 use Rattle.bac_words.specs.declared.job.Asked.{Asked}
 use Rattle.bac_ahead.proofs.Parted.{two_devices}
-use Rattle.bac_ahead.specs.Ahead.{Plays}
 use Rattle.bac_ahead.specs.Laws.{SomeAreAsked}
-use Rattle.bac_ahead.specs.Rounds.{AsksAhead, EndsAhead, IsRound, IsRoundOf, IsUnending, Parts, Stage, conversations_of, devices_of, parts_of, peers_of}
+use Rattle.bac_ahead.specs.Rounds.{AsksAhead, EndsAhead, IsRound, IsRoundOf, IsUnending, Parts, Stage, conversations_of, devices_of, openings_of, parts, parts_of, stage}
 use Rattle.bac_ahead.specs.declared.opening.Opened.{Opened}
 use Rattle.bac_ahead.specs.declared.opening.Opening.{Opening}
 
@@ -25,12 +24,6 @@ one_more [] ends = append-nil (map of_opened ends)
 one_more (first ∷ rounds) ends = ap (λ (l : List Conversation). map of_opened first ++ l) (one_more rounds ends)
     ∙ sym (append_assoc (map of_opened first) (conversations_of rounds) (map of_opened ends))
 
-abbrev stage : {S : Type 0} → S → List Opening → Stage S
-stage sockets left = record { sockets = sockets; left = left }
-
-abbrev parts : List Opening → List Opening → Parts
-parts firsts rest = record { firsts = firsts; rest = rest }
-
 module _ {S P C : Type 0} (rules : SocketRules S P) (clock : Pace C) (asked : Asked) where
   -- where rounds came, with what came in them
   abbrev pub Came : List Opening → S → S → List Opening → List Conversation → Type 0
@@ -39,12 +32,13 @@ module _ {S P C : Type 0} (rules : SocketRules S P) (clock : Pace C) (asked : As
 
   -- a round more
   pub round_more : (all left firsts rest more : List Opening) (before mid after : S) (ends : List Opened) (came came' : List Conversation)
-      → parts firsts rest ≡ parts_of left → 2 ≤ length firsts → Came all before mid left came → IsRoundOf rules clock asked firsts rest mid ends more after
+      → parts firsts rest ≡ parts_of left → 2 ≤ length firsts → Came all before mid left came → IsRoundOf rules clock asked (parts firsts rest) mid ends
+      (stage after more)
       → came' ≡ came ++ map of_opened ends → Came all before after more came'
   round_more all left firsts rest more before mid after ends came came' are two (rounds, chain, is) this behind = (
     rounds ++ ends ∷ [],
     pushed (IsRound rules clock asked) (stage before all) (stage mid left) (stage after more) rounds ends chain
-        (subst (λ (p : Parts). (2 ≤ length p.firsts) × IsRoundOf rules clock asked p.firsts p.rest mid ends more after) are (two, this)),
+        (subst (λ (p : Parts). (2 ≤ length p.firsts) × IsRoundOf rules clock asked p mid ends (stage after more)) are (two, this)),
     behind ∙ ap (λ (l : List Conversation). l ++ map of_opened ends) is ∙ sym (one_more rounds ends),
   )
 
@@ -56,14 +50,14 @@ module _ {S P C : Type 0} (rules : SocketRules S P) (clock : Pace C) (asked : As
 
   -- one doesn't end
   pub unending : (all left firsts rest : List Opening) (before mid after : S) (came came' : List Conversation) → parts firsts rest ≡ parts_of left → 2 ≤ length firsts
-      → Came all before mid left came → FailsToHear rules clock Plays (peers_of firsts) firsts asked.local asked.timeout asked.retries mid after Unfinished
+      → Came all before mid left came → FailsToHear rules clock (openings_of asked firsts) mid after Unfinished
       → came' ≡ came → AsksAhead rules clock asked all before came' after
   unending all left firsts rest before mid after came came' are two (rounds, chain, is) fails same = (
     rounds,
     stage mid left,
     chain,
     same ∙ is,
-    inr (subst (λ (p : Parts). (2 ≤ length p.firsts) × FailsToHear rules clock Plays (peers_of p.firsts) p.firsts asked.local asked.timeout asked.retries mid after Unfinished) are (two, fails)),
+    inr (subst (λ (p : Parts). (2 ≤ length p.firsts) × FailsToHear rules clock (openings_of asked p.firsts) mid after Unfinished) are (two, fails)),
   )
 
   -- one can't be made

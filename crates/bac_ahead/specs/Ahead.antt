@@ -8,7 +8,7 @@ use Rattle.bac_link.specs.declared.transactions.Transactions.{Transactions}
 use Rattle.bac_walk.specs.Came.{Came}
 use Rattle.bac_walk.specs.Outcomes.{why_of}
 use Rattle.bac_walk.specs.Place.{WalkPlace}
-use Rattle.bac_walk.specs.Transacted.{BroughtBy}
+use Rattle.bac_walk.specs.Transacted.{BroughtBy, walk_by}
 use Rattle.bac_walk.specs.declared.outcome.Ended.{Ended as HowEnded}
 use Rattle.bac_walk.specs.declared.outcome.Why.{Why}
 use Rattle.bac_play.specs.Play.{Plays as PlaysRecord}
@@ -17,9 +17,10 @@ use Rattle.bac_play.specs.declared.play.Play.{Play}
 use Rattle.bac_query.specs.Tables.{Ask, Client, client}
 use Rattle.bac_asked.specs.declared.end.End.{End}
 use Rattle.bac_begin.specs.Stands.{word_at}
-use Rattle.bac_begin.specs.Starts.{GoesFrom, StartsNew}
+use Rattle.bac_begin.specs.Starts.{GoesFrom, StartsNew, run_log, at_start}
 use Rattle.bac_begin.specs.declared.stands.Stand.{Stand}
 use Rattle.bac_begin.specs.declared.starting.Start.{Start}
+use Rattle.bac_begin.specs.Hands.{log_asked}
 use Rattle.bac_jobs.specs.Records.{ComesTo, IsWhole}
 use Rattle.bac_jobs.specs.declared.job.Turn.{Turn}
 use Rattle.bac_jobs.specs.declared.job.Turn.TheVariants.{Ended}
@@ -36,9 +37,11 @@ trend_log instance = record { kind = 20; instance = instance }
 -- no more and no less, each question by the next transaction of a client.
 abbrev pub BeginsAt : {S : Type 0} → Ask S → Client S → Opening → Id → Option Stand → Result Start End → Client S
     → Type 0
-BeginsAt asks old opening log None begun new = StartsNew asks old opening.id log opening.many begun new
+BeginsAt asks old opening log None begun new = StartsNew asks old (run_log opening.id (log_asked log opening.many))
+    (at_start begun new)
 BeginsAt asks old opening log (Some stand) begun new =
-    GoesFrom asks old opening.id log opening.many (word_at stand opening.word) stand opening.steps begun new
+    GoesFrom asks old (run_log opening.id (log_asked log opening.many)) (word_at stand opening.word) stand opening.steps
+    (at_start begun new)
 
 -- the same of a log by where it stands
 abbrev pub Begins : {S : Type 0} → Ask S → Client S → Opening → Id → Result Start End → Client S → Type 0
@@ -49,7 +52,8 @@ abbrev pub WalksOn : {S : Type 0} → Ask S → ℕ → Client S → WalkPlace �
 WalksOn asks batches old walk (Some why) new = new ≡ old
 WalksOn asks batches old walk None new =
     (steps : ℕ) × (steps ≤ batches) × (came : List Came) × (items : List Item) × (how : HowEnded) × (after : WalkPlace)
-    × BroughtBy asks old.transactions old.link walk steps came items how after new.transactions new.link
+    × BroughtBy asks (walk_by old.link old.transactions walk) steps came items how
+    (walk_by new.link new.transactions after)
 
 -- so it does where the device said where the log begins
 abbrev pub GoesOn : {S : Type 0} → Ask S → ℕ → Client S → Result Start End → Client S → Type 0

@@ -3,8 +3,9 @@ use Rattle.std.specs.Prelude.{◌≡◌, ◌<◌, ◌≤◌, ◌⊎◌, ◌&&◌
 use Rattle.std.specs.Prelude.{length, map}
 use Rattle.std.specs.List.{list_any}
 use Rattle.bac_desks.specs.Chain.{Chain}
-use Rattle.bac_hearing.specs.Hearing.{FailsToHear, HearsAll, Pace}
+use Rattle.bac_hearing.specs.Hearing.{FailsToHear, HearsAll, Inquiry, Pace, inquiring}
 use Rattle.bac_hearing.specs.declared.hearing.NotHeard.TheVariants.{Unfinished}
+use Rattle.bac_jobs.specs.Wanted.{work_of}
 use Rattle.bac_jobs.specs.declared.job.Ending.{Ending}
 use Rattle.bac_ports.specs.Sockets.{SocketRules}
 use Rattle.bac_asked.specs.Faults.{WantsMemory}
@@ -23,6 +24,10 @@ use Rattle.bac_ahead.specs.declared.opening.Opening.{Opening}
 pub record Parts : Type 0 where
   pub firsts : List Opening
   pub rest : List Opening
+
+-- these parts
+abbrev pub parts : List Opening → List Opening → Parts
+parts firsts rest = record { firsts = firsts; rest = rest }
 
 -- a log is of the device of one of these
 abbrev pub is_among : List Opening → Opening → Bool
@@ -55,14 +60,22 @@ pub record Stage (S : Type 0) : Type 0 where
   pub sockets : S
   pub left : List Opening
 
--- These logs were opened beside one another, over one socket; of the rest those of the devices are left that gave an
--- answer to each question.
-abbrev pub IsRoundOf : {S P C : Type 0} → SocketRules S P → Pace C → Asked → List Opening → List Opening → S →
-    List Opened → List Opening → S → Type 0
-IsRoundOf rules pace asked firsts rest before ends left after =
+-- there they came
+abbrev pub stage : {S : Type 0} → S → List Opening → Stage S
+stage sockets left = record { sockets = sockets; left = left }
+
+-- what the devices of these logs are asked, each what the run over its log begins with, as this is asked
+abbrev pub openings_of : Asked → List Opening → Inquiry Opening Opened
+openings_of asked firsts = inquiring (peers_of firsts) (work_of Plays firsts) asked.local asked.timeout asked.retries
+
+-- Of logs in two parts the first of each device were opened beside one another, over one socket; of the rest those of
+-- the devices are left that gave an answer to each question.
+abbrev pub IsRoundOf : {S P C : Type 0} → SocketRules S P → Pace C → Asked → Parts → S → List Opened → Stage S →
+    Type 0
+IsRoundOf rules pace asked split before ends new =
     (endings : List (Ending Opened)) × (ends ≡ map (λ (e : Ending Opened). e.end) endings)
-    × HearsAll rules pace Plays (peers_of firsts) firsts asked.local asked.timeout asked.retries before endings after
-    × (left ≡ left_of ends rest)
+    × HearsAll rules pace (openings_of asked split.firsts) before endings new.sockets
+    × (new.left ≡ left_of ends split.rest)
 
 -- how many devices these logs are of
 abbrev pub devices_of : List Opening → ℕ
@@ -72,8 +85,7 @@ devices_of all = length (parts_of all).firsts
 abbrev pub IsRound : {S P C : Type 0} → SocketRules S P → Pace C → Asked → Stage S → List Opened → Stage S →
     Type 0
 IsRound rules pace asked old ends new = (2 ≤ devices_of old.left)
-    × IsRoundOf rules pace asked (parts_of old.left).firsts (parts_of old.left).rest old.sockets ends new.left
-    new.sockets
+    × IsRoundOf rules pace asked (parts_of old.left) old.sockets ends new
 
 -- ---- all rounds
 
@@ -85,8 +97,7 @@ conversations_of (ends ∷ more) = map (λ (o : Opened). o.conversation) ends ++
 -- a round that has more turns than fit 64 bits opens nothing
 abbrev pub IsUnending : {S P C : Type 0} → SocketRules S P → Pace C → Asked → Stage S → S → Type 0
 IsUnending rules pace asked old after = (2 ≤ devices_of old.left)
-    × FailsToHear rules pace Plays (peers_of (parts_of old.left).firsts) (parts_of old.left).firsts asked.local
-    asked.timeout asked.retries old.sockets after Unfinished
+    × FailsToHear rules pace (openings_of asked (parts_of old.left).firsts) old.sockets after Unfinished
 
 -- no round is made of the logs of fewer devices
 abbrev pub IsOver : {S : Type 0} → Stage S → S → Type 0
@@ -98,7 +109,7 @@ abbrev pub AsksAhead : {S P C : Type 0} → SocketRules S P → Pace C → Asked
     List Conversation → S → Type 0
 AsksAhead {S = S} rules pace asked all before came after =
     (rounds : List (List Opened)) × (last : Stage S)
-    × Chain (IsRound rules pace asked) (record { sockets = before; left = all }) rounds last
+    × Chain (IsRound rules pace asked) (stage before all) rounds last
     × (came ≡ conversations_of rounds)
     × (IsOver last after ⊎ IsUnending rules pace asked last after)
 
@@ -107,5 +118,5 @@ abbrev pub EndsAhead : {S P C : Type 0} → SocketRules S P → Pace C → Asked
     Type 0
 EndsAhead {S = S} rules pace asked all before after fault = WantsMemory fault
     ⊎ ((rounds : List (List Opened)) × (last : Stage S)
-    × Chain (IsRound rules pace asked) (record { sockets = before; left = all }) rounds last
+    × Chain (IsRound rules pace asked) (stage before all) rounds last
     × (2 ≤ devices_of last.left) × IsUnopened rules asked last.sockets after fault)

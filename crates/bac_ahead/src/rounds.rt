@@ -5,8 +5,8 @@ ghost use Rattle.std.specs.Prelude.{List};
 ghost use Rattle.bac_hearing.specs.Hearing.{FailsToHear, HearsAll, paced};
 ghost use Rattle.bac_ports.specs.Sockets.{socket_rules};
 ghost use Rattle.bac_questions.specs.Faults.{EndsAsking};
-ghost use Rattle.bac_ahead.specs.Ahead.{Plays};
-ghost use Rattle.bac_ahead.specs.Rounds.{AsksAhead, EndsAhead, IsRoundOf, left_of, peers_of};
+ghost use Rattle.bac_ahead.specs.Rounds.{AsksAhead, EndsAhead, IsRoundOf, left_of, openings_of};
+ghost use Rattle.bac_ahead.specs.Rounds.{parts, peers_of, stage};
 ghost use Rattle.bac_ahead.specs.declared.opening.Opened.{Opened as OpenedOf};
 
 use crate::opening::{Opened, Opening};
@@ -32,14 +32,12 @@ fn hear<S: Sockets, C: Clock>(
 where
     C: Drop,
     ensures heard { IfOk result (λ ends. IfSome ends (λ all. HearsAll
-        (socket_rules S.opens S.closes S.Socket.sends S.Socket.receives
-        S.Socket.receives_within) (paced C.reads clock window) Plays (peers_of firsts.now)
-        firsts.now asked.now.local asked.now.timeout asked.now.retries sockets.old all.items
+        (socket_rules S.opens S.closes S.Socket.sends S.Socket.receives S.Socket.receives_within)
+        (paced C.reads clock window) (openings_of asked.now firsts.now) sockets.old all.items
         sockets.new)) }
     ensures unending { IfOk result (λ ends. IfNone ends (FailsToHear
-        (socket_rules S.opens S.closes S.Socket.sends S.Socket.receives
-        S.Socket.receives_within) (paced C.reads clock window) Plays (peers_of firsts.now)
-        firsts.now asked.now.local asked.now.timeout asked.now.retries sockets.old sockets.new
+        (socket_rules S.opens S.closes S.Socket.sends S.Socket.receives S.Socket.receives_within)
+        (paced C.reads clock window) (openings_of asked.now firsts.now) sockets.old sockets.new
         NotHeard.Unfinished)) }
     ensures fault { IfErr result (EndsAsking (socket_rules S.opens S.closes S.Socket.sends
         S.Socket.receives S.Socket.receives_within) asked.now sockets.old sockets.new) }
@@ -110,14 +108,13 @@ where
     C: Drop,
     ensures round { IfOk result (λ left. IfSome left (λ more. (ends : List OpenedOf)
         × IsRoundOf (socket_rules S.opens S.closes S.Socket.sends S.Socket.receives
-        S.Socket.receives_within) (paced C.reads clock window) asked.now split.firsts.items
-        split.rest.items sockets.old ends more.items sockets.new
+        S.Socket.receives_within) (paced C.reads clock window) asked.now
+        (parts split.firsts.items split.rest.items) sockets.old ends (stage sockets.new more.items)
         × (came.new.items ≡ came.old.items ++ map (λ (o : OpenedOf). o.conversation) ends))) }
     ensures unending { IfOk result (λ left. IfNone left (FailsToHear
-        (socket_rules S.opens S.closes S.Socket.sends S.Socket.receives
-        S.Socket.receives_within) (paced C.reads clock window) Plays
-        (peers_of split.firsts.items) split.firsts.items asked.now.local asked.now.timeout
-        asked.now.retries sockets.old sockets.new NotHeard.Unfinished
+        (socket_rules S.opens S.closes S.Socket.sends S.Socket.receives S.Socket.receives_within)
+        (paced C.reads clock window) (openings_of asked.now split.firsts.items) sockets.old
+        sockets.new NotHeard.Unfinished
         × (came.new.items ≡ came.old.items))) }
     ensures fault { IfErr result (EndsAsking (socket_rules S.opens S.closes S.Socket.sends
         S.Socket.receives S.Socket.receives_within) asked.now sockets.old sockets.new) }

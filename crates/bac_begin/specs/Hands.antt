@@ -8,7 +8,7 @@ use Rattle.bac_link.specs.declared.item.Item.TheVariants.{Gap}
 use Rattle.bac_walk.specs.Came.{Came}
 use Rattle.bac_walk.specs.Collects.{Goes}
 use Rattle.bac_walk.specs.Place.{WalkPlace, asking, walk_at}
-use Rattle.bac_walk.specs.Transacted.{BroughtBy}
+use Rattle.bac_walk.specs.Transacted.{BroughtBy, walk_by, WalkBy}
 use Rattle.bac_walk.specs.declared.outcome.Ended.{Ended}
 use Rattle.bac_walk.specs.declared.outcome.Ended.TheVariants.{CaughtUp, StepLimit, Stopped, Fault}
 use Rattle.bac_walk.specs.declared.outcome.WalkFault.TheVariants as walk
@@ -17,11 +17,12 @@ use Rattle.bac_archive.specs.Rows.{stored}
 use Rattle.bac_keep.specs.Came.{GathersBy}
 use Rattle.bac_keep.specs.Items.{era, kept_row, kept_rows}
 use Rattle.bac_keep.specs.Questions.{GathersAnswerBy, RefusesAnswerBy}
-use Rattle.bac_keep.specs.Rising.{IsCause, free_after, goes_back}
+use Rattle.bac_keep.specs.Rising.{IsCause, Room, free_after, goes_back, room}
 use Rattle.bac_keep.specs.declared.keep.Gathered.{Gathered}
 use Rattle.bac_keep.specs.declared.place.Place.{Place}
 use Rattle.bac_keep.specs.declared.sink.Refusal.{Refusal}
 use Rattle.bac_keep.specs.declared.sink.Refusal.TheVariants as refusal
+use Rattle.bac_keep.specs.Gathers.{yield_of}
 use Rattle.bac_query.specs.Tables.{Ask, Client}
 use Rattle.bac_asked.specs.declared.end.Ending.{Ending}
 use Rattle.bac_asked.specs.declared.end.Ending.TheVariants.{Walk, Back, Epochs}
@@ -45,41 +46,52 @@ IsStep (Fault fault) = ⊥
 -- What is in hand came to one step of a walk, each question by the next transaction of a client: its rows from a place
 -- on, none of which goes back behind this least number that may come there, so many records and gaps, where it ended,
 -- and the least number that may come behind them.
-abbrev pub IsInHand : {S : Type 0} → Ask S → Place → ℕ → Client S → WalkPlace → Gathered → WalkPlace → Client S → Type 0
-IsInHand asks place free old before gathered after new =
-    ((came : GathersBy asks old.transactions place gathered.place (map stored gathered.rows.items) gathered.step.records
-    gathered.step.gaps old.link new.link before after gathered.step.ended new.transactions)
-    × (gathered.free ≡ free_after free came.0.0) × (goes_back free came.0.0 ≡ false))
-    × CoverFrom place (map stored gathered.rows.items) before after
+abbrev pub IsInHand : {S : Type 0} → Ask S → Room → WalkBy S → Gathered → WalkBy S → Type 0
+IsInHand asks from before gathered after =
+    ((came : GathersBy asks from.place (yield_of gathered) before after)
+    × (gathered.free ≡ free_after from.free came.0.0) × (goes_back from.free came.0.0 ≡ false))
+    × CoverFrom from.place (map stored gathered.rows.items) before.place after.place
 
 -- what came to one step of a walk can't be kept from a place on, where no number below this one may come
-abbrev pub HasNoPlace : {S : Type 0} → Ask S → Place → ℕ → Client S → WalkPlace → Refusal → Client S → Type 0
-HasNoPlace asks place free old before refused new =
+abbrev pub HasNoPlace : {S : Type 0} → Ask S → Room → Client S → WalkPlace → Refusal → Client S → Type 0
+HasNoPlace asks from old before refused new =
     (came : List Came) × (items : List Item) × (after : WalkPlace)
-    × BroughtBy asks old.transactions old.link before 1 came items Stopped after new.transactions new.link
-    × IsCause place free items refused
+    × BroughtBy asks (walk_by old.link old.transactions before) 1 came items Stopped
+    (walk_by new.link new.transactions after)
+    × IsCause from.place from.free items refused
 
 -- one step of a walk came to no end but this one
-abbrev pub StopsBy : {S : Type 0} → Ask S → Place → ℕ → Client S → WalkPlace → Ending → Client S → Type 0
-StopsBy asks place free old before (Walk (why.Fault fault)) new =
+abbrev pub StopsBy : {S : Type 0} → Ask S → Room → Client S → WalkPlace → Ending → Client S → Type 0
+StopsBy asks from old before (Walk (why.Fault fault)) new =
     (came : List Came) × (items : List Item) × (after : WalkPlace)
-    × BroughtBy asks old.transactions old.link before 1 came items (Fault fault) after new.transactions new.link
-StopsBy asks place free old before Back new = HasNoPlace asks place free old before refusal.Back new
-StopsBy asks place free old before Epochs new = HasNoPlace asks place free old before refusal.Epochs new
-StopsBy asks place free old before other new = ⊥
+    × BroughtBy asks (walk_by old.link old.transactions before) 1 came items (Fault fault)
+    (walk_by new.link new.transactions after)
+StopsBy asks from old before Back new = HasNoPlace asks from old before refusal.Back new
+StopsBy asks from old before Epochs new = HasNoPlace asks from old before refusal.Epochs new
+StopsBy asks from old before other new = ⊥
 
 -- One step of a walk of a client: what is in hand then, which took that step, or why nothing is.
-abbrev pub Steps : {S : Type 0} → Ask S → Place → ℕ → Client S → WalkPlace → Result Hand Ending → Client S → Type 0
-Steps asks place free old before (Ok hand) new =
-    IsInHand asks place free old before hand.gathered hand.walk new × IsStep hand.gathered.step.ended × (hand.took ≡ 1)
-Steps asks place free old before (Err ending) new = StopsBy asks place free old before ending new
+abbrev pub Steps : {S : Type 0} → Ask S → Room → Client S → WalkPlace → Result Hand Ending → Client S → Type 0
+Steps asks from old before (Ok hand) new =
+    IsInHand asks from (walk_by old.link old.transactions before) hand.gathered
+    (walk_by new.link new.transactions hand.walk)
+    × IsStep hand.gathered.step.ended × (hand.took ≡ 1)
+Steps asks from old before (Err ending) new = StopsBy asks from old before ending new
+
+-- a log that is asked for: its object, and how many of its records by one question
+pub record LogAsked : Type 0 where
+  pub object : Id
+  pub many : ℕ
+
+-- the two together
+abbrev pub log_asked : Id → (many : ℕ) → LogAsked
+log_asked object many = record { object = object; many = many }
 
 -- the same of a walk from a number on, into an epoch that has no row; 0 is no number, and nothing is asked
-abbrev pub StepsAt : {S : Type 0} → Ask S → Place → Client S → Id → (many : ℕ) → ℕ → Result Hand Ending → Client S
-    → Type 0
-StepsAt asks place old object many number hand new =
+abbrev pub StepsAt : {S : Type 0} → Ask S → Place → Client S → LogAsked → ℕ → Result Hand Ending → Client S → Type 0
+StepsAt asks place old log number hand new =
     MatchBool (number == 0) ((hand ≡ Err (Walk (why.Fault walk.BadReply))) × (new ≡ old))
-    (Steps asks place 0 old (asking many (walk_at object number)) hand new)
+    (Steps asks (room place 0) old (asking log.many (walk_at log.object number)) hand new)
 
 -- ---- one question, and then another
 
@@ -91,21 +103,21 @@ steps_of Stopped = 0
 steps_of (Fault fault) = 0
 
 -- what came to one question of a walk has no place, where no number below this one may come
-abbrev pub IsNotTaken : {S : Type 0} → Ask S → Place → ℕ → Client S → WalkPlace → Refusal → Client S → Type 0
-IsNotTaken asks place free old before refused new =
-    (after : WalkPlace)
-    × RefusesAnswerBy asks old.transactions place free old.link before refused after new.transactions new.link
+abbrev pub IsNotTaken : {S : Type 0} → Ask S → Room → Client S → WalkPlace → Refusal → Client S → Type 0
+IsNotTaken asks from old before refused new =
+    (after : WalkPlace) × RefusesAnswerBy asks from (walk_by old.link old.transactions before) refused
+    (walk_by new.link new.transactions after)
 
 -- One question of a walk was asked by the next transaction of a client, and what came is in hand, records, none, or a
 -- fault; or it has no place.
-abbrev pub TakesAnswer : {S : Type 0} → Ask S → Place → ℕ → Client S → WalkPlace → Result Hand Ending → Client S
-    → Type 0
-TakesAnswer asks place free old before (Ok hand) new =
-    GathersAnswerBy asks old.transactions place free old.link before hand.gathered hand.walk new.transactions new.link
+abbrev pub TakesAnswer : {S : Type 0} → Ask S → Room → Client S → WalkPlace → Result Hand Ending → Client S → Type 0
+TakesAnswer asks from old before (Ok hand) new =
+    GathersAnswerBy asks from (walk_by old.link old.transactions before) hand.gathered
+    (walk_by new.link new.transactions hand.walk)
     × (hand.took ≡ steps_of hand.gathered.step.ended)
-TakesAnswer asks place free old before (Err Back) new = IsNotTaken asks place free old before refusal.Back new
-TakesAnswer asks place free old before (Err Epochs) new = IsNotTaken asks place free old before refusal.Epochs new
-TakesAnswer asks place free old before (Err other) new = ⊥
+TakesAnswer asks from old before (Err Back) new = IsNotTaken asks from old before refusal.Back new
+TakesAnswer asks from old before (Err Epochs) new = IsNotTaken asks from old before refusal.Epochs new
+TakesAnswer asks from old before (Err other) new = ⊥
 
 -- What came to a question is put behind what was in hand before it, which then ends as that question did. If it has no
 -- place, that stays in hand, and goes on as if it weren't asked.
@@ -125,7 +137,7 @@ IsPutBehind hand (Err ending) all =
 -- the next question of a walk is asked, from where what is in hand ends, and what comes is put behind that
 abbrev pub TakesMore : {S : Type 0} → Ask S → Client S → Hand → Hand → Client S → Type 0
 TakesMore asks old hand all new =
-    (more : Result Hand Ending) × TakesAnswer asks hand.gathered.place hand.gathered.free old hand.walk more new
+    (more : Result Hand Ending) × TakesAnswer asks (room hand.gathered.place hand.gathered.free) old hand.walk more new
     × IsPutBehind hand more all
 
 -- Behind a first question that ended so: if it brought records, and a run may take another step, the number behind them
@@ -138,11 +150,10 @@ GoesAhead asks old hand steps other ahead new = (ahead ≡ Ok hand) × (new ≡ 
 
 -- What lies ahead of a walk by number is asked for, of which a run may take so many steps, and what came in hand: by
 -- one question, or by two if the first brought records; or why nothing is.
-abbrev pub LooksAhead : {S : Type 0} → Ask S → Place → ℕ → Client S → WalkPlace → ℕ → Result Hand Ending → Client S
-    → Type 0
-LooksAhead {S = S} asks place free old before steps ahead new =
-    ((ending : Ending) × TakesAnswer asks place free old before (Err ending) new × (ahead ≡ Err ending))
-    ⊎ ((hand : Hand) × (mid : Client S) × TakesAnswer asks place free old before (Ok hand) mid
+abbrev pub LooksAhead : {S : Type 0} → Ask S → Room → Client S → WalkPlace → ℕ → Result Hand Ending → Client S → Type 0
+LooksAhead {S = S} asks from old before steps ahead new =
+    ((ending : Ending) × TakesAnswer asks from old before (Err ending) new × (ahead ≡ Err ending))
+    ⊎ ((hand : Hand) × (mid : Client S) × TakesAnswer asks from old before (Ok hand) mid
     × GoesAhead asks mid hand steps hand.gathered.step.ended ahead new)
 
 -- the row of a gap over numbers that are missing

@@ -20,7 +20,7 @@ use Rattle.bac_archive.specs.Rows.{stored}
 use Rattle.bac_archive.specs.declared.epochs.Beginning.{Beginning}
 use Rattle.bac_keep.specs.Courses.{beginning_of, course_of}
 use Rattle.bac_keep.specs.Items.{era, era_after, kept_rows}
-use Rattle.bac_keep.specs.Looks.{CameToBy, LooksBy}
+use Rattle.bac_keep.specs.Looks.{CameToBy, LooksBy, sought}
 use Rattle.bac_keep.specs.Runs.{gaps_among}
 use Rattle.bac_keep.specs.declared.courses.Course.{Course}
 use Rattle.bac_keep.specs.declared.courses.Course.TheVariants.{GoOn, Anew, Both}
@@ -28,13 +28,14 @@ use Rattle.bac_keep.specs.declared.courses.Word.{Word}
 use Rattle.bac_keep.specs.declared.look.Seen.{Seen}
 use Rattle.bac_keep.specs.declared.look.Seen.TheVariants as seen
 use Rattle.bac_keep.specs.declared.place.Place.{Place}
+use Rattle.bac_keep.specs.Rising.{room}
 use Rattle.bac_query.specs.Tables.{Ask, Client}
 use Rattle.bac_asked.specs.declared.began.Began.{Began}
 use Rattle.bac_asked.specs.declared.began.Began.TheVariants as began
 use Rattle.bac_asked.specs.declared.end.End.{End}
 use Rattle.bac_asked.specs.declared.end.Ending.{Ending}
 use Rattle.bac_asked.specs.declared.end.Ending.TheVariants.{Walk, Epochs}
-use Rattle.bac_begin.specs.Hands.{LooksAhead, Steps, StepsAt, TakesMore}
+use Rattle.bac_begin.specs.Hands.{LogAsked, LooksAhead, Steps, StepsAt, TakesMore}
 use Rattle.bac_begin.specs.Stands.{IsStand, begins_at_one, epoch_from, epoch_of, free_from, kept_last, word_at}
 use Rattle.bac_begin.specs.declared.hands.Hand.{Hand}
 use Rattle.bac_questions.specs.Counts.{CountsBy}
@@ -72,28 +73,44 @@ abbrev pub OpensWith : Result Hand Ending → ℕ → Began → Option Beginning
 OpensWith (Ok hand) next how begins_at begun = BeginsWith hand how begins_at begun
 OpensWith (Err ending) next how begins_at begun = Ends ending next begun
 
+-- a run at its start: how it begins, or its end before that, and the client as the questions leave it
+pub record AtStart (S : Type 0) : Type 0 where
+  pub begun : Result Start End
+  pub client : Client S
+
+-- the two together
+abbrev pub at_start : {S : Type 0} → Result Start End → Client S → AtStart S
+at_start begun client = record { begun = begun; client = client }
+
+-- the log of a run: its id in an archive, and what is asked for
+pub record RunLog : Type 0 where
+  pub id : ℕ
+  pub asked : LogAsked
+
+-- the two together
+abbrev pub run_log : ℕ → LogAsked → RunLog
+run_log id asked = record { id = id; asked = asked }
+
 -- ---- a log of which nothing is on record
 
 -- a log's first epoch begins at the oldest record, or if it turns out to hold none at this number
-abbrev pub OpensFirst : {S : Type 0} → Ask S → Client S → Client S → ℕ → Id → (many : ℕ) → ℕ → Result Start End → Type 0
-OpensFirst asks old new log object many number begun =
-    (place : Place) × (hand : Result Hand Ending) × (place.log ≡ log) × (place.epoch ≡ 0)
-    × Steps asks place 0 old (asking many (walk_from_oldest object)) hand new
-    × OpensWith hand 1 began.GoesOn (Some (record { log = log; epoch = 0; number = number })) begun
+abbrev pub OpensFirst : {S : Type 0} → Ask S → Client S → RunLog → ℕ → AtStart S → Type 0
+OpensFirst asks old log number start =
+    (place : Place) × (hand : Result Hand Ending) × (place.log ≡ log.id) × (place.epoch ≡ 0)
+    × Steps asks (room place 0) old (asking log.asked.many (walk_from_oldest log.asked.object)) hand start.client
+    × OpensWith hand 1 began.GoesOn (Some (record { log = log.id; epoch = 0; number = number })) start.begun
 
 -- A log of which nothing is on record begins at the oldest record, in epoch 0; if it turns out to hold none, behind its
 -- count. If no answer comes to the question for that, nothing more is asked, and nothing is kept.
-abbrev pub IsFirst : {S : Type 0} → Ask S → Client S → ℕ → Id → (many : ℕ) → Count → Result Start End → Client S
-    → Type 0
-IsFirst asks old log object many Lost begun new = Ends (Walk (why.Fault walk.Lost)) 1 begun × (new ≡ old)
-IsFirst asks old log object many count begun new =
-    OpensFirst asks old new log object many (begins_behind count) begun
+abbrev pub IsFirst : {S : Type 0} → Ask S → Client S → RunLog → Count → AtStart S → Type 0
+IsFirst asks old log Lost start = Ends (Walk (why.Fault walk.Lost)) 1 start.begun × (start.client ≡ old)
+IsFirst asks old log count start = OpensFirst asks old log (begins_behind count) start
 
 -- the same, with the question for its count before
-abbrev pub StartsNew : {S : Type 0} → Ask S → Client S → ℕ → Id → (many : ℕ) → Result Start End → Client S → Type 0
-StartsNew {S = S} asks old log object many begun new =
-    (count : Count) × (mid : Client S) × CountsBy asks old object count mid
-    × IsFirst asks mid log object many count begun new
+abbrev pub StartsNew : {S : Type 0} → Ask S → Client S → RunLog → AtStart S → Type 0
+StartsNew {S = S} asks old log start =
+    (count : Count) × (mid : Client S) × CountsBy asks old log.asked.object count mid
+    × IsFirst asks mid log count start
 
 -- ---- a log that began anew
 
@@ -109,34 +126,33 @@ IsBeginning (Ok CaughtUp) found = found ≡ Ok 1
 IsBeginning (Ok (BatchOf batch)) found = BeginsBy batch.entries.items found
 
 -- the oldest records are asked for, and tell where a log begins that began anew
-abbrev pub AsksBeginning : {S : Type 0} → Ask S → Client S → Id → (many : ℕ) → Result ℕ WalkFault → Client S → Type 0
-AsksBeginning asks old object many found new =
+abbrev pub AsksBeginning : {S : Type 0} → Ask S → Client S → LogAsked → Result ℕ WalkFault → Client S → Type 0
+AsksBeginning asks old log found new =
     (answer : Result Step WalkFault) × IsBeginning answer found
-    × CameToBy asks old.transactions old.link (asking many (walk_from_oldest object)) answer new.transactions new.link
+    × CameToBy asks old.transactions old.link (asking log.many (walk_from_oldest log.object)) answer new.transactions
+    new.link
 
 -- Where a log begins that began anew: by its count, if it holds nothing; else by its oldest record, which is asked for.
-abbrev pub FindsBeginning : {S : Type 0} → Ask S → Client S → Id → (many : ℕ) → Seen → Count → Result ℕ WalkFault
-    → Client S → Type 0
-FindsBeginning asks old object many seen.Nothing (Told count) found new =
+abbrev pub FindsBeginning : {S : Type 0} → Ask S → Client S → LogAsked → Seen → Count → Result ℕ WalkFault → Client S
+    → Type 0
+FindsBeginning asks old log seen.Nothing (Told count) found new =
     (found ≡ Ok (beginning_of (number_after count 1))) × (new ≡ old)
-FindsBeginning asks old object many other count found new =
-    AsksBeginning asks old object many found new
+FindsBeginning asks old log other count found new = AsksBeginning asks old log found new
 
 -- the number behind the one that a log stands behind
 abbrev pub next_from : Stand → ℕ
 next_from stand = number_after (kept_last stand).number 1
 
 -- A new epoch of a log begins at a number, if there is a next one.
-abbrev pub IsAnew : {S : Type 0} → Ask S → Client S → ℕ → Id → (many : ℕ) → Stand → Result ℕ WalkFault
-    → Result Start End → Client S → Type 0
-IsAnew asks old log object many stand (Err lost) begun new =
-    Ends (Walk (why.Fault lost)) (next_from stand) begun × (new ≡ old)
-IsAnew asks old log object many stand (Ok number) begun new =
-    ((32767 ≤ epoch_of stand) × Ends Epochs (next_from stand) begun × (new ≡ old))
-    ⊎ ((place : Place) × (hand : Result Hand Ending) × (place.log ≡ log) × (place.epoch ≡ epoch_of stand + 1)
-    × StepsAt asks place old object many number hand new
+abbrev pub IsAnew : {S : Type 0} → Ask S → Client S → RunLog → Stand → Result ℕ WalkFault → AtStart S → Type 0
+IsAnew asks old log stand (Err lost) start =
+    Ends (Walk (why.Fault lost)) (next_from stand) start.begun × (start.client ≡ old)
+IsAnew asks old log stand (Ok number) start =
+    ((32767 ≤ epoch_of stand) × Ends Epochs (next_from stand) start.begun × (start.client ≡ old))
+    ⊎ ((place : Place) × (hand : Result Hand Ending) × (place.log ≡ log.id) × (place.epoch ≡ epoch_of stand + 1)
+    × StepsAt asks place old log.asked number hand start.client
     × OpensWith hand (next_from stand) began.Anew
-    (Some (record { log = place.log; epoch = place.epoch; number = number })) begun)
+    (Some (record { log = place.log; epoch = place.epoch; number = number })) start.begun)
 
 -- ---- a log that began anew or whose clock was set back
 
@@ -163,15 +179,14 @@ OpensBehind from gap (Err ending) next begun = Ends ending next begun
 
 -- Both are kept: a gap in the epoch in which the log would go on, up to the oldest record, and behind it a new epoch
 -- from where the log begins if it began anew.
-abbrev pub IsEither : {S : Type 0} → Ask S → Client S → Id → (many : ℕ) → Stand → Place → ℕ → Result Start End
-    → Client S → Type 0
-IsEither asks old object many stand from oldest begun new =
+abbrev pub IsEither : {S : Type 0} → Ask S → Client S → LogAsked → Stand → Place → ℕ → AtStart S → Type 0
+IsEither asks old log stand from oldest start =
     ((from.log * 32768 + 32767 ≤ era_after (era from) (gap_up_to (next_from stand) oldest))
-    × Ends Epochs (next_from stand) begun × (new ≡ old))
+    × Ends Epochs (next_from stand) start.begun × (start.client ≡ old))
     ⊎ ((place : Place) × (hand : Result Hand Ending) × (place.log ≡ from.log)
     × (era place ≡ era_after (era from) (gap_up_to (next_from stand) oldest) + 1)
-    × StepsAt asks place old object many (beginning_of oldest) hand new
-    × OpensBehind from (gap_up_to (next_from stand) oldest) hand (next_from stand) begun)
+    × StepsAt asks place old log (beginning_of oldest) hand start.client
+    × OpensBehind from (gap_up_to (next_from stand) oldest) hand (next_from stand) start.begun)
 
 -- ---- the one rule
 
@@ -183,23 +198,39 @@ asks_oldest_next seen.Same how = false
 asks_oldest_next other ended.CaughtUp = true
 asks_oldest_next other how = false
 
+-- what came to the first questions: what is in hand, and what was seen of the record that was kept last
+pub record FirstAnswers : Type 0 where
+  pub hand : Hand
+  pub seen : Seen
+
+-- the two together
+abbrev pub first_answers : Hand → Seen → FirstAnswers
+first_answers hand seen = record { hand = hand; seen = seen }
+
 -- a log goes on with what is in hand, and with the oldest behind that where they are asked for
-abbrev pub GoesOn : {S : Type 0} → Ask S → Client S → Hand → Seen → Result Start End → Client S → Type 0
-GoesOn asks old hand found begun new =
-    MatchBool (asks_oldest_next found hand.gathered.step.ended)
-    ((all : Hand) × TakesMore asks old hand all new × BeginsWith all began.GoesOn None begun)
-    (BeginsWith hand began.GoesOn None begun × (new ≡ old))
+abbrev pub GoesOn : {S : Type 0} → Ask S → Client S → FirstAnswers → AtStart S → Type 0
+GoesOn asks old found start =
+    MatchBool (asks_oldest_next found.seen found.hand.gathered.step.ended)
+    ((all : Hand) × TakesMore asks old found.hand all start.client × BeginsWith all began.GoesOn None start.begun)
+    (BeginsWith found.hand began.GoesOn None start.begun × (start.client ≡ old))
+
+-- the log of a run that stands somewhere, and the place from which it goes on
+pub record LogAt : Type 0 where
+  pub log : RunLog
+  pub stand : Stand
+  pub from : Place
+
+-- the three together
+abbrev pub log_at : RunLog → Stand → Place → LogAt
+log_at log stand from = record { log = log; stand = stand; from = from }
 
 -- A log goes on with what is in hand, begins anew, or both are kept.
-abbrev pub ByCourse : {S : Type 0} → Ask S → Client S → ℕ → Id → (many : ℕ) → Stand → Place → Hand → Seen → Count
-    → Course → Result Start End → Client S → Type 0
-ByCourse asks old log object many stand from hand found count GoOn begun new =
-    GoesOn asks old hand found begun new
-ByCourse {S = S} asks old log object many stand from hand found count Anew begun new =
-    (number : Result ℕ WalkFault) × (mid : Client S) × FindsBeginning asks old object many found count number mid
-    × IsAnew asks mid log object many stand number begun new
-ByCourse asks old log object many stand from hand found count (Both oldest) begun new =
-    IsEither asks old object many stand from oldest begun new
+abbrev pub ByCourse : {S : Type 0} → Ask S → Client S → LogAt → FirstAnswers → Count → Course → AtStart S → Type 0
+ByCourse asks old at found count GoOn start = GoesOn asks old found start
+ByCourse {S = S} asks old at found count Anew start =
+    (number : Result ℕ WalkFault) × (mid : Client S) × FindsBeginning asks old at.log.asked found.seen count number mid
+    × IsAnew asks mid at.log at.stand number start
+ByCourse asks old at found count (Both oldest) start = IsEither asks old at.log.asked at.stand at.from oldest start
 
 -- a count that is told
 abbrev pub counted : Count → Option ℕ
@@ -208,13 +239,11 @@ counted Untold = None
 counted Lost = None
 
 -- by what the device holds of the record that was kept last, by its own word, and by its count
-abbrev pub ByCount : {S : Type 0} → Ask S → Client S → ℕ → Id → (many : ℕ) → Word → Stand → Place → Hand → Seen
-    → Count → Result Start End → Client S → Type 0
-ByCount asks old log object many word stand from hand found Lost begun new =
-    Ends (Walk (why.Fault walk.Lost)) (next_from stand) begun × (new ≡ old)
-ByCount asks old log object many word stand from hand found count begun new =
-    ByCourse asks old log object many stand from hand found count
-    (course_of found word (counted count) (kept_last stand).number) begun new
+abbrev pub ByCount : {S : Type 0} → Ask S → Client S → LogAt → Word → FirstAnswers → Count → AtStart S → Type 0
+ByCount asks old at word found Lost start =
+    Ends (Walk (why.Fault walk.Lost)) (next_from at.stand) start.begun × (start.client ≡ old)
+ByCount asks old at word found count start =
+    ByCourse asks old at found count (course_of found.seen word (counted count) (kept_last at.stand).number) start
 
 -- the count decides where nothing is held; before the number 1 it says nothing
 abbrev pub asks_count : Stand → Seen → Bool
@@ -227,41 +256,37 @@ CountsWhere asks old object true count new = CountsBy asks old object count new
 CountsWhere asks old object false count new = (count ≡ Untold) × (new ≡ old)
 
 -- what the device holds of the record that was kept last tells how a run goes on, unless no answer came
-abbrev pub BySeen : {S : Type 0} → Ask S → Client S → ℕ → Id → (many : ℕ) → Word → Stand → Place → Hand
-    → Result Seen WalkFault → Result Start End → Client S → Type 0
-BySeen asks old log object many word stand from hand (Err lost) begun new =
-    Ends (Walk (why.Fault lost)) (next_from stand) begun × (new ≡ old)
-BySeen {S = S} asks old log object many word stand from hand (Ok found) begun new =
-    (count : Count) × (mid : Client S) × CountsWhere asks old object (asks_count stand found) count mid
-    × ByCount asks mid log object many word stand from hand found count begun new
+abbrev pub BySeen : {S : Type 0} → Ask S → Client S → LogAt → Word → Hand → Result Seen WalkFault → AtStart S → Type 0
+BySeen asks old at word hand (Err lost) start =
+    Ends (Walk (why.Fault lost)) (next_from at.stand) start.begun × (start.client ≡ old)
+BySeen {S = S} asks old at word hand (Ok seen) start =
+    (count : Count) × (mid : Client S) × CountsWhere asks old at.log.asked.object (asks_count at.stand seen) count mid
+    × ByCount asks mid at word (first_answers hand seen) count start
 
 -- behind what came from there that record is asked for; if that came to no end, nothing more is
-abbrev pub ByHand : {S : Type 0} → Ask S → Client S → ℕ → Id → (many : ℕ) → Word → Stand → Place → Result Hand Ending
-    → Result Start End → Client S → Type 0
-ByHand asks old log object many word stand from (Err ending) begun new =
-    Ends ending (next_from stand) begun × (new ≡ old)
-ByHand {S = S} asks old log object many word stand from (Ok hand) begun new =
+abbrev pub ByHand : {S : Type 0} → Ask S → Client S → LogAt → Word → Result Hand Ending → AtStart S → Type 0
+ByHand asks old at word (Err ending) start = Ends ending (next_from at.stand) start.begun × (start.client ≡ old)
+ByHand {S = S} asks old at word (Ok hand) start =
     (found : Result Seen WalkFault) × (mid : Client S)
-    × LooksBy asks old.transactions old.link object many (kept_last stand) found mid.transactions mid.link
-    × BySeen asks mid log object many word stand from hand found begun new
+    × LooksBy asks old (sought at.log.asked.object at.log.asked.many (kept_last at.stand)) found mid
+    × BySeen asks mid at word hand found start
 
 -- Over a log that stands somewhere a run of so many steps asks first for what lies behind, and then for the record that
 -- was kept last. In an archive with no place for the next number it asks nothing.
-abbrev pub GoesFrom : {S : Type 0} → Ask S → Client S → ℕ → Id → (many : ℕ) → Word → Stand → ℕ → Result Start End
-    → Client S → Type 0
-GoesFrom {S = S} asks old log object many word stand steps begun new =
-    ((32767 < epoch_from stand) × Ends Epochs (next_from stand) begun × (new ≡ old))
-    ⊎ ((from : Place) × (hand : Result Hand Ending) × (mid : Client S) × (from.log ≡ log)
+abbrev pub GoesFrom : {S : Type 0} → Ask S → Client S → RunLog → Word → Stand → ℕ → AtStart S → Type 0
+GoesFrom {S = S} asks old log word stand steps start =
+    ((32767 < epoch_from stand) × Ends Epochs (next_from stand) start.begun × (start.client ≡ old))
+    ⊎ ((from : Place) × (hand : Result Hand Ending) × (mid : Client S) × (from.log ≡ log.id)
     × (from.epoch ≡ epoch_from stand)
-    × LooksAhead asks from (free_from stand) old (asking many (walk_at object (next_from stand))) steps hand mid
-    × ByHand asks mid log object many word stand from hand begun new)
+    × LooksAhead asks (room from (free_from stand)) old
+    (asking log.asked.many (walk_at log.asked.object (next_from stand))) steps hand mid
+    × ByHand asks mid (log_at log stand from) word hand start)
 
 -- A run of so many steps over a log begins at its oldest record if nothing of it is on record in an archive, once its
 -- count was asked for; and else where what came to a client says. Each of these questions is asked by its next
 -- transaction, none is open after them, and they leave it so.
-abbrev pub IsBegun : {S : Type 0} → Ask S → Client S → Client S → ℕ → Id → (many : ℕ) → Word → ℕ → Trees
-    → Result Start End → Type 0
-IsBegun asks old new log object many word steps trees begun =
-    (IsStand log trees None × StartsNew asks old log object many begun new)
-    ⊎ ((stand : Stand) × IsStand log trees (Some stand)
-    × GoesFrom asks old log object many (word_at stand word) stand steps begun new)
+abbrev pub IsBegun : {S : Type 0} → Ask S → Client S → RunLog → Word → ℕ → Trees → AtStart S → Type 0
+IsBegun asks old log word steps trees start =
+    (IsStand log.id trees None × StartsNew asks old log start)
+    ⊎ ((stand : Stand) × IsStand log.id trees (Some stand)
+    × GoesFrom asks old log (word_at stand word) stand steps start)

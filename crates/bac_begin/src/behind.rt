@@ -7,7 +7,9 @@ ghost use Rattle.bac_query.specs.Tables.{client};
 ghost use Rattle.bac_asked.specs.Faults.{WantsMemory};
 ghost use Rattle.bac_begin.specs.Hands.{GoesAhead, IsPutBehind, LooksAhead, TakesAnswer, TakesMore};
 ghost use Rattle.bac_begin.specs.Hands.{steps_of};
-ghost use Rattle.bac_begin.specs.Starts.{BeginsWith, GoesOn, asks_oldest_next};
+ghost use Rattle.bac_begin.specs.Starts.{BeginsWith, GoesOn, asks_oldest_next, at_start};
+ghost use Rattle.bac_begin.specs.Starts.{first_answers};
+ghost use Rattle.bac_keep.specs.Rising.{room};
 
 use crate::hands::Hand;
 use crate::starting::Start;
@@ -56,7 +58,7 @@ fn take_answer<L: LogLink>(
 ) -> Result<Result<Hand, Ending>, NotDone>
     ensures retries { transactions.new.retries ≡ transactions.old.retries }
     ensures route { transactions.new.route ≡ transactions.old.route }
-    ensures takes { IfOk result (λ hand. TakesAnswer L.asks place free
+    ensures takes { IfOk result (λ hand. TakesAnswer L.asks (room place free)
         (client link.old transactions.old) walk hand (client link.new transactions.new)) }
     ensures fault { IfErr result WantsMemory }
 {
@@ -221,7 +223,7 @@ pub(crate) fn look_ahead<L: LogLink>(
 ) -> Result<Result<Hand, Ending>, NotDone>
     ensures retries { transactions.new.retries ≡ transactions.old.retries }
     ensures route { transactions.new.route ≡ transactions.old.route }
-    ensures looks { IfOk result (λ ahead. LooksAhead L.asks place free
+    ensures looks { IfOk result (λ ahead. LooksAhead L.asks (room place free)
         (client link.old transactions.old) walk steps ahead (client link.new transactions.new)) }
     ensures fault { IfErr result WantsMemory }
 {
@@ -254,8 +256,8 @@ pub(crate) fn go_on<L: LogLink>(
 ) -> Result<Result<Start, End>, NotDone>
     ensures retries { transactions.new.retries ≡ transactions.old.retries }
     ensures route { transactions.new.route ≡ transactions.old.route }
-    ensures goes { IfOk result (λ begun. GoesOn L.asks (client link.old transactions.old) hand seen
-        begun (client link.new transactions.new)) }
+    ensures goes { IfOk result (λ begun. GoesOn L.asks (client link.old transactions.old)
+        (first_answers hand seen) (at_start begun (client link.new transactions.new))) }
     ensures fault { IfErr result WantsMemory }
 {
     if asks_oldest_next(seen, hand.gathered.step.ended) {

@@ -9,8 +9,8 @@ ghost use Rattle.bac_keep.specs.Items.{era, era_after, kept_rows};
 ghost use Rattle.bac_keep.specs.Runs.{gaps_among};
 ghost use Rattle.bac_query.specs.Tables.{client};
 ghost use Rattle.bac_asked.specs.Faults.{WantsMemory};
-ghost use Rattle.bac_begin.specs.Hands.{row_of_span, rows_of_span};
-ghost use Rattle.bac_begin.specs.Starts.{IsEither, OpensBehind, gap_up_to};
+ghost use Rattle.bac_begin.specs.Hands.{row_of_span, rows_of_span, log_asked};
+ghost use Rattle.bac_begin.specs.Starts.{IsEither, OpensBehind, gap_up_to, at_start};
 
 use crate::hands::{Hand, take_step_at};
 use crate::stands::{Stand, last_kept, number_behind};
@@ -190,8 +190,9 @@ pub(crate) fn begin_either<L: LogLink>(
     requires { log.kind ≡ 20 }
     ensures retries { transactions.new.retries ≡ transactions.old.retries }
     ensures route { transactions.new.route ≡ transactions.old.route }
-    ensures either { IfOk result (λ begun. IsEither L.asks (client link.old transactions.old) log
-        many stand.now from oldest begun (client link.new transactions.new)) }
+    ensures either { IfOk result (λ begun. IsEither L.asks (client link.old transactions.old)
+        (log_asked log many) stand.now from oldest
+        (at_start begun (client link.new transactions.new))) }
     ensures fault { IfErr result WantsMemory }
 {
     let next = number_behind(last_kept(stand).number);

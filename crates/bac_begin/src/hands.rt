@@ -3,7 +3,8 @@
 ghost use Rattle.std.specs.Prelude.{◌≡◌, IfOk, IfErr};
 ghost use Rattle.bac_query.specs.Tables.{client};
 ghost use Rattle.bac_asked.specs.Faults.{WantsMemory};
-ghost use Rattle.bac_begin.specs.Hands.{Steps, StepsAt};
+ghost use Rattle.bac_begin.specs.Hands.{Steps, StepsAt, log_asked};
+ghost use Rattle.bac_keep.specs.Rising.{room};
 
 use bac_asked::{Ending, Fault, NotDone};
 use bac_keep::{Gathered, Place, Refusal, gather};
@@ -34,8 +35,8 @@ pub(crate) fn take_step<L: LogLink>(
 ) -> Result<Result<Hand, Ending>, NotDone>
     ensures retries { transactions.new.retries ≡ transactions.old.retries }
     ensures route { transactions.new.route ≡ transactions.old.route }
-    ensures steps { IfOk result (λ hand. Steps L.asks place free (client link.old transactions.old)
-        walk hand (client link.new transactions.new)) }
+    ensures steps { IfOk result (λ hand. Steps L.asks (room place free)
+        (client link.old transactions.old) walk hand (client link.new transactions.new)) }
     ensures fault { IfErr result WantsMemory }
 {
     match gather(alloc, link, transactions, &mut walk, place, free) {
@@ -67,8 +68,8 @@ pub(crate) fn take_step_at<L: LogLink>(
     requires { log.kind ≡ 20 }
     ensures retries { transactions.new.retries ≡ transactions.old.retries }
     ensures route { transactions.new.route ≡ transactions.old.route }
-    ensures steps { IfOk result (λ hand. StepsAt L.asks place (client link.old transactions.old) log
-        many number hand (client link.new transactions.new)) }
+    ensures steps { IfOk result (λ hand. StepsAt L.asks place (client link.old transactions.old)
+        (log_asked log many) number hand (client link.new transactions.new)) }
     ensures fault { IfErr result WantsMemory }
 {
     match Walk::from_number(log, number) {

@@ -4,7 +4,8 @@ ghost use Rattle.std.specs.Prelude.{◌≡◌, None, Ok, IfOk, IfErr};
 ghost use Rattle.bac_query.specs.Tables.{client};
 ghost use Rattle.bac_asked.specs.Faults.{WantsMemory};
 ghost use Rattle.bac_begin.specs.Starts.{ByCount, ByCourse, BySeen, CountsWhere, asks_count};
-ghost use Rattle.bac_begin.specs.Starts.{counted};
+ghost use Rattle.bac_begin.specs.Starts.{counted, run_log, at_start, log_at, first_answers};
+ghost use Rattle.bac_begin.specs.Hands.{log_asked};
 
 use crate::behind::go_on;
 use crate::either::begin_either;
@@ -37,8 +38,10 @@ fn start_by<L: LogLink>(
     requires { log.kind ≡ 20 }
     ensures retries { transactions.new.retries ≡ transactions.old.retries }
     ensures route { transactions.new.route ≡ transactions.old.route }
-    ensures starts { IfOk result (λ begun. ByCourse L.asks (client link.old transactions.old) id log
-        many stand.now from hand seen count course begun (client link.new transactions.new)) }
+    ensures starts { IfOk result (λ begun. ByCourse L.asks (client link.old transactions.old)
+        (log_at (run_log id (log_asked log many)) stand.now from) (first_answers hand seen) count
+        course
+        (at_start begun (client link.new transactions.new))) }
     ensures fault { IfErr result WantsMemory }
 {
     match course {
@@ -82,8 +85,10 @@ fn start_counted<L: LogLink>(
     requires { log.kind ≡ 20 }
     ensures retries { transactions.new.retries ≡ transactions.old.retries }
     ensures route { transactions.new.route ≡ transactions.old.route }
-    ensures starts { IfOk result (λ begun. ByCount L.asks (client link.old transactions.old) id log
-        many word stand.now from hand seen count begun (client link.new transactions.new)) }
+    ensures starts { IfOk result (λ begun. ByCount L.asks (client link.old transactions.old)
+        (log_at (run_log id (log_asked log many)) stand.now from) word (first_answers hand seen)
+        count
+        (at_start begun (client link.new transactions.new))) }
     ensures fault { IfErr result WantsMemory }
 {
     if count == Count::Lost {
@@ -152,8 +157,9 @@ pub(crate) fn start_seen<L: LogLink>(
     requires { log.kind ≡ 20 }
     ensures retries { transactions.new.retries ≡ transactions.old.retries }
     ensures route { transactions.new.route ≡ transactions.old.route }
-    ensures starts { IfOk result (λ begun. BySeen L.asks (client link.old transactions.old) id log
-        many word stand.now from hand found begun (client link.new transactions.new)) }
+    ensures starts { IfOk result (λ begun. BySeen L.asks (client link.old transactions.old)
+        (log_at (run_log id (log_asked log many)) stand.now from) word hand found
+        (at_start begun (client link.new transactions.new))) }
     ensures fault { IfErr result WantsMemory }
 {
     let seen = match found {

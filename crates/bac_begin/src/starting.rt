@@ -2,13 +2,14 @@
 
 ghost use Rattle.std.specs.Prelude.{◌≡◌, Ok, IfOk, IfErr};
 ghost use Rattle.bac_walk.specs.Place.{asking, walk_at};
-ghost use Rattle.bac_keep.specs.Looks.{LooksBy};
+ghost use Rattle.bac_keep.specs.Looks.{LooksBy, sought};
 ghost use Rattle.bac_query.specs.Tables.{client};
 ghost use Rattle.bac_asked.specs.Faults.{WantsMemory};
 ghost use Rattle.bac_begin.specs.Stands.{kept_last, word_at};
 ghost use Rattle.bac_begin.specs.Starts.{AsksBeginning, BeginsBy, ByHand, FindsBeginning, GoesFrom};
-ghost use Rattle.bac_begin.specs.Starts.{IsAnew, IsFirst, KeepsNone, OpensFirst, OpensWith};
-ghost use Rattle.bac_begin.specs.Starts.{StartsNew, next_from};
+ghost use Rattle.bac_begin.specs.Starts.{IsAnew, IsFirst, KeepsNone, OpensFirst, OpensWith, log_at};
+ghost use Rattle.bac_begin.specs.Starts.{StartsNew, next_from, run_log, at_start};
+ghost use Rattle.bac_begin.specs.Hands.{log_asked};
 
 use crate::behind::look_ahead;
 use crate::hands::{Hand, take_step, take_step_at};
@@ -86,8 +87,9 @@ fn begin_first<L: LogLink>(
     requires { log.kind ≡ 20 }
     ensures retries { transactions.new.retries ≡ transactions.old.retries }
     ensures route { transactions.new.route ≡ transactions.old.route }
-    ensures opens { IfOk result (OpensFirst L.asks (client link.old transactions.old)
-        (client link.new transactions.new) id log many number) }
+    ensures opens { IfOk result (λ begun. OpensFirst L.asks (client link.old transactions.old)
+        (run_log id (log_asked log many)) number
+        (at_start begun (client link.new transactions.new))) }
     ensures fault { IfErr result WantsMemory }
 {
     let (Some(place), Some(walk)) = (Place::new(id, 0), Walk::oldest(log)) else {
@@ -116,8 +118,9 @@ fn start_first<L: LogLink>(
     requires { log.kind ≡ 20 }
     ensures retries { transactions.new.retries ≡ transactions.old.retries }
     ensures route { transactions.new.route ≡ transactions.old.route }
-    ensures first { IfOk result (λ begun. IsFirst L.asks (client link.old transactions.old) id log
-        many count begun (client link.new transactions.new)) }
+    ensures first { IfOk result (λ begun. IsFirst L.asks (client link.old transactions.old)
+        (run_log id (log_asked log many)) count
+        (at_start begun (client link.new transactions.new))) }
     ensures fault { IfErr result WantsMemory }
 {
     match count {
@@ -157,8 +160,8 @@ fn ask_beginning<L: LogLink>(
     requires { log.kind ≡ 20 }
     ensures retries { transactions.new.retries ≡ transactions.old.retries }
     ensures route { transactions.new.route ≡ transactions.old.route }
-    ensures asks { AsksBeginning L.asks (client link.old transactions.old) log many result
-        (client link.new transactions.new) }
+    ensures asks { AsksBeginning L.asks (client link.old transactions.old) (log_asked log many)
+        result (client link.new transactions.new) }
 {
     let Some(walk) = Walk::oldest(log) else {
         unreachable!()
@@ -183,8 +186,8 @@ pub(crate) fn find_beginning<L: LogLink>(
     requires { log.kind ≡ 20 }
     ensures retries { transactions.new.retries ≡ transactions.old.retries }
     ensures route { transactions.new.route ≡ transactions.old.route }
-    ensures finds { FindsBeginning L.asks (client link.old transactions.old) log many seen count
-        result (client link.new transactions.new) }
+    ensures finds { FindsBeginning L.asks (client link.old transactions.old) (log_asked log many)
+        seen count result (client link.new transactions.new) }
 {
     match (seen, count) {
         (Seen::Nothing, Count::Told(count)) => Ok(beginning_of(number_behind(count))),
@@ -206,8 +209,9 @@ fn begin_anew<L: LogLink>(
     requires { log.kind ≡ 20 }
     ensures retries { transactions.new.retries ≡ transactions.old.retries }
     ensures route { transactions.new.route ≡ transactions.old.route }
-    ensures anew { IfOk result (λ begun. IsAnew L.asks (client link.old transactions.old) id log
-        many stand.now (Ok number) begun (client link.new transactions.new)) }
+    ensures anew { IfOk result (λ begun. IsAnew L.asks (client link.old transactions.old)
+        (run_log id (log_asked log many)) stand.now (Ok number)
+        (at_start begun (client link.new transactions.new))) }
     ensures fault { IfErr result WantsMemory }
 {
     let Some(place) = Place::new(id, epoch_of(stand).saturating_add(1)) else {
@@ -237,8 +241,9 @@ pub(crate) fn start_anew<L: LogLink>(
     requires { log.kind ≡ 20 }
     ensures retries { transactions.new.retries ≡ transactions.old.retries }
     ensures route { transactions.new.route ≡ transactions.old.route }
-    ensures anew { IfOk result (λ begun. IsAnew L.asks (client link.old transactions.old) id log
-        many stand.now found begun (client link.new transactions.new)) }
+    ensures anew { IfOk result (λ begun. IsAnew L.asks (client link.old transactions.old)
+        (run_log id (log_asked log many)) stand.now found
+        (at_start begun (client link.new transactions.new))) }
     ensures fault { IfErr result WantsMemory }
 {
     match found {
@@ -259,8 +264,8 @@ fn look_behind<L: LogLink>(
     requires { log.kind ≡ 20 }
     ensures retries { transactions.new.retries ≡ transactions.old.retries }
     ensures route { transactions.new.route ≡ transactions.old.route }
-    ensures looks { IfOk result (λ found. LooksBy L.asks transactions.old link.old log many
-        (kept_last stand.now) found transactions.new link.new) }
+    ensures looks { IfOk result (λ found. LooksBy L.asks (client link.old transactions.old)
+        (sought log many (kept_last stand.now)) found (client link.new transactions.new)) }
     ensures fault { IfErr result WantsMemory }
 {
     match look_for(alloc, link, transactions, log, many, last_kept(stand)) {
@@ -285,8 +290,9 @@ fn start_behind<L: LogLink>(
     requires { log.kind ≡ 20 }
     ensures retries { transactions.new.retries ≡ transactions.old.retries }
     ensures route { transactions.new.route ≡ transactions.old.route }
-    ensures starts { IfOk result (λ begun. ByHand L.asks (client link.old transactions.old) id log
-        many word stand.now from hand begun (client link.new transactions.new)) }
+    ensures starts { IfOk result (λ begun. ByHand L.asks (client link.old transactions.old)
+        (log_at (run_log id (log_asked log many)) stand.now from) word hand
+        (at_start begun (client link.new transactions.new))) }
     ensures fault { IfErr result WantsMemory }
 {
     let hand = match hand {
@@ -336,8 +342,9 @@ fn start_from<L: LogLink>(
     requires { log.kind ≡ 20 }
     ensures retries { transactions.new.retries ≡ transactions.old.retries }
     ensures route { transactions.new.route ≡ transactions.old.route }
-    ensures starts { IfOk result (λ begun. GoesFrom L.asks (client link.old transactions.old) id log
-        many word stand.now steps begun (client link.new transactions.new)) }
+    ensures starts { IfOk result (λ begun. GoesFrom L.asks (client link.old transactions.old)
+        (run_log id (log_asked log many)) word stand.now steps
+        (at_start begun (client link.new transactions.new))) }
     ensures fault { IfErr result WantsMemory }
 {
     let Some((from, free)) = from_there(id, stand) else {
@@ -374,8 +381,9 @@ pub fn start_at<L: LogLink>(
     requires { log.kind ≡ 20 }
     ensures retries { transactions.new.retries ≡ transactions.old.retries }
     ensures route { transactions.new.route ≡ transactions.old.route }
-    ensures starts { IfOk result (λ begun. GoesFrom L.asks (client link.old transactions.old) id log
-        many (word_at stand.now word) stand.now steps begun (client link.new transactions.new)) }
+    ensures starts { IfOk result (λ begun. GoesFrom L.asks (client link.old transactions.old)
+        (run_log id (log_asked log many)) (word_at stand.now word) stand.now steps
+        (at_start begun (client link.new transactions.new))) }
     ensures fault { IfErr result WantsMemory }
 {
     let told = word_at(stand, word);
@@ -395,8 +403,8 @@ pub fn start_new<L: LogLink>(
     requires { log.kind ≡ 20 }
     ensures retries { transactions.new.retries ≡ transactions.old.retries }
     ensures route { transactions.new.route ≡ transactions.old.route }
-    ensures starts { IfOk result (λ begun. StartsNew L.asks (client link.old transactions.old) id
-        log many begun (client link.new transactions.new)) }
+    ensures starts { IfOk result (λ begun. StartsNew L.asks (client link.old transactions.old)
+        (run_log id (log_asked log many)) (at_start begun (client link.new transactions.new))) }
     ensures fault { IfErr result WantsMemory }
 {
     let count = read_count(link, transactions, log);

@@ -90,12 +90,22 @@ TakesAll {P} rules old paths last status after new =
     × TakesEach rules old paths none early counts mid × TakesPath rules mid last counts why after new
     × (status ≡ max early (told_status (last_told paths why)))
 
+-- the parts of archives, and what the output holds to which is printed what is counted in them
+pub record Checking (P : Type 0) : Type 0 where
+  pub parts : P
+  pub output : Held
+
+-- the two together
+abbrev pub checking : {P : Type 0} → P → Held → Checking P
+checking parts output = record { parts = parts; output = output }
+
 -- The parts are read, the text of what is counted is written, and the status is the greatest of what is told: 0 just if
 -- nothing is, and each number is there.
-abbrev pub ChecksAll : {P : Type 0} → PartRules P → P → List (List ℕ) → List ℕ → Held → Held → ℕ → P → Type 0
-ChecksAll rules old paths last before after status new =
-    (told : ℕ) × (counts : Counts) × TakesAll rules old paths last told counts new
-    × Appends before after (check_text counts) × (status ≡ max told (told_status (unless_whole (has_all counts))))
+abbrev pub ChecksAll : {P : Type 0} → PartRules P → Checking P → List (List ℕ) → List ℕ → ℕ → Checking P → Type 0
+ChecksAll rules old paths last status new =
+    (told : ℕ) × (counts : Counts) × TakesAll rules old.parts paths last told counts new.parts
+    × Appends old.output new.output (check_text counts)
+    × (status ≡ max told (told_status (unless_whole (has_all counts))))
 
 -- nothing is read, for a reason that is told
 abbrev pub IsTold : FileFault → Held → Held → ℕ → Type 0
@@ -106,30 +116,32 @@ abbrev pub all_paths : List ℕ → Option (List (List ℕ)) → List (List ℕ)
 all_paths name listed = unwrap_or listed (name ∷ [])
 
 -- the same of all the parts that are listed
-abbrev pub ChecksListed : {P : Type 0} → PartRules P → P → List (List ℕ) → Held → Held → ℕ → P → Type 0
-ChecksListed rules old all before after status new =
-    ((all ≡ []) × (new ≡ old) × IsTold file.NoLogs before after status)
+abbrev pub ChecksListed : {P : Type 0} → PartRules P → Checking P → List (List ℕ) → ℕ → Checking P → Type 0
+ChecksListed rules old all status new =
+    ((all ≡ []) × (new.parts ≡ old.parts) × IsTold file.NoLogs old.output new.output status)
     ⊎ ((paths : List (List ℕ)) × (last : List ℕ) × (all ≡ paths ++ last ∷ [])
-    × ChecksAll rules old paths last before after status new)
+    × ChecksAll rules old paths last status new)
 
 -- `bac check` of the archive of this name: why its parts aren't listed is told; or they are, and read.
 abbrev pub EndsCheck : {P : Type 0} → PartRules P → P → List ℕ → Held → Held → ℕ → P → Type 0
 EndsCheck {P} rules old name before after status new =
     ((why : NotOpened) × rules.lists old name (Err why) new × IsTold (of_unopened why) before after status)
     ⊎ ((listed : Option (List (List ℕ))) × (mid : P) × rules.lists old name (Ok listed) mid
-    × ChecksListed rules mid (all_paths name listed) before after status new)
+    × ChecksListed rules (checking mid before) (all_paths name listed) status (checking new after))
 
 -- the output refused the text of what is counted, or a flush of it: a front part of it was written
-abbrev pub RefusesText : {P : Type 0} → PartRules P → P → List (List ℕ) → List ℕ → Held → Held → P → Type 0
-RefusesText rules old paths last before after new = (told : ℕ) × (counts : Counts)
-    × TakesAll rules old paths last told counts new × AppendsPart before after (check_text counts)
+abbrev pub RefusesText : {P : Type 0} → PartRules P → Checking P → List (List ℕ) → List ℕ → Checking P → Type 0
+RefusesText rules old paths last new = (told : ℕ) × (counts : Counts)
+    × TakesAll rules old.parts paths last told counts new.parts
+    × AppendsPart old.output new.output (check_text counts)
 
 -- the same of all the parts that are listed
-abbrev pub RefusesListed : {P : Type 0} → PartRules P → P → List (List ℕ) → Held → Held → P → Type 0
-RefusesListed rules old all before after new = (paths : List (List ℕ)) × (last : List ℕ) × (all ≡ paths ++ last ∷ [])
-    × RefusesText rules old paths last before after new
+abbrev pub RefusesListed : {P : Type 0} → PartRules P → Checking P → List (List ℕ) → Checking P → Type 0
+RefusesListed rules old all new = (paths : List (List ℕ)) × (last : List ℕ) × (all ≡ paths ++ last ∷ [])
+    × RefusesText rules old paths last new
 
 -- so `bac check` ends where its output refuses a write
 abbrev pub RefusesCheck : {P : Type 0} → PartRules P → P → List ℕ → Held → Held → P → Type 0
 RefusesCheck {P} rules old name before after new = (listed : Option (List (List ℕ))) × (mid : P)
-    × rules.lists old name (Ok listed) mid × RefusesListed rules mid (all_paths name listed) before after new
+    × rules.lists old name (Ok listed) mid
+    × RefusesListed rules (checking mid before) (all_paths name listed) (checking new after)

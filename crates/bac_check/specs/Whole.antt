@@ -6,7 +6,7 @@ use Rattle.bac_archive.specs.declared.trend_logs.Log.{Log}
 use Rattle.bac_asked.specs.declared.fault.FileFault.{FileFault}
 use Rattle.bac_files.specs.Parts.{PartRules, Reading}
 use Rattle.bac_print.specs.Output.{Held}
-use Rattle.bac_check.specs.Checked.{ChecksAll, TakesPath, has_all, last_told}
+use Rattle.bac_check.specs.Checked.{ChecksAll, TakesPath, checking, has_all, last_told}
 use Rattle.bac_check.specs.Counted.{IsEmpty}
 use Rattle.bac_check.specs.Holes.{Begins, HasOne, Have}
 use Rattle.bac_check.specs.Taken.{IsCounted}
@@ -41,7 +41,7 @@ IsWhole {P} rules old paths last new = (none : Counts) × IsEmpty none × (mid :
 -- The parts are so where the status is 0.
 abbrev pub ZeroIsWhole : {P : Type 0} → PartRules P → Type 0
 ZeroIsWhole {P} rules = (old new : P) (paths : List (List ℕ)) (last : List ℕ) (before after : Held)
-    → ChecksAll rules old paths last before after 0 new → IsWhole rules old paths last new
+    → ChecksAll rules (checking old before) paths last 0 (checking new after) → IsWhole rules old paths last new
 
 -- Where no epoch has a hole, each number of an epoch of one of the logs that comes at its beginning or behind it, or
 -- behind one that is in a row, up to the last one that is in a row, is in one row and in no other.

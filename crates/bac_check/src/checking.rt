@@ -8,8 +8,9 @@ ghost use Rattle.std.specs.String.{string_bytes};
 ghost use Rattle.bac_check.specs.Checked.{ChecksAll, ChecksListed, EndsCheck};
 ghost use Rattle.bac_check.specs.Checked.{RefusesCheck, RefusesListed, RefusesText, TakesAll};
 ghost use Rattle.bac_check.specs.Checked.{TakesEach, TakesPath};
-ghost use Rattle.bac_check.specs.Checked.{check_text, has_all, is_complete, last_told, lines_of};
-ghost use Rattle.bac_check.specs.Checked.{has_nothing, told_status, unless_nothing, unless_whole};
+ghost use Rattle.bac_check.specs.Checked.{check_text, checking, has_all, is_complete, last_told};
+ghost use Rattle.bac_check.specs.Checked.{has_nothing, lines_of, told_status, unless_nothing};
+ghost use Rattle.bac_check.specs.Checked.{unless_whole};
 ghost use Rattle.bac_check.specs.Counted.{IsEmpty};
 ghost use Rattle.bac_files.specs.Parts.{part_rules};
 ghost use Rattle.bac_print.specs.Output.{AppendsPart};
@@ -227,12 +228,12 @@ fn check_all<P: Parts, O: Write, E: Write>(
     errors: &mut E,
 ) -> Result<u8, Fault>
     ensures checks { IfOk result (λ status. ChecksAll (part_rules P.lists P.holds P.bars)
-        parts.old (map string_bytes before.now) last.now (O.contents output.old)
-        (O.contents output.new) status parts.new) }
-    ensures refused { IfErr result (λ fault. (fault ≡ Fault.Memory) ⊎ ((fault ≡ Fault.Write)
-        × RefusesText (part_rules P.lists P.holds P.bars) parts.old
-        (map string_bytes before.now) last.now (O.contents output.old) (O.contents output.new)
-        parts.new)) }
+        (checking parts.old (O.contents output.old)) (map string_bytes before.now) last.now status
+        (checking parts.new (O.contents output.new))) }
+    ensures refused { IfErr result (λ fault. (fault ≡ Fault.Memory)
+        ⊎ ((fault ≡ Fault.Write) × RefusesText (part_rules P.lists P.holds P.bars)
+        (checking parts.old (O.contents output.old)) (map string_bytes before.now) last.now
+        (checking parts.new (O.contents output.new)))) }
     ensures quiet { IfOk result
         (λ status. status ≡ 0 → E.contents errors.new ≡ E.contents errors.old) }
 {
@@ -253,12 +254,12 @@ fn check_parts<P: Parts, O: Write, E: Write>(
     errors: &mut E,
 ) -> Result<u8, Fault>
     ensures checks { IfOk result (λ status. ChecksListed (part_rules P.lists P.holds P.bars)
-        parts.old (map string_bytes paths.now) (O.contents output.old) (O.contents output.new)
-        status parts.new) }
-    ensures refused { IfErr result (λ fault. (fault ≡ Fault.Memory) ⊎ ((fault ≡ Fault.Write)
-        × RefusesListed (part_rules P.lists P.holds P.bars) parts.old
-        (map string_bytes paths.now) (O.contents output.old) (O.contents output.new)
-        parts.new)) }
+        (checking parts.old (O.contents output.old)) (map string_bytes paths.now) status
+        (checking parts.new (O.contents output.new))) }
+    ensures refused { IfErr result (λ fault. (fault ≡ Fault.Memory)
+        ⊎ ((fault ≡ Fault.Write) × RefusesListed (part_rules P.lists P.holds P.bars)
+        (checking parts.old (O.contents output.old)) (map string_bytes paths.now)
+        (checking parts.new (O.contents output.new)))) }
     ensures quiet { IfOk result
         (λ status. status ≡ 0 → E.contents errors.new ≡ E.contents errors.old) }
 {
@@ -279,11 +280,12 @@ fn check_file<P: Parts, O: Write, E: Write>(
     errors: &mut E,
 ) -> Result<u8, Fault>
     ensures checks { IfOk result (λ status. ChecksListed (part_rules P.lists P.holds P.bars)
-        parts.old (name.now ∷ []) (O.contents output.old) (O.contents output.new)
-        status parts.new) }
-    ensures refused { IfErr result (λ fault. (fault ≡ Fault.Memory) ⊎ ((fault ≡ Fault.Write)
-        × RefusesListed (part_rules P.lists P.holds P.bars) parts.old (name.now ∷ [])
-        (O.contents output.old) (O.contents output.new) parts.new)) }
+        (checking parts.old (O.contents output.old)) (name.now ∷ []) status
+        (checking parts.new (O.contents output.new))) }
+    ensures refused { IfErr result (λ fault. (fault ≡ Fault.Memory)
+        ⊎ ((fault ≡ Fault.Write) × RefusesListed (part_rules P.lists P.holds P.bars)
+        (checking parts.old (O.contents output.old)) (name.now ∷ [])
+        (checking parts.new (O.contents output.new)))) }
     ensures quiet { IfOk result
         (λ status. status ≡ 0 → E.contents errors.new ≡ E.contents errors.old) }
 {

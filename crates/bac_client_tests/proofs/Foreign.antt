@@ -27,12 +27,12 @@ use Rattle.bac_link.specs.Requests.{asking, parameters_of, request_apdu, request
 use Rattle.bac_link.specs.declared.item.Item.{Item}
 use Rattle.bac_link.specs.declared.item.Item.TheVariants.{Logged}
 use Rattle.bac_link.specs.declared.link.Lost.{Lost}
-use Rattle.bac_walk.specs.Came.{Asks, Came, Comes, Brought, BroughtIsDelivered, AreOf, AreSaidAt, EndsBy, EndsEmpty, answers_of}
+use Rattle.bac_walk.specs.Came.{Asks, Came, Comes, Brought, BroughtIsDelivered, AreOf, AreSaidAt, EndsBy, EndsEmpty, answers_of, reaching, walk_over}
 use Rattle.bac_walk.specs.Collects.{start_of, turn_items}
 use Rattle.bac_walk.specs.Delivers.{NoneFrom}
 use Rattle.bac_walk.proofs.Came.{start_old}
 use Rattle.bac_walk.specs.Honest.{DeliversSaid, IsHonestEnd}
-use Rattle.bac_link.specs.Honest.{IsAskedIn, IsSaidOrLost, IsHonestWhere, HonestWhereItStands, asked_octets}
+use Rattle.bac_link.specs.Honest.{IsAskedIn, IsSaidOrLost, IsHonestWhere, HonestWhereItStands, asked_octets, asked_log}
 use Rattle.bac_walk.specs.Told.{ended_of}
 use Rattle.bac_walk.specs.declared.outcome.WalkFault.{WalkFault}
 use Rattle.bac_walk.specs.declared.outcome.WalkFault.TheVariants as fault
@@ -191,7 +191,7 @@ taken_7 AskOldest next taken = absurd taken
 taken_7 CaughtUp next taken = absurd taken
 
 comes_oldest : {S : Type 0} (retries : ℕ) (came : List Came) (old : S) (w after : WalkPlace) (new : S) → w ≡ at_oldest →
-    Comes (λ a octets answer b. IsSaid octets answer) (towards None) retries old w came after new → AreSaidAt history (held ∷ []) came × (items_of (answers_of came) ≡ [])
+    Comes (reaching (λ a octets answer b. IsSaid octets answer) (towards None) retries) (walk_over old w) came (walk_over new after) → AreSaidAt history (held ∷ []) came × (items_of (answers_of came) ≡ [])
 comes_oldest retries [] old w after new here comes = (tt, refl)
 comes_oldest retries (c ∷ came) old w after new here (mid, next, p, place, asked, taken, is, rest) =
     let A : WalkPlace → Type 0 = λ v. Asks (λ a octets answer b. IsSaid octets answer) (towards None) retries old v (Ok c.datagram) mid in
@@ -203,7 +203,7 @@ comes_oldest retries (c ∷ came) old w after new here (mid, next, p, place, ask
     ((said_here at_oldest from_oldest c (said_oldest 100 most_asked (omega arith)) (place ∙ here) d, more.0), ap (λ ys. ys ++ items_of (answers_of came)) (is ∙ brings.0) ∙ more.1)
 
 comes_11 : {S : Type 0} (retries : ℕ) (came : List Came) (old : S) (w after : WalkPlace) (new : S) → w ≡ walk_at log 11 →
-    Comes (λ a octets answer b. IsSaid octets answer) (towards None) retries old w came after new → AreSaidAt history (held ∷ []) came × (items_of (answers_of came) ≡ [])
+    Comes (reaching (λ a octets answer b. IsSaid octets answer) (towards None) retries) (walk_over old w) came (walk_over new after) → AreSaidAt history (held ∷ []) came × (items_of (answers_of came) ≡ [])
 comes_11 retries [] old w after new here comes = (tt, refl)
 comes_11 retries (c ∷ came) old w after new here (mid, next, p, place, asked, taken, is, rest) =
     let A : WalkPlace → Type 0 = λ v. Asks (λ a octets answer b. IsSaid octets answer) (towards None) retries old v (Ok c.datagram) mid in
@@ -215,7 +215,7 @@ comes_11 retries (c ∷ came) old w after new here (mid, next, p, place, asked, 
     ((said_here (walk_at log 11) none_from_11 c (said_11 100 most_asked) (place ∙ here) d, more.0), ap (λ ys. ys ++ items_of (answers_of came)) (is ∙ brings.0) ∙ more.1)
 
 comes_9 : {S : Type 0} (retries : ℕ) (came : List Came) (old : S) (w after : WalkPlace) (new : S) → w ≡ walk_at log 9 →
-    Comes (λ a octets answer b. IsSaid octets answer) (towards None) retries old w came after new →
+    Comes (reaching (λ a octets answer b. IsSaid octets answer) (towards None) retries) (walk_over old w) came (walk_over new after) →
     AreSaidAt history (held ∷ []) came × (EndsEmpty came → items_of (answers_of came) ≡ Logged 9 record_9 ∷ Logged 10 record_10 ∷ [])
 comes_9 retries [] old w after new here comes = (tt, λ empty. absurd empty)
 comes_9 retries (c ∷ came) old w after new here (mid, next, p, place, asked, taken, is, rest) =
@@ -228,7 +228,7 @@ comes_9 retries (c ∷ came) old w after new here (mid, next, p, place, asked, t
     ((said_here (walk_at log 9) from_9 c (said_9 100 most_asked (omega arith)) (place ∙ here) d, more.0), ends c came (Logged 9 record_9) (Logged 10 record_10 ∷ []) [] (is ∙ brings.0) (λ empty. more.1))
 
 comes_7 : {S : Type 0} (retries : ℕ) (came : List Came) (old : S) (w after : WalkPlace) (new : S) → w ≡ walk_at log 7 →
-    Comes (λ a octets answer b. IsSaid octets answer) (towards None) retries old w came after new →
+    Comes (reaching (λ a octets answer b. IsSaid octets answer) (towards None) retries) (walk_over old w) came (walk_over new after) →
     AreSaidAt history (held ∷ []) came × (EndsEmpty came → items_of (answers_of came) ≡ all_held)
 comes_7 retries [] old w after new here comes = (tt, λ empty. absurd empty)
 comes_7 retries (c ∷ came) old w after new here (mid, next, p, place, asked, taken, is, rest) =
@@ -251,7 +251,7 @@ ended_up (why.Fault f) steps n ended run is = absurd (cc)
 ended_up why.Memory steps n ended run is = absurd (cc)
 
 up : {S : Type 0} (asks : S → List ℕ → Result (List ℕ) Lost → S → Type 0) (path : Path) (retries steps : ℕ) (came : List Came) (here after : WalkPlace) (mid new : S)
-    (items : List Item) (ended : Ended) → ended ≡ IsUp → EndsBy asks path retries steps came here mid ended after new → AreOf ended came items after →
+    (items : List Item) (ended : Ended) → ended ≡ IsUp → EndsBy (reaching asks path retries) steps came (walk_over mid here) ended (walk_over new after) → AreOf ended came items after →
     EndsEmpty came × (items ≡ items_of (answers_of came))
 up asks path retries steps came here after mid new items IsUp is ends are = (ends.0, are)
 up asks path retries steps came here after mid new items StepLimit is ends are = absurd (cc)
@@ -260,10 +260,10 @@ up asks path retries steps came here after mid new items (Fault f) is ends are =
 
 pub all_delivered : {S : Type 0} (old new : S) (way : Option Place) (retries : ℕ) (w after : WalkPlace) (steps n : ℕ) (came : List Came) (items : List Item) (ended : Ended) (reason : Why) →
     way ≡ None → w ≡ walk_at log 7 → BroughtIsDelivered {S = S} (λ a octets answer b. IsSaid octets answer) → IsRunOf reason steps n ended →
-    Brought (λ a octets answer b. IsSaid octets answer) (towards way) retries old w n came items ended after new →
+    Brought (reaching (λ a octets answer b. IsSaid octets answer) (towards way) retries) (walk_over old w) n came items ended (walk_over new after) →
     ((count : ℕ) × (t : ℕ) × (after.next ≡ sequence_number t) × DeliversTo history 7 items t (held ∷ []) count) × (reason ≡ why.CaughtUp → items ≡ all_held)
 all_delivered old new way retries w after steps n came items ended reason near from law run ran =
-    let P : Option Place → WalkPlace → Type 0 = λ y v. Brought (λ a octets answer b. IsSaid octets answer) (towards y) retries old v n came items ended after new in
+    let P : Option Place → WalkPlace → Type 0 = λ y v. Brought (reaching (λ a octets answer b. IsSaid octets answer) (towards y) retries) (walk_over old v) n came items ended (walk_over new after) in
     let B : Option Place → Type 0 = λ y. P y (walk_at log 7) in
     let b : P None (walk_at log 7) = subst B near (subst (P way) from ran) in
     let said = comes_7 retries came old (walk_at log 7) b.0 b.1 refl b.2 in
@@ -354,7 +354,7 @@ one_ask M low count invoke asked (Ok datagram) asks two stands is said =
     let P : List Moment → Type 0 = λ N. IsSaidAt (now N) history log asked datagram × (held ∷ [] ≡ later N) in
     ((λ yes. subst P stands (reply_said low count invoke asked datagram asks two is said, refl)), λ no. stands)
 
-pub honest_where : {S : Type 0} (count low : ℕ) → IsCount count → 2 ≤ count → IsHonestWhere {S = S} (λ a octets answer b. IsSaid octets answer) (towards None) log count history low (λ link M. held ∷ [] ≡ M)
+pub honest_where : {S : Type 0} (count low : ℕ) → IsCount count → 2 ≤ count → IsHonestWhere {S = S} (λ a octets answer b. IsSaid octets answer) (asked_log (towards None) log count) history low (λ link M. held ∷ [] ≡ M)
 honest_where count low asks two = λ old new M asked invoke answer stands some window is ask. one_ask M low count invoke asked answer asks two stands is ask
 
 pub always_held : (i : ℕ) → moment_at (held ∷ []) i ≡ held
@@ -388,14 +388,14 @@ begins_held fresh s b answers items dropped start all is =
 -- over the device's link a run delivers what its log holds, from any place
 pub walk_delivers : {S : Type 0} (old new : S) (way : Option Place) (w after : WalkPlace) (items : List Item) (reason : Why) (low s spare : ℕ) →
     HonestWhereItStands {S = S} (λ a octets answer b. IsSaid octets answer) (λ link M. held ∷ [] ≡ M) →
-    DeliversSaid (λ a octets answer b. IsSaid octets answer) (towards way) spare old w items (ended_of reason) after new → way ≡ None → w.log ≡ log → w.next ≡ sequence_number s →
+    DeliversSaid (λ a octets answer b. IsSaid octets answer) (towards way) spare (walk_over old w) items (ended_of reason) (walk_over new after) → way ≡ None → w.log ≡ log → w.next ≡ sequence_number s →
     IsCount w.count → 2 ≤ w.count → low ≤ 7 → (w.fresh ≡ false → (low ≤ s) × (s < low + 2147483648)) →
     ((b : ℕ) × (a : ℕ) × (t : ℕ) × (w.fresh ≡ false → b ≡ s) × (after.next ≡ sequence_number t) × DeliversTo history b items t (held ∷ []) a × (reason ≡ why.CaughtUp → 10 < t)
     × (w.fresh ≡ true → (items ≡ []) ⊎ (b ≡ 7)))
     × ((e : WalkFault) → reason ≡ why.Fault e → e ≡ fault.Lost)
 walk_delivers {S = S} old new way w after items reason low s spare stands said near log_is next asks two below at =
-    let W : Option Place → Type 0 = λ y. DeliversSaid {S = S} (λ a octets answer b. IsSaid octets answer) (towards y) spare old w items (ended_of reason) after new in
-    let I : Id → Type 0 = λ i. IsHonestWhere {S = S} (λ a octets answer b. IsSaid octets answer) (towards None) i w.count history low (λ link M. held ∷ [] ≡ M) in
+    let W : Option Place → Type 0 = λ y. DeliversSaid {S = S} (λ a octets answer b. IsSaid octets answer) (towards y) spare (walk_over old w) items (ended_of reason) (walk_over new after) in
+    let I : Id → Type 0 = λ i. IsHonestWhere {S = S} (λ a octets answer b. IsSaid octets answer) (asked_log (towards None) i w.count) history low (λ link M. held ∷ [] ≡ M) in
     let honest = stands (towards None) w.log w.count history low old (held ∷ []) (subst I (sym log_is) (honest_where {S = S} w.count low asks two)) refl in
     let all = subst W near said history (held ∷ []) s low honest next (omega arith) tt (record { oldest = below; newest = omega arith }, tt) at in
     let E : Why → Type 0 = λ y. IsHonestEnd (ended_of y) in (

@@ -11,23 +11,24 @@ use Rattle.bac_log.proofs.Order.{same_some}
 use Rattle.bac_log.specs.declared.entry.Entry.{Entry}
 use Rattle.bac_link.specs.Datagrams.{answers_to}
 use Rattle.bac_link.specs.Delivery.{AreHeld, Brings, DeliversTo, Leads, Moment, items_of, now, later}
+use Rattle.bac_link.specs.Exchanges.{client}
 use Rattle.bac_link.specs.Path.{towards}
 use Rattle.bac_link.specs.declared.item.Item.{Item}
 use Rattle.bac_link.specs.declared.item.Item.TheVariants.{Gap, Logged}
 use Rattle.bac_link.specs.declared.link.Lost.{Lost}
 use Rattle.bac_link.specs.declared.transactions.Transactions.{Transactions}
-use Rattle.bac_ports.specs.Asking.{Asks, Awaits, IsTaken, fitting, fitting_of}
+use Rattle.bac_ports.specs.Asking.{Asks, Awaits, IsTaken, fitting, fitting_of, to_peer}
 use Rattle.bac_ports.specs.declared.port.Heard.{Heard}
 use Rattle.bac_ports.specs.declared.udp_link.UdpLink.{UdpLink}
-use Rattle.bac_query.specs.Ahead.{FetchesAhead}
+use Rattle.bac_query.specs.Ahead.{FetchesAhead, errand}
 use Rattle.bac_query.specs.Fetching.{Fetching}
 use Rattle.bac_query.specs.declared.layout.Layout.TheVariants.{Lines}
-use Rattle.bac_query.specs.Reading.{Held}
-use Rattle.bac_walk.specs.Came.{Brought}
+use Rattle.bac_query.specs.Reading.{Held, printing}
+use Rattle.bac_walk.specs.Came.{Brought, reaching, walk_over}
 use Rattle.bac_walk.specs.Delivers.{NoneFrom}
 use Rattle.bac_walk.specs.Transacted.{TransactedIsBrought}
 use Rattle.bac_walk.specs.Place.{WalkPlace, walk_at}
-use Rattle.bac_link.specs.Honest.{IsAskedIn, IsSaidOrLost, IsHonestWhere, asked_octets}
+use Rattle.bac_link.specs.Honest.{IsAskedIn, IsSaidOrLost, IsHonestWhere, asked_octets, asked_log}
 use Rattle.bac_walk.specs.Honest.{IsHonestEnd, HonestIsDelivered}
 use Rattle.bac_walk.proofs.Ends.{ended_as, is_loss}
 use Rattle.bac_link.specs.Standard.{Asked, IsSaidAt}
@@ -79,8 +80,7 @@ awaited question request (suc n) port datagram new (Ok heard, mid, came, rest) =
     (λ more. ap said_to (sym came.1) ∙ awaited question request n mid datagram new more)
 
 answered : {P : Type 0} (question : P → List ℕ) (request : List ℕ) (port : P) (datagram : List ℕ) (new : P) →
-    Asks (λ old octets to answer left. IsPut octets answer (question left)) (λ old answer left. IsBrought (question old) answer × (question left ≡ question old))
-    device_at request 16 port (Ok datagram) new → said_to request ≡ Some datagram
+    Asks (λ old octets to answer left. IsPut octets answer (question left)) (λ old answer left. IsBrought (question old) answer × (question left ≡ question old)) (to_peer device_at request) 16 port (Ok datagram) new → said_to request ≡ Some datagram
 answered question request port datagram new (Err why, mid, put, rest) = absurd rest.0
 answered question request port datagram new (Ok done, mid, put, rest) = ap said_to (sym put) ∙ awaited question request 16 mid datagram new rest
 
@@ -114,19 +114,16 @@ one_ask M low invoke asked peer left (Ok datagram) stands some is same said =
 -- an ask over such a link
 abbrev pub PortAsks : {P : Type 0} → (P → List ℕ) → UdpLink P → List ℕ → Result (List ℕ) Lost → UdpLink P → Type 0
 PortAsks question old octets answer new =
-    Asks (λ a put to told left. IsPut put told (question left)) (λ a told left. IsBrought (question a) told × (question left ≡ question a))
-    old.peer octets 16 old.port answer new.port × (new.peer ≡ old.peer)
+    Asks (λ a put to told left. IsPut put told (question left)) (λ a told left. IsBrought (question a) told × (question left ≡ question a)) (to_peer old.peer octets) 16 old.port answer new.port × (new.peer ≡ old.peer)
 
 pub port_is_honest : {P : Type 0} (question : P → List ℕ) (low : ℕ) →
-    IsHonestWhere {S = UdpLink P} (λ old octets answer new. PortAsks question old octets answer new)
-    (towards None) log 100 history low (λ link M. moments_at link.peer ≡ M)
+    IsHonestWhere {S = UdpLink P} (λ old octets answer new. PortAsks question old octets answer new) (asked_log (towards None) log 100) history low (λ link M. moments_at link.peer ≡ M)
 port_is_honest {P = P} question low = λ old new M asked invoke answer stands some window is ask.
     one_ask M low invoke asked old.peer new.peer answer stands some is ask.1
     (λ datagram told device.
     let octets : List ℕ = asked_octets (towards None) invoke log asked in
     let A : List ℕ → Result (List ℕ) Lost → Type 0 = λ peer heard.
-    Asks (λ a put to sent left. IsPut put sent (question left)) (λ a brought left. IsBrought (question a) brought × (question left ≡ question a))
-    peer octets 16 old.port heard new.port in
+    Asks (λ a put to sent left. IsPut put sent (question left)) (λ a brought left. IsBrought (question a) brought × (question left ≡ question a)) (to_peer peer octets) 16 old.port heard new.port in
     let B : List ℕ → Type 0 = λ peer. A peer (Ok datagram) in
     let C : Result (List ℕ) Lost → Type 0 = λ heard. A old.peer heard in
     answered question octets old.port datagram new.port (subst B device (subst C told ask.0)))
@@ -196,16 +193,16 @@ none_left t k is small none =
 
 pub prints_held : {S : Type 0} (asks : S → List ℕ → Result (List ℕ) Lost → S → Type 0) (moments : S → List Moment) (link left : S)
     (first last : Transactions) (w : WalkPlace) (asked : Id) (steps : ℕ) (result : Fetching) (old new : Held) →
-    HonestIsDelivered asks (λ l M. moments l ≡ M) → TransactedIsBrought asks → ((low : ℕ) → IsHonestWhere asks (towards None) log 100 history low (λ l M. moments l ≡ M)) →
+    HonestIsDelivered asks (λ l M. moments l ≡ M) → TransactedIsBrought asks → ((low : ℕ) → IsHonestWhere asks (asked_log (towards None) log 100) history low (λ l M. moments l ≡ M)) →
     moments link ≡ held ∷ [] → first.route ≡ None → w ≡ walk_at asked 7 →
-    FetchesAhead Lines asks first link w steps result last left old new →
+    FetchesAhead (errand Lines w steps) asks (printing (client link first) old) result (printing (client left last) new) →
     IfOk result (λ done. asked ≡ log → PrintsHeld done old new)
 prints_held asks moments link left first last w asked steps (Err fault) old new law plain honest stands near from over = tt
 prints_held {S = S} asks moments link left first last w asked steps (Ok done) old new law plain honest stands near from over = λ is.
-    let P : WalkPlace → Type 0 = λ v. FetchesAhead Lines asks first link v steps (Ok done) last left old new in
+    let P : WalkPlace → Type 0 = λ v. FetchesAhead (errand Lines v steps) asks (printing (client link first) old) (Ok done) (printing (client left last) new) in
     let here : w ≡ walk_at log 7 = from ∙ ap (λ (i : Id). walk_at i 7) is in
     let f : P (walk_at log 7) = subst P here over in
-    let B : Option Place → Type 0 = λ y. Brought asks (towards y) first.retries link (walk_at log 7) f.2 f.0 f.1 f.3 f.4 f.6 in
+    let B : Option Place → Type 0 = λ y. Brought (reaching asks (towards y) first.retries) (walk_over link (walk_at log 7)) f.2 f.0 f.1 f.3 (walk_over f.6 f.4) in
     let run : B None = subst B near (plain first f.5 link f.6 (walk_at log 7) f.4 f.2 f.0 f.1 f.3 f.7) in
     let d = law (towards None) first.retries link f.6 (walk_at log 7) f.4 f.2 f.0 f.1 f.3 history (held ∷ []) 7 7 (honest 7) stands run refl (omega arith) tt
     (record { oldest = omega arith; newest = omega arith }, tt) (λ fresh. (omega arith, omega arith)) in

@@ -20,7 +20,7 @@ use Rattle.bac_link.specs.Datagrams.{carried_in, message_in}
 use Rattle.bac_link.specs.Delivery.{IsEntry}
 use Rattle.bac_link.specs.Growing.{IsGiven, IsOnward, IsStanding, StaysHonest}
 use Rattle.bac_link.specs.Heard.{heard_at, heard_in}
-use Rattle.bac_link.specs.Honest.{IsAskedIn, asked_octets}
+use Rattle.bac_link.specs.Honest.{IsAskedIn, asked_octets, asked_log}
 use Rattle.bac_link.specs.Path.{towards}
 use Rattle.bac_link.specs.Requests.{parameters_of, request_apdu, request_octets}
 use Rattle.bac_link.specs.declared.link.Lost.{Lost}
@@ -184,7 +184,7 @@ given n count invoke asked (Err lost) asks few is may = tt
 given n count invoke asked (Ok datagram) asks few is may = λ yes. answer_said n 1 count invoke asked datagram asks few is may
 
 pub stays : {S : Type 0} (logged : S → ℕ) (count more : ℕ) (link : S) → IsCount count → logged link + 100 * more < 2147483648 →
-    StaysHonest {S = S} (λ old octets answer new. MayGrow (logged old) octets answer (logged new)) (towards None) log count 1 more link (logged_so_far (logged link))
+    StaysHonest {S = S} (λ old octets answer new. MayGrow (logged old) octets answer (logged new)) (asked_log (towards None) log count) 1 more link (logged_so_far (logged link))
 stays logged count zero link asks room = tt
 stays logged count (suc more) link asks room = λ new asked invoke answer is ask.
     let few : logged new + 100 * more < 2147483648 = omega (arith, room, ask.1) in (

@@ -11,7 +11,7 @@ use Rattle.bac_link.specs.Moments.{log_at}
 use Rattle.bac_link.specs.Path.{towards}
 use Rattle.bac_link.specs.declared.item.Item.{Item}
 use Rattle.bac_link.specs.declared.link.Lost.{Lost as Loss}
-use Rattle.bac_walk.specs.Came.{Came, Brought, Comes, EndsBy, EndsEmpty, answers_of}
+use Rattle.bac_walk.specs.Came.{Came, Brought, Comes, EndsBy, EndsEmpty, answers_of, reaching, walk_over}
 use Rattle.bac_walk.specs.Collects.{batches}
 use Rattle.bac_walk.specs.Outcomes.{IsRunOf}
 use Rattle.bac_walk.specs.Place.{WalkPlace, walk_at}
@@ -48,7 +48,7 @@ whole_why why.Memory steps ended e run is = absurd cc
 -- so a reply came, unless memory ran out
 came_some : {S : Type 0} (asks : S → List ℕ → Result (List ℕ) Loss → S → Type 0) (place : Option Place) (retries steps n : ℕ) (came : List Came) (here after : WalkPlace) (mid new : S)
     (ended : Ended) (w : Why) → 0 < steps → ((e : WalkFault) → w ≡ why.Fault e → ⊥) → IsRunOf w steps n ended →
-    EndsBy asks (towards place) retries n came here mid ended after new → (w ≡ why.Memory) ⊎ (0 < length came)
+    EndsBy (reaching asks (towards place) retries) n came (walk_over mid here) ended (walk_over new after) → (w ≡ why.Memory) ⊎ (0 < length came)
 came_some asks place retries steps n came here after mid new ended why.Memory some whole run ends = inl refl
 came_some asks place retries steps n came here after mid new ended (why.Fault e) some whole run ends = absurd (whole e refl)
 came_some asks place retries steps n came here after mid new CaughtUp why.CaughtUp some whole run ends = inr (not_empty came ends.0)
@@ -71,10 +71,10 @@ came_some asks place retries steps n came here after mid new (Fault f) why.StepL
 pub all_loggable : {S : Type 0} (asks : S → List ℕ → Result (List ℕ) Loss → S → Type 0) (ours : S → Id → ℕ → List Moment → History → Type 0) →
     RepliesAreLoggable asks ours → (way : Option Place) (retries steps n : ℕ) (came : List Came) (items : List Item) (ended : Ended) (reason : Why) (w after : WalkPlace) (old new : S)
     (log : Id) (number r s : ℕ) (m : Moment) (H : History) → way ≡ None → w ≡ walk_at log number → number ≡ sequence_number s → IsValid (Object log) → ours old log r (m ∷ []) H → 0 < steps →
-    IsRunOf reason steps steps (rest_from r 100 H m s steps).ended → IsRunOf reason steps n ended → Brought asks (towards way) retries old w n came items ended after new →
+    IsRunOf reason steps steps (rest_from r 100 H m s steps).ended → IsRunOf reason steps n ended → Brought (reaching asks (towards way) retries) (walk_over old w) n came items ended (walk_over new after) →
     (reason ≡ why.Memory) ⊎ All IsLoggable (log_at m H).entries
 all_loggable {S = S} asks ours law way retries steps n came items ended reason w after old new log number r s m H near from here valid is_ours some rests run ran =
-    let P : Option Place → WalkPlace → Type 0 = λ y v. Brought asks (towards y) retries old v n came items ended after new in
+    let P : Option Place → WalkPlace → Type 0 = λ y v. Brought (reaching asks (towards y) retries) (walk_over old v) n came items ended (walk_over new after) in
     let B : Option Place → Type 0 = λ y. P y (walk_at log number) in
     let b : P None (walk_at log number) = subst B near (subst (P way) from ran) in
     elim (came_some asks None retries steps n came b.0 after b.1 new ended reason some
@@ -83,6 +83,6 @@ all_loggable {S = S} asks ours law way retries steps n came items ended reason w
       | inr full ↦ inr (held came b.0 b.1 full b.2)
     ]
   where
-    held : (came : List Came) (left : WalkPlace) (mid : S) → 0 < length came → Comes asks (towards None) retries old (walk_at log number) came left mid → All IsLoggable (log_at m H).entries
+    held : (came : List Came) (left : WalkPlace) (mid : S) → 0 < length came → Comes (reaching asks (towards None) retries) (walk_over old (walk_at log number)) came (walk_over mid left) → All IsLoggable (log_at m H).entries
     held [] left mid full comes = absurd (omega (arith, full))
     held (c ∷ more) left mid full comes = law None retries old mid (walk_at log number) left c more r s (m ∷ []) H is_ours tt valid most_asked here comes

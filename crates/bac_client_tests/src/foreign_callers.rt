@@ -6,7 +6,7 @@ ghost use Rattle.std.specs.Prelude.{IfSome};
 ghost use Rattle.bac_log.specs.TrendLog.{sequence_number};
 ghost use Rattle.bac_link.specs.Delivery.{DeliversTo};
 ghost use Rattle.bac_link.specs.Path.{towards};
-ghost use Rattle.bac_link.specs.Honest.{IsHonestWhere};
+ghost use Rattle.bac_link.specs.Honest.{IsHonestWhere, asked_log};
 ghost use Rattle.bac_link.specs.Standard.{IsCount};
 ghost use Rattle.bac_walk.specs.declared.outcome.WalkFault.{WalkFault as WalkFaultOf};
 ghost use Rattle.bac_walk.specs.declared.outcome.WalkFault.TheVariants as fault;
@@ -151,7 +151,7 @@ pub fn records_of_another_device(
 pub fn another_device_is_honest()
     ensures { (count low : ℕ) → IsCount count → 2 ≤ count
         → IsHonestWhere {S = ForeignLinkOf} (λ old octets answer new. IsSaid octets answer)
-        (towards None) log_one count history low (λ link M. held ∷ [] ≡ M) }
+        (asked_log (towards None) log_one count) history low (λ link M. held ∷ [] ≡ M) }
 {}
 
 /// So a walk of its log that asks for two records or more, from any number, delivers what the log

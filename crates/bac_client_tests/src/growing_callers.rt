@@ -6,8 +6,11 @@ ghost use Rattle.bac_log.specs.TrendLog.{sequence_number};
 ghost use Rattle.bac_link.specs.Growing.{StaysHonest};
 ghost use Rattle.bac_link.specs.Standard.{IsCount};
 ghost use Rattle.bac_link.specs.Path.{towards};
+ghost use Rattle.bac_link.specs.Honest.{asked_log};
 ghost use Rattle.bac_walk.specs.Growing.{most_asks, HasDelivered};
 ghost use Rattle.bac_walk.specs.Told.{ended_of};
+ghost use Rattle.bac_walk.specs.Came.{walk_over, reaching_by};
+ghost use Rattle.bac_walk.specs.Collects.{yield};
 ghost use Rattle.bac_client_tests.specs.declared.growing_callers.GrowingLink.{
   GrowingLink as GrowingLinkOf,
 };
@@ -104,8 +107,8 @@ pub fn a_growing_log_stays_honest()
     ensures { (count more : ℕ) (link : GrowingLinkOf) → IsCount count
         → link.logged + 100 * more < 2147483648
         → StaysHonest {S = GrowingLinkOf}
-        (λ old octets answer new. MayGrow old.logged octets answer new.logged) (towards None)
-        log_one count 1 more link (logged_so_far link.logged) }
+        (λ old octets answer new. MayGrow old.logged octets answer new.logged)
+        (asked_log (towards None) log_one count) 1 more link (logged_so_far link.logged) }
 {}
 
 /// So a walk of its log, from any number or from the oldest record, and however many it asks for at
@@ -123,10 +126,9 @@ pub fn walk_of_a_growing_log(
         → link.old.logged + 100 * most_asks steps transactions.old.retries < 2147483648
         → (walk.old.fresh ≡ false → (1 ≤ s) × (s < 2147483649))
         → HasDelivered {S = GrowingLinkOf}
-        (λ old octets answer new. MayGrow old.logged octets answer new.logged)
-        (towards transactions.old.route) transactions.old.retries link.old 1 s
-        (logged_so_far link.old.logged) walk.old result.items.items (ended_of result.why)
-        walk.new }
+        (reaching_by (λ old octets answer new. MayGrow old.logged octets answer new.logged)
+        transactions.old) 1 s (logged_so_far link.old.logged) (walk_over link.old walk.old)
+        (yield result.items.items (ended_of result.why)) walk.new }
 {
     // For the prover alone: how many records it may ask for.
     let _count = walk.count();

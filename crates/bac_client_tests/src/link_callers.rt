@@ -3,8 +3,8 @@
 ghost use Rattle.std.specs.Prelude.{◌≡◌, ◌≢◌, ◌↔◌, ◌+◌, ℕ, pos, List, IfSome, IsNone, IsOkAnd};
 ghost use Rattle.std.specs.Prelude.{OnErr};
 ghost use Rattle.bac_apdu.specs.declared.service.extent.Extent.TheVariants.{ByNumber as by_number};
-ghost use Rattle.bac_link.specs.Delivery.{History, Moment, now, later};
-ghost use Rattle.bac_link.specs.Links.{IsReply, RisesBy};
+ghost use Rattle.bac_link.specs.Delivery.{History, Moment, later};
+ghost use Rattle.bac_link.specs.Links.{IsReply, RisesBy, our_question};
 ghost use Rattle.bac_link.specs.Path.{towards};
 ghost use Rattle.bac_link.specs.Requests.{IsSendable, IsTooLong};
 
@@ -63,8 +63,9 @@ pub fn records_from<L: LogLink>(
 ) -> Result<Datagram, ExchangeFault>
     ensures replied { (r : ℕ) (M : List Moment) (H : History) → L.is_ours link.old log r M H
         → L.is_sure link.old (towards transactions.old.route)
-        → IsOkAnd result (λ d. ((invoke : ℕ) × IsReply r (now M) H log (by_number from (pos 100))
-        (towards transactions.old.route) invoke d)
+        → IsOkAnd result (λ d. ((invoke : ℕ)
+        × IsReply (our_question r M H log (by_number from (pos 100))
+        (towards transactions.old.route)) invoke d)
         × L.is_ours link.new log r (later M) H) }
     ensures lost { (r : ℕ) (M : List Moment) (H : History) → L.is_ours link.old log r M H
         → OnErr result

@@ -12,7 +12,7 @@ use Rattle.bac_device.specs.Answer.{answer, range_said, records_ack}
 use Rattle.bac_device.specs.Reply.{datagram_to, error, reply}
 use Rattle.bac_device.specs.declared.reply.Reply.{Reply}
 use Rattle.bac_link.specs.Delivery.{History, Moment, now, later}
-use Rattle.bac_link.specs.Links.{IsAsked, IsAskedOfNone, IsQuestion, IsReply, IsUnknown}
+use Rattle.bac_link.specs.Links.{IsAsked, IsAskedOfNone, IsQuestion, IsReply, IsUnknown, our_question}
 use Rattle.bac_link.specs.declared.link.Lost.{Lost}
 use Rattle.bac_direct.specs.Ahead.{IsAhead, Lacks, LiesAhead, log_with}
 use Rattle.bac_link.specs.Path.{Path, back, towards}
@@ -44,7 +44,7 @@ IsTold result d t = (result_ok result ≡ datagram_in t.0) × (d ≡ t.1)
 
 ours : (rounds : ℕ) (lost : Bool) (p new : State) (rest : List LinkEvent) (source : Option Place) (id : Id) (r : ℕ) (M : List Moment) (H : History) (extent : Extent) (invoke : ℕ) (octets : List ℕ) (result : Result (List ℕ) Lost)
     → IsStillAhead rounds lost p rest id r M H → IsQuestion id extent (back (towards source)) invoke octets → IsTold result new (telling p lost octets)
-    → IsAsked (λ N. IsAhead new rest id r N H) r M H id extent (back (towards source)) invoke result
+    → IsAsked (λ N. IsAhead new rest id r N H) (our_question r M H id extent (back (towards source))) invoke result
 ours rounds true p new rest source id r M H extent invoke octets (Ok datagram) a asks t = absurd (no_datagram datagram t.0)
 ours rounds true p new rest source id r M H extent invoke octets (Err lost) a asks t = (rounds, subst (λ (d : State). LiesAhead rounds d rest id r M H) (sym t.1) a)
 ours rounds false p new rest source id r M H extent invoke octets (Ok datagram) a asks t =
@@ -52,7 +52,7 @@ ours rounds false p new rest source id r M H extent invoke octets (Ok datagram) 
     let text = datagram_to source (records_ack p.reply_size invoke id extent (log_with p id.instance)) in
     let is : datagram ≡ text = same_datagram datagram text (t.0 ∙ ap (λ (x : Option Reply × State). datagram_in x.0) said) in
     let left : new ≡ p = t.1 ∙ ap (λ (x : Option Reply × State). x.1) said in (
-      subst (λ (o : List ℕ). IsReply r (now M) H id extent (back (towards source)) invoke o) (sym is) (log_replied rounds p rest source id r (later M) H (now M) extent invoke asks.3.1 a.1 a.0),
+      subst (λ (o : List ℕ). IsReply (our_question r M H id extent (back (towards source))) invoke o) (sym is) (log_replied rounds p rest source id r (later M) H (now M) extent invoke asks.3.1 a.1 a.0),
       (rounds, subst (λ (d : State). LiesAhead rounds d rest id r (later M) H) (sym left) a.1),
     )
 ours rounds false p new rest source id r M H extent invoke octets (Err lost) a asks t =
@@ -61,7 +61,7 @@ ours rounds false p new rest source id r M H extent invoke octets (Err lost) a a
 
 -- what goes on is lost
 lost_on : (d new : State) (events : List LinkEvent) (id : Id) (r : ℕ) (M : List Moment) (H : History) (extent : Extent) (path : Path) (invoke : ℕ) (result : Result (List ℕ) Lost)
-    → IsAhead d events id r M H → result_ok result ≡ None → new ≡ d → IsAsked (λ N. IsAhead new events id r N H) r M H id extent path invoke result
+    → IsAhead d events id r M H → result_ok result ≡ None → new ≡ d → IsAsked (λ N. IsAhead new events id r N H) (our_question r M H id extent path) invoke result
 lost_on d new events id r M H extent path invoke (Ok datagram) a none left = absurd (no_datagram datagram none)
 lost_on d new events id r M H extent path invoke (Err lost) a none left = subst (λ (s : State). IsAhead s events id r M H) (sym left) a
 
@@ -72,22 +72,22 @@ met on d events = if on then record { device = d; rest = events; lost = true } e
 asked_by : (on : Bool) (d new : State) (events rest : List LinkEvent) (id : Id) (r : ℕ) (M : List Moment) (H : History) (extent : Extent) (path : Path) (invoke : ℕ) (octets : List ℕ) (result : Result (List ℕ) Lost)
     → goes_on octets ≡ on → IsSound (met on d events).device → IsAhead d events id r M H → IsQuestion id extent path invoke octets
     → result_ok result ≡ datagram_in (told (met on d events) octets).0 → new ≡ (told (met on d events) octets).1 → rest ≡ (met on d events).rest
-    → IsAsked (λ N. IsAhead new rest id r N H) r M H id extent path invoke result
+    → IsAsked (λ N. IsAhead new rest id r N H) (our_question r M H id extent path) invoke result
 asked_by true d new events rest id r M H extent path invoke octets result on sound a asks said left over =
-    subst (λ (es : List LinkEvent). IsAsked (λ N. IsAhead new es id r N H) r M H id extent path invoke result) (sym over)
+    subst (λ (es : List LinkEvent). IsAsked (λ N. IsAhead new es id r N H) (our_question r M H id extent path) invoke result) (sym over)
     (lost_on d new events id r M H extent path invoke result a said left)
 asked_by false d new events rest id r M H extent path invoke octets result on sound a asks said left over =
     let p = played d events in
     let way : path ≡ back (towards path.source) = stays_here path id extent invoke octets asks on in
-    subst (λ (es : List LinkEvent). IsAsked (λ N. IsAhead new es id r N H) r M H id extent path invoke result) (sym over)
-    (subst (λ (q : Path). IsAsked (λ N. IsAhead new p.rest id r N H) r M H id extent q invoke result) (sym way)
+    subst (λ (es : List LinkEvent). IsAsked (λ N. IsAhead new es id r N H) (our_question r M H id extent path) invoke result) (sym over)
+    (subst (λ (q : Path). IsAsked (λ N. IsAhead new p.rest id r N H) (our_question r M H id extent q) invoke result) (sym way)
     (ours a.0 p.lost p.device new p.rest path.source id r M H extent invoke octets result (still_ahead a.0 d events id r M H sound a.1)
     (subst (λ (q : Path). IsQuestion id extent q invoke octets) way asks) (said, left)))
 
 pub asked : (d new : State) (events rest : List LinkEvent) (id : Id) (r : ℕ) (M : List Moment) (H : History) (extent : Extent) (path : Path) (invoke : ℕ) (octets : List ℕ) (result : Result (List ℕ) Lost)
     → IsSound (meets d events octets).device → IsAhead d events id r M H → IsQuestion id extent path invoke octets
     → result_ok result ≡ datagram_in (told (meets d events octets) octets).0 → new ≡ (told (meets d events octets) octets).1 → rest ≡ (meets d events octets).rest
-    → IsAsked (λ N. IsAhead new rest id r N H) r M H id extent path invoke result
+    → IsAsked (λ N. IsAhead new rest id r N H) (our_question r M H id extent path) invoke result
 asked d new events rest id r M H extent path invoke octets result = asked_by (goes_on octets) d new events rest id r M H extent path invoke octets result refl
 
 -- ---- without the log

@@ -27,7 +27,7 @@ use Rattle.bac_device.proofs.Unaborted.{ack_short}
 use Rattle.bac_link.specs.Datagrams.{message_in}
 use Rattle.bac_link.specs.Path.{Path, back, path_of, towards}
 use Rattle.bac_link.specs.Delivery.{History, Moment}
-use Rattle.bac_link.specs.Links.{HasReply, IsQuestion, IsReply, IsUnknown, question, reply_parameters}
+use Rattle.bac_link.specs.Links.{HasReply, IsQuestion, IsReply, IsUnknown, question, reply_parameters, our_question}
 use Rattle.bac_link.specs.Moments.{log_at}
 use Rattle.bac_link.specs.Requests.{request_octets}
 use Rattle.bac_link.proofs.Datagrams.{message_back}
@@ -139,7 +139,7 @@ log_answered rounds d events source id r M H extent invoke octets a asks =
 
 -- it is a reply of ours of the log's moment
 pub log_replied : (rounds : ℕ) (d : State) (events : List LinkEvent) (source : Option Place) (id : Id) (r : ℕ) (M : List Moment) (H : History) (m : Moment) (extent : Extent) (invoke : ℕ) → IsWay source → LiesAhead rounds d events id r M H
-    → m ≡ placed rounds (moment_of (log_with d id.instance)) → IsReply r m H id extent (back (towards source)) invoke (datagram_to source (log_reply d id extent invoke))
+    → m ≡ placed rounds (moment_of (log_with d id.instance)) → IsReply (our_question r (m ∷ []) H id extent (back (towards source))) invoke (datagram_to source (log_reply d id extent invoke))
 log_replied rounds d events source id r M H m extent invoke way a first =
     let log : Log = log_with d id.instance in
     let is : IsLog log = log_is d id.instance a.sound a.there in
@@ -149,7 +149,7 @@ log_replied rounds d events source id r M H m extent invoke way a first =
     let same : reply_parameters id log extent d.reply_size ≡ reply_parameters id cut extent r =
     sym (reply-placed id rounds log extent d.reply_size)
     ∙ same_reply id (log_placed rounds log) cut extent d.reply_size (omega arith) (sym held) ∙ ap (λ k. reply_parameters id cut extent k) a.size in
-    subst (λ (k : Moment). IsReply r k H id extent (back (towards source)) invoke (datagram_to source (log_reply d id extent invoke))) (sym first) (
+    subst (λ (k : Moment). IsReply (our_question r (k ∷ []) H id extent (back (towards source))) invoke (datagram_to source (log_reply d id extent invoke))) (sym first) (
       subst (λ (es : List Entry). All IsLoggable es) (sym held) is.loggable,
       reply_again source (log_reply d id extent invoke) way refl (omega (arith, short, a.sound.greatest_reply))
           ∙ ap (λ (x : Apdu). Some (towards source, x)) (ack_is d.reply_size invoke id extent log)

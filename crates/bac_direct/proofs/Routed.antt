@@ -8,7 +8,7 @@ use Rattle.bac_apdu.specs.Route.{IsRoute}
 use Rattle.bac_apdu.specs.declared.service.extent.Extent.{Extent}
 use Rattle.bac_log.specs.Ack.{read_range_service}
 use Rattle.bac_link.specs.Delivery.{History, Moment, now}
-use Rattle.bac_link.specs.Links.{IsAsked, IsQuestion, IsReply, TellsOurs, reply_parameters}
+use Rattle.bac_link.specs.Links.{IsAsked, IsQuestion, IsReply, TellsOurs, reply_parameters, our_question}
 use Rattle.bac_link.specs.Moments.{AreServed, log_at}
 use Rattle.bac_link.specs.Path.{Path, back, towards}
 use Rattle.bac_link.specs.declared.link.Lost.{Lost}
@@ -21,13 +21,13 @@ no_datagram datagram o is none = absurd (let e = is ∙ none in cc)
 
 come_back : {S : Type 0} (ours : S → Id → ℕ → List Moment → History → Type 0) (far near : Place) → IsRoute far →
     (new : S) (answer reply : Result (List ℕ) Lost) (id : Id) (r : ℕ) (M : List Moment) (H : History) (extent : Extent) (path : Path) (invoke : ℕ) → AreServed r M H → path ≡ towards (Some far) →
-    IsAsked (λ N. ours new id r N H) r M H id extent (back (towards (Some near))) invoke reply → IsHandedBack far near reply answer →
-    IsAsked (λ N. ours new id r N H) r M H id extent path invoke answer
+    IsAsked (λ N. ours new id r N H) (our_question r M H id extent (back (towards (Some near)))) invoke reply → IsHandedBack far near reply answer →
+    IsAsked (λ N. ours new id r N H) (our_question r M H id extent path) invoke answer
 come_back ours far near far_is new (Ok datagram) (Err lost) id r M H extent path invoke served way told handed = absurd (no_datagram datagram None handed refl)
 come_back ours far near far_is new (Err other) (Err lost) id r M H extent path invoke served way told handed = told
 come_back ours far near far_is new (Ok datagram) (Ok reply) id r M H extent path invoke served way told handed =
     let m = Complex false invoke read_range_service (reply_parameters id (log_at (now M) H) extent r) in
-    (subst (λ (p : Path). IsReply r (now M) H id extent p invoke datagram) (sym way) (told.0.0, reply_back far near reply datagram m far_is told.0.1 (sym handed)), told.1)
+    (subst (λ (p : Path). IsReply (our_question r M H id extent p) invoke datagram) (sym way) (told.0.0, reply_back far near reply datagram m far_is told.0.1 (sym handed)), told.1)
 come_back ours far near far_is new (Err lost) (Ok reply) id r M H extent path invoke served way told handed =
     absurd (fits_back far near reply invoke read_range_service (reply_parameters id (log_at (now M) H) extent r) far_is told.0.1 (reply_small r M H id extent served told.0.0) (sym handed))
 
@@ -38,13 +38,13 @@ tells_routed {S = S} asks ours serves tells far near far_is near_is = λ old new
     on old new octets answer id r M H extent path invoke (handed_on far near octets) refl is_ours is passes
   where
     none : (old new : S) (answer : Result (List ℕ) Lost) (id : Id) (r : ℕ) (M : List Moment) (H : History) (extent : Extent) (path : Path) (invoke : ℕ) →
-        ours old id r M H → result_ok answer ≡ None → new ≡ old → IsAsked (λ N. ours new id r N H) r M H id extent path invoke answer
+        ours old id r M H → result_ok answer ≡ None → new ≡ old → IsAsked (λ N. ours new id r N H) (our_question r M H id extent path) invoke answer
     none old new (Ok datagram) id r M H extent path invoke is_ours lost same = absurd (no_datagram datagram None lost refl)
     none old new (Err e) id r M H extent path invoke is_ours lost same = subst (λ x. ours x id r M H) (sym same) is_ours
 
     on : (old new : S) (octets : List ℕ) (answer : Result (List ℕ) Lost) (id : Id) (r : ℕ) (M : List Moment) (H : History) (extent : Extent) (path : Path) (invoke : ℕ) →
         (o : Option (List ℕ)) → handed_on far near octets ≡ o → ours old id r M H → IsQuestion id extent path invoke octets → PassesOn asks far near o old answer new →
-        IsAsked (λ N. ours new id r N H) r M H id extent path invoke answer
+        IsAsked (λ N. ours new id r N H) (our_question r M H id extent path) invoke answer
     on old new octets answer id r M H extent path invoke None handed is_ours is passes =
         none old new answer id r M H extent path invoke is_ours passes.0 passes.1
     on old new octets answer id r M H extent path invoke (Some inner) handed is_ours is (reply, asked, back_is) =

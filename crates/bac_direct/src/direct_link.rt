@@ -6,7 +6,7 @@ ghost use Rattle.bac_wire.specs.Primitive.{Id};
 ghost use Rattle.bac_apdu.specs.declared.service.extent.Extent.{Extent as AnyExtent};
 ghost use Rattle.bac_objects.specs.Sampling.{log_id, log_of};
 ghost use Rattle.bac_link.specs.Delivery.{History, Moment};
-ghost use Rattle.bac_link.specs.Links.{IsAsked, IsAskedOfNone, IsQuestion, RisesBy};
+ghost use Rattle.bac_link.specs.Links.{IsAsked, IsAskedOfNone, IsQuestion, RisesBy, our_question};
 ghost use Rattle.bac_link.specs.Path.{Path};
 ghost use Rattle.bac_direct.specs.Ahead.{history_ahead, IsAhead, IsThere, Lacks, LiesAhead};
 ghost use Rattle.bac_direct.specs.Ahead.{moments_ahead, placed_all};
@@ -179,8 +179,8 @@ impl<'a> LogLink for DirectLink<'a> {
             (path : Path) (invoke : ℕ)
             → IsAhead self.old.device.now self.old.events.now id r M H
             → IsQuestion id extent path invoke request.now
-            → IsAsked (λ N. IsAhead self.new.device.now self.new.events.now id r N H) r M H id
-            extent path invoke result }
+            → IsAsked (λ N. IsAhead self.new.device.now self.new.events.now id r N H)
+            (our_question r M H id extent path) invoke result }
         ensures lacking { (id : Id) (extent : AnyExtent) (path : Path) (invoke : ℕ) →
             Lacks self.old.device.now id → IsQuestion id extent path invoke request.now →
             IsAskedOfNone path invoke result × Lacks self.new.device.now id }

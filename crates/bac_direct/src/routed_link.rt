@@ -6,7 +6,7 @@ ghost use Rattle.bac_apdu.specs.declared.service.extent.Extent.{Extent as AnyExt
 ghost use Rattle.bac_apdu.specs.Npdu.{header_of};
 ghost use Rattle.bac_apdu.specs.Route.{IsRoute};
 ghost use Rattle.bac_link.specs.Delivery.{History, Moment};
-ghost use Rattle.bac_link.specs.Links.{IsAsked, IsAskedOfNone, IsQuestion, RisesBy};
+ghost use Rattle.bac_link.specs.Links.{IsAsked, IsAskedOfNone, IsQuestion, RisesBy, our_question};
 ghost use Rattle.bac_link.specs.Path.{Path};
 ghost use Rattle.bac_direct.specs.Events.{one_more};
 ghost use Rattle.bac_direct.specs.Routing.{handed_on, is_for, PassesOn};
@@ -56,7 +56,8 @@ impl<L: LogLink> RoutedLink<L> {
         ensures ours { (id : Id) (r : ℕ) (M : List Moment) (H : History) (extent : AnyExtent)
             (path : Path) (invoke : ℕ) → L.is_ours self.old.inner id r M H
             → IsQuestion id extent path invoke request.now
-            → IsAsked (λ N. L.is_ours self.new.inner id r N H) r M H id extent path invoke result }
+            → IsAsked (λ N. L.is_ours self.new.inner id r N H)
+            (our_question r M H id extent path) invoke result }
         ensures lacking { (id : Id) (extent : AnyExtent) (path : Path) (invoke : ℕ) →
             L.lacks self.old.inner id → IsQuestion id extent path invoke request.now →
             IsAskedOfNone path invoke result × L.lacks self.new.inner id }
@@ -102,7 +103,8 @@ impl<L: LogLink> LogLink for RoutedLink<L> {
         ensures ours { (id : Id) (r : ℕ) (M : List Moment) (H : History) (extent : AnyExtent)
             (path : Path) (invoke : ℕ) → L.is_ours self.old.inner id r M H
             → IsQuestion id extent path invoke request.now
-            → IsAsked (λ N. L.is_ours self.new.inner id r N H) r M H id extent path invoke result }
+            → IsAsked (λ N. L.is_ours self.new.inner id r N H)
+            (our_question r M H id extent path) invoke result }
         ensures lacking { (id : Id) (extent : AnyExtent) (path : Path) (invoke : ℕ) →
             L.lacks self.old.inner id → IsQuestion id extent path invoke request.now →
             IsAskedOfNone path invoke result × L.lacks self.new.inner id }

@@ -17,6 +17,7 @@ use Rattle.bac_questions.specs.declared.said.Said.{Said}
 use Rattle.bac_questions.specs.declared.whose.Heard.{Heard}
 use Rattle.bac_recall.specs.declared.conversations.Conversation.{Conversation}
 use Rattle.bac_fetch.specs.Ahead.{AreOpenings, EndsOpening, IsLeftOut, IsOpenedBy, IsOpeningIf, IsOpeningOf, OpensAhead, batches_of}
+use Rattle.bac_fetch.specs.Points.{knowing, run_point}
 
 -- what is no reason is none
 pub no_reason : (why : Option Ending) → is_some why ≡ false → why ≡ None
@@ -73,31 +74,31 @@ more_opened old mid same known heard batches all all' before after opening wante
     (more old.trees known heard batches all before wanted opening are
     (subst (λ (d : Database). IsOpeningIf d.trees known heard batches wanted opening) same it)))
 
-module _ {S P C : Type 0} (rules : SocketRules S P) (pace : Pace C) (trees : Trees) (known : List Log) (heard : List Heard) where
+module _ {S P C : Type 0} (rules : SocketRules S P) (pace : Pace C) (archive : Database) (known : List Log) (heard : List Heard) where
   -- nothing is asked for no logs
   pub no_logs : (all : List Wanted) (came : List Conversation) (before after : S) → length all < 1 → came ≡ [] → after ≡ before
-      → OpensAhead rules pace trees known heard all before came after
+      → OpensAhead rules pace (knowing known heard) all (run_point before archive) came after
   no_logs [] came before after none is same = (is, same)
   no_logs (first ∷ more) came before after none is same = absurd (omega (arith, none))
 
   -- as the first of them is asked for
   pub ahead_by : (all : List Wanted) (first : Wanted) (openings : List Opening) (came : List Conversation) (before after : S)
-      → 1 ≤ length all → first ≡ get_or all 0 first → AreOpenings trees known heard (batches_of (length all)) all openings
-      → AsksAhead rules pace first.asking.asked openings before came after → OpensAhead rules pace trees known heard all before came after
+      → 1 ≤ length all → first ≡ get_or all 0 first → AreOpenings archive.trees known heard (batches_of (length all)) all openings
+      → AsksAhead rules pace first.asking.asked openings before came after → OpensAhead rules pace (knowing known heard) all (run_point before archive) came after
   ahead_by [] first openings came before after some at are asks = absurd (omega (arith, some))
   ahead_by (one ∷ rest) first openings came before after some at are asks =
       (openings, are, subst (λ (w : Wanted). AsksAhead rules pace w.asking.asked openings before came after) at asks)
 
   -- the rows aren't read, or memory is wanting
   pub ends_on_rows : (all : List Wanted) (before after : S) (fault : NotDone) → 1 ≤ length all → FailsOnRows fault
-      → EndsOpening rules pace trees known heard all before after fault
+      → EndsOpening rules pace (knowing known heard) all (run_point before archive) after fault
   ends_on_rows [] before after fault some fails = absurd (omega (arith, some))
   ends_on_rows (one ∷ rest) before after fault some fails = inl fails
 
   -- or the rounds end so
   pub ends_ahead : (all : List Wanted) (first : Wanted) (openings : List Opening) (before after : S) (fault : NotDone)
-      → 1 ≤ length all → first ≡ get_or all 0 first → AreOpenings trees known heard (batches_of (length all)) all openings
-      → EndsAhead rules pace first.asking.asked openings before after fault → EndsOpening rules pace trees known heard all before after fault
+      → 1 ≤ length all → first ≡ get_or all 0 first → AreOpenings archive.trees known heard (batches_of (length all)) all openings
+      → EndsAhead rules pace first.asking.asked openings before after fault → EndsOpening rules pace (knowing known heard) all (run_point before archive) after fault
   ends_ahead [] first openings before after fault some at are ends = absurd (omega (arith, some))
   ends_ahead (one ∷ rest) first openings before after fault some at are ends =
       inr (openings, are, subst (λ (w : Wanted). EndsAhead rules pace w.asking.asked openings before after fault) at ends)

@@ -16,18 +16,19 @@ use Rattle.bac_asked.specs.declared.end.NotDone.TheVariants.{File}
 use Rattle.bac_asked.specs.declared.fault.FileFault.{FileFault}
 use Rattle.bac_asked.specs.declared.wanted.Wanted.{Wanted}
 use Rattle.bac_ports.specs.Sockets.{SocketRules}
-use Rattle.bac_fetch.specs.Ahead.{AtOnce}
+use Rattle.bac_fetch.specs.Ahead.{AtOnce, reach}
 use Rattle.bac_fetch.specs.Causes.{EndsFirst, EndsSettling, FailsToEnter, IsShut, LeavesUndone, LeavesUnopened}
 use Rattle.sqlite.specs.State.{State, Survives}
 use Rattle.bac_begin.proofs.Quiet.{quiet_then}
 use Rattle.bac_fetch.proofs.StaysLemmas.{does_nothing}
-use Rattle.bac_fetch.specs.Keeps.{KeepsLog}
+use Rattle.bac_fetch.specs.Keeps.{KeepsLog, target}
 use Rattle.bac_fetch.specs.declared.entry.Entry.{Entry}
 use Rattle.sqlite.specs.Effect.{Database}
 use Rattle.bac_asked.specs.Faults.{EndsLog, FailsOnRows}
 use Rattle.bac_fetch.specs.Faults.{EndsChosen}
 use Rattle.bac_fetch.specs.declared.keeping.Chosen.{Chosen}
 use Rattle.bac_fetch.specs.declared.keeping.Chosen.TheVariants.{Kept, Sought}
+use Rattle.bac_fetch.specs.Points.{run_point}
 
 -- a database answers by an error
 pub database_rows : (why : FileFault) (error : Error) → why ≡ of_error error → FailsOnRows (File why)
@@ -50,7 +51,7 @@ never r e P it f is = f (subst (λ x. IfErr x P) is it)
 
 -- the logs that were chosen aren't found, for these reasons or for others
 pub chosen_so : {S P C : Type 0} (rules : SocketRules S P) (by : AtOnce S C) (which : Chosen) (N M A B : Type 0) (before after : S) (fault : NotDone)
-    → (N → M) → (A → B) → EndsChosen rules by which N A before after fault → EndsChosen rules by which M B before after fault
+    → (N → M) → (A → B) → EndsChosen (reach rules by) which N A before after fault → EndsChosen (reach rules by) which M B before after fault
 chosen_so rules by Kept N M A B before after fault f h (inl it, same) = (inl it, same)
 chosen_so rules by Kept N M A B before after fault f h (inr (inl it), same) = (inr (inl it), same)
 chosen_so rules by Kept N M A B before after fault f h (inr (inr (inl it)), same) = (inr (inr (inl (it.0, f it.1))), same)
@@ -90,5 +91,5 @@ leaves_behind old mid new fault same quiet it = (
 
 -- the socket over which a log was kept is closed
 pub shut_log : {S P : Type 0} (rules : SocketRules S P) (asking : Asking) (before after : S) (entry : Entry) (object : Id) (old new : Database) (end : End)
-    → KeepsLog rules asking before after entry object old new end → IsShut rules asking.asked before after
+    → KeepsLog rules asking (run_point before old) (run_point after new) (target entry object) end → IsShut rules asking.asked before after
 shut_log rules asking before after entry object old new end it = inr (it.0, it.1, it.2, it.3, tt, it.5)

@@ -10,20 +10,23 @@ use Rattle.bac_walk.specs.Collects.{Goes}
 use Rattle.bac_walk.specs.Place.{WalkPlace}
 use Rattle.bac_walk.specs.declared.outcome.Ended.{Ended}
 use Rattle.bac_walk.specs.declared.outcome.Ended.TheVariants.{StepLimit}
+use Rattle.bac_walk.specs.Transacted.{walk_by}
 use Rattle.bac_keep.specs.Came.{KeepsBy}
-use Rattle.bac_keep.specs.Causes.{EndsUnkept, IsWhyNot}
-use Rattle.bac_keep.specs.Rising.{free_after}
-use Rattle.bac_keep.specs.Runs.{KeepsRun}
+use Rattle.bac_keep.specs.Causes.{EndsUnkept, IsWhyNot, outset, sides}
+use Rattle.bac_keep.specs.Rising.{free_after, room}
+use Rattle.bac_keep.specs.Runs.{KeepsRun, run_place, tally}
 use Rattle.bac_keep.specs.declared.keep.KeptStep.{KeptStep}
 use Rattle.bac_keep.specs.declared.keep.NotKept.{NotKept}
 use Rattle.bac_keep.specs.declared.keep.NotKept.TheVariants.{NoArchive, Refused, Database as Fails}
 use Rattle.bac_keep.specs.declared.place.Place.{Place}
 use Rattle.bac_keep.specs.declared.sink.Refusal.TheVariants as refusal
+use Rattle.bac_keep.specs.declared.run.KeptRun.{KeptRun}
 use Rattle.bac_asked.specs.declared.began.Began.{Began}
 use Rattle.bac_asked.specs.declared.end.End.{End}
 use Rattle.bac_asked.specs.declared.end.Ending.{Ending}
-use Rattle.bac_fetch.specs.Fetched.{ComesFrom, IsEndingOf, IsLeftBy, IsRunTo}
+use Rattle.bac_fetch.specs.Fetched.{ComesFrom, IsEndingOf, IsLeftBy, IsRunTo, footing}
 use Rattle.bac_fetch.specs.Keeps.{KeepsFrom}
+use Rattle.bac_fetch.specs.Points.{log_point}
 
 -- what follows from how a run ended: with its walk, or before while the file was open
 pub either_way : {T E : Type 0} (r : Result T E) (P : T → Type 0) (Q : E → Type 0) (O X : Type 0)
@@ -39,7 +42,7 @@ both (Err e) O Q o h = (o, h)
 -- the rows of a run behind a first step
 pub keeps_from : {L : Type 0} (ours : L → Id → ℕ → List Moment → History → Type 0) (failures : L → ℕ) (place reached : Place) (retries : ℕ) (old new : Database) (link half : L)
     (walk after : WalkPlace) (step : KeptStep) (how : Began) (steps : ℕ) (ended : Ended) (records gaps : ℕ) (end : End)
-    → KeepsRun ours failures place reached retries old new link half walk after steps ended records gaps
+    → KeepsRun ours failures retries (run_place old place link walk) (run_place new reached half after) (tally steps ended records gaps)
     → end.records ≡ step.records + records → end.gaps ≡ step.gaps + gaps → after.next ≡ end.next → end.began ≡ how → KeepsFrom place walk step how old new end
 keeps_from ours failures place reached retries old new link half walk after step how steps ended records gaps end run records_are gaps_are next began = record {
   items = run.items;
@@ -54,12 +57,12 @@ keeps_from ours failures place reached retries old new link half walk after step
 -- and they came over a client's link
 pub comes_from : {L : Type 0} (asks : Ask L) (before half left : Client L) (place reached : Place) (free : ℕ) (old new : Database) (walk after : WalkPlace) (step : KeptStep) (steps took : ℕ)
     (ended : Ended) (records gaps : ℕ) (end : End)
-    → (kept : KeepsBy asks before.transactions place reached old new before.link half.link walk after took ended records gaps half.transactions)
+    → (kept : KeepsBy asks (run_place old place before walk) (run_place new reached half after) (tally took ended records gaps))
     → IsRunTo end.why steps took ended → IsLeftBy asks end.why reached (free_after free kept.over.items) after half left
-    → end.records ≡ step.records + records → end.gaps ≡ step.gaps + gaps → after.next ≡ end.next → ComesFrom asks before left place free walk step steps old new end
+    → end.records ≡ step.records + records → end.gaps ≡ step.gaps + gaps → after.next ≡ end.next → ComesFrom asks (log_point before old) (log_point left new) (footing place free walk step) steps end
 comes_from asks before half left place reached free old new walk after step steps took ended records gaps end kept runs is_left records_are gaps_are next = record {
   reached = reached;
-  after = after;
+  walk = after;
   took = took;
   ended = ended;
   half = half;
@@ -82,7 +85,7 @@ before_steps NoArchive ending steps took is fewer = absurd is
 before_steps (Fails error) ending steps took is fewer = absurd is
 
 left_by : {L T : Type 0} (asks : Ask L) (half left : Client L) (reached : Place) (free : ℕ) (after last : WalkPlace) (g : Ghosts T) (held : Held T) (why : NotKept) (ending : Ending)
-    → IsWhyNot asks half.transactions reached free half.link after left.transactions left.link last g held why → IsEndingOf (Err why) ending
+    → IsWhyNot asks (room reached free) (walk_by half.link half.transactions after) (walk_by left.link left.transactions last) g held why → IsEndingOf (Err why) ending
     → IsLeftBy asks ending reached free after half left
 left_by asks half left reached free after last g held (Refused refusal.Back) ending it is =
     subst (λ w. IsLeftBy asks w reached free after half left) (sym is) (it.0, it.1, last, it.2, it.3)
@@ -93,13 +96,13 @@ left_by asks half left reached free after last g held NoArchive ending it is = a
 left_by asks half left reached free after last g held (Fails error) ending it is = absurd is
 
 -- a run whose next step has no place came over a client's link with that step
-pub comes_unkept : {L T : Type 0} (asks : Ask L) (before left : Client L) (place reached : Place) (free : ℕ) (g : Ghosts T) (old new : Held T) (walk : WalkPlace) (step : KeptStep)
-    (steps next records gaps : ℕ) (why : NotKept) (end : End)
-    → EndsUnkept asks before.transactions place reached free g old new before.link left.link walk steps next records gaps left.transactions why
-    → IsTrue (state g new).is_open → IsEndingOf (Err why) end.why → end.records ≡ step.records + records → end.gaps ≡ step.gaps + gaps → end.next ≡ next
-    → ComesFrom asks before left place free walk step steps (state g old).now (state g new).now end
-comes_unkept asks before left place reached free g old new walk step steps next records gaps why end it is_open is records_are gaps_are next_is =
-    subst (λ d. ComesFrom asks before left place free walk step steps (state g old).now d end) (sym (it.stays is_open))
-    (comes_from asks before (client it.half it.mid) left place reached free (state g old).now (state g it.held).now walk it.after step steps it.done StepLimit records gaps end it.kept
-    (before_steps why end.why steps it.done is it.few) (left_by asks (client it.half it.mid) left reached (free_after free it.kept.over.items) it.after it.last g it.held why end.why it.cause is)
+pub comes_unkept : {L T : Type 0} (asks : Ask L) (before left : Client L) (place : Place) (told : KeptRun) (free : ℕ) (g : Ghosts T) (old new : Held T) (walk : WalkPlace) (step : KeptStep)
+    (steps : ℕ) (why : NotKept) (end : End)
+    → EndsUnkept asks g (outset (room place free) (sides before old) walk steps) told (sides left new) why
+    → IsTrue (state g new).is_open → IsEndingOf (Err why) end.why → end.records ≡ step.records + told.records → end.gaps ≡ step.gaps + told.gaps → end.next ≡ told.next
+    → ComesFrom asks (log_point before (state g old).now) (log_point left (state g new).now) (footing place free walk step) steps end
+comes_unkept asks before left place told free g old new walk step steps why end it is_open is records_are gaps_are next_is =
+    subst (λ d. ComesFrom asks (log_point before (state g old).now) (log_point left d) (footing place free walk step) steps end) (sym (it.stays is_open))
+    (comes_from asks before (client it.half it.mid) left place told.place free (state g old).now (state g it.held).now walk it.after step steps it.done StepLimit told.records told.gaps end it.kept
+    (before_steps why end.why steps it.done is it.few) (left_by asks (client it.half it.mid) left told.place (free_after free it.kept.over.items) it.after it.last g it.held why end.why it.cause is)
     records_are gaps_are (it.next_is ∙ sym next_is))

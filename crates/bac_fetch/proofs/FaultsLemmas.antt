@@ -2,8 +2,8 @@
 use Rattle.std.proofs.Common.{◌≡◌, inl, inr, refl, subst, ◌∙◌, ℕ, List, Option, None, Some, Result, Ok, Err, IfErr}
 use Rattle.bac_asked.specs.declared.end.NotDone.{NotDone}
 use Rattle.bac_asked.specs.declared.log_words.Asking.{Asking as AskedFor}
-use Rattle.bac_fetch.specs.Ahead.{AtOnce}
-use Rattle.bac_fetch.specs.Chosen.{AreFound}
+use Rattle.bac_fetch.specs.Ahead.{AtOnce, reach}
+use Rattle.bac_fetch.specs.Chosen.{AreFound, findings}
 use Rattle.bac_fetch.specs.Faults.{EndsChosen, EndsKeeping, EndsKept, EndsRun, HasNoInstance}
 use Rattle.bac_questions.specs.Faults.{EndsAsking}
 use Rattle.bac_fetch.specs.declared.keeping.Chosen.{Chosen}
@@ -79,12 +79,12 @@ copy_no_address given a b address dnet dadr instance (inr (asking, by, none)) = 
 
 -- the logs of a file aren't named, for which no socket is opened
 pub kept_there : {S P C : Type 0} (rules : SocketRules S P) (by : AtOnce S C) (which : Chosen) (N A : Type 0) (sockets : S) (fault : NotDone) → which ≡ Kept → EndsKept N A fault
-    → EndsChosen rules by which N A sockets sockets fault
+    → EndsChosen (reach rules by) which N A sockets sockets fault
 kept_there rules by Kept N A sockets fault is it = (it, refl)
 kept_there rules by (Sought sought) N A sockets fault is it = absurd (cc)
 
 -- the run over logs that were chosen ends
 pub run_of : {S P C : Type 0} (rules : SocketRules S P) (by : AtOnce S C) (which : Chosen) (N A B : Type 0) (before between after : S) (all : List Wanted) (unlisted : List Unlisted) (fault : NotDone)
-    → AreFound rules by which before all unlisted between → (A → B) → EndsRun rules (HasNoInstance all) A after fault → EndsKeeping rules by which N B before after fault
+    → AreFound (reach rules by) which before (findings all unlisted between) → (A → B) → EndsRun rules (HasNoInstance all) A after fault → EndsKeeping (reach rules by) which N B before after fault
 run_of rules by which N A B before between after all unlisted fault found f it =
     inr (all, unlisted, between, found, ends_so rules (HasNoInstance all) (HasNoInstance all) A B after fault (λ n. n) f it)

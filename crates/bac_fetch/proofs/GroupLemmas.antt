@@ -19,6 +19,7 @@ use Rattle.bac_fetch.specs.Causes.{EndsAll, LeavesUndone, LeavesUnopened}
 use Rattle.bac_fetch.specs.Stays.{HasAllOf, LeavesBehind, LeavesSeen}
 use Rattle.bac_fetch.proofs.SameLemmas.{survives_as}
 use Rattle.bac_fetch.proofs.StaysLemmas.{all_itself, stays_then}
+use Rattle.bac_fetch.specs.Points.{knowing, run_point}
 
 -- a group that is committed leaves what was there
 pub commit_leaves : (Q : Database → Trees → Type 0) (old new : State) → ((d : Database) → Q d d.trees) → Survives old new (λ trees. trees ≡ old.now.trees)
@@ -107,7 +108,7 @@ line_waits (Some x) (Some y) xs ys zs line is it = it ∙ ap (λ l. x ++ l) is �
 
 -- what is done isn't committed, or isn't told
 pub ends_uncommitted : {S P : Type 0} (rules : SocketRules S P) (known : List Log) (heard : List Heard) (all : List Wanted) (before after : S) (old : Database) (left : Trees) (fault : NotDone)
-    → all ≢ [] → FailsOnRows fault → EndsAll rules known heard all before after old left fault
+    → all ≢ [] → FailsOnRows fault → EndsAll rules (knowing known heard) all (run_point before old) after left fault
 ends_uncommitted rules known heard [] before after old left fault some fails = absurd (some refl)
 ends_uncommitted rules known heard (first ∷ more) before after old left fault some fails = record {
   front = [];

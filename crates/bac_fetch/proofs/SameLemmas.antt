@@ -18,6 +18,7 @@ use Rattle.bac_asked.specs.declared.end.End.{End}
 use Rattle.bac_keep.proofs.BegunLemmas.{stays as still_begun}
 use Rattle.bac_fetch.specs.Keeps.{KeepsBegun, KeepsOn, Marks, is_idle}
 use Rattle.bac_fetch.specs.Stays.{HasSameLogs}
+use Rattle.bac_fetch.specs.Points.{log_point}
 use Rattle.bac_begin.specs.declared.starting.Start.{Start}
 
 -- what a call may leave in one sense it leaves in a wider one
@@ -67,12 +68,12 @@ marks_same (Some beginning) end old new it = go (is_idle end) refl
     go false is = subst (λ (d : Database). HasSameLogs old.trees d.trees) (sym (it.1 is)) (same_itself old.trees)
 
 on_same : {L : Type 0} (asks : Ask L) (before left : Client L) (start : Start) (why : Option Why) (steps : ℕ)
-    (old new : Database) (end : End) → KeepsOn asks before left start why steps old new end → HasSameLogs old.trees new.trees
+    (old new : Database) (end : End) → KeepsOn asks (log_point before old) (log_point left new) start why steps end → HasSameLogs old.trees new.trees
 on_same asks before left start (Some why) steps old new end h = subst (λ (d : Database). HasSameLogs old.trees d.trees) (sym h.0) (same_itself old.trees)
 on_same asks before left start None steps old new end h = adds_same old.trees new.trees _ h.0.rows.rows
 
 pub begun_same : {L : Type 0} (asks : Ask L) (before left : Client L) (begun : Result Start End) (steps : ℕ)
-    (old new : Database) (end : End) → KeepsBegun asks before left begun steps old new end → HasSameLogs old.trees new.trees
+    (old new : Database) (end : End) → KeepsBegun asks (log_point before old) (log_point left new) begun steps end → HasSameLogs old.trees new.trees
 begun_same asks before left (Ok start) steps old new end (mid, rows, on) =
     same_then old.trees mid.trees new.trees (adds_same old.trees mid.trees _ rows.rows)
     (on_same asks before left start (why_of start.hand.gathered.step.ended) (steps - start.hand.took) mid new end on)

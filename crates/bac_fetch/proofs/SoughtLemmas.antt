@@ -10,9 +10,9 @@ use Rattle.bac_asked.specs.declared.end.NotDone.TheVariants.{Asking}
 use Rattle.bac_asked.specs.declared.fault.Fault.TheVariants.{Memory, Unopened}
 use Rattle.bac_asked.specs.declared.log_words.Asking.{Asking as AskedFor}
 use Rattle.bac_asked.specs.declared.wanted.Wanted.{Wanted}
-use Rattle.bac_fetch.specs.Chosen.{AddSought, AreOfDevice, IsUntold, is_wanted, told_by, unlisted_by, untold_in, with_new, with_one}
+use Rattle.bac_fetch.specs.Chosen.{AddSought, AreOfDevice, IsUntold, findings, is_wanted, told_by, unlisted_by, untold_in, with_new, with_one}
 use Rattle.bac_fetch.specs.Faults.{EndsAt, EndsDevice}
-use Rattle.bac_fetch.specs.Ahead.{AtOnce}
+use Rattle.bac_fetch.specs.Ahead.{AtOnce, reach}
 use Rattle.bac_fetch.specs.Listed.{HoldsLists, was_silent}
 use Rattle.bac_fetch.specs.Unlisted.{unlisted_line, unlisted_lines, unlisted_status}
 use Rattle.bac_fetch.specs.declared.sought.Listing.{Listing}
@@ -78,8 +78,8 @@ module _ {S P : Type 0} (rules : SocketRules S P) where
   -- one device more
   pub add_one : (gone : List Source) (seen : List Sought) (one : Sought) (first : List Wanted) (told : List Unlisted) (before : S) (known : List Wanted) (silent : List Unlisted) (mid : S)
       (listing : Listing) (all : List Wanted) (after : S)
-      → AddSought rules gone seen first told before known silent mid → AreOfDevice rules gone one mid listing after → all ≡ with_new known (told_by listing)
-      → AddSought rules gone (seen ++ one ∷ []) first told before all (silent ++ unlisted_by listing) after
+      → AddSought rules gone seen (findings first told before) (findings known silent mid) → AreOfDevice rules gone one mid listing after → all ≡ with_new known (told_by listing)
+      → AddSought rules gone (seen ++ one ∷ []) (findings first told before) (findings all (silent ++ unlisted_by listing) after)
   add_one gone [] one first told before known silent mid listing all after (same, none, still) of is = (
     listing,
     after,
@@ -92,13 +92,13 @@ module _ {S P : Type 0} (rules : SocketRules S P) where
   -- the next device isn't asked
   pub ends_at : (gone : List Source) (seen : List Sought) (one : Sought) (rest : List Sought) (first : List Wanted) (told : List Unlisted) (before : S) (known : List Wanted) (silent : List Unlisted)
       (mid after : S) (fault : NotDone)
-      → AddSought rules gone seen first told before known silent mid → EndsDevice rules gone one mid after fault → EndsAt rules gone (seen ++ one ∷ rest) before after fault
+      → AddSought rules gone seen (findings first told before) (findings known silent mid) → EndsDevice rules gone one mid after fault → EndsAt rules gone (seen ++ one ∷ rest) before after fault
   ends_at gone [] one rest first told before known silent mid after fault (same, none, still) it = inl (subst (λ (s : S). EndsDevice rules gone one s after fault) still it)
   ends_at gone (x ∷ seen) one rest first told before known silent mid after fault (l, between, of_x, more) it =
       inr (l, between, of_x, ends_at gone seen one rest (with_new first (told_by l)) (told ++ unlisted_by l) between known silent mid after fault more it)
 
 -- the devices that are asked ahead, and those that are silent, are seen as slices
 pub holds_so : {S P C : Type 0} (rules : SocketRules S P) (by : AtOnce S C) (sought seen : List Sought) (silent those : List Source) (before held : S) → seen ≡ sought → those ≡ silent
-    → HoldsLists rules by seen before silent held → HoldsLists rules by sought before those held
+    → HoldsLists (reach rules by) seen before silent held → HoldsLists (reach rules by) sought before those held
 holds_so rules by sought seen silent those before held is same it =
-    subst (λ (l : List Sought). HoldsLists rules by l before those held) is (subst (λ (l : List Source). HoldsLists rules by seen before l held) (sym same) it)
+    subst (λ (l : List Sought). HoldsLists (reach rules by) l before those held) is (subst (λ (l : List Source). HoldsLists (reach rules by) seen before l held) (sym same) it)

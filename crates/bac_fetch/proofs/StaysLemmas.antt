@@ -18,7 +18,7 @@ use Rattle.bac_archive.specs.Logs.{AddsLog}
 use Rattle.bac_archive.specs.declared.trend_logs.Log.{Log}
 use Rattle.bac_archive.specs.declared.trend_logs.Told.{Told}
 use Rattle.bac_ports.specs.Sockets.{SocketRules}
-use Rattle.bac_fetch.specs.Keeps.{KeepsBegun, KeepsEntered, KeepsHeard, KeepsNext, KeepsSource, KeepsUnless, LeavesWord, Marks, PassesOver}
+use Rattle.bac_fetch.specs.Keeps.{KeepsBegun, KeepsEntered, KeepsHeard, KeepsNext, KeepsSource, KeepsUnless, LeavesWord, Marks, PassesOver, introduced}
 use Rattle.bac_fetch.specs.Entries.{Admits, AdmitsRow, Renews, is_due}
 use Rattle.bac_fetch.specs.declared.entry.Entry.{Entry}
 use Rattle.bac_fetch.specs.declared.entry.Recorded.{Recorded}
@@ -29,6 +29,7 @@ use Rattle.bac_asked.specs.declared.end.Ending.{Ending}
 use Rattle.bac_asked.specs.declared.end.Ending.TheVariants.{NotAsked}
 use Rattle.bac_fetch.specs.Stays.{HasAllOf, HasRows, HasSameLogs}
 use Rattle.bac_fetch.proofs.SameLemmas.{begun_same, marks_same, survives_as}
+use Rattle.bac_fetch.specs.Points.{knowing, log_point, run_point}
 use Rattle.bac_asked.specs.declared.end.End.{End}
 use Rattle.bac_begin.specs.declared.starting.Start.{Start}
 use Rattle.bac_asked.specs.declared.wanted.Wanted.{Wanted}
@@ -94,7 +95,7 @@ pub marks_stay : (begins_at : Option Beginning) (end : End) (old new : Database)
 marks_stay begins_at end old new it = all_of_same old.trees new.trees (marks_same begins_at end old new it)
 
 pub begun_stays : {L : Type 0} (asks : Ask L) (before left : Client L) (begun : Result Start End) (steps : ℕ)
-    (old new : Database) (end : End) → KeepsBegun asks before left begun steps old new end → HasAllOf old.trees new.trees
+    (old new : Database) (end : End) → KeepsBegun asks (log_point before old) (log_point left new) begun steps end → HasAllOf old.trees new.trees
 begun_stays asks before left begun steps old new end it = all_of_same old.trees new.trees (begun_same asks before left begun steps old new end it)
 
 admitted_row : (recorded : Recorded) (row : Log) (old new : Database) → AdmitsRow recorded row old new → HasAllOf old.trees new.trees
@@ -115,7 +116,7 @@ renewed_stays entry end old new =
     (λ it. subst (λ (d : Database). HasAllOf old.trees d.trees) (sym it) (all_itself old.trees))
 
 entered_stays : {L : Type 0} (asks : Ask L) (before left : Client L) (begun : Result Start End) (steps : ℕ)
-    (entry : Entry) (old new : Database) (end : End) → KeepsEntered asks before left begun steps entry old new end → HasAllOf old.trees new.trees
+    (entry : Entry) (old new : Database) (end : End) → KeepsEntered asks (log_point before old) (log_point left new) begun steps entry end → HasAllOf old.trees new.trees
 entered_stays asks before left (Ok start) steps entry old new end (known, admits, last, keeps, marked, marks, renews) =
     all_then old.trees known.trees new.trees (admitted_stays entry old known admits)
     (all_then known.trees last.trees new.trees (begun_stays asks before left (Ok start) steps known last end keeps)
@@ -124,22 +125,22 @@ entered_stays asks before left (Err none) steps entry old new end it = subst (λ
 
 -- what is kept of a log takes nothing away
 pub source_stays : {S P : Type 0} (over : SocketRules S P) (known : List Log) (wanted : Wanted) (told : Told) (before after : S) (old new : Database) (end : End) →
-    KeepsSource over known wanted told before after old new end → HasAllOf old.trees new.trees
+    KeepsSource over known (introduced wanted told) (run_point before old) (run_point after new) end → HasAllOf old.trees new.trees
 source_stays over known wanted told before after old new end it =
     let (begun, mid, at_begin, keeps) = it.kept.4.3 in
     entered_stays _ mid _ begun _ it.entry old new it.kept.4.2 keeps
 
 unless_stays : {S P : Type 0} (over : SocketRules S P) (known : List Log) (wanted : Wanted) (told : Told) (why : Option Ending) (before after : S) (old new : Database) (end : End) →
-    KeepsUnless over known wanted told why before after old new end → HasAllOf old.trees new.trees
+    KeepsUnless over known (introduced wanted told) why (run_point before old) (run_point after new) end → HasAllOf old.trees new.trees
 unless_stays over known wanted told (Some why) before after old new end it = subst (λ (d : Database). HasAllOf old.trees d.trees) (sym it.0) (all_itself old.trees)
 unless_stays over known wanted told None before after old new end it = source_stays over known wanted told before after old new end it
 
 -- nor does what is kept of one log, or of one that is passed over
 pub next_stays : {S P : Type 0} (over : SocketRules S P) (known : List Log) (heard more : List Heard) (wanted : Wanted) (before after : S) (old new : Database) (end : End) →
-    KeepsNext over known heard more wanted before after old new end → HasAllOf old.trees new.trees
+    KeepsNext over (knowing known heard) more wanted (run_point before old) (run_point after new) end → HasAllOf old.trees new.trees
 next_stays over known heard more wanted before after old new end =
-    either_holds (is_silent heard wanted.source) (PassesOver known wanted NotAsked before after old new end × (more ≡ heard))
-    (KeepsHeard over known heard more wanted before after old new end) (HasAllOf old.trees new.trees)
+    either_holds (is_silent heard wanted.source) (PassesOver known wanted NotAsked (run_point before old) (run_point after new) end × (more ≡ heard))
+    (KeepsHeard over (knowing known heard) more wanted (run_point before old) (run_point after new) end) (HasAllOf old.trees new.trees)
     (λ same. subst (λ (d : Database). HasAllOf old.trees d.trees) (sym same.0.0) (all_itself old.trees))
     (λ kept. unless_stays over known wanted kept.said.told (hindrance known heard wanted.source kept.on_record kept.said.identity) kept.half after old new end kept.kept)
 

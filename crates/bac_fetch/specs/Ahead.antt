@@ -20,6 +20,7 @@ use Rattle.bac_questions.specs.Whose.{HeardAs, IsOnRecord, hindrance, is_heard}
 use Rattle.bac_questions.specs.declared.whose.Heard.{Heard}
 use Rattle.bac_recall.specs.declared.conversations.Conversation.{Conversation}
 use Rattle.bac_fetch.specs.Entries.{word_of}
+use Rattle.bac_fetch.specs.Points.{Known, RunPoint}
 
 -- what devices are asked at once by: a clock with how many questions may be open, and what it is for sockets to hold
 -- what came
@@ -30,6 +31,19 @@ pub record AtOnce (S C : Type 0) : Type 1 where
 -- by this clock, and so many at once
 abbrev pub at_once : {S C : Type 0} → (S → List Conversation → S → Type 0) → (C → ℕ → C → Type 0) → C → ℕ → AtOnce S C
 at_once holds reads start window = record { holds = holds; pace = paced reads start window }
+
+-- by what a run reaches devices: what sockets do, and what many devices are asked at once by
+pub record Reach (S P C : Type 0) : Type 1 where
+  pub rules : SocketRules S P
+  pub at_once : AtOnce S C
+
+-- by sockets that do this, and by this many at once
+abbrev pub reach : {S P C : Type 0} → SocketRules S P → AtOnce S C → Reach S P C
+reach rules by = record { rules = rules; at_once = by }
+
+-- the same by so many questions as are named
+abbrev pub reaching : {S P C : Type 0} → SocketRules S P → (ℕ → AtOnce S C) → ℕ → Reach S P C
+reaching rules by window = reach rules (by window)
 
 -- a log that is on record so stands there; of one without a row nothing is on record
 abbrev pub StandsIf : Trees → Option Log → Option Stand → Type 0
@@ -94,19 +108,21 @@ AreOpenings trees known heard batches (wanted ∷ more) openings =
     × (openings ≡ option_to_list one ++ rest)
 
 -- Each of these logs that isn't left out was opened, in rounds, as the first one is asked for, and this came.
-abbrev pub OpensAhead : {S P C : Type 0} → SocketRules S P → Pace C → Trees → List Log → List Heard → List Wanted → S →
+abbrev pub OpensAhead : {S P C : Type 0} → SocketRules S P → Pace C → Known → List Wanted → RunPoint S →
     List Conversation → S → Type 0
-OpensAhead rules pace trees known heard (first ∷ more) before came after =
+OpensAhead rules pace known (first ∷ more) before came after =
     (openings : List Opening)
-    × AreOpenings trees known heard (batches_of (length (first ∷ more))) (first ∷ more) openings
-    × AsksAhead rules pace first.asking.asked openings before came after
-OpensAhead rules pace trees known heard [] before came after = (came ≡ []) × (after ≡ before)
+    × AreOpenings before.archive.trees known.logs known.heard (batches_of (length (first ∷ more))) (first ∷ more)
+    openings
+    × AsksAhead rules pace first.asking.asked openings before.sockets came after
+OpensAhead rules pace known [] before came after = (came ≡ []) × (after ≡ before.sockets)
 
 -- That ends the run: the rows aren't read, memory is wanting, or no socket was opened for a round.
-abbrev pub EndsOpening : {S P C : Type 0} → SocketRules S P → Pace C → Trees → List Log → List Heard → List Wanted →
-    S → S → NotDone → Type 0
-EndsOpening rules pace trees known heard (first ∷ more) before after fault = FailsOnRows fault
+abbrev pub EndsOpening : {S P C : Type 0} → SocketRules S P → Pace C → Known → List Wanted → RunPoint S → S → NotDone
+    → Type 0
+EndsOpening rules pace known (first ∷ more) before after fault = FailsOnRows fault
     ⊎ ((openings : List Opening)
-    × AreOpenings trees known heard (batches_of (length (first ∷ more))) (first ∷ more) openings
-    × EndsAhead rules pace first.asking.asked openings before after fault)
-EndsOpening rules pace trees known heard [] before after fault = ⊥
+    × AreOpenings before.archive.trees known.logs known.heard (batches_of (length (first ∷ more))) (first ∷ more)
+    openings
+    × EndsAhead rules pace first.asking.asked openings before.sockets after fault)
+EndsOpening rules pace known [] before after fault = ⊥

@@ -18,21 +18,21 @@ use Rattle.bac_asked.specs.declared.end.NotDone.TheVariants.{Asking, File}
 use Rattle.bac_asked.specs.declared.fault.Fault.TheVariants.{BadValue, Unopened}
 use Rattle.bac_asked.specs.declared.fault.FileFault.TheVariants.{Address, Full}
 use Rattle.bac_asked.specs.declared.wanted.Wanted.{Wanted}
-use Rattle.bac_fetch.specs.Chosen.{AreFound}
+use Rattle.bac_fetch.specs.Chosen.{AreFound, Selection, findings}
 use Rattle.bac_fetch.specs.Faults.{EndsChosen, HasNone, IsNoInstance, LacksAddress}
 use Rattle.bac_questions.specs.Faults.{IsUnopened}
 use Rattle.bac_fetch.specs.Keeps.{KeepsAll}
-use Rattle.bac_fetch.specs.Moves.{IsAskedThere, IsElsewhere, Settles}
+use Rattle.bac_fetch.specs.Moves.{Arrival, IsAskedThere, IsElsewhere, Settles, arrival}
 use Rattle.bac_questions.specs.Said.{Identifies}
 use Rattle.bac_questions.specs.Silent.{IsAmong}
 use Rattle.bac_questions.specs.Whose.{IsIdentified}
-use Rattle.bac_fetch.specs.declared.keeping.Chosen.{Chosen}
 use Rattle.bac_fetch.specs.declared.unlisted.Unlisted.{Unlisted}
 use Rattle.bac_questions.specs.declared.said.Identity.TheVariants.{Told}
 use Rattle.bac_questions.specs.declared.said.Said.{Said}
 use Rattle.bac_questions.specs.declared.whose.Heard.{Heard}
-use Rattle.bac_fetch.specs.Ahead.{AtOnce}
-use Rattle.bac_fetch.specs.Called.{CallsAhead, EndsCallsAhead}
+use Rattle.bac_fetch.specs.Ahead.{Reach}
+use Rattle.bac_fetch.specs.Called.{CallsAhead, EndsCallsAhead, after_call}
+use Rattle.bac_fetch.specs.Points.{Known, RunPoint, knowing, run_point}
 use Rattle.bac_ports.specs.Sockets.{SocketRules, UsesSocket, own_address}
 use Rattle.bac_ports.specs.declared.port.OpenFault.{OpenFault}
 use Rattle.bac_words.specs.declared.job.Asked.{Asked}
@@ -74,12 +74,11 @@ EndsAmong rules known wanted trees before after fault =
 
 -- The next log isn't kept, nor told: its rows aren't read or its line isn't written; no socket was opened to ask its
 -- device what it says of itself; or it was asked or heard of before, and the log isn't kept.
-abbrev pub EndsNext : {S P : Type 0} → SocketRules S P → List Log → List Heard → Wanted → Trees → S → S → NotDone
-    → Type 0
-EndsNext {S = S} rules known heard wanted trees before after fault = FailsOnRows fault
-    ⊎ (IsUnopened rules wanted.asking.asked before after fault
-    ⊎ ((said : Said) × (half : S) × IsIdentified rules heard wanted before said half
-    × EndsAmong rules known wanted trees half after fault))
+abbrev pub EndsNext : {S P : Type 0} → SocketRules S P → Known → Wanted → RunPoint S → S → NotDone → Type 0
+EndsNext {S = S} rules known wanted before after fault = FailsOnRows fault
+    ⊎ (IsUnopened rules wanted.asking.asked before.sockets after fault
+    ⊎ ((said : Said) × (half : S) × IsIdentified rules known.heard wanted before.sockets said half
+    × EndsAmong rules known.logs wanted before.archive.trees half after fault))
 
 -- a fault that says that no socket was opened leaves the rows of the archive as they were
 abbrev pub LeavesUnopened : Database → Database → NotDone → Type 0
@@ -94,8 +93,8 @@ LeavesUndone old new fault =
 
 -- A run over logs ends at one of them: those before it were kept or passed over, as they are in a run that doesn't end,
 -- and from where they left the archive, the sockets and what was heard, this one isn't.
-pub record EndsAll {S P : Type 0} (rules : SocketRules S P) (known : List Log) (heard : List Heard) (all : List Wanted)
-    (before after : S) (old : Database) (left : Trees) (fault : NotDone) : Type 0 where
+pub record EndsAll {S P : Type 0} (rules : SocketRules S P) (known : Known) (all : List Wanted) (before : RunPoint S)
+    (after : S) (left : Trees) (fault : NotDone) : Type 0 where
   pub front : List Wanted
   pub wanted : Wanted
   pub rest : List Wanted
@@ -104,27 +103,26 @@ pub record EndsAll {S P : Type 0} (rules : SocketRules S P) (known : List Log) (
   pub half : S
   pub mid : Database
   pub now : List Heard
-  pub kept : KeepsAll rules known heard now front before half old mid ends
-  pub cause : EndsNext rules known now wanted mid.trees half after fault
+  pub kept : KeepsAll rules known now front before (run_point half mid) ends
+  pub cause : EndsNext rules (knowing known.logs now) wanted (run_point half mid) after fault
   -- unless the rows failed, what is left is as it was, if no log was before this one
-  pub first : FailsOnRows fault ⊎ (front ≡ [] → left ≡ old.trees)
+  pub first : FailsOnRows fault ⊎ (front ≡ [] → left ≡ before.archive.trees)
 
 -- Devices aren't called, nor their logs asked for ahead, and what is left is as it was; or they were, and the run ends
 -- at one of the logs.
-abbrev pub EndsCalled : {S P C : Type 0} → SocketRules S P → AtOnce S C → List Log → List Heard → List Wanted → S → S →
-    Database → Trees → NotDone → Type 0
-EndsCalled {S = S} rules by known heard all before after old left fault =
-    (EndsCallsAhead rules by old.trees known all heard before after fault × (left ≡ old.trees))
+abbrev pub EndsCalled : {S P C : Type 0} → Reach S P C → Known → List Wanted → RunPoint S → S → Trees → NotDone → Type 0
+EndsCalled {S = S} by known all before after left fault =
+    (EndsCallsAhead by known all before after fault × (left ≡ before.archive.trees))
     ⊎ ((found : List Heard) × (called : Bool) × (held : S)
-    × CallsAhead rules by old.trees known all heard before found called held
-    × EndsAll rules known found all held after old left fault)
+    × CallsAhead by known all before (after_call found called held)
+    × EndsAll by.rules (knowing known.logs found) all (run_point held before.archive) after left fault)
 
 -- so it does in an archive that has these logs, or they aren't told
-abbrev pub EndsSettled : {S P C : Type 0} → SocketRules S P → AtOnce S C → List Heard → List Wanted → S → S → Database
-    → Trees → NotDone → Type 0
-EndsSettled rules by heard all before after old left fault = FailsOnRows fault
-    ⊎ ((known : List Log) × AreLogs old.trees known
-    × EndsCalled rules by known heard all before after old left fault)
+abbrev pub EndsSettled : {S P C : Type 0} → Reach S P C → List Heard → List Wanted → RunPoint S → S → Trees → NotDone
+    → Type 0
+EndsSettled by heard all before after left fault = FailsOnRows fault
+    ⊎ ((known : List Log) × AreLogs before.archive.trees known
+    × EndsCalled by (knowing known heard) all before after left fault)
 
 -- ---- before them, whether a device has moved
 
@@ -136,9 +134,10 @@ EndsThere rules given from before after fault = FailsOnRows fault
     ⊎ ((there : Wanted) × IsAskedThere given from there × IsUnopened rules there.asking.asked before after fault))
 
 -- so it is of a device that tells this instance at the place of a log, which is on record of one of these elsewhere
-abbrev pub EndsMoving : {S P : Type 0} → SocketRules S P → Given → List Log → Source → ℕ → S → S → NotDone → Type 0
-EndsMoving rules given known to device before after fault =
-    (log : Log) × IsElsewhere known to device (Some log) × EndsThere rules given log.source before after fault
+abbrev pub EndsMoving : {S P : Type 0} → SocketRules S P → Given → List Log → Arrival → S → S → NotDone → Type 0
+EndsMoving rules given known new before after fault =
+    (log : Log) × IsElsewhere known new.place new.device (Some log)
+    × EndsThere rules given log.source before after fault
 
 -- It isn't settled where the device of a log stands: memory is wanting; no socket was opened to ask it what it says of
 -- itself; or it told an instance that is on record elsewhere, and that isn't settled.
@@ -146,7 +145,8 @@ abbrev pub EndsFirst : {S P : Type 0} → SocketRules S P → Given → List Log
 EndsFirst {S = S} rules given known first before after fault = WantsMemory fault
     ⊎ (IsUnopened rules first.asking.asked before after fault
     ⊎ ((said : Said) × (half : S) × Identifies rules first.asking before said half
-    × (device : ℕ) × (said.identity ≡ Told device) × EndsMoving rules given known first.source device half after fault))
+    × (device : ℕ) × (said.identity ≡ Told device)
+    × EndsMoving rules given known (arrival device first.source) half after fault))
 
 -- so it is of the first of some logs
 abbrev pub EndsSettling : {S P : Type 0} → SocketRules S P → Given → List Log → List Wanted → S → S → NotDone → Type 0
@@ -160,31 +160,32 @@ LeavesUnsettled settles old left fault = (left ≡ old)
     ⊎ (WantsMemory fault × (new : Database) × settles new × (left ≡ new.trees))
 
 -- so it is in an archive that has these logs; or they aren't told, and what is left is as it was
-abbrev pub FailsToSettle : {S P : Type 0} → SocketRules S P → Given → List Wanted → S → S → Database → Trees → NotDone
+abbrev pub FailsToSettle : {S P : Type 0} → SocketRules S P → Given → List Wanted → RunPoint S → S → Trees → NotDone
     → Type 0
-FailsToSettle rules given all before after old left fault = (FailsOnRows fault × (left ≡ old.trees))
-    ⊎ ((known : List Log) × AreLogs old.trees known × EndsSettling rules given known all before after fault
-    × LeavesUnsettled (λ new. (heard : List Heard) × Settles rules given known all before heard after old new) old.trees
-    left fault)
+FailsToSettle rules given all before after left fault = (FailsOnRows fault × (left ≡ before.archive.trees))
+    ⊎ ((known : List Log) × AreLogs before.archive.trees known
+    × EndsSettling rules given known all before.sockets after fault
+    × LeavesUnsettled
+    (λ new. (heard : List Heard) × Settles rules given known all before heard (run_point after new))
+    before.archive.trees left fault)
 
 -- ---- the whole run
 
 -- A run over logs ends: where the device of the first one stands isn't settled; or it was, and the run ends behind it.
-abbrev pub EndsLogs : {S P C : Type 0} → SocketRules S P → AtOnce S C → Given → List Wanted → S → S → Database
-    → Trees → NotDone → Type 0
-EndsLogs {S = S} rules by given all before after old left fault =
-    FailsToSettle rules given all before after old left fault
-    ⊎ ((known : List Log) × AreLogs old.trees known × (heard : List Heard) × (half : S) × (mid : Database)
-    × Settles rules given known all before heard half old mid
-    × EndsSettled rules by heard all half after mid left fault)
+abbrev pub EndsLogs : {S P C : Type 0} → Reach S P C → Given → List Wanted → RunPoint S → S → Trees → NotDone → Type 0
+EndsLogs {S = S} by given all before after left fault =
+    FailsToSettle by.rules given all before after left fault
+    ⊎ ((known : List Log) × AreLogs before.archive.trees known × (heard : List Heard) × (half : S) × (mid : Database)
+    × Settles by.rules given known all before heard (run_point half mid)
+    × EndsSettled by heard all (run_point half mid) after left fault)
 
 -- A run over the logs that were chosen ends: they aren't found, and what is left is as it was; or they were, and from
 -- where that left the sockets the run over them ends.
-abbrev pub EndsRunOver : {S P C : Type 0} → SocketRules S P → AtOnce S C → Given → Chosen → S → S → Database
-    → Trees → NotDone → Type 0
-EndsRunOver {S = S} rules by given chosen before after old left fault =
-    (EndsChosen rules by chosen (HasNone old.trees) (LacksAddress given old.trees) before after fault
-    × (left ≡ old.trees))
+abbrev pub EndsRunOver : {S P C : Type 0} → Reach S P C → Selection → RunPoint S → S → Trees → NotDone → Type 0
+EndsRunOver {S = S} by which before after left fault =
+    (EndsChosen by which.chosen (HasNone before.archive.trees) (LacksAddress which.given before.archive.trees)
+    before.sockets after fault
+    × (left ≡ before.archive.trees))
     ⊎ ((all : List Wanted) × (unlisted : List Unlisted) × (between : S)
-    × AreFound rules by chosen before all unlisted between
-    × EndsLogs rules by given all between after old left fault)
+    × AreFound by which.chosen before.sockets (findings all unlisted between)
+    × EndsLogs by which.given all (run_point between before.archive) after left fault)

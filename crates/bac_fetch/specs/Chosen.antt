@@ -1,6 +1,6 @@
 -- Which logs are fetched.
-use Rattle.std.specs.Prelude.{◌≡◌, ◌≢◌, ℕ, Bool, false, MatchBool, if◌then◌else◌, List, [], ◌∷◌, ◌++◌, fold, map, not}
-use Rattle.std.specs.Prelude.{Option, Result, Ok, Err}
+use Rattle.std.specs.Prelude.{◌≡◌, ◌≢◌, Bool, false, MatchBool, if◌then◌else◌, List, [], ◌∷◌, ◌++◌, fold, map, not}
+use Rattle.std.specs.Prelude.{Result, Ok, Err}
 use Rattle.std.specs.Io.KnownBytes.{Appends}
 use Rattle.std.specs.List.{All, filter, list_any}
 use Rattle.sqlite_trees.specs.Tree.{Trees}
@@ -13,9 +13,10 @@ use Rattle.bac_asked.specs.declared.end.NotDone.{NotDone}
 use Rattle.bac_asked.specs.declared.end.NotDone.TheVariants.{Asking}
 use Rattle.bac_asked.specs.declared.fault.Fault.TheVariants.{Exchange}
 use Rattle.bac_asked.specs.declared.wanted.Wanted.{Wanted}
-use Rattle.bac_fetch.specs.Ahead.{AtOnce}
+use Rattle.bac_fetch.specs.Ahead.{Reach}
 use Rattle.bac_fetch.specs.Beside.{IsAskedWith}
 use Rattle.bac_fetch.specs.Listed.{HoldsLists, was_silent}
+use Rattle.bac_fetch.specs.Points.{Scene}
 use Rattle.bac_fetch.specs.Unlisted.{unlisted_lines, unlisted_status}
 use Rattle.bac_fetch.specs.declared.keeping.Chosen.{Chosen}
 use Rattle.bac_fetch.specs.declared.keeping.Chosen.TheVariants as chosen
@@ -53,6 +54,15 @@ AskOneSource (Named all) = All AsksItsSource all.items
 abbrev pub AskTheirSources : Chosen → Type 0
 AskTheirSources chosen.Kept = Unit {0}
 AskTheirSources (chosen.Sought sought) = All AskOneSource sought.items
+
+-- what the words of a run ask for: the options that are given, and which logs are chosen
+pub record Selection : Type 0 where
+  pub given : Given
+  pub chosen : Chosen
+
+-- by these options, these logs
+abbrev pub selection : Given → Chosen → Selection
+selection given chosen = record { given = given; chosen = chosen }
 
 -- What was chosen of an archive: its logs that aren't stopped, each without a name, and asked for by the options that
 -- were given. Of devices `AreFound` tells it.
@@ -101,40 +111,50 @@ AreOfDevice rules silent (Device like) before (Untold device) after =
 AreOfDevice rules silent (Named named) before (Told found) after = (found ≡ named) × (after ≡ before)
 AreOfDevice rules silent (Named named) before (Untold device) after = ⊥
 
+-- what was found of devices so far: their logs, those that didn't tell theirs, and the sockets then
+pub record Findings (S : Type 0) : Type 0 where
+  pub all : List Wanted
+  pub unlisted : List Unlisted
+  pub sockets : S
+
+-- these logs, these devices, and these sockets
+abbrev pub findings : {S : Type 0} → List Wanted → List Unlisted → S → Findings S
+findings all unlisted sockets = record { all = all; unlisted = unlisted; sockets = sockets }
+
 -- the logs of these devices, of which these are silent, come to others in their order, each once, and those that didn't
 -- tell theirs to other such devices; and what was asked for that
-abbrev pub AddSought : {S P : Type 0} → SocketRules S P → (silent : List Source) → List Sought → List Wanted
-    → List Unlisted → S → List Wanted → List Unlisted → S → Type 0
-AddSought rules silent [] before untold sockets all unlisted after =
-    (all ≡ before) × (unlisted ≡ untold) × (after ≡ sockets)
-AddSought {S = S} rules silent (one ∷ more) before untold sockets all unlisted after =
-    (listing : Listing) × (between : S) × AreOfDevice rules silent one sockets listing between
-    × AddSought rules silent more (with_new before (told_by listing)) (untold ++ unlisted_by listing) between all
-    unlisted after
+abbrev pub AddSought : {S P : Type 0} → SocketRules S P → (silent : List Source) → List Sought → Findings S → Findings S
+    → Type 0
+AddSought rules silent [] before after =
+    (after.all ≡ before.all) × (after.unlisted ≡ before.unlisted) × (after.sockets ≡ before.sockets)
+AddSought {S = S} rules silent (one ∷ more) before after =
+    (listing : Listing) × (between : S) × AreOfDevice rules silent one before.sockets listing between
+    × AddSought rules silent more
+    (findings (with_new before.all (told_by listing)) (before.unlisted ++ unlisted_by listing) between) after
 
 -- which logs are fetched, and what was asked for that: of a file at least one, for which no socket is opened; or those
 -- of devices, some of which may not have told theirs, one after the other from where their lists were asked for ahead
-abbrev pub AreFound : {S P C : Type 0} → SocketRules S P → AtOnce S C → Chosen → S → List Wanted → List Unlisted → S
-    → Type 0
-AreFound rules by chosen.Kept before all unlisted after = (all ≢ []) × (unlisted ≡ []) × (after ≡ before)
-AreFound {S = S} rules by (chosen.Sought sought) before all unlisted after =
-    (silent : List Source) × (held : S) × HoldsLists rules by sought.items before silent held
-    × AddSought rules silent sought.items [] [] held all unlisted after
+abbrev pub AreFound : {S P C : Type 0} → Reach S P C → Chosen → S → Findings S → Type 0
+AreFound by chosen.Kept before found = (found.all ≢ []) × (found.unlisted ≡ []) × (found.sockets ≡ before)
+AreFound {S = S} by (chosen.Sought sought) before found =
+    (silent : List Source) × (held : S) × HoldsLists by sought.items before silent held
+    × AddSought by.rules silent sought.items (findings [] [] held) found
 
 -- The logs of these devices were found so; each device that didn't tell its logs has its line, and their greatest
 -- status is known.
-abbrev pub FindsEach : {S P : Type 0} → SocketRules S P → (silent : List Source) → List Sought → S → Option (List ℕ)
-    → Found → S → Option (List ℕ) → Type 0
-FindsEach rules silent sought before out found after out_after =
-    (unlisted : List Unlisted) × AddSought rules silent sought [] [] before found.all.items unlisted after
-    × Appends out out_after (unlisted_lines unlisted) × (found.status ≡ unlisted_status unlisted)
+abbrev pub FindsEach : {S P : Type 0} → SocketRules S P → (silent : List Source) → List Sought → Scene S → Found
+    → Scene S → Type 0
+FindsEach rules silent sought before found after =
+    (unlisted : List Unlisted)
+    × AddSought rules silent sought (findings [] [] before.sockets) (findings found.all.items unlisted after.sockets)
+    × Appends before.output after.output (unlisted_lines unlisted) × (found.status ≡ unlisted_status unlisted)
 
 -- so it is of those that were chosen
-abbrev pub Finds : {S P C : Type 0} → SocketRules S P → AtOnce S C → Chosen → S → Option (List ℕ) → Found → S
-    → Option (List ℕ) → Type 0
-Finds rules by chosen before out found after out_after =
-    (unlisted : List Unlisted) × AreFound rules by chosen before found.all.items unlisted after
-    × Appends out out_after (unlisted_lines unlisted) × (found.status ≡ unlisted_status unlisted)
+abbrev pub Finds : {S P C : Type 0} → Reach S P C → Chosen → Scene S → Found → Scene S → Type 0
+Finds by chosen before found after =
+    (unlisted : List Unlisted)
+    × AreFound by chosen before.sockets (findings found.all.items unlisted after.sockets)
+    × Appends before.output after.output (unlisted_lines unlisted) × (found.status ≡ unlisted_status unlisted)
 
 -- ---- what only private calls cite
 

@@ -13,9 +13,9 @@ use Rattle.bac_asked.specs.declared.end.NotDone.TheVariants.{Asking, File}
 use Rattle.bac_asked.specs.declared.fault.Fault.TheVariants.{BadValue}
 use Rattle.bac_asked.specs.declared.fault.FileFault.TheVariants.{Address, NoLogs}
 use Rattle.bac_asked.specs.declared.wanted.Wanted.{Wanted}
-use Rattle.bac_fetch.specs.Ahead.{AtOnce}
+use Rattle.bac_fetch.specs.Ahead.{Reach}
 use Rattle.bac_fetch.specs.Listed.{EndsHolding, HoldsLists, was_silent}
-use Rattle.bac_fetch.specs.Chosen.{AreFound, AreOfDevice, not_stopped}
+use Rattle.bac_fetch.specs.Chosen.{AreFound, AreOfDevice, findings, not_stopped}
 use Rattle.bac_fetch.specs.declared.keeping.Chosen.{Chosen}
 use Rattle.bac_fetch.specs.declared.keeping.Chosen.TheVariants as chosen
 use Rattle.bac_fetch.specs.declared.sought.Listing.{Listing}
@@ -85,24 +85,21 @@ EndsSought rules silent sought before after fault =
     (WantsMemory fault ⊎ RefusesLine fault) ⊎ EndsAt rules silent sought before after fault
 
 -- they aren't asked for their lists ahead; or they were, and from there on their logs aren't found
-abbrev pub EndsListed : {S P C : Type 0} → SocketRules S P → AtOnce S C → List Sought → S → S → NotDone → Type 0
-EndsListed {S = S} rules by sought before after fault = EndsHolding rules sought before after fault
-    ⊎ ((silent : List Source) × (held : S) × HoldsLists rules by sought before silent held
-    × EndsSought rules silent sought held after fault)
+abbrev pub EndsListed : {S P C : Type 0} → Reach S P C → List Sought → S → S → NotDone → Type 0
+EndsListed {S = S} by sought before after fault = EndsHolding by.rules sought before after fault
+    ⊎ ((silent : List Source) × (held : S) × HoldsLists by sought before silent held
+    × EndsSought by.rules silent sought held after fault)
 
 -- The logs that were chosen aren't found: those of a file aren't named, for which no socket is opened; or those of
 -- devices aren't found.
-abbrev pub EndsChosen : {S P C : Type 0} → SocketRules S P → AtOnce S C → Chosen → Type 0 → Type 0 → S → S → NotDone
-    → Type 0
-EndsChosen rules by chosen.Kept none no_address before after fault = EndsKept none no_address fault × (after ≡ before)
-EndsChosen rules by (chosen.Sought sought) none no_address before after fault =
-    EndsListed rules by sought.items before after fault
+abbrev pub EndsChosen : {S P C : Type 0} → Reach S P C → Chosen → Type 0 → Type 0 → S → S → NotDone → Type 0
+EndsChosen by chosen.Kept none no_address before after fault = EndsKept none no_address fault × (after ≡ before)
+EndsChosen by (chosen.Sought sought) none no_address before after fault = EndsListed by sought.items before after fault
 
 -- The logs that were chosen aren't kept: they aren't found; or the run over those that were ends.
-abbrev pub EndsKeeping : {S P C : Type 0} → SocketRules S P → AtOnce S C → Chosen → Type 0 → Type 0 → S → S → NotDone
-    → Type 0
-EndsKeeping {S = S} rules by chosen none no_address before after fault =
-    EndsChosen rules by chosen none no_address before after fault
+abbrev pub EndsKeeping : {S P C : Type 0} → Reach S P C → Chosen → Type 0 → Type 0 → S → S → NotDone → Type 0
+EndsKeeping {S = S} by chosen none no_address before after fault =
+    EndsChosen by chosen none no_address before after fault
     ⊎ ((all : List Wanted) × (unlisted : List Unlisted) × (between : S)
-    × AreFound rules by chosen before all unlisted between
-    × EndsRun rules (HasNoInstance all) no_address after fault)
+    × AreFound by chosen before (findings all unlisted between)
+    × EndsRun by.rules (HasNoInstance all) no_address after fault)

@@ -39,9 +39,10 @@ use Rattle.bac_asked.specs.declared.wanted.Wanted.{Wanted}
 use Rattle.bac_ahead.specs.Ahead.{trend_log}
 use Rattle.bac_ports.specs.Sockets.{SocketRules, UsesSocket, link_over, own_address, socket_asks}
 use Rattle.bac_ports.specs.declared.udp_link.UdpLink.{UdpLink}
-use Rattle.bac_fetch.specs.Ahead.{AtOnce}
-use Rattle.bac_fetch.specs.Called.{CallsAhead}
-use Rattle.bac_fetch.specs.Fetched.{ComesFrom}
+use Rattle.bac_fetch.specs.Ahead.{Reach}
+use Rattle.bac_fetch.specs.Called.{CallsAhead, after_call}
+use Rattle.bac_fetch.specs.Fetched.{ComesFrom, footing}
+use Rattle.bac_fetch.specs.Points.{Known, LogPoint, RunPoint, knowing, log_point, run_point}
 use Rattle.bac_fetch.specs.Heeds.{end_told, heeding, heeds}
 use Rattle.bac_fetch.specs.declared.heeding.Heeding.{Heeding}
 use Rattle.bac_asked.specs.Lines.{summary_line}
@@ -57,7 +58,8 @@ use Rattle.bac_questions.specs.declared.said.Said.{Said}
 use Rattle.bac_questions.specs.declared.whose.Heard.{Heard}
 use Rattle.bac_begin.specs.Stands.{IsStand, kept_last}
 use Rattle.bac_begin.specs.declared.stands.Stand.{Stand}
-use Rattle.bac_begin.specs.Starts.{IsBegun}
+use Rattle.bac_begin.specs.Starts.{IsBegun, run_log, at_start}
+use Rattle.bac_begin.specs.Hands.{log_asked}
 use Rattle.bac_asked.specs.Status.{end_status}
 
 -- Behind a first step, the rows of what a run brought come to those before, from a place's log and epoch on, and in the
@@ -77,26 +79,26 @@ pub record KeepsFrom (place : Place) (walk : WalkPlace) (step : KeptStep) (how :
 
 -- What a run keeps behind what is in hand: no more, and nothing more is asked, if that came to an end, caught up or by
 -- a fault; else what comes over the link from there, in at most so many steps.
-abbrev pub KeepsOn : {S : Type 0} → Ask S → Client S → Client S → Start → Option Why → ℕ → Database → Database → End
-    → Type 0
-KeepsOn asks before left start (Some why) steps old new end =
-    (new ≡ old) × (left ≡ before) × (end.records ≡ start.hand.gathered.step.records)
-    × (end.gaps ≡ start.hand.gathered.step.gaps) × (end.why ≡ Walk why) × (end.next ≡ start.hand.walk.next)
-    × (end.began ≡ start.began)
-KeepsOn asks before left start None steps old new end =
-    KeepsFrom start.hand.gathered.place start.hand.walk start.hand.gathered.step start.began old new end
-    × ComesFrom asks before left start.hand.gathered.place start.hand.gathered.free start.hand.walk
-    start.hand.gathered.step steps old new end
+abbrev pub KeepsOn : {S : Type 0} → Ask S → LogPoint S → LogPoint S → Start → Option Why → ℕ → End → Type 0
+KeepsOn asks before after start (Some why) steps end =
+    (after.archive ≡ before.archive) × (after.client ≡ before.client)
+    × (end.records ≡ start.hand.gathered.step.records) × (end.gaps ≡ start.hand.gathered.step.gaps)
+    × (end.why ≡ Walk why) × (end.next ≡ start.hand.walk.next) × (end.began ≡ start.began)
+KeepsOn asks before after start None steps end =
+    KeepsFrom start.hand.gathered.place start.hand.walk start.hand.gathered.step start.began before.archive
+    after.archive end
+    × ComesFrom asks before after
+    (footing start.hand.gathered.place start.hand.gathered.free start.hand.walk start.hand.gathered.step) steps end
 
 -- What a run of at most so many steps keeps that begins so: what is in hand, which took some of them, and what comes
 -- behind it; nothing, if the device didn't say where.
-abbrev pub KeepsBegun : {S : Type 0} → Ask S → Client S → Client S → Result Start End → ℕ → Database → Database → End
-    → Type 0
-KeepsBegun asks before left (Ok start) steps old new end =
-    (mid : Database) × IsAppended old mid (map stored start.hand.gathered.rows.items)
-    × KeepsOn asks before left start (why_of start.hand.gathered.step.ended) (steps - start.hand.took) mid
-    new end
-KeepsBegun asks before left (Err none) steps old new end = (new ≡ old) × (end ≡ none) × (left ≡ before)
+abbrev pub KeepsBegun : {S : Type 0} → Ask S → LogPoint S → LogPoint S → Result Start End → ℕ → End → Type 0
+KeepsBegun asks before after (Ok start) steps end =
+    (mid : Database) × IsAppended before.archive mid (map stored start.hand.gathered.rows.items)
+    × KeepsOn asks (log_point before.client mid) after start (why_of start.hand.gathered.step.ended)
+    (steps - start.hand.took) end
+KeepsBegun asks before after (Err none) steps end =
+    (after.archive ≡ before.archive) × (end ≡ none) × (after.client ≡ before.client)
 
 -- whether a run is caught up and brought nothing
 abbrev pub is_idle : End → Bool
@@ -113,58 +115,77 @@ Marks (Some beginning) end old new =
 -- What a run of at most so many steps over a log that begins so keeps: first the log has a row, then what is in hand
 -- and what comes behind it is kept, then its epoch begins if nothing came, and then its row says what its device told.
 -- Nothing, if the device didn't say where it begins.
-abbrev pub KeepsEntered : {S : Type 0} → Ask S → Client S → Client S → Result Start End → ℕ → Entry → Database
-    → Database → End → Type 0
-KeepsEntered asks before left (Ok start) steps entry old new end =
-    (known : Database) × Admits entry old known
-    × (last : Database) × KeepsBegun asks before left (Ok start) steps known last end
-    × (marked : Database) × Marks start.begins_at end last marked × Renews entry end marked new
-KeepsEntered asks before left (Err none) steps entry old new end = (new ≡ old) × (end ≡ none) × (left ≡ before)
+abbrev pub KeepsEntered : {S : Type 0} → Ask S → LogPoint S → LogPoint S → Result Start End → ℕ → Entry → End → Type 0
+KeepsEntered asks before after (Ok start) steps entry end =
+    (known : Database) × Admits entry before.archive known
+    × (last : Database)
+    × KeepsBegun asks (log_point before.client known) (log_point after.client last) (Ok start) steps end
+    × (marked : Database) × Marks start.begins_at end last marked × Renews entry end marked after.archive
+KeepsEntered asks before after (Err none) steps entry end =
+    (after.archive ≡ before.archive) × (end ≡ none) × (after.client ≡ before.client)
 
 -- What a crash leaves of a run over a log that keeps so: each log as it was, and so its device's word by which the rows
 -- were kept that are there; or all that the run kept.
 abbrev pub LeavesWord : Trees → (Database → Type 0) → Trees → Type 0
 LeavesWord old keeps left = HasRows old left ⊎ ((db : Database) × keeps db × (left ≡ db.trees))
 
+-- a log that is fetched: how it is on record, and which object of its device it is
+pub record Target : Type 0 where
+  pub entry : Entry
+  pub object : Id
+
+-- on record so, and this object
+abbrev pub target : Entry → Id → Target
+target entry object = record { entry = entry; object = object }
+
 -- A run of at most so many steps over a log, which is this object of its device, by the next transactions of a client,
 -- which it leaves so: where it begins, by the archive's rows, by what the device tells and by its own word, and what it
 -- keeps from there, which came to the transactions behind these.
-abbrev pub KeepsOverLink : {S : Type 0} → Ask S → Client S → Client S → ℕ → Entry → Id → (many : ℕ) → Database
-    → Database → End → Type 0
-KeepsOverLink {S = S} asks before left steps entry object many old new end =
+abbrev pub KeepsOverLink : {S : Type 0} → Ask S → LogPoint S → LogPoint S → ℕ → Target → (many : ℕ) → End → Type 0
+KeepsOverLink {S = S} asks before after steps log many end =
     (begun : Result Start End) × (mid : Client S)
-    × IsBegun asks before mid entry.row.id object many entry.word steps old.trees begun
-    × KeepsEntered asks mid left begun steps entry old new end
+    × IsBegun asks before.client (run_log log.entry.row.id (log_asked log.object many)) log.entry.word steps
+    before.archive.trees (at_start begun mid)
+    × KeepsEntered asks (log_point mid before.archive) after begun steps log.entry end
 
 -- The same over a socket: it was opened as the log is asked for, every datagram was asked of the device that is asked,
 -- by transactions none of which was begun before, and it was closed as the last of these left it. It is told if the
 -- device said that more is there than it had.
-abbrev pub KeepsLog : {S P : Type 0} → SocketRules S P → Asking → S → S → Entry → Id → Database → Database → End
-    → Type 0
-KeepsLog {P = P} rules asking before after entry object old new end =
-    UsesSocket rules (own_address asking.asked.local) asking.asked.timeout before
+abbrev pub KeepsLog : {S P : Type 0} → SocketRules S P → Asking → RunPoint S → RunPoint S → Target → End → Type 0
+KeepsLog {P = P} rules asking before after log end =
+    UsesSocket rules (own_address asking.asked.local) asking.asked.timeout before.sockets
     (λ port last. (left : Heeding (UdpLink P)) × (final : Transactions) × (before_told : End)
     × KeepsOverLink (heeds (socket_asks rules))
-    (client (heeding (link_over asking.asked.address port)) (transactions_with asking.asked.retries asking.asked.route))
-    (client left final) asking.steps entry object asking.count old new before_told
+    (log_point (client (heeding (link_over asking.asked.address port))
+    (transactions_with asking.asked.retries asking.asked.route)) before.archive)
+    (log_point (client left final) after.archive) asking.steps log asking.count before_told
     × (end ≡ end_told left.more before_told) × (last ≡ left.link.port))
-    after
+    after.sockets
 
 -- a row is to be that of a log that is wanted, with what its device told, and not stopped
 abbrev pub IsRowOf : Wanted → Told → Log → Type 0
 IsRowOf wanted told row =
     (row.source ≡ wanted.source) × (row.name ≡ wanted.name) × (row.told ≡ told) × (row.stopped ≡ false)
 
+-- a log that is wanted, and what its device told of itself
+pub record Introduced : Type 0 where
+  pub wanted : Wanted
+  pub told : Told
+
+-- this log, of a device that told this
+abbrev pub introduced : Wanted → Told → Introduced
+introduced wanted told = record { wanted = wanted; told = told }
+
 -- What is kept of a log, of which these logs were on record as a run began: under its id, or a free one, with what its
 -- device told.
-pub record KeepsSource {S P : Type 0} (rules : SocketRules S P) (known : List Log) (wanted : Wanted) (told : Told)
-    (before after : S) (old new : Database) (end : End) : Type 0 where
+pub record KeepsSource {S P : Type 0} (rules : SocketRules S P) (known : List Log) (one : Introduced)
+    (before after : RunPoint S) (end : End) : Type 0 where
   pub log : Option Log
-  pub among : IsAmong known wanted.source log
+  pub among : IsAmong known one.wanted.source log
   pub entry : Entry
-  pub entered : IsEntry old.trees log told entry
-  pub row : IsRowOf wanted told entry.row
-  pub kept : KeepsLog rules wanted.asking before after entry (trend_log wanted.source.instance) old new end
+  pub entered : IsEntry before.archive.trees log one.told entry
+  pub row : IsRowOf one.wanted one.told entry.row
+  pub kept : KeepsLog rules one.wanted.asking before after (target entry (trend_log one.wanted.source.instance)) end
 
 -- the number that comes next of a log that stands there, or 1
 abbrev pub next_behind : Option Stand → ℕ
@@ -182,71 +203,73 @@ IsWithout known trees source why end = (end.records ≡ 0) × (end.gaps ≡ 0) �
     × (log : Option Log) × IsAmong known source log × IsNextOf trees (option_map (λ (l : Log). l.id) log) end.next
 
 -- a log is passed over, for this reason: no socket is opened, the archive is as it was, and the reason is told
-abbrev pub PassesOver : {S : Type 0} → List Log → Wanted → Ending → S → S → Database → Database → End → Type 0
-PassesOver known wanted why before after old new end =
-    (new ≡ old) × (after ≡ before) × IsWithout known old.trees wanted.source why end
+abbrev pub PassesOver : {S : Type 0} → List Log → Wanted → Ending → RunPoint S → RunPoint S → End → Type 0
+PassesOver known wanted why before after end =
+    (after.archive ≡ before.archive) × (after.sockets ≡ before.sockets)
+    × IsWithout known before.archive.trees wanted.source why end
 
 -- a log is passed over if there is a reason, and else kept
-abbrev pub KeepsUnless : {S P : Type 0} → SocketRules S P → List Log → Wanted → Told → Option Ending →
-    S → S → Database → Database → End → Type 0
-KeepsUnless rules known wanted told (Some why) before after old new end =
-    PassesOver known wanted why before after old new end
-KeepsUnless rules known wanted told None before after old new end =
-    KeepsSource rules known wanted told before after old new end
+abbrev pub KeepsUnless : {S P : Type 0} → SocketRules S P → List Log → Introduced → Option Ending → RunPoint S →
+    RunPoint S → End → Type 0
+KeepsUnless rules known one (Some why) before after end = PassesOver known one.wanted why before after end
+KeepsUnless rules known one None before after end = KeepsSource rules known one before after end
 
 -- A log of a device that was heard of, or is asked now what it says of itself: it is kept, unless the device gives no
 -- answer, or an instance is on record of it and it doesn't tell that one, or it tells one that is on record elsewhere.
 -- So the device of each log that is kept told the instance that is on record, if one is.
-pub record KeepsHeard {S P : Type 0} (rules : SocketRules S P) (known : List Log) (heard more : List Heard)
-    (wanted : Wanted)
-    (before after : S) (old new : Database) (end : End) : Type 0 where
+pub record KeepsHeard {S P : Type 0} (rules : SocketRules S P) (known : Known) (more : List Heard) (wanted : Wanted)
+    (before after : RunPoint S) (end : End) : Type 0 where
   pub said : Said
   pub half : S
-  pub asked : IsIdentified rules heard wanted before said half
+  pub asked : IsIdentified rules known.heard wanted before.sockets said half
   pub on_record : Option ℕ
-  pub on_record_is : IsOnRecord known wanted.source on_record
-  pub kept : KeepsUnless rules known wanted said.told (hindrance known heard wanted.source on_record said.identity) half
-      after old new end
-  pub heard_is : more ≡ heard_with heard wanted.source said end.why
+  pub on_record_is : IsOnRecord known.logs wanted.source on_record
+  pub kept : KeepsUnless rules known.logs (introduced wanted said.told)
+      (hindrance known.logs known.heard wanted.source on_record said.identity) (run_point half before.archive) after end
+  pub heard_is : more ≡ heard_with known.heard wanted.source said end.why
 
 -- a log is passed over if its device gave no answer before; of any other the device is asked who it is, unless it was
-abbrev pub KeepsNext : {S P : Type 0} → SocketRules S P → List Log → List Heard → List Heard → Wanted → S → S → Database
-    → Database → End → Type 0
-KeepsNext rules known heard more wanted before after old new end = MatchBool (is_silent heard wanted.source)
-    (PassesOver known wanted NotAsked before after old new end × (more ≡ heard))
-    (KeepsHeard rules known heard more wanted before after old new end)
+abbrev pub KeepsNext : {S P : Type 0} → SocketRules S P → Known → List Heard → Wanted → RunPoint S → RunPoint S → End
+    → Type 0
+KeepsNext rules known more wanted before after end = MatchBool (is_silent known.heard wanted.source)
+    (PassesOver known.logs wanted NotAsked before after end × (more ≡ known.heard))
+    (KeepsHeard rules known more wanted before after end)
 
 -- Logs are kept in their order, each run over the archive that the one before left, and what was heard of devices then
 -- is known behind it.
-abbrev pub KeepsAll : {S P : Type 0} → SocketRules S P → List Log → List Heard → List Heard → List Wanted → S → S
-    → Database → Database → List End → Type 0
-KeepsAll rules known heard last [] before after old new [] = (new ≡ old) × (after ≡ before) × (last ≡ heard)
-KeepsAll {S = S} rules known heard last (wanted ∷ more) before after old new (end ∷ ends) =
-    (mid : Database) × (half : S) × (now : List Heard) × KeepsNext rules known heard now wanted before half old mid end
-    × KeepsAll rules known now last more half after mid new ends
-KeepsAll rules known heard last _ before after old new _ = ⊥
+abbrev pub KeepsAll : {S P : Type 0} → SocketRules S P → Known → List Heard → List Wanted → RunPoint S → RunPoint S
+    → List End → Type 0
+KeepsAll rules known last [] before after [] =
+    (after.archive ≡ before.archive) × (after.sockets ≡ before.sockets) × (last ≡ known.heard)
+KeepsAll {S = S} rules known last (wanted ∷ more) before after (end ∷ ends) =
+    (mid : Database) × (half : S) × (now : List Heard)
+    × KeepsNext rules known now wanted before (run_point half mid) end
+    × KeepsAll rules (knowing known.logs now) last more (run_point half mid) after ends
+KeepsAll rules known last _ before after _ = ⊥
 
 -- So are they where devices are asked at once before what they say of themselves, and for their logs ahead.
-abbrev pub KeepsCalled : {S P C : Type 0} → SocketRules S P → AtOnce S C → List Log → List Heard → List Wanted → S → S
-    → Database → Database → List End → Type 0
-KeepsCalled {S = S} rules by known heard all before after old new ends =
+abbrev pub KeepsCalled : {S P C : Type 0} → Reach S P C → Known → List Wanted → RunPoint S → RunPoint S → List End
+    → Type 0
+KeepsCalled {S = S} by known all before after ends =
     (found : List Heard) × (called : Bool) × (held : S)
-    × CallsAhead rules by old.trees known all heard before found called held
-    × (last : List Heard) × KeepsAll rules known found last all held after old new ends
+    × CallsAhead by known all before (after_call found called held)
+    × (last : List Heard)
+    × KeepsAll by.rules (knowing known.logs found) last all (run_point held before.archive) after ends
 
 -- the same in an archive that has these logs
-abbrev pub KeepsSettled : {S P C : Type 0} → SocketRules S P → AtOnce S C → List Heard → List Wanted → S → S → Database
-    → Database → List End → Type 0
-KeepsSettled rules by heard all before after old new ends =
-    (known : List Log) × AreLogs old.trees known × KeepsCalled rules by known heard all before after old new ends
+abbrev pub KeepsSettled : {S P C : Type 0} → Reach S P C → List Heard → List Wanted → RunPoint S → RunPoint S
+    → List End → Type 0
+KeepsSettled by heard all before after ends =
+    (known : List Log) × AreLogs before.archive.trees known × KeepsCalled by (knowing known heard) all before after ends
 
 -- So it is in a run by the options that were given: first it is found whether the device of the first log has moved,
 -- and then they are kept.
-abbrev pub KeepsLogs : {S P C : Type 0} → SocketRules S P → AtOnce S C → Given → List Wanted → S → S → Database
-    → Database → List End → Type 0
-KeepsLogs {S = S} rules by given all before after old new ends =
-    (known : List Log) × AreLogs old.trees known × (heard : List Heard) × (half : S) × (mid : Database)
-    × Settles rules given known all before heard half old mid × KeepsSettled rules by heard all half after mid new ends
+abbrev pub KeepsLogs : {S P C : Type 0} → Reach S P C → Given → List Wanted → RunPoint S → RunPoint S → List End
+    → Type 0
+KeepsLogs {S = S} by given all before after ends =
+    (known : List Log) × AreLogs before.archive.trees known × (heard : List Heard) × (half : S) × (mid : Database)
+    × Settles by.rules given known all before heard (run_point half mid)
+    × KeepsSettled by heard all (run_point half mid) after ends
 
 -- the lines of logs, in their order
 abbrev pub lines_of : List Wanted → List End → List ℕ

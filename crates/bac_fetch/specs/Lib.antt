@@ -1,3 +1,4 @@
+pub mod Points
 pub mod Ahead
 pub mod Beside
 pub mod Called

@@ -5,10 +5,10 @@ use Rattle.bac_archive.specs.declared.trend_logs.Source.{Source}
 use Rattle.bac_asked.specs.Faults.{WantsMemory}
 use Rattle.bac_asked.specs.declared.end.NotDone.{NotDone}
 use Rattle.bac_asked.specs.declared.wanted.Wanted.{Wanted}
-use Rattle.bac_fetch.specs.Ahead.{AtOnce}
+use Rattle.bac_fetch.specs.Ahead.{Reach}
 use Rattle.bac_fetch.specs.declared.sought.Sought.{Sought}
 use Rattle.bac_fetch.specs.declared.sought.Sought.TheVariants.{Device, Named}
-use Rattle.bac_listing.specs.Devices.{EndsLists, ListsAhead, with_device}
+use Rattle.bac_listing.specs.Devices.{EndsLists, ListsAhead, listed, with_device}
 use Rattle.bac_ports.specs.Sockets.{SocketRules}
 use Rattle.bac_questions.specs.Silent.{is_same_device}
 use Rattle.bac_recall.specs.declared.conversations.Conversation.{Conversation}
@@ -24,10 +24,10 @@ devices_of sought = fold with_sought [] sought
 
 -- These devices are asked for their lists ahead, if they are two or more, and the sockets hold what came, and nothing
 -- else; and these of them are silent, by what came.
-abbrev pub HoldsLists : {S P C : Type 0} → SocketRules S P → AtOnce S C → List Sought → S → (silent : List Source) → S
-    → Type 0
-HoldsLists {S = S} rules by sought before silent held = (came : List Conversation) × (mid : S)
-    × ListsAhead rules by.pace (devices_of sought) before came silent mid × by.holds mid came held
+abbrev pub HoldsLists : {S P C : Type 0} → Reach S P C → List Sought → S → (silent : List Source) → S → Type 0
+HoldsLists {S = S} by sought before silent held = (came : List Conversation) × (mid : S)
+    × ListsAhead by.rules by.at_once.pace (devices_of sought) before (listed came silent) mid
+    × by.at_once.holds mid came held
 
 -- a device is one of those that are silent
 abbrev pub was_silent : List Source → Source → Bool

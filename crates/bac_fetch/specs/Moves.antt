@@ -9,6 +9,7 @@ use Rattle.sqlite_value.specs.declared.value.Value.TheVariants.{Int, Text}
 use Rattle.sqlite_value.specs.Order.{Row as Values}
 use Rattle.bac_ports.specs.Sockets.{SocketRules}
 use Rattle.bac_archive.specs.Changes.{HasChangedLogs}
+use Rattle.bac_fetch.specs.Points.{RunPoint, run_point}
 use Rattle.bac_archive.specs.Logs.{flag, log_columns, told_values}
 use Rattle.bac_archive.specs.declared.trend_logs.Log.{Log}
 use Rattle.bac_archive.specs.declared.trend_logs.Source.{Source}
@@ -63,46 +64,58 @@ abbrev pub IsAskedThere : Given → Source → Wanted → Type 0
 IsAskedThere given from there = AsksItsSource there × (is_same_device there.source from ≡ true)
     × IsAskedBy (words_at given from) there.asking
 
+-- a device that tells this instance at the place of this source
+pub record Arrival : Type 0 where
+  pub device : ℕ
+  pub place : Source
+
+-- this instance, at this place
+abbrev pub arrival : ℕ → Source → Arrival
+arrival device place = record { device = device; place = place }
+
 -- the old place is asked, by the options that were given
-abbrev pub AsksThere : {S P : Type 0} → SocketRules S P → Given → ℕ → Source → Source → List Log → S → S → Database
-    → Database → Type 0
-AsksThere rules given device from to known before after old new =
+abbrev pub AsksThere : {S P : Type 0} → SocketRules S P → Given → Source → Arrival → List Log → RunPoint S → RunPoint S
+    → Type 0
+AsksThere rules given from new known before after =
     (there : Wanted) × IsAskedThere given from there
-    × (said : Said) × Identifies rules there.asking before said after
-    × MovesUnless device from to known said.identity old new
+    × (said : Said) × Identifies rules there.asking before.sockets said after.sockets
+    × MovesUnless new.device from new.place known said.identity before.archive after.archive
 
 -- if there is one
-abbrev pub AsksIf : {S P : Type 0} → SocketRules S P → Given → ℕ → Option Log → Source → List Log → S → S → Database
-    → Database → Type 0
-AsksIf rules given device None to known before after old new = (after ≡ before) × (new ≡ old)
-AsksIf rules given device (Some log) to known before after old new =
-    AsksThere rules given device log.source to known before after old new
+abbrev pub AsksIf : {S P : Type 0} → SocketRules S P → Given → Option Log → Arrival → List Log → RunPoint S → RunPoint S
+    → Type 0
+AsksIf rules given None new known before after =
+    (after.sockets ≡ before.sockets) × (after.archive ≡ before.archive)
+AsksIf rules given (Some log) new known before after = AsksThere rules given log.source new known before after
 
 -- a device that tells its instance at a place of which no log is on record
-abbrev pub SettlesBy : {S P : Type 0} → SocketRules S P → Given → List Log → Source → Identity → S → S → Database
-    → Database → Type 0
-SettlesBy rules given known to (Told device) before after old new =
-    (log : Option Log) × IsElsewhere known to device log × AsksIf rules given device log to known before after old new
-SettlesBy rules given known to identity before after old new = (after ≡ before) × (new ≡ old)
+abbrev pub SettlesBy : {S P : Type 0} → SocketRules S P → Given → List Log → Source → Identity → RunPoint S
+    → RunPoint S → Type 0
+SettlesBy rules given known to (Told device) before after =
+    (log : Option Log) × IsElsewhere known to device log
+    × AsksIf rules given log (arrival device to) known before after
+SettlesBy rules given known to identity before after =
+    (after.sockets ≡ before.sockets) × (after.archive ≡ before.archive)
 
 -- the device of a log is asked what it says of itself, which is heard then, and whether it has moved is settled
-abbrev pub SettlesFirst : {S P : Type 0} → SocketRules S P → Given → List Log → Wanted → S → Heard → S → Database
-    → Database → Type 0
-SettlesFirst {S = S} rules given known first before one after old new =
-    (mid : S) × Identifies rules first.asking before one.said mid × (one.was_told ≡ false)
+abbrev pub SettlesFirst : {S P : Type 0} → SocketRules S P → Given → List Log → Wanted → RunPoint S → Heard
+    → RunPoint S → Type 0
+SettlesFirst {S = S} rules given known first before one after =
+    (mid : S) × Identifies rules first.asking before.sockets one.said mid × (one.was_told ≡ false)
     × (is_same_device one.source first.source ≡ true)
-    × SettlesBy rules given known first.source one.said.identity mid after old new
+    × SettlesBy rules given known first.source one.said.identity (run_point mid before.archive) after
 
 -- unless a log of that device is on record: then nothing is asked
-abbrev pub SettlesUnless : {S P : Type 0} → SocketRules S P → Given → List Log → Wanted → S → List Heard → S
-    → Database → Database → Type 0
-SettlesUnless rules given known first before heard after old new = MatchBool (is_placed known first.source)
-    ((heard ≡ []) × (after ≡ before) × (new ≡ old))
-    ((one : Heard) × (heard ≡ one ∷ []) × SettlesFirst rules given known first before one after old new)
+abbrev pub SettlesUnless : {S P : Type 0} → SocketRules S P → Given → List Log → Wanted → RunPoint S → List Heard
+    → RunPoint S → Type 0
+SettlesUnless rules given known first before heard after = MatchBool (is_placed known first.source)
+    ((heard ≡ []) × (after.sockets ≡ before.sockets) × (after.archive ≡ before.archive))
+    ((one : Heard) × (heard ≡ one ∷ []) × SettlesFirst rules given known first before one after)
 
 -- so it is with the first of some logs before they are kept
-abbrev pub Settles : {S P : Type 0} → SocketRules S P → Given → List Log → List Wanted → S → List Heard → S → Database
-    → Database → Type 0
-Settles rules given known [] before heard after old new = (heard ≡ []) × (after ≡ before) × (new ≡ old)
-Settles rules given known (first ∷ more) before heard after old new =
-    SettlesUnless rules given known first before heard after old new
+abbrev pub Settles : {S P : Type 0} → SocketRules S P → Given → List Log → List Wanted → RunPoint S → List Heard
+    → RunPoint S → Type 0
+Settles rules given known [] before heard after =
+    (heard ≡ []) × (after.sockets ≡ before.sockets) × (after.archive ≡ before.archive)
+Settles rules given known (first ∷ more) before heard after =
+    SettlesUnless rules given known first before heard after

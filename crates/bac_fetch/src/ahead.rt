@@ -12,6 +12,7 @@ ghost use Rattle.bac_fetch.specs.Ahead.{OpensAhead, StandsIf, batches_of, id_of}
 ghost use Rattle.bac_hearing.specs.Hearing.{paced};
 ghost use Rattle.bac_fetch.specs.Ahead.{word_beside};
 ghost use Rattle.bac_fetch.specs.Faults.{EndsRun};
+ghost use Rattle.bac_fetch.specs.Points.{knowing, run_point};
 
 use crate::entry::word_of;
 use bac_ahead::{Opening, ask_ahead};
@@ -235,8 +236,8 @@ where
     ensures opens { OverArchive (state A.Store conn.old) (state A.Store conn.new)
         (IfOk result (λ came. OpensAhead (socket_rules S.opens S.closes S.Socket.sends
         S.Socket.receives S.Socket.receives_within) (paced C.reads clock window)
-        (state A.Store conn.old).now.trees known.now heard.now all.now sockets.old came.items
-        sockets.new)) }
+        (knowing known.now heard.now) all.now (run_point sockets.old (state A.Store conn.old).now)
+        came.items sockets.new)) }
     ensures same { OverArchive (state A.Store conn.old) (state A.Store conn.new)
         (OnOk result ((state A.Store conn.new).now ≡ (state A.Store conn.old).now)) }
     ensures quiet { OverArchive (state A.Store conn.old) (state A.Store conn.new)
@@ -246,8 +247,8 @@ where
         S.Socket.receives S.Socket.receives_within) ⊥ ⊥ sockets.new) }
     ensures caused { OverArchive (state A.Store conn.old) (state A.Store conn.new)
         (IfErr result (EndsOpening (socket_rules S.opens S.closes S.Socket.sends S.Socket.receives
-        S.Socket.receives_within) (paced C.reads clock window) (state A.Store conn.old).now.trees
-        known.now heard.now all.now sockets.old sockets.new)) }
+        S.Socket.receives_within) (paced C.reads clock window) (knowing known.now heard.now) all.now
+        (run_point sockets.old (state A.Store conn.old).now) sockets.new)) }
 {
     let [first, ..] = all else {
         return Ok(Vec::new(alloc));

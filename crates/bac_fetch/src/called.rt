@@ -7,10 +7,11 @@ ghost use Rattle.sqlite.specs.Held.{state};
 ghost use Rattle.bac_archive.specs.Schema.{OverArchive};
 ghost use Rattle.bac_asked.specs.Faults.{WantsMemory};
 ghost use Rattle.bac_ports.specs.Sockets.{socket_rules};
-ghost use Rattle.bac_fetch.specs.Ahead.{at_once};
+ghost use Rattle.bac_fetch.specs.Ahead.{at_once, reach};
 ghost use Rattle.bac_fetch.specs.Called.{CallsAhead, CallsOn, EndsCallsAhead, EndsCallsOn};
-ghost use Rattle.bac_fetch.specs.Called.{told_early};
+ghost use Rattle.bac_fetch.specs.Called.{after_call, told_early};
 ghost use Rattle.bac_fetch.specs.Faults.{EndsRun};
+ghost use Rattle.bac_fetch.specs.Points.{knowing, run_point};
 
 use crate::ahead::open_ahead;
 use bac_absent::{Calling, begin_calls, end_calls};
@@ -80,10 +81,10 @@ fn call_on<S: Recalls, C: Clock + Copy, A: Alter>(
 where
     C: Drop,
     ensures calls { OverArchive (state A.Store conn.old) (state A.Store conn.new)
-        (OnOk result (CallsOn (socket_rules S.opens S.closes S.Socket.sends S.Socket.receives
-        S.Socket.receives_within) (at_once S.holds C.reads clock window)
-        (state A.Store conn.old).now.trees known.now all.now heard.old.items calling.entry
-        sockets.old heard.new.items sockets.new)) }
+        (OnOk result (CallsOn (reach (socket_rules S.opens S.closes S.Socket.sends S.Socket.receives
+        S.Socket.receives_within) (at_once S.holds C.reads clock window))
+        (knowing known.now heard.old.items) all.now calling.entry
+        (run_point sockets.old (state A.Store conn.old).now) heard.new.items sockets.new)) }
     ensures same { OverArchive (state A.Store conn.old) (state A.Store conn.new)
         (OnOk result ((state A.Store conn.new).now ≡ (state A.Store conn.old).now)) }
     ensures quiet { OverArchive (state A.Store conn.old) (state A.Store conn.new)
@@ -92,10 +93,10 @@ where
     ensures fault { IfErr result (EndsRun (socket_rules S.opens S.closes S.Socket.sends
         S.Socket.receives S.Socket.receives_within) ⊥ ⊥ sockets.new) }
     ensures caused { OverArchive (state A.Store conn.old) (state A.Store conn.new)
-        (IfErr result (λ fault. WantsMemory fault ⊎ EndsCallsOn (socket_rules S.opens S.closes
-        S.Socket.sends S.Socket.receives S.Socket.receives_within)
-        (at_once S.holds C.reads clock window) (state A.Store conn.old).now.trees known.now all.now
-        heard.old.items calling.entry sockets.old sockets.new fault)) }
+        (IfErr result (λ fault. WantsMemory fault ⊎ EndsCallsOn (reach (socket_rules S.opens
+        S.closes S.Socket.sends S.Socket.receives S.Socket.receives_within)
+        (at_once S.holds C.reads clock window)) (knowing known.now heard.old.items) all.now
+        calling.entry (run_point sockets.old (state A.Store conn.old).now) sockets.new fault)) }
 {
     let told = told_early(all, heard.as_slice());
     let from = told.len();
@@ -121,10 +122,11 @@ pub(crate) fn call_ahead<S: Recalls, C: Clock + Copy, A: Alter>(
 where
     C: Drop,
     ensures calls { OverArchive (state A.Store conn.old) (state A.Store conn.new)
-        (IfOk result (λ called. CallsAhead (socket_rules S.opens S.closes S.Socket.sends
-        S.Socket.receives S.Socket.receives_within) (at_once S.holds C.reads clock window)
-        (state A.Store conn.old).now.trees known.now all.now heard.old.items sockets.old
-        heard.new.items called sockets.new)) }
+        (IfOk result (λ called. CallsAhead (reach (socket_rules S.opens S.closes S.Socket.sends
+        S.Socket.receives S.Socket.receives_within) (at_once S.holds C.reads clock window))
+        (knowing known.now heard.old.items) all.now
+        (run_point sockets.old (state A.Store conn.old).now)
+        (after_call heard.new.items called sockets.new))) }
     ensures same { OverArchive (state A.Store conn.old) (state A.Store conn.new)
         (OnOk result ((state A.Store conn.new).now ≡ (state A.Store conn.old).now)) }
     ensures quiet { OverArchive (state A.Store conn.old) (state A.Store conn.new)
@@ -133,10 +135,10 @@ where
     ensures fault { IfErr result (EndsRun (socket_rules S.opens S.closes S.Socket.sends
         S.Socket.receives S.Socket.receives_within) ⊥ ⊥ sockets.new) }
     ensures caused { OverArchive (state A.Store conn.old) (state A.Store conn.new)
-        (IfErr result (EndsCallsAhead (socket_rules S.opens S.closes S.Socket.sends
-        S.Socket.receives S.Socket.receives_within) (at_once S.holds C.reads clock window)
-        (state A.Store conn.old).now.trees known.now all.now heard.old.items sockets.old
-        sockets.new)) }
+        (IfErr result (EndsCallsAhead (reach (socket_rules S.opens S.closes S.Socket.sends
+        S.Socket.receives S.Socket.receives_within) (at_once S.holds C.reads clock window))
+        (knowing known.now heard.old.items) all.now
+        (run_point sockets.old (state A.Store conn.old).now) sockets.new)) }
 {
     let Some(calling) = begin_calls(sockets, alloc, clock, window, all, heard)? else {
         return Ok(false);

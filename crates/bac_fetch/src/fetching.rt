@@ -11,13 +11,15 @@ ghost use Rattle.bac_query.specs.Tables.{Client, client};
 ghost use Rattle.bac_fetch.specs.Causes.{EndsFetch, LeavesUndone};
 ghost use Rattle.bac_asked.specs.Faults.{FailsOnRows, EndsLog};
 ghost use Rattle.bac_fetch.specs.Faults.{EndsRun, IsNoInstance};
-ghost use Rattle.bac_fetch.specs.Fetched.{ComesFrom};
-ghost use Rattle.bac_fetch.specs.Keeps.{KeepsBegun, KeepsEntered, KeepsFrom, KeepsLog};
+ghost use Rattle.bac_fetch.specs.Fetched.{ComesFrom, footing};
+ghost use Rattle.bac_fetch.specs.Keeps.{KeepsBegun, KeepsEntered, KeepsFrom, KeepsLog, target};
 ghost use Rattle.bac_ahead.specs.Ahead.{trend_log};
 ghost use Rattle.bac_fetch.specs.Keeps.{KeepsOverLink, LeavesWord, Marks};
 ghost use Rattle.bac_fetch.specs.Stays.{HasAllOf, HasSameLogs};
+ghost use Rattle.bac_fetch.specs.Points.{log_point, run_point};
 ghost use Rattle.bac_asked.specs.declared.end.End.{End as EndOf};
-ghost use Rattle.bac_begin.specs.Starts.{IsBegun};
+ghost use Rattle.bac_begin.specs.Starts.{IsBegun, run_log, at_start};
+ghost use Rattle.bac_begin.specs.Hands.{log_asked};
 
 use crate::count::Ahead;
 use crate::ending::{end_of, look_at, mark};
@@ -57,9 +59,9 @@ fn where_to_start<L: LogLink, A: Alter>(
     ensures route { transactions.new.route ≡ transactions.old.route }
     // By the rows of the archive, and by what the device tells over the link, which is left so.
     ensures begun { OverArchive (state A.Store conn.old) (state A.Store conn.new)
-        (IfOk result (IsBegun L.asks (client link.old transactions.old)
-        (client link.new transactions.new) id log many word steps
-        (state A.Store conn.old).now.trees)) }
+        (IfOk result (λ begun. IsBegun L.asks (client link.old transactions.old)
+        (run_log id (log_asked log many)) word steps (state A.Store conn.old).now.trees
+        (at_start begun (client link.new transactions.new)))) }
     ensures same { OverArchive (state A.Store conn.old) (state A.Store conn.new)
         (OnOk result ((state A.Store conn.new).now ≡ (state A.Store conn.old).now)) }
     // Whatever comes of it, nothing is committed.
@@ -129,9 +131,9 @@ fn keep_on<L: LogLink, A: Alter, P: Progress>(
         (state A.Store conn.new).now)) }
     // In replies to the next transactions, which it leaves so.
     ensures came { OverArchive (state A.Store conn.old) (state A.Store conn.new)
-        (IfOk result (ComesFrom L.asks (client link.old transactions.old)
-        (client link.new transactions.new) place free walk step steps
-        (state A.Store conn.old).now (state A.Store conn.new).now)) }
+        (IfOk result (ComesFrom L.asks (log_point (client link.old transactions.old)
+        (state A.Store conn.old).now) (log_point (client link.new transactions.new)
+        (state A.Store conn.new).now) (footing place free walk step) steps)) }
     // Whatever comes of it, what a crash leaves then, or at any moment before, has all that was
     // there, and the same logs.
     ensures stays { OverArchive (state A.Store conn.old) (state A.Store conn.new)
@@ -172,9 +174,9 @@ fn keep_from<L: LogLink, A: Alter, P: Progress>(
     progress: &mut P,
 ) -> Result<End, NotDone>
     ensures kept { OverArchive (state A.Store conn.old) (state A.Store conn.new)
-        (IfOk result (KeepsBegun L.asks (client link.old transactions.old)
-        (client link.new transactions.new) (Ok start) steps (state A.Store conn.old).now
-        (state A.Store conn.new).now)) }
+        (IfOk result (KeepsBegun L.asks (log_point (client link.old transactions.old)
+        (state A.Store conn.old).now) (log_point (client link.new transactions.new)
+        (state A.Store conn.new).now) (Ok start) steps)) }
     // Whatever comes of it, what a crash leaves then, or at any moment before, has all that was
     // there, and the same logs.
     ensures stays { OverArchive (state A.Store conn.old) (state A.Store conn.new)
@@ -236,8 +238,9 @@ fn keep_and_mark<L: LogLink, A: Alter, P: Progress>(
 ) -> Result<End, NotDone>
     ensures kept { OverArchive (state A.Store conn.old) (state A.Store conn.new)
         (IfOk result (λ end. (last : Database)
-        × KeepsBegun L.asks (client link.old transactions.old) (client link.new transactions.new)
-        (Ok start) steps (state A.Store conn.old).now last end
+        × KeepsBegun L.asks (log_point (client link.old transactions.old)
+        (state A.Store conn.old).now) (log_point (client link.new transactions.new) last) (Ok start)
+        steps end
         × Marks start.begins_at end last (state A.Store conn.new).now)) }
     ensures stays { OverArchive (state A.Store conn.old) (state A.Store conn.new)
         (Survives (state A.Store conn.old) (state A.Store conn.new)
@@ -266,9 +269,9 @@ fn keep_entered<L: LogLink, A: Alter, P: Progress>(
     progress: &mut P,
 ) -> Result<End, NotDone>
     ensures kept { OverArchive (state A.Store conn.old) (state A.Store conn.new)
-        (IfOk result (KeepsEntered L.asks (client link.old transactions.old)
-        (client link.new transactions.new) (Ok start) steps entry.now
-        (state A.Store conn.old).now (state A.Store conn.new).now)) }
+        (IfOk result (KeepsEntered L.asks (log_point (client link.old transactions.old)
+        (state A.Store conn.old).now) (log_point (client link.new transactions.new)
+        (state A.Store conn.new).now) (Ok start) steps entry.now)) }
     ensures stays { OverArchive (state A.Store conn.old) (state A.Store conn.new)
         (Survives (state A.Store conn.old) (state A.Store conn.new)
         (HasAllOf (state A.Store conn.old).now.trees)) }
@@ -276,9 +279,9 @@ fn keep_entered<L: LogLink, A: Alter, P: Progress>(
     ensures word { OverArchive (state A.Store conn.old) (state A.Store conn.new)
         (Survives (state A.Store conn.old) (state A.Store conn.new)
         (LeavesWord (state A.Store conn.old).now.trees
-        (λ db. (left : Client L) × (end : EndOf) × KeepsEntered L.asks
-        (client link.old transactions.old) left (Ok start) steps entry.now
-        (state A.Store conn.old).now db end))) }
+        (λ db. (left : Client L) × (end : EndOf) × KeepsEntered L.asks (log_point
+        (client link.old transactions.old) (state A.Store conn.old).now) (log_point left db)
+        (Ok start) steps entry.now end))) }
     ensures clean { HasCleanDisk (state A.Store conn.new) → HasCleanDisk (state A.Store conn.old) }
     ensures fault { IfErr result EndsLog }
     ensures caused { OverArchive (state A.Store conn.old) (state A.Store conn.new)
@@ -304,9 +307,9 @@ fn fetch_over<L: LogLink, A: Alter, P: Progress>(
 ) -> Result<End, NotDone>
     requires { log.kind ≡ 20 }
     ensures kept { OverArchive (state A.Store conn.old) (state A.Store conn.new)
-        (IfOk result (KeepsOverLink L.asks (client link.old transactions.old)
-        (client link.new transactions.new) steps entry.now log many
-        (state A.Store conn.old).now (state A.Store conn.new).now)) }
+        (IfOk result (KeepsOverLink L.asks (log_point (client link.old transactions.old)
+        (state A.Store conn.old).now) (log_point (client link.new transactions.new)
+        (state A.Store conn.new).now) steps (target entry.now log) many)) }
     // Whatever comes of it, what a crash leaves then, or at any moment before, has all that was
     // there.
     ensures stays { OverArchive (state A.Store conn.old) (state A.Store conn.new)
@@ -316,9 +319,9 @@ fn fetch_over<L: LogLink, A: Alter, P: Progress>(
     ensures word { OverArchive (state A.Store conn.old) (state A.Store conn.new)
         (Survives (state A.Store conn.old) (state A.Store conn.new)
         (LeavesWord (state A.Store conn.old).now.trees
-        (λ db. (left : Client L) × (end : EndOf) × KeepsOverLink L.asks
-        (client link.old transactions.old) left steps entry.now log many
-        (state A.Store conn.old).now db end))) }
+        (λ db. (left : Client L) × (end : EndOf) × KeepsOverLink L.asks (log_point
+        (client link.old transactions.old) (state A.Store conn.old).now) (log_point left db) steps
+        (target entry.now log) many end))) }
     ensures clean { HasCleanDisk (state A.Store conn.new) → HasCleanDisk (state A.Store conn.old) }
     ensures fault { IfErr result EndsLog }
     ensures caused { OverArchive (state A.Store conn.old) (state A.Store conn.new)
@@ -362,9 +365,9 @@ pub(crate) fn fetch<S: Sockets, A: Alter, P: Progress>(
     // socket that was opened as asked, from the device that is asked, and closed behind it.
     ensures kept { OverArchive (state A.Store conn.old) (state A.Store conn.new)
         (IfOk result (KeepsLog (socket_rules S.opens S.closes S.Socket.sends S.Socket.receives
-        S.Socket.receives_within) asking sockets.old sockets.new entry.now
-        (trend_log entry.now.row.source.instance) (state A.Store conn.old).now
-        (state A.Store conn.new).now)) }
+        S.Socket.receives_within) asking (run_point sockets.old (state A.Store conn.old).now)
+        (run_point sockets.new (state A.Store conn.new).now)
+        (target entry.now (trend_log entry.now.row.source.instance)))) }
     // Whatever comes of it, what a crash leaves then, or at any moment before, has all that was
     // there.
     ensures stays { OverArchive (state A.Store conn.old) (state A.Store conn.new)

@@ -11,6 +11,7 @@ ghost use Rattle.bac_fetch.specs.Causes.{EndsAll, EndsNext};
 ghost use Rattle.bac_fetch.specs.Faults.{EndsRun, HasNoInstance, IsNoInstance};
 ghost use Rattle.bac_fetch.specs.Keeps.{AreToldBy, IsToldBy, KeepsAll, KeepsNext};
 ghost use Rattle.bac_fetch.specs.Stays.{HasAllOf, LeavesBehind};
+ghost use Rattle.bac_fetch.specs.Points.{knowing, run_point};
 ghost use Rattle.bac_questions.specs.declared.whose.Heard.{Heard as HeardOf};
 
 use crate::group::{end_group, end_if_due, end_unopened};
@@ -48,9 +49,9 @@ fn keep_grouped<S: Heeds, A: Alter, O: Write, E: Write>(
         (append_known (O.contents output.new) lines.new.items)
         wanted.source (λ end. OverArchive (state A.Store conn.old) (state A.Store conn.new)
         (KeepsNext (socket_rules S.opens S.closes S.Socket.sends S.Socket.receives
-        S.Socket.receives_within) known.now heard.old.items heard.new.items wanted
-        sockets.old sockets.new (state A.Store conn.old).now
-        (state A.Store conn.new).now end))) }
+        S.Socket.receives_within) (knowing known.now heard.old.items) heard.new.items wanted
+        (run_point sockets.old (state A.Store conn.old).now)
+        (run_point sockets.new (state A.Store conn.new).now) end))) }
     ensures stays { OverArchive (state A.Store conn.old) (state A.Store conn.new)
         (Survives (state A.Store conn.old) (state A.Store conn.new)
         (HasAllOf (state A.Store conn.old).now.trees)) }
@@ -64,8 +65,8 @@ fn keep_grouped<S: Heeds, A: Alter, O: Write, E: Write>(
         (state A.Store conn.new) (λ trees. trees ≡ (state A.Store conn.old).now.trees))) }
     ensures caused { OverArchive (state A.Store conn.old) (state A.Store conn.new)
         (IfErr result (EndsNext (socket_rules S.opens S.closes S.Socket.sends S.Socket.receives
-        S.Socket.receives_within) known.now heard.old.items wanted
-        (state A.Store conn.old).now.trees sockets.old sockets.new)) }
+        S.Socket.receives_within) (knowing known.now heard.old.items) wanted
+        (run_point sockets.old (state A.Store conn.old).now) sockets.new)) }
 {
     let status = match keep_next(
         sockets, conn, alloc, known, at, heard, wanted, called, site, lines, errors,
@@ -100,9 +101,9 @@ where
     ensures told { IfOk result (AreToldBy (O.contents output.old) (O.contents output.new) all.items
         (λ ends. OverArchive (state A.Store conn.old) (state A.Store conn.new)
         ((last : List HeardOf) × KeepsAll (socket_rules S.opens S.closes S.Socket.sends
-        S.Socket.receives S.Socket.receives_within) known.now heard.items last
-        all.items sockets.old sockets.new (state A.Store conn.old).now
-        (state A.Store conn.new).now ends))) }
+        S.Socket.receives S.Socket.receives_within) (knowing known.now heard.items) last all.items
+        (run_point sockets.old (state A.Store conn.old).now)
+        (run_point sockets.new (state A.Store conn.new).now) ends))) }
     ensures stays { OverArchive (state A.Store conn.old) (state A.Store conn.new)
         (Survives (state A.Store conn.old) (state A.Store conn.new)
         (HasAllOf (state A.Store conn.old).now.trees)) }
@@ -115,8 +116,8 @@ where
     ensures caused { OverArchive (state A.Store conn.old) (state A.Store conn.new)
         (IfErr result (λ fault. LeavesBehind (state A.Store conn.old) (state A.Store conn.new)
         (λ left. EndsAll (socket_rules S.opens S.closes S.Socket.sends S.Socket.receives
-        S.Socket.receives_within) known.now heard.items all.items sockets.old sockets.new
-        (state A.Store conn.old).now left fault))) }
+        S.Socket.receives_within) (knowing known.now heard.items) all.items
+        (run_point sockets.old (state A.Store conn.old).now) sockets.new left fault))) }
 {
     // Of no logs nothing is kept, and nothing waits.
     if all.is_empty() {

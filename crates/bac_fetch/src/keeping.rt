@@ -7,7 +7,7 @@ ghost use Rattle.sqlite.specs.State.{HasCleanDisk, Survives};
 ghost use Rattle.sqlite.specs.Held.{state};
 ghost use Rattle.bac_archive.specs.Schema.{OverArchive, HasArchive};
 ghost use Rattle.bac_archive.specs.Logs.{AreLogs};
-ghost use Rattle.bac_fetch.specs.Ahead.{at_once};
+ghost use Rattle.bac_fetch.specs.Ahead.{at_once, reach};
 ghost use Rattle.bac_fetch.specs.Beside.{IsAskedWith};
 ghost use Rattle.bac_ports.specs.Sockets.{socket_rules};
 ghost use Rattle.bac_asked.specs.Faults.{WantsMemory, FailsOnRows, EndsLog};
@@ -19,11 +19,12 @@ ghost use Rattle.bac_fetch.specs.Keeps.{AreToldBehind, AreToldBy, KeepsLogs, Kee
 ghost use Rattle.bac_fetch.specs.Moves.{Settles};
 ghost use Rattle.bac_archive.specs.declared.trend_logs.Log.{Log as LogOf};
 ghost use Rattle.bac_fetch.specs.Chosen.{AreFound, AreChosen, AreKeptLogs, AskTheirSources};
-ghost use Rattle.bac_fetch.specs.Chosen.{Finds, not_stopped};
+ghost use Rattle.bac_fetch.specs.Chosen.{Finds, findings, not_stopped, selection};
 ghost use Rattle.bac_fetch.specs.declared.unlisted.Unlisted.{Unlisted as UnlistedOf};
 ghost use Rattle.bac_asked.specs.AsLog.{given_in};
 ghost use Rattle.bac_asked.specs.Wanted.{AsksItsSource, HasNoAddress, IsNameless};
 ghost use Rattle.bac_fetch.specs.Stays.{HasAllOf, Leaves};
+ghost use Rattle.bac_fetch.specs.Points.{run_point, scene};
 ghost use Rattle.bac_asked.specs.declared.wanted.Wanted.{Wanted as WantedOf};
 
 use crate::beside::kept_beside;
@@ -160,9 +161,10 @@ where
     C: Drop,
     ensures told { IfOk result (AreToldBy (O.contents output.old) (O.contents output.new) all.items
         (λ ends. OverArchive (state A.Store conn.old) (state A.Store conn.new)
-        (KeepsSettled (socket_rules S.opens S.closes S.Socket.sends S.Socket.receives
-        S.Socket.receives_within) (at_once S.holds C.reads clock window) heard.items all.items
-        sockets.old sockets.new (state A.Store conn.old).now (state A.Store conn.new).now ends))) }
+        (KeepsSettled (reach (socket_rules S.opens S.closes S.Socket.sends S.Socket.receives
+        S.Socket.receives_within) (at_once S.holds C.reads clock window)) heard.items all.items
+        (run_point sockets.old (state A.Store conn.old).now)
+        (run_point sockets.new (state A.Store conn.new).now) ends))) }
     ensures stays { OverArchive (state A.Store conn.old) (state A.Store conn.new)
         (Survives (state A.Store conn.old) (state A.Store conn.new)
         (HasAllOf (state A.Store conn.old).now.trees)) }
@@ -174,9 +176,9 @@ where
         sockets.new) }
     ensures caused { OverArchive (state A.Store conn.old) (state A.Store conn.new)
         (IfErr result (λ fault. Leaves (state A.Store conn.old) (state A.Store conn.new)
-        (λ left. EndsSettled (socket_rules S.opens S.closes S.Socket.sends S.Socket.receives
-        S.Socket.receives_within) (at_once S.holds C.reads clock window) heard.items all.items
-        sockets.old sockets.new (state A.Store conn.old).now left fault))) }
+        (λ left. EndsSettled (reach (socket_rules S.opens S.closes S.Socket.sends S.Socket.receives
+        S.Socket.receives_within) (at_once S.holds C.reads clock window)) heard.items all.items
+        (run_point sockets.old (state A.Store conn.old).now) sockets.new left fault))) }
 {
     let known = logs_of(conn, alloc)?;
     let logs = known.as_slice();
@@ -209,8 +211,9 @@ fn settle_known<S: Sockets, A: Alter, E: Write>(
         (IfOk result (λ heard. (known : List LogOf)
         × AreLogs (state A.Store conn.old).now.trees known
         × Settles (socket_rules S.opens S.closes S.Socket.sends S.Socket.receives
-        S.Socket.receives_within) (given_in options.now) known all.now sockets.old heard.items
-        sockets.new (state A.Store conn.old).now (state A.Store conn.new).now)) }
+        S.Socket.receives_within) (given_in options.now) known all.now
+        (run_point sockets.old (state A.Store conn.old).now) heard.items
+        (run_point sockets.new (state A.Store conn.new).now))) }
     // Nothing waits for a commit, unless something did before.
     ensures committed { OverArchive (state A.Store conn.old) (state A.Store conn.new)
         ((state A.Store conn.old).committed ≡ (state A.Store conn.old).now
@@ -227,8 +230,8 @@ fn settle_known<S: Sockets, A: Alter, E: Write>(
     ensures caused { OverArchive (state A.Store conn.old) (state A.Store conn.new)
         (IfErr result (λ fault. Leaves (state A.Store conn.old) (state A.Store conn.new)
         (λ left. FailsToSettle (socket_rules S.opens S.closes S.Socket.sends S.Socket.receives
-        S.Socket.receives_within) (given_in options.now) all.now sockets.old sockets.new
-        (state A.Store conn.old).now left fault))) }
+        S.Socket.receives_within) (given_in options.now) all.now
+        (run_point sockets.old (state A.Store conn.old).now) sockets.new left fault))) }
 {
     let known = logs_of(conn, alloc)?;
     settle(sockets, conn, alloc, known.as_slice(), all, options, errors)
@@ -267,10 +270,10 @@ where
     // device gave no answer before.
     ensures told { IfOk result (AreToldBy (O.contents output.old) (O.contents output.new) all.items
         (λ ends. OverArchive (state A.Store conn.old) (state A.Store conn.new)
-        (KeepsLogs (socket_rules S.opens S.closes S.Socket.sends S.Socket.receives
-        S.Socket.receives_within) (at_once S.holds C.reads clock window) (given_in options.now)
-        all.items sockets.old sockets.new (state A.Store conn.old).now
-        (state A.Store conn.new).now ends))) }
+        (KeepsLogs (reach (socket_rules S.opens S.closes S.Socket.sends S.Socket.receives
+        S.Socket.receives_within) (at_once S.holds C.reads clock window)) (given_in options.now)
+        all.items (run_point sockets.old (state A.Store conn.old).now)
+        (run_point sockets.new (state A.Store conn.new).now) ends))) }
     // Whatever comes of it, no item, no beginning and no log is lost: what is on the disk then, or
     // is left by a crash at any moment before, is what was there or has all of it.
     ensures stays { OverArchive (state A.Store conn.old) (state A.Store conn.new)
@@ -287,9 +290,9 @@ where
         sockets.new) }
     ensures caused { OverArchive (state A.Store conn.old) (state A.Store conn.new)
         (IfErr result (λ fault. Leaves (state A.Store conn.old) (state A.Store conn.new)
-        (λ left. EndsLogs (socket_rules S.opens S.closes S.Socket.sends S.Socket.receives
-        S.Socket.receives_within) (at_once S.holds C.reads clock window) (given_in options.now)
-        all.items sockets.old sockets.new (state A.Store conn.old).now left fault))) }
+        (λ left. EndsLogs (reach (socket_rules S.opens S.closes S.Socket.sends S.Socket.receives
+        S.Socket.receives_within) (at_once S.holds C.reads clock window)) (given_in options.now)
+        all.items (run_point sockets.old (state A.Store conn.old).now) sockets.new left fault))) }
 {
     let heard = settle_known(sockets, conn, alloc, all.as_slice(), options, errors)?;
     keep_settled(
@@ -319,10 +322,10 @@ where
         (state A.Store conn.old).now.trees found.all.items)) }
     // Those of a file are one at least, those of a device those that are named, or those of its
     // Object_List, and no socket is opened for others.
-    ensures found { IfOk result (λ found. Finds
-        (socket_rules S.opens S.closes S.Socket.sends S.Socket.receives
-        S.Socket.receives_within) (at_once S.holds C.reads clock window) chosen sockets.old
-        (O.contents output.old) found sockets.new (O.contents output.new)) }
+    ensures found { IfOk result (λ found. Finds (reach (socket_rules S.opens S.closes S.Socket.sends
+        S.Socket.receives S.Socket.receives_within) (at_once S.holds C.reads clock window)) chosen
+        (scene sockets.old (O.contents output.old)) found
+        (scene sockets.new (O.contents output.new))) }
     ensures same { OverArchive (state A.Store conn.old) (state A.Store conn.new)
         (OnOk result ((state A.Store conn.new).now ≡ (state A.Store conn.old).now)) }
     // Whatever comes of it, nothing is committed.
@@ -332,9 +335,8 @@ where
     ensures crash { HasArchive (state A.Store conn.old).now.schema
         → Survives (state A.Store conn.old) (state A.Store conn.new) (λ _. ⊥) }
     ensures clean { HasCleanDisk (state A.Store conn.new) → HasCleanDisk (state A.Store conn.old) }
-    ensures fault { IfErr result (EndsChosen
-        (socket_rules S.opens S.closes S.Socket.sends S.Socket.receives
-        S.Socket.receives_within) (at_once S.holds C.reads clock window) chosen
+    ensures fault { IfErr result (EndsChosen (reach (socket_rules S.opens S.closes S.Socket.sends
+        S.Socket.receives S.Socket.receives_within) (at_once S.holds C.reads clock window)) chosen
         (OverArchive (state A.Store conn.old) (state A.Store conn.new)
         (HasNone (state A.Store conn.old).now.trees))
         (OverArchive (state A.Store conn.old) (state A.Store conn.new)
@@ -373,16 +375,17 @@ where
     // They are asked of the devices under which they are kept.
     ensures told { IfOk result (λ status. (all : List WantedOf)
         × (unlisted : List UnlistedOf) × (between : S)
-        × All AsksItsSource all × AreFound (socket_rules S.opens S.closes S.Socket.sends
-        S.Socket.receives S.Socket.receives_within) (at_once S.holds C.reads clock window) chosen
-        sockets.old all unlisted between
+        × All AsksItsSource all × AreFound (reach (socket_rules S.opens S.closes S.Socket.sends
+        S.Socket.receives S.Socket.receives_within) (at_once S.holds C.reads clock window)) chosen
+        sockets.old (findings all unlisted between)
         × (OverArchive (state A.Store conn.old) (state A.Store conn.new)
         (AreChosen (given_in options.now) chosen (state A.Store conn.old).now.trees all))
         × AreToldBehind (O.contents output.old) (O.contents output.new) unlisted all
         (λ ends. OverArchive (state A.Store conn.old) (state A.Store conn.new)
-        (KeepsLogs (socket_rules S.opens S.closes S.Socket.sends S.Socket.receives
-        S.Socket.receives_within) (at_once S.holds C.reads clock window) (given_in options.now)
-        all between sockets.new (state A.Store conn.old).now (state A.Store conn.new).now ends))
+        (KeepsLogs (reach (socket_rules S.opens S.closes S.Socket.sends S.Socket.receives
+        S.Socket.receives_within) (at_once S.holds C.reads clock window)) (given_in options.now)
+        all (run_point between (state A.Store conn.old).now)
+        (run_point sockets.new (state A.Store conn.new).now) ends))
         status) }
     // Whatever comes of it, no item, no beginning and no log is lost.
     ensures stays { OverArchive (state A.Store conn.old) (state A.Store conn.new)
@@ -390,9 +393,8 @@ where
         (HasAllOf (state A.Store conn.old).now.trees)) }
     ensures clean { HasCleanDisk (state A.Store conn.new) → HasCleanDisk (state A.Store conn.old) }
     // Or their names aren't found, or the run over them ends before that.
-    ensures fault { IfErr result (EndsKeeping
-        (socket_rules S.opens S.closes S.Socket.sends S.Socket.receives
-        S.Socket.receives_within) (at_once S.holds C.reads clock window) chosen
+    ensures fault { IfErr result (EndsKeeping (reach (socket_rules S.opens S.closes S.Socket.sends
+        S.Socket.receives S.Socket.receives_within) (at_once S.holds C.reads clock window)) chosen
         (OverArchive (state A.Store conn.old) (state A.Store conn.new)
         (HasNone (state A.Store conn.old).now.trees))
         (OverArchive (state A.Store conn.old) (state A.Store conn.new)
@@ -400,9 +402,10 @@ where
         sockets.old sockets.new) }
     ensures caused { OverArchive (state A.Store conn.old) (state A.Store conn.new)
         (IfErr result (λ fault. Leaves (state A.Store conn.old) (state A.Store conn.new)
-        (λ left. EndsRunOver (socket_rules S.opens S.closes S.Socket.sends S.Socket.receives
-        S.Socket.receives_within) (at_once S.holds C.reads clock window) (given_in options.now)
-        chosen sockets.old sockets.new (state A.Store conn.old).now left fault))) }
+        (λ left. EndsRunOver (reach (socket_rules S.opens S.closes S.Socket.sends S.Socket.receives
+        S.Socket.receives_within) (at_once S.holds C.reads clock window))
+        (selection (given_in options.now) chosen)
+        (run_point sockets.old (state A.Store conn.old).now) sockets.new left fault))) }
 {
     let found = chosen_logs(
         sockets, conn, alloc, clock, window, chosen, options, output, errors,

@@ -2,7 +2,7 @@
 
 ghost use Rattle.std.specs.Prelude.{◌≡◌, IfErr, IfOk, OnOk, map};
 ghost use Rattle.bac_asked.specs.Faults.{WantsMemory};
-ghost use Rattle.bac_fetch.specs.Ahead.{at_once};
+ghost use Rattle.bac_fetch.specs.Ahead.{at_once, reach};
 ghost use Rattle.bac_fetch.specs.Listed.{EndsHolding, HoldsLists, devices_of, was_silent};
 ghost use Rattle.bac_fetch.specs.Listed.{with_sought};
 ghost use Rattle.bac_ports.specs.Sockets.{socket_rules};
@@ -65,9 +65,9 @@ pub(crate) fn hold_lists<S: Recalls, C: Clock>(
 ) -> Result<Vec<Source>, NotDone>
 where
     C: Drop,
-    ensures holds { IfOk result (λ silent. HoldsLists (socket_rules S.opens S.closes S.Socket.sends
-        S.Socket.receives S.Socket.receives_within) (at_once S.holds C.reads clock window)
-        sought.now sockets.old silent.items sockets.new) }
+    ensures holds { IfOk result (λ silent. HoldsLists (reach (socket_rules S.opens S.closes
+        S.Socket.sends S.Socket.receives S.Socket.receives_within)
+        (at_once S.holds C.reads clock window)) sought.now sockets.old silent.items sockets.new) }
     ensures fault { IfErr result (EndsHolding (socket_rules S.opens S.closes S.Socket.sends
         S.Socket.receives S.Socket.receives_within) sought.now sockets.old sockets.new) }
 {

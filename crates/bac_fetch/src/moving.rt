@@ -16,10 +16,11 @@ ghost use Rattle.bac_fetch.specs.Causes.{EndsFirst, EndsMoving, EndsSettling, En
 ghost use Rattle.bac_fetch.specs.Causes.{LeavesUnsettled};
 ghost use Rattle.bac_fetch.specs.Faults.{EndsRun, HaveNoAddress};
 ghost use Rattle.bac_fetch.specs.Moves.{AreMoved, AsksThere, IsAskedThere, IsElsewhere, Settles};
-ghost use Rattle.bac_fetch.specs.Moves.{SettlesBy, SettlesFirst, SettlesUnless, is_placed};
+ghost use Rattle.bac_fetch.specs.Moves.{SettlesBy, SettlesFirst, SettlesUnless, arrival, is_placed};
 ghost use Rattle.bac_fetch.specs.Moves.{moved_columns, moved_of};
 ghost use Rattle.bac_questions.specs.Said.{Identifies};
 ghost use Rattle.bac_fetch.specs.Stays.{HasAllOf, Leaves};
+ghost use Rattle.bac_fetch.specs.Points.{run_point};
 ghost use Rattle.bac_questions.specs.declared.whose.Heard.{Heard as HeardOf};
 
 use bac_archive::{Log, Source, Told, change_logs};
@@ -208,17 +209,18 @@ fn settle_from<S: Sockets, A: Alter, E: Write>(
 ) -> Result<(), NotDone>
     ensures settled { OverArchive (state A.Store conn.old) (state A.Store conn.new)
         (OnOk result (AsksThere (socket_rules S.opens S.closes S.Socket.sends S.Socket.receives
-        S.Socket.receives_within) (given_in options.now) device from.now to.now known.now
-        sockets.old sockets.new (state A.Store conn.old).now (state A.Store conn.new).now)) }
+        S.Socket.receives_within) (given_in options.now) from.now (arrival device to.now) known.now
+        (run_point sockets.old (state A.Store conn.old).now)
+        (run_point sockets.new (state A.Store conn.new).now))) }
     ensures committed { OverArchive (state A.Store conn.old) (state A.Store conn.new)
         ((state A.Store conn.old).committed ≡ (state A.Store conn.old).now
         → OnOk result ((state A.Store conn.new).committed ≡ (state A.Store conn.new).now)) }
     ensures left { OverArchive (state A.Store conn.old) (state A.Store conn.new)
         (IfErr result (λ fault. Leaves (state A.Store conn.old) (state A.Store conn.new)
-        (λ left. LeavesUnsettled (AsksThere (socket_rules S.opens S.closes
-        S.Socket.sends S.Socket.receives S.Socket.receives_within) (given_in options.now) device
-        from.now to.now known.now sockets.old sockets.new (state A.Store conn.old).now)
-        (state A.Store conn.old).now.trees left fault))) }
+        (λ left. LeavesUnsettled (λ db. AsksThere (socket_rules S.opens S.closes S.Socket.sends
+        S.Socket.receives S.Socket.receives_within) (given_in options.now) from.now
+        (arrival device to.now) known.now (run_point sockets.old (state A.Store conn.old).now)
+        (run_point sockets.new db)) (state A.Store conn.old).now.trees left fault))) }
     ensures stays { HasArchive (state A.Store conn.old).now.schema
         → Survives (state A.Store conn.old) (state A.Store conn.new)
         (HasAllOf (state A.Store conn.old).now.trees) }
@@ -251,16 +253,17 @@ fn settle_by<S: Sockets, A: Alter, E: Write>(
 ) -> Result<(), NotDone>
     ensures settled { OverArchive (state A.Store conn.old) (state A.Store conn.new)
         (OnOk result (SettlesBy (socket_rules S.opens S.closes S.Socket.sends S.Socket.receives
-        S.Socket.receives_within) (given_in options.now) known.now to.now identity sockets.old
-        sockets.new (state A.Store conn.old).now (state A.Store conn.new).now)) }
+        S.Socket.receives_within) (given_in options.now) known.now to.now identity
+        (run_point sockets.old (state A.Store conn.old).now)
+        (run_point sockets.new (state A.Store conn.new).now))) }
     ensures committed { OverArchive (state A.Store conn.old) (state A.Store conn.new)
         ((state A.Store conn.old).committed ≡ (state A.Store conn.old).now
         → OnOk result ((state A.Store conn.new).committed ≡ (state A.Store conn.new).now)) }
     ensures left { OverArchive (state A.Store conn.old) (state A.Store conn.new)
         (IfErr result (λ fault. Leaves (state A.Store conn.old) (state A.Store conn.new)
-        (λ left. LeavesUnsettled (SettlesBy (socket_rules S.opens S.closes
-        S.Socket.sends S.Socket.receives S.Socket.receives_within) (given_in options.now) known.now
-        to.now identity sockets.old sockets.new (state A.Store conn.old).now)
+        (λ left. LeavesUnsettled (λ db. SettlesBy (socket_rules S.opens S.closes S.Socket.sends
+        S.Socket.receives S.Socket.receives_within) (given_in options.now) known.now to.now identity
+        (run_point sockets.old (state A.Store conn.old).now) (run_point sockets.new db))
         (state A.Store conn.old).now.trees left fault))) }
     ensures stays { HasArchive (state A.Store conn.old).now.schema
         → Survives (state A.Store conn.old) (state A.Store conn.new)
@@ -271,7 +274,7 @@ fn settle_by<S: Sockets, A: Alter, E: Write>(
         (HaveNoAddress (given_in options.now) known.now) sockets.new) }
     ensures caused { IfErr result (λ fault. (device : ℕ) × (identity ≡ Identity.Told device)
         × EndsMoving (socket_rules S.opens S.closes S.Socket.sends S.Socket.receives
-        S.Socket.receives_within) (given_in options.now) known.now to.now device
+        S.Socket.receives_within) (given_in options.now) known.now (arrival device to.now)
         sockets.old sockets.new fault) }
 {
     let Identity::Told(device) = identity else {
@@ -306,18 +309,17 @@ fn settle_first<S: Sockets, A: Alter, E: Write>(
     ensures settled { OverArchive (state A.Store conn.old) (state A.Store conn.new)
         (IfOk result (λ one. SettlesFirst (socket_rules S.opens S.closes S.Socket.sends
         S.Socket.receives S.Socket.receives_within) (given_in options.now) known.now first.now
-        sockets.old one sockets.new (state A.Store conn.old).now
-        (state A.Store conn.new).now)) }
+        (run_point sockets.old (state A.Store conn.old).now) one
+        (run_point sockets.new (state A.Store conn.new).now))) }
     ensures committed { OverArchive (state A.Store conn.old) (state A.Store conn.new)
         ((state A.Store conn.old).committed ≡ (state A.Store conn.old).now
         → OnOk result ((state A.Store conn.new).committed ≡ (state A.Store conn.new).now)) }
     ensures left { OverArchive (state A.Store conn.old) (state A.Store conn.new)
         (IfErr result (λ fault. Leaves (state A.Store conn.old) (state A.Store conn.new)
-        (λ left. LeavesUnsettled (λ db. (one : HeardOf) × SettlesFirst (socket_rules
-        S.opens S.closes S.Socket.sends S.Socket.receives S.Socket.receives_within)
-        (given_in options.now) known.now first.now sockets.old one sockets.new
-        (state A.Store conn.old).now db)
-        (state A.Store conn.old).now.trees left fault))) }
+        (λ left. LeavesUnsettled (λ db. (one : HeardOf) × SettlesFirst (socket_rules S.opens
+        S.closes S.Socket.sends S.Socket.receives S.Socket.receives_within) (given_in options.now)
+        known.now first.now (run_point sockets.old (state A.Store conn.old).now) one
+        (run_point sockets.new db)) (state A.Store conn.old).now.trees left fault))) }
     ensures stays { HasArchive (state A.Store conn.old).now.schema
         → Survives (state A.Store conn.old) (state A.Store conn.new)
         (HasAllOf (state A.Store conn.old).now.trees) }
@@ -363,18 +365,17 @@ fn settle_unless<S: Sockets, A: Alter, E: Write>(
     ensures settled { OverArchive (state A.Store conn.old) (state A.Store conn.new)
         (IfOk result (λ heard. SettlesUnless (socket_rules S.opens S.closes S.Socket.sends
         S.Socket.receives S.Socket.receives_within) (given_in options.now) known.now first.now
-        sockets.old heard.items sockets.new (state A.Store conn.old).now
-        (state A.Store conn.new).now)) }
+        (run_point sockets.old (state A.Store conn.old).now) heard.items
+        (run_point sockets.new (state A.Store conn.new).now))) }
     ensures committed { OverArchive (state A.Store conn.old) (state A.Store conn.new)
         ((state A.Store conn.old).committed ≡ (state A.Store conn.old).now
         → OnOk result ((state A.Store conn.new).committed ≡ (state A.Store conn.new).now)) }
     ensures left { OverArchive (state A.Store conn.old) (state A.Store conn.new)
         (IfErr result (λ fault. Leaves (state A.Store conn.old) (state A.Store conn.new)
-        (λ left. LeavesUnsettled (λ db. (heard : List HeardOf) × SettlesUnless
-        (socket_rules S.opens S.closes S.Socket.sends S.Socket.receives S.Socket.receives_within)
-        (given_in options.now) known.now first.now sockets.old heard sockets.new
-        (state A.Store conn.old).now db)
-        (state A.Store conn.old).now.trees left fault))) }
+        (λ left. LeavesUnsettled (λ db. (heard : List HeardOf) × SettlesUnless (socket_rules S.opens
+        S.closes S.Socket.sends S.Socket.receives S.Socket.receives_within) (given_in options.now)
+        known.now first.now (run_point sockets.old (state A.Store conn.old).now) heard
+        (run_point sockets.new db)) (state A.Store conn.old).now.trees left fault))) }
     ensures stays { HasArchive (state A.Store conn.old).now.schema
         → Survives (state A.Store conn.old) (state A.Store conn.new)
         (HasAllOf (state A.Store conn.old).now.trees) }
@@ -413,8 +414,8 @@ pub(crate) fn settle<S: Sockets, A: Alter, E: Write>(
     ensures settled { OverArchive (state A.Store conn.old) (state A.Store conn.new)
         (IfOk result (λ heard. Settles (socket_rules S.opens S.closes S.Socket.sends
         S.Socket.receives S.Socket.receives_within) (given_in options.now) known.now all.now
-        sockets.old heard.items sockets.new (state A.Store conn.old).now
-        (state A.Store conn.new).now)) }
+        (run_point sockets.old (state A.Store conn.old).now) heard.items
+        (run_point sockets.new (state A.Store conn.new).now))) }
     // Nothing waits for a commit, unless something did before.
     ensures committed { OverArchive (state A.Store conn.old) (state A.Store conn.new)
         ((state A.Store conn.old).committed ≡ (state A.Store conn.old).now
@@ -422,11 +423,10 @@ pub(crate) fn settle<S: Sockets, A: Alter, E: Write>(
     // After an error all is as it was, unless memory was wanting when it was settled.
     ensures left { OverArchive (state A.Store conn.old) (state A.Store conn.new)
         (IfErr result (λ fault. Leaves (state A.Store conn.old) (state A.Store conn.new)
-        (λ left. LeavesUnsettled (λ db. (heard : List HeardOf) × Settles
-        (socket_rules S.opens S.closes S.Socket.sends S.Socket.receives S.Socket.receives_within)
-        (given_in options.now) known.now all.now sockets.old heard sockets.new
-        (state A.Store conn.old).now db)
-        (state A.Store conn.old).now.trees left fault))) }
+        (λ left. LeavesUnsettled (λ db. (heard : List HeardOf) × Settles (socket_rules S.opens
+        S.closes S.Socket.sends S.Socket.receives S.Socket.receives_within) (given_in options.now)
+        known.now all.now (run_point sockets.old (state A.Store conn.old).now) heard
+        (run_point sockets.new db)) (state A.Store conn.old).now.trees left fault))) }
     ensures stays { HasArchive (state A.Store conn.old).now.schema
         → Survives (state A.Store conn.old) (state A.Store conn.new)
         (HasAllOf (state A.Store conn.old).now.trees) }

@@ -11,13 +11,14 @@ ghost use Rattle.bac_asked.specs.Lines.{summary_line};
 ghost use Rattle.bac_ports.specs.Sockets.{socket_rules};
 ghost use Rattle.bac_fetch.specs.Causes.{EndsAmong, EndsFetch, EndsNext, EndsOne, LeavesUndone};
 ghost use Rattle.bac_fetch.specs.Faults.{EndsRun, IsNoInstance};
-ghost use Rattle.bac_fetch.specs.Keeps.{IsRowOf, IsToldBy, KeepsHeard, KeepsLog, KeepsNext};
+ghost use Rattle.bac_fetch.specs.Keeps.{IsRowOf, IsToldBy, KeepsHeard, KeepsLog, KeepsNext, target};
 ghost use Rattle.bac_ahead.specs.Ahead.{trend_log};
-ghost use Rattle.bac_fetch.specs.Keeps.{KeepsUnless};
+ghost use Rattle.bac_fetch.specs.Keeps.{KeepsUnless, introduced};
 ghost use Rattle.bac_fetch.specs.Entries.{IsEntry};
 ghost use Rattle.bac_questions.specs.Whose.{heard_with};
 ghost use Rattle.bac_fetch.specs.declared.entry.Entry.{Entry as EntryOf};
 ghost use Rattle.bac_fetch.specs.Stays.{HasAllOf};
+ghost use Rattle.bac_fetch.specs.Points.{knowing, run_point};
 
 use crate::count::Count;
 use crate::entry::{Entry, enter};
@@ -70,9 +71,9 @@ fn fetch_told<S: Heeds, A: Alter, O: Write, E: Write>(
 ) -> Result<End, NotDone>
     ensures kept { OverArchive (state A.Store conn.old) (state A.Store conn.new)
         (IfOk result (KeepsLog (socket_rules S.opens S.closes S.Socket.sends S.Socket.receives
-        S.Socket.receives_within) asking sockets.old sockets.new entry.now
-        (trend_log entry.now.row.source.instance) (state A.Store conn.old).now
-        (state A.Store conn.new).now)) }
+        S.Socket.receives_within) asking (run_point sockets.old (state A.Store conn.old).now)
+        (run_point sockets.new (state A.Store conn.new).now)
+        (target entry.now (trend_log entry.now.row.source.instance)))) }
     ensures printed { IfOk result (λ end. Appends (O.contents output.old) (O.contents output.new)
         (summary_line entry.now.row.source end)) }
     ensures stays { OverArchive (state A.Store conn.old) (state A.Store conn.new)
@@ -132,9 +133,9 @@ fn keep_one<S: Heeds, A: Alter, O: Write, E: Write>(
         (option_map (λ it. it.now) log.entry) said.told entry
         × IsRowOf wanted said.told entry.row
         × KeepsLog (socket_rules S.opens S.closes S.Socket.sends S.Socket.receives
-        S.Socket.receives_within) wanted.asking sockets.old sockets.new
-        entry (trend_log wanted.source.instance) (state A.Store conn.old).now
-        (state A.Store conn.new).now end)))) }
+        S.Socket.receives_within) wanted.asking (run_point sockets.old (state A.Store conn.old).now)
+        (run_point sockets.new (state A.Store conn.new).now)
+        (target entry (trend_log wanted.source.instance)) end)))) }
     // Whatever comes of it, no item, no beginning and no log is lost: what is on the disk then, or
     // is left by a crash at any moment before, is what was there or has all of it.
     ensures stays { OverArchive (state A.Store conn.old) (state A.Store conn.new)
@@ -190,9 +191,9 @@ fn keep_unless<S: Heeds, A: Alter, O: Write, E: Write>(
         ≡ heard_with heard.old.items wanted.source said end.why)
         × (OverArchive (state A.Store conn.old) (state A.Store conn.new)
         (KeepsUnless (socket_rules S.opens S.closes S.Socket.sends S.Socket.receives
-        S.Socket.receives_within) known.now wanted said.told why sockets.old
-        sockets.new (state A.Store conn.old).now (state A.Store conn.new).now
-        end)))) }
+        S.Socket.receives_within) known.now (introduced wanted said.told) why
+        (run_point sockets.old (state A.Store conn.old).now)
+        (run_point sockets.new (state A.Store conn.new).now) end)))) }
     ensures stays { OverArchive (state A.Store conn.old) (state A.Store conn.new)
         (Survives (state A.Store conn.old) (state A.Store conn.new)
         (HasAllOf (state A.Store conn.old).now.trees)) }
@@ -251,9 +252,9 @@ fn keep_heard<S: Heeds, A: Alter, O: Write, E: Write>(
     ensures told { IfOk result (IsToldBy (O.contents output.old) (O.contents output.new)
         wanted.source (λ end. OverArchive (state A.Store conn.old) (state A.Store conn.new)
         (KeepsHeard (socket_rules S.opens S.closes S.Socket.sends S.Socket.receives
-        S.Socket.receives_within) known.now heard.old.items heard.new.items wanted
-        sockets.old sockets.new (state A.Store conn.old).now
-        (state A.Store conn.new).now end))) }
+        S.Socket.receives_within) (knowing known.now heard.old.items) heard.new.items wanted
+        (run_point sockets.old (state A.Store conn.old).now)
+        (run_point sockets.new (state A.Store conn.new).now) end))) }
     ensures stays { OverArchive (state A.Store conn.old) (state A.Store conn.new)
         (Survives (state A.Store conn.old) (state A.Store conn.new)
         (HasAllOf (state A.Store conn.old).now.trees)) }
@@ -265,8 +266,8 @@ fn keep_heard<S: Heeds, A: Alter, O: Write, E: Write>(
         sockets.new) }
     ensures caused { OverArchive (state A.Store conn.old) (state A.Store conn.new)
         (IfErr result (EndsNext (socket_rules S.opens S.closes S.Socket.sends S.Socket.receives
-        S.Socket.receives_within) known.now heard.old.items wanted
-        (state A.Store conn.old).now.trees sockets.old sockets.new)) }
+        S.Socket.receives_within) (knowing known.now heard.old.items) wanted
+        (run_point sockets.old (state A.Store conn.old).now) sockets.new)) }
 {
     let near = site.near();
     let said = said_of(sockets, alloc, heard.as_slice(), near, &wanted)?;
@@ -303,9 +304,9 @@ pub(crate) fn keep_next<S: Heeds, A: Alter, O: Write, E: Write>(
     ensures told { IfOk result (IsToldBy (O.contents output.old) (O.contents output.new)
         wanted.source (λ end. OverArchive (state A.Store conn.old) (state A.Store conn.new)
         (KeepsNext (socket_rules S.opens S.closes S.Socket.sends S.Socket.receives
-        S.Socket.receives_within) known.now heard.old.items heard.new.items wanted
-        sockets.old sockets.new (state A.Store conn.old).now
-        (state A.Store conn.new).now end))) }
+        S.Socket.receives_within) (knowing known.now heard.old.items) heard.new.items wanted
+        (run_point sockets.old (state A.Store conn.old).now)
+        (run_point sockets.new (state A.Store conn.new).now) end))) }
     ensures stays { OverArchive (state A.Store conn.old) (state A.Store conn.new)
         (Survives (state A.Store conn.old) (state A.Store conn.new)
         (HasAllOf (state A.Store conn.old).now.trees)) }
@@ -319,8 +320,8 @@ pub(crate) fn keep_next<S: Heeds, A: Alter, O: Write, E: Write>(
         sockets.new) }
     ensures caused { OverArchive (state A.Store conn.old) (state A.Store conn.new)
         (IfErr result (EndsNext (socket_rules S.opens S.closes S.Socket.sends S.Socket.receives
-        S.Socket.receives_within) known.now heard.old.items wanted
-        (state A.Store conn.old).now.trees sockets.old sockets.new)) }
+        S.Socket.receives_within) (knowing known.now heard.old.items) wanted
+        (run_point sockets.old (state A.Store conn.old).now) sockets.new)) }
 {
     if is_silent(heard.as_slice(), &wanted.source) {
         let log = log_among(known, at, &wanted.source);

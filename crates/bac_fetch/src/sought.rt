@@ -10,10 +10,11 @@ ghost use Rattle.bac_asked.specs.Wanted.{AsksItsSource};
 ghost use Rattle.bac_fetch.specs.Chosen.{AreOfDevice, AskOneSource, Finds, FindsEach, is_wanted};
 ghost use Rattle.bac_fetch.specs.Chosen.{passed_since, told_by, unlisted_by, untold_in, with_new};
 ghost use Rattle.bac_fetch.specs.Chosen.{with_one};
-ghost use Rattle.bac_fetch.specs.Ahead.{at_once};
+ghost use Rattle.bac_fetch.specs.Ahead.{at_once, reach};
 ghost use Rattle.bac_fetch.specs.Faults.{EndsDevice, EndsListed, EndsSought};
 ghost use Rattle.bac_fetch.specs.Unlisted.{unlisted_lines, unlisted_status};
 ghost use Rattle.bac_fetch.specs.declared.keeping.Chosen.TheVariants as chosen;
+ghost use Rattle.bac_fetch.specs.Points.{scene};
 ghost use Rattle.bac_ports.specs.Sockets.{socket_rules};
 ghost use Rattle.bac_questions.specs.Silent.{is_same_log};
 
@@ -211,10 +212,10 @@ fn sought_logs<S: Heeds, O: Write, E: Write>(
 ) -> Result<Found, NotDone>
     requires { All AskOneSource sought.items }
     ensures asks { IfOk result (λ found. All AsksItsSource found.all.items) }
-    ensures found { IfOk result (λ found. FindsEach
-        (socket_rules S.opens S.closes S.Socket.sends S.Socket.receives
-        S.Socket.receives_within) silent.now sought.items sockets.old (O.contents output.old)
-        found sockets.new (O.contents output.new)) }
+    ensures found { IfOk result (λ found. FindsEach (socket_rules S.opens S.closes S.Socket.sends
+        S.Socket.receives S.Socket.receives_within) silent.now sought.items
+        (scene sockets.old (O.contents output.old)) found
+        (scene sockets.new (O.contents output.new))) }
     ensures fault { IfErr result (EndsSought
         (socket_rules S.opens S.closes S.Socket.sends S.Socket.receives
         S.Socket.receives_within) silent.now sought.items sockets.old sockets.new) }
@@ -245,14 +246,13 @@ where
     C: Drop,
     requires { All AskOneSource sought.items }
     ensures asks { IfOk result (λ found. All AsksItsSource found.all.items) }
-    ensures found { IfOk result (λ found. Finds
-        (socket_rules S.opens S.closes S.Socket.sends S.Socket.receives
-        S.Socket.receives_within) (at_once S.holds C.reads clock window) (chosen.Sought sought)
-        sockets.old (O.contents output.old) found sockets.new (O.contents output.new)) }
-    ensures fault { IfErr result (EndsListed
-        (socket_rules S.opens S.closes S.Socket.sends S.Socket.receives
-        S.Socket.receives_within) (at_once S.holds C.reads clock window) sought.items sockets.old
-        sockets.new) }
+    ensures found { IfOk result (λ found. Finds (reach (socket_rules S.opens S.closes S.Socket.sends
+        S.Socket.receives S.Socket.receives_within) (at_once S.holds C.reads clock window))
+        (chosen.Sought sought) (scene sockets.old (O.contents output.old)) found
+        (scene sockets.new (O.contents output.new))) }
+    ensures fault { IfErr result (EndsListed (reach (socket_rules S.opens S.closes S.Socket.sends
+        S.Socket.receives S.Socket.receives_within) (at_once S.holds C.reads clock window))
+        sought.items sockets.old sockets.new) }
 {
     let silent = hold_lists(sockets, alloc, clock, window, sought.as_slice())?;
     sought_logs(sockets, alloc, silent.as_slice(), sought, output, errors)

@@ -1,13 +1,12 @@
 -- Jobs that have ended, from the desks that were made for them.
 use Rattle.std.specs.Prelude.{IfNone, OnErr}
 use Rattle.std.proofs.Common.{◌≡◌, ℕ, List, [], Option, None, Some, Result, Ok, Err, IfOk, IfSome, refl, subst}
-use Rattle.bac_ports.specs.Port.{Receiving, Sending}
-use Rattle.bac_play.specs.declared.play.Outcome.{Outcome}
+use Rattle.bac_desks.specs.Served.{Acts, served}
 use Rattle.bac_desks.specs.Table.{TableState}
+use Rattle.bac_desks.specs.declared.desks.Desks.{Desks}
 use Rattle.bac_jobs.specs.Jobs.{AreEnded, IsIdle}
-use Rattle.bac_jobs.specs.Wanted.{MakesRounds, ServesJobs}
+use Rattle.bac_jobs.specs.Wanted.{MakesRounds, ServesJobs, Work}
 use Rattle.bac_jobs.specs.declared.job.Ending.{Ending}
-use Rattle.bac_jobs.specs.declared.job.Turn.{Turn}
 use Rattle.bac_hearing.specs.Hearing.{Ends, Stops, Waits}
 
 -- what holds of a result, if it has one
@@ -23,43 +22,37 @@ weaker_none (Ok (Some v)) P Q f it = tt
 weaker_none (Ok None) P Q f it = f it
 weaker_none (Err e) P Q f it = tt
 
+-- what holds of desks that were made, holds of these, of which they are
+pub from_made : {P C : Type 0} (holds : Desks P C → Type 0) (fresh made : Desks P C) → made.port ≡ fresh.port → made.clock ≡ fresh.clock → made.table ≡ fresh.table →
+    holds made → holds fresh
+from_made {P = P} {C = C} holds fresh made same_port same_clock same it =
+    subst (λ (p : P). holds (served p fresh.clock fresh.table)) same_port
+    (subst (λ (c : C). holds (served made.port c fresh.table)) same_clock
+    (subst (λ (t : TableState). holds (served made.port made.clock t)) same it))
+
 -- the rounds that were made from these desks on, which are those that were made for them
-pub waits : {P C J E : Type 0} (sends : P → List ℕ → List ℕ → Sending → P → Type 0) (receives : P → ℕ → Receiving → P → Type 0)
-    (reads : C → ℕ → C → Type 0) (plays : J → List Outcome → Turn E → Type 0) (jobs : List J) (rounds : ℕ) (port port' last : P) (start start' stop : C)
-    (fresh fresh' left : TableState) → port' ≡ port → start' ≡ start → fresh' ≡ fresh →
-    MakesRounds sends receives reads plays jobs rounds port' start' fresh' last stop left → Waits sends receives reads plays jobs rounds port start fresh last
-waits {P = P} {C = C} sends receives reads plays jobs rounds port port' last start start' stop fresh fresh' left same_port same_clock same made =
-    subst (λ (p : P). Waits sends receives reads plays jobs rounds p start fresh last) same_port
-    (subst (λ (s : C). Waits sends receives reads plays jobs rounds port' s fresh last) same_clock
-    (subst (λ (t : TableState). Waits sends receives reads plays jobs rounds port' start' t last) same (stop, left, made)))
+pub waits : {P C J E : Type 0} (acts : Acts P C) (work : Work J E) (rounds : ℕ) (fresh made left : Desks P C) → made.port ≡ fresh.port → made.clock ≡ fresh.clock →
+    made.table ≡ fresh.table → MakesRounds acts work rounds made left → Waits acts work rounds fresh left.port
+waits {P = P} {C = C} acts work rounds fresh made left same_port same_clock same rounds_made =
+    from_made (λ (d : Desks P C). Waits acts work rounds d left.port) fresh made same_port same_clock same (left.clock, left.table, rounds_made)
 
 -- what was done from these desks on, which are those that were made
-pub ends : {P C J E : Type 0} (sends : P → List ℕ → List ℕ → Sending → P → Type 0) (receives : P → ℕ → Receiving → P → Type 0)
-    (reads : C → ℕ → C → Type 0) (plays : J → List Outcome → Turn E → Type 0) (jobs : List J) (port port' last : P) (start start' stop : C)
-    (fresh fresh' left : TableState) (all : List (Ending E)) → port' ≡ port → start' ≡ start → fresh' ≡ fresh →
-    ServesJobs sends receives reads plays jobs port' start' fresh' last stop left → (AreEnded plays jobs left.seats all × IsIdle left) →
-    Ends sends receives reads plays jobs port start fresh all last
-ends {P = P} {C = C} sends receives reads plays jobs port port' last start start' stop fresh fresh' left all same_port same_clock same (events, does, keeps, asks, wanted) ended =
-    subst (λ (p : P). Ends sends receives reads plays jobs p start fresh all last) same_port
-    (subst (λ (s : C). Ends sends receives reads plays jobs port' s fresh all last) same_clock
-    (subst (λ (t : TableState). Ends sends receives reads plays jobs port' start' t all last) same
-    (events, stop, left, does, asks, ended.0, ended.1)))
+pub ends : {P C J E : Type 0} (acts : Acts P C) (work : Work J E) (fresh made left : Desks P C) (all : List (Ending E)) → made.port ≡ fresh.port →
+    made.clock ≡ fresh.clock → made.table ≡ fresh.table → ServesJobs acts work made left →
+    (AreEnded work.plays work.jobs left.table.seats all × IsIdle left.table) → Ends acts work fresh all left.port
+ends {P = P} {C = C} acts work fresh made left all same_port same_clock same (events, does, keeps, asks, wanted) ended =
+    from_made (λ (d : Desks P C). Ends acts work d all left.port) fresh made same_port same_clock same
+    (events, left.clock, left.table, does, asks, ended.0, ended.1)
 
 -- the same, whatever came of it
-pub stops : {P C J E : Type 0} (sends : P → List ℕ → List ℕ → Sending → P → Type 0) (receives : P → ℕ → Receiving → P → Type 0)
-    (reads : C → ℕ → C → Type 0) (plays : J → List Outcome → Turn E → Type 0) (jobs : List J) (port port' last : P) (start start' stop : C)
-    (fresh fresh' left : TableState) → port' ≡ port → start' ≡ start → fresh' ≡ fresh →
-    ServesJobs sends receives reads plays jobs port' start' fresh' last stop left → Stops sends receives reads plays jobs port start fresh last
-stops {P = P} {C = C} sends receives reads plays jobs port port' last start start' stop fresh fresh' left same_port same_clock same (events, does, keeps, asks, wanted) =
-    subst (λ (p : P). Stops sends receives reads plays jobs p start fresh last) same_port
-    (subst (λ (s : C). Stops sends receives reads plays jobs port' s fresh last) same_clock
-    (subst (λ (t : TableState). Stops sends receives reads plays jobs port' start' t last) same (events, stop, left, does, asks)))
+pub stops : {P C J E : Type 0} (acts : Acts P C) (work : Work J E) (fresh made left : Desks P C) → made.port ≡ fresh.port → made.clock ≡ fresh.clock →
+    made.table ≡ fresh.table → ServesJobs acts work made left → Stops acts work fresh left.port
+stops {P = P} {C = C} acts work fresh made left same_port same_clock same (events, does, keeps, asks, wanted) =
+    from_made (λ (d : Desks P C). Stops acts work d left.port) fresh made same_port same_clock same (events, left.clock, left.table, does, asks)
 
 -- nothing was done
-pub stops_at : {P C J E : Type 0} (sends : P → List ℕ → List ℕ → Sending → P → Type 0) (receives : P → ℕ → Receiving → P → Type 0)
-    (reads : C → ℕ → C → Type 0) (plays : J → List Outcome → Turn E → Type 0) (jobs : List J) (port last : P) (start : C) (fresh : TableState) → last ≡ port →
-    Stops sends receives reads plays jobs port start fresh last
-stops_at sends receives reads plays jobs port last start fresh same = ([], start, fresh, (same, refl, refl), refl)
+pub stops_at : {P C J E : Type 0} (acts : Acts P C) (work : Work J E) (fresh : Desks P C) (last : P) → last ≡ fresh.port → Stops acts work fresh last
+stops_at acts work fresh last same = ([], fresh.clock, fresh.table, (same, refl, refl), refl)
 
 -- what holds, if it failed
 pub on_err : {V A : Type 0} (r : Result V A) (P : Type 0) → P → OnErr r P

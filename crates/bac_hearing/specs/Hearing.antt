@@ -1,19 +1,20 @@
 -- Jobs of many devices beside one another, over one socket. Read `HearsAll`, and the laws.
 use Rattle.std.specs.Prelude.{◌≡◌, ℕ, ◌≤◌, List, [], ◌∷◌, ◌++◌, Option, Some, Err, All, map, slice_get}
-use Rattle.bac_ports.specs.Port.{Receiving, Sending}
+use Rattle.bac_ports.specs.Port.{Sending}
 use Rattle.bac_ports.specs.Sockets.{SocketRules, UsesSocket, own_address}
 use Rattle.bac_play.specs.declared.play.Outcome.{Outcome}
 use Rattle.bac_desks.specs.Chain.{Chain}
 use Rattle.bac_desks.specs.Event.{Event, Sent}
 use Rattle.bac_desks.specs.Seat.{IsDue, fresh_seat}
-use Rattle.bac_desks.specs.Served.{Does}
+use Rattle.bac_desks.specs.Served.{Acts, Does, acting, served}
 use Rattle.bac_desks.specs.Table.{IsWithin, Step, TableState}
 use Rattle.bac_desks.specs.Told.{Course, IsAsked}
 use Rattle.bac_desks.specs.Words.{WasServed}
+use Rattle.bac_desks.specs.declared.desks.Desks.{Desks}
 use Rattle.bac_desks.specs.declared.rules.Rules.{Rules}
 use Rattle.bac_desks.specs.declared.seat.Seat.{Seat}
 use Rattle.bac_jobs.specs.Jobs.{AreEnded, IsIdle}
-use Rattle.bac_jobs.specs.Wanted.{IsWantedAt, JobStep, MakesRounds}
+use Rattle.bac_jobs.specs.Wanted.{IsWantedAt, JobStep, MakesRounds, Work}
 use Rattle.bac_jobs.specs.declared.job.Ending.{Ending}
 use Rattle.bac_jobs.specs.declared.job.Turn.{Turn}
 use Rattle.bac_hearing.specs.declared.hearing.NotHeard.{NotHeard}
@@ -35,16 +36,22 @@ no_desks rules = record { rules = rules; time = 0; seats = [] }
 abbrev pub with_peers : TableState → List (List ℕ) → TableState
 with_peers t peers = record { rules = t.rules; time = t.time; seats = t.seats ++ map fresh_seat peers }
 
+-- the same over their port and by their clock
+abbrev pub seated : {P C : Type 0} → Desks P C → List (List ℕ) → Desks P C
+seated desks peers = served desks.port desks.clock (with_peers desks.table peers)
+
+-- what is done over a socket by these rules, and by a clock of which a reading is this
+abbrev pub acts_over : {S P C : Type 0} → SocketRules S P → (C → ℕ → C → Type 0) → Acts P C
+acts_over rules reads = acting rules.sends rules.receives_within reads
+
 -- What happened at the port and by the clock leads from these desks to those where each job has ended, by all that came
 -- to the questions at the desk at its place, which has a stray or none; and no question is open. Nothing was asked but
 -- what the jobs wanted.
-abbrev pub Ends : {P C J E : Type 0} → (P → List ℕ → List ℕ → Sending → P → Type 0) → (P → ℕ → Receiving → P → Type 0) →
-    (C → ℕ → C → Type 0) → (J → List Outcome → Turn E → Type 0) → List J → P → C → TableState → List (Ending E) → P →
-    Type 0
-Ends {C = C} sends receives reads plays jobs port start fresh ends last =
-    (events : List Event) × (stop : C) × (left : TableState)
-    × Does sends receives reads port start fresh events last stop left × Chain (JobStep plays jobs) fresh events left
-    × AreEnded plays jobs left.seats ends × IsIdle left
+abbrev pub Ends : {P C J E : Type 0} → Acts P C → Work J E → Desks P C → List (Ending E) → P → Type 0
+Ends {C = C} acts work fresh ends last =
+    (events : List Event) × (stop : C) × (left : TableState) × Does acts fresh events (served last stop left)
+    × Chain (JobStep work.plays work.jobs) fresh.table events left × AreEnded work.plays work.jobs left.seats ends
+    × IsIdle left
 
 -- By what devices are asked at once: a clock as it was handed in, what a reading of it is, and how many questions may
 -- be open that weren't sent again.
@@ -57,48 +64,57 @@ pub record Pace (C : Type 0) : Type 1 where
 abbrev pub paced : {C : Type 0} → (C → ℕ → C → Type 0) → C → ℕ → Pace C
 paced reads start window = record { reads = reads; start = start; window = window }
 
+-- What devices are asked at once: their addresses, the job of each, the address of our own that they are asked from, if
+-- one is said, how many milliseconds a question waits, and how often it is sent again.
+pub record Inquiry (J E : Type 0) : Type 1 where
+  pub peers : List (List ℕ)
+  pub work : Work J E
+  pub local : Option (List ℕ)
+  pub timeout : ℕ
+  pub retries : ℕ
+
+-- what is asked so
+abbrev pub inquiring : {J E : Type 0} → List (List ℕ) → Work J E → Option (List ℕ) → ℕ → ℕ → Inquiry J E
+inquiring peers work local timeout retries =
+    record { peers = peers; work = work; local = local; timeout = timeout; retries = retries }
+
+-- the desks at which that is asked over a port, of which nothing was asked yet
+abbrev pub desks_for : {P C J E : Type 0} → Pace C → Inquiry J E → P → Desks P C
+desks_for pace asked port =
+    served port pace.start (with_peers (no_desks (limits asked.timeout asked.retries pace.window)) asked.peers)
+
 -- One socket was opened as asked. Over it the devices at these addresses were asked at once, from nothing on, each what
 -- the job at its place asks, up to where it ended so; and it was closed as the last of that left it.
-abbrev pub HearsAll : {S P C J E : Type 0} → SocketRules S P → Pace C → (J → List Outcome → Turn E → Type 0) →
-    List (List ℕ) → List J → Option (List ℕ) → ℕ → ℕ → S → List (Ending E) → S → Type 0
-HearsAll rules pace plays peers jobs local timeout retries before ends after =
-    UsesSocket rules (own_address local) timeout before
-    (λ port last. Ends rules.sends rules.receives_within pace.reads plays jobs port pace.start
-    (with_peers (no_desks (limits timeout retries pace.window)) peers) ends last)
+abbrev pub HearsAll : {S P C J E : Type 0} → SocketRules S P → Pace C → Inquiry J E → S → List (Ending E) → S → Type 0
+HearsAll rules pace asked before ends after =
+    UsesSocket rules (own_address asked.local) asked.timeout before
+    (λ port last. Ends (acts_over rules pace.reads) asked.work (desks_for pace asked port) ends last)
     after
 
 -- So many rounds were made from these desks on, each of which asks what the jobs want next and waits for what comes.
-abbrev pub Waits : {P C J E : Type 0} → (P → List ℕ → List ℕ → Sending → P → Type 0) →
-    (P → ℕ → Receiving → P → Type 0) → (C → ℕ → C → Type 0) → (J → List Outcome → Turn E → Type 0) → List J → ℕ → P →
-    C → TableState → P → Type 0
-Waits {C = C} sends receives reads plays jobs rounds port start fresh last =
-    (stop : C) × (left : TableState)
-    × MakesRounds sends receives reads plays jobs rounds port start fresh last stop left
+abbrev pub Waits : {P C J E : Type 0} → Acts P C → Work J E → ℕ → Desks P C → P → Type 0
+Waits {C = C} acts work rounds fresh last =
+    (stop : C) × (left : TableState) × MakesRounds acts work rounds fresh (served last stop left)
 
 -- What happened at the port and by the clock leads from these desks to some: nothing was done but to ask devices so,
 -- and nothing was asked but what the jobs wanted.
-abbrev pub Stops : {P C J E : Type 0} → (P → List ℕ → List ℕ → Sending → P → Type 0) →
-    (P → ℕ → Receiving → P → Type 0) → (C → ℕ → C → Type 0) → (J → List Outcome → Turn E → Type 0) → List J → P → C →
-    TableState → P → Type 0
-Stops {C = C} sends receives reads plays jobs port start fresh last =
-    (events : List Event) × (stop : C) × (left : TableState)
-    × Does sends receives reads port start fresh events last stop left × Chain (JobStep plays jobs) fresh events left
+abbrev pub Stops : {P C J E : Type 0} → Acts P C → Work J E → Desks P C → P → Type 0
+Stops {C = C} acts work fresh last =
+    (events : List Event) × (stop : C) × (left : TableState) × Does acts fresh events (served last stop left)
+    × Chain (JobStep work.plays work.jobs) fresh.table events left
 
 -- Devices aren't heard: no socket was opened as asked; memory is wanting, of which std doesn't tell why; or as many
 -- rounds as fit a number of 64 bits were made over the one that was. It was closed then as the last of that left it.
-abbrev pub FailsToHear : {S P C J E : Type 0} → SocketRules S P → Pace C → (J → List Outcome → Turn E → Type 0) →
-    List (List ℕ) → List J → Option (List ℕ) → ℕ → ℕ → S → S → NotHeard → Type 0
-FailsToHear rules pace plays peers jobs local timeout retries before after (Unopened why) =
-    rules.opens before (own_address local) timeout (Err why) after
-FailsToHear rules pace plays peers jobs local timeout retries before after Memory =
-    UsesSocket rules (own_address local) timeout before
-    (λ port last. Stops rules.sends rules.receives_within pace.reads plays jobs port pace.start
-    (with_peers (no_desks (limits timeout retries pace.window)) peers) last)
+abbrev pub FailsToHear : {S P C J E : Type 0} → SocketRules S P → Pace C → Inquiry J E → S → S → NotHeard → Type 0
+FailsToHear rules pace asked before after (Unopened why) =
+    rules.opens before (own_address asked.local) asked.timeout (Err why) after
+FailsToHear rules pace asked before after Memory =
+    UsesSocket rules (own_address asked.local) asked.timeout before
+    (λ port last. Stops (acts_over rules pace.reads) asked.work (desks_for pace asked port) last)
     after
-FailsToHear rules pace plays peers jobs local timeout retries before after Unfinished =
-    UsesSocket rules (own_address local) timeout before
-    (λ port last. Waits rules.sends rules.receives_within pace.reads plays jobs 18446744073709551615 port pace.start
-    (with_peers (no_desks (limits timeout retries pace.window)) peers) last)
+FailsToHear rules pace asked before after Unfinished =
+    UsesSocket rules (own_address asked.local) asked.timeout before
+    (λ port last. Waits (acts_over rules pace.reads) asked.work 18446744073709551615 (desks_for pace asked port) last)
     after
 
 -- ---- laws

@@ -4,7 +4,9 @@
 ghost use Rattle.std.specs.Prelude.{IfErr, IfNone, IfOk, IfSome, OnErr};
 ghost use Rattle.bac_ports.specs.Sockets.{socket_rules};
 ghost use Rattle.bac_hearing.specs.Beside.{Begins, BeginsToHear, EndsHearing, FailsToEnd};
-ghost use Rattle.bac_hearing.specs.Hearing.{FailsToHear, Stops, Waits, paced, with_peers};
+ghost use Rattle.bac_hearing.specs.Hearing.{FailsToHear, Stops, Waits, inquiring, paced, seated};
+ghost use Rattle.bac_jobs.specs.Wanted.{work_of};
+ghost use Rattle.bac_desks.specs.Served.{acting};
 
 use crate::hearing::{ANY, NotHeard, limits, seat_all};
 use bac_desks::{Clock, Desks};
@@ -28,15 +30,13 @@ fn begin_seated<P: Port, C: Clock, J: Job>(
     jobs: &[J],
 ) -> Result<Option<Vec<Option<Ending<J::End>>>>, AllocError>
     ensures begun { IfOk result (λ begun. IfSome begun
-        (λ early. Begins P.sends P.receives_within C.reads J.plays jobs.now desks.old.port
-        desks.old.clock (with_peers desks.old.table peers.now) early.items desks.new.port
-        desks.new.clock desks.new.table)) }
+        (λ early. Begins (acting P.sends P.receives_within C.reads) (work_of J.plays jobs.now)
+        (seated desks.old peers.now) early.items desks.new)) }
     ensures unfinished { IfOk result (λ begun. IfNone begun
-        (Waits P.sends P.receives_within C.reads J.plays jobs.now 18446744073709551615
-        desks.old.port desks.old.clock (with_peers desks.old.table peers.now)
-        desks.new.port)) }
-    ensures stops { OnErr result (Stops P.sends P.receives_within C.reads J.plays jobs.now
-        desks.old.port desks.old.clock (with_peers desks.old.table peers.now) desks.new.port) }
+        (Waits (acting P.sends P.receives_within C.reads) (work_of J.plays jobs.now)
+        18446744073709551615 (seated desks.old peers.now) desks.new.port)) }
+    ensures stops { OnErr result (Stops (acting P.sends P.receives_within C.reads)
+        (work_of J.plays jobs.now) (seated desks.old peers.now) desks.new.port) }
 {
     seat_all(alloc, desks, peers)?;
     begin(alloc, desks, jobs, u64::MAX)
@@ -60,15 +60,14 @@ pub fn begin_all<S: Sockets, C: Clock, J: Job>(
 ) -> Result<Begun<S::Socket, C, J::End>, NotHeard>
 where
     C: Drop,
-    ensures begun { IfOk result (λ begun. BeginsToHear
-        (socket_rules S.opens S.closes S.Socket.sends S.Socket.receives
-        S.Socket.receives_within) (paced C.reads clock window) J.plays peers.now jobs.now local
-        timeout retries sockets.old begun.early.items begun.desks.port begun.desks.clock
-        begun.desks.table sockets.new) }
-    ensures fault { IfErr result (FailsToHear
-        (socket_rules S.opens S.closes S.Socket.sends S.Socket.receives
-        S.Socket.receives_within) (paced C.reads clock window) J.plays peers.now jobs.now local
-        timeout retries sockets.old sockets.new) }
+    ensures begun { IfOk result (λ begun. BeginsToHear (socket_rules S.opens S.closes S.Socket.sends
+        S.Socket.receives S.Socket.receives_within) (paced C.reads clock window)
+        (inquiring peers.now (work_of J.plays jobs.now) local timeout retries) sockets.old
+        begun.early.items begun.desks sockets.new) }
+    ensures fault { IfErr result (FailsToHear (socket_rules S.opens S.closes S.Socket.sends
+        S.Socket.receives S.Socket.receives_within) (paced C.reads clock window)
+        (inquiring peers.now (work_of J.plays jobs.now) local timeout retries) sockets.old
+        sockets.new) }
 {
     let port = match sockets.open(local.unwrap_or(ANY), timeout) {
         Ok(port) => port,
@@ -98,13 +97,11 @@ pub fn end_all<S: Sockets, C: Clock, J: Job>(
 ) -> Result<Vec<Ending<J::End>>, NotHeard>
 where
     C: Drop,
-    ensures heard { IfOk result (λ ends. EndsHearing
-        (socket_rules S.opens S.closes S.Socket.sends S.Socket.receives
-        S.Socket.receives_within) C.reads J.plays jobs.now desks.port desks.clock desks.table
+    ensures heard { IfOk result (λ ends. EndsHearing (socket_rules S.opens S.closes S.Socket.sends
+        S.Socket.receives S.Socket.receives_within) C.reads (work_of J.plays jobs.now) desks
         sockets.old ends.items sockets.new) }
-    ensures fault { IfErr result (FailsToEnd
-        (socket_rules S.opens S.closes S.Socket.sends S.Socket.receives
-        S.Socket.receives_within) C.reads J.plays jobs.now desks.port desks.clock desks.table
+    ensures fault { IfErr result (FailsToEnd (socket_rules S.opens S.closes S.Socket.sends
+        S.Socket.receives S.Socket.receives_within) C.reads (work_of J.plays jobs.now) desks
         sockets.old sockets.new) }
 {
     let mut desks = desks;

@@ -2,8 +2,10 @@
 
 ghost use Rattle.std.specs.Prelude.{◌≡◌, IfErr, IfNone, IfOk, IfSome, OnErr, OnOk};
 ghost use Rattle.bac_ports.specs.Sockets.{socket_rules};
-ghost use Rattle.bac_hearing.specs.Hearing.{Ends, FailsToHear, HearsAll, Stops, Waits, limits};
-ghost use Rattle.bac_hearing.specs.Hearing.{paced, with_peers};
+ghost use Rattle.bac_hearing.specs.Hearing.{Ends, FailsToHear, HearsAll, Stops, Waits, inquiring};
+ghost use Rattle.bac_hearing.specs.Hearing.{limits, paced, seated, with_peers};
+ghost use Rattle.bac_jobs.specs.Wanted.{work_of};
+ghost use Rattle.bac_desks.specs.Served.{acting};
 
 use bac_desks::{Clock, Desks, Rules};
 use bac_jobs::{Ending, Job, finish};
@@ -64,14 +66,13 @@ fn hear<P: Port, C: Clock, J: Job>(
     jobs: &[J],
 ) -> Result<Option<Vec<Ending<J::End>>>, AllocError>
     ensures heard { IfOk result (λ ended. IfSome ended
-        (λ ends. Ends P.sends P.receives_within C.reads J.plays jobs.now desks.old.port
-        desks.old.clock (with_peers desks.old.table peers.now) ends.items desks.new.port)) }
+        (λ ends. Ends (acting P.sends P.receives_within C.reads) (work_of J.plays jobs.now)
+        (seated desks.old peers.now) ends.items desks.new.port)) }
     ensures unfinished { IfOk result (λ ended. IfNone ended
-        (Waits P.sends P.receives_within C.reads J.plays jobs.now 18446744073709551615
-        desks.old.port desks.old.clock (with_peers desks.old.table peers.now)
-        desks.new.port)) }
-    ensures stops { OnErr result (Stops P.sends P.receives_within C.reads J.plays jobs.now
-        desks.old.port desks.old.clock (with_peers desks.old.table peers.now) desks.new.port) }
+        (Waits (acting P.sends P.receives_within C.reads) (work_of J.plays jobs.now)
+        18446744073709551615 (seated desks.old peers.now) desks.new.port)) }
+    ensures stops { OnErr result (Stops (acting P.sends P.receives_within C.reads)
+        (work_of J.plays jobs.now) (seated desks.old peers.now) desks.new.port) }
 {
     seat_all(alloc, desks, peers)?;
     finish(alloc, desks, jobs, u64::MAX)
@@ -95,14 +96,14 @@ pub fn hear_all<S: Sockets, C: Clock, J: Job>(
 ) -> Result<Vec<Ending<J::End>>, NotHeard>
 where
     C: Drop,
-    ensures heard { IfOk result (λ ends. HearsAll
-        (socket_rules S.opens S.closes S.Socket.sends S.Socket.receives
-        S.Socket.receives_within) (paced C.reads clock window) J.plays peers.now jobs.now local
-        timeout retries sockets.old ends.items sockets.new) }
-    ensures fault { IfErr result (FailsToHear
-        (socket_rules S.opens S.closes S.Socket.sends S.Socket.receives
-        S.Socket.receives_within) (paced C.reads clock window) J.plays peers.now jobs.now local
-        timeout retries sockets.old sockets.new) }
+    ensures heard { IfOk result (λ ends. HearsAll (socket_rules S.opens S.closes S.Socket.sends
+        S.Socket.receives S.Socket.receives_within) (paced C.reads clock window)
+        (inquiring peers.now (work_of J.plays jobs.now) local timeout retries) sockets.old
+        ends.items sockets.new) }
+    ensures fault { IfErr result (FailsToHear (socket_rules S.opens S.closes S.Socket.sends
+        S.Socket.receives S.Socket.receives_within) (paced C.reads clock window)
+        (inquiring peers.now (work_of J.plays jobs.now) local timeout retries) sockets.old
+        sockets.new) }
 {
     let port = match sockets.open(local.unwrap_or(ANY), timeout) {
         Ok(port) => port,

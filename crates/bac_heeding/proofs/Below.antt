@@ -1,7 +1,7 @@
 -- What is asked over ports of one kind, over those below them.
 use Rattle.std.proofs.Common.{ℕ, zero, suc, List, Option, None, Some, Result, Ok, Err, ap}
 use Rattle.bac_link.specs.declared.link.Lost.{Lost}
-use Rattle.bac_ports.specs.Asking.{Awaits, IsHeard, IsSent, IsTaken, fitting}
+use Rattle.bac_ports.specs.Asking.{Awaits, IsHeard, IsSent, IsTaken, fitting, to_peer}
 use Rattle.bac_ports.specs.Port.{Receiving, Sending}
 use Rattle.bac_heeding.specs.Laws.{AsksAreBelow}
 
@@ -32,7 +32,7 @@ awaits_below below receives receives_below each peer request (suc n) port new re
 sent_below : {T P : Type 0} (below : T → P) (receives : T → Receiving → T → Type 0) (receives_below : P → Receiving → P → Type 0) →
     ((a b : T) (heard : Receiving) → receives a heard b → receives_below (below a) heard (below b)) →
     (peer request : List ℕ) (limit : ℕ) (sent : Sending) (port new : T) (result : Result (List ℕ) Lost) →
-    IsSent receives peer request limit sent port result new → IsSent receives_below peer request limit sent (below port) result (below new)
+    IsSent receives (to_peer peer request) limit sent port result new → IsSent receives_below (to_peer peer request) limit sent (below port) result (below new)
 sent_below below receives receives_below each peer request limit (Err fault) port new result (lost, same) = (lost, ap below same)
 sent_below below receives receives_below each peer request limit (Ok done) port new result is =
     awaits_below below receives receives_below each peer request limit port new result is

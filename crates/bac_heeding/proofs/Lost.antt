@@ -4,7 +4,7 @@ use Rattle.std.specs.Str.{bytes_eq}
 use Rattle.bac_link.specs.Datagrams.{answers_to}
 use Rattle.bac_link.specs.Exchanges.{IsNoAnswer, Unanswered}
 use Rattle.bac_link.specs.declared.link.Lost.{Lost}
-use Rattle.bac_ports.specs.Asking.{Asks, Awaits, IsTaken, fitting, fitting_of}
+use Rattle.bac_ports.specs.Asking.{Asks, Awaits, IsTaken, fitting, fitting_of, to_peer}
 use Rattle.bac_ports.specs.Port.{Receiving, Sending}
 use Rattle.bac_ports.specs.declared.port.Heard.{Heard}
 use Rattle.bac_ports.specs.declared.udp_link.UdpLink.{UdpLink}
@@ -88,7 +88,7 @@ module _ {T : Type 0} (sends : T → List ℕ → List ℕ → Sending → T →
 
   -- ---- an ask
 
-  asked : (old new : T) (answer : Result (List ℕ) Lost) → Asks sends receives peer octets 16 old answer new → IsNoAnswer octets answer → AreLost old new
+  asked : (old new : T) (answer : Result (List ℕ) Lost) → Asks sends receives (to_peer peer octets) 16 old answer new → IsNoAnswer octets answer → AreLost old new
   unfolding AreLost
   asked old new (Err lost) (Err fault, mid, sent, (is, same)) none = (Sent octets peer (Err fault) ∷ [], (mid, sent, same), (refl, refl, tt), tt)
   asked old new (Err lost) (Ok done, mid, sent, is) none =
@@ -97,13 +97,13 @@ module _ {T : Type 0} (sends : T → List ℕ → List ℕ → Sending → T →
   asked old new (Ok datagram) (Ok done, mid, sent, is) none = absurd (let e = took 16 mid new datagram is in cc)
 
   tried : (tries : ℕ) (old new : UdpLink T) → old.peer ≡ peer →
-      Unanswered (λ (a : UdpLink T) request answer b. Asks sends receives a.peer request 16 a.port answer b.port × (b.peer ≡ a.peer)) octets tries old new →
+      Unanswered (λ (a : UdpLink T) request answer b. Asks sends receives (to_peer a.peer request) 16 a.port answer b.port × (b.peer ≡ a.peer)) octets tries old new →
       AreLost old.port new.port × (new.peer ≡ peer)
   unfolding AreLost
   tried zero old new here same = (([], ap (λ (l : UdpLink T). l.port) same, tt, tt), ap (λ (l : UdpLink T). l.peer) same ∙ here)
   tried (suc n) old new here (mid, answer, before, (asks, stays), none) =
       let (first, there) = tried n old mid here before in
-      let last = asked mid.port new.port answer (subst (λ (p : List ℕ). Asks sends receives p octets 16 mid.port answer new.port) there asks) none in
+      let last = asked mid.port new.port answer (subst (λ (p : List ℕ). Asks sends receives (to_peer p octets) 16 mid.port answer new.port) there asks) none in
       (lost_on old.port mid.port new.port first last, stays ∙ there)
 
 pub lost_strays : {T : Type 0} (sends : T → List ℕ → List ℕ → Sending → T → Type 0) (receives : T → Receiving → T → Type 0)

@@ -2,7 +2,7 @@
 use Rattle.std.specs.Prelude.{◌≡◌, ◌≤◌, ℕ, false, List, ◌∷◌, length, Result}
 use Rattle.bac_link.specs.Exchanges.{Unanswered}
 use Rattle.bac_link.specs.declared.link.Lost.{Lost}
-use Rattle.bac_ports.specs.Asking.{Asks}
+use Rattle.bac_ports.specs.Asking.{Asks, to_peer}
 use Rattle.bac_ports.specs.Port.{Receiving, Sending}
 use Rattle.bac_ports.specs.declared.udp_link.UdpLink.{UdpLink}
 use Rattle.bac_heeding.specs.Notes.{is_again}
@@ -15,8 +15,8 @@ abbrev pub AsksAreBelow : {T P : Type 0} → (T → P) →
     (P → List ℕ → List ℕ → Sending → P → Type 0) → (P → Receiving → P → Type 0) → Type 0
 AsksAreBelow {T = T} below sends receives sends_below receives_below =
     (peer request : List ℕ) (limit : ℕ) (old new : T) (result : Result (List ℕ) Lost) →
-    Asks sends receives peer request limit old result new →
-    Asks sends_below receives_below peer request limit (below old) result (below new)
+    Asks sends receives (to_peer peer request) limit old result new →
+    Asks sends_below receives_below (to_peer peer request) limit (below old) result (below new)
 
 -- whatever is done over a port that has a note, the note is that of what was sent and what came
 abbrev pub NotesAreOfEvents : {T : Type 0} → (T → Note) →
@@ -39,7 +39,8 @@ abbrev pub LostHasStrays : {T : Type 0} → (T → List ℕ → List ℕ → Sen
     (T → ℕ → Receiving → T → Type 0) → Type 0
 LostHasStrays {T = T} sends receives within =
     (peer octets : List ℕ) (tries : ℕ) (old new : UdpLink T) → old.peer ≡ peer →
-    Unanswered (λ a request answer b. Asks sends receives a.peer request 16 a.port answer b.port × (b.peer ≡ a.peer))
+    Unanswered (λ a request answer b. Asks sends receives (to_peer a.peer request) 16 a.port answer b.port
+    × (b.peer ≡ a.peer))
     octets tries old new →
     (es : List Event) × Happen sends receives within es old.port new.port × AreOf octets peer es
     × NoneAnswers peer octets es

@@ -5,7 +5,6 @@ use Rattle.std.proofs.lemmas.List.Elements.{All-head, All-tail}
 use Rattle.std.proofs.lemmas.Option.{slice_get-get_or}
 use Rattle.std.proofs.Math.ListN.{set}
 use Rattle.bac_ports.specs.Asking.{fitting}
-use Rattle.bac_ports.specs.Port.{Receiving, Sending}
 use Rattle.bac_ports.specs.declared.port.Heard.{Heard}
 use Rattle.bac_play.specs.declared.play.Outcome.{Outcome}
 use Rattle.bac_site.specs.Desk.{DeskState, answered, asked, given_up, heard_by}
@@ -13,13 +12,14 @@ use Rattle.bac_desks.proofs.Tests.{same_seat}
 use Rattle.bac_desks.specs.Chain.{Chain}
 use Rattle.bac_desks.specs.Event.{Asked, ClockStep, Event, GivenUp, PortStep, Read, Received, Sent, Waited}
 use Rattle.bac_desks.specs.Seat.{after_ask, after_heard, after_loss, after_send, is_known}
-use Rattle.bac_desks.specs.Served.{Asks, Does, TurnStep}
+use Rattle.bac_desks.specs.Served.{Acts, Asks, Does, TurnStep}
 use Rattle.bac_desks.specs.Table.{Step, TableState, with_seat}
+use Rattle.bac_desks.specs.declared.desks.Desks.{Desks}
 use Rattle.bac_desks.specs.declared.seat.Seat.{Seat}
 use Rattle.bac_desks.proofs.Kept.{kept}
 use Rattle.bac_desks.proofs.Lists.{get_map, get_set_other, get_set_same, joined}
 use Rattle.bac_desks.proofs.Runs.{AsksNone, turn_asks_none}
-use Rattle.bac_jobs.specs.Wanted.{AreWanted, AskStep, AsksJobs, IsForJobs, IsWantedAt, JobStep, ServesJobs}
+use Rattle.bac_jobs.specs.Wanted.{AreWanted, AskStep, AsksJobs, IsForJobs, IsWantedAt, JobStep, ServesJobs, work_of}
 use Rattle.bac_jobs.specs.declared.job.Turn.{Turn}
 use Rattle.bac_jobs.specs.declared.job.Turn.TheVariants.{Wants}
 
@@ -182,50 +182,46 @@ module _ {J E : Type 0} (plays : J → List Outcome → Turn E → Type 0) (jobs
 
   -- ---- runs of jobs
 
-  module _ {P C : Type 0} (sends : P → List ℕ → List ℕ → Sending → P → Type 0) (receives : P → ℕ → Receiving → P → Type 0) (reads : C → ℕ → C → Type 0) where
-    abbrev pub RunsJobs : P → C → TableState → P → C → TableState → Type 0
-    RunsJobs port clock t port' clock' t' = (es : List Event) × Does sends receives reads port clock t es port' clock' t' × Chain (JobStep plays jobs) t es t'
+  module _ {P C : Type 0} (acts : Acts P C) where
+    abbrev pub RunsJobs : Desks P C → Desks P C → Type 0
+    RunsJobs old new = (es : List Event) × Does acts old es new × Chain (JobStep plays jobs) old.table es new.table
 
-    pub nothing_run : (port : P) (clock : C) (t : TableState) → RunsJobs port clock t port clock t
-    nothing_run port clock t = ([], (refl, refl, refl), refl)
+    pub nothing_run : (at : Desks P C) → RunsJobs at at
+    nothing_run at = ([], (refl, refl, refl), refl)
 
-    pub asks_nothing : (port : P) (clock : C) (t : TableState) → AsksJobs sends receives reads plays jobs port clock t port clock t
-    asks_nothing port clock t = ([], (refl, refl, refl), refl)
+    pub asks_nothing : (at : Desks P C) → AsksJobs acts (work_of plays jobs) at at
+    asks_nothing at = ([], (refl, refl, refl), refl)
 
     -- a question of the desk at a place, or none
-    pub asks_one : (port port' : P) (clock clock' : C) (t t' : TableState) (place : ℕ) (octets : List ℕ) (may : Bool) → port' ≡ port → clock' ≡ clock →
-        Asks t place octets may t' → IsWantedAt plays jobs t place octets → AsksJobs sends receives reads plays jobs port clock t port' clock' t'
-    asks_one port port' clock clock' t t' place octets true at_port at_clock (step, keeps) wanted =
-        (Asked place octets ∷ [], ((port', at_port, refl), (clock', at_clock, refl), (t', step, refl)), (t', (step, wanted), refl))
-    asks_one port port' clock clock' t t' place octets false at_port at_clock (same, closed) wanted = ([], (at_port, at_clock, same), same)
+    pub asks_one : (old new : Desks P C) (place : ℕ) (octets : List ℕ) (may : Bool) → new.port ≡ old.port → new.clock ≡ old.clock →
+        Asks old.table place octets may new.table → IsWantedAt plays jobs old.table place octets → AsksJobs acts (work_of plays jobs) old new
+    asks_one old new place octets true at_port at_clock (step, keeps) wanted =
+        (Asked place octets ∷ [], ((new.port, at_port, refl), (new.clock, at_clock, refl), (new.table, step, refl)), (new.table, (step, wanted), refl))
+    asks_one old new place octets false at_port at_clock (same, closed) wanted = ([], (at_port, at_clock, same), same)
 
-    pub does_then : (p p' p'' : P) (c c' c'' : C) (t t' t'' : TableState) (es fs : List Event) → Does sends receives reads p c t es p' c' t' →
-        Does sends receives reads p' c' t' fs p'' c'' t'' → Does sends receives reads p c t (es ++ fs) p'' c'' t''
-    does_then p p' p'' c c' c'' t t' t'' es fs (a, b, d) (a', b', d') = (
-      joined (PortStep sends receives) p p' p'' es fs a a',
-      joined (ClockStep reads) c c' c'' es fs b b',
-      joined Step t t' t'' es fs d d',
+    pub does_then : (old mid new : Desks P C) (es fs : List Event) → Does acts old es mid → Does acts mid fs new → Does acts old (es ++ fs) new
+    does_then old mid new es fs (a, b, d) (a', b', d') = (
+      joined (PortStep acts.sends acts.receives) old.port mid.port new.port es fs a a',
+      joined (ClockStep acts.reads) old.clock mid.clock new.clock es fs b b',
+      joined Step old.table mid.table new.table es fs d d',
     )
 
-    pub asks_then : (p p' p'' : P) (c c' c'' : C) (t t' t'' : TableState) → AsksJobs sends receives reads plays jobs p c t p' c' t' →
-        AsksJobs sends receives reads plays jobs p' c' t' p'' c'' t'' → AsksJobs sends receives reads plays jobs p c t p'' c'' t''
-    asks_then p p' p'' c c' c'' t t' t'' (es, does, asks) (fs, does', asks') =
-        (es ++ fs, does_then p p' p'' c c' c'' t t' t'' es fs does does', joined (AskStep plays jobs) t t' t'' es fs asks asks')
+    pub asks_then : (old mid new : Desks P C) → AsksJobs acts (work_of plays jobs) old mid → AsksJobs acts (work_of plays jobs) mid new →
+        AsksJobs acts (work_of plays jobs) old new
+    asks_then old mid new (es, does, asks) (fs, does', asks') =
+        (es ++ fs, does_then old mid new es fs does does', joined (AskStep plays jobs) old.table mid.table new.table es fs asks asks')
 
-    pub then_run : (p p' p'' : P) (c c' c'' : C) (t t' t'' : TableState) → RunsJobs p c t p' c' t' → RunsJobs p' c' t' p'' c'' t'' → RunsJobs p c t p'' c'' t''
-    then_run p p' p'' c c' c'' t t' t'' (es, does, runs) (fs, does', runs') =
-        (es ++ fs, does_then p p' p'' c c' c'' t t' t'' es fs does does', joined (JobStep plays jobs) t t' t'' es fs runs runs')
+    pub then_run : (old mid new : Desks P C) → RunsJobs old mid → RunsJobs mid new → RunsJobs old new
+    then_run old mid new (es, does, runs) (fs, does', runs') =
+        (es ++ fs, does_then old mid new es fs does does', joined (JobStep plays jobs) old.table mid.table new.table es fs runs runs')
 
     -- questions, and a turn
-    pub then_ask : (p p' p'' : P) (c c' c'' : C) (t t' t'' : TableState) → RunsJobs p c t p' c' t' → AsksJobs sends receives reads plays jobs p' c' t' p'' c'' t'' →
-        RunsJobs p c t p'' c'' t''
-    then_ask p p' p'' c c' c'' t t' t'' runs (fs, does, asks) = then_run p p' p'' c c' c'' t t' t'' runs (fs, does, by_asks t' t'' fs asks)
+    pub then_ask : (old mid new : Desks P C) → RunsJobs old mid → AsksJobs acts (work_of plays jobs) mid new → RunsJobs old new
+    then_ask old mid new runs (fs, does, asks) = then_run old mid new runs (fs, does, by_asks mid.table new.table fs asks)
 
-    pub then_turn : (p p' p'' : P) (c c' c'' : C) (t t' t'' : TableState) (fs : List Event) → RunsJobs p c t p' c' t' →
-        TurnStep sends receives reads (p', c', t') fs (p'', c'', t'') → RunsJobs p c t p'' c'' t''
-    then_turn p p' p'' c c' c'' t t' t'' fs runs (does, keeps, turn) =
-        then_run p p' p'' c c' c'' t t' t'' runs (fs, does, no_asks t' t'' fs does.2 (turn_asks_none t' fs turn))
+    pub then_turn : (old mid new : Desks P C) (fs : List Event) → RunsJobs old mid → TurnStep acts mid fs new → RunsJobs old new
+    then_turn old mid new fs runs (does, keeps, turn) =
+        then_run old mid new runs (fs, does, no_asks mid.table new.table fs does.2 (turn_asks_none mid.table fs turn))
 
-    pub serves_jobs : (port port' : P) (clock clock' : C) (t t' : TableState) → RunsJobs port clock t port' clock' t' →
-        ServesJobs sends receives reads plays jobs port clock t port' clock' t'
-    serves_jobs port port' clock clock' t t' (es, does, runs) = (es, does, kept t t' es does.2, runs, wanted_on t t' es runs)
+    pub serves_jobs : (old new : Desks P C) → RunsJobs old new → ServesJobs acts (work_of plays jobs) old new
+    serves_jobs old new (es, does, runs) = (es, does, kept old.table new.table es does.2, runs, wanted_on old.table new.table es runs)

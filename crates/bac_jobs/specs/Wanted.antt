@@ -1,11 +1,11 @@
 -- What is asked for jobs of many devices: what the job of a device wants next, and nothing else. Read `ServesJobs`.
 use Rattle.std.specs.Prelude.{◌≡◌, ℕ, List, ◌++◌, Some, length, slice_get}
-use Rattle.bac_ports.specs.Port.{Receiving, Sending}
 use Rattle.bac_play.specs.declared.play.Outcome.{Outcome}
 use Rattle.bac_desks.specs.Chain.{Chain}
 use Rattle.bac_desks.specs.Event.{Asked, Event, GivenUp, Read, Received, Sent, Waited}
-use Rattle.bac_desks.specs.Served.{Does, Keeps, TurnStep, Whole}
+use Rattle.bac_desks.specs.Served.{Acts, Does, Keeps, TurnStep}
 use Rattle.bac_desks.specs.Table.{Step, TableState}
+use Rattle.bac_desks.specs.declared.desks.Desks.{Desks}
 use Rattle.bac_desks.specs.declared.seat.Seat.{Seat}
 use Rattle.bac_jobs.specs.declared.job.Turn.{Turn}
 use Rattle.bac_jobs.specs.declared.job.Turn.TheVariants.{Wants}
@@ -45,35 +45,35 @@ AskStep plays jobs old (Asked place octets) new =
     Step old (Asked place octets) new × IsWantedAt plays jobs old place octets
 AskStep plays jobs old e new = ⊥
 
+-- jobs of devices, and what each comes to over a record of what came to its questions
+pub record Work (J E : Type 0) : Type 1 where
+  pub plays : J → List Outcome → Turn E → Type 0
+  pub jobs : List J
+
+-- these jobs, which come to that
+abbrev pub work_of : {J E : Type 0} → (J → List Outcome → Turn E → Type 0) → List J → Work J E
+work_of plays jobs = record { plays = plays; jobs = jobs }
+
 -- Questions are asked for jobs, and nothing else happens.
-abbrev pub AsksJobs : {P C J E : Type 0} → (P → List ℕ → List ℕ → Sending → P → Type 0)
-    → (P → ℕ → Receiving → P → Type 0) → (C → ℕ → C → Type 0) → (J → List Outcome → Turn E → Type 0) → List J →
-    P → C → TableState → P → C → TableState → Type 0
-AsksJobs sends receives reads plays jobs port clock t port' clock' t' =
-    (es : List Event) × Does sends receives reads port clock t es port' clock' t' × Chain (AskStep plays jobs) t es t'
+abbrev pub AsksJobs : {P C J E : Type 0} → Acts P C → Work J E → Desks P C → Desks P C → Type 0
+AsksJobs acts work old new =
+    (es : List Event) × Does acts old es new × Chain (AskStep work.plays work.jobs) old.table es new.table
 
 -- Events lead from the port, the clock and the desks before to those after, and nothing is asked by them but what the
 -- jobs want. So each question that is open then is wanted, if those were that are open now.
-abbrev pub ServesJobs : {P C J E : Type 0} → (P → List ℕ → List ℕ → Sending → P → Type 0)
-    → (P → ℕ → Receiving → P → Type 0) → (C → ℕ → C → Type 0) → (J → List Outcome → Turn E → Type 0) → List J →
-    P → C → TableState → P → C → TableState → Type 0
-ServesJobs sends receives reads plays jobs port clock t port' clock' t' =
-    (es : List Event) × Does sends receives reads port clock t es port' clock' t' × Keeps t es t'
-    × Chain (JobStep plays jobs) t es t' × (AreWanted plays jobs t → AreWanted plays jobs t')
+abbrev pub ServesJobs : {P C J E : Type 0} → Acts P C → Work J E → Desks P C → Desks P C → Type 0
+ServesJobs acts work old new =
+    (es : List Event) × Does acts old es new × Keeps old.table es new.table
+    × Chain (JobStep work.plays work.jobs) old.table es new.table
+    × (AreWanted work.plays work.jobs old.table → AreWanted work.plays work.jobs new.table)
 
 -- questions are asked for jobs, and then a turn is made
-abbrev pub RoundStep : {P C J E : Type 0} → (P → List ℕ → List ℕ → Sending → P → Type 0)
-    → (P → ℕ → Receiving → P → Type 0) → (C → ℕ → C → Type 0) → (J → List Outcome → Turn E → Type 0) → List J →
-    Whole P C → List Event → Whole P C → Type 0
-RoundStep {P = P} {C = C} sends receives reads plays jobs old es new =
-    (asks : List Event) × (turn : List Event) × (mid : Whole P C) × (es ≡ asks ++ turn)
-    × Does sends receives reads old.0 old.1 old.2 asks mid.0 mid.1 mid.2 × Chain (AskStep plays jobs) old.2 asks mid.2
-    × TurnStep sends receives reads mid turn new
+abbrev pub RoundStep : {P C J E : Type 0} → Acts P C → Work J E → Desks P C → List Event → Desks P C → Type 0
+RoundStep {P = P} {C = C} acts work old es new =
+    (asks : List Event) × (turn : List Event) × (mid : Desks P C) × (es ≡ asks ++ turn) × Does acts old asks mid
+    × Chain (AskStep work.plays work.jobs) old.table asks mid.table × TurnStep acts mid turn new
 
 -- that is done so often, one after the other
-abbrev pub MakesRounds : {P C J E : Type 0} → (P → List ℕ → List ℕ → Sending → P → Type 0)
-    → (P → ℕ → Receiving → P → Type 0) → (C → ℕ → C → Type 0) → (J → List Outcome → Turn E → Type 0) → List J →
-    ℕ → P → C → TableState → P → C → TableState → Type 0
-MakesRounds sends receives reads plays jobs rounds port clock t port' clock' t' =
-    (made : List (List Event)) × (length made ≡ rounds)
-    × Chain (RoundStep sends receives reads plays jobs) (port, clock, t) made (port', clock', t')
+abbrev pub MakesRounds : {P C J E : Type 0} → Acts P C → Work J E → ℕ → Desks P C → Desks P C → Type 0
+MakesRounds acts work rounds old new =
+    (made : List (List Event)) × (length made ≡ rounds) × Chain (RoundStep acts work) old made new

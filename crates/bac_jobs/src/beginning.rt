@@ -2,8 +2,9 @@
 
 ghost use Rattle.std.specs.Prelude.{◌<◌, IfNone, IfOk, IfSome, length};
 ghost use Rattle.bac_desks.specs.Table.{IsResting};
+ghost use Rattle.bac_desks.specs.Served.{acting};
 ghost use Rattle.bac_jobs.specs.Jobs.{AreEndedSoFar, HasEndedIf};
-ghost use Rattle.bac_jobs.specs.Wanted.{MakesRounds, ServesJobs};
+ghost use Rattle.bac_jobs.specs.Wanted.{MakesRounds, ServesJobs, work_of};
 
 use crate::finishing::{Progress, ask_all};
 use crate::job::{Ending, Job, Turn};
@@ -73,13 +74,12 @@ pub fn begin<P: Port, C: Clock, J: Job>(
         × IsResting desks.new.table)) }
     // Nothing only if as many turns were made, each behind what was asked then.
     ensures unfinished { IfOk result (λ ends. IfNone ends
-        (MakesRounds P.sends P.receives_within C.reads J.plays jobs.now turns desks.old.port
-        desks.old.clock desks.old.table desks.new.port desks.new.clock desks.new.table)) }
+        (MakesRounds (acting P.sends P.receives_within C.reads) (work_of J.plays jobs.now) turns
+        desks.old desks.new)) }
     // Whatever comes of it: what was done at the port and by the clock, and what that makes of the
     // desks; and nothing was asked but what the jobs wanted.
-    ensures serves { ServesJobs P.sends P.receives_within C.reads J.plays jobs.now
-        desks.old.port desks.old.clock desks.old.table desks.new.port desks.new.clock
-        desks.new.table }
+    ensures serves { ServesJobs (acting P.sends P.receives_within C.reads)
+        (work_of J.plays jobs.now) desks.old desks.new }
 {
     let mut progress = Progress::new(alloc, jobs.len())?;
     for round in 0..turns {

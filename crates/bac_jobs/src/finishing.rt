@@ -1,8 +1,9 @@
 //! Jobs are brought to their ends.
 
 ghost use Rattle.std.specs.Prelude.{◌<◌, IfNone, IfOk, IfSome, length};
+ghost use Rattle.bac_desks.specs.Served.{acting};
 ghost use Rattle.bac_jobs.specs.Jobs.{AreEnded, HasEnded, IsIdle};
-ghost use Rattle.bac_jobs.specs.Wanted.{AsksJobs, MakesRounds, ServesJobs};
+ghost use Rattle.bac_jobs.specs.Wanted.{AsksJobs, MakesRounds, ServesJobs, work_of};
 
 use crate::job::{Ending, Job, Turn};
 use bac_desks::{Clock, Desks};
@@ -18,8 +19,8 @@ fn ask_at<P: Port, C: Clock, J: Job>(
     place: usize,
 ) -> Result<bool, AllocError>
     requires { place < length jobs.now }
-    ensures { AsksJobs P.sends P.receives_within C.reads J.plays jobs.now desks.old.port
-        desks.old.clock desks.old.table desks.new.port desks.new.clock desks.new.table }
+    ensures { AsksJobs (acting P.sends P.receives_within C.reads) (work_of J.plays jobs.now)
+        desks.old desks.new }
 {
     let Some(outcomes) = desks.outcomes(place) else {
         return Ok(true);
@@ -105,8 +106,8 @@ fn ask_unless<P: Port, C: Clock, J: Job>(
     progress: &mut Progress,
 ) -> Result<(), AllocError>
     requires { place < length jobs.now }
-    ensures { AsksJobs P.sends P.receives_within C.reads J.plays jobs.now desks.old.port
-        desks.old.clock desks.old.table desks.new.port desks.new.clock desks.new.table }
+    ensures { AsksJobs (acting P.sends P.receives_within C.reads) (work_of J.plays jobs.now)
+        desks.old desks.new }
 {
     if !desks.is_free(place) {
         return Ok(());
@@ -127,8 +128,8 @@ fn ask_those<P: Port, C: Clock, J: Job>(
     from: usize,
     new: bool,
 ) -> Result<(), AllocError>
-    ensures { AsksJobs P.sends P.receives_within C.reads J.plays jobs.now desks.old.port
-        desks.old.clock desks.old.table desks.new.port desks.new.clock desks.new.table }
+    ensures { AsksJobs (acting P.sends P.receives_within C.reads) (work_of J.plays jobs.now)
+        desks.old desks.new }
 {
     for place in from..jobs.len() {
         if progress.is_done(place) || desks.is_open(place) || is_new(desks, place) != new {
@@ -150,8 +151,8 @@ pub(crate) fn ask_all<P: Port, C: Clock, J: Job>(
     jobs: &[J],
     progress: &mut Progress,
 ) -> Result<(), AllocError>
-    ensures { AsksJobs P.sends P.receives_within C.reads J.plays jobs.now desks.old.port
-        desks.old.clock desks.old.table desks.new.port desks.new.clock desks.new.table }
+    ensures { AsksJobs (acting P.sends P.receives_within C.reads) (work_of J.plays jobs.now)
+        desks.old desks.new }
 {
     progress.pass_old(desks);
     let first_new = progress.first_new;
@@ -247,13 +248,12 @@ pub fn finish<P: Port, C: Clock, J: Job>(
         × IsIdle desks.new.table)) }
     // Nothing only if as many turns were made, each behind what was asked then.
     ensures unfinished { IfOk result (λ ends. IfNone ends
-        (MakesRounds P.sends P.receives_within C.reads J.plays jobs.now turns desks.old.port
-        desks.old.clock desks.old.table desks.new.port desks.new.clock desks.new.table)) }
+        (MakesRounds (acting P.sends P.receives_within C.reads) (work_of J.plays jobs.now) turns
+        desks.old desks.new)) }
     // Whatever comes of it: what was done at the port and by the clock, and what that makes of the
     // desks; and nothing was asked but what the jobs wanted.
-    ensures serves { ServesJobs P.sends P.receives_within C.reads J.plays jobs.now
-        desks.old.port desks.old.clock desks.old.table desks.new.port desks.new.clock
-        desks.new.table }
+    ensures serves { ServesJobs (acting P.sends P.receives_within C.reads)
+        (work_of J.plays jobs.now) desks.old desks.new }
 {
     let mut progress = Progress::new(alloc, jobs.len())?;
     for round in 0..turns {

@@ -7,9 +7,9 @@ use Rattle.bac_link.specs.declared.item.Item.{Item}
 use Rattle.bac_link.specs.declared.item.Item.TheVariants.{Gap, Logged}
 use Rattle.bac_link.specs.declared.link.Lost.{Lost as Loss}
 use Rattle.bac_link.specs.Delivery.{AreHeld, Brings, DeliversTo, History, Holds, Leads, Moment, now, later}
-use Rattle.bac_link.specs.Exchanges.{Answers, IsNoAnswer, Unanswered}
+use Rattle.bac_link.specs.Exchanges.{Answers, IsNoAnswer, Unanswered, way_by}
 use Rattle.bac_link.specs.Heard.{heard_in}
-use Rattle.bac_link.specs.Honest.{IsAskedIn, IsHonest, IsSaidOrLost, asked_octets}
+use Rattle.bac_link.specs.Honest.{IsAskedIn, IsHonest, IsSaidOrLost, asked_octets, asked_log}
 use Rattle.bac_link.specs.Laws.{after_answers, moment_at}
 use Rattle.bac_link.specs.Links.{question}
 use Rattle.bac_link.specs.Moments.{AreInWindow, IsInWindow, NeverGoesBack}
@@ -19,7 +19,7 @@ use Rattle.bac_link.specs.Standard.{IsSaidAt}
 use Rattle.bac_link.specs.declared.exchanges.Verdict.TheVariants as verdict
 use Rattle.bac_link.proofs.Delivers.{resumed}
 use Rattle.bac_link.proofs.Honest.{goes_on}
-use Rattle.bac_walk.specs.Came.{Came, Comes, answers_of}
+use Rattle.bac_walk.specs.Came.{Came, Comes, answers_of, reaching, walk_over}
 use Rattle.bac_walk.specs.Collects.{batches, turn_items}
 use Rattle.bac_walk.specs.Meant.{Means}
 use Rattle.bac_walk.specs.Place.{WalkPlace, asking, walk_at, walk_from_oldest}
@@ -41,7 +41,7 @@ use Rattle.bac_walk.proofs.Shown.{ahead-number}
 use Rattle.bac_walk.proofs.Standard.{said_means}
 use Rattle.bac_walk.proofs.Window.{after_in}
 use Rattle.bac_keep.specs.declared.look.Seen.TheVariants.{Same, Another, Later, Earlier}
-use Rattle.bac_keep.specs.Looks.{AsksOldest, CameTo, IsSeen, IsSeenBy, KeptAs, Looks, is_before, is_held_as, seen_by}
+use Rattle.bac_keep.specs.Looks.{AsksOldest, CameTo, IsSeen, IsSeenBy, KeptAs, Looks, is_before, is_held_as, seen_by, sought}
 use Rattle.bac_keep.specs.Items.{stamp_text}
 use Rattle.bac_keep.specs.UpToDate.{AskedTellsCaughtUp, EndsByNone}
 use Rattle.bac_keep.proofs.UpToDateLemmas.{held_tells}
@@ -116,7 +116,7 @@ asked_for path invoke w = asked_octets path invoke w.log (asked_by w)
 
 module _ {S : Type 0} (asks : Asking S) (path : Path) (log : Id) (count : ℕ) (H : History) (low : ℕ) where
   abbrev stands : S → List Moment → Type 0
-  stands link M = IsHonest asks path log count H low link M
+  stands link M = IsHonest asks (asked_log path log count) H low link M
 
   one_ask : (M : List Moment) (w : WalkPlace) (s invoke : ℕ) (old new : S) (answer : Result (List ℕ) Loss) → Here low log count M w s → stands old M →
       asks old (asked_for path invoke w) answer new → IsSaidOrLost (λ N. stands new N) M H w.log (asked_by w) (asked_for path invoke w) answer
@@ -139,7 +139,7 @@ module _ {S : Type 0} (asks : Asking S) (path : Path) (log : Id) (count : ℕ) (
       last (Err lost) said none = said
 
   answered : (M : List Moment) (w : WalkPlace) (s invoke retries : ℕ) (old : S) (datagram : List ℕ) (new : S) → Here low log count M w s → stands old M →
-      Answers asks path invoke (question w.log (question_of w)) retries verdict.Ack old datagram new →
+      Answers asks (way_by path invoke retries) (question w.log (question_of w)) verdict.Ack old datagram new →
       IsSaidAt (now M) H w.log (asked_by w) datagram × stands new (later M)
   answered M w s invoke retries old datagram new here at (tries, mid, few, first, asked, is) =
       let at_mid = unanswered M w s invoke tries old mid here at first in
@@ -217,7 +217,7 @@ module _ {S : Type 0} (asks : Asking S) (path : Path) (log : Id) (count : ℕ) (
   )
 
   none_at : (retries : ℕ) (came : List Came) (M : List Moment) (w : WalkPlace) (s : ℕ) (old mid : S) (after : WalkPlace) → Here low log count M w s → stands old M →
-      Comes asks path retries old w came after mid → EndsByNone came → NoneAt M s came after mid
+      Comes (reaching asks path retries) (walk_over old w) came (walk_over mid after) → EndsByNone came → NoneAt M s came after mid
   none_at retries [] M w s old mid after here at comes ends = absurd ends
   none_at retries (c ∷ []) M w s old mid after here at (half, next, p, place, asked, taken, is, rest) ends =
       let said = answered M w s asked.0 retries old c.datagram half here at asked.1 in
@@ -260,7 +260,7 @@ module _ {S : Type 0} (asks : Asking S) (path : Path) (log : Id) (count : ℕ) (
 
   -- it was held when it was found
   found_held : (retries : ℕ) (kept : KeptAs) (M : List Moment) (k : ℕ) (mid new : S) → stands mid M → 0 < length M → NeverGoesBack M → AreInWindow low M → low ≤ k →
-      k < low + 2147483648 → kept.number ≡ sequence_number k → Looks asks path retries mid log count kept (Ok Same) new →
+      k < low + 2147483648 → kept.number ≡ sequence_number k → Looks asks path retries mid (sought log count kept) (Ok Same) new →
       (j : ℕ) × (n : ℕ) × Holds (moment_at M j) n × (kept.number ≡ sequence_number n)
   found_held retries kept M k mid new at some back window from below number (zeroth, looks) =
       let (answer, oldest, half, seen, first, more, none) = looks (omega (arith, number)) in by answer oldest half seen first more

@@ -12,8 +12,8 @@ use Rattle.bac_link.proofs.Delivers.{joined, each_once}
 use Rattle.bac_walk.specs.declared.outcome.Ended.{Ended}
 use Rattle.bac_walk.specs.declared.outcome.Ended.TheVariants.{StepLimit}
 use Rattle.bac_link.specs.Moments.{NeverGoesBack}
-use Rattle.bac_walk.specs.Came.{Brought, answers_of}
-use Rattle.bac_link.specs.Honest.{IsHonest}
+use Rattle.bac_walk.specs.Came.{Brought, answers_of, reaching, walk_over}
+use Rattle.bac_link.specs.Honest.{IsHonest, asked_log}
 use Rattle.bac_link.specs.Moments.{AreInWindow}
 use Rattle.bac_walk.specs.Place.{WalkPlace}
 use Rattle.bac_walk.proofs.Came.{Asking, brought_ran, delivered_to, start_old}
@@ -27,9 +27,11 @@ use Rattle.bac_archive.proofs.BeginLemmas.{adds_nothing}
 use Rattle.bac_keep.specs.declared.place.Place.{Place}
 use Rattle.bac_keep.specs.Items.{era, era_after, kept_rows}
 use Rattle.bac_keep.specs.Came.{GathersOver, KeepsOver, LeavesOver}
-use Rattle.bac_keep.specs.Honest.{GoOnOver, HonestIsKept, HonestRunsAreKept, KeptOverJoin, RanOver, reached_over}
-use Rattle.bac_keep.specs.Kept.{HasNoneBehind, IsKept}
+use Rattle.bac_keep.specs.Honest.{GoOnOver, HonestIsKept, HonestRunsAreKept, KeptOverJoin, RanOver, reached_over, log_history}
+use Rattle.bac_keep.specs.Kept.{HasNoneBehind, IsKept, eras}
 use Rattle.bac_keep.specs.Turns.{WasKept}
+use Rattle.bac_keep.specs.Runs.{run_place, tally}
+use Rattle.bac_keep.specs.Gathers.{yields}
 use Rattle.bac_log.specs.TrendLog.{sequence_number}
 use Rattle.bac_keep.proofs.Eras.{rows-append, era-append, era-up}
 use Rattle.bac_keep.proofs.KeptLemmas.{runs_kept, still_none}
@@ -37,7 +39,7 @@ use Rattle.bac_keep.proofs.RunLemmas.{appended_then, gaps-append, records-append
 
 module _ {S : Type 0} (asks : Asking S) where
   -- without a step nothing is kept
-  pub over_nothing : (path : Path) (retries : ℕ) (place : Place) (db : Database) (link : S) (w : WalkPlace) → KeepsOver asks path retries place place db db link link w w 0 StepLimit 0 0
+  pub over_nothing : (path : Path) (retries : ℕ) (place : Place) (db : Database) (link : S) (w : WalkPlace) → KeepsOver asks path retries (run_place db place link w) (run_place db place link w) (tally 0 StepLimit 0 0)
   over_nothing path retries place db link w =
       let none = no_brought asks path retries link w in
       record {
@@ -55,12 +57,12 @@ module _ {S : Type 0} (asks : Asking S) where
   -- what a run keeps, and one that goes on from there
   pub over_then : (path path_then : Path) (retries retries_then : ℕ) (place halfway reached : Place) (a b c : Database) (link half left : S) (before middle after : WalkPlace) (steps more : ℕ) (ended : Ended) (records gaps records_then gaps_then : ℕ) →
       path_then ≡ path → retries_then ≡ retries →
-      KeepsOver asks path retries place halfway a b link half before middle steps StepLimit records gaps →
-      KeepsOver asks path_then retries_then halfway reached b c half left middle after more ended records_then gaps_then →
-      KeepsOver asks path retries place reached a c link left before after (steps + more) ended (records + records_then) (gaps + gaps_then)
+      KeepsOver asks path retries (run_place a place link before) (run_place b halfway half middle) (tally steps StepLimit records gaps) →
+      KeepsOver asks path_then retries_then (run_place b halfway half middle) (run_place c reached left after) (tally more ended records_then gaps_then) →
+      KeepsOver asks path retries (run_place a place link before) (run_place c reached left after) (tally (steps + more) ended (records + records_then) (gaps + gaps_then))
   over_then path path_then retries retries_then place halfway reached a b c link half left before middle after steps more ended records gaps records_then gaps_then by tries p q =
-      let P : Path → Type 0 = λ y. Brought asks y retries_then half middle more q.came q.items ended after left in
-      let N : ℕ → Type 0 = λ n. Brought asks path n half middle more q.came q.items ended after left in
+      let P : Path → Type 0 = λ y. Brought (reaching asks y retries_then) (walk_over half middle) more q.came q.items ended (walk_over left after) in
+      let N : ℕ → Type 0 = λ n. Brought (reaching asks path n) (walk_over half middle) more q.came q.items ended (walk_over left after) in
       let there = era_after (era place) p.items in
       let more_rows = subst (λ e. IsAppended b c (kept_rows e q.items)) p.era_is q.rows in
       let behind = subst (λ e. era reached ≡ era_after e q.items) p.era_is q.era_is in
@@ -79,8 +81,8 @@ module _ {S : Type 0} (asks : Asking S) where
 
   -- one step, whose rows were appended
   pub over_one : (path : Path) (retries : ℕ) (place reached : Place) (old new : Database) (link left : S) (before after : WalkPlace) (ended : Ended) (rows : List Values) (records gaps : ℕ) → after.log ≡ before.log →
-      GathersOver asks path retries place reached rows records gaps link left before after ended → IsAppended old new rows →
-      KeepsOver asks path retries place reached old new link left before after 1 ended records gaps
+      GathersOver asks path retries place (yields rows records gaps ended reached) (walk_over link before) (walk_over left after) → IsAppended old new rows →
+      KeepsOver asks path retries (run_place old place link before) (run_place new reached left after) (tally 1 ended records gaps)
   over_one path retries place reached old new link left before after ended rows records gaps log g added = record {
     items = g.0;
     came = g.2.0;
@@ -94,14 +96,14 @@ module _ {S : Type 0} (asks : Asking S) where
   }
 
   pub leaves_over_more : (path : Path) (retries : ℕ) (place : Place) (old : Database) (link : S) (before : WalkPlace) (n steps : ℕ) (trees : Trees) → n ≤ steps →
-      LeavesOver asks path retries place old link before n trees → LeavesOver asks path retries place old link before steps trees
+      LeavesOver asks path retries (run_place old place link before) n trees → LeavesOver asks path retries (run_place old place link before) steps trees
   leaves_over_more path retries place old link before n steps trees le it = (it.0, it.1, it.2, it.3, it.4, it.5, it.6, (let few : it.3 ≤ n = it.7 in omega (arith, few)), it.8, it.9, it.10)
 
   -- what a crash within a step leaves, after the steps before it
   pub leaves_over_then : (path path_then : Path) (retries retries_then : ℕ) (place halfway reached : Place) (old mid db : Database) (trees : Trees) (link half left : S) (before middle after : WalkPlace) (steps : ℕ) (ended : Ended) (records gaps records_then gaps_then : ℕ) →
       path_then ≡ path → retries_then ≡ retries →
-      KeepsOver asks path retries place halfway old mid link half before middle steps StepLimit records gaps → trees ≡ db.trees →
-      KeepsOver asks path_then retries_then halfway reached mid db half left middle after 1 ended records_then gaps_then → LeavesOver asks path retries place old link before (steps + 1) trees
+      KeepsOver asks path retries (run_place old place link before) (run_place mid halfway half middle) (tally steps StepLimit records gaps) → trees ≡ db.trees →
+      KeepsOver asks path_then retries_then (run_place mid halfway half middle) (run_place db reached left after) (tally 1 ended records_then gaps_then) → LeavesOver asks path retries (run_place old place link before) (steps + 1) trees
   leaves_over_then path path_then retries retries_then place halfway reached old mid db trees link half left before middle after steps ended records gaps records_then gaps_then by tries p is q = (
     db,
     left,
@@ -124,7 +126,7 @@ module _ {S : Type 0} (asks : Asking S) where
 
   pub honest_kept : HonestIsKept asks
   honest_kept path retries place reached old new link left before after steps ended records gaps H M s low kept honest next some back window at =
-      let stands : S → List Moment → Type 0 = λ l N. IsHonest asks path before.log before.count H low l N in
+      let stands : S → List Moment → Type 0 = λ l N. IsHonest asks (asked_log path before.log before.count) H low l N in
       let said = honest_delivers asks stands path retries link left before after steps kept.came kept.items ended H M low s (goes_on asks path before.log before.count H low) honest kept.brought next some back window at in
       let ran = brought_ran asks path retries link left before after steps kept.came kept.items ended H M low s kept.brought said.1 next some back window at in (
         ran.0,
@@ -176,7 +178,7 @@ waits H s t count n M items d =
     subst P (append-nil items) (joined H s t t count n M items [] d (waits_for H t n (after_answers count M)))
 
 reached-up : {S : Type 0} (asks : Asking S) (log : Id) (H : History) (low last : ℕ) (trees : Trees) (next : ℕ) (M : List Moment) (runs : List (RanOver S)) →
-    GoOnOver asks log H low last trees next M runs → last ≤ reached_over last runs
+    GoOnOver asks (log_history log H low) last trees next M runs → last ≤ reached_over last runs
 reached-up asks log H low last trees next M [] on = omega arith
 reached-up asks log H low last trees next M (run ∷ runs) (kept, at, rows, id, by_number, number, honest, on) =
     let rises = era-up (era run.place) kept.items in
@@ -187,16 +189,16 @@ reached-up asks log H low last trees next M (run ∷ runs) (kept, at, rows, id, 
 
 -- one run over a link that is honest for its log, over what was kept of it
 pub honest_one : {S : Type 0} (asks : Asking S) (log : Id) (H : History) (low first last to b s count : ℕ) (M : List Moment) (next : ℕ) (run : RanOver S) (kept : WasKept asks run) →
-    IsKept H first last run.old.trees b s M count → HasNoneBehind last to (kept_in run.old.trees) → era run.reached ≤ to →
+    IsKept H (eras first last) run.old.trees b s M count → HasNoneBehind last to (kept_in run.old.trees) → era run.reached ≤ to →
     next ≡ sequence_number s → low ≤ s → s < low + 2147483648 → 0 < length M → NeverGoesBack M → AreInWindow low M →
-    era run.place ≡ last → run.before.log ≡ log → run.before.fresh ≡ false → run.before.next ≡ next → IsHonest asks run.path log run.before.count H low run.link (after_answers count M) →
-    (t : ℕ) × (run.after.next ≡ sequence_number t) × IsKept H first (era run.reached) run.new.trees b t M (count + (length kept.came + run.unkept))
+    era run.place ≡ last → run.before.log ≡ log → run.before.fresh ≡ false → run.before.next ≡ next → IsHonest asks (asked_log run.path log run.before.count) H low run.link (after_answers count M) →
+    (t : ℕ) × (run.after.next ≡ sequence_number t) × IsKept H (eras first (era run.reached)) run.new.trees b t M (count + (length kept.came + run.unkept))
     × HasNoneBehind (era run.reached) to (kept_in run.new.trees) × (low ≤ t) × (t < low + 2147483648)
 honest_one asks log H low first last to b s count M next run kept was free up is above below some back window here id by_number at honest =
     let N : List Moment = after_answers count M in
     let answers : ℕ = length kept.came + run.unkept in
     let after : ℕ = era run.reached in
-    let Q : Id → Type 0 = λ i. IsHonest asks run.path i run.before.count H low run.link N in
+    let Q : Id → Type 0 = λ i. IsHonest asks (asked_log run.path i run.before.count) H low run.link N in
     let d = honest_kept asks run.path run.retries run.place run.reached run.old run.new run.link run.left run.before run.after run.steps run.ended run.records run.gaps H N s low kept
     (subst Q (sym id) honest) (at ∙ is) (some_after count M some) (back_after count M back) (after_in low count M window) (λ f. (above, below)) in
     let D : ℕ → Type 0 = λ x. DeliversTo H x kept.items d.1 N (length kept.came) in
@@ -206,7 +208,7 @@ honest_one asks log H low first last to b s count M next run kept was free up is
     let reach : after ≡ era_after last kept.items = kept.era_is ∙ ap (λ e. era_after e kept.items) here in
     let to_here : HasNoneBehind last after (kept_in run.old.trees) = λ e lt le. free e lt (let in_reach : e ≤ to = omega (arith, le, up) in in_reach) in
     let F : ℕ → Type 0 = λ e. HasNoneBehind last e (kept_in run.old.trees) in
-    let K : ℕ → Type 0 = λ e. IsKept H first e run.new.trees b d.1 M (count + answers) in
+    let K : ℕ → Type 0 = λ e. IsKept H (eras first e) run.new.trees b d.1 M (count + answers) in
     let B : ℕ → Type 0 = λ e. HasNoneBehind e to (kept_in run.new.trees) in
     let one = subst K (sym reach) (runs_kept H first last run.old.trees run.new.trees b s d.1 count answers M kept.items was (subst F reach to_here) added (waits H s d.1 (length kept.came) run.unkept N kept.items goes)) in
     let covers = each_once H s d.1 (length kept.came) N kept.items goes in
@@ -220,8 +222,8 @@ honest_runs asks log H low first last old b s count M next (run ∷ runs) was fr
     let answers : ℕ = length kept.came + run.unkept in
     let to : ℕ = reached_over (era run.reached) runs in
     let up = reached-up asks log H low (era run.reached) run.new.trees run.after.next (after_answers answers (after_answers count M)) runs on in
-    let W : Trees → Type 0 = λ trees. IsKept H first last trees b s M count in
+    let W : Trees → Type 0 = λ trees. IsKept H (eras first last) trees b s M count in
     let F : Trees → Type 0 = λ trees. HasNoneBehind last to (kept_in trees) in
-    let G : List Moment → Type 0 = λ x. GoOnOver asks log H low (era run.reached) run.new.trees run.after.next x runs in
+    let G : List Moment → Type 0 = λ x. GoOnOver asks (log_history log H low) (era run.reached) run.new.trees run.after.next x runs in
     let one = honest_one asks log H low first last to b s count M next run kept (subst W (sym rows) was) (subst F (sym rows) free) up is above below some back window here id by_number at honest in
     honest_runs asks log H low first (era run.reached) run.new.trees b one.0 (count + answers) M run.after.next runs one.2 one.3 one.1 one.4 one.5 some back window (subst G (sym (after_answers-add count answers M)) on)

@@ -21,6 +21,7 @@ use Rattle.bac_walk.specs.Walks.{gap_items, item_of, items_in}
 use Rattle.bac_walk.proofs.Goes.{stays_goes, turn_goes}
 use Rattle.bac_walk.proofs.Handed.{calls_of, items-calls, map-append, put_up_to, put_whole}
 use Rattle.bac_walk.proofs.Told.{Asking}
+use Rattle.bac_walk.specs.Came.{walk_over}
 use Rattle.bac_keep.specs.declared.place.Place.{Place}
 use Rattle.bac_keep.specs.declared.sink.Pending.{Pending}
 use Rattle.bac_keep.specs.declared.sink.Refusal.{Refusal}
@@ -75,13 +76,13 @@ put_some old new b n put =
 
 -- a turn is one question, whichever the transaction
 pub asks_once : {S : Type 0} (asks : Asking S) (t : Transactions) (old : S) (w : WalkPlace) (answer : Result Progress WalkFault) (after : WalkPlace) (new : S) →
-    TurnBy asks t old w answer after new → AsksOnce asks (towards t.route) t.retries old w answer after new
+    TurnBy asks t old w answer after new → AsksOnce asks (towards t.route) t.retries (walk_over old w) answer (walk_over new after)
 asks_once asks t old w (Ok p) after new turn = (turn.0, (next_invoke t.invoke, turn.1), turn.2)
 asks_once asks t old w (Err fault) after new turn = (turn.0, (next_invoke t.invoke, turn.1), turn.2, turn.3)
 
 -- what came covers all from the walk's number up to where it goes on
 pub once_goes : {S : Type 0} (asks : Asking S) (path : Path) (retries : ℕ) (old : S) (w : WalkPlace) (answer : Result Progress WalkFault) (after : WalkPlace) (new : S) →
-    AsksOnce asks path retries old w answer after new → (s : ℕ) → Goes w.fresh w.next s (turn_items answer) after.fresh after.next
+    AsksOnce asks path retries (walk_over old w) answer (walk_over new after) → (s : ℕ) → Goes w.fresh w.next s (turn_items answer) after.fresh after.next
 once_goes asks path retries old w (Ok p) after new turn s = turn_goes w s (heard_in w.log turn.0) p after turn.2
 once_goes asks path retries old w (Err fault) after new turn s =
     subst (λ (v : WalkPlace). Goes w.fresh w.next s [] v.fresh v.next) (sym turn.3) (stays_goes w.fresh w.next s)

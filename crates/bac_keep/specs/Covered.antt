@@ -15,7 +15,7 @@ use Rattle.bac_archive.specs.Rows.{kept}
 use Rattle.bac_keep.specs.declared.place.Place.{Place}
 use Rattle.bac_keep.specs.Items.{era, era_after, kept_rows}
 use Rattle.bac_keep.specs.Kept.{HasNoneBehind, rows_at, rows_in}
-use Rattle.bac_keep.specs.Runs.{KeepsRun}
+use Rattle.bac_keep.specs.Runs.{KeepsRun, run_place, tally}
 
 -- The rows of these eras, which are epochs of one log, are those of items that cover the ordinals s to t - 1, each
 -- once, in rising order.
@@ -36,7 +36,8 @@ abbrev pub RunsBeginCovered : {L : Type 0} → (L → Id → ℕ → List Moment
 RunsBeginCovered {L = L} ours failures =
     (place reached : Place) (retries : ℕ) (old new : Database) (link left : L) (before after : WalkPlace)
     (steps records gaps : ℕ) (ended : Ended) (s : ℕ)
-    (run : KeepsRun ours failures place reached retries old new link left before after steps ended records gaps) →
+    (run : KeepsRun ours failures retries (run_place old place link before) (run_place new reached left after)
+    (tally steps ended records gaps)) →
     (before.fresh ≡ false → before.next ≡ sequence_number s) → (before.fresh ≡ true → BeginWith s run.items) →
     rows_at place (kept old.trees) ≡ [] → HasNoneBehind (era place) (era reached) (kept old.trees) →
     (t : ℕ) × (run.items ≡ [] → after.next ≡ before.next)
@@ -49,7 +50,8 @@ abbrev pub RunsGoOnCovered : {L : Type 0} → (L → Id → ℕ → List Moment 
 RunsGoOnCovered {L = L} ours failures =
     (first : ℕ) (place reached : Place) (retries : ℕ) (old new : Database) (link left : L) (before after : WalkPlace)
     (steps records gaps : ℕ) (ended : Ended) (s t : ℕ) →
-    KeepsRun ours failures place reached retries old new link left before after steps ended records gaps →
+    KeepsRun ours failures retries (run_place old place link before) (run_place new reached left after)
+    (tally steps ended records gaps) →
     before.fresh ≡ false → before.next ≡ sequence_number t →
     HasNoneBehind (era place) (era reached) (kept old.trees) → IsCovered first (era place) old.trees s t →
     (u : ℕ) × (after.next ≡ sequence_number u) × IsCovered first (era reached) new.trees s u

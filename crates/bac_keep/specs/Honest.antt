@@ -13,15 +13,16 @@ use Rattle.bac_walk.specs.declared.outcome.Ended.TheVariants.{CaughtUp, StepLimi
 use Rattle.bac_link.specs.Moments.{NeverGoesBack}
 use Rattle.bac_walk.specs.Came.{answers_of}
 use Rattle.bac_walk.specs.Collects.{IsCaughtUp, start_of}
-use Rattle.bac_link.specs.Honest.{IsHonest}
-use Rattle.bac_walk.specs.Honest.{IsHonestEnd, IsLeftAt}
+use Rattle.bac_link.specs.Honest.{IsHonest, asked_log}
+use Rattle.bac_walk.specs.Honest.{IsHonestEnd, IsLeftAt, log_course}
 use Rattle.bac_link.specs.Moments.{AreInWindow}
 use Rattle.bac_walk.specs.Place.{WalkPlace}
 use Rattle.bac_archive.specs.Rows.{Adds, kept as kept_in}
 use Rattle.bac_keep.specs.declared.place.Place.{Place}
 use Rattle.bac_keep.specs.Came.{KeepsOver}
 use Rattle.bac_keep.specs.Items.{era, era_after, kept_rows}
-use Rattle.bac_keep.specs.Kept.{HasNoneBehind, IsKept}
+use Rattle.bac_keep.specs.Kept.{HasNoneBehind, IsKept, eras}
+use Rattle.bac_keep.specs.Runs.{RunPlace, Tally, run_place, tally}
 
 -- What a run keeps whose steps were all whole, and one that goes on where it ended, is what one run of as many steps
 -- keeps, whoever answers.
@@ -30,10 +31,12 @@ KeptOverJoin {S = S} asks =
     (path : Path) (retries : ℕ) (place halfway reached : Place) (old mid new : Database)
     (link half left : S) (before middle after : WalkPlace) (steps more : ℕ) (ended : Ended)
     (records gaps records_then gaps_then : ℕ) →
-    KeepsOver asks path retries place halfway old mid link half before middle steps StepLimit records gaps →
-    KeepsOver asks path retries halfway reached mid new half left middle after more ended records_then gaps_then →
-    KeepsOver asks path retries place reached old new link left before after (steps + more) ended
-    (records + records_then) (gaps + gaps_then)
+    KeepsOver asks path retries (run_place old place link before) (run_place mid halfway half middle)
+    (tally steps StepLimit records gaps) →
+    KeepsOver asks path retries (run_place mid halfway half middle) (run_place new reached left after)
+    (tally more ended records_then gaps_then) →
+    KeepsOver asks path retries (run_place old place link before) (run_place new reached left after)
+    (tally (steps + more) ended (records + records_then) (gaps + gaps_then))
 
 -- What a run keeps was added, and over a link that is honest for its log from the moments M on it is delivered: from
 -- the ordinal of the walk's number on, or, by a walk from the oldest record, from the oldest that was held when its
@@ -45,14 +48,15 @@ HonestIsKept {S = S} asks =
     (path : Path) (retries : ℕ) (place reached : Place) (old new : Database) (link left : S)
     (before after : WalkPlace) (steps : ℕ) (ended : Ended) (records gaps : ℕ)
     (H : History) (M : List Moment) (s low : ℕ)
-    (kept : KeepsOver asks path retries place reached old new link left before after steps ended records gaps) →
-    IsHonest asks path before.log before.count H low link M → before.next ≡ sequence_number s →
+    (kept : KeepsOver asks path retries (run_place old place link before) (run_place new reached left after)
+    (tally steps ended records gaps)) →
+    IsHonest asks (asked_log path before.log before.count) H low link M → before.next ≡ sequence_number s →
     0 < length M → NeverGoesBack M → AreInWindow low M →
     (before.fresh ≡ false → (low ≤ s) × (s < low + 2147483648)) →
     (b : ℕ) × (t : ℕ) × (before.fresh ≡ false → b ≡ s) × (after.next ≡ sequence_number t)
     × Adds old.trees new.trees (kept_rows (era place) kept.items) × (era reached ≡ era_after (era place) kept.items)
     × DeliversTo H b kept.items t M (length kept.came)
-    × IsLeftAt asks path before.log before.count H low link left M (length kept.came)
+    × IsLeftAt asks (asked_log path before.log before.count) low link left (log_course H M) (length kept.came)
     × (ended ≡ CaughtUp → IsCaughtUp before.fresh t M (answers_of kept.came)) × IsHonestEnd ended
     × (b ≡ start_of before.fresh s M (answers_of kept.came))
 
@@ -76,19 +80,40 @@ pub record RanOver (S : Type 0) : Type 0 where
   pub gaps : ℕ
   pub unkept : ℕ
 
+-- where such a run began
+abbrev pub began_at : {S : Type 0} → RanOver S → RunPlace S
+began_at run = run_place run.old run.place run.link run.before
+
+-- and where it ended
+abbrev pub ended_at : {S : Type 0} → RanOver S → RunPlace S
+ended_at run = run_place run.new run.reached run.left run.after
+
+-- and its tally
+abbrev pub tally_of : {S : Type 0} → RanOver S → Tally
+tally_of run = tally run.steps run.ended run.records run.gaps
+
+-- a log whose runs are kept, its history, and the ordinal from which on the window of its numbers lies
+pub record LogHistory : Type 0 where
+  pub log : Id
+  pub history : History
+  pub low : ℕ
+
+-- the three together
+abbrev pub log_history : Id → History → (low : ℕ) → LogHistory
+log_history log H low = record { log = log; history = H; low = low }
+
 -- Runs over one log, from this number in an era on, over the moments M: each over the rows that the one before left,
 -- from the number and the era where its kept steps ended, and over a link that is honest for the log from the moments
 -- on that all answers before it left.
-abbrev pub GoOnOver : {S : Type 0} → (S → List ℕ → Result (List ℕ) Loss → S → Type 0) → Id → History → ℕ → ℕ →
-    Trees → ℕ → List Moment → List (RanOver S) → Type 0
-GoOnOver asks log H low last trees next M [] = Unit {0}
-GoOnOver asks log H low last trees next M (run ∷ runs) =
-    (kept : KeepsOver asks run.path run.retries run.place run.reached run.old run.new run.link run.left run.before
-    run.after run.steps run.ended run.records run.gaps)
+abbrev pub GoOnOver : {S : Type 0} → (S → List ℕ → Result (List ℕ) Loss → S → Type 0) → LogHistory → ℕ → Trees → ℕ →
+    List Moment → List (RanOver S) → Type 0
+GoOnOver asks of last trees next M [] = Unit {0}
+GoOnOver asks of last trees next M (run ∷ runs) =
+    (kept : KeepsOver asks run.path run.retries (began_at run) (ended_at run) (tally_of run))
     × (era run.place ≡ last) × (run.old.trees ≡ trees)
-    × (run.before.log ≡ log) × (run.before.fresh ≡ false) × (run.before.next ≡ next)
-    × IsHonest asks run.path log run.before.count H low run.link M
-    × GoOnOver asks log H low (era run.reached) run.new.trees run.after.next
+    × (run.before.log ≡ of.log) × (run.before.fresh ≡ false) × (run.before.next ≡ next)
+    × IsHonest asks (asked_log run.path of.log run.before.count) of.history of.low run.link M
+    × GoOnOver asks of (era run.reached) run.new.trees run.after.next
     (after_answers (length kept.came + run.unkept) M) runs
 
 -- the rows that runs leave
@@ -113,9 +138,9 @@ abbrev pub HonestRunsAreKept : {S : Type 0} → (S → List ℕ → Result (List
 HonestRunsAreKept {S = S} asks =
     (log : Id) (H : History) (low first last : ℕ) (old : Trees) (b s count : ℕ) (M : List Moment) (next : ℕ)
     (runs : List (RanOver S)) →
-    IsKept H first last old b s M count → HasNoneBehind last (reached_over last runs) (kept_in old) →
+    IsKept H (eras first last) old b s M count → HasNoneBehind last (reached_over last runs) (kept_in old) →
     next ≡ sequence_number s → low ≤ s → s < low + 2147483648 →
     0 < length M → NeverGoesBack M → AreInWindow low M →
-    GoOnOver asks log H low last old next (after_answers count M) runs →
+    GoOnOver asks (log_history log H low) last old next (after_answers count M) runs →
     (t : ℕ) × (all : ℕ) × (next_over next runs ≡ sequence_number t)
-    × IsKept H first (reached_over last runs) (left_over old runs) b t M all
+    × IsKept H (eras first (reached_over last runs)) (left_over old runs) b t M all

@@ -15,11 +15,12 @@ use Rattle.bac_keep.specs.declared.look.Seen.TheVariants.{Same, Another, Later, 
 use Rattle.bac_keep.specs.Items.{stamp_text}
 use Rattle.bac_link.specs.declared.link.Lost.{Lost as Loss}
 use Rattle.bac_link.specs.declared.transactions.Transactions.{Transactions}
+use Rattle.bac_link.specs.Exchanges.{Ask, Client, client}
 use Rattle.bac_link.specs.Path.{Path, towards}
 use Rattle.bac_walk.specs.Place.{WalkPlace, asking, walk_at, walk_from_oldest}
-use Rattle.bac_walk.specs.Came.{Brought, Came}
+use Rattle.bac_walk.specs.Came.{Brought, Came, reaching, walk_over}
 use Rattle.bac_walk.specs.Collects.{step_ended, step_items}
-use Rattle.bac_walk.specs.Transacted.{BroughtBy}
+use Rattle.bac_walk.specs.Transacted.{BroughtBy, walk_by}
 use Rattle.bac_wire.specs.Primitive.{Id}
 
 -- a record as it is kept: its number, and the texts of its date and time, of its datum and of its status flags
@@ -55,7 +56,8 @@ abbrev pub CameTo : {S : Type 0} → (S → List ℕ → Result (List ℕ) Loss 
     Result Step WalkFault → S → Type 0
 CameTo {S = S} asks path retries old walk answer new =
     (came : List Came) × (after : WalkPlace)
-    × Brought asks path retries old walk 1 came (step_items answer) (step_ended answer) after new
+    × Brought (reaching asks path retries) (walk_over old walk) 1 came (step_items answer) (step_ended answer)
+    (walk_over new after)
 
 -- What the first record that is held says of the kept one: it is that one, or another one of its number; or it lies
 -- behind it, which half of the numbers do; or before it.
@@ -83,15 +85,25 @@ IsSeen kept (Err fault) oldest seen = seen ≡ Err fault
 IsSeen kept (Ok CaughtUp) oldest seen = IsSeenLast kept oldest seen
 IsSeen kept (Ok (BatchOf batch)) oldest seen = IsSeenBy kept batch.entries.items seen
 
+-- the record that is looked for: of which log, with how many behind it, and as it is kept
+pub record Sought : Type 0 where
+  pub log : Id
+  pub count : ℕ
+  pub kept : KeptAs
+
+-- the three together
+abbrev pub sought : Id → (count : ℕ) → KeptAs → Sought
+sought log count kept = record { log = log; count = count; kept = kept }
+
 -- The kept record of a log was looked for over a link, with so many behind it, and this was seen, whoever answered: one
 -- of the number 0 isn't asked for.
-abbrev pub Looks : {S : Type 0} → (S → List ℕ → Result (List ℕ) Loss → S → Type 0) → Path → ℕ → S → Id →
-    (count : ℕ) → KeptAs → Result Seen WalkFault → S → Type 0
-Looks {S = S} asks path retries old log count kept seen new =
-    (kept.number ≡ 0 → (seen ≡ Ok Another) × (new ≡ old))
-    × (0 < kept.number → (answer : Result Step WalkFault) × (oldest : Result Step WalkFault) × (half : S)
-    × IsSeen kept answer oldest seen × CameTo asks path retries old (asking count (walk_at log kept.number)) answer half
-    × (AsksOldest answer → CameTo asks path retries half (asking count (walk_from_oldest log)) oldest new)
+abbrev pub Looks : {S : Type 0} → Ask S → Path → ℕ → S → Sought → Result Seen WalkFault → S → Type 0
+Looks {S = S} asks path retries old it seen new =
+    (it.kept.number ≡ 0 → (seen ≡ Ok Another) × (new ≡ old))
+    × (0 < it.kept.number → (answer : Result Step WalkFault) × (oldest : Result Step WalkFault) × (half : S)
+    × IsSeen it.kept answer oldest seen
+    × CameTo asks path retries old (asking it.count (walk_at it.log it.kept.number)) answer half
+    × (AsksOldest answer → CameTo asks path retries half (asking it.count (walk_from_oldest it.log)) oldest new)
     × ((AsksOldest answer → ⊥) → new ≡ half))
 
 -- ---- by which transactions
@@ -101,22 +113,22 @@ abbrev pub CameToBy : {S : Type 0} → (S → List ℕ → Result (List ℕ) Los
     Result Step WalkFault → Transactions → S → Type 0
 CameToBy asks first old walk answer last new =
     (came : List Came) × (after : WalkPlace)
-    × BroughtBy asks first old walk 1 came (step_items answer) (step_ended answer) after last new
+    × BroughtBy asks (walk_by old first walk) 1 came (step_items answer) (step_ended answer) (walk_by new last after)
 
--- The kept record was looked for, as above, each question by the next of these transactions, which it leaves so.
-abbrev pub LooksBy : {S : Type 0} → (S → List ℕ → Result (List ℕ) Loss → S → Type 0) → Transactions → S → Id →
-    (count : ℕ) → KeptAs → Result Seen WalkFault → Transactions → S → Type 0
-LooksBy {S = S} asks first old log count kept seen last new =
-    (kept.number ≡ 0 → (seen ≡ Ok Another) × (last ≡ first) × (new ≡ old))
-    × (0 < kept.number → (answer : Result Step WalkFault) × (oldest : Result Step WalkFault) × (mid : Transactions)
-    × (half : S) × IsSeen kept answer oldest seen
-    × CameToBy asks first old (asking count (walk_at log kept.number)) answer mid half
-    × (AsksOldest answer → CameToBy asks mid half (asking count (walk_from_oldest log)) oldest last new)
-    × ((AsksOldest answer → ⊥) → (last ≡ mid) × (new ≡ half)))
+-- The kept record was looked for, as above, each question by the next transaction of a client, which it leaves so.
+abbrev pub LooksBy : {S : Type 0} → Ask S → Client S → Sought → Result Seen WalkFault → Client S → Type 0
+LooksBy {S = S} asks old it seen new =
+    (it.kept.number ≡ 0 → (seen ≡ Ok Another) × (new.transactions ≡ old.transactions) × (new.link ≡ old.link))
+    × (0 < it.kept.number → (answer : Result Step WalkFault) × (oldest : Result Step WalkFault) × (mid : Transactions)
+    × (half : S) × IsSeen it.kept answer oldest seen
+    × CameToBy asks old.transactions old.link (asking it.count (walk_at it.log it.kept.number)) answer mid half
+    × (AsksOldest answer →
+    CameToBy asks mid half (asking it.count (walk_from_oldest it.log)) oldest new.transactions new.link)
+    × ((AsksOldest answer → ⊥) → (new.transactions ≡ mid) × (new.link ≡ half)))
 
 -- what was looked for by such transactions was looked for over the link
 abbrev pub TransactedIsLooked : {S : Type 0} → (S → List ℕ → Result (List ℕ) Loss → S → Type 0) → Type 0
 TransactedIsLooked {S = S} asks =
     (first last : Transactions) (old new : S) (log : Id) (count : ℕ) (kept : KeptAs) (seen : Result Seen WalkFault) →
-    LooksBy asks first old log count kept seen last new →
-    Looks asks (towards first.route) first.retries old log count kept seen new
+    LooksBy asks (client old first) (sought log count kept) seen (client new last) →
+    Looks asks (towards first.route) first.retries old (sought log count kept) seen new

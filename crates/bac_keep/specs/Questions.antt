@@ -2,8 +2,7 @@
 use Rattle.std.specs.Prelude.{◌≡◌, ℕ, ◌+◌, false, map, List, Result, Ok, Err}
 use Rattle.bac_link.specs.declared.exchanges.ExchangeFault.{ExchangeFault}
 use Rattle.bac_link.specs.declared.item.Item.{Item}
-use Rattle.bac_link.specs.declared.link.Lost.{Lost as Loss}
-use Rattle.bac_link.specs.declared.transactions.Transactions.{Transactions}
+use Rattle.bac_link.specs.Exchanges.{Ask}
 use Rattle.bac_link.specs.Heard.{heard_in}
 use Rattle.bac_link.specs.Path.{Path}
 use Rattle.bac_walk.specs.declared.outcome.Ended.{Ended}
@@ -11,11 +10,10 @@ use Rattle.bac_walk.specs.declared.outcome.Ended.TheVariants.{CaughtUp, StepLimi
 use Rattle.bac_walk.specs.declared.outcome.Progress.{Progress}
 use Rattle.bac_walk.specs.declared.outcome.Progress.TheVariants.{Batch as BatchOf, AskOldest, CaughtUp as NoMore}
 use Rattle.bac_walk.specs.declared.outcome.WalkFault.{WalkFault}
-use Rattle.bac_walk.specs.Came.{Asks}
+use Rattle.bac_walk.specs.Came.{Asks, WalkOver}
 use Rattle.bac_walk.specs.Collects.{Goes, turn_items}
-use Rattle.bac_walk.specs.Place.{WalkPlace}
 use Rattle.bac_walk.specs.Told.{IsFault}
-use Rattle.bac_walk.specs.Transacted.{TurnBy, asked}
+use Rattle.bac_walk.specs.Transacted.{TurnBy, asked, WalkBy}
 use Rattle.bac_walk.specs.Walks.{IsTakenFrom}
 use Rattle.bac_archive.specs.Rows.{stored}
 use Rattle.bac_keep.specs.declared.keep.Gathered.{Gathered}
@@ -23,20 +21,19 @@ use Rattle.bac_keep.specs.declared.place.Place.{Place}
 use Rattle.bac_keep.specs.declared.sink.Pending.{Pending}
 use Rattle.bac_keep.specs.declared.sink.Refusal.{Refusal}
 use Rattle.bac_keep.specs.Items.{era, era_after, kept_rows}
-use Rattle.bac_keep.specs.Rising.{IsCause, free_after, goes_back}
+use Rattle.bac_keep.specs.Rising.{IsCause, Room, free_after, goes_back}
 use Rattle.bac_keep.specs.Runs.{records_in, gaps_among}
 use Rattle.bac_keep.specs.Sinks.{HasPut, Pile}
 
 -- One question of a walk that is here was asked over a link, by one exchange, and this is what the walk makes of the
 -- reply that came, whoever gave it, or the fault that it is.
-abbrev pub AsksOnce : {S : Type 0} → (S → List ℕ → Result (List ℕ) Loss → S → Type 0) → Path → ℕ → S → WalkPlace →
-    Result Progress WalkFault → WalkPlace → S → Type 0
-AsksOnce asks path retries old w (Ok progress) after new =
-    (datagram : List ℕ) × Asks asks path retries old w (Ok datagram) new
-    × IsTakenFrom w (heard_in w.log datagram) (Ok progress) after
-AsksOnce asks path retries old w (Err fault) after new =
-    (result : Result (List ℕ) ExchangeFault) × Asks asks path retries old w result new × IsFault w result fault
-    × (after ≡ w)
+abbrev pub AsksOnce : {S : Type 0} → Ask S → Path → ℕ → WalkOver S → Result Progress WalkFault → WalkOver S → Type 0
+AsksOnce asks path retries before (Ok progress) after =
+    (datagram : List ℕ) × Asks asks path retries before.link before.place (Ok datagram) after.link
+    × IsTakenFrom before.place (heard_in before.place.log datagram) (Ok progress) after.place
+AsksOnce asks path retries before (Err fault) after =
+    (result : Result (List ℕ) ExchangeFault) × Asks asks path retries before.link before.place result after.link
+    × IsFault before.place result fault × (after.place ≡ before.place)
 
 -- How a question ended: it brought records; or none, which of a question by number says that this number isn't held; or
 -- it came to a fault.
@@ -61,36 +58,34 @@ pub record IsGatheredOf (place : Place) (free : ℕ) (answer : Result Progress W
 
 -- What came to one question of a walk over a link is gathered; it covers each number from that of the walk on up to
 -- that where it goes on.
-abbrev pub GathersAnswer : {S : Type 0} → (S → List ℕ → Result (List ℕ) Loss → S → Type 0) → Path → ℕ → Place → ℕ →
-    S → WalkPlace → Gathered → WalkPlace → S → Type 0
-GathersAnswer asks path retries place free link before gathered after left =
-    (answer : Result Progress WalkFault) × AsksOnce asks path retries link before answer after left
-    × IsGatheredOf place free answer gathered
-    × ((s : ℕ) → Goes before.fresh before.next s (turn_items answer) after.fresh after.next)
+abbrev pub GathersAnswer : {S : Type 0} → Ask S → Path → ℕ → Room → WalkOver S → Gathered → WalkOver S → Type 0
+GathersAnswer asks path retries from before gathered after =
+    (answer : Result Progress WalkFault) × AsksOnce asks path retries before answer after
+    × IsGatheredOf from.place from.free answer gathered
+    × ((s : ℕ) → Goes before.place.fresh before.place.next s (turn_items answer) after.place.fresh after.place.next)
 
--- the same of the next of these transactions, which it leaves so
-abbrev pub GathersAnswerBy : {S : Type 0} → (S → List ℕ → Result (List ℕ) Loss → S → Type 0) → Transactions → Place
-    → ℕ →
-    S → WalkPlace → Gathered → WalkPlace → Transactions → S → Type 0
-GathersAnswerBy asks first place free link before gathered after last left =
-    (answer : Result Progress WalkFault) × TurnBy asks first link before answer after left
-    × (last ≡ asked before first) × IsGatheredOf place free answer gathered
-    × ((s : ℕ) → Goes before.fresh before.next s (turn_items answer) after.fresh after.next)
+-- the same of the next transaction of a client, which it leaves so
+abbrev pub GathersAnswerBy : {S : Type 0} → Ask S → Room → WalkBy S → Gathered → WalkBy S → Type 0
+GathersAnswerBy asks from before gathered after =
+    (answer : Result Progress WalkFault)
+    × TurnBy asks before.transactions before.link before.place answer after.place after.link
+    × (after.transactions ≡ asked before.place before.transactions)
+    × IsGatheredOf from.place from.free answer gathered
+    × ((s : ℕ) → Goes before.place.fresh before.place.next s (turn_items answer) after.place.fresh after.place.next)
 
 -- what came to one question of a walk over a link can't be gathered from a place on, for this reason
-abbrev pub RefusesAnswer : {S : Type 0} → (S → List ℕ → Result (List ℕ) Loss → S → Type 0) → Path → ℕ → Place → ℕ →
-    S → WalkPlace → Refusal → WalkPlace → S → Type 0
-RefusesAnswer asks path retries place free link before refusal after left =
-    (answer : Result Progress WalkFault) × AsksOnce asks path retries link before answer after left
-    × IsCause place free (turn_items answer) refusal
+abbrev pub RefusesAnswer : {S : Type 0} → Ask S → Path → ℕ → Room → WalkOver S → Refusal → WalkOver S → Type 0
+RefusesAnswer asks path retries from before refusal after =
+    (answer : Result Progress WalkFault) × AsksOnce asks path retries before answer after
+    × IsCause from.place from.free (turn_items answer) refusal
 
--- nor can what came to the next of these transactions, which it leaves so
-abbrev pub RefusesAnswerBy : {S : Type 0} → (S → List ℕ → Result (List ℕ) Loss → S → Type 0) → Transactions → Place
-    → ℕ →
-    S → WalkPlace → Refusal → WalkPlace → Transactions → S → Type 0
-RefusesAnswerBy asks first place free link before refusal after last left =
-    (answer : Result Progress WalkFault) × TurnBy asks first link before answer after left
-    × (last ≡ asked before first) × IsCause place free (turn_items answer) refusal
+-- nor can what came to the next transaction of a client, which it leaves so
+abbrev pub RefusesAnswerBy : {S : Type 0} → Ask S → Room → WalkBy S → Refusal → WalkBy S → Type 0
+RefusesAnswerBy asks from before refusal after =
+    (answer : Result Progress WalkFault)
+    × TurnBy asks before.transactions before.link before.place answer after.place after.link
+    × (after.transactions ≡ asked before.place before.transactions)
+    × IsCause from.place from.free (turn_items answer) refusal
 
 -- ---- the sink that they are put into
 

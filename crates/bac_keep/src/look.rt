@@ -2,11 +2,12 @@
 
 ghost use Rattle.std.specs.Prelude.{◌≡◌, ◌≤◌, ◌<◌, Result, Ok, IfOk};
 ghost use Rattle.bac_link.specs.Path.{towards};
+ghost use Rattle.bac_link.specs.Exchanges.{client};
 ghost use Rattle.bac_walk.specs.Place.{asking, walk_at, walk_from_oldest};
 ghost use Rattle.bac_walk.specs.declared.outcome.Step.{Step as StepOf};
 ghost use Rattle.bac_walk.specs.declared.outcome.WalkFault.{WalkFault as FaultOf};
 ghost use Rattle.bac_keep.specs.Looks.{AsksOldest, CameTo, CameToBy, IsSeen, IsSeenBy, IsSeenLast};
-ghost use Rattle.bac_keep.specs.Looks.{LooksBy, is_before, is_dated, is_held_as, seen_by};
+ghost use Rattle.bac_keep.specs.Looks.{LooksBy, is_before, is_dated, is_held_as, seen_by, sought};
 
 use crate::courses::is_ahead;
 use crate::texts::{datum_of, flags_of, stamp_of};
@@ -71,13 +72,15 @@ pub fn look_for<L: LogLink>(
         transactions.old.retries half (asking count (walk_from_oldest log)) oldest
         link.new) × ((AsksOldest answer → ⊥) → link.new ≡ half)) }
     // Each came to the next transaction, and none is open after it.
-    ensures transacted { IfOk result (λ seen. LooksBy L.asks transactions.old link.old log count
-        (record {
+    ensures transacted { IfOk result (λ seen. LooksBy L.asks (client link.old transactions.old)
+        (sought log count (record {
           number = last.entry.number;
           stamp = last.entry.stamp.now;
-          datum = last.entry.datum.now;
+          datum
+              = last.entry.datum.now;
           flags = last.entry.flags.now;
-        }) seen transactions.new link.new) }
+        })) seen
+        (client link.new transactions.new)) }
 {
     let Some(walk) = Walk::from_number(log, last.number) else {
         return Ok(Ok(Seen::Another));

@@ -6,11 +6,12 @@ ghost use Rattle.bac_link.specs.Datagrams.{apdu_in};
 ghost use Rattle.bac_link.specs.Heard.{heard_in, parameters_in};
 ghost use Rattle.bac_link.specs.Path.{towards};
 ghost use Rattle.bac_walk.specs.Collects.{turn_items};
-ghost use Rattle.bac_walk.specs.Transacted.{TurnBy, asked};
+ghost use Rattle.bac_walk.specs.Transacted.{TurnBy, asked, walk_by};
 ghost use Rattle.bac_walk.specs.Walks.{IsTakenFrom, items_in};
+ghost use Rattle.bac_walk.specs.Came.{walk_over};
 ghost use Rattle.bac_keep.specs.Questions.{GathersAnswer, GathersAnswerBy, HasAll, RefusesAnswer};
 ghost use Rattle.bac_keep.specs.Questions.{RefusesAnswerBy, answer_ended};
-ghost use Rattle.bac_keep.specs.Rising.{IsCause};
+ghost use Rattle.bac_keep.specs.Rising.{IsCause, room};
 
 use crate::keep::{Gathered, KeptStep};
 use crate::place::Place;
@@ -149,15 +150,19 @@ pub fn gather_answer<L: LogLink>(
     // One question is asked, as the next of the transactions, and none is open after it.
     ensures begun { transactions.new ≡ asked walk.old transactions.old }
     ensures gathered { IfOk result (λ it. GathersAnswer L.asks (towards transactions.old.route)
-        transactions.old.retries place free link.old walk.old it walk.new link.new) }
-    ensures transacted { IfOk result (λ it. GathersAnswerBy L.asks transactions.old place free
-        link.old walk.old it walk.new transactions.new link.new) }
+        transactions.old.retries (room place free) (walk_over link.old walk.old) it
+        (walk_over link.new walk.new)) }
+    ensures transacted { IfOk result (λ it. GathersAnswerBy L.asks (room place free)
+        (walk_by link.old transactions.old walk.old) it
+        (walk_by link.new transactions.new walk.new)) }
     // An error is that of what came: its numbers go back, or come round in the last epoch, or there
     // is no memory.
     ensures cause { IfErr result (λ refusal. RefusesAnswer L.asks (towards transactions.old.route)
-        transactions.old.retries place free link.old walk.old refusal walk.new link.new) }
-    ensures refused { IfErr result (λ refusal. RefusesAnswerBy L.asks transactions.old place free
-        link.old walk.old refusal walk.new transactions.new link.new) }
+        transactions.old.retries (room place free) (walk_over link.old walk.old) refusal
+        (walk_over link.new walk.new)) }
+    ensures refused { IfErr result (λ refusal. RefusesAnswerBy L.asks (room place free)
+        (walk_by link.old transactions.old walk.old) refusal
+        (walk_by link.new transactions.new walk.new)) }
 {
     let answer = ask_next(link, transactions, walk);
     let mut pending = nothing_from(alloc, place, free);

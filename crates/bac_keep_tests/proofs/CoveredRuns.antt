@@ -19,7 +19,7 @@ use Rattle.bac_keep.specs.Covered.{BeginWith, IsCovered, RunsBeginCovered, RunsG
 use Rattle.bac_keep.specs.Items.{era}
 use Rattle.bac_keep.specs.Kept.{HasNoneBehind, rows_at}
 use Rattle.bac_keep.specs.Newest.{HasNoneLater, NewestEndsWhatIsKept, RunsLeaveNoneLater, next_epoch, next_number}
-use Rattle.bac_keep.specs.Runs.{KeepsRun}
+use Rattle.bac_keep.specs.Runs.{KeepsRun, run_place, tally}
 use Rattle.bac_keep_tests.proofs.CrashLemmas.{none_up_to}
 
 abbrev pub Ours : Type 0 → Type 1
@@ -29,13 +29,13 @@ Ours L = L → Id → ℕ → List Moment → History → Type 0
 abbrev pub AnyRun : {L : Type 0} → Ours L → (L → ℕ) → ℕ → Place → Place → Database → Database → L → WalkPlace → ℕ → Type 0
 AnyRun {L = L} ours failures retries place reached old new link w next =
     (n : ℕ) × (half : L) × (after : WalkPlace) × (ended : Ended) × (records : ℕ) × (gaps : ℕ) × (after.next ≡ next)
-    × KeepsRun ours failures place reached retries old new link half w after n ended records gaps
+    × KeepsRun ours failures retries (run_place old place link w) (run_place new reached half after) (tally n ended records gaps)
 
 pub any_run : {L : Type 0} (ours : Ours L) (failures : L → ℕ) (retries : ℕ) (place reached : Place) (old new : Database) (link left : L) (w : WalkPlace) (steps next records gaps : ℕ) (end : Result Why NotKept) →
     IfOk end (λ why. (n : ℕ) × (ended : Ended) × (after : WalkPlace) × IsRunOf why steps n ended × (after.next ≡ next)
-    × KeepsRun ours failures place reached retries old new link left w after n ended records gaps) →
+    × KeepsRun ours failures retries (run_place old place link w) (run_place new reached left after) (tally n ended records gaps)) →
     IfErr end (λ error. (n : ℕ) × (half : L) × (after : WalkPlace) × (n < steps) × (after.next ≡ next)
-    × KeepsRun ours failures place reached retries old new link half w after n StepLimit records gaps) →
+    × KeepsRun ours failures retries (run_place old place link w) (run_place new reached half after) (tally n StepLimit records gaps)) →
     AnyRun ours failures retries place reached old new link w next
 any_run ours failures retries place reached old new link left w steps next records gaps (Ok why) ok err = (ok.0, left, ok.2, ok.1, records, gaps, ok.4, ok.5)
 any_run ours failures retries place reached old new link left w steps next records gaps (Err e) ok err = (err.0, err.1, err.2, StepLimit, records, gaps, err.4, err.5)

@@ -6,7 +6,7 @@ use Rattle.bac_wire.specs.Primitive.{Id}
 use Rattle.bac_log.specs.TrendLog.{sequence_number}
 use Rattle.bac_link.specs.declared.item.Item.{Item}
 use Rattle.bac_link.specs.Delivery.{History, Moment, DeliversTo}
-use Rattle.bac_link.specs.Honest.{IsHonest}
+use Rattle.bac_link.specs.Honest.{IsHonest, asked_log}
 use Rattle.bac_link.specs.Laws.{DeliversEachOnce, after_answers}
 use Rattle.bac_link.specs.Moments.{AreInWindow, NeverGoesBack}
 use Rattle.bac_link.specs.Path.{Path}
@@ -21,15 +21,16 @@ use Rattle.bac_keep.specs.declared.place.Place.{Place}
 use Rattle.bac_keep.specs.Came.{LeavesOver}
 use Rattle.bac_keep.specs.Honest.{HonestIsKept}
 use Rattle.bac_keep.specs.Items.{era, era_after, kept_rows}
-use Rattle.bac_keep.specs.Kept.{HasNoneBehind, IsKept, Ran, rows_at, AllRunsAreKept, BeginsEmpty}
+use Rattle.bac_keep.specs.Kept.{HasNoneBehind, IsKept, Ran, rows_at, AllRunsAreKept, BeginsEmpty, eras}
 use Rattle.bac_keep.specs.Newest.{HasNoneLater, KeptIsCovered, NewestEndsWhatIsKept, NoneLaterStays, next_epoch, next_number}
+use Rattle.bac_keep.specs.Runs.{run_place}
 use Rattle.bac_keep.proofs.CameLemmas.{over_nothing, waits}
 use Rattle.bac_keep_tests.proofs.CallerLemmas.{both_kept}
 use Rattle.bac_keep_tests.proofs.OverLemmas.{AnyEnd, Asking, from_any}
 
 -- a crash left what was there before, as after no step, or the rows of some steps
 pub cut_early : {S : Type 0} (asks : Asking S) (path : Path) (retries : ℕ) (place : Place) (old : Database) (link : S) (w : WalkPlace) (steps : ℕ) (left : Trees) →
-    (left ≡ old.trees) ⊎ LeavesOver asks path retries place old link w steps left → LeavesOver asks path retries place old link w steps left
+    (left ≡ old.trees) ⊎ LeavesOver asks path retries (run_place old place link w) steps left → LeavesOver asks path retries (run_place old place link w) steps left
 cut_early asks path retries place old link w steps left (inl same) = (old, link, w, 0, StepLimit, 0, 0, omega arith, same, place, over_nothing asks path retries place old link w)
 cut_early asks path retries place old link w steps left (inr it) = it
 
@@ -47,22 +48,22 @@ ends_there begins all covers ends stays once H place cut old left items k t coun
     let ran : Ran = record { left = left; items = items; answers = count; behind = t } in
     let N : ℕ → Type 0 = λ e. HasNoneBehind (era place) e (kept old) in
     let is_kept = all H (era place) (era place) old k k 0 M (ran ∷ []) (begins H place old k M none) (subst N reaches (none_up_to place cut old same later)) (adds, goes, tt) in
-    let K : ℕ → Type 0 = λ e. IsKept H (era place) e left k t M (0 + (count + 0)) in
+    let K : ℕ → Type 0 = λ e. IsKept H (eras (era place) e) left k t M (0 + (count + 0)) in
     let is_covered = covers H (era place) (era cut) left k t M (0 + (count + 0)) (subst K (sym reaches) is_kept) in
     ends place cut left k t told same is_covered (stays place cut old left items k t same reaches (once H k t count M items goes) adds later) tells
 
 -- what a second run keeps behind what a crash left, however it ends, over a link that is honest from the moments on that the rows there left, or from later ones
 abbrev pub BehindCrash : {K : Type 0} → Asking K → Path → ℕ → Place → Place → Database → K → WalkPlace → Id → List Moment → History → ℕ → ℕ → Type 0
 BehindCrash asks path retries place from mid later w log M H k low =
-    (count : ℕ) × ((wait : ℕ) → IsHonest asks path log 100 H low later (after_answers (count + wait) M) →
+    (count : ℕ) × ((wait : ℕ) → IsHonest asks (asked_log path log 100) H low later (after_answers (count + wait) M) →
     (reached : Place) (new : Database) (next : ℕ) → reached.log ≡ place.log → AnyEnd asks path retries from reached mid new later w next →
-    (u : ℕ) × (all : ℕ) × (next ≡ sequence_number u) × IsKept H (era place) (era reached) new.trees k u M all)
+    (u : ℕ) × (all : ℕ) × (next ≡ sequence_number u) × IsKept H (eras (era place) (era reached)) new.trees k u M all)
 
 pub behind_crash : {S K : Type 0} (asks : Asking S) (asks_then : Asking K) → HonestIsKept asks → HonestIsKept asks_then → BeginsEmpty → AllRunsAreKept → KeptIsCovered → NewestEndsWhatIsKept → NoneLaterStays → DeliversEachOnce →
     (path path_then : Path) (retries retries_then : ℕ) (place from : Place) (old mid : Database) (link : S) (later : K) (w w_then : WalkPlace) (log : Id) (s next steps : ℕ) (told : Option NewestItem) →
-    w ≡ walk_at log s → w_then ≡ walk_at log next → rows_at place (kept old.trees) ≡ [] → HasNoneLater place (kept old.trees) → LeavesOver asks path retries place old link w steps mid.trees → TellsNewest place.log (kept mid.trees) told →
+    w ≡ walk_at log s → w_then ≡ walk_at log next → rows_at place (kept old.trees) ≡ [] → HasNoneLater place (kept old.trees) → LeavesOver asks path retries (run_place old place link w) steps mid.trees → TellsNewest place.log (kept mid.trees) told →
     from.log ≡ place.log → from.epoch ≡ next_epoch place.epoch told → next ≡ next_number place.epoch s told →
-    (H : History) (M : List Moment) (k low : ℕ) → IsHonest asks path log 100 H low link M → s ≡ sequence_number k → 0 < length M → NeverGoesBack M → AreInWindow low M → low ≤ k → k < low + 2147483648 →
+    (H : History) (M : List Moment) (k low : ℕ) → IsHonest asks (asked_log path log 100) H low link M → s ≡ sequence_number k → 0 < length M → NeverGoesBack M → AreInWindow low M → low ≤ k → k < low + 2147483648 →
     BehindCrash asks_then path_then retries_then place from mid later w_then log M H k low
 behind_crash asks asks_then law law_then begins all covers ends stays once path path_then retries retries_then place from old mid link later w w_then log s next steps told at at_then none free
     (db, half, after, n, ended, records, gaps, few, is, cut, keeps) tells log_is epoch_is next_is H M k low honest here some back window above below =
@@ -88,6 +89,6 @@ behind_crash asks asks_then law law_then begins all covers ends stays once path 
     )
 
 -- a crash is one more end of a run
-pub any_cut : {K : Type 0} (asks : Asking K) (path : Path) (retries : ℕ) (place : Place) (old : Database) (later : K) (w : WalkPlace) (steps : ℕ) (left : Trees) → LeavesOver asks path retries place old later w steps left →
+pub any_cut : {K : Type 0} (asks : Asking K) (path : Path) (retries : ℕ) (place : Place) (old : Database) (later : K) (w : WalkPlace) (steps : ℕ) (left : Trees) → LeavesOver asks path retries (run_place old place later w) steps left →
     (db : Database) × (reached : Place) × (next : ℕ) × (left ≡ db.trees) × (reached.log ≡ place.log) × AnyEnd asks path retries place reached old db later w next
 any_cut asks path retries place old later w steps left (db, half, after, n, ended, records, gaps, few, is, reached, keeps) = (db, reached, after.next, is, keeps.of_log, (n, half, after, ended, records, gaps, refl, keeps))

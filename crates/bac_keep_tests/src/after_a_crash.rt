@@ -7,14 +7,14 @@ ghost use Rattle.sqlite_trees.specs.Tree.{Trees};
 ghost use Rattle.bac_log.specs.TrendLog.{sequence_number};
 ghost use Rattle.bac_link.specs.Delivery.{History, Moment};
 ghost use Rattle.bac_link.specs.Laws.{after_answers};
-ghost use Rattle.bac_link.specs.Honest.{IsHonest};
+ghost use Rattle.bac_link.specs.Honest.{IsHonest, asked_log};
 ghost use Rattle.bac_link.specs.Moments.{AreInWindow, NeverGoesBack};
 ghost use Rattle.bac_link.specs.Ordinals.{number_after};
 ghost use Rattle.bac_link.specs.Path.{towards};
 ghost use Rattle.bac_archive.specs.Rows.{kept};
 ghost use Rattle.bac_keep.specs.declared.place.Place.{Place as PlaceOf};
 ghost use Rattle.bac_keep.specs.Items.{era};
-ghost use Rattle.bac_keep.specs.Kept.{IsKept, rows_at};
+ghost use Rattle.bac_keep.specs.Kept.{IsKept, rows_at, eras};
 ghost use Rattle.bac_keep.specs.Newest.{HasNoneLater, epoch_behind, next_epoch, next_number};
 ghost use Rattle.bac_archive.specs.Schema.{HasArchive};
 
@@ -88,18 +88,18 @@ pub fn kept_after_a_crash<L: LogLink, K: LogLink, S: Alter, T: Alter>(
         → (state T.Store again.old).committed ≡ (state T.Store again.old).now
         → HasCleanDisk (state T.Store again.new)
         → IfSome result (λ run. (H : History) (M : List Moment) (k low : ℕ)
-        → IsHonest L.asks (towards None) log 100 H low link.old M → s ≡ sequence_number k
-        → 0 < length M → NeverGoesBack M → AreInWindow low M → low ≤ k
+        → IsHonest L.asks (asked_log (towards None) log 100) H low link.old M
+        → s ≡ sequence_number k → 0 < length M → NeverGoesBack M → AreInWindow low M → low ≤ k
         → k < low + 2147483648 → (count : ℕ)
-        × ((wait : ℕ) → IsHonest K.asks (towards None) log 100 H low later.old
+        × ((wait : ℕ) → IsHonest K.asks (asked_log (towards None) log 100) H low later.old
         (after_answers (count + wait) M)
         → (IsTrue (state T.Store again.new).is_open
         → (u : ℕ) × (all : ℕ) × (run.next ≡ sequence_number u)
-        × IsKept H (era place) (era run.place)
-        (state T.Store again.new).committed.trees k u M all)
+        × IsKept H (eras (era place) (era run.place)) (state T.Store again.new).committed.trees k u
+        M all)
         × ((left : Trees) → (state T.Store again.new).may_leave left
         → (reached : PlaceOf) × (u : ℕ) × (all : ℕ)
-        × IsKept H (era place) (era reached) left k u M all))) }
+        × IsKept H (eras (era place) (era reached)) left k u M all))) }
 {
     // For the prover alone: laws that the contract follows from, and what a crash leaves before.
     begins_empty();

@@ -8,10 +8,10 @@ ghost use Rattle.bac_link.specs.Delivery.{History, Moment};
 ghost use Rattle.bac_link.specs.Laws.{after_answers};
 ghost use Rattle.bac_link.specs.Path.{towards};
 ghost use Rattle.bac_archive.specs.Rows.{kept};
-ghost use Rattle.bac_link.specs.Honest.{IsHonest};
+ghost use Rattle.bac_link.specs.Honest.{IsHonest, asked_log};
 ghost use Rattle.bac_link.specs.Moments.{AreInWindow, NeverGoesBack};
 ghost use Rattle.bac_keep.specs.Items.{era};
-ghost use Rattle.bac_keep.specs.Kept.{HasNoneBehind, IsKept, rows_at};
+ghost use Rattle.bac_keep.specs.Kept.{HasNoneBehind, IsKept, rows_at, eras};
 ghost use Rattle.bac_archive.specs.Schema.{HasArchive};
 
 use bac_archive::{is_archive, newest};
@@ -43,14 +43,14 @@ pub fn kept_of_any_device<L: LogLink, K: LogLink, S: Alter>(
         → IfSome result (λ runs. HasNoneBehind (era place) (era runs.1.place)
         (kept (state S.Store conn.old).now.trees)
         → (H : History) (M : List Moment) (k low : ℕ)
-        → IsHonest L.asks (towards None) log 100 H low link.old M → s ≡ sequence_number k
-        → 0 < length M → NeverGoesBack M → AreInWindow low M → low ≤ k
+        → IsHonest L.asks (asked_log (towards None) log 100) H low link.old M
+        → s ≡ sequence_number k → 0 < length M → NeverGoesBack M → AreInWindow low M → low ≤ k
         → k < low + 2147483648 → (t : ℕ) × (count : ℕ) × (runs.0.next ≡ sequence_number t)
-        × ((wait : ℕ) → IsHonest K.asks (towards None) log 100 H low later.old
+        × ((wait : ℕ) → IsHonest K.asks (asked_log (towards None) log 100) H low later.old
         (after_answers (count + wait) M)
         → (u : ℕ) × (all : ℕ) × (runs.1.next ≡ sequence_number u)
-        × IsKept H (era place) (era runs.1.place)
-        (state S.Store conn.new).now.trees k u M all)) }
+        × IsKept H (eras (era place) (era runs.1.place)) (state S.Store conn.new).now.trees k u M
+        all)) }
 {
     // For the prover alone: laws that the contract follows from.
     begins_empty();

@@ -10,7 +10,7 @@ ghost use Rattle.bac_archive.specs.Rows.{kept};
 ghost use Rattle.bac_walk.specs.Near.{StaysNear};
 ghost use Rattle.bac_archive.specs.Schema.{OverArchive};
 ghost use Rattle.bac_keep.specs.Items.{era};
-ghost use Rattle.bac_keep.specs.Kept.{HasNoneBehind, IsKept, rows_at};
+ghost use Rattle.bac_keep.specs.Kept.{HasNoneBehind, IsKept, rows_at, eras};
 
 use bac_archive::is_archive;
 use bac_keep::{
@@ -44,8 +44,8 @@ pub fn keep_two<L: LogLink, S: Alter>(
         → StaysNear r walk.old.count H M walk.old.fresh s 2
         → (b : ℕ) × (t : ℕ) × (count : ℕ) × (walk.old.fresh ≡ false → b ≡ s)
         × (walk.new.next ≡ sequence_number t)
-        × IsKept H (era place.old) (era place.new)
-        (state S.Store conn.new).now.trees b t M count)) }
+        × IsKept H (eras (era place.old) (era place.new)) (state S.Store conn.new).now.trees b t M
+        count)) }
 {
     // For the prover alone: laws that the contract follows from.
     begins_empty();
@@ -98,8 +98,8 @@ pub fn keep_again<L: LogLink, K: LogLink, S: Alter>(
         × (K.is_ours later.old log r (after_answers count M) H
         → StaysNear r 100 H (after_answers count M) false t steps
         → (u : ℕ) × (all : ℕ) × (runs.1.next ≡ sequence_number u)
-        × IsKept H (era place) (era runs.1.place)
-        (state S.Store conn.new).now.trees k u M all)))) }
+        × IsKept H (eras (era place) (era runs.1.place)) (state S.Store conn.new).now.trees k u M
+        all)))) }
 {
     // For the prover alone: laws that the contract follows from.
     begins_empty();

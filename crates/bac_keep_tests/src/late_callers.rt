@@ -6,6 +6,8 @@ ghost use Rattle.sqlite.specs.Held.{state};
 ghost use Rattle.bac_walk.specs.Place.{walk_at};
 ghost use Rattle.bac_keep_tests.specs.Late.{KeepsInTurn, TakesInTurn};
 ghost use Rattle.bac_archive.specs.Schema.{HasArchive};
+ghost use Rattle.bac_keep.specs.Runs.{run_place};
+ghost use Rattle.bac_link.specs.Exchanges.{client};
 
 use bac_keep::{KeptRun, Place, Untold, keep_log};
 use bac_link::{LogLink, Transactions};
@@ -29,8 +31,8 @@ pub fn none_late_is_kept<L: LogLink, S: Alter>(
 ) -> Option<KeptRun>
     ensures kept { HasCleanDisk (state S.Store conn.new) → IsTrue (state S.Store conn.new).is_open
         → HasArchive (state S.Store conn.old).now.schema
-        → IfSome result (KeepsInTurn L.asks transactions.old place (state S.Store conn.old).now
-        (state S.Store conn.new).now link.old (walk_at log s)) }
+        → IfSome result (KeepsInTurn L.asks (run_place (state S.Store conn.old).now place
+        (client link.old transactions.old) (walk_at log s)) (state S.Store conn.new).now) }
     ensures taken { IfSome result (λ run. TakesInTurn L.asks transactions.old link.old
         (walk_at log s) steps transactions.new link.new) }
 {

@@ -4,7 +4,7 @@
 ghost use Rattle.std.specs.Prelude.{ℕ, ◌≡◌, ◌+◌, ◌<◌, ◌≤◌, [], ◌∷◌, false, length, List, IfSome};
 ghost use Rattle.bac_log.specs.TrendLog.{sequence_number};
 ghost use Rattle.bac_link.specs.Delivery.{History, Moment};
-ghost use Rattle.bac_link.specs.Honest.{IsHonest};
+ghost use Rattle.bac_link.specs.Honest.{IsHonest, asked_log};
 ghost use Rattle.bac_link.specs.Moments.{AreInWindow, NeverGoesBack};
 ghost use Rattle.bac_link.specs.Ordinals.{number_after};
 ghost use Rattle.bac_link.specs.Path.{towards};
@@ -38,7 +38,7 @@ pub fn has_nothing_new<L: LogLink>(
 ) -> Option<()>
     requires { log.kind ≡ 20 }
     ensures { IfSome result (λ _. (H : History) (M : List Moment) (low k : ℕ)
-        → IsHonest L.asks (towards transactions.old.route) log count H low link.old M
+        → IsHonest L.asks (asked_log (towards transactions.old.route) log count) H low link.old M
         → 0 < length M → NeverGoesBack M → AreInWindow low M → low ≤ k
         → k + 1 < low + 2147483648 → last.entry.number ≡ sequence_number k
         → IsCaughtUp false (k + 1) M ([] ∷ [])) }

@@ -7,7 +7,7 @@ use Rattle.sqlite_trees.specs.Tree.{Trees}
 use Rattle.bac_asked.specs.declared.end.End.{End}
 use Rattle.bac_asked.specs.declared.wanted.Wanted.{Wanted}
 use Rattle.bac_fetch.proofs.StaysLemmas.{all_itself}
-use Rattle.bac_fetch.specs.Ahead.{AtOnce}
+use Rattle.bac_fetch.specs.Ahead.{AtOnce, reach}
 use Rattle.bac_fetch.specs.Stays.{HasAllOf}
 use Rattle.bac_fetch.specs.declared.keeping.Chosen.{Chosen}
 use Rattle.bac_offline.specs.Archives.{HasSameItems, KeepsItems, KeepsRows}
@@ -19,7 +19,7 @@ use Rattle.bac_print.specs.Output.{Held}
 -- what holds of the logs' runs, more of it or less
 pub tells_weaker : {S P C : Type 0} (rules : SocketRules S P) (by : AtOnce S C) (chosen : Chosen) (sockets : S) (before after : Held) (kept told : List Wanted → S → List End → Type 0) (status : ℕ)
     → ((all : List Wanted) (between : S) (ends : List End) → kept all between ends → told all between ends)
-    → TellsThese rules by chosen sockets before after kept status → TellsThese rules by chosen sockets before after told status
+    → TellsThese (reach rules by) chosen sockets before after kept status → TellsThese (reach rules by) chosen sockets before after told status
 tells_weaker rules by chosen sockets before after kept told status f it =
     let ends = it.5 in
     (it.0, it.1, it.2, it.3, it.4, (ends.0, ends.1, ends.2, ends.3, f it.0 it.2 ends.0 ends.4))

@@ -23,10 +23,12 @@ use Rattle.bac_offline.proofs.WorkLemmas.{asking_not_file}
 use Rattle.bac_offline.specs.Archives.{IsHeld}
 use Rattle.bac_keeper.specs.Archives.{KeepsArchive, LosesNothing}
 use Rattle.bac_asked.specs.AsLog.{Given}
-use Rattle.bac_keeper.specs.Done.{Chooses, EndsOver, KeepsIn, RefusesKeep, TellsThese}
+use Rattle.bac_keeper.specs.Done.{Chooses, EndsOver, KeepsIn, RefusesKeep, TellsThese, on_disk, unbegun}
 use Rattle.bac_offline.specs.Options.{given_of}
 use Rattle.bac_offline.specs.Ends.{IsOfSomeFile, IsUnclosedBySome, MayAsk, MayFail}
-use Rattle.bac_fetch.specs.Ahead.{AtOnce}
+use Rattle.bac_fetch.specs.Ahead.{AtOnce, reach, reaching}
+use Rattle.bac_fetch.specs.Points.{run_point, scene}
+use Rattle.bac_fetch.specs.Chosen.{selection}
 use Rattle.bac_ports.specs.Sockets.{SocketRules}
 use Rattle.bac_print.specs.Output.{Held}
 use Rattle.bac_offline.proofs.FileLemmas.{database_fails, database_file, file_asks, some_done}
@@ -38,20 +40,21 @@ module _ {D : Type 0} {g : disk.Ghosts D} (image : Image) (opened last : Connect
       → IsClosedBy last closed → IfSome closed (IsDoneTo g image LosesNothing)
   loses_none stays shut = some_done image opened last closed is clean LosesNothing (λ c open'. stays (c, open') (opened_settled image opened is (clean c))) shut.1
 
+module _ {F : Type 0} {s : start.Ghosts F} {g : disk.Ghosts (FileOf s)} (image : Image) (opened last : Connected (FileStore (FileOf s) g)) (files : DiskFiles F s) (is : IsOpenedBy image opened)
+    (clean : HasCleanDisk (file_state last) → HasCleanDisk (file_state opened)) where
   pub keeps_in : {S P C : Type 0} (rules : SocketRules S P) (by : ℕ → AtOnce S C) (begins : Database → Database → Type 0) (words : Keep) (given : Given) (chosen : Chosen) (sockets after : S) (out out' : Held) (result done : Result ℕ NotDone)
       → given ≡ given_of words.options → Chooses words chosen
-      → IfOk done (TellsThese rules (by words.at_once) chosen sockets out out' (λ all between ends. IsHeld (file_state last) → KeepsArchive rules (by words.at_once) given chosen all between after begins ends (file_state opened).now (file_state last).committed))
-      → IfOk result (λ v. done ≡ Ok v) → OnOk result (IsClosedBy last closed) → IfOk result (KeepsIn rules by g image begins words sockets after out out' closed)
+      → IfOk done (TellsThese (reach rules (by words.at_once)) chosen sockets out out' (λ all between ends. IsHeld (file_state last) → KeepsArchive (reach rules (by words.at_once)) (selection given chosen) all (run_point between (file_state opened).now) (run_point after (file_state last).committed) begins ends))
+      → IfOk result (λ v. done ≡ Ok v) → OnOk result (IsClosedBy last files.closed) → IfOk result (KeepsIn (reaching rules by) (on_disk g image files) begins words (scene sockets out) (scene after out'))
   keeps_in rules by begins words given chosen sockets after out out' (Err e) done alike chooses told same shut = tt
   keeps_in rules by begins words given chosen sockets after out out' (Ok v) done alike chooses told same shut =
-      let these = subst (λ (r : Result ℕ NotDone). IfOk r (TellsThese rules (by words.at_once) chosen sockets out out' (λ all between ends. IsHeld (file_state last)
-      → KeepsArchive rules (by words.at_once) given chosen all between after begins ends (file_state opened).now (file_state last).committed))) same told in (
+      let these = subst (λ (r : Result ℕ NotDone). IfOk r (TellsThese (reach rules (by words.at_once)) chosen sockets out out' (λ all between ends. IsHeld (file_state last) → KeepsArchive (reach rules (by words.at_once)) (selection given chosen) all (run_point between (file_state opened).now) (run_point after (file_state last).committed) begins ends))) same told in (
         shut.0,
         chosen,
         chooses,
-        tells_weaker rules (by words.at_once) chosen sockets out out' _ (λ all between ends. IfSome closed (IsDoneTo g image (KeepsArchive rules (by words.at_once) (given_of words.options) chosen all between after begins ends))) v
-            (λ all between ends kept. some_done image opened last closed is clean (KeepsArchive rules (by words.at_once) (given_of words.options) chosen all between after begins ends)
-            (λ c open'. subst (λ (o : Given). KeepsArchive rules (by words.at_once) o chosen all between after begins ends (file_state opened).now (file_state last).committed) alike (kept (c, open'))) shut.1) these,
+        tells_weaker rules (by words.at_once) chosen sockets out out' _ (λ all between ends. IfSome files.closed (IsDoneTo g image (λ found left. KeepsArchive (reach rules (by words.at_once)) (selection (given_of words.options) chosen) all (run_point between found) (run_point after left) begins ends))) v
+            (λ all between ends kept. some_done image opened last files.closed is clean (λ found left. KeepsArchive (reach rules (by words.at_once)) (selection (given_of words.options) chosen) all (run_point between found) (run_point after left) begins ends)
+            (λ c open'. subst (λ (o : Given). KeepsArchive (reach rules (by words.at_once)) (selection o chosen) all (run_point between (file_state opened).now) (run_point after (file_state last).committed) begins ends) alike (kept (c, open'))) shut.1) these,
       )
 
 -- what was done over a connection ends so, by no fault of the file; and so it is of the closed files
@@ -72,18 +75,18 @@ asks_file image opened last files is clean ends over did (Err (done.Asking why))
 
 -- what a run over an archive fails by, by options that are the same
 pub refused_by : {S P C : Type 0} (rules : SocketRules S P) (clock : AtOnce S C) (bars : FileFault → Type 0) (quiet : Type 0) (which : Chosen) (before after : S) (found : Database) (last : State) (given by : Given) (r : Result ℕ NotDone) → given ≡ by
-    → IfErr r (MayFail (λ why. ((error : Error) × (why ≡ of_error error)) ⊎ (IsHeld last → RefusesKeep rules clock bars quiet which given before after found last.committed why)))
-    → IfErr r (MayFail (λ why. ((error : Error) × (why ≡ of_error error)) ⊎ (IsHeld last → RefusesKeep rules clock bars quiet which by before after found last.committed why)))
+    → IfErr r (MayFail (λ why. ((error : Error) × (why ≡ of_error error)) ⊎ (IsHeld last → RefusesKeep (reach rules clock) (unbegun quiet bars) (selection given which) (run_point before found) (run_point after last.committed) why)))
+    → IfErr r (MayFail (λ why. ((error : Error) × (why ≡ of_error error)) ⊎ (IsHeld last → RefusesKeep (reach rules clock) (unbegun quiet bars) (selection by which) (run_point before found) (run_point after last.committed) why)))
 refused_by rules clock bars quiet which before after found last given by r is it =
-    subst (λ (x : Given). IfErr r (MayFail (λ why. ((error : Error) × (why ≡ of_error error)) ⊎ (IsHeld last → RefusesKeep rules clock bars quiet which x before after found last.committed why)))) is it
+    subst (λ (x : Given). IfErr r (MayFail (λ why. ((error : Error) × (why ≡ of_error error)) ⊎ (IsHeld last → RefusesKeep (reach rules clock) (unbegun quiet bars) (selection x which) (run_point before found) (run_point after last.committed) why)))) is it
 
 -- so what it ends by, by options that are the same
 pub ended_by : {S P C : Type 0} (rules : SocketRules S P) (clock : AtOnce S C) (which : Chosen) (before after : S) (found : Database) (last : State) (given by : Given) (ends : NotDone → Type 0) (r : Result ℕ NotDone)
     → given ≡ by
-    → IfErr r (MayAsk (λ fault. ends fault × (IsHeld last → EndsOver rules clock which given before after found last.committed fault)))
-    → IfErr r (MayAsk (λ fault. ends fault × (IsHeld last → EndsOver rules clock which by before after found last.committed fault)))
+    → IfErr r (MayAsk (λ fault. ends fault × (IsHeld last → EndsOver (reach rules clock) (selection given which) (run_point before found) (run_point after last.committed) fault)))
+    → IfErr r (MayAsk (λ fault. ends fault × (IsHeld last → EndsOver (reach rules clock) (selection by which) (run_point before found) (run_point after last.committed) fault)))
 ended_by rules clock which before after found last given by ends r is it =
-    subst (λ (x : Given). IfErr r (MayAsk (λ fault. ends fault × (IsHeld last → EndsOver rules clock which x before after found last.committed fault)))) is it
+    subst (λ (x : Given). IfErr r (MayAsk (λ fault. ends fault × (IsHeld last → EndsOver (reach rules clock) (selection x which) (run_point before found) (run_point after last.committed) fault)))) is it
 
 pub all_database_fail : (P : FileFault → Type 0) (r : Result ℕ NotDone) → IfErr r IsOfDatabase → IfErr r (MayFail (λ why. ((error : Error) × (why ≡ of_error error)) ⊎ P why))
 all_database_fail P (Ok v) it = tt

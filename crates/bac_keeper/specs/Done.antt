@@ -1,9 +1,8 @@
 -- What was done of the words of `bac keep`. Read from the end.
-use Rattle.std.specs.Prelude.{◌≡◌, ◌≢◌, ◌⊎◌, ℕ, Bool, List, [], ◌∷◌, codes, None, Option, IfSome, IsSome}
+use Rattle.std.specs.Prelude.{◌≡◌, ◌≢◌, ◌⊎◌, ℕ, Bool, List, [], ◌∷◌, codes, None, IfSome, IsSome}
 use Rattle.std.specs.List.{All, AllZip, Contains}
 use Rattle.clap.specs.Words.{Text}
 use Rattle.sqlite_disk.specs.declared.Disk as disk
-use Rattle.sqlite_disk.specs.declared.Files.{Files}
 use Rattle.sqlite_wal.specs.Recovery.{Image}
 use Rattle.bac_asked.specs.AsLog.{Given, IsAskedBy, log_words}
 use Rattle.bac_asked.specs.Faults.{WantsMemory}
@@ -11,7 +10,7 @@ use Rattle.bac_asked.specs.Wanted.{AddNamed, AreNoOptions, AsksItsSource}
 use Rattle.bac_asked.specs.declared.end.End.{End}
 use Rattle.bac_asked.specs.declared.wanted.Wanted.{Wanted}
 use Rattle.bac_fetch.specs.Causes.{EndsRunOver}
-use Rattle.bac_fetch.specs.Chosen.{AreFound}
+use Rattle.bac_fetch.specs.Chosen.{AreFound, Selection, findings, selection}
 use Rattle.bac_fetch.specs.Keeps.{AreToldBehind}
 use Rattle.bac_fetch.specs.declared.keeping.Chosen.{Chosen}
 use Rattle.bac_fetch.specs.declared.keeping.Chosen.TheVariants as chosen
@@ -30,8 +29,8 @@ use Rattle.bac_keeper.specs.Archives.{KeepsArchive}
 use Rattle.bac_offline.specs.Archives.{IsTakenAs}
 use Rattle.bac_offline.specs.Ends.{FailsOpened, IsNoArchive, IsNotOpened, IsUnclosedBySome}
 use Rattle.bac_offline.specs.Options.{SeeksNone, given_for, given_of}
-use Rattle.bac_fetch.specs.Ahead.{AtOnce}
-use Rattle.bac_ports.specs.Sockets.{SocketRules}
+use Rattle.bac_fetch.specs.Ahead.{Reach}
+use Rattle.bac_fetch.specs.Points.{RunPoint, Scene, run_point}
 use Rattle.bac_print.specs.Output.{Held}
 use Rattle.bac_words.specs.declared.group.Group.{Group}
 use Rattle.bac_words.specs.declared.job.Keep.{Keep}
@@ -62,49 +61,79 @@ Chooses keep chosen = ChoosesBy keep.groups (given_of keep.options) chosen
 -- the device that the line names, and the greatest status. Those of a device are those that were named, or those of its
 -- Object_List, which came over the caller's sockets. This holds of the logs, of the sockets then, and of how the runs
 -- over them ended.
-abbrev pub TellsThese : {S P C : Type 0} → SocketRules S P → AtOnce S C → Chosen → S → Held → Held
+abbrev pub TellsThese : {S P C : Type 0} → Reach S P C → Chosen → S → Held → Held
     → (List Wanted → S → List End → Type 0) → ℕ → Type 0
-TellsThese {S = S} rules by chosen sockets before after kept status =
+TellsThese {S = S} by chosen sockets before after kept status =
     (all : List Wanted) × (unlisted : List Unlisted) × (between : S) × All AsksItsSource all
-    × AreFound rules by chosen sockets all unlisted between
+    × AreFound by chosen sockets (findings all unlisted between)
     × AreToldBehind before after unlisted all (kept all between) status
+
+-- the files of a database on a disk: what the disk does, what the two held at first, and what was done with them
+pub record OnDisk {F : Type 0} (s : start.Ghosts F) : Type 1 where
+  pub does : disk.Ghosts (FileOf s)
+  pub image : Image
+  pub files : DiskFiles F s
+
+-- on a disk that does this, which held this, with these files
+abbrev pub on_disk : {F : Type 0} {s : start.Ghosts F} → disk.Ghosts (FileOf s) → Image → DiskFiles F s → OnDisk s
+on_disk does image files = record { does = does; image = image; files = files }
 
 -- The logs that the words choose were kept in the archive that two files held, which begins so, and which the closed
 -- files hold now.
-abbrev pub KeepsIn : {S P C D : Type 0} → SocketRules S P → (ℕ → AtOnce S C) → (g : disk.Ghosts D) → Image
-    → (Database → Database → Type 0) → Keep → S → S → Held → Held → Option (Files D) → ℕ → Type 0
-KeepsIn rules by g image begins keep sockets sockets_after before after closed status =
-    IsSome closed × (chosen : Chosen) × Chooses keep chosen
-    × TellsThese rules (by keep.at_once) chosen sockets before after
-    (λ all between ends. IfSome closed
-    (IsDoneTo g image
-    (KeepsArchive rules (by keep.at_once) (given_of keep.options) chosen all between sockets_after begins ends)))
+abbrev pub KeepsIn : {S P C F : Type 0} {s : start.Ghosts F} → (ℕ → Reach S P C) → OnDisk s
+    → (Database → Database → Type 0) → Keep → Scene S → Scene S → ℕ → Type 0
+KeepsIn by file begins keep before after status =
+    IsSome file.files.closed × (chosen : Chosen) × Chooses keep chosen
+    × TellsThese (by keep.at_once) chosen before.sockets before.output after.output
+    (λ all between ends. IfSome file.files.closed
+    (IsDoneTo file.does file.image (λ found left. KeepsArchive (by keep.at_once)
+    (selection (given_of keep.options) chosen) all (run_point between found) (run_point after.sockets left) begins
+    ends)))
     status
 
 -- what two files held is an archive, or becomes one, and the run over the logs that were chosen ends so and leaves this
-abbrev pub EndsOver : {S P C : Type 0} → SocketRules S P → AtOnce S C → Chosen → Given → S → S → Database → Database
-    → NotDone → Type 0
-EndsOver rules by which given before after found left fault = (archive : Database) × IsTakenAs found archive
-    × EndsRunOver rules by given which before after archive left.trees fault
+abbrev pub EndsOver : {S P C : Type 0} → Reach S P C → Selection → RunPoint S → RunPoint S → NotDone → Type 0
+EndsOver by which before after fault = (archive : Database) × IsTakenAs before.archive archive
+    × EndsRunOver by which (run_point before.sockets archive) after.sockets after.archive.trees fault
 
 -- no socket was opened, and no line printed
-abbrev pub IsQuiet : {S : Type 0} → S → S → Held → Held → Type 0
-IsQuiet sockets sockets_after before after = (sockets_after ≡ sockets) × (after ≡ before)
+abbrev pub IsQuiet : {S : Type 0} → Scene S → Scene S → Type 0
+IsQuiet before after = (after.sockets ≡ before.sockets) × (after.output ≡ before.output)
+
+-- what is so where no run was begun: that it was quiet, and why what it was to begin on is no use
+pub record Unbegun : Type 1 where
+  pub quiet : Type 0
+  pub bars : FileFault → Type 0
+
+-- it was quiet so, and is no use for this
+abbrev pub unbegun : Type 0 → (FileFault → Type 0) → Unbegun
+unbegun quiet bars = record { quiet = quiet; bars = bars }
 
 -- Why the logs that were chosen aren't kept in the archive that two files held: it is none, or what it is to begin on
 -- is no use, and then it was quiet; or the run over it ends so, and leaves this.
-abbrev pub RefusesKeep : {S P C : Type 0} → SocketRules S P → AtOnce S C → (FileFault → Type 0) → Type 0 → Chosen
-    → Given → S → S → Database → Database → FileFault → Type 0
-RefusesKeep rules by bars quiet which given before after found left why = (quiet × (IsNoArchive found why ⊎ bars why))
-    ⊎ EndsOver rules by which given before after found left (File why)
+abbrev pub RefusesKeep : {S P C : Type 0} → Reach S P C → Unbegun → Selection → RunPoint S → RunPoint S → FileFault
+    → Type 0
+RefusesKeep by early which before after why = (early.quiet × (IsNoArchive before.archive why ⊎ early.bars why))
+    ⊎ EndsOver by which before after (File why)
+
+-- a file that words name: its files on a disk, its path, and whether it may be made
+pub record NamedFile {F : Type 0} (s : start.Ghosts F) : Type 1 where
+  pub on : OnDisk s
+  pub path : List ℕ
+  pub may_make : Bool
+
+-- these, at this path, made or not
+abbrev pub named_file : {F : Type 0} {s : start.Ghosts F} → OnDisk s → List ℕ → Bool → NamedFile s
+named_file on path may = record { on = on; path = path; may_make = may }
 
 -- so the file is no use to `keep`; where it isn't opened, it was quiet
-abbrev pub FailsToKeep : {S P C F : Type 0} {s : start.Ghosts F} → SocketRules S P → (ℕ → AtOnce S C)
-    → disk.Ghosts (FileOf s) → Image → (FileFault → Type 0) → Type 0 → Keep → List ℕ → Bool → S → S → DiskFiles F s
-    → FileFault → Type 0
-FailsToKeep rules by g image bars quiet keep path may before after files why = (which : Chosen) × Chooses keep which
-    × ((quiet × IsNotOpened path may files why) ⊎ FailsOpened g image path may
-    (RefusesKeep rules (by keep.at_once) bars quiet which (given_of keep.options) before after) files why)
+abbrev pub FailsToKeep : {S P C F : Type 0} {s : start.Ghosts F} → (ℕ → Reach S P C) → Unbegun → Keep → S → S
+    → NamedFile s → FileFault → Type 0
+FailsToKeep by early keep before after file why = (which : Chosen) × Chooses keep which
+    × ((early.quiet × IsNotOpened file.path file.may_make file.on.files why)
+    ⊎ FailsOpened file.on.does file.on.image file.path file.may_make
+    (λ found left. RefusesKeep (by keep.at_once) early (selection (given_of keep.options) which)
+    (run_point before found) (run_point after left)) file.on.files why)
 
 -- Why words choose no logs: without ADDRESS the options are none; else those of one device name none, or memory is
 -- wanting.
@@ -117,22 +146,20 @@ ChoosesNoneBy (group ∷ more) given fault = WantsMemory fault
 abbrev pub ChoosesNone : Keep → NotDone → Type 0
 ChoosesNone keep = ChoosesNoneBy keep.groups (given_of keep.options)
 
-module _ {S P C F : Type 0} {s : start.Ghosts F} (rules : SocketRules S P) (by : AtOnce S C)
-    (g : disk.Ghosts (FileOf s)) (image : Image) where
-  -- The logs that were chosen aren't kept, whatever the files hold; and of two closed files the run over what they held
-  -- ends so, unless they couldn't be closed.
-  abbrev pub EndsChosenKeep : Chosen → Given → S → S → DiskFiles F s → NotDone → Type 0
-  EndsChosenKeep which given before after files fault =
-      EndsKeeping rules by which (Unit {0}) (Unit {0}) before after fault × (IsUnclosedBySome files
-      ⊎ (IsSome files.closed
-      × IfSome files.closed
-      (IsDoneTo g image (λ found left. EndsOver rules by which given before after found left fault))))
+-- The logs that were chosen aren't kept, whatever the files hold; and of two closed files the run over what they held
+-- ends so, unless they couldn't be closed.
+abbrev pub EndsChosenKeep : {S P C F : Type 0} {s : start.Ghosts F} → Reach S P C → OnDisk s → Selection → S → S
+    → NotDone → Type 0
+EndsChosenKeep by file which before after fault =
+    EndsKeeping by which.chosen (Unit {0}) (Unit {0}) before after fault × (IsUnclosedBySome file.files
+    ⊎ (IsSome file.files.closed
+    × IfSome file.files.closed (IsDoneTo file.does file.image
+    (λ found left. EndsOver by which (run_point before found) (run_point after left) fault))))
 
-module _ {S P C F : Type 0} {s : start.Ghosts F} (rules : SocketRules S P) (by : ℕ → AtOnce S C)
-    (g : disk.Ghosts (FileOf s)) (image : Image) where
-  -- Why `keep` isn't done, if the file isn't at fault: memory is wanting; the words choose no logs, and no socket is
-  -- opened; or those that they choose aren't kept.
-  abbrev pub EndsKeep : Keep → S → S → DiskFiles F s → NotDone → Type 0
-  EndsKeep keep before after files fault = WantsMemory fault ⊎ ((ChoosesNone keep fault × (after ≡ before))
-      ⊎ ((which : Chosen) × Chooses keep which
-      × EndsChosenKeep rules (by keep.at_once) g image which (given_of keep.options) before after files fault))
+-- Why `keep` isn't done, if the file isn't at fault: memory is wanting; the words choose no logs, and no socket is
+-- opened; or those that they choose aren't kept.
+abbrev pub EndsKeep : {S P C F : Type 0} {s : start.Ghosts F} → (ℕ → Reach S P C) → OnDisk s → Keep → S → S → NotDone
+    → Type 0
+EndsKeep by file keep before after fault = WantsMemory fault ⊎ ((ChoosesNone keep fault × (after ≡ before))
+    ⊎ ((which : Chosen) × Chooses keep which
+    × EndsChosenKeep (by keep.at_once) file (selection (given_of keep.options) which) before after fault))

@@ -9,18 +9,19 @@ ghost use Rattle.sqlite.specs.State.{HasCleanDisk};
 ghost use Rattle.sqlite_wal.specs.Files.{image_at};
 ghost use Rattle.bac_asked.specs.AsLog.{given_in};
 ghost use Rattle.bac_asked.specs.Faults.{IsOfDatabase, WantsMemory, of_error};
-ghost use Rattle.bac_fetch.specs.Chosen.{AskOneSource, AskTheirSources};
+ghost use Rattle.bac_fetch.specs.Chosen.{AskOneSource, AskTheirSources, selection};
 ghost use Rattle.bac_fetch.specs.Faults.{EndsKeeping};
 ghost use Rattle.bac_files.specs.Files.{IsDoneTo, IsNamed, IsUnused};
 ghost use Rattle.bac_offline.specs.Archives.{IsHeld, KeepsRows};
 ghost use Rattle.bac_keeper.specs.Archives.{KeepsArchive, LosesNothing};
 ghost use Rattle.bac_offline.specs.Begun.{BarsPart, BeginsOn};
 ghost use Rattle.bac_keeper.specs.Done.{Chooses, ChoosesNone, EndsKeep, EndsOver, FailsToKeep};
-ghost use Rattle.bac_keeper.specs.Done.{IsQuiet, KeepsIn, RefusesKeep, Seeks, SeeksBy};
-ghost use Rattle.bac_keeper.specs.Done.{TellsThese};
+ghost use Rattle.bac_keeper.specs.Done.{IsQuiet, KeepsIn, RefusesKeep, Seeks, SeeksBy, on_disk};
+ghost use Rattle.bac_keeper.specs.Done.{TellsThese, named_file, unbegun};
 ghost use Rattle.bac_offline.specs.Ends.{MayAsk, MayFail};
 ghost use Rattle.bac_offline.specs.Options.{SeeksNone, SeeksNoneBy, given_of};
-ghost use Rattle.bac_fetch.specs.Ahead.{at_once};
+ghost use Rattle.bac_fetch.specs.Ahead.{at_once, reach, reaching};
+ghost use Rattle.bac_fetch.specs.Points.{run_point, scene};
 ghost use Rattle.bac_ports.specs.Sockets.{socket_rules};
 ghost use Rattle.bac_words.specs.Groups.{are_any};
 
@@ -127,15 +128,16 @@ where
     C: Drop,
     requires { AskTheirSources chosen }
     // What is kept is committed.
-    ensures told { IfOk result (TellsThese (socket_rules S.opens S.closes S.Socket.sends
-        S.Socket.receives S.Socket.receives_within) (at_once S.holds C.reads clock window) chosen
+    ensures told { IfOk result (TellsThese (reach (socket_rules S.opens S.closes S.Socket.sends
+        S.Socket.receives S.Socket.receives_within) (at_once S.holds C.reads clock window)) chosen
         sockets.old (O.contents output.old) (O.contents output.new)
         (λ all between ends. IsHeld (state A.Store conn.new)
-        → KeepsArchive (socket_rules S.opens S.closes S.Socket.sends S.Socket.receives
-        S.Socket.receives_within) (at_once S.holds C.reads clock window)
-        (given_in options.now) chosen all between sockets.new
-        (BeginsOn ⟦<FileOf<G> as Disk>⟧ (image_at G.Start) place.old.before parts.new) ends
-        (state A.Store conn.old).now (state A.Store conn.new).committed)) }
+        → KeepsArchive (reach (socket_rules S.opens S.closes S.Socket.sends S.Socket.receives
+        S.Socket.receives_within) (at_once S.holds C.reads clock window))
+        (selection (given_in options.now) chosen) all
+        (run_point between (state A.Store conn.old).now)
+        (run_point sockets.new (state A.Store conn.new).committed)
+        (BeginsOn ⟦<FileOf<G> as Disk>⟧ (image_at G.Start) place.old.before parts.new) ends)) }
     // Whatever comes of it, no item, no beginning and no log is lost.
     ensures stays { IsHeld (state A.Store conn.new)
         → (state A.Store conn.old).committed ≡ (state A.Store conn.old).now
@@ -145,23 +147,25 @@ where
         (IsDoneTo ⟦<FileOf<G> as Disk>⟧ (image_at G.Start) KeepsRows) }
     ensures clean { HasCleanDisk (state A.Store conn.new) → HasCleanDisk (state A.Store conn.old) }
     ensures fault { IfErr result (MayFail (λ why. ((error : Error) × (why ≡ of_error error))
-        ⊎ (IsHeld (state A.Store conn.new) → RefusesKeep
-        (socket_rules S.opens S.closes S.Socket.sends S.Socket.receives
-        S.Socket.receives_within) (at_once S.holds C.reads clock window)
-        (BarsPart ⟦<FileOf<G> as Disk>⟧ (image_at G.Start) place.old.before parts.new)
-        (IsQuiet sockets.old sockets.new (O.contents output.old) (O.contents output.new)
-        × (E.contents errors.new ≡ E.contents errors.old)) chosen
-        (given_in options.now) sockets.old sockets.new (state A.Store conn.old).now
-        (state A.Store conn.new).committed why))) }
-    ensures ends { IfErr result (MayAsk (λ fault. EndsKeeping
-        (socket_rules S.opens S.closes S.Socket.sends S.Socket.receives
-        S.Socket.receives_within) (at_once S.holds C.reads clock window) chosen (Unit {0})
-        (Unit {0}) sockets.old sockets.new fault
-        × (IsHeld (state A.Store conn.new) → EndsOver
-        (socket_rules S.opens S.closes S.Socket.sends S.Socket.receives
-        S.Socket.receives_within) (at_once S.holds C.reads clock window) chosen
-        (given_in options.now) sockets.old sockets.new (state A.Store conn.old).now
-        (state A.Store conn.new).committed fault))) }
+        ⊎ (IsHeld (state A.Store conn.new) → RefusesKeep (reach (socket_rules S.opens S.closes
+        S.Socket.sends S.Socket.receives S.Socket.receives_within)
+        (at_once S.holds C.reads clock window)) (unbegun
+        (IsQuiet (scene sockets.old (O.contents output.old))
+        (scene sockets.new (O.contents output.new))
+        × (E.contents errors.new ≡ E.contents errors.old))
+        (BarsPart ⟦<FileOf<G> as Disk>⟧ (image_at G.Start) place.old.before parts.new))
+        (selection (given_in options.now) chosen)
+        (run_point sockets.old (state A.Store conn.old).now)
+        (run_point sockets.new (state A.Store conn.new).committed) why))) }
+    ensures ends { IfErr result (MayAsk (λ fault. EndsKeeping (reach (socket_rules S.opens S.closes
+        S.Socket.sends S.Socket.receives S.Socket.receives_within)
+        (at_once S.holds C.reads clock window)) chosen (Unit {0}) (Unit {0}) sockets.old sockets.new
+        fault
+        × (IsHeld (state A.Store conn.new) → EndsOver (reach (socket_rules S.opens S.closes
+        S.Socket.sends S.Socket.receives S.Socket.receives_within)
+        (at_once S.holds C.reads clock window)) (selection (given_in options.now) chosen)
+        (run_point sockets.old (state A.Store conn.old).now)
+        (run_point sockets.new (state A.Store conn.new).committed) fault))) }
     ensures place { (place.new.path ≡ place.old.path) × (place.new.before ≡ place.old.before) }
 {
     begin_archive(alloc, conn, parts, place, errors)?;
@@ -207,32 +211,31 @@ pub(crate) fn keep<S: Recalls, C: Clock + Copy, F: Start, G: Start, O: Write, E:
 ) -> Result<u8, NotDone>
 where
     C: Drop,
-    ensures kept { IfOk result (KeepsIn (socket_rules S.opens S.closes S.Socket.sends
-        S.Socket.receives S.Socket.receives_within) (at_once S.holds C.reads clock)
-        ⟦<FileOf<F> as Disk>⟧ (image_at F.Start) (BeginsOn ⟦<FileOf<G> as Disk>⟧
-        (image_at G.Start) place.old.before parts.new) asked.now sockets.old sockets.new
-        (O.contents output.old) (O.contents output.new) files.new.closed) }
+    ensures kept { IfOk result (KeepsIn (reaching (socket_rules S.opens S.closes S.Socket.sends
+        S.Socket.receives S.Socket.receives_within) (at_once S.holds C.reads clock))
+        (on_disk ⟦<FileOf<F> as Disk>⟧ (image_at F.Start) files.new)
+        (BeginsOn ⟦<FileOf<G> as Disk>⟧ (image_at G.Start) place.old.before parts.new) asked.now
+        (scene sockets.old (O.contents output.old)) (scene sockets.new (O.contents output.new))) }
     ensures named { OnOk result (IsNamed (string_bytes place.old.path)
         (are_any asked.now.groups || is_some place.old.before) files.new) }
-    ensures fault { IfErr result (MayFail (FailsToKeep
-        (socket_rules S.opens S.closes S.Socket.sends S.Socket.receives
-        S.Socket.receives_within) (at_once S.holds C.reads clock)
-        ⟦<FileOf<F> as Disk>⟧ (image_at F.Start)
-        (BarsPart ⟦<FileOf<G> as Disk>⟧ (image_at G.Start) place.old.before parts.new)
-        (IsQuiet sockets.old sockets.new (O.contents output.old) (O.contents output.new)
-        × (E.contents errors.new ≡ E.contents errors.old)) asked.now (string_bytes place.old.path)
-        (are_any asked.now.groups || is_some place.old.before) sockets.old sockets.new
-        files.new)) }
+    ensures fault { IfErr result (MayFail (FailsToKeep (reaching (socket_rules S.opens S.closes
+        S.Socket.sends S.Socket.receives S.Socket.receives_within) (at_once S.holds C.reads clock))
+        (unbegun (IsQuiet (scene sockets.old (O.contents output.old))
+        (scene sockets.new (O.contents output.new))
+        × (E.contents errors.new ≡ E.contents errors.old))
+        (BarsPart ⟦<FileOf<G> as Disk>⟧ (image_at G.Start) place.old.before parts.new)) asked.now
+        sockets.old sockets.new
+        (named_file (on_disk ⟦<FileOf<F> as Disk>⟧ (image_at F.Start) files.new)
+        (string_bytes place.old.path) (are_any asked.now.groups || is_some place.old.before)))) }
     ensures stays { IsUnused files.old → IfSome files.new.closed
         (IsDoneTo ⟦<FileOf<F> as Disk>⟧ (image_at F.Start) LosesNothing) }
     // The part before keeps its rows, whatever comes of it.
     ensures part { IsUnused parts.old → IfSome parts.new.closed
         (IsDoneTo ⟦<FileOf<G> as Disk>⟧ (image_at G.Start) KeepsRows) }
-    ensures ends { IfErr result (MayAsk (EndsKeep
-        (socket_rules S.opens S.closes S.Socket.sends S.Socket.receives
-        S.Socket.receives_within) (at_once S.holds C.reads clock)
-        ⟦<FileOf<F> as Disk>⟧ (image_at F.Start) asked.now
-        sockets.old sockets.new files.new)) }
+    ensures ends { IfErr result (MayAsk (EndsKeep (reaching (socket_rules S.opens S.closes
+        S.Socket.sends S.Socket.receives S.Socket.receives_within) (at_once S.holds C.reads clock))
+        (on_disk ⟦<FileOf<F> as Disk>⟧ (image_at F.Start) files.new) asked.now sockets.old
+        sockets.new)) }
     ensures place { (place.new.path ≡ place.old.path) × (place.new.before ≡ place.old.before) }
 {
     let options = options_of(&asked.options);

@@ -9,14 +9,15 @@ ghost use Rattle.bac_files.specs.Parts.{IsPlaced, Listing};
 ghost use Rattle.bac_offline.specs.Archives.{KeepsItems, KeepsRows};
 ghost use Rattle.bac_keeper.specs.Archives.{LosesNothing};
 ghost use Rattle.bac_offline.specs.Begun.{BeginsOn};
-ghost use Rattle.bac_keeper.specs.Done.{EndsKeep, KeepsIn};
+ghost use Rattle.bac_keeper.specs.Done.{EndsKeep, KeepsIn, on_disk};
 ghost use Rattle.bac_keeper.specs.Places.{FailsAt, FailsAtPlace, KeepsAt};
 ghost use Rattle.bac_offline.specs.Ends.{EndsBy, IsNotOpened, IsOfFile, IsOfSomeFile, MayFail};
 ghost use Rattle.bac_offline.specs.Ends.{TellsEnd};
 ghost use Rattle.bac_offline.specs.Parted.{IsNoFolder, PrintsFile, PrintsListed, PrintsOfFolder};
 ghost use Rattle.bac_offline.specs.Shown.{EndsPrint};
 ghost use Rattle.bac_offline.specs.Stops.{EndsStop, FailsToStopAt, StopsAt};
-ghost use Rattle.bac_fetch.specs.Ahead.{at_once};
+ghost use Rattle.bac_fetch.specs.Ahead.{at_once, reaching};
+ghost use Rattle.bac_fetch.specs.Points.{scene};
 ghost use Rattle.bac_ports.specs.Sockets.{socket_rules};
 ghost use Rattle.bac_words.specs.Groups.{are_any};
 
@@ -121,26 +122,27 @@ where
     C: Drop,
     ensures kept { IfOk result (λ status. (IsNamed (string_bytes place.path)
         (are_any asked.now.groups || is_some place.before) files.new
-        × KeepsIn (socket_rules S.opens S.closes S.Socket.sends S.Socket.receives
-        S.Socket.receives_within) (at_once S.holds C.reads clock)
-        ⟦<FileOf<F> as Disk>⟧ (image_at F.Start)
-        (BeginsOn ⟦<FileOf<G> as Disk>⟧ (image_at G.Start) place.before parts.new)
-        asked.now sockets.old sockets.new (O.contents output.old)
-        (O.contents output.new) files.new.closed status)
-        ⊎ IsOfFile (FailsAtPlace (socket_rules S.opens S.closes S.Socket.sends S.Socket.receives
-        S.Socket.receives_within) (at_once S.holds C.reads clock) ⟦<FileOf<F> as Disk>⟧
-        ⟦<FileOf<G> as Disk>⟧ (image_at F.Start) (image_at G.Start) asked.now place sockets.old
-        sockets.new (O.contents output.old) (O.contents output.new) (E.contents errors.old)
-        (E.contents errors.new) files.new parts.new) status) }
+        × KeepsIn (reaching (socket_rules S.opens S.closes S.Socket.sends S.Socket.receives
+        S.Socket.receives_within) (at_once S.holds C.reads clock))
+        (on_disk ⟦<FileOf<F> as Disk>⟧ (image_at F.Start) files.new)
+        (BeginsOn ⟦<FileOf<G> as Disk>⟧ (image_at G.Start) place.before parts.new) asked.now
+        (scene sockets.old (O.contents output.old)) (scene sockets.new (O.contents output.new))
+        status)
+        ⊎ IsOfFile (FailsAtPlace (reaching (socket_rules S.opens S.closes S.Socket.sends
+        S.Socket.receives S.Socket.receives_within) (at_once S.holds C.reads clock))
+        (on_disk ⟦<FileOf<F> as Disk>⟧ (image_at F.Start) files.new)
+        (on_disk ⟦<FileOf<G> as Disk>⟧ (image_at G.Start) parts.new) asked.now place
+        (scene sockets.old (O.contents output.old)) (scene sockets.new (O.contents output.new))
+        (E.contents errors.old) (E.contents errors.new)) status) }
     ensures stays { IsUnused files.old → IfSome files.new.closed
         (IsDoneTo ⟦<FileOf<F> as Disk>⟧ (image_at F.Start) LosesNothing) }
     // The part before keeps its rows, whatever comes of it.
     ensures part { IsUnused parts.old → IfSome parts.new.closed
         (IsDoneTo ⟦<FileOf<G> as Disk>⟧ (image_at G.Start) KeepsRows) }
-    ensures ends { IfErr result (λ why. EndsKeep (socket_rules S.opens S.closes S.Socket.sends
-        S.Socket.receives S.Socket.receives_within) (at_once S.holds C.reads clock)
-        ⟦<FileOf<F> as Disk>⟧ (image_at F.Start) asked.now sockets.old sockets.new files.new
-        (NotDone.Asking why)) }
+    ensures ends { IfErr result (λ why. EndsKeep (reaching (socket_rules S.opens S.closes
+        S.Socket.sends S.Socket.receives S.Socket.receives_within) (at_once S.holds C.reads clock))
+        (on_disk ⟦<FileOf<F> as Disk>⟧ (image_at F.Start) files.new) asked.now sockets.old
+        sockets.new (NotDone.Asking why)) }
 {
     let mut place = place;
     let done = keep(
@@ -175,16 +177,18 @@ where
     // file is no use; of one that isn't opened, or is no archive, nothing was asked or printed, and
     // that alone is told on the errors.
     ensures kept { asked.now.stop ≡ false
-        → IfOk result (λ status. KeepsAt (socket_rules S.opens S.closes S.Socket.sends
-        S.Socket.receives S.Socket.receives_within) (at_once S.holds C.reads clock)
-        ⟦<FileOf<F> as Disk>⟧ ⟦<FileOf<G> as Disk>⟧ (image_at F.Start) (image_at G.Start)
-        asked.now sockets.old sockets.new (O.contents output.old) (O.contents output.new)
-        files.new parts.new status
-        ⊎ IsOfFile (FailsAt (socket_rules S.opens S.closes S.Socket.sends S.Socket.receives
-        S.Socket.receives_within) (at_once S.holds C.reads clock) ⟦<FileOf<F> as Disk>⟧
-        ⟦<FileOf<G> as Disk>⟧ (image_at F.Start) (image_at G.Start) asked.now sockets.old
-        sockets.new (O.contents output.old) (O.contents output.new) (E.contents errors.old)
-        (E.contents errors.new) files.new parts.new) status) }
+        → IfOk result (λ status. KeepsAt (reaching (socket_rules S.opens S.closes S.Socket.sends
+        S.Socket.receives S.Socket.receives_within) (at_once S.holds C.reads clock))
+        (on_disk ⟦<FileOf<F> as Disk>⟧ (image_at F.Start) files.new)
+        (on_disk ⟦<FileOf<G> as Disk>⟧ (image_at G.Start) parts.new) asked.now
+        (scene sockets.old (O.contents output.old)) (scene sockets.new (O.contents output.new))
+        status
+        ⊎ IsOfFile (FailsAt (reaching (socket_rules S.opens S.closes S.Socket.sends
+        S.Socket.receives S.Socket.receives_within) (at_once S.holds C.reads clock))
+        (on_disk ⟦<FileOf<F> as Disk>⟧ (image_at F.Start) files.new)
+        (on_disk ⟦<FileOf<G> as Disk>⟧ (image_at G.Start) parts.new) asked.now
+        (scene sockets.old (O.contents output.old)) (scene sockets.new (O.contents output.new))
+        (E.contents errors.old) (E.contents errors.new)) status) }
     // With `--stop` they were stopped, and nothing else of the archive changed; or nothing is
     // printed, unless the file couldn't be closed. No socket is opened, and only that the file is
     // no use is told on the errors.
@@ -210,10 +214,10 @@ where
         → IfSome files.new.closed (IsDoneTo ⟦<FileOf<F> as Disk>⟧ (image_at F.Start) KeepsItems) }
     // Or it ends so, and that is the caller's to tell.
     ensures ends { asked.now.stop ≡ false
-        → IfErr result (λ why. EndsKeep (socket_rules S.opens S.closes S.Socket.sends
-        S.Socket.receives S.Socket.receives_within) (at_once S.holds C.reads clock)
-        ⟦<FileOf<F> as Disk>⟧ (image_at F.Start) asked.now sockets.old sockets.new files.new
-        (NotDone.Asking why)) }
+        → IfErr result (λ why. EndsKeep (reaching (socket_rules S.opens S.closes S.Socket.sends
+        S.Socket.receives S.Socket.receives_within) (at_once S.holds C.reads clock))
+        (on_disk ⟦<FileOf<F> as Disk>⟧ (image_at F.Start) files.new) asked.now sockets.old
+        sockets.new (NotDone.Asking why)) }
     ensures stop_ends { asked.now.stop ≡ true
         → IfErr result (λ why. EndsStop ⟦<FileOf<F> as Disk>⟧ (image_at F.Start) asked.now
         (O.contents output.old) (O.contents output.new) files.new (NotDone.Asking why)) }

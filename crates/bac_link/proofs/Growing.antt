@@ -8,7 +8,7 @@ use Rattle.bac_link.specs.declared.link.Lost.{Lost as Loss}
 use Rattle.bac_link.specs.Datagrams.{answers_to}
 use Rattle.bac_link.specs.Delivery.{History, Moment, IsEntry, now, later}
 use Rattle.bac_link.specs.Growing.{GoesOn, Standing, IsStanding, IsOnward, IsGiven, StaysHonest, StaysHonestWhere, StandingStaysHonest, HonestStaysHonest, HistoriesGoOn}
-use Rattle.bac_link.specs.Honest.{IsSaidOrLost, IsHonestFor, asked_octets}
+use Rattle.bac_link.specs.Honest.{IsSaidOrLost, IsHonestFor, asked_octets, asked_log}
 use Rattle.bac_link.specs.Moments.{AreIn, AreInWindow, IsInWindow, NeverGoesBack}
 use Rattle.bac_link.specs.Path.{Path}
 use Rattle.bac_log.specs.declared.entry.Datum.TheVariants.{Null}
@@ -80,19 +80,19 @@ within_on low at on is goes = omega (arith, is.within, goes.1, ap length goes.2,
 pub stands_on : {S : Type 0} (asks : Asking S) (stands : ℕ → S → Standing → Type 0) → StandingStaysHonest asks stands
 stands_on {S = S} asks stands = λ path log count low more link at honest stood. all path log count low more link at honest stood
   where
-    all : (path : Path) (log : Id) (count low more : ℕ) (link : S) (at : Standing) → StaysHonestWhere asks path log count low stands → stands more link at → StaysHonest asks path log count low more link at
+    all : (path : Path) (log : Id) (count low more : ℕ) (link : S) (at : Standing) → StaysHonestWhere asks (asked_log path log count) low stands → stands more link at → StaysHonest asks (asked_log path log count) low more link at
     all path log count low zero link at honest stood = tt
     all path log count low (suc more) link at honest stood = λ new asked invoke answer is ask.
         let x = honest.goes_on more link new at asked invoke answer stood is ask in
         (x.0, x.1, x.2, all path log count low more new x.0 honest x.3)
 
-fewer_asks : {S : Type 0} (asks : Asking S) (path : Path) (log : Id) (count low more : ℕ) (link : S) (at : Standing) → StaysHonest asks path log count low (suc more) link at → StaysHonest asks path log count low more link at
+fewer_asks : {S : Type 0} (asks : Asking S) (path : Path) (log : Id) (count low more : ℕ) (link : S) (at : Standing) → StaysHonest asks (asked_log path log count) low (suc more) link at → StaysHonest asks (asked_log path log count) low more link at
 fewer_asks asks path log count low zero link at honest = tt
 fewer_asks asks path log count low (suc more) link at honest = λ new asked invoke answer is ask.
     let x = honest new asked invoke answer is ask in
     (x.0, x.1, x.2, fewer_asks asks path log count low more new x.0 x.3)
 
-pub stays_on : {S : Type 0} (asks : Asking S) (path : Path) (log : Id) (count low : ℕ) → StaysHonestWhere asks path log count low (λ n link at. StaysHonest asks path log count low n link at)
+pub stays_on : {S : Type 0} (asks : Asking S) (path : Path) (log : Id) (count low : ℕ) → StaysHonestWhere asks (asked_log path log count) low (λ n link at. StaysHonest asks (asked_log path log count) low n link at)
 stays_on asks path log count low = record {
   goes_on = λ more old new at asked invoke answer honest is ask. honest new asked invoke answer is ask;
   fewer = λ more link at honest. fewer_asks asks path log count low more link at honest;
@@ -127,10 +127,10 @@ left_later on low m (n ∷ o ∷ M) left = record { some = omega arith; back = l
 
 -- an ask of a link that is honest at them
 known_ask : {S : Type 0} (asks : Asking S) (path : Path) (log : Id) (count : ℕ) (H on : History) (low more : ℕ) (new : S) (m : Moment) (M : List Moment) (asked : Asked) (octets : List ℕ) (answer : Result (List ℕ) Loss) →
-    (IsHonestFor asks path log count H low more new M → StaysHonest asks path log count low more new (record { history = on; moment = m })) →
-    (IsHonestFor asks path log count H low more new (later M) → StaysHonest asks path log count low more new (record { history = on; moment = now M })) →
-    GoesOn H on → IsStanding low (record { history = on; moment = m }) → Left on low m M → IsSaidOrLost (λ N. IsHonestFor asks path log count H low more new N) M H log asked octets answer →
-    (next : Standing) × IsOnward low (record { history = on; moment = m }) next × IsGiven next log asked octets answer × StaysHonest asks path log count low more new next
+    (IsHonestFor asks (asked_log path log count) H low more new M → StaysHonest asks (asked_log path log count) low more new (record { history = on; moment = m })) →
+    (IsHonestFor asks (asked_log path log count) H low more new (later M) → StaysHonest asks (asked_log path log count) low more new (record { history = on; moment = now M })) →
+    GoesOn H on → IsStanding low (record { history = on; moment = m }) → Left on low m M → IsSaidOrLost (λ N. IsHonestFor asks (asked_log path log count) H low more new N) M H log asked octets answer →
+    (next : Standing) × IsOnward low (record { history = on; moment = m }) next × IsGiven next log asked octets answer × StaysHonest asks (asked_log path log count) low more new next
 known_ask asks path log count H on low more new m M asked octets (Err lost) stays goes_to goes is left said =
     let here : Standing = record { history = on; moment = m } in (here, stays_there low here is, tt, stays said)
 known_ask asks path log count H on low more new m M asked octets (Ok datagram) stays goes_to goes is left said = elim (cases_Bool (answers_to octets datagram)) [
@@ -147,8 +147,8 @@ known_ask asks path log count H on low more new m M asked octets (Ok datagram) s
 ]
 
 known_before : {S : Type 0} (asks : Asking S) (path : Path) (log : Id) (count : ℕ) (H on : History) (low more : ℕ) (link : S) (m : Moment) (M : List Moment) →
-    IsHonestFor asks path log count H low more link M → GoesOn H on → IsStanding low (record { history = on; moment = m }) → Left on low m M →
-    StaysHonest asks path log count low more link (record { history = on; moment = m })
+    IsHonestFor asks (asked_log path log count) H low more link M → GoesOn H on → IsStanding low (record { history = on; moment = m }) → Left on low m M →
+    StaysHonest asks (asked_log path log count) low more link (record { history = on; moment = m })
 known_before asks path log count H on low zero link m M honest goes is left = tt
 known_before asks path log count H on low (suc more) link m M honest goes is left = λ new asked invoke answer in_it ask.
     known_ask asks path log count H on low more new m M asked (asked_octets path invoke log asked) answer

@@ -4,7 +4,7 @@ use Rattle.bac_link.specs.declared.exchanges.Verdict.{Verdict}
 use Rattle.bac_link.specs.declared.link.Lost.{Lost}
 use Rattle.bac_link.specs.declared.request.Request.{Request}
 use Rattle.bac_link.specs.Datagrams.{answers_to, apdu_in}
-use Rattle.bac_link.specs.Exchanges.{Answers, IsNoAnswer, Unanswered, verdict_of}
+use Rattle.bac_link.specs.Exchanges.{Answers, IsNoAnswer, Unanswered, verdict_of, way_by}
 use Rattle.bac_link.specs.Path.{Path}
 use Rattle.bac_link.specs.Requests.{request_octets}
 
@@ -21,7 +21,7 @@ one_more asks octets sent n old mid new answer same first asked none =
 pub answered_by : {S : Type 0} (asks : S → List ℕ → Result (List ℕ) Lost → S → Type 0) (path : Path) (invoke : ℕ) (r : Request) (retries : ℕ) (verdict : Verdict) (sent datagram heard : List ℕ)
     (tries : ℕ) (old mid new : S) → sent ≡ request_octets path invoke r → heard ≡ datagram → tries ≤ retries →
     Unanswered asks (request_octets path invoke r) tries old mid → asks mid sent (Ok datagram) new → answers_to sent datagram ≡ true →
-    verdict ≡ verdict_of r (apdu_in heard) → Answers asks path invoke r retries verdict old datagram new
+    verdict ≡ verdict_of r (apdu_in heard) → Answers asks (way_by path invoke retries) r verdict old datagram new
 answered_by asks path invoke r retries verdict sent datagram heard tries old mid new same whole few first asked answers judged =
     let Q : List ℕ → Type 0 = λ l. asks mid l (Ok datagram) new in
     let R : List ℕ → Type 0 = λ l. answers_to l datagram ≡ true in

@@ -3,8 +3,6 @@ use Rattle.std.specs.Prelude.{◌≡◌, ℕ, zero, suc, ◌+◌, ◌≤◌, tru
 use Rattle.std.specs.Prelude.{None, Result, Ok, Err, List}
 use Rattle.bac_apdu.specs.Apdu.{Apdu}
 use Rattle.bac_apdu.specs.Apdu as apdu
-use Rattle.bac_apdu.specs.declared.service.extent.Extent.{Extent}
-use Rattle.bac_wire.specs.Primitive.{Id}
 use Rattle.bac_link.specs.declared.exchanges.ExchangeFault.{ExchangeFault}
 use Rattle.bac_link.specs.declared.exchanges.ExchangeFault.TheVariants as fault
 use Rattle.bac_link.specs.declared.exchanges.Refusal.TheVariants as refusal
@@ -14,8 +12,8 @@ use Rattle.bac_link.specs.declared.link.Lost.{Lost as Loss}
 use Rattle.bac_link.specs.declared.request.Request.{Request}
 use Rattle.bac_link.specs.declared.transactions.Transactions.{Transactions}
 use Rattle.bac_link.specs.Datagrams.{answers_to, apdu_in}
-use Rattle.bac_link.specs.Delivery.{History, Moment, now, later}
-use Rattle.bac_link.specs.Links.{IsReply, IsUnknown, RisesBy}
+use Rattle.bac_link.specs.Delivery.{Moment, later}
+use Rattle.bac_link.specs.Links.{OurQuestion, IsReply, IsUnknown, RisesBy}
 use Rattle.bac_link.specs.Path.{Path, towards}
 use Rattle.bac_link.specs.Requests.{has_result, next_invoke, request_octets, service_of}
 use Rattle.bac_link.specs.Transactions.{begun_with, closed}
@@ -58,6 +56,10 @@ pub record Way : Type 0 where
   pub invoke : ℕ
   pub retries : ℕ
 
+-- the three together
+abbrev pub way_by : Path → ℕ → ℕ → Way
+way_by path invoke retries = record { path = path; invoke = invoke; retries = retries }
+
 -- the way of the next request of these transactions
 abbrev pub next_way : Transactions → Way
 next_way t = record { path = towards t.route; invoke = next_invoke t.invoke; retries = t.retries }
@@ -85,26 +87,27 @@ Unanswered {S = S} asks octets (suc n) old new =
     (mid : S) × (answer : Result (List ℕ) Loss) × Unanswered asks octets n old mid
     × asks mid octets answer new × IsNoAnswer octets answer
 
--- tries without an answer, at most as many as there are retries, and then one that brought an answer with this verdict
-abbrev pub Answers : {S : Type 0} → (S → List ℕ → Result (List ℕ) Loss → S → Type 0) →
-    Path → ℕ → Request → ℕ → Verdict → S → List ℕ → S → Type 0
-Answers {S = S} asks path invoke r retries verdict old datagram new =
-    (tries : ℕ) × (mid : S) × (tries ≤ retries) × Unanswered asks (request_octets path invoke r) tries old mid
-    × asks mid (request_octets path invoke r) (Ok datagram) new × IsAnswer path invoke r verdict datagram
+-- tries without an answer, at most as many as the way has retries, and then one that brought an answer with this
+-- verdict
+abbrev pub Answers : {S : Type 0} → Ask S → Way → Request → Verdict → S → List ℕ → S → Type 0
+Answers {S = S} asks way r verdict old datagram new =
+    (tries : ℕ) × (mid : S) × (tries ≤ way.retries)
+    × Unanswered asks (request_octets way.path way.invoke r) tries old mid
+    × asks mid (request_octets way.path way.invoke r) (Ok datagram) new
+    × IsAnswer way.path way.invoke r verdict datagram
 
--- An exchange over any link: the request is asked until an answer comes, and as often again as the retries say. Its
+-- An exchange over any link: the request is asked until an answer comes, and as often again as its way says. Its
 -- result is the verdict on that answer; Lost if no try brought one. Nothing is asked if the request doesn't fit.
-abbrev pub Exchanges : {S : Type 0} → (S → List ℕ → Result (List ℕ) Loss → S → Type 0) →
-    Path → ℕ → Request → ℕ → S → Result (List ℕ) ExchangeFault → S → Type 0
-Exchanges {S = S} asks path invoke r retries old (Ok datagram) new =
-    Answers asks path invoke r retries Ack old datagram new
-Exchanges {S = S} asks path invoke r retries old (Err (fault.Refused refusal)) new =
-    (datagram : List ℕ) × Answers asks path invoke r retries (Refused refusal) old datagram new
-Exchanges {S = S} asks path invoke r retries old (Err fault.BadReply) new =
-    (datagram : List ℕ) × Answers asks path invoke r retries BadReply old datagram new
-Exchanges {S = S} asks path invoke r retries old (Err fault.Lost) new =
-    Unanswered asks (request_octets path invoke r) (retries + 1) old new
-Exchanges {S = S} asks path invoke r retries old (Err fault.TooLong) new = new ≡ old
+abbrev pub Exchanges : {S : Type 0} → Ask S → Way → Request → S → Result (List ℕ) ExchangeFault → S → Type 0
+Exchanges {S = S} asks way r old (Ok datagram) new =
+    Answers asks way r Ack old datagram new
+Exchanges {S = S} asks way r old (Err (fault.Refused refusal)) new =
+    (datagram : List ℕ) × Answers asks way r (Refused refusal) old datagram new
+Exchanges {S = S} asks way r old (Err fault.BadReply) new =
+    (datagram : List ℕ) × Answers asks way r BadReply old datagram new
+Exchanges {S = S} asks way r old (Err fault.Lost) new =
+    Unanswered asks (request_octets way.path way.invoke r) (way.retries + 1) old new
+Exchanges {S = S} asks way r old (Err fault.TooLong) new = new ≡ old
 
 -- one more transaction was begun, and nothing is open; if the request doesn't fit, nothing changes
 abbrev pub Leaves : Request → Transactions → Result (List ℕ) ExchangeFault → Transactions → Type 0
@@ -116,29 +119,15 @@ Leaves r old (Ok datagram) new = new ≡ closed (begun_with r old)
 
 -- ---- over a link of ours
 
--- A question over a link of ours: its replies have at most so many octets, and are given at these moments of a log
--- with this history; the log, what is asked of it, and by which way.
-pub record OurQuestion : Type 0 where
-  pub reply_size : ℕ
-  pub moments : List Moment
-  pub history : History
-  pub log : Id
-  pub extent : Extent
-  pub path : Path
-
 -- how many asks had failed before a call, and after it
 pub record Failures : Type 0 where
   pub before : ℕ
   pub after : ℕ
 
--- a datagram is the reply of the next moment to it, under this invoke ID
-abbrev pub IsNextReply : OurQuestion → ℕ → List ℕ → Type 0
-IsNextReply q invoke datagram = IsReply q.reply_size (now q.moments) q.history q.log q.extent q.path invoke datagram
-
 -- that reply, or Lost if the count of failures rose by more than the retries, and nothing else
 abbrev pub IsExchanged : (List Moment → Type 0) → OurQuestion → ℕ → Failures → Result (List ℕ) ExchangeFault → Type 0
 IsExchanged stays q retries failures (Ok datagram) =
-    ((invoke : ℕ) × IsNextReply q invoke datagram) × stays (later q.moments)
+    ((invoke : ℕ) × IsReply q invoke datagram) × stays (later q.moments)
 IsExchanged stays q retries failures (Err fault.Lost) =
     RisesBy (retries + 1) failures.before failures.after × stays q.moments
 IsExchanged stays q retries failures (Err (fault.Refused refusal)) = ⊥
@@ -174,7 +163,7 @@ IsTried {S = S} asks octets old None new =
 
 -- over a link of ours: the reply of the next moment, or a failure
 abbrev pub IsHeard : (List Moment → Type 0) → OurQuestion → ℕ → Failures → Option (List ℕ) → Type 0
-IsHeard stays q invoke failures (Some datagram) = IsNextReply q invoke datagram × stays (later q.moments)
+IsHeard stays q invoke failures (Some datagram) = IsReply q invoke datagram × stays (later q.moments)
 IsHeard stays q invoke failures None = RisesBy 1 failures.before failures.after × stays q.moments
 
 -- over a link that lacks the log

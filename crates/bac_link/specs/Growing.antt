@@ -6,9 +6,9 @@ use Rattle.bac_log.specs.declared.entry.Entry.{Entry}
 use Rattle.bac_link.specs.declared.link.Lost.{Lost as Loss}
 use Rattle.bac_link.specs.Datagrams.{answers_to}
 use Rattle.bac_link.specs.Delivery.{History, Moment, now}
-use Rattle.bac_link.specs.Honest.{IsAskedIn, IsHonestFor, asked_octets}
-use Rattle.bac_link.specs.Moments.{AreIn, AreInWindow, IsInWindow, NeverGoesBack}
+use Rattle.bac_link.specs.Honest.{AskedLog, IsAskedIn, IsHonestFor, asked_log, asked_octets}
 use Rattle.bac_link.specs.Path.{Path}
+use Rattle.bac_link.specs.Moments.{AreIn, AreInWindow, IsInWindow, NeverGoesBack}
 use Rattle.bac_link.specs.Standard.{Asked, IsSaidAt}
 
 -- a history goes on: nothing that was logged is lost or altered, and more may have been logged
@@ -43,22 +43,24 @@ IsGiven at log asked octets (Err lost) = Unit {0}
 -- A link stays honest for so many asks more, for a log that stands so: whatever the next ask for so many of its records
 -- brings, the log may stand somewhere on from there, where that is given, and the link stays honest for one ask less.
 abbrev pub StaysHonest : {S : Type 0} → (S → List ℕ → Result (List ℕ) Loss → S → Type 0) →
-    Path → Id → (count low : ℕ) → ℕ → S → Standing → Type 0
-StaysHonest {S = S} asks path log count low zero old at = Unit {0}
-StaysHonest {S = S} asks path log count low (suc more) old at =
+    AskedLog → (low : ℕ) → ℕ → S → Standing → Type 0
+StaysHonest {S = S} asks source low zero old at = Unit {0}
+StaysHonest {S = S} asks source low (suc more) old at =
     (new : S) (asked : Asked) (invoke : ℕ) (answer : Result (List ℕ) Loss) →
-    IsAskedIn low count asked → asks old (asked_octets path invoke log asked) answer new →
-    (next : Standing) × IsOnward low at next × IsGiven next log asked (asked_octets path invoke log asked) answer
-    × StaysHonest asks path log count low more new next
+    IsAskedIn low source.count asked → asks old (asked_octets source.path invoke source.log asked) answer new →
+    (next : Standing) × IsOnward low at next × IsGiven next source.log asked
+    (asked_octets source.path invoke source.log asked) answer
+    × StaysHonest asks source low more new next
 
 -- The same of a link that stands somewhere for so many asks more, and for fewer too: whatever is asked, it stands on
 -- from there, for one ask less.
-pub record StaysHonestWhere {S : Type 0} (asks : S → List ℕ → Result (List ℕ) Loss → S → Type 0) (path : Path)
-    (log : Id) (count low : ℕ) (stands : ℕ → S → Standing → Type 0) : Type 0 where
+pub record StaysHonestWhere {S : Type 0} (asks : S → List ℕ → Result (List ℕ) Loss → S → Type 0) (source : AskedLog)
+    (low : ℕ) (stands : ℕ → S → Standing → Type 0) : Type 0 where
   pub goes_on : (more : ℕ) (old new : S) (at : Standing) (asked : Asked) (invoke : ℕ)
-      (answer : Result (List ℕ) Loss) → stands (suc more) old at → IsAskedIn low count asked →
-      asks old (asked_octets path invoke log asked) answer new →
-      (next : Standing) × IsOnward low at next × IsGiven next log asked (asked_octets path invoke log asked) answer
+      (answer : Result (List ℕ) Loss) → stands (suc more) old at → IsAskedIn low source.count asked →
+      asks old (asked_octets source.path invoke source.log asked) answer new →
+      (next : Standing) × IsOnward low at next × IsGiven next source.log asked
+      (asked_octets source.path invoke source.log asked) answer
       × stands more new next
   pub fewer : (more : ℕ) (link : S) (at : Standing) → stands (suc more) link at → stands more link at
 
@@ -69,17 +71,17 @@ abbrev pub StandingStaysHonest : {S : Type 0} → (S → List ℕ → Result (Li
     (ℕ → S → Standing → Type 0) → Type 0
 StandingStaysHonest {S = S} asks stands =
     (path : Path) (log : Id) (count low more : ℕ) (link : S) (at : Standing) →
-    StaysHonestWhere asks path log count low stands → stands more link at →
-    StaysHonest asks path log count low more link at
+    StaysHonestWhere asks (asked_log path log count) low stands → stands more link at →
+    StaysHonest asks (asked_log path log count) low more link at
 
 -- A link that is honest at moments that are known before stays honest, for a log that stands at the first of them, with
 -- any history that goes on from its own and has the entries of all.
 abbrev pub HonestStaysHonest : {S : Type 0} → (S → List ℕ → Result (List ℕ) Loss → S → Type 0) → Type 0
 HonestStaysHonest {S = S} asks =
     (path : Path) (log : Id) (count : ℕ) (H on : History) (low more : ℕ) (link : S) (M : List Moment) →
-    IsHonestFor asks path log count H low more link M → 0 < length M → NeverGoesBack M → AreInWindow low M →
+    IsHonestFor asks (asked_log path log count) H low more link M → 0 < length M → NeverGoesBack M → AreInWindow low M →
     GoesOn H on → AreIn on M →
-    StaysHonest asks path log count low more link (record { history = on; moment = now M })
+    StaysHonest asks (asked_log path log count) low more link (record { history = on; moment = now M })
 
 -- each history goes on to one that has the entries of these moments
 abbrev pub HistoriesGoOn : Type 0

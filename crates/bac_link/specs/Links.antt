@@ -46,10 +46,26 @@ abbrev pub HasReply : ℕ → Log → Id → Extent → Path → ℕ → List �
 HasReply r log id extent path invoke datagram =
     message_in datagram ≡ Some (back path, Complex false invoke read_range_service (reply_parameters id log extent r))
 
--- the reply of the log at a moment, whose entries are loggable
-abbrev pub IsReply : ℕ → Moment → History → Id → Extent → Path → ℕ → List ℕ → Type 0
-IsReply r m H id extent path invoke datagram =
-    All IsLoggable (log_at m H).entries × HasReply r (log_at m H) id extent path invoke datagram
+-- A question over a link of ours: its replies have at most so many octets, and are given at these moments of a log
+-- with this history; the log, what is asked of it, and by which way.
+pub record OurQuestion : Type 0 where
+  pub reply_size : ℕ
+  pub moments : List Moment
+  pub history : History
+  pub log : Id
+  pub extent : Extent
+  pub path : Path
+
+-- all of it together
+abbrev pub our_question : ℕ → List Moment → History → Id → Extent → Path → OurQuestion
+our_question r M H id extent path =
+    record { reply_size = r; moments = M; history = H; log = id; extent = extent; path = path }
+
+-- the reply of its log at the next moment, under this invoke ID; all entries of the log are loggable
+abbrev pub IsReply : OurQuestion → ℕ → List ℕ → Type 0
+IsReply q invoke datagram =
+    All IsLoggable (log_at (now q.moments) q.history).entries
+    × HasReply q.reply_size (log_at (now q.moments) q.history) q.log q.extent q.path invoke datagram
 
 -- the Error of a device that has no such log: class object, code unknown-object (clause 18)
 abbrev pub IsUnknown : Path → ℕ → List ℕ → Type 0
@@ -62,11 +78,9 @@ abbrev pub RisesBy : ℕ → ℕ → ℕ → Type 0
 RisesBy k old new = min (old + k) 18446744073709551615 ≤ new
 
 -- of a link of ours: the reply of the next moment, which is then used up; a loss leaves the moments
-abbrev pub IsAsked : (List Moment → Type 0) →
-    ℕ → List Moment → History → Id → Extent → Path → ℕ → Result (List ℕ) Lost → Type 0
-IsAsked stays r M H id extent path invoke (Ok datagram) =
-    IsReply r (now M) H id extent path invoke datagram × stays (later M)
-IsAsked stays r M H id extent path invoke (Err lost) = stays M
+abbrev pub IsAsked : (List Moment → Type 0) → OurQuestion → ℕ → Result (List ℕ) Lost → Type 0
+IsAsked stays q invoke (Ok datagram) = IsReply q invoke datagram × stays (later q.moments)
+IsAsked stays q invoke (Err lost) = stays q.moments
 
 -- of a link that lacks the log
 abbrev pub IsAskedOfNone : Path → ℕ → Result (List ℕ) Lost → Type 0
@@ -81,4 +95,4 @@ abbrev pub TellsOurs : {S : Type 0} → (S → List ℕ → Result (List ℕ) Lo
 TellsOurs {S = S} asks ours =
     (old new : S) (octets : List ℕ) (answer : Result (List ℕ) Lost) (id : Id) (r : ℕ) (M : List Moment) (H : History)
     (extent : Extent) (path : Path) (invoke : ℕ) → ours old id r M H → IsQuestion id extent path invoke octets →
-    asks old octets answer new → IsAsked (λ N. ours new id r N H) r M H id extent path invoke answer
+    asks old octets answer new → IsAsked (λ N. ours new id r N H) (our_question r M H id extent path) invoke answer

@@ -16,8 +16,9 @@ ghost use Rattle.bac_link.specs.Exchanges.{
   IsHeard,
   IsHeardOfNone,
   IsTried,
+  next_way,
 };
-ghost use Rattle.bac_link.specs.Links.{AsksFor, IsQuestion};
+ghost use Rattle.bac_link.specs.Links.{AsksFor, IsQuestion, our_question};
 ghost use Rattle.bac_apdu.specs.Npdu.{Place};
 ghost use Rattle.bac_link.specs.Path.{Path, towards};
 ghost use Rattle.bac_link.specs.Requests.{next_invoke, IsSendable, IsTooLong};
@@ -106,14 +107,7 @@ fn heard<L: LogLink>(link: &mut L, request: &[u8]) -> Option<Datagram>
         (place : Option Place) (invoke : ℕ) → L.is_ours link.old id r M H
         → IsQuestion id extent (towards place) invoke request.now
         → IsHeard (λ N. L.is_ours link.new id r N H)
-        (record {
-          reply_size = r;
-          moments = M;
-          history = H;
-          log = id;
-          extent = extent;
-          path = towards place;
-        }) invoke
+        (our_question r M H id extent (towards place)) invoke
         (record { before = L.failures link.old; after = L.failures link.new }) result
         × (L.is_sure link.old (towards place) → IsSome result) }
     ensures lacking { (id : Id) (extent : AnyExtent) (place : Option Place) (invoke : ℕ)
@@ -148,8 +142,7 @@ pub fn exchange<L: LogLink>(
     requires { IsSendable request.now }
     // Over any link, whatever the request: it is asked once, and then as often as the retries say,
     // until an answer comes over the link; what is returned is the verdict on that answer.
-    ensures exchanges { Exchanges L.asks (towards transactions.old.route)
-        (next_invoke transactions.old.invoke) request.now transactions.old.retries link.old result
+    ensures exchanges { Exchanges L.asks (next_way transactions.old) request.now link.old result
         link.new }
     // So what is returned is the verdict on a datagram that answers the request.
     ensures answers { Concludes (towards transactions.old.route)
@@ -161,14 +154,7 @@ pub fn exchange<L: LogLink>(
     ensures ours { (id : Id) (r : ℕ) (M : List Moment) (H : History) (extent : AnyExtent)
         → L.is_ours link.old id r M H → AsksFor id extent request.now
         → IsExchanged (λ N. L.is_ours link.new id r N H)
-        (record {
-          reply_size = r;
-          moments = M;
-          history = H;
-          log = id;
-          extent = extent;
-          path = towards transactions.old.route;
-        }) transactions.old.retries
+        (our_question r M H id extent (towards transactions.old.route)) transactions.old.retries
         (record { before = L.failures link.old; after = L.failures link.new }) result
         × (L.is_sure link.old (towards transactions.old.route) → IsNotLost result) }
     // Over a link without the log: the Error that says so, or Lost likewise.

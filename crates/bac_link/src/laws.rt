@@ -7,7 +7,7 @@ ghost use Rattle.bac_link.specs.Client.{AnswersTellApart, CallsAreEvents};
 ghost use Rattle.bac_link.specs.Delivery.{History, Moment};
 ghost use Rattle.bac_link.specs.Growing.{Standing, StaysHonest, StaysHonestWhere, HistoriesGoOn};
 ghost use Rattle.bac_link.specs.Growing.{HonestStaysHonest, StandingStaysHonest};
-ghost use Rattle.bac_link.specs.Honest.{IsHonest, IsHonestWhere, HonestWhereItStands};
+ghost use Rattle.bac_link.specs.Honest.{IsHonest, IsHonestWhere, HonestWhereItStands, asked_log};
 ghost use Rattle.bac_link.specs.Laws.{CanBeJoined, CanBeResumed, DeliversEachOnce};
 ghost use Rattle.bac_link.specs.Links.{TellsOurs};
 ghost use Rattle.bac_link.specs.Path.{Path};
@@ -43,8 +43,8 @@ pub fn links_are_honest<L: LogLink>()
     ensures ours { (log : Id) (r : ℕ) (H : History)
         → HonestWhereItStands L.asks (λ link M. L.is_ours link log r M H) }
     ensures goes_on { (path : Path) (log : Id) (count : ℕ) (H : History) (low : ℕ)
-        → IsHonestWhere L.asks path log count H low
-        (λ link M. IsHonest L.asks path log count H low link M) }
+        → IsHonestWhere L.asks (asked_log path log count) H low
+        (λ link M. IsHonest L.asks (asked_log path log count) H low link M) }
 {}
 
 /// A link whose log goes on stays honest for so many asks more where each of them is answered by
@@ -54,8 +54,8 @@ pub fn links_stay_honest<L: LogLink>()
     ensures told { (standing : L → Standing) (most : L → ℕ)
         → StandingStaysHonest L.asks (λ more link at. (standing link ≡ at) × (more ≤ most link)) }
     ensures goes_on { (path : Path) (log : Id) (count low : ℕ)
-        → StaysHonestWhere L.asks path log count low
-        (λ more link at. StaysHonest L.asks path log count low more link at) }
+        → StaysHonestWhere L.asks (asked_log path log count) low
+        (λ more link at. StaysHonest L.asks (asked_log path log count) low more link at) }
     ensures honest { HonestStaysHonest L.asks }
 {}
 

@@ -4,7 +4,8 @@ ghost use Rattle.std.specs.Prelude.{ℕ, ◌≤◌, List, Result, IsOk, OnErr};
 ghost use Rattle.bac_wire.specs.Primitive.{Id};
 ghost use Rattle.bac_apdu.specs.declared.service.extent.Extent.{Extent as AnyExtent};
 ghost use Rattle.bac_link.specs.Delivery.{History, Moment};
-ghost use Rattle.bac_link.specs.Links.{IsAsked, IsAskedOfNone, IsQuestion, RisesBy, TellsOurs};
+ghost use Rattle.bac_link.specs.Links.{IsAsked, IsAskedOfNone, IsQuestion, RisesBy, our_question};
+ghost use Rattle.bac_link.specs.Links.{TellsOurs};
 ghost use Rattle.bac_link.specs.Moments.{AreServed};
 ghost use Rattle.bac_link.specs.Path.{Path};
 ghost use Rattle.bac_link.specs.declared.link.Lost.{Lost as LostOf};
@@ -58,7 +59,8 @@ pub trait LogLink {
         ensures ours { (id : Id) (r : ℕ) (M : List Moment) (H : History) (extent : AnyExtent)
             (path : Path) (invoke : ℕ) → is_ours self.old id r M H
             → IsQuestion id extent path invoke request.now
-            → IsAsked (λ N. is_ours self.new id r N H) r M H id extent path invoke result }
+            → IsAsked (λ N. is_ours self.new id r N H)
+            (our_question r M H id extent path) invoke result }
         ensures lacking { (id : Id) (extent : AnyExtent) (path : Path) (invoke : ℕ) →
             lacks self.old id → IsQuestion id extent path invoke request.now →
             IsAskedOfNone path invoke result × lacks self.new id }

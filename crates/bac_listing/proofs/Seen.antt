@@ -4,7 +4,7 @@ use Rattle.std.specs.List.{list_any}
 use denote.Ref.{Bor}
 use Rattle.bac_asked.specs.declared.end.NotDone.{NotDone}
 use Rattle.bac_asked.specs.declared.wanted.Wanted.{Wanted}
-use Rattle.bac_hearing.specs.Hearing.{FailsToHear, HearsAll, Pace}
+use Rattle.bac_hearing.specs.Hearing.{FailsToHear, HearsAll, Pace, inquiring}
 use Rattle.bac_hearing.specs.declared.hearing.NotHeard.TheVariants.{Unfinished}
 use Rattle.bac_jobs.specs.declared.job.Ending.{Ending}
 use Rattle.bac_ports.specs.Sockets.{SocketRules}
@@ -13,10 +13,11 @@ use Rattle.bac_questions.specs.Silent.{is_same_device}
 use Rattle.bac_archive.specs.declared.trend_logs.Source.{Source}
 use Rattle.bac_recall.specs.declared.conversations.Conversation.{Conversation}
 use Rattle.bac_words.specs.declared.job.Asked.{Asked}
-use Rattle.bac_listing.specs.Devices.{AreHeard, EndsLists, ListsAhead, ListsAll, Unending, is_among, jobs_of, peers_of, questions_of, with_device}
+use Rattle.bac_listing.specs.Devices.{AreHeard, EndsLists, ListsAhead, ListsAll, Unending, is_among, jobs_of, listed, peers_of, questions_of, with_device}
 use Rattle.bac_listing.specs.Listing.{Plays, listing_of}
 use Rattle.bac_listing.specs.declared.listing.Came.{Came}
 use Rattle.bac_listing.specs.declared.listing.Listing.{Listing}
+use Rattle.bac_jobs.specs.Wanted.{work_of}
 
 abbrev now_of : Bor Wanted → Wanted
 now_of r = r.now
@@ -53,31 +54,36 @@ jobs_seen asked refs =
 pub heard_all : {S P C : Type 0} (rules : SocketRules S P) (clock : Pace C) (asked : Asked) (refs : List (Bor Wanted)) (peers : List (List ℕ))
     (jobs : List Listing) (before after : S) (ends : List (Ending Came)) →
     peers ≡ map (λ (one : Bor Wanted). one.now.asking.asked.address) refs → jobs ≡ map (λ (one : Bor Wanted). listing_of (questions_of asked.local (length refs)) one.now) refs →
-    HearsAll rules clock Plays peers jobs asked.local asked.timeout asked.retries before ends after →
+    HearsAll rules clock (inquiring peers (work_of Plays jobs) asked.local asked.timeout asked.retries) before ends after →
     AreHeard rules clock asked (map now_of refs) before ends after
 heard_all rules clock asked refs peers jobs before after ends are these heard =
     let devices = map now_of refs in
-    subst (λ (p : List (List ℕ)). HearsAll rules clock Plays p (jobs_of asked devices) asked.local asked.timeout asked.retries before ends after) (are ∙ peers_seen refs)
-    (subst (λ (j : List Listing). HearsAll rules clock Plays peers j asked.local asked.timeout asked.retries before ends after) (these ∙ jobs_seen asked refs) heard)
+    subst (λ (p : List (List ℕ)). HearsAll rules clock (inquiring p (work_of Plays (jobs_of asked devices)) asked.local asked.timeout asked.retries) before ends after)
+    (are ∙ peers_seen refs)
+    (subst (λ (j : List Listing). HearsAll rules clock (inquiring peers (work_of Plays j) asked.local asked.timeout asked.retries) before ends after)
+    (these ∙ jobs_seen asked refs) heard)
 
 pub unending : {S P C : Type 0} (rules : SocketRules S P) (clock : Pace C) (asked : Asked) (refs : List (Bor Wanted)) (peers : List (List ℕ))
     (jobs : List Listing) (before after : S) → peers ≡ map (λ (one : Bor Wanted). one.now.asking.asked.address) refs →
     jobs ≡ map (λ (one : Bor Wanted). listing_of (questions_of asked.local (length refs)) one.now) refs →
-    FailsToHear rules clock Plays peers jobs asked.local asked.timeout asked.retries before after Unfinished →
+    FailsToHear rules clock (inquiring peers (work_of Plays jobs) asked.local asked.timeout asked.retries) before after Unfinished →
     Unending rules clock asked (map now_of refs) before after
 unending rules clock asked refs peers jobs before after are these fails =
-    subst (λ (p : List (List ℕ)). FailsToHear rules clock Plays p (jobs_of asked (map now_of refs)) asked.local asked.timeout asked.retries before after Unfinished)
+    subst (λ (p : List (List ℕ)). FailsToHear rules clock (inquiring p (work_of Plays (jobs_of asked (map now_of refs))) asked.local asked.timeout asked.retries) before
+    after Unfinished)
     (are ∙ peers_seen refs)
-    (subst (λ (j : List Listing). FailsToHear rules clock Plays peers j asked.local asked.timeout asked.retries before after Unfinished) (these ∙ jobs_seen asked refs) fails)
+    (subst (λ (j : List Listing). FailsToHear rules clock (inquiring peers (work_of Plays j) asked.local asked.timeout asked.retries) before after Unfinished)
+    (these ∙ jobs_seen asked refs) fails)
 
 -- two or more are asked as the first one is
 pub many : {S P C : Type 0} (rules : SocketRules S P) (clock : Pace C) (refs : List (Bor Wanted)) (first : Bor Wanted) (came : List Conversation)
     (silent : List Source) (before after : S) → 2 ≤ length refs → first ≡ get_or refs 0 first →
-    ListsAll rules clock first.now.asking.asked (map now_of refs) before came silent after → ListsAhead rules clock (map now_of refs) before came silent after
+    ListsAll rules clock first.now.asking.asked (map now_of refs) before (listed came silent) after → ListsAhead rules clock (map now_of refs) before (listed came silent)
+    after
 many rules clock [] first came silent before after two is all = absurd (omega (arith, two))
 many rules clock (x ∷ []) first came silent before after two is all = absurd (omega (arith, two))
 many rules clock (x ∷ y ∷ more) first came silent before after two is all =
-    subst (λ (r : Bor Wanted). ListsAll rules clock r.now.asking.asked (map now_of (x ∷ y ∷ more)) before came silent after) is all
+    subst (λ (r : Bor Wanted). ListsAll rules clock r.now.asking.asked (map now_of (x ∷ y ∷ more)) before (listed came silent) after) is all
 
 -- nor are they if it isn't
 pub fails : {S P : Type 0} (rules : SocketRules S P) (refs : List (Bor Wanted)) (first : Bor Wanted) (before after : S) (why : NotDone) →

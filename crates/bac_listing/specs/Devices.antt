@@ -5,8 +5,9 @@ use Rattle.std.specs.List.{list_any}
 use Rattle.bac_archive.specs.declared.trend_logs.Source.{Source}
 use Rattle.bac_asked.specs.declared.end.NotDone.{NotDone}
 use Rattle.bac_asked.specs.declared.wanted.Wanted.{Wanted}
-use Rattle.bac_hearing.specs.Hearing.{FailsToHear, HearsAll, Pace}
+use Rattle.bac_hearing.specs.Hearing.{FailsToHear, HearsAll, Inquiry, Pace, inquiring}
 use Rattle.bac_hearing.specs.declared.hearing.NotHeard.TheVariants.{Unfinished}
+use Rattle.bac_jobs.specs.Wanted.{work_of}
 use Rattle.bac_jobs.specs.declared.job.Ending.{Ending}
 use Rattle.bac_ports.specs.Sockets.{SocketRules}
 use Rattle.bac_questions.specs.Faults.{EndsAsking}
@@ -38,18 +39,22 @@ questions_of local devices = min (16384 / max devices 1) (if is_some local then 
 abbrev pub jobs_of : Asked → List Wanted → List Listing
 jobs_of asked devices = map (listing_of (questions_of asked.local (length devices))) devices
 
+-- the devices are asked so, each by its route, with the waits and retries that this says
+abbrev pub listings_of : Asked → List Wanted → Inquiry Listing Came
+listings_of asked devices =
+    inquiring (peers_of devices) (work_of Plays (jobs_of asked devices)) asked.local asked.timeout asked.retries
+
 -- These devices were asked beside one another for their trend logs, each by its route, with these waits and retries,
 -- over one socket that was opened as they say, and closed behind it.
 abbrev pub AreHeard : {S P C : Type 0} → SocketRules S P → Pace C → Asked → List Wanted → S →
     List (Ending Came) → S → Type 0
-AreHeard rules pace asked devices before endings after = HearsAll rules pace Plays (peers_of devices)
-    (jobs_of asked devices) asked.local asked.timeout asked.retries before endings after
+AreHeard rules pace asked devices before endings after =
+    HearsAll rules pace (listings_of asked devices) before endings after
 
 -- as many rounds as fit 64 bits weren't enough for that
 abbrev pub Unending : {S P C : Type 0} → SocketRules S P → Pace C → Asked → List Wanted → S → S → Type 0
 Unending rules pace asked devices before after =
-    FailsToHear rules pace Plays (peers_of devices) (jobs_of asked devices) asked.local asked.timeout asked.retries
-    before after Unfinished
+    FailsToHear rules pace (listings_of asked devices) before after Unfinished
 
 -- A device is silent whose questions ended so: it didn't tell its list, since no answer came to the last of them, and
 -- nothing else came from its host meanwhile.
@@ -68,21 +73,28 @@ AreSilent (one ∷ devices) (ending ∷ endings) silent now =
     (mid : List Source) × AddSilent one ending silent mid × AreSilent devices endings mid now
 AreSilent devices endings silent now = now ≡ silent
 
+-- what came of the lists of devices: what came to the questions for each, and the devices that are silent
+pub record Listed : Type 0 where
+  pub came : List Conversation
+  pub silent : List Source
+
+-- this came of them
+abbrev pub listed : List Conversation → List Source → Listed
+listed came silent = record { came = came; silent = silent }
+
 -- They were asked so, and this came, a conversation for each, in their order, and these are silent; or that didn't end,
 -- nothing did, and none is.
-abbrev pub ListsAll : {S P C : Type 0} → SocketRules S P → Pace C → Asked → List Wanted → S → (came : List Conversation)
-    → (silent : List Source) → S → Type 0
-ListsAll rules pace asked devices before came silent after =
+abbrev pub ListsAll : {S P C : Type 0} → SocketRules S P → Pace C → Asked → List Wanted → S → Listed → S → Type 0
+ListsAll rules pace asked devices before lists after =
     ((endings : List (Ending Came)) × AreHeard rules pace asked devices before endings after
-    × (came ≡ map (λ (e : Ending Came). e.end.conversation) endings) × AreSilent devices endings [] silent)
-    ⊎ (Unending rules pace asked devices before after × (came ≡ []) × (silent ≡ []))
+    × (lists.came ≡ map (λ (e : Ending Came). e.end.conversation) endings) × AreSilent devices endings [] lists.silent)
+    ⊎ (Unending rules pace asked devices before after × (lists.came ≡ []) × (lists.silent ≡ []))
 
 -- Two devices or more were asked so, with the waits and retries of the first; fewer aren't asked, and none is silent.
-abbrev pub ListsAhead : {S P C : Type 0} → SocketRules S P → Pace C → List Wanted → S → (came : List Conversation)
-    → (silent : List Source) → S → Type 0
-ListsAhead rules pace (one ∷ two ∷ more) before came silent after =
-    ListsAll rules pace one.asking.asked (one ∷ two ∷ more) before came silent after
-ListsAhead rules pace devices before came silent after = (came ≡ []) × (silent ≡ []) × (after ≡ before)
+abbrev pub ListsAhead : {S P C : Type 0} → SocketRules S P → Pace C → List Wanted → S → Listed → S → Type 0
+ListsAhead rules pace (one ∷ two ∷ more) before lists after =
+    ListsAll rules pace one.asking.asked (one ∷ two ∷ more) before lists after
+ListsAhead rules pace devices before lists after = (lists.came ≡ []) × (lists.silent ≡ []) × (after ≡ before)
 
 -- They aren't asked: memory is wanting, or no socket was opened as the first of them says.
 abbrev pub EndsLists : {S P : Type 0} → SocketRules S P → List Wanted → S → S → NotDone → Type 0

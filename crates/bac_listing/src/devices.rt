@@ -8,7 +8,7 @@ ghost use Rattle.bac_ports.specs.Sockets.{socket_rules};
 ghost use Rattle.bac_questions.specs.Faults.{EndsAsking};
 ghost use Rattle.bac_questions.specs.Silent.{is_same_device};
 ghost use Rattle.bac_listing.specs.Devices.{AreHeard, EndsLists, ListsAhead, ListsAll, Unending};
-ghost use Rattle.bac_listing.specs.Devices.{questions_of, with_device};
+ghost use Rattle.bac_listing.specs.Devices.{listed, questions_of, with_device};
 ghost use Rattle.bac_listing.specs.Listing.{listing_of};
 
 use crate::listing::{Came, Listing};
@@ -149,10 +149,9 @@ fn list_as<S: Sockets, C: Clock>(
 ) -> Result<Lists, NotDone>
 where
     C: Drop,
-    ensures lists { IfOk result (λ lists. ListsAll
-        (socket_rules S.opens S.closes S.Socket.sends S.Socket.receives
-        S.Socket.receives_within) (paced C.reads clock window) asked.now
-        (map (λ one. one.now) devices.now) sockets.old lists.came.items lists.silent.items
+    ensures lists { IfOk result (λ lists. ListsAll (socket_rules S.opens S.closes S.Socket.sends
+        S.Socket.receives S.Socket.receives_within) (paced C.reads clock window) asked.now
+        (map (λ one. one.now) devices.now) sockets.old (listed lists.came.items lists.silent.items)
         sockets.new) }
     ensures fault { IfErr result (EndsAsking (socket_rules S.opens S.closes S.Socket.sends
         S.Socket.receives S.Socket.receives_within) asked.now sockets.old sockets.new) }
@@ -179,10 +178,10 @@ pub fn list_ahead<S: Sockets, C: Clock>(
 ) -> Result<Lists, NotDone>
 where
     C: Drop,
-    ensures lists { IfOk result (λ lists. ListsAhead
-        (socket_rules S.opens S.closes S.Socket.sends S.Socket.receives
-        S.Socket.receives_within) (paced C.reads clock window) (map (λ one. one.now) devices.now)
-        sockets.old lists.came.items lists.silent.items sockets.new) }
+    ensures lists { IfOk result (λ lists. ListsAhead (socket_rules S.opens S.closes S.Socket.sends
+        S.Socket.receives S.Socket.receives_within) (paced C.reads clock window)
+        (map (λ one. one.now) devices.now) sockets.old (listed lists.came.items lists.silent.items)
+        sockets.new) }
     ensures fault { IfErr result (EndsLists (socket_rules S.opens S.closes S.Socket.sends
         S.Socket.receives S.Socket.receives_within) (map (λ one. one.now) devices.now)
         sockets.old sockets.new) }

@@ -29,16 +29,16 @@ pub record IsArchiveOf (found archive : Database) : Type 0 where
 abbrev pub LeavesOthers : Database → Database → Type 0
 LeavesOthers found left = (¬ HasArchive found.schema) → found.schema ≢ no_schema → left ≡ found
 
--- The trees of an archive have the items and beginnings of another and no other, each log under its id, with its instance
--- and its name, and the rows of others beside them.
+-- The trees of an archive have the items and beginnings of another and no other, each log under its id, with its
+-- instance and its name, and the rows of others beside them.
 pub record HasSameItems (old : Database) (new : Trees) : Type 0 where
   pub items : items_in new ≡ items_in old.trees
   pub beginnings : beginnings_in new ≡ beginnings_in old.trees
   pub logs : HasLogs old.trees new
   pub others : HasOthers old.schema old.trees new
 
--- of an archive that was found the items, the beginnings and the rows of others are the same, and no log is lost; another
--- database is left as it was
+-- of an archive that was found the items, the beginnings and the rows of others are the same, and no log is lost;
+-- another database is left as it was
 abbrev pub KeepsItems : Database → Database → Type 0
 KeepsItems found left = (HasArchive found.schema → HasSameItems found left.trees) × LeavesOthers found left
 

@@ -9,7 +9,7 @@ use Rattle.bac_link.specs.Path.{AreWays, Path}
 use Rattle.bac_link.specs.Requests.{IsTooLong, request_octets}
 use Rattle.bac_link.specs.declared.link.Lost.{Lost}
 use Rattle.bac_link.specs.declared.request.Request.{Request}
-use Rattle.bac_ports.specs.Asking.{Awaits, IsHeard, IsLost, IsSent, IsTaken, fitting_of}
+use Rattle.bac_ports.specs.Asking.{Awaits, IsHeard, IsLost, IsSent, IsTaken, fitting_of, to_peer}
 use Rattle.bac_ports.specs.Port.{Receiving, Sending}
 use Rattle.bac_onward.specs.Ids.{sent_by, taken_by}
 use Rattle.bac_onward.specs.Laws.{AreIds, AsksAreBelow, HearsOctets}
@@ -90,8 +90,8 @@ module _ {P : Type 0} (sends : P → List ℕ → List ℕ → Sending → P →
       (below, (came, mid.port, receive, done), same, stay ∙ ids)
 
   -- behind a send
-  sent_on : (limit : ℕ) (sending : Sending) (mid new : OnwardPort P) (result : Result (List ℕ) Lost) → mid.ids.shift ≡ Some shift → IsSent (ReceivesOnward receives) peer asked limit sending mid result new
-      → Below (λ p x q. IsSent receives peer sent limit sending p x q) mid result new
+  sent_on : (limit : ℕ) (sending : Sending) (mid new : OnwardPort P) (result : Result (List ℕ) Lost) → mid.ids.shift ≡ Some shift → IsSent (ReceivesOnward receives) (to_peer peer asked) limit sending mid result new
+      → Below (λ p x q. IsSent receives (to_peer peer sent) limit sending p x q) mid result new
   sent_on limit (Err fault) mid new result by (none, same) =
       let none_below = lost result none in
       (none_below.0, (none_below.1, ap (λ (p : OnwardPort P). p.port) same), none_below.2, ap (λ (p : OnwardPort P). p.ids) same)

@@ -9,7 +9,7 @@ use Rattle.bac_link.specs.Path.{AreWays, Path}
 use Rattle.bac_link.specs.Requests.{IsTooLong, request_octets}
 use Rattle.bac_link.specs.declared.link.Lost.{Lost}
 use Rattle.bac_link.specs.declared.request.Request.{Request}
-use Rattle.bac_ports.specs.Asking.{Asks}
+use Rattle.bac_ports.specs.Asking.{Asks, to_peer}
 use Rattle.bac_ports.specs.Port.{Receiving, Sending}
 use Rattle.bac_ports.specs.declared.port.Heard.{Heard}
 use Rattle.bac_wire.specs.Chain.{result_map}
@@ -91,8 +91,8 @@ AsksAreBelow {P = P} sends receives sends_below receives_below = HearsOctets rec
     (peer : List ℕ) (path : Path) (r : Request) (id limit : ℕ) (old new : OnwardPort P)
     (result : Result (List ℕ) Lost) →
     AreWays path → path.source ≡ None → (IsTooLong r → ⊥) → id < 256 → AreIds old.ids →
-    Asks sends receives peer (request_octets path id r) limit old result new →
+    Asks sends receives (to_peer peer (request_octets path id r)) limit old result new →
     (below : Result (List ℕ) Lost)
-    × Asks sends_below receives_below peer (request_octets path ((id + shift_of old.ids id) % 256) r) limit old.port
-    below new.port
+    × Asks sends_below receives_below (to_peer peer (request_octets path ((id + shift_of old.ids id) % 256) r)) limit
+    old.port below new.port
     × (result ≡ result_map (taken_by (shift_of old.ids id)) below) × (new.ids ≡ after old.ids id)

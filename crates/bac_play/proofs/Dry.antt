@@ -6,11 +6,11 @@ use Rattle.bac_link.specs.declared.exchanges.Verdict.{Verdict}
 use Rattle.bac_link.specs.declared.exchanges.Verdict.TheVariants.{Ack, Refused, BadReply}
 use Rattle.bac_link.specs.declared.link.Lost.{Lost as Loss}
 use Rattle.bac_link.specs.declared.request.Request.{Request}
-use Rattle.bac_link.specs.Exchanges.{Answers, Exchanges, Unanswered}
+use Rattle.bac_link.specs.Exchanges.{Answers, Exchanges, Unanswered, way_by}
 use Rattle.bac_link.specs.Links.{question}
 use Rattle.bac_link.specs.Path.{Path}
 use Rattle.bac_link.specs.Requests.{request_octets}
-use Rattle.bac_walk.specs.Came.{Came, Comes, EndsBy, restarted}
+use Rattle.bac_walk.specs.Came.{Came, Comes, EndsBy, restarted, reaching, walk_over}
 use Rattle.bac_walk.specs.Place.{WalkPlace}
 use Rattle.bac_walk.specs.Walks.{question_of}
 use Rattle.bac_walk.specs.declared.outcome.Ended.{Ended}
@@ -56,11 +56,11 @@ answered_wet : (old new : Play) (octets datagram : List ℕ) → Plays old octet
 answered_wet old new octets datagram (inl (took, was, is)) = is
 answered_wet old new octets datagram (inr (lost, same, is, still, wants)) = absurd (let e = lost.1 in cc)
 
-answers_wet : (path : Path) (invoke : ℕ) (r : Request) (retries : ℕ) (verdict : Verdict) (old new : Play) (datagram : List ℕ) → Answers Plays path invoke r retries verdict old datagram new → new.is_dry ≡ false
+answers_wet : (path : Path) (invoke : ℕ) (r : Request) (retries : ℕ) (verdict : Verdict) (old new : Play) (datagram : List ℕ) → Answers Plays (way_by path invoke retries) r verdict old datagram new → new.is_dry ≡ false
 answers_wet path invoke r retries verdict old new datagram h = answered_wet h.1 new (request_octets path invoke r) datagram h.4
 
 exchange_dry : (path : Path) (invoke : ℕ) (r : Request) (retries : ℕ) (old new : Play) (result : Result (List ℕ) ExchangeFault) →
-    Exchanges Plays path invoke r retries old result new → old.is_dry ≡ false → new.is_dry ≡ true → Tried (request_octets path invoke r) (retries + 1) old new
+    Exchanges Plays (way_by path invoke retries) r old result new → old.is_dry ≡ false → new.is_dry ≡ true → Tried (request_octets path invoke r) (retries + 1) old new
 exchange_dry path invoke r retries old new (Ok datagram) h was dry = never new.is_dry dry (answers_wet path invoke r retries Ack old new datagram h)
 exchange_dry path invoke r retries old new (Err (fault.Refused refusal)) h was dry = never new.is_dry dry (answers_wet path invoke r retries (Refused refusal) old new h.0 h.1)
 exchange_dry path invoke r retries old new (Err fault.BadReply) h was dry = never new.is_dry dry (answers_wet path invoke r retries BadReply old new h.0 h.1)
@@ -68,13 +68,13 @@ exchange_dry path invoke r retries old new (Err fault.Lost) h was dry = unanswer
 exchange_dry path invoke r retries old new (Err fault.TooLong) h was dry = never old.is_dry (ap (λ (l : Play). l.is_dry) (sym h) ∙ dry) was
 
 -- replies leave a link that isn't dry
-pub comes_wet : (path : Path) (retries : ℕ) (old new : Play) (w here : WalkPlace) (came : List Came) → Comes Plays path retries old w came here new → old.is_dry ≡ false → new.is_dry ≡ false
+pub comes_wet : (path : Path) (retries : ℕ) (old new : Play) (w here : WalkPlace) (came : List Came) → Comes (reaching Plays path retries) (walk_over old w) came (walk_over new here) → old.is_dry ≡ false → new.is_dry ≡ false
 comes_wet path retries old new w here [] h was = ap (λ (l : Play). l.is_dry) h.1 ∙ was
 comes_wet path retries old new w here (c ∷ came) (mid, next, p, place, asks, taken, items, more) was =
     comes_wet path retries mid new next here came more (answers_wet path asks.0 (question w.log (question_of w)) retries Ack old mid c.datagram asks.1)
 
 dry : (path : Path) (retries steps : ℕ) (old mid new : Play) (before here after : WalkPlace) (came : List Came) (ended : Ended) →
-    Comes Plays path retries old (restarted before) came here mid → EndsBy Plays path retries steps came here mid ended after new → mid.is_dry ≡ false → new.is_dry ≡ true →
+    Comes (reaching Plays path retries) (walk_over old (restarted before)) came (walk_over mid here) → EndsBy (reaching Plays path retries) steps came (walk_over mid here) ended (walk_over new after) → mid.is_dry ≡ false → new.is_dry ≡ true →
     WantsMore path retries old.outcomes.now before new.outcomes.now new.wanted
 dry path retries steps old mid new before here after came CaughtUp comes_all (empty, few, same, end) was is = never mid.is_dry (ap (λ (l : Play). l.is_dry) (sym end) ∙ is) was
 dry path retries steps old mid new before here after came StepLimit comes_all (full, all, same, end) was is = never mid.is_dry (ap (λ (l : Play). l.is_dry) (sym end) ∙ is) was

@@ -3,7 +3,7 @@ use Rattle.std.proofs.Common.{◌≡◌, ◌<◌, ℕ, false, inl, inr, Result, 
 use Rattle.bac_wire.specs.Primitive.{Id}
 use Rattle.bac_link.specs.declared.link.Lost.{Lost as Loss}
 use Rattle.bac_link.specs.Delivery.{History, Moment}
-use Rattle.bac_link.specs.Honest.{IsAskedIn, IsHonestWhere, IsSaidOrLost, asked_octets}
+use Rattle.bac_link.specs.Honest.{IsAskedIn, IsHonestWhere, IsSaidOrLost, asked_octets, asked_log}
 use Rattle.bac_link.specs.Moments.{AreInWindow}
 use Rattle.bac_link.specs.Path.{Path}
 use Rattle.bac_link.specs.Standard.{Asked}
@@ -33,7 +33,7 @@ pub said : (path : Path) (log : Id) (count : ℕ) (H : History) (low : ℕ) (out
 said path log count H low outcomes rest M asked invoke answer are some window is took =
     subst (λ (xs : List Outcome). AreSaid path log count H low xs M) took are asked invoke some window is refl
 
-stands : (path : Path) (log : Id) (count : ℕ) (H : History) (low : ℕ) → IsHonestWhere Plays path log count H low (λ link M. AreSaid path log count H low link.outcomes.now M)
+stands : (path : Path) (log : Id) (count : ℕ) (H : History) (low : ℕ) → IsHonestWhere Plays (asked_log path log count) H low (λ link M. AreSaid path log count H low link.outcomes.now M)
 stands path log count H low = λ old new M asked invoke answer are some window is ask. here old new M asked invoke answer are some window is ask
   where
     here : (old new : Play) (M : List Moment) (asked : Asked) (invoke : ℕ) (answer : Result (List ℕ) Loss) →

@@ -6,14 +6,14 @@ use Rattle.bac_link.specs.declared.item.Item.{Item}
 use Rattle.bac_link.specs.declared.link.Lost.{Lost as Loss}
 use Rattle.bac_link.specs.Delivery.{History, Moment}
 use Rattle.bac_link.specs.Exchanges.{Unanswered}
-use Rattle.bac_link.specs.Honest.{IsAskedIn, IsHonest, IsSaidOrLost, asked_octets}
+use Rattle.bac_link.specs.Honest.{IsAskedIn, IsHonest, IsSaidOrLost, asked_octets, asked_log}
 use Rattle.bac_link.specs.Links.{question}
 use Rattle.bac_link.specs.Moments.{AreInWindow}
 use Rattle.bac_link.specs.Path.{Path}
 use Rattle.bac_link.specs.Requests.{request_octets}
 use Rattle.bac_link.specs.Standard.{Asked}
 use Rattle.bac_walk.specs.declared.outcome.Ended.{Ended}
-use Rattle.bac_walk.specs.Came.{Brought, Came, Comes, restarted}
+use Rattle.bac_walk.specs.Came.{Brought, Came, Comes, restarted, reaching, walk_over}
 use Rattle.bac_walk.specs.Place.{WalkPlace}
 use Rattle.bac_walk.specs.Walks.{question_of}
 use Rattle.bac_play.specs.declared.play.Outcome.{Outcome}
@@ -69,7 +69,7 @@ asked_at path invoke here = request_octets path invoke (question here.log (quest
 abbrev pub WantsMore : Path → ℕ → List Outcome → WalkPlace → List Outcome → Option (List ℕ) → Type 0
 WantsMore path retries outcomes before left wanted =
     (came : List Came) × (here : WalkPlace) × (half : List Outcome) × (invoke : ℕ) × (tries : ℕ) × (tries ≤ retries)
-    × Comes Takes path retries outcomes (restarted before) came here half
+    × Comes (reaching Takes path retries) (walk_over outcomes (restarted before)) came (walk_over half here)
     × Unanswered Takes (asked_at path invoke here) tries half left × IsOf (asked_at path invoke here) wanted
     × HasNoNext left (asked_at path invoke here)
 
@@ -80,19 +80,22 @@ abbrev pub PlayedIsBrought : Type 0
 PlayedIsBrought =
     (path : Path) (retries : ℕ) (old new : Play) (before after : WalkPlace) (steps : ℕ) (came : List Came)
     (items : List Item) (ended : Ended) →
-    Brought Plays path retries old before steps came items ended after new → new.is_dry ≡ false →
-    Brought Takes path retries old.outcomes.now before steps came items ended after new.outcomes.now
+    Brought (reaching Plays path retries) (walk_over old before) steps came items ended (walk_over new after) →
+    new.is_dry ≡ false →
+    Brought (reaching Takes path retries) (walk_over old.outcomes.now before) steps came items ended
+    (walk_over new.outcomes.now after)
 
 -- such a link is honest for a log if its record is
 abbrev pub RecordsAreHonest : Type 0
 RecordsAreHonest =
     (path : Path) (log : Id) (count : ℕ) (H : History) (low : ℕ) (link : Play) (M : List Moment) →
-    AreSaid path log count H low link.outcomes.now M → IsHonest Plays path log count H low link M
+    AreSaid path log count H low link.outcomes.now M → IsHonest Plays (asked_log path log count) H low link M
 
 -- what a run over such a link wants that is dry in the end
 abbrev pub DryWantsMore : Type 0
 DryWantsMore =
     (path : Path) (retries : ℕ) (old new : Play) (before after : WalkPlace) (steps : ℕ) (came : List Came)
     (items : List Item) (ended : Ended) →
-    Brought Plays path retries old before steps came items ended after new → old.is_dry ≡ false → new.is_dry ≡ true →
+    Brought (reaching Plays path retries) (walk_over old before) steps came items ended (walk_over new after) →
+    old.is_dry ≡ false → new.is_dry ≡ true →
     WantsMore path retries old.outcomes.now before new.outcomes.now new.wanted

@@ -11,12 +11,12 @@ use Rattle.bac_link.specs.declared.request.Request.{Request}
 use Rattle.bac_link.specs.declared.transactions.Transactions.{Transactions}
 use Rattle.bac_link.specs.Client.{ClientEvent, Begin, Come, TimeOut, after_event, after_events, taken_of}
 use Rattle.bac_link.specs.Datagrams.{answers_to}
-use Rattle.bac_link.specs.Exchanges.{Answers, Exchanges, IsNoAnswer, Unanswered}
+use Rattle.bac_link.specs.Exchanges.{Answers, Exchanges, IsNoAnswer, Unanswered, next_way}
 use Rattle.bac_link.specs.Path.{towards}
 use Rattle.bac_link.specs.Requests.{next_invoke, request_octets}
 use Rattle.bac_link.specs.Transactions.{begun_with, closed}
 use Rattle.bac_ports.specs.declared.port.Heard.{Heard}
-use Rattle.bac_ports.specs.Asking.{Asks, Awaits, IsTaken, fitting, fitting_of}
+use Rattle.bac_ports.specs.Asking.{Asks, Awaits, IsTaken, fitting, fitting_of, to_peer}
 use Rattle.bac_ports.specs.Client.{ExchangesAreRuns, IsOfOthers, IsTakenAs, Runs, SendsAll}
 use Rattle.bac_ports.specs.Port.{Receiving, Sending}
 
@@ -170,7 +170,7 @@ Sent {P = P} sends receives peer octets u k port end left taken =
     (sent : Sending) × (mid : P) × sends port octets peer sent mid × Ends sends receives peer (waiting u octets k) mid end left taken
 
 ask_lost : {P : Type 0} (sends : Sends P) (receives : Hears P) (peer octets : List ℕ) (u : Transactions) (k : ℕ) (end : P) (left : Transactions) (taken : List (List ℕ)) (lost : Lost)
-    (port new : P) → Asks sends receives peer octets 16 port (Err lost) new →
+    (port new : P) → Asks sends receives (to_peer peer octets) 16 port (Err lost) new →
     Ends sends receives peer (waiting u octets k) new end left taken → Sent sends receives peer octets u k port end left taken
 ask_lost {P = P} sends receives peer octets u k end left taken lost port new (Err refused, mid, sent, is) e =
     let E : P → Type 0 = λ p. Ends sends receives peer (waiting u octets k) p end left taken in (Err refused, mid, sent, subst E is.1 e)
@@ -178,7 +178,7 @@ ask_lost {P = P} sends receives peer octets u k end left taken lost port new (Ok
     (Ok done, mid, sent, waits_lost sends receives peer octets u k end left taken lost 16 mid new is e)
 
 ask_ok : {P : Type 0} (sends : Sends P) (receives : Hears P) (peer octets : List ℕ) (u : Transactions) (k : ℕ) (datagram : List ℕ)
-    (port new : P) → Asks sends receives peer octets 16 port (Ok datagram) new →
+    (port new : P) → Asks sends receives (to_peer peer octets) 16 port (Ok datagram) new →
     Sent sends receives peer octets u k port new (closed u) (datagram ∷ []) × (answers_to octets datagram ≡ true)
 ask_ok {P = P} sends receives peer octets u k datagram port new (Err refused, mid, sent, is) = absurd is.0
 ask_ok {P = P} sends receives peer octets u k datagram port new (Ok done, mid, sent, is) =
@@ -221,7 +221,7 @@ given_up {P = P} sends receives peer octets u port =
 -- ---- tries
 
 abbrev AsksOf : {P S : Type 0} → Sends P → Hears P → (S → P) → (S → List ℕ) → S → List ℕ → Result (List ℕ) Lost → S → Type 0
-AsksOf {P = P} {S = S} sends receives port peer a octets answer b = Asks sends receives (peer a) octets 16 (port a) answer (port b) × (peer b ≡ peer a)
+AsksOf {P = P} {S = S} sends receives port peer a octets answer b = Asks sends receives (to_peer (peer a) octets) 16 (port a) answer (port b) × (peer b ≡ peer a)
 
 peers : {P S : Type 0} (sends : Sends P) (receives : Hears P) (port : S → P) (peer : S → List ℕ) (octets : List ℕ) (n : ℕ) (old new : S) →
     Unanswered (λ a x answer b. AsksOf sends receives port peer a x answer b) octets n old new → peer new ≡ peer old
@@ -231,7 +231,7 @@ peers sends receives port peer octets (suc n) old new (mid, answer, first, asked
 
 -- one without an answer was lost: what a port's link brings answers
 no_answer : {P : Type 0} (sends : Sends P) (receives : Hears P) (peer octets : List ℕ) (u : Transactions) (k : ℕ) (end : P) (left : Transactions) (taken : List (List ℕ)) (answer : Result (List ℕ) Lost)
-    (port new : P) → Asks sends receives peer octets 16 port answer new → IsNoAnswer octets answer →
+    (port new : P) → Asks sends receives (to_peer peer octets) 16 port answer new → IsNoAnswer octets answer →
     Ends sends receives peer (waiting u octets k) new end left taken → Sent sends receives peer octets u k port end left taken
 no_answer sends receives peer octets u k end left taken (Err lost) port new asks none e = ask_lost sends receives peer octets u k end left taken lost port new asks e
 no_answer sends receives peer octets u k end left taken (Ok datagram) port new asks none e =
@@ -245,7 +245,7 @@ tries {P = P} {S = S} sends receives port peer octets u end left taken zero old 
 tries {P = P} {S = S} sends receives port peer octets u end left taken (suc n) old new le (mid, answer, first, asked, none) e =
     let one : suc n ≡ n + 1 = omega arith in
     let N : ℕ → Type 0 = λ j. Sent sends receives (peer old) octets u j (port new) end left taken in
-    let A : List ℕ → Type 0 = λ q. Asks sends receives q octets 16 (port mid) answer (port new) in
+    let A : List ℕ → Type 0 = λ q. Asks sends receives (to_peer q octets) 16 (port mid) answer (port new) in
     tries sends receives port peer octets u end left taken n old mid (omega (arith, le)) first
     (no_answer sends receives (peer old) octets u n end left taken answer (port mid) (port new) (subst A (peers sends receives port peer octets n old mid first) asked.0) none
     (again sends receives (peer old) octets u n (port new) end left taken (omega (arith, le)) (subst N one e)))
@@ -262,13 +262,13 @@ begins sends receives peer t r port end taken result (sent, mid, put, e) fits =
 
 taken_answer : {P S : Type 0} (sends : Sends P) (receives : Hears P) (port : S → P) (peer : S → List ℕ) (t : Transactions) (r : Request) (verdict : Verdict) (old new : S) (datagram : List ℕ)
     (result : Result (List ℕ) ExchangeFault) → IsTakenAs r (datagram ∷ []) result →
-    Answers (λ a x answer b. AsksOf sends receives port peer a x answer b) (towards t.route) (next_invoke t.invoke) r t.retries verdict old datagram new →
+    Answers (λ a x answer b. AsksOf sends receives port peer a x answer b) (next_way t) r verdict old datagram new →
     (es : List ClientEvent) × Runs sends receives (peer old) t (Begin r ∷ es) (port old) (port new)
     × (after_events t (Begin r ∷ es) ≡ closed (begun_with r t)) × IsTakenAs r (taken_of t (Begin r ∷ es)) result
 taken_answer {P = P} {S = S} sends receives port peer t r verdict old new datagram result fits (n, mid, few, first, asked, is) =
     let octets : List ℕ = request_octets (towards t.route) (next_invoke t.invoke) r in
     let u : Transactions = begun_with r t in
-    let A : List ℕ → Type 0 = λ q. Asks sends receives q octets 16 (port mid) (Ok datagram) (port new) in
+    let A : List ℕ → Type 0 = λ q. Asks sends receives (to_peer q octets) 16 (port mid) (Ok datagram) (port new) in
     begins sends receives (peer old) t r (port old) (port new) (datagram ∷ []) result
     (tries sends receives port peer octets u (port new) (closed u) (datagram ∷ []) n old mid few first
     (ask_ok sends receives (peer old) octets u n datagram (port mid) (port new) (subst A (peers sends receives port peer octets n old mid first) asked.0)).0) fits
@@ -277,7 +277,7 @@ pub exchanges_are_runs : {P S : Type 0} (sends : Sends P) (receives : Hears P) (
 exchanges_are_runs {P = P} {S = S} sends receives port peer = λ t r old new result fits exchanged. by t r old new result fits exchanged
   where
     by : (t : Transactions) (r : Request) (old new : S) (result : Result (List ℕ) ExchangeFault) → (result ≡ Err fault.TooLong → ⊥) →
-        Exchanges (λ a x answer b. AsksOf sends receives port peer a x answer b) (towards t.route) (next_invoke t.invoke) r t.retries old result new →
+        Exchanges (λ a x answer b. AsksOf sends receives port peer a x answer b) (next_way t) r old result new →
         (es : List ClientEvent) × Runs sends receives (peer old) t (Begin r ∷ es) (port old) (port new)
         × (after_events t (Begin r ∷ es) ≡ closed (begun_with r t)) × IsTakenAs r (taken_of t (Begin r ∷ es)) result
     by t r old new (Ok datagram) fits answers = taken_answer sends receives port peer t r _ old new datagram (Ok datagram) (refl, answers.5.1) answers
@@ -291,7 +291,7 @@ exchanges_are_runs {P = P} {S = S} sends receives port peer = λ t r old new res
         let u : Transactions = begun_with r t in
         let N : ℕ → Type 0 = λ n. Unanswered (λ a x answer b. AsksOf sends receives port peer a x answer b) octets n old new in
         let all = subst N (add-one t.retries) lost in
-        let A : List ℕ → Type 0 = λ q. Asks sends receives q octets 16 (port all.0) all.1 (port new) in
+        let A : List ℕ → Type 0 = λ q. Asks sends receives (to_peer q octets) 16 (port all.0) all.1 (port new) in
         begins sends receives (peer old) t r (port old) (port new) [] (Err fault.Lost)
         (tries sends receives port peer octets u (port new) (closed u) [] t.retries old all.0 (omega arith) all.2
         (no_answer sends receives (peer old) octets u t.retries (port new) (closed u) [] all.1 (port all.0) (port new)

@@ -40,16 +40,25 @@ Awaits {P = P} receives peer request (suc n) port result new =
     (heard : Receiving) × (mid : P) × receives port heard mid
     × IsHeard peer request heard mid result new (Awaits receives peer request n mid result new)
 
+-- a request that goes to a peer: the peer's address, and the octets
+pub record ToPeer : Type 0 where
+  pub peer : List ℕ
+  pub request : List ℕ
+
+-- the two together
+abbrev pub to_peer : List ℕ → List ℕ → ToPeer
+to_peer peer request = record { peer = peer; request = request }
+
 -- a refused send is the end
 abbrev pub IsSent : {P : Type 0} → (P → Receiving → P → Type 0) →
-    List ℕ → List ℕ → ℕ → Sending → P → Result (List ℕ) Lost → P → Type 0
-IsSent {P = P} receives peer request limit (Err fault) port result new = IsLost result × (new ≡ port)
-IsSent {P = P} receives peer request limit (Ok done) port result new =
-    Awaits receives peer request limit port result new
+    ToPeer → ℕ → Sending → P → Result (List ℕ) Lost → P → Type 0
+IsSent {P = P} receives to limit (Err fault) port result new = IsLost result × (new ≡ port)
+IsSent {P = P} receives to limit (Ok done) port result new =
+    Awaits receives to.peer to.request limit port result new
 
 -- one send to the peer, and then at most so many receives
 abbrev pub Asks : {P : Type 0} → (P → List ℕ → List ℕ → Sending → P → Type 0) → (P → Receiving → P → Type 0)
-    → List ℕ → List ℕ → ℕ → P → Result (List ℕ) Lost → P → Type 0
-Asks {P = P} sends receives peer request limit port result new =
-    (sent : Sending) × (mid : P) × sends port request peer sent mid
-    × IsSent receives peer request limit sent mid result new
+    → ToPeer → ℕ → P → Result (List ℕ) Lost → P → Type 0
+Asks {P = P} sends receives to limit port result new =
+    (sent : Sending) × (mid : P) × sends port to.request to.peer sent mid
+    × IsSent receives to limit sent mid result new

@@ -8,12 +8,10 @@ use Rattle.bac_link.specs.declared.request.Request.{Request}
 use Rattle.bac_link.specs.declared.transactions.Transactions.{Transactions}
 use Rattle.bac_link.specs.Client.{ClientEvent, Begin, Come, TimeOut, after_event, after_events, sent_at, taken_of}
 use Rattle.bac_link.specs.Datagrams.{apdu_in}
-use Rattle.bac_link.specs.Exchanges.{Exchanges, verdict_of}
-use Rattle.bac_link.specs.Path.{towards}
-use Rattle.bac_link.specs.Requests.{next_invoke}
+use Rattle.bac_link.specs.Exchanges.{Exchanges, verdict_of, next_way}
 use Rattle.bac_link.specs.Transactions.{begun_with, closed}
 use Rattle.bac_ports.specs.declared.port.Heard.{Heard}
-use Rattle.bac_ports.specs.Asking.{Asks}
+use Rattle.bac_ports.specs.Asking.{Asks, to_peer}
 use Rattle.bac_ports.specs.Port.{Receiving, Sending}
 
 -- a receive that brought no datagram of the peer: it was refused, or what came is from another sender, or is too long
@@ -68,7 +66,7 @@ ExchangesAreRuns {P = P} {S = S} sends receives port peer =
     (t : Transactions) (r : Request) (old new : S) (result : Result (List ℕ) ExchangeFault) →
     (result ≡ Err fault.TooLong → ⊥) →
     Exchanges
-    (λ a octets answer b. Asks sends receives (peer a) octets 16 (port a) answer (port b) × (peer b ≡ peer a))
-    (towards t.route) (next_invoke t.invoke) r t.retries old result new →
+    (λ a octets answer b. Asks sends receives (to_peer (peer a) octets) 16 (port a) answer (port b) × (peer b ≡ peer a))
+    (next_way t) r old result new →
     (es : List ClientEvent) × Runs sends receives (peer old) t (Begin r ∷ es) (port old) (port new)
     × (after_events t (Begin r ∷ es) ≡ closed (begun_with r t)) × IsTakenAs r (taken_of t (Begin r ∷ es)) result

@@ -2,7 +2,7 @@
 use Rattle.std.specs.Prelude.{◌≡◌, ℕ, List, [], ◌∷◌, Option, Result, Ok}
 use Rattle.std.specs.Option.{unwrap_or}
 use Rattle.bac_link.specs.declared.link.Lost.{Lost}
-use Rattle.bac_ports.specs.Asking.{Asks}
+use Rattle.bac_ports.specs.Asking.{Asks, to_peer}
 use Rattle.bac_ports.specs.Port.{Opening, Receiving, Sending}
 use Rattle.bac_ports.specs.declared.udp_link.UdpLink.{UdpLink}
 
@@ -41,4 +41,4 @@ link_over address port = record { port = port; peer = address; failures = 0 }
 abbrev pub socket_asks : {S P : Type 0} → SocketRules S P →
     UdpLink P → List ℕ → Result (List ℕ) Lost → UdpLink P → Type 0
 socket_asks rules old octets answer new =
-    Asks rules.sends rules.receives old.peer octets 16 old.port answer new.port × (new.peer ≡ old.peer)
+    Asks rules.sends rules.receives (to_peer old.peer octets) 16 old.port answer new.port × (new.peer ≡ old.peer)

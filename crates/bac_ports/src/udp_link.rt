@@ -3,7 +3,7 @@
 ghost use Rattle.std.specs.Prelude.{◌≡◌, ◌≤◌, OnErr, OnOk, refl};
 ghost use Rattle.std.proofs.Common.{◌∙◌};
 ghost use Rattle.bac_link.specs.Links.{RisesBy};
-ghost use Rattle.bac_ports.specs.Asking.{Asks, Awaits, fitting};
+ghost use Rattle.bac_ports.specs.Asking.{Asks, Awaits, fitting, to_peer};
 
 use crate::port::{Heard, Port, SocketFault};
 use bac_link::{LogLink, Lost, answers};
@@ -90,15 +90,16 @@ impl<P: Port> LogLink for UdpLink<P> {
 
     // One send to the peer, and then at most 16 receives, up to the first datagram that is from the
     // peer and answers the request.
-    ghost asks = { λ old octets answer new. Asks P.sends P.receives old.peer octets 16 old.port
-        answer new.port × (new.peer ≡ old.peer) };
+    ghost asks = { λ old octets answer new. Asks P.sends P.receives (to_peer old.peer octets) 16
+        old.port answer new.port × (new.peer ≡ old.peer) };
 
     fn ask(&mut self, request: &[u8]) -> Result<Datagram, Lost>
         ensures never_falls { self.old.failures ≤ self.new.failures }
         ensures lost { OnErr result (RisesBy 1 self.old.failures self.new.failures) }
         ensures stays { OnOk result (self.new.failures ≡ self.old.failures) }
         ensures peer { self.new.peer ≡ self.old.peer }
-        ensures asks { Asks P.sends P.receives self.old.peer request.now 16 self.old.port result
+        ensures asks { Asks P.sends P.receives (to_peer self.old.peer request.now) 16
+            self.old.port result
             self.new.port }
     {
         match self.send(request) {

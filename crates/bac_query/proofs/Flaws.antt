@@ -15,10 +15,10 @@ use Rattle.bac_walk.specs.declared.outcome.Why.{Why}
 use Rattle.bac_walk.specs.declared.outcome.Why.TheVariants as why
 use Rattle.bac_walk.proofs.Flaws.{have_flaws}
 use Rattle.bac_walk.proofs.Told.{Asking}
-use Rattle.bac_query.specs.Ahead.{PrintsLast}
+use Rattle.bac_query.specs.Ahead.{PrintsLast, closing}
 use Rattle.bac_query.specs.declared.layout.Layout.{Layout}
 use Rattle.bac_query.specs.Fetching.{Fetching, PrintsEnd}
-use Rattle.bac_query.specs.Flaws.{IsBadlyFetched, IsFlawed, TellsFlaw, TellsFlawOf, flaw_if_bad, last_flaw, with_flaw}
+use Rattle.bac_query.specs.Flaws.{IsBadlyFetched, IsFlawed, TellsFlaw, TellsFlawOf, flaw_if_bad, last_flaw, log_place, with_flaw}
 use Rattle.bac_query.specs.Reading.{Held}
 use Rattle.bac_query.specs.declared.fetching.Fetched.{Fetched}
 use Rattle.bac_query.proofs.Maps.{Maps, answers_maps}
@@ -42,7 +42,7 @@ no_flaw layout cause next (Err fault) old new P other prints = tt
 
 -- the same behind the lines that were left
 pub no_last_flaw : (layout : Layout) (left : List Item) (cause : Why) (next told : ℕ) (result : Fetching) (old new : Held) (P : Fetched → Type 0) → (cause ≡ why.Fault BadReply → ⊥) →
-    PrintsLast layout left cause next told result old new → IfOk result (λ fetched. fetched.why ≡ why.Fault BadReply → P fetched)
+    PrintsLast layout (closing left cause next told) result old new → IfOk result (λ fetched. fetched.why ≡ why.Fault BadReply → P fetched)
 no_last_flaw layout left cause next told result old new P other (inl (mid, lines, prints)) = no_flaw layout cause next result mid new P other prints
 no_last_flaw layout left cause next told result old new P other (inr (inl (mid, some, kept, prints))) = no_flaw layout why.Memory told result mid new P (λ e. cc) prints
 no_last_flaw layout left cause next told (Ok fetched) old new P other (inr (inr (is, part))) = absurd cc
@@ -50,7 +50,7 @@ no_last_flaw layout left cause next told (Err fault) old new P other (inr (inr (
 
 -- the end of a walk is told behind the lines that were left, or there was no memory for them
 pub last_is : (layout : Layout) (left : List Item) (cause : Why) (next told : ℕ) (result : Fetching) (old new : Held) (P : ℕ → Type 0) → (cause ≡ why.Fault BadReply → P next) →
-    PrintsLast layout left cause next told result old new → IfOk result (λ fetched. fetched.why ≡ why.Fault BadReply → P fetched.next)
+    PrintsLast layout (closing left cause next told) result old new → IfOk result (λ fetched. fetched.why ≡ why.Fault BadReply → P fetched.next)
 last_is layout left cause next told (Ok fetched) old new P holds (inl (mid, lines, prints)) =
     λ bad. subst P (sym prints.1) (holds (sym prints.0 ∙ bad))
 last_is layout left cause next told (Ok fetched) old new P holds (inr (inl (mid, some, kept, prints))) = λ bad. absurd (let e = sym prints.0 ∙ bad in cc)
@@ -59,7 +59,7 @@ last_is layout left cause next told (Err fault) old new P holds prints = tt
 
 -- of a walk of the log that was asked for
 pub badly : {S : Type 0} (asks : Asking S) (path way : Path) (retries tries : ℕ) (w : WalkPlace) (log : Id) (next : ℕ) (flaw was : Option ReplyFlaw) (new old : S) →
-    way ≡ path → tries ≡ retries → w.log ≡ log → next ≡ w.next → flaw ≡ was → new ≡ old → IsFlawed asks way tries w was old → IsBadlyFetched asks path retries log next flaw new
+    way ≡ path → tries ≡ retries → w.log ≡ log → next ≡ w.next → flaw ≡ was → new ≡ old → IsFlawed asks way tries w was old → IsBadlyFetched asks path retries (log_place log next) flaw new
 badly {S = S} asks path way retries tries w log next flaw was new old by as_often own here same link (told, is, wrong) =
     let P : Path → Type 0 = λ q. ToldFlaw asks q tries w told old in
     let Q : ℕ → Type 0 = λ k. ToldFlaw asks path k w told old in
@@ -75,7 +75,7 @@ why_bad (ended.Fault fault) is = cc
 
 -- a flaw is told of a bad reply alone
 tells_of : {S : Type 0} (asks : Asking S) (path : Path) (retries : ℕ) (log : Id) (next : ℕ) (flaw : Option ReplyFlaw) (new : S) (cause : Why) →
-    (cause ≡ why.Fault BadReply → IsBadlyFetched asks path retries log next flaw new) → TellsFlawOf asks path retries log next (flaw_if_bad cause flaw) new cause
+    (cause ≡ why.Fault BadReply → IsBadlyFetched asks path retries (log_place log next) flaw new) → TellsFlawOf asks path retries (log_place log next) (flaw_if_bad cause flaw) new cause
 tells_of asks path retries log next flaw new why.CaughtUp bad = refl
 tells_of asks path retries log next flaw new why.StepLimit bad = refl
 tells_of asks path retries log next flaw new (why.Fault WasLost) bad = refl
@@ -84,5 +84,5 @@ tells_of asks path retries log next flaw new (why.Fault BadReply) bad = bad refl
 tells_of asks path retries log next flaw new why.Memory bad = refl
 
 pub tells_flaw : {S : Type 0} (asks : Asking S) (path : Path) (retries : ℕ) (log : Id) (fetched : Fetched) (flaw : Option ReplyFlaw) (new : S) →
-    (fetched.why ≡ why.Fault BadReply → IsBadlyFetched asks path retries log fetched.next flaw new) → TellsFlaw asks path retries log (Ok (with_flaw fetched flaw)) new
+    (fetched.why ≡ why.Fault BadReply → IsBadlyFetched asks path retries (log_place log fetched.next) flaw new) → TellsFlaw asks path retries log (Ok (with_flaw fetched flaw)) new
 tells_flaw asks path retries log fetched flaw new bad = tells_of asks path retries log fetched.next flaw new fetched.why bad

@@ -9,7 +9,7 @@ use Rattle.bac_link.specs.Path.{towards}
 use Rattle.bac_walk.specs.Came.{AreOf, Came, answers_of, restarted}
 use Rattle.bac_walk.specs.Collects.{batches}
 use Rattle.bac_walk.specs.Place.{WalkPlace}
-use Rattle.bac_walk.specs.Transacted.{BroughtBy, ComesBy, EndsAfter}
+use Rattle.bac_walk.specs.Transacted.{BroughtBy, ComesBy, EndsAfter, walk_by}
 use Rattle.bac_walk.specs.declared.outcome.Ended.{Ended}
 use Rattle.bac_walk.specs.declared.outcome.Ended.TheVariants.{CaughtUp, StepLimit, Stopped, Fault}
 use Rattle.bac_walk.proofs.Joined.{came_batches, came_items, empty_append, ends_behind, full_append, full_place}
@@ -17,19 +17,19 @@ use Rattle.bac_walk.proofs.Told.{Asking}
 use Rattle.bac_walk.proofs.Transacted.{comes_plain}
 use Rattle.bac_walk.proofs.TransactedRuns.{comes_append}
 
-pub none_by : {S : Type 0} (asks : Asking S) (t : Transactions) (old : S) (w : WalkPlace) → BroughtBy asks t old w 0 [] [] StepLimit w t old
+pub none_by : {S : Type 0} (asks : Asking S) (t : Transactions) (old : S) (w : WalkPlace) → BroughtBy asks (walk_by old t w) 0 [] [] StepLimit (walk_by old t w)
 none_by asks t old w = record { here = restarted w; mid = old; half = t; comes = (refl, refl, refl); ends = (tt, refl, refl, refl, refl); are = refl; few = omega arith }
 
 -- a run whose steps were all whole, and one more: its replies are those of both
 pub joins_by : {S : Type 0} (asks : Asking S) (t between last : Transactions) (old half new : S) (w mid after : WalkPlace) (n more : ℕ) (first rest : List Came) (xs ys : List Item) (ended : Ended) →
-    BroughtBy asks t old w n first xs StepLimit mid between half → BroughtBy asks between half mid more rest ys ended after last new →
-    BroughtBy asks t old w (n + more) (first ++ rest) (xs ++ ys) ended after last new
+    BroughtBy asks (walk_by old t w) n first xs StepLimit (walk_by half between mid) → BroughtBy asks (walk_by half between mid) more rest ys ended (walk_by new last after) →
+    BroughtBy asks (walk_by old t w) (n + more) (first ++ rest) (xs ++ ys) ended (walk_by new last after)
 joins_by {S = S} asks t between last old half new w mid after n more first rest xs ys ended one two =
     let at : restarted mid ≡ one.here = one.ends.2 ∙ full_place asks (towards t.route) t.retries first old one.mid (restarted w) one.here
     (comes_plain asks first t one.half old one.mid (restarted w) one.here one.comes) one.ends.0 refl in
-    let P : WalkPlace → Type 0 = λ v. ComesBy asks between half v rest two.here two.half two.mid in
-    let Q : S → Type 0 = λ l. ComesBy asks between l one.here rest two.here two.half two.mid in
-    let R : Transactions → Type 0 = λ u. ComesBy asks u one.mid one.here rest two.here two.half two.mid in
+    let P : WalkPlace → Type 0 = λ v. ComesBy asks (walk_by half between v) rest (walk_by two.mid two.half two.here) in
+    let Q : S → Type 0 = λ l. ComesBy asks (walk_by l between one.here) rest (walk_by two.mid two.half two.here) in
+    let R : Transactions → Type 0 = λ u. ComesBy asks (walk_by one.mid u one.here) rest (walk_by two.mid two.half two.here) in
     record {
       here = two.here;
       mid = two.mid;
@@ -44,8 +44,8 @@ joins_by {S = S} asks t between last old half new w mid after n more first rest 
     count : batches (answers_of (first ++ rest)) ≡ n + batches (answers_of rest)
     count = omega (arith, came_batches first rest, one.ends.1)
 
-    both : (why : Ended) → EndsAfter asks two.half more rest two.here two.mid why after last new →
-        EndsAfter asks two.half (n + more) (first ++ rest) two.here two.mid why after last new
+    both : (why : Ended) → EndsAfter asks more rest (walk_by two.mid two.half two.here) why (walk_by new last after) →
+        EndsAfter asks (n + more) (first ++ rest) (walk_by two.mid two.half two.here) why (walk_by new last after)
     both CaughtUp over = (empty_append first rest over.0, omega (arith, count, over.1), over.2, over.3, over.4)
     both StepLimit over = (full_append first rest one.ends.0 over.0, omega (arith, count, over.1), over.2, over.3, over.4)
     both Stopped over = (full_append first rest one.ends.0 over.0, omega (arith, count, over.1), omega (arith, count, over.2), over.3, over.4)
@@ -71,12 +71,12 @@ joins_by {S = S} asks t between last old half new w mid after n more first rest 
     all (Fault e) is = whole is
 
 pub early_by : {S : Type 0} (asks : Asking S) (t last : Transactions) (old new : S) (w after : WalkPlace) (n steps : ℕ) (came : List Came) (xs : List Item) (ended : Ended) → ended ≢ StepLimit → n ≤ steps →
-    BroughtBy asks t old w n came xs ended after last new → BroughtBy asks t old w steps came xs ended after last new
+    BroughtBy asks (walk_by old t w) n came xs ended (walk_by new last after) → BroughtBy asks (walk_by old t w) steps came xs ended (walk_by new last after)
 early_by asks t last old new w after n steps came xs ended other le run =
     record { here = run.here; mid = run.mid; half = run.half; comes = run.comes; ends = more ended other run.ends; are = run.are; few = run.few }
   where
-    more : (why : Ended) → why ≢ StepLimit → EndsAfter asks run.half n came run.here run.mid why after last new →
-        EndsAfter asks run.half steps came run.here run.mid why after last new
+    more : (why : Ended) → why ≢ StepLimit → EndsAfter asks n came (walk_by run.mid run.half run.here) why (walk_by new last after) →
+        EndsAfter asks steps came (walk_by run.mid run.half run.here) why (walk_by new last after)
     more CaughtUp other ends = (ends.0, omega (arith, le, ends.1), ends.2, ends.3, ends.4)
     more StepLimit other ends = absurd (other refl)
     more Stopped other ends = (ends.0, ends.1, omega (arith, le, ends.2), ends.3, ends.4)

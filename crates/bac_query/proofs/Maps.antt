@@ -1,6 +1,6 @@
 -- What came over a link, seen as what came over another that makes each of its asks one; and what each ask keeps.
 use Rattle.std.proofs.Common.{◌≡◌, ◌+◌, ℕ, zero, suc, Ok, Err, Result, List, [], ◌∷◌, sym, ap, subst}
-use Rattle.bac_link.specs.Exchanges.{Answers, Exchanges, Unanswered}
+use Rattle.bac_link.specs.Exchanges.{Answers, Exchanges, Unanswered, way_by}
 use Rattle.bac_link.specs.Path.{Path, towards}
 use Rattle.bac_link.specs.declared.transactions.Transactions.{Transactions}
 use Rattle.bac_link.specs.Requests.{next_invoke, request_octets}
@@ -11,8 +11,8 @@ use Rattle.bac_link.specs.declared.exchanges.Verdict.TheVariants as verdict
 use Rattle.bac_link.specs.declared.item.Item.{Item}
 use Rattle.bac_link.specs.declared.link.Lost.{Lost as Loss}
 use Rattle.bac_link.specs.declared.request.Request.{Request}
-use Rattle.bac_walk.specs.Came.{Brought, Came, Comes, EndsBy}
-use Rattle.bac_walk.specs.Transacted.{BroughtBy, ComesBy, EndsAfter, asked as asked_at}
+use Rattle.bac_walk.specs.Came.{Brought, Came, Comes, EndsBy, reaching, walk_over}
+use Rattle.bac_walk.specs.Transacted.{BroughtBy, ComesBy, EndsAfter, asked as asked_at, walk_by}
 use Rattle.bac_walk.specs.Place.{WalkPlace}
 use Rattle.bac_walk.specs.Told.{HasAsked, Told}
 use Rattle.bac_walk.specs.declared.outcome.Ended.{Ended}
@@ -32,7 +32,7 @@ unanswered_maps f asks other maps octets (suc n) old new (mid, answer, rest, ask
 
 pub answers_maps : {S T : Type 0} (f : S → T) (asks : Asking S) (other : Asking T) → Maps f asks other →
     (path : Path) (invoke : ℕ) (r : Request) (retries : ℕ) (said : Verdict) (old : S) (datagram : List ℕ) (new : S) →
-    Answers asks path invoke r retries said old datagram new → Answers other path invoke r retries said (f old) datagram (f new)
+    Answers asks (way_by path invoke retries) r said old datagram new → Answers other (way_by path invoke retries) r said (f old) datagram (f new)
 answers_maps f asks other maps path invoke r retries said old datagram new (tries, mid, few, before, asked, is) = (
   tries,
   f mid,
@@ -44,7 +44,7 @@ answers_maps f asks other maps path invoke r retries said old datagram new (trie
 
 exchanges_maps : {S T : Type 0} (f : S → T) (asks : Asking S) (other : Asking T) → Maps f asks other →
     (path : Path) (invoke : ℕ) (r : Request) (retries : ℕ) (old : S) (result : Result (List ℕ) ExchangeFault) (new : S) →
-    Exchanges asks path invoke r retries old result new → Exchanges other path invoke r retries (f old) result (f new)
+    Exchanges asks (way_by path invoke retries) r old result new → Exchanges other (way_by path invoke retries) r (f old) result (f new)
 exchanges_maps f asks other maps path invoke r retries old (Ok datagram) new answers =
     answers_maps f asks other maps path invoke r retries verdict.Ack old datagram new answers
 exchanges_maps f asks other maps path invoke r retries old (Err (fault.Refused refusal)) new (datagram, answers) =
@@ -57,7 +57,7 @@ exchanges_maps f asks other maps path invoke r retries old (Err fault.TooLong) n
 
 comes_maps : {S T : Type 0} (f : S → T) (asks : Asking S) (other : Asking T) → Maps f asks other →
     (came : List Came) (t last : Transactions) (old : S) (w after : WalkPlace) (new : S) →
-    ComesBy asks t old w came after last new → ComesBy other t (f old) w came after last (f new)
+    ComesBy asks (walk_by old t w) came (walk_by new last after) → ComesBy other (walk_by (f old) t w) came (walk_by (f new) last after)
 comes_maps f asks other maps [] t last old w after new (at, same, left) = (at, ap f same, left)
 comes_maps f asks other maps (c ∷ came) t last old w after new (mid, next, p, here, asked, taken, items, rest) = (
   f mid,
@@ -72,7 +72,7 @@ comes_maps f asks other maps (c ∷ came) t last old w after new (mid, next, p, 
 
 ends_maps : {S T : Type 0} (f : S → T) (asks : Asking S) (other : Asking T) → Maps f asks other →
     (t last : Transactions) (steps : ℕ) (came : List Came) (here : WalkPlace) (mid : S) (why : Ended) (after : WalkPlace) (new : S) →
-    EndsAfter asks t steps came here mid why after last new → EndsAfter other t steps came here (f mid) why after last (f new)
+    EndsAfter asks steps came (walk_by mid t here) why (walk_by new last after) → EndsAfter other steps came (walk_by (f mid) t here) why (walk_by (f new) last after)
 ends_maps f asks other maps t last steps came here mid ended.CaughtUp after new e = (e.0, e.1, e.2, ap f e.3, e.4)
 ends_maps f asks other maps t last steps came here mid ended.StepLimit after new e = (e.0, e.1, e.2, ap f e.3, e.4)
 ends_maps f asks other maps t last steps came here mid ended.Stopped after new e = (e.0, e.1, e.2, ap f e.3, e.4)
@@ -82,7 +82,7 @@ ends_maps f asks other maps t last steps came here mid (ended.Fault e) after new
 -- what a run brought
 pub brought_maps : {S T : Type 0} (f : S → T) (asks : Asking S) (other : Asking T) → Maps f asks other →
     (t last : Transactions) (old : S) (before : WalkPlace) (steps : ℕ) (came : List Came) (items : List Item) (why : Ended) (after : WalkPlace) (new : S) →
-    BroughtBy asks t old before steps came items why after last new → BroughtBy other t (f old) before steps came items why after last (f new)
+    BroughtBy asks (walk_by old t before) steps came items why (walk_by new last after) → BroughtBy other (walk_by (f old) t before) steps came items why (walk_by (f new) last after)
 brought_maps f asks other maps t last old before steps came items why after new run =
     record {
       here = run.here;
@@ -132,7 +132,7 @@ unanswered_keeps R asks itself goes each octets (suc n) old new (mid, answer, re
 
 exchanges_keeps : {S : Type 0} (R : S → S → Type 0) (asks : Asking S) → Itself R → Goes R → Each R asks →
     (path : Path) (invoke : ℕ) (r : Request) (retries : ℕ) (old : S) (result : Result (List ℕ) ExchangeFault) (new : S) →
-    Exchanges asks path invoke r retries old result new → R old new
+    Exchanges asks (way_by path invoke retries) r old result new → R old new
 exchanges_keeps R asks itself goes each path invoke r retries old (Ok datagram) new (tries, mid, few, before, asked, is) =
     goes old mid new (unanswered_keeps R asks itself goes each (request_octets path invoke r) tries old mid before)
     (each mid new (request_octets path invoke r) (Ok datagram) asked)
@@ -148,7 +148,7 @@ exchanges_keeps R asks itself goes each path invoke r retries old (Err fault.Too
 
 comes_keeps : {S : Type 0} (R : S → S → Type 0) (asks : Asking S) → Itself R → Goes R → Each R asks →
     (path : Path) (retries : ℕ) (old : S) (w : WalkPlace) (came : List Came) (after : WalkPlace) (new : S) →
-    Comes asks path retries old w came after new → R old new
+    Comes (reaching asks path retries) (walk_over old w) came (walk_over new after) → R old new
 comes_keeps R asks itself goes each path retries old w [] after new (at, same) = same_keeps R itself old new same
 comes_keeps R asks itself goes each path retries old w (c ∷ came) after new (mid, next, p, here, (invoke, asked), taken, items, rest) =
     goes old mid new (exchanges_keeps R asks itself goes each path invoke _ retries old (Ok c.datagram) mid asked)
@@ -156,7 +156,7 @@ comes_keeps R asks itself goes each path retries old w (c ∷ came) after new (m
 
 ends_keeps : {S : Type 0} (R : S → S → Type 0) (asks : Asking S) → Itself R → Goes R → Each R asks →
     (path : Path) (retries steps : ℕ) (came : List Came) (here : WalkPlace) (mid : S) (why : Ended) (after : WalkPlace) (new : S) →
-    EndsBy asks path retries steps came here mid why after new → R mid new
+    EndsBy (reaching asks path retries) steps came (walk_over mid here) why (walk_over new after) → R mid new
 ends_keeps R asks itself goes each path retries steps came here mid ended.CaughtUp after new e = same_keeps R itself mid new e.3
 ends_keeps R asks itself goes each path retries steps came here mid ended.StepLimit after new e = same_keeps R itself mid new e.3
 ends_keeps R asks itself goes each path retries steps came here mid ended.Stopped after new e = same_keeps R itself mid new e.3
@@ -166,7 +166,7 @@ ends_keeps R asks itself goes each path retries steps came here mid (ended.Fault
 -- all of a run
 pub brought_keeps : {S : Type 0} (R : S → S → Type 0) (asks : Asking S) → Itself R → Goes R → Each R asks →
     (path : Path) (retries : ℕ) (old : S) (before : WalkPlace) (steps : ℕ) (came : List Came) (items : List Item) (why : Ended) (after : WalkPlace) (new : S) →
-    Brought asks path retries old before steps came items why after new → R old new
+    Brought (reaching asks path retries) (walk_over old before) steps came items why (walk_over new after) → R old new
 brought_keeps R asks itself goes each path retries old before steps came items why after new (here, mid, comes, ends, are) =
     goes old mid new (comes_keeps R asks itself goes each path retries old _ came here mid comes)
     (ends_keeps R asks itself goes each path retries steps came here mid why after new ends)

@@ -8,18 +8,19 @@ use Rattle.bac_query.specs.Layouts.{AppendsAll, AppendsItems, AppendsItemsPart}
 use Rattle.bac_query.specs.declared.layout.Layout.{Layout}
 use Rattle.bac_query.proofs.Laid.{laid_end_part, laid_ended, laid_kept, laid_longer, laid_part, laid_then, part_ended}
 use Rattle.bac_link.specs.declared.link.Lost.{Lost as Loss}
-use Rattle.bac_walk.specs.Came.{Came, Brought}
-use Rattle.bac_walk.specs.Transacted.{BroughtIntoBy}
+use Rattle.bac_walk.specs.Came.{Came, Brought, reaching, walk_over}
+use Rattle.bac_walk.specs.Transacted.{BroughtIntoBy, walk_by}
 use Rattle.bac_walk.specs.Walks.{gap_items, item_of}
 use Rattle.bac_walk.specs.declared.batch.Gap.{Gap as GapOf}
 use Rattle.bac_walk.specs.declared.batch.Numbered.{Numbered}
 use Rattle.bac_walk.specs.Outcomes.{IsRunOf, why_of}
 use Rattle.bac_walk.specs.Place.{WalkPlace}
-use Rattle.bac_walk.specs.Sinks.{Call, Delivery, IsRun, Takes, is_stopped, put_items}
+use Rattle.bac_walk.specs.Sinks.{Call, Delivery, IsRun, Takes, is_stopped, put_items, sink_filled, ours_around}
 use Rattle.bac_walk.specs.Told.{Told}
 use Rattle.bac_walk.specs.declared.outcome.Ended.{Ended}
 use Rattle.bac_walk.specs.declared.outcome.Ended.TheVariants.{CaughtUp, StepLimit, Stopped, Fault}
 use Rattle.bac_walk.specs.declared.outcome.Why.{Why}
+use Rattle.bac_walk.specs.Collects.{losses_of}
 use Rattle.bac_walk.specs.declared.outcome.Why.TheVariants as why
 use Rattle.bac_walk.proofs.Came.{brought_delivers}
 use Rattle.bac_walk.proofs.Transacted.{brought_plain, transacted_bounded}
@@ -31,17 +32,18 @@ use Rattle.bac_query.proofs.JoinedBy.{early_by, joins_by, none_by}
 use Rattle.bac_query.proofs.Maps.{Maps, brought_keeps, brought_maps, told_maps}
 use Rattle.bac_query.proofs.SaidMore.{more_append, step_more, tells_alike}
 use Rattle.bac_query.proofs.Pending.{prints_goes, prints_itself}
-use Rattle.bac_query.specs.Ahead.{FetchesAhead, IsLeftAhead, IsRunOver, Pending, PrintsLast, PrintsLeft, PrintsOn, PrintsRun, never}
-use Rattle.bac_query.specs.Fetching.{EndsAs, Fetching, IsEnd, PrintsEnd, PrintsItems, TellsRun}
+use Rattle.bac_query.specs.Ahead.{FetchesAhead, IsLeftAhead, IsRunOver, Pending, PrintsLast, PrintsLeft, PrintsOn, PrintsRun, closing, errand, never}
+use Rattle.bac_query.specs.Fetching.{EndsAs, Fetching, IsEnd, PrintsEnd, PrintsItems, TellsRun, course, failing}
 use Rattle.bac_query.specs.More.{TellsMore, more_after, more_last}
-use Rattle.bac_query.specs.Reading.{Held}
+use Rattle.bac_query.specs.Reading.{Held, printing}
 use Rattle.bac_query.specs.declared.fault.QueryFault.{QueryFault}
 use Rattle.bac_query.specs.declared.fault.QueryFault.TheVariants.{Exchange, Write, Memory}
 use Rattle.bac_query.proofs.Delivered.{not_stopped}
+use Rattle.bac_link.specs.Exchanges.{client}
 
 -- ---- runs
 
-pub none_over : {S : Type 0} (asks : Asking S) (t : Transactions) (link : S) (w : WalkPlace) (was : Bool) → IsRunOver asks t link w 0 [] StepLimit w t link was was
+pub none_over : {S : Type 0} (asks : Asking S) (t : Transactions) (link : S) (w : WalkPlace) (was : Bool) → IsRunOver asks (client link t) w (course [] 0 StepLimit w) (client link t) was was
 none_over asks t link w was =
     (([], none_by asks t link w, refl), ([], λ on. refl, no_run never t.retries 0 w, omega arith, λ e. omega arith), tt)
 
@@ -49,12 +51,12 @@ pub limit_on : StepLimit ≢ Stopped
 limit_on e = cc
 
 pub over_joins : {S : Type 0} (asks : Asking S) (t u z : Transactions) (link half new : S) (w mid after : WalkPlace) (n k : ℕ) (xs ys : List Item) (ended : Ended) (was here said : Bool) →
-    IsRunOver asks t link w n xs StepLimit mid u half was here → IsRunOver asks u half mid k ys ended after z new here said →
-    IsRunOver asks t link w (n + k) (xs ++ ys) ended after z new was said
+    IsRunOver asks (client link t) w (course xs n StepLimit mid) (client half u) was here → IsRunOver asks (client half u) mid (course ys k ended after) (client new z) here said →
+    IsRunOver asks (client link t) w (course (xs ++ ys) (n + k) ended after) (client new z) was said
 over_joins asks t u z link half new w mid after n k xs ys ended was here said (brought, (us, same, run, few, many), told) (more, (vs, as_well, goes, less, enough), last) =
     let joined = length-append us vs in
     let leaves = transacted_bounded asks t u link half w mid n brought.0 xs StepLimit brought.1 in
-    let R : ℕ → Type 0 = λ r. IsRun never never r 0 0 mid after k ended vs in
+    let R : ℕ → Type 0 = λ r. IsRun (ours_around never never) (losses_of r 0 0) mid after k ended vs in
     let P : Path → Type 0 = λ q. Told asks q u.retries ended after new in
     let Q : ℕ → Type 0 = λ r. Told asks (towards t.route) r ended after new in (
       (
@@ -74,7 +76,7 @@ over_joins asks t u z link half new w mid after n k xs ys ended was here said (b
     )
 
 pub over_early : {S : Type 0} (asks : Asking S) (t z : Transactions) (link new : S) (w after : WalkPlace) (n steps : ℕ) (xs : List Item) (ended : Ended) (was said : Bool) → ended ≢ StepLimit → n ≤ steps →
-    IsRunOver asks t link w n xs ended after z new was said → IsRunOver asks t link w steps xs ended after z new was said
+    IsRunOver asks (client link t) w (course xs n ended after) (client new z) was said → IsRunOver asks (client link t) w (course xs steps ended after) (client new z) was said
 over_early asks t z link new w after n steps xs ended was said other le (brought, (us, same, run, few, many), told) = (
   (brought.0, early_by asks t z link new w after n steps brought.0 xs ended other le brought.1, brought.2),
   (
@@ -92,7 +94,7 @@ over_early asks t z link new w after n steps xs ended was said other le (brought
 -- the end line was that of the run, or a front part of it, or there was no memory for it
 tells_end : (layout : Layout) (left : Why → Type 0) (items : List Item) (steps n : ℕ) (ended : Ended) (after : WalkPlace) (cause : Why) (next : ℕ) (result : Fetching) (old mid new : Held) →
     IsRunOf cause steps n ended → next ≡ after.next → left cause → AppendsItems layout items old mid → PrintsEnd layout cause next result mid new →
-    TellsRun layout left items steps n ended after result old new
+    TellsRun layout left steps (course items n ended after) result old new
 tells_end layout left items steps n ended after cause next (Ok done) old mid new run at here first (same, is, last) =
     let P : Why → Type 0 = λ w. IsEnd steps n ended after w done.next × left w × AppendsAll layout items w done.next old new in
     let Q : ℕ → Type 0 = λ k. IsEnd steps n ended after cause k × left cause × AppendsAll layout items cause k old new in
@@ -104,7 +106,7 @@ tells_end layout left items steps n ended after cause next (Err Memory) old mid 
 tells_end layout left items steps n ended after cause next (Err (Exchange fault)) old mid new run at here first never = absurd never
 
 pub tells_items : (layout : Layout) (left : Why → Type 0) (items : List Item) (steps n : ℕ) (ended : Ended) (after : WalkPlace) (result : Fetching) (old new : Held) →
-    TellsRun layout left items steps n ended after result old new → PrintsItems layout items result old new
+    TellsRun layout left steps (course items n ended after) result old new → PrintsItems layout items result old new
 tells_items layout left items steps n ended after (Ok done) old new (is, here, all) = all
 tells_items layout left items steps n ended after (Err Write) old new (inl (le, here, part)) =
     (why.CaughtUp, 0, part_ended layout items why.CaughtUp 0 old new part)
@@ -113,7 +115,7 @@ tells_items layout left items steps n ended after (Err Memory) old new (cause, n
 tells_items layout left items steps n ended after (Err (Exchange fault)) old new none = absurd none
 
 tells_ends : (layout : Layout) (left : Why → Type 0) (items : List Item) (steps n : ℕ) (ended : Ended) (after : WalkPlace) (result : Fetching) (old new : Held) → n ≤ steps →
-    TellsRun layout left items steps n ended after result old new → EndsAs layout items steps n ended after result old new
+    TellsRun layout left steps (course items n ended after) result old new → EndsAs layout steps (course items n ended after) result old new
 tells_ends layout left items steps n ended after (Ok done) old new few (is, here, all) = is
 tells_ends layout left items steps n ended after (Err Write) old new few (inl (le, here, part)) = (few, inl part)
 tells_ends layout left items steps n ended after (Err Write) old new few (inr (cause, next, is, here, part)) = (few, inr (cause, next, is, part))
@@ -123,13 +125,13 @@ tells_ends layout left items steps n ended after (Err (Exchange fault)) old new 
 -- both that a caller learns
 abbrev pub Learns : {S : Type 0} → Layout → Asking S → Transactions → S → WalkPlace → ℕ → Fetching → ℕ → ℕ → Transactions → S → Held → Held → Type 0
 Learns {S = S} layout asks t link walk steps result failures more last left old new =
-    FetchesAhead layout asks t link walk steps result last left old new
-    × PrintsRun layout asks (towards t.route) t.retries walk steps result failures more left old new
+    FetchesAhead (errand layout walk steps) asks (printing (client link t) old) result (printing (client left last) new)
+    × PrintsRun (errand layout walk steps) asks (failing failures more) (printing (client link t) old) result (printing (client left last) new)
 
 learns_both : {S : Type 0} (layout : Layout) (asks : Asking S) (t u z : Transactions) (link mid left : S) (walk after : WalkPlace) (steps n : ℕ) (items : List Item) (ended : Ended) (result : Fetching) (failures more : ℕ) (old new : Held) (said : Bool) →
-    n ≤ steps → (run : IsRunOver asks t link walk n items ended after u mid false said) → TellsMore said result → Told asks (towards t.route) t.retries ended after left →
-    TellsRun layout (λ cause. IsLeftAhead asks u mid after z left cause) items steps n ended after result old new →
-    TellsRun layout (λ cause. IsLeftAhead asks u mid after z left cause) run.1.0 steps n ended after result old new →
+    n ≤ steps → (run : IsRunOver asks (client link t) walk (course items n ended after) (client mid u) false said) → TellsMore said result → Told asks (towards t.route) t.retries ended after left →
+    TellsRun layout (λ cause. IsLeftAhead asks u mid after z left cause) steps (course items n ended after) result old new →
+    TellsRun layout (λ cause. IsLeftAhead asks u mid after z left cause) steps (course run.1.0 n ended after) result old new →
     Learns layout asks t link walk steps result failures more z left old new
 learns_both layout asks t u z link mid left walk after steps n items ended result failures more old new said few (brought, (us, same, run, less, many), last) says told tells covers =
     let M : Bool → Type 0 = λ b. TellsMore b result in
@@ -164,11 +166,11 @@ learns_both layout asks t u z link mid left walk after steps n items ended resul
     )
 
 learns : {S : Type 0} (layout : Layout) (asks : Asking S) (t u z : Transactions) (link mid left : S) (walk after : WalkPlace) (steps n : ℕ) (items : List Item) (ended : Ended) (result : Fetching) (failures more : ℕ) (old new : Held) (said : Bool) →
-    n ≤ steps → ended ≢ Stopped → IsRunOver asks t link walk n items ended after u mid false said → TellsMore said result → Told asks (towards t.route) t.retries ended after left →
-    TellsRun layout (λ cause. IsLeftAhead asks u mid after z left cause) items steps n ended after result old new →
+    n ≤ steps → ended ≢ Stopped → IsRunOver asks (client link t) walk (course items n ended after) (client mid u) false said → TellsMore said result → Told asks (towards t.route) t.retries ended after left →
+    TellsRun layout (λ cause. IsLeftAhead asks u mid after z left cause) steps (course items n ended after) result old new →
     Learns layout asks t link walk steps result failures more z left old new
 learns layout asks t u z link mid left walk after steps n items ended result failures more old new said few on run says told tells =
-    let P : List Item → Type 0 = λ l. TellsRun layout (λ cause. IsLeftAhead asks u mid after z left cause) l steps n ended after result old new in
+    let P : List Item → Type 0 = λ l. TellsRun layout (λ cause. IsLeftAhead asks u mid after z left cause) steps (course l n ended after) result old new in
     learns_both layout asks t u z link mid left walk after steps n items ended result failures more old new said few run says told tells (subst P (sym (run.1.1 on)) tells)
 
 -- ---- how they end
@@ -176,7 +178,7 @@ learns layout asks t u z link mid left walk after steps n items ended result fai
 -- All lines were printed; what came after them wasn't, since there was no memory for it.
 pub without_lines : {S : Type 0} (layout : Layout) (asks : Asking S) (t u z : Transactions) (link mid new : S) (walk w after : WalkPlace) (steps n j : ℕ) (items more : List Item) (ended : Ended) (next : ℕ)
     (result : Fetching) (failures over : ℕ) (old half out : Held) (was said any : Bool) →
-    IsRunOver asks t link walk n items StepLimit w u mid false was → n < steps → next ≡ w.next → IsRunOver asks u mid w j more ended after z new was said → j ≤ 2 →
+    IsRunOver asks (client link t) walk (course items n StepLimit w) (client mid u) false was → n < steps → next ≡ w.next → IsRunOver asks (client mid u) w (course more j ended after) (client new z) was said → j ≤ 2 →
     AppendsItems layout items old half → PrintsEnd layout why.Memory next result half out → TellsMore any result →
     Learns layout asks t link walk steps result failures over z new old out
 without_lines layout asks t u z link mid new walk w after steps n j items more ended next result failures over old half out was said any run few at last two printed end says =
@@ -187,7 +189,7 @@ without_lines layout asks t u z link mid new walk w after steps n j items more e
 -- a write of lines was refused, and one step more came
 pub refused_lines : {S : Type 0} (layout : Layout) (asks : Asking S) (t u z : Transactions) (link mid new : S) (walk w after : WalkPlace) (steps n j : ℕ) (items last : List Item) (ended : Ended)
     (result : Fetching) (failures over : ℕ) (old out : Held) (was said : Bool) →
-    IsRunOver asks t link walk n items StepLimit w u mid false was → IsRunOver asks u mid w j last ended after z new was said → n + j ≤ steps → result ≡ Err Write →
+    IsRunOver asks (client link t) walk (course items n StepLimit w) (client mid u) false was → IsRunOver asks (client mid u) w (course last j ended after) (client new z) was said → n + j ≤ steps → result ≡ Err Write →
     AppendsItemsPart layout items old out → Learns layout asks t link walk steps result failures over z new old out
 unfolding over_joins
 refused_lines layout asks t u z link mid new walk w after steps n j items last ended result failures over old out was said first rest few is part =
@@ -200,7 +202,7 @@ refused_lines layout asks t u z link mid new walk w after steps n j items last e
 -- a step failed beside which lines were to be printed
 pub fails : {S : Type 0} (layout : Layout) (asks : Asking S) (t u v z : Transactions) (link mid half new : S) (walk w here after : WalkPlace) (steps n k : ℕ) (items left last : List Item) (ended : Ended) (told : ℕ) (fault : QueryFault)
     (failures over : ℕ) (old now out : Held) (was known said : Bool) →
-    IsRunOver asks t link walk n items StepLimit w u mid false was → IsRunOver asks u mid w k left StepLimit here v half was known → IsRunOver asks v half here 1 last ended after z new known said →
+    IsRunOver asks (client link t) walk (course items n StepLimit w) (client mid u) false was → IsRunOver asks (client mid u) w (course left k StepLimit here) (client half v) was known → IsRunOver asks (client half v) here (course last 1 ended after) (client new z) known said →
     n + k < steps → k ≤ 1 → told ≡ w.next → AppendsItems layout items old now → PrintsLeft {A = Ended} layout left (Err fault) now out →
     Learns layout asks t link walk steps (Err fault) failures over z new old out
 fails layout asks t u v z link mid half new walk w here after steps n k items left last ended told Write failures over old now out was known said first second third few one at printed part =
@@ -225,9 +227,9 @@ whole_ahead asks u mid here (Fault e) why.Memory on is = absurd (cc)
 -- the lines of the last step are printed, and the end line, as far as there is memory and no write is refused
 pub finishes : {S : Type 0} (layout : Layout) (asks : Asking S) (t u z : Transactions) (link mid new : S) (walk w after : WalkPlace) (steps n j whole : ℕ) (items last : List Item) (ended : Ended) (cause : Why) (next told : ℕ)
     (result : Fetching) (failures over : ℕ) (old half out : Held) (was said : Bool) →
-    IsRunOver asks t link walk n items StepLimit w u mid false was → IsRunOver asks u mid w j last ended after z new was said → ended ≢ Stopped →
-    IsRunOver asks t link walk whole (items ++ last) ended after z new false said → TellsMore said result → whole ≤ steps → IsRunOf cause steps whole ended → IsLeftAhead asks z new after z new cause →
-    n + j ≤ steps → j ≤ 1 → next ≡ after.next → told ≡ w.next → AppendsItems layout items old half → PrintsLast layout last cause next told result half out →
+    IsRunOver asks (client link t) walk (course items n StepLimit w) (client mid u) false was → IsRunOver asks (client mid u) w (course last j ended after) (client new z) was said → ended ≢ Stopped →
+    IsRunOver asks (client link t) walk (course (items ++ last) whole ended after) (client new z) false said → TellsMore said result → whole ≤ steps → IsRunOf cause steps whole ended → IsLeftAhead asks z new after z new cause →
+    n + j ≤ steps → j ≤ 1 → next ≡ after.next → told ≡ w.next → AppendsItems layout items old half → PrintsLast layout (closing last cause next told) result half out →
     Learns layout asks t link walk steps result failures over z new old out
 finishes layout asks t u z link mid new walk w after steps n j whole items last ended cause next told result failures over old half out was said first rest on all says few ends left sum one at before printed (inl (now, more, end)) =
     learns layout asks t z z link new new walk after steps whole (items ++ last) ended result failures over old out said few on all says all.2
@@ -269,9 +271,9 @@ filled_whole items old calls new ended none taken on =
 pub over_step : {S T K : Type 0} (f : S → T) (asks : Asking S) (other : Asking T) → Maps f asks other → (items : K → List Item) (last : S → Option (List ℕ)) →
     ((a b : S) (octets datagram : List ℕ) → asks a octets (Ok datagram) b → last b ≡ Some datagram) → (t z : Transactions) (failures more : ℕ)
     (old new : S) (sink left : K) (w after : WalkPlace) (ended : Ended) (was said : Bool) → said ≡ more_last was ended (last new) → items sink ≡ [] →
-    BroughtIntoBy asks t (λ s gap item taken t. Fills items s gap item taken t) old sink w 1 ended after left z new →
-    Delivery (λ s gap item taken t. Fills items s gap item taken t) sink left never never t.retries failures more w after 1 ended → Told asks (towards t.route) t.retries ended after new →
-    (brought : List Item) × (ended ≢ Stopped → items left ≡ brought) × IsRunOver other t (f old) w 1 brought ended after z (f new) was said
+    BroughtIntoBy asks (sink_filled (λ s gap item taken t. Fills items s gap item taken t) sink left) (walk_by old t w) 1 ended (walk_by new z after) →
+    Delivery (sink_filled (λ s gap item taken t. Fills items s gap item taken t) sink left) (ours_around never never) (losses_of t.retries failures more) w after 1 ended → Told asks (towards t.route) t.retries ended after new →
+    (brought : List Item) × (ended ≢ Stopped → items left ≡ brought) × IsRunOver other (client (f old) t) w (course brought 1 ended after) (client (f new) z) was said
 over_step f asks other maps items last keeps t z failures more old new sink left w after ended was said says none (calls, taken, few, gap, brought) (again, as_well, less, gaps, run, enough) told = (
   put_items calls,
   filled_whole items sink calls left ended none taken,
@@ -296,7 +298,7 @@ over_step f asks other maps items last keeps t z failures more old new sink left
 pub beside : {S A B : Type 0} (asks : Asking S) (pend : S → Pending) (link : S → A) (out : S → B) →
     ((a b : S) (octets : List ℕ) (answer : Result (List ℕ) Loss) → asks a octets answer b → PrintsOn (pend a) (pend b) × (link b ≡ link a) × (out b ≡ out a)) →
     (path : Path) (retries : ℕ) (old : S) (before : WalkPlace) (steps : ℕ) (came : List Came) (items : List Item) (ended : Ended) (after : WalkPlace) (new : S) →
-    Brought asks path retries old before steps came items ended after new → PrintsOn (pend old) (pend new) × (link new ≡ link old) × (out new ≡ out old)
+    Brought (reaching asks path retries) (walk_over old before) steps came items ended (walk_over new after) → PrintsOn (pend old) (pend new) × (link new ≡ link old) × (out new ≡ out old)
 beside {S = S} asks pend link out each path retries old before steps came items ended after new brought =
     let R : S → S → Type 0 = λ a b. PrintsOn (pend a) (pend b) × (link b ≡ link a) × (out b ≡ out a) in
     brought_keeps R asks (λ a. (prints_itself (pend a), refl, refl))

@@ -5,7 +5,7 @@ use Rattle.bac_link.specs.declared.transactions.Transactions.{Transactions}
 use Rattle.bac_walk.specs.Came.{Came, EndsFull, answers_of, restarted}
 use Rattle.bac_walk.specs.Collects.{batches}
 use Rattle.bac_walk.specs.Place.{WalkPlace}
-use Rattle.bac_walk.specs.Transacted.{BroughtBy, ComesBy, EndsAfter, asked as asked_at}
+use Rattle.bac_walk.specs.Transacted.{BroughtBy, ComesBy, EndsAfter, asked as asked_at, walk_by}
 use Rattle.bac_walk.specs.declared.outcome.Ended.{Ended}
 use Rattle.bac_walk.specs.declared.outcome.Ended.TheVariants as ended
 use Rattle.bac_walk.specs.declared.outcome.Why.{Why}
@@ -38,7 +38,7 @@ no_records was (c ∷ came) none = here c.items (λ less. no_records was came le
 
 -- over a link that keeps the last answer the last reply is that one
 last_records : {S : Type 0} (asks : Asking S) (last : S → Option (List ℕ)) → ((a b : S) (octets datagram : List ℕ) → asks a octets (Ok datagram) b → last b ≡ Some datagram) →
-    (was : Bool) (c : Came) (came : List Came) (t u : Transactions) (old new : S) (w after : WalkPlace) → ComesBy asks t old w (c ∷ came) after u new → EndsFull (c ∷ came) →
+    (was : Bool) (c : Came) (came : List Came) (t u : Transactions) (old new : S) (w after : WalkPlace) → ComesBy asks (walk_by old t w) (c ∷ came) (walk_by new u after) → EndsFull (c ∷ came) →
     (datagram : List ℕ) × (last new ≡ Some datagram) × (more_after was (c ∷ came) ≡ says_more datagram)
 last_records asks last keeps was c [] t u old new w after (mid, next, p, place, answered, taken, is, (at, same, left)) full =
     (c.datagram, ap last same ∙ keeps _ mid _ c.datagram answered.4, with_records was c.datagram c.items full)
@@ -49,17 +49,17 @@ last_records asks last keeps was c (d ∷ came) t u old new w after (mid, next, 
 
 pub step_more : {S : Type 0} (asks : Asking S) (last : S → Option (List ℕ)) → ((a b : S) (octets datagram : List ℕ) → asks a octets (Ok datagram) b → last b ≡ Some datagram) →
     (was : Bool) (t z : Transactions) (old new : S) (before after : WalkPlace) (came : List Came) (items : List Item) (end : Ended) →
-    BroughtBy asks t old before 1 came items end after z new → more_last was end (last new) ≡ more_after was came
+    BroughtBy asks (walk_by old t before) 1 came items end (walk_by new z after) → more_last was end (last new) ≡ more_after was came
 step_more {S = S} asks last keeps was t z old new before after came items end run = by end run.ends
   where
-    whole : (came : List Came) → ComesBy asks t old (restarted before) came run.here run.half run.mid → EndsFull came → 0 < batches (answers_of came) → new ≡ run.mid →
+    whole : (came : List Came) → ComesBy asks (walk_by old t (restarted before)) came (walk_by run.mid run.half run.here) → EndsFull came → 0 < batches (answers_of came) → new ≡ run.mid →
         (datagram : List ℕ) × (last new ≡ Some datagram) × (more_after was came ≡ says_more datagram)
     whole [] comes full some same = absurd (omega (arith, some))
     whole (c ∷ came) comes full some same =
         let (datagram, is, says) = last_records asks last keeps was c came t run.half old run.mid (restarted before) run.here comes full in
         (datagram, ap last same ∙ is, says)
 
-    by : (end : Ended) → EndsAfter asks run.half 1 came run.here run.mid end after z new → more_last was end (last new) ≡ more_after was came
+    by : (end : Ended) → EndsAfter asks 1 came (walk_by run.mid run.half run.here) end (walk_by new z after) → more_last was end (last new) ≡ more_after was came
     by ended.CaughtUp ends = sym (no_records was came ends.1)
     by ended.StepLimit ends =
         let (datagram, is, says) = whole came run.comes ends.0 (omega (arith, ends.1)) ends.3 in

@@ -6,11 +6,11 @@ use Rattle.std.proofs.Math.Bool.{or-false, or_assoc}
 use Rattle.std.proofs.KnownBytes.{Appends-nil, Appends-trans, Appends-kept}
 use Rattle.bac_query.specs.Announcements.{Announcement, announced}
 use Rattle.bac_query.specs.Finding.{Seeks, Settles, Turns, asked}
-use Rattle.bac_query.specs.Hearing.{Hears, Held, Left, ReceivesBy, Shows, Standing, given_up}
+use Rattle.bac_query.specs.Hearing.{Hears, Held, Left, PortRules, ReceivesBy, Shows, Standing, given_up, searching}
 use Rattle.bac_query.specs.Turns.{Along, ComesTo, Fails, IsLast, Received, Sent, Tells, Turn, asked_in, came_in, has_device, line_of, lines_of}
 use Rattle.bac_query.specs.declared.find_fault.FindFault.{FindFault}
 use Rattle.bac_query.specs.declared.find_fault.FindFault.TheVariants.{Socket, Refused, NoAnswer, Write, Memory}
-use Rattle.bac_ports.specs.Port.{Receiving, Sending}
+use Rattle.bac_ports.specs.Port.{Sending}
 use Rattle.bac_ports.specs.declared.port.Heard.{Heard}
 use Rattle.bac_ports.specs.declared.port.SocketFault.TheVariants.{Timeout, Failed}
 
@@ -90,41 +90,40 @@ comes_both limit left xs ys us vs old mid new (Err fault) (asks, count, taken, w
       rw e (fails_both (came_in us) (came_in vs) old.held mid.held new.held fault wrote fails),
     )
 
-module _ {P : Type 0} (sends : P → List ℕ → List ℕ → Sending → P → Type 0) (receives : P → Receiving → P → Type 0)
-    (within : P → ℕ → Receiving → P → Type 0) (octets : List ℕ) where
-  along_both : (us vs : List Turn) (port mid after : P) → Along sends receives within octets us port mid → Along sends receives within octets vs mid after →
-      Along sends receives within octets (us ++ vs) port after
+module _ {P : Type 0} (rules : PortRules P) (octets : List ℕ) where
+  along_both : (us vs : List Turn) (port mid after : P) → Along rules octets us port mid → Along rules octets vs mid after →
+      Along rules octets (us ++ vs) port after
   along_both [] vs port mid after first second = rw (sym first) second
   along_both (Sent address sent ∷ us) vs port mid after (next, did, first) second = (next, did, along_both us vs next mid after first second)
   along_both (Received wait heard ∷ us) vs port mid after (next, did, first) second = (next, did, along_both us vs next mid after first second)
 
   -- then more is done
   tells_both : (xs ys : List (List ℕ)) (limit left : ℕ) (port mid after : P) (old then new : Standing) (result : Left) →
-      Tells sends receives within octets xs limit port old (Ok left) mid then → Tells sends receives within octets ys left mid then result after new →
-      Tells sends receives within octets (xs ++ ys) limit port old result after new
+      Tells rules octets xs limit (searching port old) (Ok left) (searching mid then) → Tells rules octets ys left (searching mid then) result (searching after new) →
+      Tells rules octets (xs ++ ys) limit (searching port old) result (searching after new)
   tells_both xs ys limit left port mid after old then new result (us, along, comes) (vs, along', comes') =
       (us ++ vs, along_both us vs port mid after along along', comes_both limit left xs ys us vs old then new result comes comes')
 
   -- a fault is the end
   tells_end : (xs ys : List (List ℕ)) (limit : ℕ) (port after : P) (old new : Standing) (fault : FindFault) →
-      Tells sends receives within octets xs limit port old (Err fault) after new → Tells sends receives within octets (xs ++ ys) limit port old (Err fault) after new
+      Tells rules octets xs limit (searching port old) (Err fault) (searching after new) → Tells rules octets (xs ++ ys) limit (searching port old) (Err fault) (searching after new)
   tells_end xs ys limit port after old new fault (us, along, ((more, asks), count, fails)) =
       (us, along, ((more ++ ys, ap (λ l. l ++ ys) asks ∙ append_assoc (asked_in us) more ys), count, fails))
 
   tells_nothing : (limit : ℕ) (port : P) (old new : Standing) → new.held ≡ old.held → new.taken ≡ old.taken →
-      Tells sends receives within octets [] limit port old (Ok limit) port new
+      Tells rules octets [] limit (searching port old) (Ok limit) (searching port new)
   tells_nothing limit port old new held taken =
       ([], refl, (refl, omega arith, taken ∙ sym (or-false old.taken), rw held (Appends-nil old.held)))
 
-  tells_sent : (limit : ℕ) (port mid : P) (address : List ℕ) (sent : Sending) (old : Standing) → sends port octets address sent mid →
-      Tells sends receives within octets (address ∷ []) limit port old (Ok limit) mid (asked address sent old)
+  tells_sent : (limit : ℕ) (port mid : P) (address : List ℕ) (sent : Sending) (old : Standing) → rules.sends port octets address sent mid →
+      Tells rules octets (address ∷ []) limit (searching port old) (Ok limit) (searching mid (asked address sent old))
   tells_sent limit port mid address sent old did =
       (Sent address sent ∷ [], (mid, did, refl), (refl, omega arith, sym (or-false old.taken), Appends-nil old.held))
 
   -- ---- a wait
 
   hears_told : (wait : Option ℕ) (least limit : ℕ) (port after : P) (old new : Standing) (result : Left) →
-      Hears (ReceivesBy receives within wait) least limit port old result after new → Tells sends receives within octets [] limit port old result after new
+      Hears (ReceivesBy rules wait) least limit (searching port old) result (searching after new) → Tells rules octets [] limit (searching port old) result (searching after new)
   unfolding Hears
   hears_told wait least zero port after old new result (e, same, kept) =
       rw (e, same, kept) (tells_nothing zero port old old refl refl)
@@ -144,8 +143,8 @@ module _ {P : Type 0} (sends : P → List ℕ → List ℕ → Sending → P →
 
   -- ---- a turn, and all of them
 
-  settles_told : (limit : ℕ) (port after : P) (old new : Standing) (result : Left) → Settles receives within limit port old result after new →
-      Tells sends receives within octets [] limit port old result after new
+  settles_told : (limit : ℕ) (port after : P) (old new : Standing) (result : Left) → Settles rules limit (searching port old) result (searching after new) →
+      Tells rules octets [] limit (searching port old) result (searching after new)
   settles_told limit port after old new result (Err fault, mid, then, hears, (e, same, kept)) =
       rw (e, same, kept) (hears_told (Some 0) 0 limit port mid old then (Err fault) hears)
   settles_told limit port after old new result (Ok left, mid, then, hears, (Err fault, late, last, waits, (e, same, kept))) =
@@ -157,7 +156,7 @@ module _ {P : Type 0} (sends : P → List ℕ → List ℕ → Sending → P →
       (tells_nothing rest late last (record last { pending = given_up last.pending }) refl refl)))
 
   turns_told : (addresses : List (List ℕ)) (limit : ℕ) (port after : P) (old new : Standing) (result : Left) →
-      Turns sends receives within octets addresses limit port old result after new → Tells sends receives within octets addresses limit port old result after new
+      Turns rules octets addresses limit (searching port old) result (searching after new) → Tells rules octets addresses limit (searching port old) result (searching after new)
   unfolding Turns
   turns_told [] limit port after old new result (e, same, kept) = rw (e, same, kept) (tells_nothing limit port old old refl refl)
   turns_told (address ∷ addresses) limit port after old new result (sent, mid, did, (Err fault, next, then, settles, (e, same, kept))) =
@@ -172,7 +171,7 @@ module _ {P : Type 0} (sends : P → List ℕ → List ℕ → Sending → P →
       (turns_told addresses left next after then new result more))
 
   pub seeks_told : (addresses : List (List ℕ)) (limit : ℕ) (port after : P) (old new : Standing) (result : Left) →
-      Seeks sends receives within octets addresses limit port old result after new → Tells sends receives within octets addresses limit port old result after new
+      Seeks rules octets addresses limit (searching port old) result (searching after new) → Tells rules octets addresses limit (searching port old) result (searching after new)
   seeks_told addresses limit port after old new result (Err fault, mid, then, turns, (e, same, kept)) =
       rw (e, same, kept) (turns_told addresses limit port mid old then (Err fault) turns)
   seeks_told addresses limit port after old new result (Ok left, mid, then, turns, hears) =

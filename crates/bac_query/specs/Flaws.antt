@@ -25,11 +25,20 @@ abbrev pub IsFlawed : {S : Type 0} → (S → List ℕ → Result (List ℕ) Los
 IsFlawed asks path retries w flaw new =
     (told : ReplyFlaw) × (flaw ≡ Some told) × ToldFlaw asks path retries w told new
 
--- the same of a walk of this log with this next number
+-- a log, and the number in it that comes next
+pub record LogPlace : Type 0 where
+  pub log : Id
+  pub next : ℕ
+
+-- the two together
+abbrev pub log_place : Id → ℕ → LogPlace
+log_place log next = record { log = log; next = next }
+
+-- the same of a walk that is at this place of a log
 abbrev pub IsBadlyFetched : {S : Type 0} → (S → List ℕ → Result (List ℕ) Lost → S → Type 0) →
-    Path → ℕ → Id → ℕ → Option ReplyFlaw → S → Type 0
-IsBadlyFetched asks path retries log next flaw new =
-    (w : WalkPlace) × (w.log ≡ log) × (w.next ≡ next) × IsFlawed asks path retries w flaw new
+    Path → ℕ → LogPlace → Option ReplyFlaw → S → Type 0
+IsBadlyFetched asks path retries place flaw new =
+    (w : WalkPlace) × (w.log ≡ place.log) × (w.next ≡ place.next) × IsFlawed asks path retries w flaw new
 
 -- a flaw is of a bad reply alone
 abbrev pub flaw_if_bad : Why → Option ReplyFlaw → Option ReplyFlaw
@@ -48,18 +57,18 @@ with_flaw fetched flaw =
 
 -- what is told of the reply that a walk ended with: nothing, but of a bad one what is wrong with it
 abbrev pub TellsFlawOf : {S : Type 0} → (S → List ℕ → Result (List ℕ) Lost → S → Type 0) →
-    Path → ℕ → Id → ℕ → Option ReplyFlaw → S → Why → Type 0
-TellsFlawOf asks path retries log next flaw new why.CaughtUp = flaw ≡ None
-TellsFlawOf asks path retries log next flaw new why.StepLimit = flaw ≡ None
-TellsFlawOf asks path retries log next flaw new (why.Fault WasLost) = flaw ≡ None
-TellsFlawOf asks path retries log next flaw new (why.Fault (Refused refusal)) = flaw ≡ None
-TellsFlawOf asks path retries log next flaw new (why.Fault BadReply) =
-    IsBadlyFetched asks path retries log next flaw new
-TellsFlawOf asks path retries log next flaw new why.Memory = flaw ≡ None
+    Path → ℕ → LogPlace → Option ReplyFlaw → S → Why → Type 0
+TellsFlawOf asks path retries place flaw new why.CaughtUp = flaw ≡ None
+TellsFlawOf asks path retries place flaw new why.StepLimit = flaw ≡ None
+TellsFlawOf asks path retries place flaw new (why.Fault WasLost) = flaw ≡ None
+TellsFlawOf asks path retries place flaw new (why.Fault (Refused refusal)) = flaw ≡ None
+TellsFlawOf asks path retries place flaw new (why.Fault BadReply) =
+    IsBadlyFetched asks path retries place flaw new
+TellsFlawOf asks path retries place flaw new why.Memory = flaw ≡ None
 
 -- If the walk of this log ended with a bad reply, and only then, this is wrong with that reply.
 abbrev pub TellsFlaw : {S : Type 0} → (S → List ℕ → Result (List ℕ) Lost → S → Type 0) →
     Path → ℕ → Id → Fetching → S → Type 0
 TellsFlaw asks path retries log (Ok fetched) new =
-    TellsFlawOf asks path retries log fetched.next fetched.flaw new fetched.why
+    TellsFlawOf asks path retries (log_place log fetched.next) fetched.flaw new fetched.why
 TellsFlaw asks path retries log (Err fault) new = Unit {0}

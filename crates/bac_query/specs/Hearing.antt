@@ -80,38 +80,59 @@ Takes heard shown old new =
     Shows (announced heard) shown old.held new.held × (new.pending ≡ pending_without old.pending heard.from)
     × (new.taken ≡ taken_by old.taken shown) × (new.refused ≡ old.refused)
 
+-- ---- at a port
+
+-- what a send over a port is, a receive, and a receive with a wait of its own: the rules that the port names
+pub record PortRules (P : Type 0) : Type 1 where
+  pub sends : P → List ℕ → List ℕ → Sending → P → Type 0
+  pub receives : P → Receiving → P → Type 0
+  pub receives_within : P → ℕ → Receiving → P → Type 0
+
+-- the rules that are these
+abbrev pub port_rules : {P : Type 0} → (P → List ℕ → List ℕ → Sending → P → Type 0) → (P → Receiving → P → Type 0)
+    → (P → ℕ → Receiving → P → Type 0) → PortRules P
+port_rules sends receives within = record { sends = sends; receives = receives; receives_within = within }
+
+-- a port, and how far the search over it is
+pub record Searching (P : Type 0) : Type 0 where
+  pub port : P
+  pub standing : Standing
+
+-- the two together
+abbrev pub searching : {P : Type 0} → P → Standing → Searching P
+searching port standing = record { port = port; standing = standing }
+
 -- ---- one wait
 
 -- A receive waits so many milliseconds, taking at 0 what is there; or, without a number, as long as the port waits.
-abbrev pub ReceivesBy : {P : Type 0} → (P → Receiving → P → Type 0) → (P → ℕ → Receiving → P → Type 0)
-    → Option ℕ → P → Receiving → P → Type 0
-ReceivesBy receives within None port heard new = receives port heard new
-ReceivesBy receives within (Some wait) port heard new = within port wait heard new
+abbrev pub ReceivesBy : {P : Type 0} → PortRules P → Option ℕ → P → Receiving → P → Type 0
+ReceivesBy rules None port heard new = rules.receives port heard new
+ReceivesBy rules (Some wait) port heard new = rules.receives_within port wait heard new
 
 -- the search stays as it is, with this answer
-abbrev pub Stays : {P : Type 0} → Left → P → Standing → Left → P → Standing → Type 0
-Stays answer port old result after new = (result ≡ answer) × (after ≡ port) × (new ≡ old)
+abbrev pub Stays : {P : Type 0} → Left → Searching P → Left → Searching P → Type 0
+Stays answer old result new = (result ≡ answer) × (new.port ≡ old.port) × (new.standing ≡ old.standing)
 
 -- a fault is the end; else there is more to be done
-abbrev pub IsShown : {P : Type 0} → Result Bool FindFault → P → Standing → Left → P → Standing → Type 0 → Type 0
-IsShown (Err fault) port old result after new more = Stays (Err fault) port old result after new
-IsShown (Ok shown) port old result after new more = more
+abbrev pub IsShown : {P : Type 0} → Result Bool FindFault → Searching P → Left → Searching P → Type 0 → Type 0
+IsShown (Err fault) old result new more = Stays (Err fault) old result new
+IsShown (Ok shown) old result new more = more
 
 -- a wait in which nothing comes is over, and so is one that fails; what comes is shown
-abbrev pub IsHeard : {P : Type 0} → ℕ → Receiving → P → Standing → Left → P → Standing → (Standing → Type 0) → Type 0
-IsHeard limit (Err Timeout) port old result after new more = Stays (Ok limit) port old result after new
-IsHeard limit (Err Failed) port old result after new more = Stays (Err Socket) port old result after new
-IsHeard limit (Ok heard) port old result after new more =
-    (shown : Result Bool FindFault) × (mid : Standing) × Takes heard shown old mid
-    × IsShown shown port mid result after new (more mid)
+abbrev pub IsHeard : {P : Type 0} → ℕ → Receiving → Searching P → Left → Searching P → (Standing → Type 0) → Type 0
+IsHeard limit (Err Timeout) old result new more = Stays (Ok limit) old result new
+IsHeard limit (Err Failed) old result new more = Stays (Err Socket) old result new
+IsHeard limit (Ok heard) old result new more =
+    (shown : Result Bool FindFault) × (mid : Standing) × Takes heard shown old.standing mid
+    × IsShown shown (searching old.port mid) result new (more mid)
 
 -- Datagrams are received as long as so many addresses are pending, and so many datagrams at most; what is answered is
 -- how many of them may come still.
-unfoldable pub Hears : {P : Type 0} → (P → Receiving → P → Type 0) → ℕ → ℕ → P → Standing → Left → P → Standing → Type 0
-Hears receive least zero port old result after new = Stays (Ok zero) port old result after new
-Hears {P = P} receive least (suc limit) port old result after new =
-    ((length old.pending < least) × Stays (Ok (suc limit)) port old result after new)
-    ⊎ ((least ≤ length old.pending)
-    × ((heard : Receiving) × (mid : P) × receive port heard mid
-    × IsHeard (suc limit) heard mid old result after new
-    (λ now. Hears receive least limit mid now result after new)))
+unfoldable pub Hears : {P : Type 0} → (P → Receiving → P → Type 0) → ℕ → ℕ → Searching P → Left → Searching P → Type 0
+Hears receive least zero old result new = Stays (Ok zero) old result new
+Hears {P = P} receive least (suc limit) old result new =
+    ((length old.standing.pending < least) × Stays (Ok (suc limit)) old result new)
+    ⊎ ((least ≤ length old.standing.pending)
+    × ((heard : Receiving) × (mid : P) × receive old.port heard mid
+    × IsHeard (suc limit) heard (searching mid old.standing) result new
+    (λ now. Hears receive least limit (searching mid now) result new)))

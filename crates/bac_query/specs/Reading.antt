@@ -3,7 +3,7 @@ use Rattle.std.specs.Prelude.{◌≡◌, ℕ, List, Option, Some, None, Result, 
 use Rattle.std.specs.Io.KnownBytes.{Appends, Keeps}
 use Rattle.bac_apdu.specs.declared.service.read_property.ReadProperty.{ReadProperty}
 use Rattle.bac_link.specs.Datagrams.{apdu_in}
-use Rattle.bac_link.specs.Exchanges.{Concludes, Exchanges}
+use Rattle.bac_link.specs.Exchanges.{Client, Concludes, Exchanges}
 pub use Rattle.bac_link.specs.Exchanges.{Way, next_way}
 use Rattle.bac_link.specs.Path.{Path}
 use Rattle.bac_link.specs.declared.exchanges.ExchangeFault.{ExchangeFault}
@@ -21,6 +21,20 @@ use Rattle.bac_query.specs.declared.fault.QueryFault.TheVariants.{Exchange, Writ
 -- what a query answers
 abbrev pub Answer : Type 0
 Answer = Result (Unit {0}) QueryFault
+
+-- One who asks, a link or a client over one, and what is printed of what comes: a line so far, or what an output holds
+-- if that is known.
+pub record Printing (A T : Type 0) : Type 0 where
+  pub asker : A
+  pub printed : T
+
+-- the two together
+abbrev pub printing : {A T : Type 0} → A → T → Printing A T
+printing asker printed = record { asker = asker; printed = printed }
+
+-- a client, and what the output holds to which it prints
+abbrev pub Session : Type 0 → Type 0
+Session S = Printing (Client S) Held
 
 -- the whole text was written, or a front part of it
 abbrev pub Prints : List ℕ → Answer → Held → Held → Type 0
@@ -54,8 +68,8 @@ ReadsProperty path invoke asked reals result old new =
 
 -- and that exchange was one over the link, which is left so
 abbrev pub ReadsOver : {S : Type 0} → (S → List ℕ → Result (List ℕ) Lost → S → Type 0) →
-    Way → ReadProperty → Reals → S → Answer → S → Held → Held → Type 0
-ReadsOver {S = S} asks way asked reals link result left old new =
+    Way → ReadProperty → Reals → Printing S Held → Answer → Printing S Held → Type 0
+ReadsOver {S = S} asks way asked reals old result new =
     (answer : Result (List ℕ) ExchangeFault)
-    × Exchanges asks way.path way.invoke (request.ReadProperty asked) way.retries link answer left
-    × PrintsAnswer reals answer result old new
+    × Exchanges asks way (request.ReadProperty asked) old.asker answer new.asker
+    × PrintsAnswer reals answer result old.printed new.printed

@@ -5,7 +5,7 @@ use Rattle.std.specs.Prelude.{Some, None, Ok, Err}
 use Rattle.std.specs.List.{list_any}
 use Rattle.std.specs.Io.KnownBytes.{Appends}
 use Rattle.bac_query.specs.Announcements.{Announcement, announced}
-use Rattle.bac_query.specs.Hearing.{Held, Left, ReceivesBy, Standing}
+use Rattle.bac_query.specs.Hearing.{Held, Left, PortRules, ReceivesBy, Searching, Standing}
 use Rattle.bac_query.specs.Lines.{device_line}
 use Rattle.bac_query.specs.declared.find_fault.FindFault.{FindFault}
 use Rattle.bac_query.specs.declared.find_fault.FindFault.TheVariants.{Socket, Refused, NoAnswer, Write, Memory}
@@ -21,13 +21,12 @@ pub data Turn : Type 0 where
   Received : Option ℕ → Receiving → Turn
 
 -- all of it is done, one after the other
-abbrev pub Along : {P : Type 0} → (P → List ℕ → List ℕ → Sending → P → Type 0) → (P → Receiving → P → Type 0)
-    → (P → ℕ → Receiving → P → Type 0) → List ℕ → List Turn → P → P → Type 0
-Along sends receives within octets [] port new = new ≡ port
-Along {P = P} sends receives within octets (Sent address sent ∷ turns) port new =
-    (mid : P) × sends port octets address sent mid × Along sends receives within octets turns mid new
-Along {P = P} sends receives within octets (Received wait heard ∷ turns) port new =
-    (mid : P) × ReceivesBy receives within wait port heard mid × Along sends receives within octets turns mid new
+abbrev pub Along : {P : Type 0} → PortRules P → List ℕ → List Turn → P → P → Type 0
+Along rules octets [] port new = new ≡ port
+Along {P = P} rules octets (Sent address sent ∷ turns) port new =
+    (mid : P) × rules.sends port octets address sent mid × Along rules octets turns mid new
+Along {P = P} rules octets (Received wait heard ∷ turns) port new =
+    (mid : P) × ReceivesBy rules wait port heard mid × Along rules octets turns mid new
 
 -- the addresses that were asked, in order
 abbrev pub asked_in : List Turn → List (List ℕ)
@@ -88,8 +87,7 @@ ComesTo limit addresses turns old (Err fault) new =
     × Fails (came_in turns) old.held fault new.held
 
 -- what was done at the port, and what it came to
-abbrev pub Tells : {P : Type 0} → (P → List ℕ → List ℕ → Sending → P → Type 0) → (P → Receiving → P → Type 0)
-    → (P → ℕ → Receiving → P → Type 0) → List ℕ → List (List ℕ) → ℕ → P → Standing → Left → P → Standing → Type 0
-Tells sends receives within octets addresses limit port old result after new =
-    (turns : List Turn) × Along sends receives within octets turns port after
-    × ComesTo limit addresses turns old result new
+abbrev pub Tells : {P : Type 0} → PortRules P → List ℕ → List (List ℕ) → ℕ → Searching P → Left → Searching P → Type 0
+Tells rules octets addresses limit old result new =
+    (turns : List Turn) × Along rules octets turns old.port new.port
+    × ComesTo limit addresses turns old.standing result new.standing

@@ -6,7 +6,7 @@ use Rattle.bac_link.specs.Path.{Path}
 use Rattle.bac_link.specs.declared.exchanges.ExchangeFault.{ExchangeFault}
 use Rattle.bac_link.specs.declared.link.Lost.{Lost}
 use Rattle.bac_link.specs.declared.request.Request.{Request}
-use Rattle.bac_query.specs.Reading.{Answer, Held, Prints, Way}
+use Rattle.bac_query.specs.Reading.{Answer, Held, Printing, Prints, Way}
 use Rattle.bac_query.specs.declared.fault.QueryFault.TheVariants.{Exchange}
 
 -- a line says that it was done
@@ -25,8 +25,8 @@ WritesProperty path invoke asked result old new =
 
 -- and that exchange was one over the link, which is left so
 abbrev pub WritesOver : {S : Type 0} → (S → List ℕ → Result (List ℕ) Lost → S → Type 0) →
-    Way → Request → S → Answer → S → Held → Held → Type 0
-WritesOver {S = S} asks way asked link result left old new =
+    Way → Request → Printing S Held → Answer → Printing S Held → Type 0
+WritesOver {S = S} asks way asked old result new =
     (answer : Result (List ℕ) ExchangeFault)
-    × Exchanges asks way.path way.invoke asked way.retries link answer left
-    × PrintsIfDone answer result old new
+    × Exchanges asks way asked old.asker answer new.asker
+    × PrintsIfDone answer result old.printed new.printed

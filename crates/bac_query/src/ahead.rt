@@ -6,6 +6,7 @@ ghost use Rattle.std.specs.Result.{result_ok};
 ghost use Rattle.std.proofs.Common.{◌∙◌};
 ghost use Rattle.bac_walk.specs.Walks.{gap_items, item_of};
 ghost use Rattle.bac_query.specs.Ahead.{pending, port_asks, PrintsLeft, PrintsLast, PrintsOn};
+ghost use Rattle.bac_query.specs.Ahead.{closing};
 ghost use Rattle.bac_query.specs.Fetching.{PrintsEnd};
 ghost use Rattle.bac_query.specs.More.{TellsMore};
 
@@ -149,8 +150,8 @@ impl<'a, P: Port, W: Write> Ahead<'a, P, W> {
     /// the end is that, and the next number the one that is told.
     pub(crate) fn finish(&mut self, why: Why, next: u32, told: u32) -> Result<Fetched, QueryFault>
         requires { self.old.is_refused ≡ false }
-        ensures prints { PrintsLast self.old.layout self.old.left.now.items why next told result
-            (W.contents self.old.out.now) (W.contents self.new.out.now) }
+        ensures prints { PrintsLast self.old.layout (closing self.old.left.now.items why next told)
+            result (W.contents self.old.out.now) (W.contents self.new.out.now) }
         ensures more { TellsMore self.old.said_more result }
         ensures link { self.new.link.now ≡ self.old.link.now }
         ensures flaw { self.new.flaw ≡ self.old.flaw }

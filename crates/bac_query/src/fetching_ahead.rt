@@ -3,13 +3,17 @@
 
 ghost use Rattle.std.specs.Prelude.{◌≡◌, ◌≢◌, ◌≤◌, ◌+◌, ◌*◌, [], false, List, Option, None, IfOk};
 ghost use Rattle.std.specs.Prelude.{OnOk};
+ghost use Rattle.bac_link.specs.Exchanges.{client};
 ghost use Rattle.bac_link.specs.Path.{towards};
 ghost use Rattle.bac_link.specs.declared.item.Item.{Item as ItemOf};
 ghost use Rattle.bac_walk.specs.declared.outcome.Ended.{Ended as EndedOf};
 ghost use Rattle.bac_walk.specs.declared.outcome.WalkFault.{WalkFault as FaultOf};
 ghost use Rattle.bac_query.specs.Ahead.{FetchesAhead, IsRunOver, PrintsLeft, PrintsOn, PrintsRun};
-ghost use Rattle.bac_query.specs.Ahead.{pending, port_asks};
+ghost use Rattle.bac_query.specs.Ahead.{errand, pending, port_asks};
+ghost use Rattle.bac_query.specs.Fetching.{course, failing};
 ghost use Rattle.bac_query.specs.Flaws.{IsBadlyFetched, IsFlawed, TellsFlaw, last_flaw, with_flaw};
+ghost use Rattle.bac_query.specs.Flaws.{log_place};
+ghost use Rattle.bac_query.specs.Reading.{printing};
 
 use crate::ahead::{Ahead, Reply};
 use crate::fault::QueryFault;
@@ -42,14 +46,16 @@ pub fn fetch_log_ahead<P: Port, W: Write>(
 ) -> Result<Fetched, QueryFault>
     // What is printed are the lines of items, and the line that says how their run ended: so many
     // steps, or what the last exchange told.
-    ensures printed { PrintsRun layout (port_asks P.sends P.receives)
-        (towards transactions.old.route) transactions.old.retries walk steps result
-        link.old.failures link.new.failures link.new (W.contents out.old) (W.contents out.new) }
+    ensures printed { PrintsRun (errand layout walk steps) (port_asks P.sends P.receives)
+        (failing link.old.failures link.new.failures)
+        (printing (client link.old transactions.old) (W.contents out.old)) result
+        (printing (client link.new transactions.new) (W.contents out.new)) }
     // Over any port, whoever answers, they are the lines of what the replies brought that came over
     // it from here on, each to the next transaction; and if these say what one log holds, of what
     // it held.
-    ensures came { FetchesAhead layout (port_asks P.sends P.receives) transactions.old link.old walk
-        steps result transactions.new link.new (W.contents out.old) (W.contents out.new) }
+    ensures came { FetchesAhead (errand layout walk steps) (port_asks P.sends P.receives)
+        (printing (client link.old transactions.old) (W.contents out.old)) result
+        (printing (client link.new transactions.new) (W.contents out.new)) }
     // At most two transactions a step are begun.
     ensures begun { transactions.new.begun ≤ transactions.old.begun + 2 * steps }
     // If the walk ended with a bad reply, and only then, this is wrong with that reply.
@@ -73,13 +79,15 @@ fn fetch_told<P: Port, W: Write>(
     requires well { ahead.old.is_refused ≡ false }
     requires none { ahead.old.left.now.items ≡ [] }
     requires unsaid { ahead.old.said_more ≡ false }
-    ensures printed { PrintsRun ahead.old.layout (port_asks P.sends P.receives)
-        (towards transactions.old.route) transactions.old.retries walk steps result
-        ahead.old.link.now.failures ahead.new.link.now.failures ahead.new.link.now
-        (W.contents ahead.old.out.now) (W.contents ahead.new.out.now) }
-    ensures came { FetchesAhead ahead.old.layout (port_asks P.sends P.receives) transactions.old
-        ahead.old.link.now walk steps result transactions.new ahead.new.link.now
-        (W.contents ahead.old.out.now) (W.contents ahead.new.out.now) }
+    ensures printed { PrintsRun (errand ahead.old.layout walk steps) (port_asks P.sends P.receives)
+        (failing ahead.old.link.now.failures ahead.new.link.now.failures)
+        (printing (client ahead.old.link.now transactions.old) (W.contents ahead.old.out.now))
+        result
+        (printing (client ahead.new.link.now transactions.new) (W.contents ahead.new.out.now)) }
+    ensures came { FetchesAhead (errand ahead.old.layout walk steps) (port_asks P.sends P.receives)
+        (printing (client ahead.old.link.now transactions.old) (W.contents ahead.old.out.now))
+        result
+        (printing (client ahead.new.link.now transactions.new) (W.contents ahead.new.out.now)) }
     ensures begun { transactions.new.begun ≤ transactions.old.begun + 2 * steps }
     ensures flaw { TellsFlaw (port_asks P.sends P.receives) (towards transactions.old.route)
         transactions.old.retries walk.log result ahead.new.link.now }
@@ -118,17 +126,20 @@ fn fetch<P: Port, W: Write>(
     requires well { ahead.old.is_refused ≡ false }
     requires none { ahead.old.left.now.items ≡ [] }
     requires unsaid { ahead.old.said_more ≡ false }
-    ensures printed { PrintsRun ahead.old.layout (port_asks P.sends P.receives)
-        (towards transactions.old.route) transactions.old.retries walk steps result
-        ahead.old.link.now.failures ahead.new.link.now.failures ahead.new.link.now
-        (W.contents ahead.old.out.now) (W.contents ahead.new.out.now) }
-    ensures came { FetchesAhead ahead.old.layout (port_asks P.sends P.receives) transactions.old
-        ahead.old.link.now walk steps result transactions.new ahead.new.link.now
-        (W.contents ahead.old.out.now) (W.contents ahead.new.out.now) }
+    ensures printed { PrintsRun (errand ahead.old.layout walk steps) (port_asks P.sends P.receives)
+        (failing ahead.old.link.now.failures ahead.new.link.now.failures)
+        (printing (client ahead.old.link.now transactions.old) (W.contents ahead.old.out.now))
+        result
+        (printing (client ahead.new.link.now transactions.new) (W.contents ahead.new.out.now)) }
+    ensures came { FetchesAhead (errand ahead.old.layout walk steps) (port_asks P.sends P.receives)
+        (printing (client ahead.old.link.now transactions.old) (W.contents ahead.old.out.now))
+        result
+        (printing (client ahead.new.link.now transactions.new) (W.contents ahead.new.out.now)) }
     ensures begun { transactions.new.begun ≤ transactions.old.begun + 2 * steps }
     ensures flaw { IfOk result (λ fetched. fetched.why ≡ Why.Fault FaultOf.BadReply
         → IsBadlyFetched (port_asks P.sends P.receives) (towards transactions.old.route)
-        transactions.old.retries walk.log fetched.next ahead.new.flaw ahead.new.link.now) }
+        transactions.old.retries (log_place walk.log fetched.next) ahead.new.flaw
+        ahead.new.link.now) }
     ensures same_link { ahead.new.link.ghost_name ≡ ahead.old.link.ghost_name }
     ensures same_out { ahead.new.out.ghost_name ≡ ahead.old.out.ghost_name }
 {
@@ -168,9 +179,9 @@ fn turn<P: Port, W: Write>(
     ensures ran { (ended : EndedOf) × (items : List ItemOf)
         × IfOk result
         (λ is. (is ≡ ended) × (ended ≢ Ended.Stopped → ahead.new.left.now.items ≡ items))
-        × IsRunOver (port_asks P.sends P.receives) transactions.old ahead.old.link.now walk.old 1
-        items ended walk.new transactions.new ahead.new.link.now ahead.old.said_more
-        ahead.new.said_more }
+        × IsRunOver (port_asks P.sends P.receives) (client ahead.old.link.now transactions.old)
+        walk.old (course items 1 ended walk.new) (client ahead.new.link.now transactions.new)
+        ahead.old.said_more ahead.new.said_more }
     ensures prints { PrintsLeft ahead.old.layout ahead.old.left.now.items result
         (W.contents ahead.old.out.now) (W.contents ahead.new.out.now) }
     ensures well { OnOk result (ahead.new.is_refused ≡ false) }
@@ -203,8 +214,8 @@ fn step<P: Port, W: Write>(
     reply: &mut Reply,
 ) -> Ended
     ensures ran { (items : List ItemOf) × (result ≢ Ended.Stopped → reply.new.items.items ≡ items)
-        × IsRunOver (port_asks P.sends P.receives) transactions.old
-        ahead.old.link.now walk.old 1 items result walk.new transactions.new ahead.new.link.now
+        × IsRunOver (port_asks P.sends P.receives) (client ahead.old.link.now transactions.old)
+        walk.old (course items 1 result walk.new) (client ahead.new.link.now transactions.new)
         ahead.old.said_more ahead.new.said_more }
     ensures beside { PrintsOn (pending ahead.old.layout ahead.old.is_refused
         ahead.old.left.now.items (W.contents ahead.old.out.now))

@@ -5,6 +5,7 @@ ghost use Rattle.std.specs.Io.KnownBytes.{Appends};
 ghost use Rattle.bac_query.specs.Announcements.{announced as announced_by};
 ghost use Rattle.bac_query.specs.Finding.{Finds, Seeks, Settles, Turns, console, told_of};
 ghost use Rattle.bac_query.specs.Hearing.{Hears, ReceivesBy, Shows, Takes, standing};
+ghost use Rattle.bac_query.specs.Hearing.{port_rules, searching};
 ghost use Rattle.bac_print.specs.Output.{AppendsPart};
 
 use crate::announcement::announced;
@@ -48,7 +49,7 @@ pub fn find_devices<P: Port, W: Write>(
     search: &Search,
     out: &mut W,
 ) -> Result<(), FindFault>
-    ensures { Finds P.sends P.receives P.receives_within 4096 search.now addresses.now
+    ensures { Finds (port_rules P.sends P.receives P.receives_within) 4096 search.now addresses.now
         (console port.old (W.contents out.old)) result (console port.new (W.contents out.new)) }
 {
     let datagram = datagram_of(search);
@@ -95,9 +96,9 @@ fn seek<P: Port, W: Write>(
     line: &mut Vec<u8>,
     out: &mut W,
 ) -> Result<u32, FindFault>
-    ensures { Seeks P.sends P.receives P.receives_within octets.now addresses.now 4096 port.old
-        (standing (W.contents out.old) seeking.old) result port.new
-        (standing (W.contents out.new) seeking.new) }
+    ensures { Seeks (port_rules P.sends P.receives P.receives_within) octets.now addresses.now 4096
+        (searching port.old (standing (W.contents out.old) seeking.old)) result
+        (searching port.new (standing (W.contents out.new) seeking.new)) }
 {
     let left = ask_each(octets, addresses, port, seeking, line, out)?;
     hear(None, 0, left, port, seeking, line, out)
@@ -114,9 +115,9 @@ fn ask_each<P: Port, W: Write>(
     line: &mut Vec<u8>,
     out: &mut W,
 ) -> Result<u32, FindFault>
-    ensures { Turns P.sends P.receives P.receives_within octets.now addresses.now 4096 port.old
-        (standing (W.contents out.old) seeking.old) result port.new
-        (standing (W.contents out.new) seeking.new) }
+    ensures { Turns (port_rules P.sends P.receives P.receives_within) octets.now addresses.now 4096
+        (searching port.old (standing (W.contents out.old) seeking.old)) result
+        (searching port.new (standing (W.contents out.new) seeking.new)) }
 {
     let mut left = RECEIVES;
     for address in addresses {
@@ -136,9 +137,9 @@ fn settle<P: Port, W: Write>(
     line: &mut Vec<u8>,
     out: &mut W,
 ) -> Result<u32, FindFault>
-    ensures { Settles P.receives P.receives_within limit port.old
-        (standing (W.contents out.old) seeking.old) result port.new
-        (standing (W.contents out.new) seeking.new) }
+    ensures { Settles (port_rules P.sends P.receives P.receives_within) limit
+        (searching port.old (standing (W.contents out.old) seeking.old)) result
+        (searching port.new (standing (W.contents out.new) seeking.new)) }
 {
     let left = hear(Some(0), 0, limit, port, seeking, line, out)?;
     let rest = hear(
@@ -167,9 +168,9 @@ fn hear<P: Port, W: Write>(
     line: &mut Vec<u8>,
     out: &mut W,
 ) -> Result<u32, FindFault>
-    ensures { Hears (ReceivesBy P.receives P.receives_within wait) least limit port.old
-        (standing (W.contents out.old) seeking.old) result port.new
-        (standing (W.contents out.new) seeking.new) }
+    ensures { Hears (ReceivesBy (port_rules P.sends P.receives P.receives_within) wait) least limit
+        (searching port.old (standing (W.contents out.old) seeking.old)) result
+        (searching port.new (standing (W.contents out.new) seeking.new)) }
 {
     for received in 0..limit {
         if seeking.pending.len() < least {
@@ -188,7 +189,8 @@ fn hear<P: Port, W: Write>(
 
 /// Receives, within so many milliseconds, or as long as the port waits.
 fn receive_by<P: Port>(port: &mut P, wait: Option<u32>) -> Result<Heard, SocketFault>
-    ensures { ReceivesBy P.receives P.receives_within wait port.old result port.new }
+    ensures { ReceivesBy (port_rules P.sends P.receives P.receives_within) wait port.old result
+        port.new }
 {
     match wait {
         Some(wait_ms) => port.receive_within(wait_ms),

@@ -4,6 +4,7 @@ ghost use Rattle.bac_link.specs.Datagrams.{apdu_in};
 ghost use Rattle.bac_link.specs.Path.{towards};
 ghost use Rattle.bac_link.specs.Requests.{next_invoke};
 ghost use Rattle.bac_query.specs.Reading.{ReadsOver, ReadsProperty, PrintsValues, Prints, next_way};
+ghost use Rattle.bac_query.specs.Reading.{printing};
 ghost use Rattle.bac_query.specs.Answers.{values_in};
 
 use crate::answers::values_in;
@@ -36,7 +37,7 @@ pub fn read_property<L: LogLink, W: Write>(
     // Over any link it is asked once, and as often again as the retries say; what is printed came
     // over the link.
     ensures asked { ReadsOver L.asks (next_way transactions.old) asked reals
-        link.old result link.new (W.contents out.old) (W.contents out.new) }
+        (printing link.old (W.contents out.old)) result (printing link.new (W.contents out.new)) }
 {
     let request = Request::ReadProperty(asked);
     match exchange(link, transactions, &request) {

@@ -3,6 +3,7 @@
 ghost use Rattle.std.specs.Prelude.{◌≡◌, ◌≤◌, ◌+◌, ◌*◌, length};
 ghost use Rattle.bac_wire.specs.Primitive.{Id};
 ghost use Rattle.bac_query.specs.ObjectList.{AreObjects, IsObject, octets_at};
+ghost use Rattle.bac_query.specs.Reading.{printing};
 ghost use Rattle.bac_query.specs.Tables.{AddsCell, AddsCells, AddsRow, ListsLogs, PrintsEach};
 ghost use Rattle.bac_query.specs.Tables.{PrintsListed, PrintsListedAt, PrintsLogs, PrintsObject};
 ghost use Rattle.bac_query.specs.Tables.{PrintsObjects, PrintsPlace, PrintsRow, PrintsRows};
@@ -60,8 +61,8 @@ fn add_cell<L: LogLink>(
     question: ReadProperty,
     text: &mut Vec<u8>,
 ) -> Result<(), QueryFault>
-    ensures { AddsCell L.asks question (client link.old transactions.old) text.old.items result
-        text.new.items (client link.new transactions.new) }
+    ensures { AddsCell L.asks question (printing (client link.old transactions.old) text.old.items)
+        result (printing (client link.new transactions.new) text.new.items) }
 {
     let property = question.property;
     let answer = ask(link, transactions, question);
@@ -77,8 +78,9 @@ fn add_cells<L: LogLink>(
     properties: &[u32],
     text: &mut Vec<u8>,
 ) -> Result<(), QueryFault>
-    ensures { AddsCells L.asks log properties.now (client link.old transactions.old) text.old.items
-        result text.new.items (client link.new transactions.new) }
+    ensures { AddsCells L.asks log properties.now
+        (printing (client link.old transactions.old) text.old.items) result
+        (printing (client link.new transactions.new) text.new.items) }
 {
     for property in properties {
         add_cell(link, transactions, property_of(log, *property), text)?;
@@ -93,8 +95,8 @@ fn add_row<L: LogLink>(
     log: ObjectId,
     text: &mut Vec<u8>,
 ) -> Result<(), QueryFault>
-    ensures { AddsRow L.asks log (client link.old transactions.old) text.old.items result
-        text.new.items (client link.new transactions.new) }
+    ensures { AddsRow L.asks log (printing (client link.old transactions.old) text.old.items) result
+        (printing (client link.new transactions.new) text.new.items) }
 {
     push_number(text, u64::from(log.instance()))?;
     add_cells(link, transactions, log, &COLUMNS, text)?;
@@ -110,8 +112,9 @@ fn print_row<L: LogLink, W: Write>(
     log: ObjectId,
     out: &mut W,
 ) -> Result<(), QueryFault>
-    ensures { PrintsRow L.asks log (client link.old transactions.old) result
-        (client link.new transactions.new) (W.contents out.old) (W.contents out.new) }
+    ensures { PrintsRow L.asks log
+        (printing (client link.old transactions.old) (W.contents out.old)) result
+        (printing (client link.new transactions.new) (W.contents out.new)) }
 {
     let mut line = Vec::new(alloc);
     match add_row(link, transactions, log, &mut line) {
@@ -128,8 +131,9 @@ fn print_rows<L: LogLink, W: Write>(
     logs: &[ObjectId],
     out: &mut W,
 ) -> Result<(), QueryFault>
-    ensures { PrintsRows L.asks logs.now (client link.old transactions.old) result
-        (client link.new transactions.new) (W.contents out.old) (W.contents out.new) }
+    ensures { PrintsRows L.asks logs.now
+        (printing (client link.old transactions.old) (W.contents out.old)) result
+        (printing (client link.new transactions.new) (W.contents out.new)) }
 {
     for log in logs {
         print_row(alloc, link, transactions, *log, out)?;
@@ -147,8 +151,9 @@ fn print_object<L: LogLink, W: Write>(
     object: ObjectId,
     out: &mut W,
 ) -> Result<(), QueryFault>
-    ensures { PrintsObject L.asks object (client link.old transactions.old) result
-        (client link.new transactions.new) (W.contents out.old) (W.contents out.new) }
+    ensures { PrintsObject L.asks object
+        (printing (client link.old transactions.old) (W.contents out.old)) result
+        (printing (client link.new transactions.new) (W.contents out.new)) }
 {
     if object.kind() != TREND_LOG {
         return Ok(());
@@ -164,8 +169,9 @@ fn print_place<L: LogLink, W: Write>(
     place: u32,
     out: &mut W,
 ) -> Result<(), QueryFault>
-    ensures { PrintsPlace L.asks place (client link.old transactions.old) result
-        (client link.new transactions.new) (W.contents out.old) (W.contents out.new) }
+    ensures { PrintsPlace L.asks place
+        (printing (client link.old transactions.old) (W.contents out.old)) result
+        (printing (client link.new transactions.new) (W.contents out.new)) }
 {
     let datagram = match ask(link, transactions, list_at(place)) {
         Ok(datagram) => datagram,
@@ -185,8 +191,9 @@ fn print_places<L: LogLink, W: Write>(
     count: u32,
     out: &mut W,
 ) -> Result<(), QueryFault>
-    ensures { PrintsEach (PrintsPlace L.asks) 1 count (client link.old transactions.old) result
-        (client link.new transactions.new) (W.contents out.old) (W.contents out.new) }
+    ensures { PrintsEach (PrintsPlace L.asks) 1 count
+        (printing (client link.old transactions.old) (W.contents out.old)) result
+        (printing (client link.new transactions.new) (W.contents out.new)) }
 {
     for place in 0..count {
         print_place(alloc, link, transactions, place + 1, out)?;
@@ -205,8 +212,9 @@ fn print_listed_at<L: LogLink, W: Write>(
 ) -> Result<(), QueryFault>
     requires within { 5 * place + 5 ≤ length values.now }
     requires is { (object : Id) × IsObject object (octets_at place values.now) }
-    ensures { PrintsListedAt L.asks values.now place (client link.old transactions.old) result
-        (client link.new transactions.new) (W.contents out.old) (W.contents out.new) }
+    ensures { PrintsListedAt L.asks values.now place
+        (printing (client link.old transactions.old) (W.contents out.old)) result
+        (printing (client link.new transactions.new) (W.contents out.new)) }
 {
     match object_at(values, place) {
         Some(object) => print_object(alloc, link, transactions, object, out),
@@ -225,8 +233,8 @@ fn print_among<L: LogLink, W: Write>(
 ) -> Result<(), QueryFault>
     requires { AreObjects count values.now }
     ensures { PrintsEach (PrintsListedAt L.asks values.now) 0 count
-        (client link.old transactions.old) result (client link.new transactions.new)
-        (W.contents out.old) (W.contents out.new) }
+        (printing (client link.old transactions.old) (W.contents out.old)) result
+        (printing (client link.new transactions.new) (W.contents out.new)) }
 {
     for place in 0..count {
         print_listed_at(alloc, link, transactions, values, place, out)?;
@@ -243,8 +251,9 @@ fn print_objects<L: LogLink, W: Write>(
     count: u32,
     out: &mut W,
 ) -> Result<(), QueryFault>
-    ensures { PrintsObjects L.asks count (client link.old transactions.old) result
-        (client link.new transactions.new) (W.contents out.old) (W.contents out.new) }
+    ensures { PrintsObjects L.asks count
+        (printing (client link.old transactions.old) (W.contents out.old)) result
+        (printing (client link.new transactions.new) (W.contents out.new)) }
 {
     let answer = ask(link, transactions, whole_list());
     match listed_in(&answer, count) {
@@ -260,8 +269,8 @@ fn print_listed<L: LogLink, W: Write>(
     transactions: &mut Transactions,
     out: &mut W,
 ) -> Result<(), QueryFault>
-    ensures { PrintsListed L.asks (client link.old transactions.old) result
-        (client link.new transactions.new) (W.contents out.old) (W.contents out.new) }
+    ensures { PrintsListed L.asks (printing (client link.old transactions.old) (W.contents out.old))
+        result (printing (client link.new transactions.new) (W.contents out.new)) }
 {
     let datagram = match ask(link, transactions, list_at(0)) {
         Ok(datagram) => datagram,
@@ -283,8 +292,9 @@ fn print_logs<L: LogLink, W: Write>(
     logs: &[ObjectId],
     out: &mut W,
 ) -> Result<(), QueryFault>
-    ensures { PrintsLogs L.asks logs.now (client link.old transactions.old) result
-        (client link.new transactions.new) (W.contents out.old) (W.contents out.new) }
+    ensures { PrintsLogs L.asks logs.now
+        (printing (client link.old transactions.old) (W.contents out.old)) result
+        (printing (client link.new transactions.new) (W.contents out.new)) }
 {
     if logs.is_empty() {
         return print_listed(alloc, link, transactions, out);
@@ -304,8 +314,9 @@ pub fn list_logs<L: LogLink, W: Write>(
     logs: &[ObjectId],
     out: &mut W,
 ) -> Result<(), QueryFault>
-    ensures { ListsLogs L.asks logs.now (client link.old transactions.old) result
-        (client link.new transactions.new) (W.contents out.old) (W.contents out.new) }
+    ensures { ListsLogs L.asks logs.now
+        (printing (client link.old transactions.old) (W.contents out.old)) result
+        (printing (client link.new transactions.new) (W.contents out.new)) }
 {
     print(
         b"instance\tname\tlogs\tenable\ttype\tinterval\trecords\tbuffer\ttotal\tstop\n",

@@ -2,7 +2,7 @@
 
 ghost use Rattle.bac_link.specs.Path.{towards};
 ghost use Rattle.bac_link.specs.Requests.{next_invoke, IsSendable};
-ghost use Rattle.bac_query.specs.Reading.{next_way};
+ghost use Rattle.bac_query.specs.Reading.{next_way, printing};
 ghost use Rattle.bac_query.specs.Writing.{PrintsDone, WritesOver, WritesProperty};
 
 use crate::fault::QueryFault;
@@ -24,7 +24,7 @@ pub fn write_property<L: LogLink, W: Write>(
     // Over any link it is asked once, and as often again as the retries say; what is printed came
     // over the link.
     ensures asked { WritesOver L.asks (next_way transactions.old) asked.now
-        link.old result link.new (W.contents out.old) (W.contents out.new) }
+        (printing link.old (W.contents out.old)) result (printing link.new (W.contents out.new)) }
 {
     match exchange(link, transactions, asked) {
         Ok(_) => print_done(out),

@@ -4,7 +4,7 @@ use Rattle.std.proofs.lemmas.Slice.Eq.{bytes_eq-Decides}
 use Rattle.std.specs.Str.{bytes_eq}
 use Rattle.bac_link.specs.Datagrams.{answers_to}
 use Rattle.bac_link.specs.declared.link.Lost.{Lost}
-use Rattle.bac_ports.specs.Asking.{Awaits, IsHeard, IsSent, IsTaken, fitting}
+use Rattle.bac_ports.specs.Asking.{Asks, Awaits, IsHeard, IsSent, IsTaken, fitting, to_peer}
 use Rattle.bac_ports.specs.Port.{Receiving, Sending}
 use Rattle.bac_ports.specs.declared.port.Heard.{Heard}
 use Rattle.bac_recall.specs.Laws.{AsksAreRecalledOrBelow, IsAskedBelow, IsRecalledAs}
@@ -60,7 +60,7 @@ module _ {P : Type 0} (sends : P → List ℕ → List ℕ → Sending → P →
   taken_as datagram port new result more fit is taken = subst (λ (o : Option (List ℕ)). IsTaken o port result new more) (fits datagram fit is) taken
 
   recalled : (others : ℕ) (old mid new : RecallingPort P) (result : Result (List ℕ) Lost) (sent : Sending) → IsRecalled old request peer sent mid →
-      IsSent (ReceivesRecalled receives) peer request (suc others) sent mid result new → IsRecalledAs receives peer request others old result new
+      IsSent (ReceivesRecalled receives) (to_peer peer request) (suc others) sent mid result new → IsRecalledAs receives peer request others old result new
   unfolding Awaits
   recalled others old mid new result (Err fault) (datagram, recalls, answer, is, port) rest = absurd cc
   recalled others old mid new result (Ok done) (datagram, recalls, answer, is, port) (received, next, (came, left, clear), rest) =
@@ -76,15 +76,15 @@ module _ {P : Type 0} (sends : P → List ℕ → List ℕ → Sending → P →
       )
 
   passed : (limit : ℕ) (old mid new : RecallingPort P) (result : Result (List ℕ) Lost) (sent : Sending) → IsPassedOn sends old request peer sent mid →
-      IsSent (ReceivesRecalled receives) peer request limit sent mid result new → IsAskedBelow sends receives peer request limit old result new
+      IsSent (ReceivesRecalled receives) (to_peer peer request) limit sent mid result new → IsAskedBelow (Asks sends receives (to_peer peer request) limit) peer request old result new
   passed limit old mid new result (Err fault) (none, is, left, clear) (lost, same) =
       let (port, stays) = same_on mid new clear same in (none, (Err fault, mid.port, is, (lost, port)), stays.0 ∙ left)
   passed limit old mid new result (Ok done) (none, is, left, clear) rest =
       let below = awaits_on limit mid new result clear rest in (none, (Ok done, mid.port, is, below.0), below.1.0 ∙ left)
 
   asked : (others : ℕ) (old mid new : RecallingPort P) (result : Result (List ℕ) Lost) (sent : Sending) → SendsRecalled sends old request peer sent mid →
-      IsSent (ReceivesRecalled receives) peer request (suc others) sent mid result new →
-      IsRecalledAs receives peer request others old result new ⊎ IsAskedBelow sends receives peer request (suc others) old result new
+      IsSent (ReceivesRecalled receives) (to_peer peer request) (suc others) sent mid result new →
+      IsRecalledAs receives peer request others old result new ⊎ IsAskedBelow (Asks sends receives (to_peer peer request) (suc others)) peer request old result new
   asked others old mid new result sent (inl is) rest = inl (recalled others old mid new result sent is rest)
   asked others old mid new result sent (inr is) rest = inr (passed (suc others) old mid new result sent is rest)
 

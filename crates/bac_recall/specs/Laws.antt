@@ -3,7 +3,7 @@ use Rattle.std.specs.Prelude.{◌≡◌, ℕ, suc, ◌+◌, ◌⊎◌, List, [],
 use Rattle.std.specs.List.{sum_by}
 use Rattle.bac_link.specs.Datagrams.{answers_to}
 use Rattle.bac_link.specs.declared.link.Lost.{Lost}
-use Rattle.bac_ports.specs.Asking.{Asks, Awaits}
+use Rattle.bac_ports.specs.Asking.{Asks, Awaits, to_peer}
 use Rattle.bac_ports.specs.Port.{Receiving, Sending}
 use Rattle.bac_ports.specs.declared.port.Heard.{Heard}
 use Rattle.bac_heeding.specs.Ports.{Event, Happen, Received, Sent}
@@ -20,13 +20,11 @@ IsRecalledAs receives peer request others old result new =
     × (answers_to request datagram ≡ true → (result ≡ Ok datagram) × (new.port ≡ old.port))
     × (answers_to request datagram ≡ false → Awaits receives peer request others old.port result new.port)
 
--- an ask that no conversation has an answer to: it is one over the port below, and the conversations stay
-abbrev pub IsAskedBelow : {P : Type 0} → (P → List ℕ → List ℕ → Sending → P → Type 0) →
-    (P → Receiving → P → Type 0) → List ℕ → List ℕ → ℕ →
+-- an ask that no conversation has an answer to: it is this ask over the port below, and the conversations stay
+abbrev pub IsAskedBelow : {P : Type 0} → (P → Result (List ℕ) Lost → P → Type 0) → List ℕ → List ℕ →
     RecallingPort P → Result (List ℕ) Lost → RecallingPort P → Type 0
-IsAskedBelow sends receives peer request limit old result new =
-    NoneAnswers request peer old.left × Asks sends receives peer request limit old.port result new.port
-    × (new.left ≡ old.left)
+IsAskedBelow asks peer request old result new =
+    NoneAnswers request peer old.left × asks old.port result new.port × (new.left ≡ old.left)
 
 -- each ask over a port is one of the two
 abbrev pub AsksAreRecalledOrBelow : {P : Type 0} →
@@ -35,9 +33,9 @@ abbrev pub AsksAreRecalledOrBelow : {P : Type 0} →
     (P → List ℕ → List ℕ → Sending → P → Type 0) → (P → Receiving → P → Type 0) → Type 0
 AsksAreRecalledOrBelow {P = P} sends receives sends_below receives_below =
     (peer request : List ℕ) (others : ℕ) (old new : RecallingPort P) (result : Result (List ℕ) Lost) →
-    Asks sends receives peer request (suc others) old result new →
+    Asks sends receives (to_peer peer request) (suc others) old result new →
     IsRecalledAs receives_below peer request others old result new
-    ⊎ IsAskedBelow sends_below receives_below peer request (suc others) old result new
+    ⊎ IsAskedBelow (Asks sends_below receives_below (to_peer peer request) (suc others)) peer request old result new
 
 -- ---- each outcome is taken once
 

@@ -13,11 +13,12 @@ use Rattle.bac_asked.specs.declared.fault.FileFault.{FileFault}
 use Rattle.bac_files.specs.Files.{FileOf}
 use Rattle.bac_files.specs.Parts.{Listing, PartRules}
 use Rattle.bac_files.specs.declared.disk_files.DiskFiles.{DiskFiles}
-use Rattle.bac_fetch.specs.Ahead.{AtOnce}
+use Rattle.bac_fetch.specs.Ahead.{AtOnce, reaching}
+use Rattle.bac_fetch.specs.Points.{scene}
 use Rattle.bac_heeding.specs.Notes.{nothing}
 use Rattle.bac_heeding.specs.declared.notes.Passed.{Passed}
 use Rattle.bac_keeper.proofs.EndLemmas.{tells_kept}
-use Rattle.bac_keeper.specs.Done.{EndsKeep}
+use Rattle.bac_keeper.specs.Done.{EndsKeep, on_disk}
 use Rattle.bac_offline.specs.Ends.{IsOfFile}
 use Rattle.bac_keeper.specs.Places.{FailsAt, KeepsAt}
 use Rattle.bac_offline.specs.Parted.{IsNoFolder, PrintsListed}
@@ -84,8 +85,8 @@ module _ {F : Type 0} {s : start.Ghosts F} (g : disk.Ghosts (FileOf s)) (before 
 
   useless_kept : {S P G T : Type 0} {t : start.Ghosts G} (h : disk.Ghosts (FileOf t)) (parts : DiskFiles G t) (waits : ℕ → AtOnce S T) (rules : SocketRules S P) (asked : KeepWords)
       (sockets sockets' : S) (out out' : Held) (left : DiskFiles F s) (why : FileFault)
-      → FailsAt rules waits g h (image_at s) (image_at t) asked sockets sockets' out out' before said left parts why
-      → FailsAt rules waits g h (image_at s) (image_at t) asked sockets sockets' out out' before errors left parts why
+      → FailsAt (reaching rules waits) (on_disk g (image_at s) left) (on_disk h (image_at t) parts) asked (scene sockets out) (scene sockets' out') before said why
+      → FailsAt (reaching rules waits) (on_disk g (image_at s) left) (on_disk h (image_at t) parts) asked (scene sockets out) (scene sockets' out') before errors why
   useless_kept h parts waits rules asked sockets sockets' out out' left why (inl (place, placed, (mid, fails, path, is, told))) =
       inl (place, placed, (mid, fails, path, is, tells_kept why path mid said errors told keeps))
   useless_kept h parts waits rules asked sockets sockets' out out' left why (inr (quiet, fails, told)) =
@@ -94,21 +95,21 @@ module _ {F : Type 0} {s : start.Ghosts F} (g : disk.Ghosts (FileOf s)) (before 
 -- `keep`, and its fault is told
 pub keep_ran : {S P F G T : Type 0} {s : start.Ghosts F} {t : start.Ghosts G} (g : disk.Ghosts (FileOf s)) (h : disk.Ghosts (FileOf t)) (parts : DiskFiles G t) (waits : ℕ → AtOnce S T) (rules : SocketRules S P) (passes : S → Passed) (asked : KeepWords) (sockets sockets' : S)
     (out out' before said errors : Held) (left : DiskFiles F s) (done : Result ℕ KeepFault) (status : ℕ) (stops : Bool)
-    → (stops ≡ false → IfOk done (λ n. KeepsAt rules waits g h (image_at s) (image_at t) asked sockets sockets' out out' left parts n
-    ⊎ IsOfFile (FailsAt rules waits g h (image_at s) (image_at t) asked sockets sockets' out out' before said left parts) n))
+    → (stops ≡ false → IfOk done (λ n. KeepsAt (reaching rules waits) (on_disk g (image_at s) left) (on_disk h (image_at t) parts) asked (scene sockets out) (scene sockets' out') n
+    ⊎ IsOfFile (FailsAt (reaching rules waits) (on_disk g (image_at s) left) (on_disk h (image_at t) parts) asked (scene sockets out) (scene sockets' out') before said) n))
     → (stops ≡ true → IfOk done (λ n. (StopsAt g (image_at s) asked out out' left n × (said ≡ before))
     ⊎ IsOfFile (FailsToStopAt g (image_at s) asked out out' before said left) n))
     → (stops ≡ true → OnErr done (said ≡ before))
     → (stops ≡ true → sockets' ≡ sockets)
-    → (stops ≡ false → IfErr done (λ why. EndsKeep rules waits g (image_at s) asked sockets sockets' left (Asking why)))
+    → (stops ≡ false → IfErr done (λ why. EndsKeep (reaching rules waits) (on_disk g (image_at s) left) asked sockets sockets' (Asking why)))
     → (stops ≡ true → IfErr done (λ why. EndsStop g (image_at s) asked out out' left (Asking why)))
     → Ends (passes sockets') (ending_of done) said errors status
     → RunsKeepBy g h parts waits rules passes stops asked (streams None out before sockets (tt {0})) status (streams None out' errors sockets' (tt {0})) left
 keep_ran {s = s} {t = t} g h parts waits rules passes asked sockets sockets' out out' before said errors left done status false kept stopped untold silent so still told =
-    told_so (λ n. KeepsAt rules waits g h (image_at s) (image_at t) asked sockets sockets' out out' left parts n)
-    (FailsAt rules waits g h (image_at s) (image_at t) asked sockets sockets' out out' before said left parts)
-    (FailsAt rules waits g h (image_at s) (image_at t) asked sockets sockets' out out' before errors left parts)
-    (EndsKeep rules waits g (image_at s) asked sockets sockets' left) (passes sockets') said errors done status
+    told_so (λ n. KeepsAt (reaching rules waits) (on_disk g (image_at s) left) (on_disk h (image_at t) parts) asked (scene sockets out) (scene sockets' out') n)
+    (FailsAt (reaching rules waits) (on_disk g (image_at s) left) (on_disk h (image_at t) parts) asked (scene sockets out) (scene sockets' out') before said)
+    (FailsAt (reaching rules waits) (on_disk g (image_at s) left) (on_disk h (image_at t) parts) asked (scene sockets out) (scene sockets' out') before errors)
+    (EndsKeep (reaching rules waits) (on_disk g (image_at s) left) asked sockets sockets') (passes sockets') said errors done status
     (λ keeps. useless_kept g before said errors keeps h parts waits rules asked sockets sockets' out out' left) (kept refl) (so refl) told
 keep_ran {s = s} {t = t} g h parts waits rules passes asked sockets sockets' out out' before said errors left done status true kept stopped untold silent so still told = (
   told_alone (λ n. StopsAt g (image_at s) asked out out' left n)

@@ -13,11 +13,12 @@ use Rattle.bac_check.specs.Checked.{EndsCheck, RefusesCheck}
 use Rattle.bac_files.specs.Files.{FileOf, IsDoneTo, IsUnused}
 use Rattle.bac_files.specs.Parts.{Listing, PartRules}
 use Rattle.bac_files.specs.declared.disk_files.DiskFiles.{DiskFiles}
-use Rattle.bac_fetch.specs.Ahead.{AtOnce}
+use Rattle.bac_fetch.specs.Ahead.{AtOnce, reaching}
+use Rattle.bac_fetch.specs.Points.{scene}
 use Rattle.bac_heeding.specs.Notes.{nothing}
 use Rattle.bac_heeding.specs.declared.notes.Passed.{Passed}
 use Rattle.bac_offline.specs.Archives.{KeepsItems, KeepsRows}
-use Rattle.bac_keeper.specs.Done.{EndsKeep}
+use Rattle.bac_keeper.specs.Done.{EndsKeep, on_disk}
 use Rattle.bac_offline.specs.Ends.{IsOfFile}
 use Rattle.bac_keeper.specs.Places.{FailsAt, KeepsAt}
 use Rattle.bac_offline.specs.Parted.{IsNoFolder, PrintsListed}
@@ -109,11 +110,12 @@ module _ {S C F G T : Type 0} {s : start.Ghosts F} {t : start.Ghosts G} (g : dis
   abbrev pub RunsKeepBy : {P : Type 0} → SocketRules S P → (S → Passed) → Bool → Keep → Streams S C → ℕ → Streams S C
       → DiskFiles F s → Type 0
   RunsKeepBy rules passes false asked old status new left =
-      KeepsAt rules waits g h (image_at s) (image_at t) asked old.sockets new.sockets old.output new.output left parts
-      status
-      ⊎ (IsOfFile (FailsAt rules waits g h (image_at s) (image_at t) asked old.sockets new.sockets old.output
-      new.output old.errors new.errors left parts) status
-      ⊎ HasFaultStatus (EndsKeep rules waits g (image_at s) asked old.sockets new.sockets left) status)
+      KeepsAt (reaching rules waits) (on_disk g (image_at s) left) (on_disk h (image_at t) parts) asked
+      (scene old.sockets old.output) (scene new.sockets new.output) status
+      ⊎ (IsOfFile (FailsAt (reaching rules waits) (on_disk g (image_at s) left) (on_disk h (image_at t) parts) asked
+      (scene old.sockets old.output) (scene new.sockets new.output) old.errors new.errors) status
+      ⊎ HasFaultStatus (EndsKeep (reaching rules waits) (on_disk g (image_at s) left) asked old.sockets new.sockets)
+      status)
   RunsKeepBy rules passes true asked old status new left =
       ((StopsAt g (image_at s) asked old.output new.output left status × Keeps old.errors new.errors)
       ⊎ (IsOfFile (FailsToStopAt g (image_at s) asked old.output new.output old.errors new.errors left) status

@@ -4,7 +4,7 @@ use Rattle.std.specs.Io.KnownBytes.{Keeps}
 use Rattle.sqlite_disk.specs.declared.Disk as disk
 use Rattle.sqlite_disk.specs.declared.start.Start as start
 use Rattle.bac_check.proofs.WholeLemmas.{told as file_is_told}
-use Rattle.bac_check.specs.Checked.{ChecksAll}
+use Rattle.bac_check.specs.Checked.{ChecksAll, checking}
 use Rattle.bac_check.specs.Whole.{ZeroIsWhole}
 use Rattle.bac_asked.specs.Faults.{of_unopened}
 use Rattle.bac_asked.specs.declared.fault.FileFault.TheVariants as fault
@@ -29,7 +29,7 @@ module _ {S C Q : Type 0} (folders : PartRules Q) (law : ZeroIsWhole folders) (p
   found_whole asked (inl (inl (why, lists, told), quiet)) none = absurd (file_is_told (of_unopened why) (sym told.0 ∙ none))
   found_whole asked (inl (inr (listed, mid, lists, inl (empty, same, told)), quiet)) none = absurd (file_is_told fault.NoLogs (sym told.0 ∙ none))
   found_whole asked (inl (inr (listed, mid, lists, inr (paths, last, is, checks)), quiet)) none = (
-    (listed, mid, lists, paths, last, is, law mid q paths last old.output new.output (subst (λ n. ChecksAll folders mid paths last old.output new.output n q) none checks)),
+    (listed, mid, lists, paths, last, is, law mid q paths last old.output new.output (subst (λ n. ChecksAll folders (checking mid old.output) paths last n (checking q new.output)) none checks)),
     quiet none,
   )
   found_whole asked (inr (why, so, inl is)) none = absurd (fault_is_told why (sym is ∙ none))

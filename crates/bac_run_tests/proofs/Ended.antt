@@ -12,14 +12,15 @@ use Rattle.bac_asked.specs.declared.end.Ending.TheVariants.{Walk, SaidMore, Back
 use Rattle.bac_asked.specs.declared.fault.Fault.{Fault as KeepFault}
 use Rattle.bac_asked.specs.declared.fault.Fault.TheVariants as keep
 use Rattle.bac_check.proofs.WholeLemmas.{told as file_is_told}
-use Rattle.bac_fetch.specs.Chosen.{AreFound}
+use Rattle.bac_fetch.specs.Chosen.{AreFound, findings}
 use Rattle.bac_fetch.specs.Keeps.{greatest_status, lines_of}
 use Rattle.bac_fetch.specs.Unlisted.{fault_status, unlisted_lines, unlisted_status}
 use Rattle.bac_fetch.specs.declared.unlisted.Unlisted.{Unlisted}
 use Rattle.bac_files.specs.Files.{FileOf}
 use Rattle.bac_files.specs.Parts.{PartRules}
 use Rattle.bac_files.specs.declared.disk_files.DiskFiles.{DiskFiles}
-use Rattle.bac_fetch.specs.Ahead.{AtOnce}
+use Rattle.bac_fetch.specs.Ahead.{AtOnce, reach, reaching}
+use Rattle.bac_fetch.specs.Points.{scene}
 use Rattle.bac_heeding.specs.declared.notes.Passed.{Passed}
 use Rattle.bac_link.specs.declared.exchanges.ExchangeFault.{ExchangeFault}
 use Rattle.bac_link.specs.declared.exchanges.ExchangeFault.TheVariants as exchange
@@ -39,6 +40,7 @@ use Rattle.bac_words.specs.declared.job.Keep.{Keep as KeepWords}
 use Rattle.bac_words.specs.declared.job.Kept.{Kept as KeptWords}
 use Rattle.bac_words.specs.declared.listing.ListFault.{ListFault}
 use Rattle.bac_words.specs.declared.listing.ListFault.TheVariants as list
+use Rattle.bac_keeper.specs.Done.{on_disk}
 
 -- no fault of `keep` has the status 0
 pub fault_is_told : (why : KeepFault) → exit_status (fault_of why) ≡ 0 → ⊥
@@ -106,7 +108,7 @@ module _ {S P C F G T Q : Type 0} {s : start.Ghosts F} {t : start.Ghosts G} (tra
   -- `keep` over these sockets
   kept_at : (asked : KeepWords) (told : S) → RunsKeepBy g h parts waits rules passes false asked
       (streams old.input old.output old.errors told old.clock) status new left → status ≡ 0
-      → IsAllKept rules waits g h (image_at s) (image_at t) asked told new.sockets old.output new.output left.closed parts
+      → IsAllKept (reaching rules waits) (on_disk g (image_at s) left) (on_disk h (image_at t) parts) asked (scene told old.output) (scene new.sockets new.output)
   kept_at asked told (inl (place, placed, named, (is, chosen, words, (all, unlisted, between, ask, found, (ends, many, its, lines, kept))))) none =
       let both = both_none (unlisted_status unlisted) (greatest_status ends) (sym its ∙ none) in
       let listed : unlisted ≡ [] = none_unlisted unlisted both.0 in
@@ -116,7 +118,7 @@ module _ {S P C F G T Q : Type 0} {s : start.Ghosts F} {t : start.Ghosts G} (tra
         all = all;
         ask_their_source = ask;
         between = between;
-        found = subst (λ (u : List Unlisted). AreFound rules (waits asked.at_once) chosen told all u between) listed found;
+        found = subst (λ (u : List Unlisted). AreFound (reach rules (waits asked.at_once)) chosen told (findings all u between)) listed found;
         ends = ends;
         caught_up = all_caught_up ends both.1;
         lines = subst (λ (u : List Unlisted). Appends old.output new.output (unlisted_lines u ++ lines_of all ends)) listed lines;
@@ -133,7 +135,7 @@ module _ {S P C F G T Q : Type 0} {s : start.Ghosts F} {t : start.Ghosts G} (tra
   groups_kept : (reads : Bool) (asked : KeepWords) (told : S) → asked.stop ≡ false
       → RunsGroups g h parts waits rules passes reads asked (streams old.input old.output old.errors told old.clock) files status new left → status ≡ 0
       → (which : KeepWords) × HasDevices reads asked old.input new.input which
-      × IsAllKept rules waits g h (image_at s) (image_at t) which told new.sockets old.output new.output left.closed parts
+      × IsAllKept (reaching rules waits) (on_disk g (image_at s) left) (on_disk h (image_at t) parts) which (scene told old.output) (scene new.sockets new.output)
   groups_kept false asked told still (ran, unread) none = (
     asked,
     (refl, unread),
@@ -155,7 +157,7 @@ module _ {S P C F G T Q : Type 0} {s : start.Ghosts F} {t : start.Ghosts G} (tra
   pub all_kept : (asked : KeepWords) → RunsAll g h parts waits folders p q traces rules passes tells (job.Keep asked) old files status new left
       → asked.stop ≡ false → status ≡ 0
       → (told : S) × traces old.sockets asked.trace told × (which : KeepWords) × HasDevices (reads_input asked) asked old.input new.input which
-      × IsAllKept rules waits g h (image_at s) (image_at t) which told new.sockets old.output new.output left.closed parts
+      × IsAllKept (reaching rules waits) (on_disk g (image_at s) left) (on_disk h (image_at t) parts) which (scene told old.output) (scene new.sockets new.output)
   all_kept asked (inl ((inl its, keeps, untouched), same, apart)) still none = absurd (let e = its.0 in cc)
   all_kept asked (inl ((inr its, keeps, untouched), same, apart)) still none = absurd (let e = its.0 in cc)
   all_kept asked (inr (told, on, (ran, quiet, apart, items))) still none =

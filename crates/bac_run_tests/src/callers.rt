@@ -5,7 +5,8 @@ ghost use Rattle.std.specs.Io.KnownBytes.{Keeps};
 ghost use Rattle.std.specs.String.{string_bytes};
 ghost use Rattle.sqlite_wal.specs.Files.{image_at};
 ghost use Rattle.bac_files.specs.Parts.{Listing, part_rules};
-ghost use Rattle.bac_fetch.specs.Ahead.{at_once};
+ghost use Rattle.bac_fetch.specs.Ahead.{at_once, reaching};
+ghost use Rattle.bac_fetch.specs.Points.{scene};
 ghost use Rattle.bac_ports.specs.Sockets.{socket_rules};
 ghost use Rattle.bac_tools.specs.Run.{AskFor};
 ghost use Rattle.bac_words.specs.declared.job.Job.TheVariants as job;
@@ -16,6 +17,7 @@ ghost use Rattle.bac_words.specs.Jobs.{reads_input};
 ghost use Rattle.bac_run_tests.specs.Done.{HasDevices, IsAllKept};
 ghost use Rattle.bac_run_tests.specs.Printed.{HasLogOf, IsFolderPrinted};
 ghost use Rattle.bac_run_tests.specs.Whole.{IsFoundWhole};
+ghost use Rattle.bac_keeper.specs.Done.{on_disk};
 
 use bac_check::zero_is_whole;
 use bac_desks::Clock as WaitClock;
@@ -62,10 +64,11 @@ where
         → (told : S) × S.traces sockets.old asked.trace told
         × (which : KeepWords) × HasDevices (reads_input asked) asked
         (I.remaining input.old) (I.remaining input.new) which
-        × IsAllKept (socket_rules S.opens S.closes S.Socket.sends S.Socket.receives
-        S.Socket.receives_within) (at_once S.holds W.reads waits) ⟦<FileOf<F> as Disk>⟧
-        ⟦<FileOf<G> as Disk>⟧ (image_at F.Start) (image_at G.Start) which told
-        sockets.new (O.contents output.old) (O.contents output.new) files.new.closed parts.new }
+        × IsAllKept (reaching (socket_rules S.opens S.closes S.Socket.sends S.Socket.receives
+        S.Socket.receives_within) (at_once S.holds W.reads waits))
+        (on_disk ⟦<FileOf<F> as Disk>⟧ (image_at F.Start) files.new)
+        (on_disk ⟦<FileOf<G> as Disk>⟧ (image_at G.Start) parts.new) which
+        (scene told (O.contents output.old)) (scene sockets.new (O.contents output.new)) }
 {
     run(
         sockets, files, parts, folders, alloc, waits, words, false, input, output, errors, clock,

@@ -64,18 +64,20 @@ Sends sends from (Some reply) port result new =
     (sent : Sending) × sends port reply.datagram (receiver_of reply.to from) sent new × (result ≡ sent_of sent)
 
 -- the device has handled the datagram, or there is none that it could handle
-abbrev pub Handles : {P : Type 0} → (P → List ℕ → List ℕ → Sending → P → Type 0) → List ℕ → Option (List ℕ) → P → State
-    → Result Bool SocketFault → P → State → Type 0
-Handles sends from None port device result new after = (result ≡ Ok false) × (new ≡ port) × (after ≡ device)
-Handles sends from (Some datagram) port device result new after =
-    Sends sends from (answer device datagram).0 port result new × (after ≡ (answer device datagram).1)
+abbrev pub Handles : {P C : Type 0} → (P → List ℕ → List ℕ → Sending → P → Type 0) → List ℕ → Option (List ℕ)
+    → Server P C → Result Bool SocketFault → Server P C → Type 0
+Handles sends from None old result new =
+    (result ≡ Ok false) × (new.port ≡ old.port) × (new.device ≡ old.device)
+Handles sends from (Some datagram) old result new =
+    Sends sends from (answer old.device datagram).0 old.port result new.port
+    × (new.device ≡ (answer old.device datagram).1)
 
 -- the clock first, then the datagram
 abbrev pub Answers : {P C : Type 0} → (P → List ℕ → List ℕ → Sending → P → Type 0) → (C → Option CivilTime → C → Type 0)
     → Heard → Server P C → Result Bool SocketFault → Server P C → Type 0
 Answers sends tells heard old result new =
     (now : Option CivilTime) × tells old.clock now new.clock
-    × Handles sends heard.from heard.datagram old.port (ticked_at old.device now) result new.port new.device
+    × Handles sends heard.from heard.datagram (server old.port (ticked_at old.device now) new.clock) result new
 
 -- ---- one receive
 

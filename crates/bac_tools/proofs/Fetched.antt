@@ -6,13 +6,14 @@ use Rattle.bac_link.specs.declared.item.Item.{Item}
 use Rattle.bac_ports.specs.Sockets.{SocketRules, socket_asks}
 use Rattle.bac_ports.specs.declared.udp_link.UdpLink.{UdpLink}
 use Rattle.bac_print.specs.Output.{Held}
-use Rattle.bac_query.specs.Fetching.{EndsAs, Fetching, IsFetched, PrintsItems, TellsRun}
-use Rattle.bac_query.specs.Flaws.{TellsFlawOf}
+use Rattle.bac_query.specs.Ahead.{errand}
+use Rattle.bac_query.specs.Fetching.{EndsAs, Fetching, IsFetched, PrintsItems, TellsRun, course, failing}
+use Rattle.bac_query.specs.Flaws.{TellsFlawOf, log_place}
 use Rattle.bac_query.specs.More.{if_caught_up}
 use Rattle.bac_query.specs.declared.layout.Layout.{Layout}
 use Rattle.bac_query.specs.declared.layout.Layout.TheVariants.{Lines, Csv}
 use Rattle.bac_query.specs.Layouts.{BeginsWith}
-use Rattle.bac_query.specs.Reading.{Answer}
+use Rattle.bac_query.specs.Reading.{Answer, printing}
 use Rattle.bac_query.specs.declared.fault.QueryFault.{QueryFault}
 use Rattle.bac_query.specs.declared.fault.QueryFault.TheVariants.{Exchange, Write, Memory}
 use Rattle.bac_tools.specs.Asking.{FetchesRun, SaysMore}
@@ -30,8 +31,8 @@ use Rattle.bac_words.specs.declared.job.Asked.{Asked}
 
 -- what is printed, and how the run ended, in one
 tells : (layout : Layout) (items : List Item) (steps n : ℕ) (ended : Ended) (after : WalkPlace) (fetching : Fetching) (old new : Held) →
-    PrintsItems layout items fetching old new → EndsAs layout items steps n ended after fetching old new →
-    TellsRun layout (λ cause. Unit {0}) items steps n ended after fetching old new
+    PrintsItems layout items fetching old new → EndsAs layout steps (course items n ended after) fetching old new →
+    TellsRun layout (λ cause. Unit {0}) steps (course items n ended after) fetching old new
 tells layout items steps n ended after (Ok fetched) old new prints ends = (ends, tt, prints)
 tells layout items steps n ended after (Err Write) old new prints (few, inl part) = inl (few, tt, part)
 tells layout items steps n ended after (Err Write) old new prints (few, inr (why, next, end, part)) = inr (why, next, end, tt, part)
@@ -39,13 +40,13 @@ tells layout items steps n ended after (Err Memory) old new prints (why, next, e
 tells layout items steps n ended after (Err (Exchange fault)) old new prints ends = absurd ends
 
 pub run_of : {S P : Type 0} (rules : SocketRules S P) (layout : Layout) (asked : Asked) (walk : WalkPlace) (steps retries failed fails : ℕ)
-    (was : ℕ → List Moment → History → Type 0) (fetching : Fetching) (left : UdpLink P) (old new : Held) (items : List Item) →
+    (was : ℕ → List Moment → History → Type 0) (fetching : Fetching) (link left : UdpLink P) (old new : Held) (items : List Item) →
     PrintsItems layout items fetching old new →
-    ((n : ℕ) × (ended : Ended) × (after : WalkPlace) × EndsAs layout items steps n ended after fetching old new
-    × IsFetched was retries failed fails walk after n ended items
+    ((n : ℕ) × (ended : Ended) × (after : WalkPlace) × EndsAs layout steps (course items n ended after) fetching old new
+    × IsFetched was retries (failing failed fails) walk (course items n ended after)
     × Told (socket_asks rules) (towards asked.route) asked.retries ended after left) →
-    FetchesRun rules layout asked walk steps fetching left old new
-run_of rules layout asked walk steps retries failed fails was fetching left old new items prints (n, ended, after, ends, fetched, told) =
+    FetchesRun rules asked (errand layout walk steps) (printing link old) fetching (printing left new)
+run_of rules layout asked walk steps retries failed fails was fetching link left old new items prints (n, ended, after, ends, fetched, told) =
     (items, n, ended, after, tells layout items steps n ended after fetching old new prints ends, fetched.0.0, fetched.1, fetched.2, told)
 
 -- ---- what is said beside the end line
@@ -60,7 +61,7 @@ after_any (Err fault) old new same = same
 
 -- before a fault nothing is said, since a walk that is caught up ends with a status
 pub quiet_end : {S : Type 0} (asks : Asking S) (path : Path) (retries : ℕ) (log : Id) (next : ℕ) (left : S) (address : List ℕ) (cause : Why) (flaw : Option ReplyFlaw)
-    (more said : Bool) (old new : Held) → TellsFlawOf asks path retries log next flaw left cause → more ≡ if_caught_up cause said → SaysMore more old new →
+    (more said : Bool) (old new : Held) → TellsFlawOf asks path retries (log_place log next) flaw left cause → more ≡ if_caught_up cause said → SaysMore more old new →
     IfErr (of_why address cause flaw) (λ fault. new ≡ old)
 quiet_end asks path retries log next left address why.CaughtUp flaw more said old new tells is says =
     let P : Option ReplyFlaw → Type 0 = λ f. IfErr (of_why address why.CaughtUp f) (λ fault. new ≡ old) in

@@ -11,7 +11,7 @@ use Rattle.bac_ports.specs.Sockets.{SocketRules}
 use Rattle.bac_ports.specs.declared.port.OpenFault.{OpenFault}
 use Rattle.bac_tools.specs.Ending.{Ending}
 use Rattle.bac_script.specs.Reason.{AreNumbers}
-use Rattle.bac_tools.specs.Serving.{IsServed, IsUnbuilt}
+use Rattle.bac_tools.specs.Serving.{IsServed, IsUnbuilt, service}
 use Rattle.bac_tools.specs.Streams.{Streams}
 use Rattle.bac_tools.specs.declared.fault.Fault.{Fault}
 use Rattle.bac_tools.specs.declared.fault.Fault.TheVariants.{Memory, Unopened}
@@ -41,7 +41,7 @@ pub unserved : {S P C : Type 0} (rules : SocketRules S P) (tells : C → Option 
     → new.errors ≡ old.errors → new.clock ≡ old.clock
     → ((fault ≡ Memory) × (new.sockets ≡ old.sockets))
     ⊎ ((why : OpenFault) × (fault ≡ Unopened why) × rules.opens old.sockets address wait (Err why) new.sockets)
-    → IsServed rules tells address wait count device old result new
+    → IsServed rules tells (service device address wait count) old result new
 unserved rules tells address wait count device old new result fault said errors clock (inl (p, sockets)) =
     inl (said ∙ ap Err p, ((errors, clock), sockets))
 unserved rules tells address wait count device old new result fault said errors clock (inr (why, p, opens)) =

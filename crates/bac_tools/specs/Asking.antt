@@ -8,11 +8,11 @@ use Rattle.bac_link.specs.declared.transactions.Transactions.{Transactions}
 use Rattle.bac_ports.specs.Sockets.{SocketRules, link_over, own_address, socket_asks}
 use Rattle.bac_ports.specs.declared.udp_link.UdpLink.{UdpLink}
 use Rattle.bac_print.specs.Output.{AppendsPart, Held}
-use Rattle.bac_query.specs.Ahead.{FetchesAhead}
-use Rattle.bac_query.specs.Fetching.{Fetching, TellsRun}
+use Rattle.bac_query.specs.Ahead.{Errand, FetchesAhead}
+use Rattle.bac_query.specs.Fetching.{Fetching, TellsRun, course}
 use Rattle.bac_query.specs.Flaws.{TellsFlaw}
 use Rattle.bac_query.specs.Layouts.{BeginsWith}
-use Rattle.bac_query.specs.Reading.{Answer, ReadsOver, next_way}
+use Rattle.bac_query.specs.Reading.{Answer, Printing, ReadsOver, next_way, printing}
 use Rattle.bac_query.specs.Tables.{ListsLogs, client}
 use Rattle.bac_query.specs.Writing.{WritesOver}
 use Rattle.bac_query.specs.declared.fault.QueryFault.{QueryFault}
@@ -21,7 +21,7 @@ use Rattle.bac_query.specs.declared.reals.Reals.{Reals}
 use Rattle.bac_tools.specs.Ending.{Ending}
 use Rattle.bac_tools.specs.Faults.{of_query}
 use Rattle.bac_tools.specs.LogEnds.{ended_as, of_why}
-use Rattle.bac_tools.specs.Sockets.{Opens, Outside, transactions_with}
+use Rattle.bac_tools.specs.Sockets.{Opens, Outlets, Outside, binding, outside, transactions_with}
 use Rattle.bac_tools.specs.Texts.{more_line}
 use Rattle.bac_walk.specs.Collects.{Goes}
 use Rattle.bac_walk.specs.Place.{WalkPlace}
@@ -33,19 +33,19 @@ use Rattle.bac_words.specs.declared.job.Asked.{Asked}
 
 -- ---- any of the four
 
--- What is done over a link: the link before it, what it answers, the link after it, and what the output held before and
--- holds now.
+-- What is done over a link: the link before it and what the output held, what it answers, and the link after it and
+-- what the output holds now.
 abbrev pub OverLink : Type 0 → Type 0 → Type 1
-OverLink P A = UdpLink P → A → UdpLink P → Held → Held → Type 0
+OverLink P A = Printing (UdpLink P) Held → A → Printing (UdpLink P) Held → Type 0
 
 -- A socket is opened as the words say, this is done over a link to the device that they name, its answer is the end,
 -- and the socket is closed as the link left it.
 abbrev pub AsksDevice : {S P A : Type 0} → SocketRules S P → Asked → OverLink P A → (A → Ending) →
     Outside S → Ending → Outside S → Type 0
 AsksDevice {P = P} {A = A} rules asked does ends old result new =
-    Opens rules (own_address asked.local) asked.timeout old result new
+    Opens rules (binding (own_address asked.local) asked.timeout) old result new
     (λ port last. (answer : A) × (left : UdpLink P)
-    × does (link_over asked.address port) answer left old.output new.output × (last ≡ left.port)
+    × does (printing (link_over asked.address port) old.output) answer (printing left new.output) × (last ≡ left.port)
     × (result ≡ ends answer))
 
 -- ---- bac rp and wp
@@ -75,8 +75,10 @@ Writes rules asked question old result new =
 abbrev pub Lists : {S P : Type 0} → SocketRules S P → Asked → List Id → Outside S → Ending → Outside S → Type 0
 Lists rules asked logs old result new =
     AsksDevice rules asked
-    (λ link answer left had has. (last : Transactions)
-    × ListsLogs (socket_asks rules) logs (client link (transactions_with asked)) answer (client left last) had has)
+    (λ before answer after. (last : Transactions)
+    × ListsLogs (socket_asks rules) logs
+    (printing (client before.asker (transactions_with asked)) before.printed) answer
+    (printing (client after.asker last) after.printed))
     (of_answer asked.address) old result new
 
 -- ---- bac log
@@ -98,42 +100,43 @@ SaysOf (Err fault) old new = new ≡ old
 
 -- The items cover the numbers from the walk's on up to the next one. Each step brought at most 100 records and one gap,
 -- and a record at least if the run ended since there were so many; the last exchange told why it ended.
-abbrev pub FetchesRun : {S P : Type 0} → SocketRules S P →
-    Layout → Asked → WalkPlace → ℕ → Fetching → UdpLink P → Held → Held → Type 0
-FetchesRun rules layout asked walk steps fetching left old new =
+abbrev pub FetchesRun : {S P : Type 0} → SocketRules S P → Asked → Errand → OverLink P Fetching
+FetchesRun rules asked wanted old fetching new =
     (items : List Item) × (n : ℕ) × (ended : Ended) × (after : WalkPlace)
-    × TellsRun layout (λ cause. Unit {0}) items steps n ended after fetching old new
-    × ((s : ℕ) → Goes walk.fresh walk.next s items after.fresh after.next)
+    × TellsRun wanted.layout (λ cause. Unit {0}) wanted.steps (course items n ended after) fetching
+    old.printed new.printed
+    × ((s : ℕ) → Goes wanted.walk.fresh wanted.walk.next s items after.fresh after.next)
     × (length items ≤ 101 * n) × (ended ≡ StepLimit → n ≤ length items)
-    × Told (socket_asks rules) (towards asked.route) asked.retries ended after left
+    × Told (socket_asks rules) (towards asked.route) asked.retries ended after new.asker
 
 -- A log is fetched over a link: replies came, one after the other, each to the next transaction of the client, which
 -- has begun none before, and begins two a step at most; what is printed is the text of the items that they brought, and
 -- the end of their run; and if they say what one log holds, those are what it held. Of a bad reply, and of nothing
 -- else, it is told what is wrong with it.
-abbrev pub FetchesOn : {S P : Type 0} → SocketRules S P → Layout → Asked → WalkPlace → ℕ →
-    UdpLink P → Fetching → UdpLink P → Held → Held → Type 0
-FetchesOn rules layout asked walk steps link fetching left had has =
+abbrev pub FetchesOn : {S P : Type 0} → SocketRules S P → Asked → Errand → OverLink P Fetching
+FetchesOn rules asked wanted old fetching new =
     ((last : Transactions)
-    × FetchesAhead layout (socket_asks rules) (transactions_with asked) link walk steps fetching last left had has
-    × (last.begun ≤ 2 * steps))
-    × FetchesRun rules layout asked walk steps fetching left had has
-    × TellsFlaw (socket_asks rules) (towards asked.route) asked.retries walk.log fetching left
+    × FetchesAhead wanted (socket_asks rules)
+    (printing (client old.asker (transactions_with asked)) old.printed) fetching
+    (printing (client new.asker last) new.printed)
+    × (last.begun ≤ 2 * wanted.steps))
+    × FetchesRun rules asked wanted old fetching new
+    × TellsFlaw (socket_asks rules) (towards asked.route) asked.retries wanted.walk.log fetching new.asker
 
 -- what stands before the items is printed, and then they are fetched; or it can't be, and nothing is asked
-abbrev pub FetchesOver : {S P : Type 0} → SocketRules S P → Layout → Asked → WalkPlace → ℕ →
-    UdpLink P → Fetching → UdpLink P → Held → Held → Type 0
-FetchesOver rules layout asked walk steps link fetching left had has =
-    ((fault : QueryFault) × BeginsWith layout (Err fault) had has × (fetching ≡ Err fault) × (left ≡ link))
-    ⊎ ((mid : Held) × BeginsWith layout (Ok tt) had mid
-    × FetchesOn rules layout asked walk steps link fetching left mid has)
+abbrev pub FetchesOver : {S P : Type 0} → SocketRules S P → Asked → Errand → OverLink P Fetching
+FetchesOver rules asked wanted old fetching new =
+    ((fault : QueryFault) × BeginsWith wanted.layout (Err fault) old.printed new.printed
+    × (fetching ≡ Err fault) × (new.asker ≡ old.asker))
+    ⊎ ((mid : Held) × BeginsWith wanted.layout (Ok tt) old.printed mid
+    × FetchesOn rules asked wanted (printing old.asker mid) fetching new)
 
 -- A log is fetched; and of a walk that is caught up it is told, on the errors, that the last reply with records said
 -- that more is there.
-abbrev pub Fetches : {S P : Type 0} → SocketRules S P → Layout → Asked → WalkPlace → ℕ →
-    Outside S → Ending → Outside S → Held → Held → Type 0
-Fetches rules layout asked walk steps old result new errors told =
+abbrev pub Fetches : {S P : Type 0} → SocketRules S P → Asked → Errand → Outlets S → Ending → Outlets S → Type 0
+Fetches rules asked wanted old result new =
     AsksDevice rules asked
-    (λ link fetching left had has.
-    FetchesOver rules layout asked walk steps link fetching left had has × SaysOf fetching errors told)
-    (of_fetching layout asked.address) old result new
+    (λ before fetching after.
+    FetchesOver rules asked wanted before fetching after × SaysOf fetching old.errors new.errors)
+    (of_fetching wanted.layout asked.address)
+    (outside old.sockets old.output) result (outside new.sockets new.output)

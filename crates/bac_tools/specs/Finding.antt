@@ -3,14 +3,14 @@ use Rattle.std.specs.Prelude.{◌≡◌, ◌<◌, ◌≤◌, ℕ, List, length, 
 use Rattle.std.specs.declared.alloc.Global.{Global}
 use Rattle.std.specs.Io.KnownBytes.{Consumes, IsAtEnd}
 use Rattle.std.specs.Option.{unwrap_or}
-use Rattle.bac_query.specs.Finding.{Finds as FindsDevices, console}
-use Rattle.bac_query.specs.Hearing.{Found}
+use Rattle.bac_query.specs.Finding.{Console, Finds as FindsDevices, console}
+use Rattle.bac_query.specs.Hearing.{Found, port_rules}
 use Rattle.bac_query.specs.declared.search.Search.{Search}
 use Rattle.bac_query.specs.Reading.{Held}
 use Rattle.bac_ports.specs.Sockets.{SocketRules, own_address}
 use Rattle.bac_tools.specs.Ending.{Ending}
 use Rattle.bac_tools.specs.Faults.{of_find}
-use Rattle.bac_tools.specs.Sockets.{Opens, Outside}
+use Rattle.bac_tools.specs.Sockets.{Opens, Outside, Pipes, binding, outside}
 use Rattle.bac_tools.specs.declared.fault.Fault.TheVariants.{List as ListOf}
 use Rattle.bac_words.specs.Listing.{Lists, addresses_of}
 use Rattle.bac_words.specs.declared.job.Discovery.{Discovery}
@@ -36,19 +36,29 @@ of_found asked (Err fault) = Err (of_find asked fault)
 -- Over this socket, which that leaves so, the request goes to each address by turns, and lines are printed of at most
 -- 4096 datagrams that come.
 abbrev pub SearchesOver : {S P : Type 0} → SocketRules S P →
-    Search → List (List ℕ) → P → P → Held → Ending → Held → Type 0
-SearchesOver rules search addresses port last old result new =
+    Search → List (List ℕ) → Console P → Ending → Console P → Type 0
+SearchesOver rules search addresses old result new =
     (found : Found)
-    × FindsDevices rules.sends rules.receives rules.receives_within 4096 search addresses
-    (console port old) found (console last new)
+    × FindsDevices (port_rules rules.sends rules.receives rules.receives_within) 4096 search addresses old found new
     × (result ≡ of_found (length addresses) found)
 
--- a socket is opened as the words say, over it devices are found, and it is closed
-abbrev pub Searches : {S P : Type 0} → SocketRules S P →
-    Search → List (List ℕ) → Option (List ℕ) → ℕ → Outside S → Ending → Outside S → Type 0
-Searches rules search addresses local timeout old result new =
-    Opens rules (own_address local) timeout old result new
-    (λ port last. SearchesOver rules search addresses port last old.output result new.output)
+-- what the words ask for: these devices, from this address of ours if they name one, and the socket's receives wait so
+-- many milliseconds
+pub record Inquiry : Type 0 where
+  pub search : Search
+  pub local : Option (List ℕ)
+  pub timeout : ℕ
+
+-- the three together
+abbrev pub inquiry : Search → Option (List ℕ) → ℕ → Inquiry
+inquiry search local timeout = record { search = search; local = local; timeout = timeout }
+
+-- a socket is opened as the words say, over it devices are found at these addresses, and it is closed
+abbrev pub Searches : {S P : Type 0} → SocketRules S P → Inquiry → List (List ℕ) → Outside S → Ending → Outside S
+    → Type 0
+Searches rules wanted addresses old result new =
+    Opens rules (binding (own_address wanted.local) wanted.timeout) old result new
+    (λ port last. SearchesOver rules wanted.search addresses (console port old.output) result (console last new.output))
 
 -- ---- stations that standard input lists
 
@@ -68,20 +78,19 @@ IsListWithin lists limit input left list =
     (read : List ℕ) × Consumes input left read × IsListIn lists limit read left list
 
 -- over one socket these are asked; without a list nothing is done
-abbrev pub SearchesListed : {S P : Type 0} → SocketRules S P → Search → Result (List (List ℕ)) ListFault →
-    Option (List ℕ) → ℕ → Outside S → Ending → Outside S → Type 0
-SearchesListed rules search (Err fault) local timeout old result new = (result ≡ Err (ListOf fault)) × (new ≡ old)
-SearchesListed rules search (Ok addresses) local timeout old result new =
-    Searches rules search addresses local timeout old result new
+abbrev pub SearchesListed : {S P : Type 0} → SocketRules S P → Inquiry → Result (List (List ℕ)) ListFault →
+    Outside S → Ending → Outside S → Type 0
+SearchesListed rules wanted (Err fault) old result new = (result ≡ Err (ListOf fault)) × (new ≡ old)
+SearchesListed rules wanted (Ok addresses) old result new = Searches rules wanted addresses old result new
 
 -- the stations of the words are asked, or those of the input, which is read to its end first
-abbrev pub Finds : {S P : Type 0} → SocketRules S P → Search → Stations → Option (List ℕ) → ℕ →
-    Held → Held → Outside S → Ending → Outside S → Type 0
-Finds rules search (Listed addresses) local timeout input left old result new =
-    (left ≡ input) × Searches rules search addresses local timeout old result new
-Finds rules search Input local timeout input left old result new =
-    (list : Result (List (List ℕ)) ListFault) × IsListWithin addresses_of 1048576 input left list
-    × SearchesListed rules search list local timeout old result new
+abbrev pub Finds : {S P : Type 0} → SocketRules S P → Inquiry → Stations → Pipes S → Ending → Pipes S → Type 0
+Finds rules wanted (Listed addresses) old result new =
+    (new.input ≡ old.input)
+    × Searches rules wanted addresses (outside old.sockets old.output) result (outside new.sockets new.output)
+Finds rules wanted Input old result new =
+    (list : Result (List (List ℕ)) ListFault) × IsListWithin addresses_of 1048576 old.input new.input list
+    × SearchesListed rules wanted list (outside old.sockets old.output) result (outside new.sockets new.output)
 
 -- ---- what only private calls cite
 

@@ -14,19 +14,21 @@ use Rattle.bac_heeding.specs.declared.notes.Passed.{Passed}
 use Rattle.bac_link.specs.declared.request.Request.TheVariants as request
 use Rattle.bac_ports.specs.Sockets.{SocketRules}
 use Rattle.bac_print.specs.Output.{AppendsPart, Held}
+use Rattle.bac_query.specs.Ahead.{errand}
 use Rattle.bac_query.specs.declared.layout.Layout.{Layout}
 use Rattle.bac_query.specs.declared.layout.Layout.TheVariants.{Lines, Csv}
 use Rattle.bac_query.specs.declared.reals.Reals.{Reals}
 use Rattle.bac_query.specs.declared.reals.Reals.TheVariants.{Octets, Numbers}
 use Rattle.bac_tools.specs.Asking.{Fetches, Lists, Reads, Writes}
 use Rattle.bac_tools.specs.Ending.{Ending}
-use Rattle.bac_tools.specs.Finding.{Finds, search_of}
+use Rattle.bac_tools.specs.Finding.{Finds, inquiry, search_of}
 use Rattle.bac_tools.specs.Given.{value_of}
 use Rattle.bac_tools.specs.Playing.{Plays}
 use Rattle.bac_tools.specs.Serving.{Serves}
-use Rattle.bac_tools.specs.Sockets.{Outside}
+use Rattle.bac_tools.specs.Sockets.{Outlets, Outside}
 use Rattle.bac_tools.specs.Status.{exit_status}
-use Rattle.bac_tools.specs.Streams.{Streams, IsIdle, IsQuiet, IsUntouched, outside_of, with_errors}
+use Rattle.bac_tools.specs.Streams.{Streams, IsIdle, IsQuiet, IsUntouched, outlets_of, outside_of, pipes_of}
+use Rattle.bac_tools.specs.Streams.{with_errors}
 use Rattle.bac_tools.specs.Texts.{told_after, told_text}
 use Rattle.bac_tools.specs.declared.fault.Fault.{Fault}
 use Rattle.bac_tools.specs.declared.fault.Fault.TheVariants.{BadValue, LongNumber, OtherTool, Memory, Write}
@@ -126,13 +128,12 @@ WritesAsSaid rules said old result new =
     × Writes rules said.asked (request.WriteProperty w) old result new)
 
 -- bac log; of a walk that there can't be nothing is asked
-abbrev pub FetchesAsSaid : {S P : Type 0} → SocketRules S P → LogReading → Outside S → Ending → Outside S →
-    Held → Held → Type 0
-FetchesAsSaid rules said old result new errors told =
+abbrev pub FetchesAsSaid : {S P : Type 0} → SocketRules S P → LogReading → Outlets S → Ending → Outlets S → Type 0
+FetchesAsSaid rules said old result new =
     ((fault : Fault) × (IsNoWalk said.instance said.from said.count fault × (result ≡ Err fault))
     × Keeps old.output new.output × (new.sockets ≡ old.sockets))
-    ⊎ Fetches rules (layout_of said.csv) said.asked (walk_from said.instance said.from said.count) said.steps
-    old result new errors told
+    ⊎ Fetches rules said.asked
+    (errand (layout_of said.csv) (walk_from said.instance said.from said.count) said.steps) old result new
 
 -- bac logs; of logs that there can't be nothing is asked
 abbrev pub ListsAsSaid : {S P : Type 0} → SocketRules S P → LogListing → Outside S → Ending → Outside S → Type 0
@@ -163,15 +164,15 @@ Works rules tells (job.Rp said) old result new =
 Works rules tells (job.Wp said) old result new =
     WritesAsSaid rules said (outside_of old) result (outside_of new) × IsQuiet old new
 Works rules tells (job.Log said) old result new =
-    FetchesAsSaid rules said (outside_of old) result (outside_of new) old.errors new.errors
+    FetchesAsSaid rules said (outlets_of old) result (outlets_of new)
     × IsQuietAtFault result old new
 Works rules tells (job.Logs said) old result new =
     ListsAsSaid rules said (outside_of old) result (outside_of new) × IsQuiet old new
 Works rules tells (job.Serve said) old result new =
     Serves rules tells said.address said.count old result new × Keeps old.output new.output
 Works rules tells (job.Wi said) old result new =
-    Finds rules (search_of said) said.stations said.local said.timeout old.input new.input
-    (outside_of old) result (outside_of new)
+    Finds rules (inquiry (search_of said) said.local said.timeout) said.stations
+    (pipes_of old) result (pipes_of new)
     × IsQuiet old new
 Works rules tells (job.Keep asked) old result new = IsElsewhere old result new
 Works rules tells (job.Kept asked) old result new = IsElsewhere old result new

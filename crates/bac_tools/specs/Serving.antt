@@ -19,7 +19,7 @@ use Rattle.bac_script.specs.declared.replay.fault.UnfitLine.{UnfitLine}
 use Rattle.bac_serve.specs.Serving.{Done, Serves as ServesDevice, server}
 use Rattle.bac_serve.specs.Waiting.{has_interval}
 use Rattle.bac_tools.specs.Ending.{Ending}
-use Rattle.bac_tools.specs.Sockets.{IsDoneOver}
+use Rattle.bac_tools.specs.Sockets.{IsDoneOver, binding}
 use Rattle.bac_tools.specs.Streams.{Streams, IsIdle, IsQuiet}
 use Rattle.bac_tools.specs.Texts.{serving_line}
 use Rattle.bac_tools.specs.declared.fault.Fault.{Fault}
@@ -56,23 +56,46 @@ abbrev pub of_served : Done → Ending
 of_served (Ok done) = Ok 0
 of_served (Err fault) = Err Socket
 
+-- what is served: a device, at this address, for so many datagrams, each of which is waited for so many milliseconds at
+-- a time
+pub record Service : Type 0 where
+  pub device : State
+  pub address : List ℕ
+  pub wait : ℕ
+  pub count : ℕ
+
+-- the four together
+abbrev pub service : State → List ℕ → ℕ → ℕ → Service
+service device address wait count = record { device = device; address = address; wait = wait; count = count }
+
+-- a socket over which a device is served, the clock, and what the errors hold
+pub record ServedPort (P C : Type 0) : Type 0 where
+  pub port : P
+  pub clock : C
+  pub errors : Held
+
+-- the three together
+abbrev pub served_port : {P C : Type 0} → P → C → Held → ServedPort P C
+served_port port clock errors = record { port = port; clock = clock; errors = errors }
+
 -- The device is served for so many datagrams over this socket, which that leaves so, and a line on the errors says so.
-abbrev pub IsServedOver : {S P C : Type 0} → SocketRules S P → (C → Option CivilTime → C → Type 0) →
-    List ℕ → ℕ → State → P → P → Streams S C → Ending → Streams S C → Type 0
-IsServedOver rules tells address count device port last old result new =
-    (served : Done) × (after : State) × AppendsPart old.errors new.errors (serving_line address)
-    × ServesDevice rules.sends rules.receives tells count
-    (server port device old.clock) served (server last after new.clock)
+abbrev pub IsServedOver : {S P C : Type 0} → SocketRules S P → (C → Option CivilTime → C → Type 0) → Service →
+    ServedPort P C → Ending → ServedPort P C → Type 0
+IsServedOver rules tells wanted old result new =
+    (served : Done) × (after : State) × AppendsPart old.errors new.errors (serving_line wanted.address)
+    × ServesDevice rules.sends rules.receives tells wanted.count
+    (server old.port wanted.device old.clock) served (server new.port after new.clock)
     × (result ≡ of_served served)
 
 -- One socket is opened with this address and wait, and closed at the end. Without memory for the line that says so,
 -- none is.
-abbrev pub IsServed : {S P C : Type 0} → SocketRules S P → (C → Option CivilTime → C → Type 0) →
-    List ℕ → ℕ → ℕ → State → Streams S C → Ending → Streams S C → Type 0
-IsServed rules tells address wait count device old result new =
+abbrev pub IsServed : {S P C : Type 0} → SocketRules S P → (C → Option CivilTime → C → Type 0) → Service →
+    Streams S C → Ending → Streams S C → Type 0
+IsServed rules tells wanted old result new =
     ((result ≡ Err Memory) × IsIdle old new)
-    ⊎ IsDoneOver rules address wait old.sockets new.sockets result (IsQuiet old new)
-    (λ port last. IsServedOver rules tells address count device port last old result new)
+    ⊎ IsDoneOver rules (binding wanted.address wanted.wait) old.sockets new.sockets result (IsQuiet old new)
+    (λ port last. IsServedOver rules tells wanted
+    (served_port port old.clock old.errors) result (served_port last new.clock new.errors))
 
 -- a fifth of a second while a log has an interval, so that it takes its samples while nobody asks; else without limit
 abbrev pub wait_of : List ObjectLine → ℕ
@@ -86,4 +109,5 @@ Serves rules tells address count old result new =
     ⊎ ((c : Configuration) × IsConfigured old.input new.input (Ok c)
     × (((fault : Fault) × IsUnbuilt old.input c.device c.objects.items fault × (result ≡ Err fault) × IsIdle old new)
     ⊎ ((build_fault c.device c.objects.items ≡ None)
-    × IsServed rules tells address (wait_of c.objects.items) count (built c.device c.objects.items) old result new)))
+    × IsServed rules tells (service (built c.device c.objects.items) address (wait_of c.objects.items) count)
+    old result new)))

@@ -1,7 +1,7 @@
 -- The streams, the sockets and the clock of the program.
 use Rattle.std.specs.Prelude.{◌≡◌}
 use Rattle.bac_print.specs.Output.{Held}
-use Rattle.bac_tools.specs.Sockets.{Outside, outside}
+use Rattle.bac_tools.specs.Sockets.{Outlets, Outside, Pipes, outlets, outside, pipes}
 
 -- what the input has left, what the output and the errors hold, each if that is known, the sockets, and the clock
 pub record Streams (S C : Type 0) : Type 0 where
@@ -23,6 +23,14 @@ with_errors errors all = streams all.input all.output errors all.sockets all.clo
 -- their sockets and their output
 abbrev pub outside_of : {S C : Type 0} → Streams S C → Outside S
 outside_of all = outside all.sockets all.output
+
+-- and their errors
+abbrev pub outlets_of : {S C : Type 0} → Streams S C → Outlets S
+outlets_of all = outlets all.sockets all.output all.errors
+
+-- and their input
+abbrev pub pipes_of : {S C : Type 0} → Streams S C → Pipes S
+pipes_of all = pipes all.sockets all.input all.output
 
 -- nothing is told, and the clock isn't looked at
 abbrev pub IsQuiet : {S C : Type 0} → Streams S C → Streams S C → Type 0

@@ -5,7 +5,7 @@ ghost use Rattle.bac_ports.specs.Sockets.{socket_rules};
 ghost use Rattle.bac_tools.specs.Run.{FetchesAsSaid, IsNoLogs, IsNoWalk, IsOutside, ListsAsSaid};
 ghost use Rattle.bac_tools.specs.Run.{ReadsAsSaid, WritesAsSaid, layout_of, priority_of, reals_of};
 ghost use Rattle.bac_tools.specs.Run.{trend_log, walk_from};
-ghost use Rattle.bac_tools.specs.Sockets.{outside};
+ghost use Rattle.bac_tools.specs.Sockets.{outlets, outside};
 
 use crate::asking::{LogAsking, log, logs, rp, value_of, wp};
 use crate::fault::Fault;
@@ -164,9 +164,8 @@ pub(crate) fn fetch_as_said<S: Sockets, O: Write, E: Write>(
 ) -> Result<u8, Fault>
     ensures fetches { FetchesAsSaid
         (socket_rules S.opens S.closes S.Socket.sends S.Socket.receives S.Socket.receives_within)
-        said (outside sockets.old (O.contents output.old)) result
-        (outside sockets.new (O.contents output.new)) (E.contents errors.old)
-        (E.contents errors.new) }
+        said (outlets sockets.old (O.contents output.old) (E.contents errors.old)) result
+        (outlets sockets.new (O.contents output.new) (E.contents errors.new)) }
     ensures quiet { IfErr result (λ fault. E.contents errors.new ≡ E.contents errors.old) }
 {
     let asking = LogAsking {

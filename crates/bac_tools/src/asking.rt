@@ -6,7 +6,8 @@ ghost use Rattle.bac_wire.specs.View.{view, IsWellFormed};
 ghost use Rattle.bac_tools.specs.Given.{value_of};
 ghost use Rattle.bac_tools.specs.Asking.{Fetches, Lists, Reads, Writes};
 ghost use Rattle.bac_ports.specs.Sockets.{link_over, own_address, socket_rules};
-ghost use Rattle.bac_tools.specs.Sockets.{outside, transactions_with};
+ghost use Rattle.bac_query.specs.Ahead.{errand};
+ghost use Rattle.bac_tools.specs.Sockets.{outlets, outside, transactions_with};
 
 use crate::fault::Fault;
 use crate::log_end::{ended_as, ending_of, say_more};
@@ -141,9 +142,9 @@ pub(crate) fn log<S: Sockets, O: Write, E: Write>(
 ) -> Result<u8, Fault>
     ensures fetches { Fetches
         (socket_rules S.opens S.closes S.Socket.sends S.Socket.receives S.Socket.receives_within)
-        asking.layout asked asking.walk asking.steps (outside sockets.old (O.contents output.old))
-        result (outside sockets.new (O.contents output.new)) (E.contents errors.old)
-        (E.contents errors.new) }
+        asked (errand asking.layout asking.walk asking.steps)
+        (outlets sockets.old (O.contents output.old) (E.contents errors.old)) result
+        (outlets sockets.new (O.contents output.new) (E.contents errors.new)) }
     ensures quiet { IfErr result (λ fault. E.contents errors.new ≡ E.contents errors.old) }
 {
     let address = asked.address;

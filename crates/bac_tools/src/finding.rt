@@ -2,9 +2,9 @@
 
 ghost use Rattle.std.specs.Prelude.{◌≡◌};
 ghost use Rattle.bac_tools.specs.Faults.{of_find};
-ghost use Rattle.bac_tools.specs.Finding.{Finds, Searches, limits_of, search_of};
+ghost use Rattle.bac_tools.specs.Finding.{Finds, Searches, inquiry, limits_of, search_of};
 ghost use Rattle.bac_ports.specs.Sockets.{socket_rules};
-ghost use Rattle.bac_tools.specs.Sockets.{outside};
+ghost use Rattle.bac_tools.specs.Sockets.{outside, pipes};
 
 use crate::asking::ANY;
 use crate::fault::Fault;
@@ -61,7 +61,8 @@ fn search_for<S: Sockets, O: Write>(
 ) -> Result<u8, Fault>
     ensures { Searches
         (socket_rules S.opens S.closes S.Socket.sends S.Socket.receives S.Socket.receives_within)
-        search.now addresses.now local timeout (outside sockets.old (O.contents output.old)) result
+        (inquiry search.now local timeout) addresses.now
+        (outside sockets.old (O.contents output.old)) result
         (outside sockets.new (O.contents output.new)) }
 {
     let mut port = match sockets.open(local.unwrap_or(ANY), timeout) {
@@ -88,10 +89,9 @@ pub(crate) fn wi<S: Sockets, I: Read, O: Write>(
 ) -> Result<u8, Fault>
     ensures { Finds
         (socket_rules S.opens S.closes S.Socket.sends S.Socket.receives S.Socket.receives_within)
-        (search_of said.now) said.now.stations said.now.local said.now.timeout
-        (I.remaining input.old) (I.remaining input.new)
-        (outside sockets.old (O.contents output.old)) result
-        (outside sockets.new (O.contents output.new)) }
+        (inquiry (search_of said.now) said.now.local said.now.timeout) said.now.stations
+        (pipes sockets.old (I.remaining input.old) (O.contents output.old)) result
+        (pipes sockets.new (I.remaining input.new) (O.contents output.new)) }
 {
     let search = search_of(said);
     let local = said.local;

@@ -3,7 +3,7 @@
 ghost use Rattle.std.specs.Prelude.{◌≡◌, ◌⊎◌, Ok, Err, Some, None, IfOk, IfErr, IfSome};
 ghost use Rattle.bac_objects.specs.Build.{build_fault, built as built_of};
 ghost use Rattle.bac_print.specs.Output.{AppendsPart};
-ghost use Rattle.bac_tools.specs.Serving.{IsConfigured, IsServed, IsUnbuilt, Serves};
+ghost use Rattle.bac_tools.specs.Serving.{IsConfigured, IsServed, IsUnbuilt, Serves, service};
 ghost use Rattle.bac_ports.specs.Sockets.{socket_rules};
 ghost use Rattle.bac_tools.specs.Streams.{streams};
 ghost use Rattle.bac_tools.specs.Texts.{serving_line};
@@ -113,7 +113,7 @@ fn serve_at<S: Sockets, E: Write, C: Clock>(
 ) -> Result<u8, Fault>
     ensures { IsServed
         (socket_rules S.opens S.closes S.Socket.sends S.Socket.receives S.Socket.receives_within)
-        C.tells address wait count device.old
+        C.tells (service device.old address wait count)
         (streams None None (E.contents errors.old) sockets.old clock.old) result
         (streams None None (E.contents errors.new) sockets.new clock.new) }
 {

@@ -4,7 +4,7 @@ use Rattle.bac_heeding.specs.Notes.{nothing as never_asked}
 use Rattle.bac_heeding.specs.declared.notes.Passed.{Passed}
 use Rattle.bac_link.specs.Path.{Path, towards}
 use Rattle.bac_print.specs.Output.{AppendsPart, Held}
-use Rattle.bac_query.specs.Flaws.{TellsFlawOf}
+use Rattle.bac_query.specs.Flaws.{TellsFlawOf, log_place}
 use Rattle.bac_query.specs.declared.fault.QueryFault.TheVariants as query
 use Rattle.bac_tools.specs.LogEnds.{of_why}
 use Rattle.bac_tools.specs.Run.{IsNoWalk, IsToldAfter, Runs, walk_from}
@@ -57,7 +57,7 @@ no_walk passed instance from count fault said old new status (inr (inr (zero, is
 
 -- with status 4 and no fault told: a walk that ended so told its flaw
 bad_end : {S : Type 0} (asks : Asking S) (path : Path) (retries : ℕ) (log : Id) (next : ℕ) (address : List ℕ) (flaw : Option ReplyFlaw) (left : S)
-    (cause : Why) (done : ℕ) → TellsFlawOf asks path retries log next flaw left cause → Ok done ≡ of_why address cause flaw → done ≡ 4 → ⊥
+    (cause : Why) (done : ℕ) → TellsFlawOf asks path retries (log_place log next) flaw left cause → Ok done ≡ of_why address cause flaw → done ≡ 4 → ⊥
 bad_end asks path retries log next address flaw left why.CaughtUp done tells is = λ four. omega (arith, end_of address done why.CaughtUp flaw is, four)
 bad_end asks path retries log next address flaw left why.StepLimit done tells is = λ four. omega (arith, end_of address done why.StepLimit flaw is, four)
 bad_end asks path retries log next address flaw left (why.Fault walk.Lost) done tells is =
@@ -74,7 +74,7 @@ Explains asks path retries log fault left =
     (w : WalkPlace) × (told : ReplyFlaw) × (w.log ≡ log) × ToldFlaw asks path retries w told left × (fault ≡ Flawed told)
 
 flaw_end : {S : Type 0} (passed : Passed) (asks : Asking S) (path : Path) (retries : ℕ) (log : Id) (next : ℕ) (address : List ℕ) (flaw : Option ReplyFlaw) (left : S)
-    (cause : Why) (fault : Fault) (old new : Held) (status : ℕ) → TellsFlawOf asks path retries log next flaw left cause →
+    (cause : Why) (fault : Fault) (old new : Held) (status : ℕ) → TellsFlawOf asks path retries (log_place log next) flaw left cause →
     Err fault ≡ of_why address cause flaw → IsToldAfter passed fault old new status → status ≡ 4 → Explains asks path retries log fault left
 flaw_end passed asks path retries log next address flaw left why.CaughtUp fault old new status tells is ends four =
     absurd (let e = without_flaw address fault why.CaughtUp flaw tells is in cc)

@@ -14,16 +14,19 @@ use Rattle.bac_link.specs.declared.exchanges.ExchangeFault.TheVariants as exchan
 use Rattle.bac_link.specs.declared.item.Item.{Item}
 use Rattle.bac_link.specs.declared.link.Lost.{Lost as Loss}
 use Rattle.bac_link.proofs.Delivers.{after_one}
+use Rattle.bac_link.specs.Exchanges.{client}
 use Rattle.bac_log.specs.TrendLog.{sequence_number}
 use Rattle.bac_ports.specs.declared.udp_link.UdpLink.{UdpLink}
 use Rattle.bac_print.specs.Output.{AppendsPart, Held}
 use Rattle.bac_print.proofs.Octets.{whole_part}
-use Rattle.bac_query.specs.Ahead.{FetchesAhead, IsLeftAhead}
-use Rattle.bac_query.specs.Fetching.{Fetching, IsEnd, TellsRun}
+use Rattle.bac_query.specs.Ahead.{FetchesAhead, IsLeftAhead, errand}
+use Rattle.bac_query.specs.Fetching.{Fetching, IsEnd, TellsRun, course}
 use Rattle.bac_query.specs.declared.fault.QueryFault.TheVariants as query
 use Rattle.bac_query.proofs.Delivered.{part_of_longer}
 use Rattle.bac_query.specs.Ends.{end_line}
+use Rattle.bac_query.specs.Finding.{console}
 use Rattle.bac_query.specs.Items.{items_text}
+use Rattle.bac_query.specs.Reading.{printing}
 use Rattle.bac_script.specs.declared.replay.fault.ReplayFault.{ReplayFault}
 use Rattle.bac_script.specs.declared.replay.fault.ReplayFault.TheVariants as replay
 use Rattle.bac_tools.specs.Asking.{of_fetching}
@@ -39,7 +42,7 @@ use Rattle.bac_tools.specs.declared.fault.Fault.TheVariants.{NoAnswer, List as L
 use Rattle.bac_tools_tests.proofs.AtRest.{few_batches, few_lines, leads_bring}
 use Rattle.bac_tools_tests.specs.Logging.{IsCut, IsLogged, IsLoggedAtRest, PrintsAll}
 use Rattle.bac_tools_tests.proofs.Settled.{end_of}
-use Rattle.bac_walk.specs.Came.{AreOf, Brought, Came, EndsBy, answers_of}
+use Rattle.bac_walk.specs.Came.{AreOf, Brought, Came, EndsBy, answers_of, reaching, walk_over}
 use Rattle.bac_walk.proofs.Came.{start_old}
 use Rattle.bac_walk.specs.Collects.{IsCaughtUp, batches}
 use Rattle.bac_walk.specs.Delivers.{NoneFrom}
@@ -105,7 +108,7 @@ not_told passed fault old new status (inr (is, text)) zero = no_fault Memory (sy
 abbrev pub Over : {P : Type 0} → (UdpLink P → List ℕ → Result (List ℕ) Loss → UdpLink P → Type 0) → Asked → WalkPlace → ℕ →
     UdpLink P → Fetching → Transactions → UdpLink P → Held → Held → Type 0
 Over asks asked walk steps link fetching end left old new =
-    FetchesAhead Lines asks (transactions_with asked) link walk steps fetching end left old new
+    FetchesAhead (errand Lines walk steps) asks (printing (client link (transactions_with asked)) old) fetching (printing (client left end) new)
 
 -- ---- with status 0
 
@@ -121,7 +124,7 @@ left_there asks half end mid left after why.Memory last zero is same = absurd (o
 fetched : {S P : Type 0} (rules : SocketRules S P) (asked : Asked) (walk : WalkPlace) (steps : ℕ) (port last : P) (old new : Held)
     (done : ℕ) (fetching : Fetching) (end : Transactions) (left : UdpLink P) → done ≡ 0 → last ≡ left.port →
     Over (socket_asks rules) asked walk steps (link_over asked.address port) fetching end left old new →
-    Ok done ≡ of_fetching Lines asked.address fetching → IsLogged rules asked walk port last old new
+    Ok done ≡ of_fetching Lines asked.address fetching → IsLogged rules asked walk (console port old) (console last new)
 fetched rules asked walk steps port last old new done (Err fault) end left zero is_last over is = absurd (cc)
 fetched rules asked walk steps port last old new done (Ok said) end left zero is_last over is =
     let (came, items, n, ended, after, half, mid, brought, tells, headline, contradicts) = over in
@@ -134,7 +137,7 @@ fetched rules asked walk steps port last old new done (Ok said) end left zero is
 -- a run that ended since there were so many steps
 all_steps : {S : Type 0} (asks : S → List ℕ → Result (List ℕ) Loss → S → Type 0) (path : Path) (retries n : ℕ)
     (came : List Came) (here : WalkPlace) (mid : S) (e : Ended) (items : List Item) (after : WalkPlace) (new : S) →
-    e ≡ ended.StepLimit → EndsBy asks path retries n came here mid e after new → AreOf e came items after →
+    e ≡ ended.StepLimit → EndsBy (reaching asks path retries) n came (walk_over mid here) e (walk_over new after) → AreOf e came items after →
     (batches (answers_of came) ≡ n) × (items ≡ items_of (answers_of came))
 all_steps asks path retries n came here mid ended.CaughtUp items after new is ends are = absurd (cc)
 all_steps asks path retries n came here mid ended.StepLimit items after new is ends are = (ends.1, are)
@@ -144,7 +147,7 @@ all_steps asks path retries n came here mid (ended.Fault fault) items after new 
 -- has as many lines at least
 so_many : {S : Type 0} (asks : S → List ℕ → Result (List ℕ) Loss → S → Type 0) (path : Path) (retries n : ℕ)
     (came : List Came) (old : S) (walk : WalkPlace) (e : Ended) (items : List Item) (after : WalkPlace) (new : S) →
-    e ≡ ended.StepLimit → Brought asks path retries old walk n came items e after new → n ≤ length items
+    e ≡ ended.StepLimit → Brought (reaching asks path retries) (walk_over old walk) n came items e (walk_over new after) → n ≤ length items
 so_many asks path retries n came old walk e items after new is (here, mid, comes, ends, are) =
     let all = all_steps asks path retries n came here mid e items after new is ends are in
     omega (arith, all.0, ap length all.1, few_batches (answers_of came))
@@ -187,7 +190,7 @@ all_printed H m s t steps n count items answers fresh e after why.Memory next ol
 rested : {S P : Type 0} (rules : SocketRules S P) (asked : Asked) (walk : WalkPlace) (steps : ℕ) (port last : P) (old new : Held)
     (done : ℕ) (fetching : Fetching) (end : Transactions) (left : UdpLink P) → done ≡ 0 → last ≡ left.port → walk.fresh ≡ false →
     Over (socket_asks rules) asked walk steps (link_over asked.address port) fetching end left old new →
-    Ok done ≡ of_fetching Lines asked.address fetching → IsLoggedAtRest rules asked walk steps port last old new
+    Ok done ≡ of_fetching Lines asked.address fetching → IsLoggedAtRest rules asked walk steps (console port old) (console last new)
 rested rules asked walk steps port last old new done (Err fault) end left zero is_last fresh over is = absurd (cc)
 rested rules asked walk steps port last old new done (Ok said) end left zero is_last fresh over is =
     let (came, items, n, ended, after, half, mid, begun, tells, headline, contradicts) = over in
@@ -213,7 +216,7 @@ rested rules asked walk steps port last old new done (Ok said) end left zero is_
 
 pub cut_over : {P : Type 0} (asks : UdpLink P → List ℕ → Result (List ℕ) Loss → UdpLink P → Type 0) (left : Why → Type 0)
     (items : List Item) (steps n : ℕ) (e : Ended) (after : WalkPlace) (fetching : Fetching) (old new : Held) →
-    TellsRun Lines left items steps n e after fetching old new →
+    TellsRun Lines left steps (course items n e after) fetching old new →
     (w : Why) × (next : ℕ) × AppendsPart old new (items_text items ++ end_line w next)
 cut_over asks left items steps n e after (Ok fetched) old new tells =
     (fetched.why, fetched.next, whole_part old new _ tells.2)
@@ -230,7 +233,7 @@ pub logged : {S P C : Type 0} (rules : SocketRules S P) (passes : S → Passed) 
     (instance steps count : ℕ) (from : Option ℕ) (trace : Bool) (old new : Streams S C) (status : ℕ) →
     Runs rules passes tells (Log (plain asked instance from steps count trace)) old status new → status ≡ 0 →
     UsesSocket rules (own_address asked.local) asked.timeout old.sockets
-    (λ port last. IsLogged rules asked (walk_from instance from count) port last old.output new.output) new.sockets
+    (λ port last. IsLogged rules asked (walk_from instance from count) (console port old.output) (console last new.output)) new.sockets
 logged rules passes tells asked instance steps count from trace old new status (inl told) zero =
     absurd (not_told never_asked Memory old.errors new.errors status told.0 zero)
 logged rules passes tells asked instance steps count from trace old new status (inr (Err fault, said, works, ends)) zero =
@@ -252,7 +255,7 @@ pub logged_at_rest : {S P C : Type 0} (rules : SocketRules S P) (passes : S → 
     (instance steps count number : ℕ) (trace : Bool) (old new : Streams S C) (status : ℕ) →
     Runs rules passes tells (Log (plain asked instance (Some number) steps count trace)) old status new → status ≡ 0 →
     UsesSocket rules (own_address asked.local) asked.timeout old.sockets
-    (λ port last. IsLoggedAtRest rules asked (walk_from instance (Some number) count) steps port last old.output new.output)
+    (λ port last. IsLoggedAtRest rules asked (walk_from instance (Some number) count) steps (console port old.output) (console last new.output))
     new.sockets
 logged_at_rest rules passes tells asked instance steps count number trace old new status (inl told) zero =
     absurd (not_told never_asked Memory old.errors new.errors status told.0 zero)

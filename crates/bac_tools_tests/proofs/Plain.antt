@@ -4,7 +4,9 @@ use Rattle.bac_heeding.specs.declared.notes.Passed.{Passed}
 use Rattle.bac_ports.specs.Sockets.{SocketRules}
 use Rattle.bac_ports.specs.declared.udp_link.UdpLink.{UdpLink}
 use Rattle.bac_print.specs.Output.{Held}
+use Rattle.bac_query.specs.Ahead.{errand}
 use Rattle.bac_query.specs.Fetching.{Fetching}
+use Rattle.bac_query.specs.Reading.{printing}
 use Rattle.bac_query.specs.declared.layout.Layout.TheVariants.{Lines}
 use Rattle.bac_tools.specs.Asking.{FetchesOn, FetchesOver}
 use Rattle.bac_tools.specs.Run.{Runs}
@@ -16,11 +18,11 @@ use Rattle.bac_words.specs.declared.job.Job.TheVariants.{Log}
 use Rattle.bac_words.specs.declared.job.LogReading.{LogReading}
 
 pub in_lines : {S P : Type 0} (rules : SocketRules S P) (asked : Asked) (walk : WalkPlace) (steps : ℕ) (link : UdpLink P)
-    (fetching : Fetching) (left : UdpLink P) (old new : Held) → FetchesOver rules Lines asked walk steps link fetching left old new →
-    FetchesOn rules Lines asked walk steps link fetching left old new
+    (fetching : Fetching) (left : UdpLink P) (old new : Held) → FetchesOver rules asked (errand Lines walk steps) (printing link old) fetching (printing left new) →
+    FetchesOn rules asked (errand Lines walk steps) (printing link old) fetching (printing left new)
 in_lines rules asked walk steps link fetching left old new (inl (fault, (never, same), is, there)) = absurd (cc)
 in_lines rules asked walk steps link fetching left old new (inr (mid, (begun, same), on)) =
-    let P : Held → Type 0 = λ h. FetchesOn rules Lines asked walk steps link fetching left h new in subst P same on
+    let P : Held → Type 0 = λ h. FetchesOn rules asked (errand Lines walk steps) (printing link h) fetching (printing left new) in subst P same on
 
 -- words of `log` without --csv
 abbrev pub plain : Asked → ℕ → Option ℕ → ℕ → ℕ → Bool → LogReading

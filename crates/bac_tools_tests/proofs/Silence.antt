@@ -7,7 +7,7 @@ use Rattle.bac_heeding.specs.declared.notes.Passed.{Passed}
 use Rattle.bac_walk.proofs.Transacted.{brought_plain}
 use Rattle.bac_tools.specs.Sockets.{transactions_with}
 use Rattle.bac_link.specs.declared.transactions.Transactions.{Transactions}
-use Rattle.bac_link.specs.Exchanges.{Exchanges, Unanswered}
+use Rattle.bac_link.specs.Exchanges.{Exchanges, Unanswered, client, way_by}
 use Rattle.bac_link.specs.Path.{Path, towards}
 use Rattle.bac_link.specs.Requests.{next_invoke, request_octets}
 use Rattle.bac_link.specs.declared.exchanges.ExchangeFault.{ExchangeFault}
@@ -17,15 +17,14 @@ use Rattle.bac_link.specs.declared.request.Request.{Request}
 use Rattle.bac_link.specs.declared.request.Request.TheVariants as request
 use Rattle.bac_apdu.specs.declared.service.read_property.ReadProperty.{ReadProperty}
 use Rattle.bac_link.specs.Datagrams.{apdu_in}
-use Rattle.bac_objects.specs.State.{State}
 use Rattle.bac_ports.specs.Asking.{Awaits}
 use Rattle.bac_ports.specs.Port.{Receiving, Sending}
 use Rattle.bac_ports.specs.declared.port.SocketFault.{SocketFault}
 use Rattle.bac_ports.specs.declared.udp_link.UdpLink.{UdpLink}
 use Rattle.bac_print.specs.Output.{AppendsPart, Held}
-use Rattle.bac_query.specs.Ahead.{FetchesAhead}
+use Rattle.bac_query.specs.Ahead.{FetchesAhead, errand}
 use Rattle.bac_query.specs.Fetching.{Fetching, IsEnd}
-use Rattle.bac_query.specs.Reading.{Answer, PrintsValues}
+use Rattle.bac_query.specs.Reading.{Answer, PrintsValues, printing}
 use Rattle.bac_query.specs.Answers.{values_in}
 use Rattle.bac_query.specs.declared.fault.QueryFault.{QueryFault}
 use Rattle.bac_query.specs.declared.fault.QueryFault.TheVariants as query
@@ -35,7 +34,7 @@ use Rattle.bac_serve.specs.Serving.{Server, Serves as ServesDevice, ServesNext}
 use Rattle.bac_tools.specs.Asking.{Reads, Writes, of_answer, of_fetching}
 use Rattle.bac_tools.specs.Ending.{Ending}
 use Rattle.bac_tools.specs.Run.{Ends, Runs, Works, question, reals_of, walk_from}
-use Rattle.bac_tools.specs.Serving.{IsConfigured, IsServedOver, refused_with}
+use Rattle.bac_tools.specs.Serving.{IsConfigured, IsServedOver, Service, ServedPort, refused_with, served_port, service, wait_of}
 use Rattle.bac_query.specs.declared.layout.Layout.TheVariants.{Lines}
 use Rattle.bac_query.specs.declared.reals.Reals.{Reals}
 use Rattle.bac_tools_tests.proofs.Plain.{in_lines, plain}
@@ -49,7 +48,7 @@ use Rattle.bac_tools.specs.declared.fault.Fault.TheVariants as fault
 use Rattle.bac_tools_tests.proofs.Logged.{cut_over, not_told}
 use Rattle.bac_tools_tests.proofs.Settled.{end_of}
 use Rattle.bac_tools_tests.specs.Silence.{IsOfSocket, IsSilent, LostWasAsked, NeverFails}
-use Rattle.bac_walk.specs.Came.{Brought, Came}
+use Rattle.bac_walk.specs.Came.{Brought, Came, reaching, walk_over}
 use Rattle.bac_walk.specs.Place.{WalkPlace}
 use Rattle.bac_walk.specs.declared.outcome.Ended.{Ended}
 use Rattle.bac_walk.specs.declared.outcome.Ended.TheVariants as ended
@@ -81,7 +80,7 @@ none_asked rules silent old octets datagram new ((Ok done, mid, sent, rest), pee
 
 none_exchanged : {S P : Type 0} (rules : SocketRules S P) → IsSilent rules.receives → (path : Path) (invoke : ℕ) (r : Request)
     (retries : ℕ) (old : UdpLink P) (datagram : List ℕ) (new : UdpLink P) →
-    Exchanges (socket_asks rules) path invoke r retries old (Ok datagram) new → ⊥
+    Exchanges (socket_asks rules) (way_by path invoke retries) r old (Ok datagram) new → ⊥
 none_exchanged rules silent path invoke r retries old datagram new answers =
     none_asked rules silent answers.1 (request_octets path invoke r) datagram new answers.4
 
@@ -147,7 +146,7 @@ no_wp rules passes tells said old new status (inr (Ok done, told, (inr (w, is, w
 -- no reply came, so there are no items
 no_reply : {S P : Type 0} (rules : SocketRules S P) → IsSilent rules.receives → (path : Path) (retries n : ℕ) (old : UdpLink P)
     (w : WalkPlace) (came : List Came) (items : List Item) (e : Ended) (after : WalkPlace) (new : UdpLink P) →
-    Brought (socket_asks rules) path retries old w n came items e after new → (came ≡ []) × (items ≡ [])
+    Brought (reaching (socket_asks rules) path retries) (walk_over old w) n came items e (walk_over new after) → (came ≡ []) × (items ≡ [])
 no_reply rules silent path retries n old w (c ∷ came) items e after new (here, mid, comes, ends, are) =
     absurd (none_exchanged rules silent path comes.4.0 _ retries old c.datagram comes.0 comes.4.1)
 no_reply rules silent path retries n old w [] items ended.CaughtUp after new (here, mid, comes, ends, are) = (refl, are)
@@ -159,7 +158,7 @@ no_reply rules silent path retries n old w [] items (ended.Fault said) after new
 -- a run with no reply doesn't end well, unless it has no steps
 no_end : {S P : Type 0} (rules : SocketRules S P) → IsSilent rules.receives → (path : Path) (retries n steps : ℕ) (old : UdpLink P)
     (w : WalkPlace) (came : List Came) (items : List Item) (e : Ended) (after : WalkPlace) (new : UdpLink P) (cause : Why)
-    (next : ℕ) → Brought (socket_asks rules) path retries old w n came items e after new → IsEnd steps n e after cause next →
+    (next : ℕ) → Brought (reaching (socket_asks rules) path retries) (walk_over old w) n came items e (walk_over new after) → IsEnd steps n e after cause next →
     0 < steps → walk_status cause ≡ 0 → ⊥
 no_end rules silent path retries n steps old w (c ∷ came) items e after new cause next (here, mid, comes, ends, are) end some none =
     none_exchanged rules silent path comes.4.0 _ retries old c.datagram comes.0 comes.4.1
@@ -208,7 +207,7 @@ nothing (Some xs) (Some ys) keeps = (why.CaughtUp, 0, ([], end_line why.CaughtUp
 
 no_status : {S P : Type 0} (rules : SocketRules S P) → IsSilent rules.receives → (asked : Asked) (w : WalkPlace) (steps : ℕ)
     (link : UdpLink P) (fetching : Fetching) (end : Transactions) (left : UdpLink P) (old new : Held) (done : ℕ) →
-    FetchesAhead Lines (socket_asks rules) (transactions_with asked) link w steps fetching end left old new →
+    FetchesAhead (errand Lines w steps) (socket_asks rules) (printing (client link (transactions_with asked)) old) fetching (printing (client left end) new) →
     Ok done ≡ of_fetching Lines asked.address fetching → 0 < steps → done ≡ 0 → ⊥
 no_status rules silent asked w steps link (Err why) end left old new done over is some none = absurd (cc)
 no_status rules silent asked w steps link (Ok fetched) end left old new done over is some none =
@@ -279,7 +278,7 @@ lost rules tells = λ said old new works. by said old new works
     by said old new (inr (inr (port, between, last, opens, (answer, left, (Ok datagram, exchanged, prints), is_last, is), closes)), quiet) =
         absurd (not_lost (reals_of said.numbers) said.asked.address (values_in (apdu_in datagram)) answer _ _ prints is)
     by said old new (inr (inr (port, between, last, opens, (answer, left, (Err why, exchanged, told), is_last, is), closes)), quiet) =
-        let P : ExchangeFault → Type 0 = λ f. Exchanges (socket_asks rules) (towards said.asked.route) (next_invoke 0) (request.ReadProperty (question said)) said.asked.retries (link_over said.asked.address port) (Err f) left in
+        let P : ExchangeFault → Type 0 = λ f. Exchanges (socket_asks rules) (way_by (towards said.asked.route) (next_invoke 0) said.asked.retries) (request.ReadProperty (question said)) (link_over said.asked.address port) (Err f) left in
         (port, between, last, opens, (left, subst P (same_fault said.asked.address answer why told.0 is) exchanged, is_last), closes)
 
 -- ---- a server
@@ -337,11 +336,11 @@ script_not refused said (inl p) e = let q = sym e ∙ p in absurd (cc)
 script_not refused said (inr (why, p)) e = let q = sym e ∙ p in absurd (cc)
 
 over_stays : {S P C : Type 0} (rules : SocketRules S P) (tells : C → Option CivilTime → C → Type 0) → NeverFails rules →
-    (address : List ℕ) (count : ℕ) (device : State) (said : Fault) (port last : P) (old new : Streams S C) →
-    IsServedOver rules tells address count device port last old (Err said) new → ⊥
-over_stays rules tells sure address count device said port last old new (Ok done, after, told, serves, is) = absurd (cc)
-over_stays rules tells sure address count device said port last old new (Err why, after, told, serves, is) =
-    device_stays rules.sends rules.receives tells sure.1 count _ why _ serves
+    (wanted : Service) (said : Fault) (old new : ServedPort P C) →
+    IsServedOver rules tells wanted old (Err said) new → ⊥
+over_stays rules tells sure wanted said old new (Ok done, after, told, serves, is) = absurd (cc)
+over_stays rules tells sure wanted said old new (Err why, after, told, serves, is) =
+    device_stays rules.sends rules.receives tells sure.1 wanted.count _ why _ serves
 
 pub stays : {S P C : Type 0} (rules : SocketRules S P) (tells : C → Option CivilTime → C → Type 0) (served : ServedDevice)
     (said : Fault) (old new : Streams S C) → NeverFails rules → IsOfSocket said →
@@ -357,4 +356,5 @@ stays rules tells served said old new sure of (inr (c, configured, inr (built, i
 stays rules tells served said old new sure of (inr (c, configured, inr (built, inr (inl (why, opens, is_shut, closed)))), keeps) =
     sure.0 old.sockets new.sockets served.address _ why opens
 stays rules tells served said old new sure of (inr (c, configured, inr (built, inr (inr (port, between, last, opens, serves, closes)))), keeps) =
-    over_stays rules tells sure served.address served.count _ said port last old new serves
+    over_stays rules tells sure (service _ served.address (wait_of c.objects.items) served.count) said
+    (served_port port old.clock old.errors) (served_port last new.clock new.errors) serves

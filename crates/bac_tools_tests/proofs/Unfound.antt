@@ -5,13 +5,12 @@ use Rattle.bac_heeding.specs.Notes.{nothing as never_asked}
 use Rattle.bac_heeding.specs.declared.notes.Passed.{Passed}
 use Rattle.bac_query.specs.Announcements.{Announcement}
 use Rattle.bac_query.specs.Finding.{Console, Finds, told_of}
-use Rattle.bac_query.specs.Hearing.{Found, Held}
+use Rattle.bac_query.specs.Hearing.{Found, Held, PortRules, port_rules}
 use Rattle.bac_query.specs.Requests.{who_is_octets}
 use Rattle.bac_query.specs.Turns.{Along, Fails, IsLast, Turn, Sent, Received, came_in, has_device, lines_of}
 use Rattle.bac_query.specs.declared.find_fault.FindFault.{FindFault}
 use Rattle.bac_query.specs.declared.find_fault.FindFault.TheVariants as find
 use Rattle.bac_query.specs.declared.search.Search.{Search}
-use Rattle.bac_ports.specs.Port.{Receiving, Sending}
 use Rattle.bac_ports.specs.declared.port.Heard.{Heard}
 use Rattle.bac_tools.specs.Finding.{of_found}
 use Rattle.bac_tools.specs.Run.{Runs}
@@ -26,17 +25,16 @@ use Rattle.bac_words.specs.declared.job.Job.TheVariants.{Wi}
 use Rattle.bac_words.specs.declared.job.Stations.TheVariants.{Listed}
 
 -- what is done at a silent port brings nothing
-none_came : {P : Type 0} (sends : P → List ℕ → List ℕ → Sending → P → Type 0) (receives : P → Receiving → P → Type 0)
-    (within : P → ℕ → Receiving → P → Type 0) → IsSilent receives → IsSilentWithin within → (octets : List ℕ)
-    (turns : List Turn) (port new : P) → Along sends receives within octets turns port new → came_in turns ≡ []
-none_came sends receives within silent still octets [] port new along = refl
-none_came sends receives within silent still octets (Sent address sent ∷ turns) port new along =
-    none_came sends receives within silent still octets turns along.0 new along.2
-none_came sends receives within silent still octets (Received wait (Err why) ∷ turns) port new along =
-    none_came sends receives within silent still octets turns along.0 new along.2
-none_came sends receives within silent still octets (Received None (Ok heard) ∷ turns) port new along =
+none_came : {P : Type 0} (rules : PortRules P) → IsSilent rules.receives → IsSilentWithin rules.receives_within → (octets : List ℕ)
+    (turns : List Turn) (port new : P) → Along rules octets turns port new → came_in turns ≡ []
+none_came rules silent still octets [] port new along = refl
+none_came rules silent still octets (Sent address sent ∷ turns) port new along =
+    none_came rules silent still octets turns along.0 new along.2
+none_came rules silent still octets (Received wait (Err why) ∷ turns) port new along =
+    none_came rules silent still octets turns along.0 new along.2
+none_came rules silent still octets (Received None (Ok heard) ∷ turns) port new along =
     absurd (silent port along.0 heard along.1)
-none_came sends receives within silent still octets (Received (Some wait) (Ok heard) ∷ turns) port new along =
+none_came rules silent still octets (Received (Some wait) (Ok heard) ∷ turns) port new along =
     absurd (still port along.0 wait heard along.1)
 
 keeps_none : (old new : Held) → Appends old new [] → Keeps old new
@@ -62,20 +60,19 @@ not_done left None true none is = cc
 not_done left None false none is = cc
 
 -- a search that was done found a device, and prints only what came
-unfound : {P : Type 0} (sends : P → List ℕ → List ℕ → Sending → P → Type 0) (receives : P → Receiving → P → Type 0)
-    (within : P → ℕ → Receiving → P → Type 0) → IsSilent receives → IsSilentWithin within → (limit : ℕ) (search : Search)
+unfound : {P : Type 0} (rules : PortRules P) → IsSilent rules.receives → IsSilentWithin rules.receives_within → (limit : ℕ) (search : Search)
     (addresses : List (List ℕ)) (old : Console P) (found : Found) (new : Console P) →
-    Finds sends receives within limit search addresses old found new → (found ≡ Ok tt → ⊥) × Keeps old.held new.held
-unfound sends receives within silent still limit search addresses old found new (Ok left, then, seeks, (turns, along, comes), holds, is) =
-    let none = none_came sends receives within silent still (who_is_octets search) turns old.port new.port along in
+    Finds rules limit search addresses old found new → (found ≡ Ok tt → ⊥) × Keeps old.held new.held
+unfound rules silent still limit search addresses old found new (Ok left, then, seeks, (turns, along, comes), holds, is) =
+    let none = none_came rules silent still (who_is_octets search) turns old.port new.port along in
     let T : List Heard → Type 0 = λ l. then.taken ≡ (has_device l) in
     let A : List Heard → Type 0 = λ l. Appends old.held then.held (lines_of l) in
     let K : Held → Type 0 = λ h. Keeps old.held h in (
       λ good. not_done left then.refused then.taken (subst T none comes.2) (sym is ∙ good),
       subst K (sym holds) (keeps_none old.held then.held (subst A none comes.3)),
     )
-unfound sends receives within silent still limit search addresses old found new (Err why, then, seeks, (turns, along, comes), holds, is) =
-    let none = none_came sends receives within silent still (who_is_octets search) turns old.port new.port along in
+unfound rules silent still limit search addresses old found new (Err why, then, seeks, (turns, along, comes), holds, is) =
+    let none = none_came rules silent still (who_is_octets search) turns old.port new.port along in
     let K : Held → Type 0 = λ h. Keeps old.held h in (
       λ good. (let e = sym is ∙ good in cc),
       subst K (sym holds) (failed (came_in turns) old.held why then.held none comes.2),
@@ -96,8 +93,8 @@ no_wi rules passes tells said addresses old new status (inr (Err why, told, ((ke
 no_wi rules passes tells said addresses old new status (inr (Ok done, told, ((kept, (inl (shut, opens, is_shut, closed))), quiet), ends)) silent still =
     absurd (let e = is_shut in cc)
 no_wi rules passes tells said addresses old new status (inr (Err why, told, ((kept, (inr (port, between, last, opens, (found, finds, is), closes))), quiet), ends)) silent still =
-    let both = unfound rules.sends rules.receives rules.receives_within silent still 4096 _ addresses _ found _ finds in
+    let both = unfound (port_rules rules.sends rules.receives rules.receives_within) silent still 4096 _ addresses _ found _ finds in
     (λ none. not_told (passes new.sockets) why told new.errors status ends none, both.1)
 no_wi rules passes tells said addresses old new status (inr (Ok done, told, ((kept, (inr (port, between, last, opens, (found, finds, is), closes))), quiet), ends)) silent still =
-    let both = unfound rules.sends rules.receives rules.receives_within silent still 4096 _ addresses _ found _ finds in
+    let both = unfound (port_rules rules.sends rules.receives rules.receives_within) silent still 4096 _ addresses _ found _ finds in
     absurd (found_end (length addresses) found done is both.0)

@@ -15,7 +15,7 @@ ghost use Rattle.bac_query.specs.declared.layout.Layout.TheVariants.{Lines};
 ghost use Rattle.bac_query.specs.Ends.{end_line};
 ghost use Rattle.bac_query.specs.Items.{items_text};
 ghost use Rattle.bac_link.specs.Moments.{NeverGoesBack};
-ghost use Rattle.bac_link.specs.Honest.{IsHonest};
+ghost use Rattle.bac_link.specs.Honest.{IsHonest, asked_log};
 ghost use Rattle.bac_walk.specs.declared.outcome.WalkFault.{WalkFault as WalkFaultOf};
 ghost use Rattle.bac_walk.specs.declared.outcome.WalkFault.TheVariants.{Lost as Loss};
 ghost use Rattle.bac_walk.specs.Came.{Came, answers_of};
@@ -41,7 +41,8 @@ pub fn fetched_from_the_oldest<P: Port, W: Write>(
     out: &mut W,
 ) -> Option<Result<Fetched, QueryFault>>
     ensures { IfSome result (λ fetched. (M : List Moment) (H : History) (low : ℕ)
-        → IsHonest (port_asks P.sends P.receives) (towards None) log 100 H low link.old M
+        → IsHonest (port_asks P.sends P.receives)
+        (asked_log (towards None) log 100) H low link.old M
         → 0 < length M → NeverGoesBack M → AreInWindow low M
         → (came : List Came) × (items : List Item) × (t : ℕ)
         × PrintsItems Lines items fetched (W.contents out.old) (W.contents out.new)
@@ -95,7 +96,8 @@ pub fn printed_by_the_standard<P: Port, W: Write>(
 ) -> Option<Result<Fetched, QueryFault>>
     ensures { IfSome result (λ fetched. IfOk fetched
         (λ done. (M : List Moment) (H : History) (k low : ℕ)
-        → IsHonest (port_asks P.sends P.receives) (towards None) log 100 H low link.old M
+        → IsHonest (port_asks P.sends P.receives)
+        (asked_log (towards None) log 100) H low link.old M
         → s ≡ sequence_number k → 0 < length M → NeverGoesBack M → AreInWindow low M
         → low ≤ k → k < low + 2147483648 → (items : List Item) × (a : ℕ) × (t : ℕ)
         × (done.next ≡ sequence_number t) × DeliversTo H k items t M a

@@ -5,6 +5,7 @@ ghost use Rattle.std.specs.Io.KnownBytes.{Keeps};
 ghost use Rattle.std.specs.String.{string_bytes};
 ghost use Rattle.bac_tools.specs.Run.{AskFor, walk_from};
 ghost use Rattle.bac_ports.specs.Sockets.{UsesSocket, own_address, socket_rules};
+ghost use Rattle.bac_query.specs.Finding.{console};
 ghost use Rattle.bac_tools_tests.specs.Logging.{IsCut, IsExplained, IsLogged, IsLoggedAtRest};
 ghost use Rattle.bac_words.specs.declared.job.Job.TheVariants.{Log};
 ghost use Rattle.bac_words.specs.declared.job.LogReading.{LogReading as AnyLogReading};
@@ -26,13 +27,13 @@ pub fn logged<S: Heeds, I: Read, O: Write, E: Write, C: Clock>(
     errors: &mut E,
     clock: &mut C,
 ) -> u8
-    ensures { (said : AnyLogReading) → said.csv ≡ false
-        → AskFor (map string_bytes words.now) (Log said)
-        → result ≡ 0 → UsesSocket (socket_rules S.opens S.closes S.Socket.sends S.Socket.receives
-        S.Socket.receives_within) (own_address said.asked.local) said.asked.timeout sockets.old
+    ensures { (said : AnyLogReading) → said.csv ≡ false → AskFor (map string_bytes words.now)
+        (Log said) → result ≡ 0 → UsesSocket
+        (socket_rules S.opens S.closes S.Socket.sends S.Socket.receives S.Socket.receives_within)
+        (own_address said.asked.local) said.asked.timeout sockets.old
         (λ port last. IsLogged (socket_rules S.opens S.closes S.Socket.sends S.Socket.receives
-        S.Socket.receives_within) said.asked (walk_from said.instance said.from said.count) port
-        last (O.contents output.old) (O.contents output.new)) sockets.new }
+        S.Socket.receives_within) said.asked (walk_from said.instance said.from said.count)
+        (console port (O.contents output.old)) (console last (O.contents output.new))) sockets.new }
 {
     run(sockets, alloc, words, input, output, errors, clock)
 }
@@ -49,13 +50,13 @@ pub fn logged_at_rest<S: Heeds, I: Read, O: Write, E: Write, C: Clock>(
     clock: &mut C,
 ) -> u8
     ensures { (said : AnyLogReading) (number : ℕ) → said.csv ≡ false → said.from ≡ Some number
-        → AskFor (map string_bytes words.now) (Log said) → result ≡ 0
-        → UsesSocket (socket_rules S.opens S.closes S.Socket.sends S.Socket.receives
-        S.Socket.receives_within) (own_address said.asked.local) said.asked.timeout sockets.old
-        (λ port last. IsLoggedAtRest (socket_rules S.opens S.closes S.Socket.sends
-        S.Socket.receives S.Socket.receives_within) said.asked
-        (walk_from said.instance (Some number) said.count) said.steps port last
-        (O.contents output.old) (O.contents output.new)) sockets.new }
+        → AskFor (map string_bytes words.now) (Log said) → result ≡ 0 → UsesSocket
+        (socket_rules S.opens S.closes S.Socket.sends S.Socket.receives S.Socket.receives_within)
+        (own_address said.asked.local) said.asked.timeout sockets.old
+        (λ port last. IsLoggedAtRest
+        (socket_rules S.opens S.closes S.Socket.sends S.Socket.receives S.Socket.receives_within)
+        said.asked (walk_from said.instance (Some number) said.count) said.steps
+        (console port (O.contents output.old)) (console last (O.contents output.new))) sockets.new }
 {
     run(sockets, alloc, words, input, output, errors, clock)
 }

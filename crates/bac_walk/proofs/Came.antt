@@ -16,7 +16,7 @@ use Rattle.bac_link.specs.Delivery.{History, Moment, Brings, Leads, DeliversTo, 
 use Rattle.bac_link.specs.Path.{Path}
 use Rattle.bac_log.specs.TrendLog.{sequence_number}
 use Rattle.bac_link.specs.Moments.{NeverGoesBack}
-use Rattle.bac_walk.specs.Came.{Came, Comes, Brought, AreSaidAt, AreOf, EndsBy, EndsEmpty, EndsWith, BroughtIsDelivered, CameIsDelivered, SaidIsTaken, IsCutIn, answers_of, restarted}
+use Rattle.bac_walk.specs.Came.{Came, Comes, Brought, AreSaidAt, AreOf, EndsBy, EndsEmpty, EndsWith, BroughtIsDelivered, CameIsDelivered, SaidIsTaken, IsCutIn, answers_of, restarted, reaching, walk_over}
 use Rattle.bac_walk.specs.Collects.{batches, turn_items, IsCaughtUp, start_of}
 use Rattle.bac_walk.specs.Delivers.{NoneFrom}
 use Rattle.bac_link.specs.Moments.{IsInWindow, AreInWindow}
@@ -208,7 +208,7 @@ with_rest H M low s w next after CaughtUp c came some back window means is place
 
 came_leads : {S : Type 0} (asks : Asking S) (path : Path) (retries : ℕ) (came : List Came) (old new : S) (w after : WalkPlace)
     (H : History) (M : List Moment) (low s : ℕ) →
-    Comes asks path retries old w came after new → AreSaidAt H M came → w.next ≡ sequence_number s →
+    Comes (reaching asks path retries) (walk_over old w) came (walk_over new after) → AreSaidAt H M came → w.next ≡ sequence_number s →
     0 < length M → NeverGoesBack M → AreInWindow low M → (w.fresh ≡ false → (low ≤ s) × (s < low + 2147483648)) →
     Delivers low H M s w after came
 came_leads asks path retries [] old new w after H M low s comes said here some back window at =
@@ -220,7 +220,7 @@ came_leads asks path retries (c ∷ came) old new w after H M low s (mid, next, 
     with_rest H M low s w next after p c came some back (window_now low M some window) means is place here at (after_is came rest)
     (λ u shown in_window. came_leads asks path retries came mid new next after H (later M) low u rest said.1 shown (some_later M some) (back_later M back) (window_later low M window) in_window)
   where
-    after_is : (came : List Came) → Comes asks path retries mid next came after new → came ≡ [] → after ≡ next
+    after_is : (came : List Came) → Comes (reaching asks path retries) (walk_over mid next) came (walk_over new after) → came ≡ [] → after ≡ next
     after_is [] rest none = rest.0
     after_is (d ∷ came) rest none = absurd (cc)
 
@@ -322,7 +322,7 @@ whole_run w here after s came items ended H M d place is up =
     (d.0, d.1, d.2, ap (λ (v : WalkPlace). v.next) place ∙ d.3, (d.1, d.4), (answers_of came, refl, sym is, d.4, refl), λ e. d.6 refl (up e))
 
 run_ended : {S : Type 0} (asks : Asking S) (path : Path) (retries : ℕ) (new mid : S) (w here after : WalkPlace) (s steps : ℕ) (came : List Came) (items : List Item) (ended : Ended) (H : History) (M : List Moment) →
-    CameTo w here s came H M → EndsBy asks path retries steps came here mid ended after new → AreOf ended came items after → Ran w after s came items ended H M
+    CameTo w here s came H M → EndsBy (reaching asks path retries) steps came (walk_over mid here) ended (walk_over new after) → AreOf ended came items after → Ran w after s came items ended H M
 run_ended asks path retries new mid w here after s steps came items IsUp H M d ends are = whole_run w here after s came items IsUp H M d ends.2 are (λ e. ends.0)
 run_ended asks path retries new mid w here after s steps came items StepLimit H M d ends are = whole_run w here after s came items StepLimit H M d ends.2 are (λ e. absurd (cc))
 run_ended asks path retries new mid w here after s steps came items (Fault f) H M d ends are = whole_run w here after s came items (Fault f) H M d ends.2 are (λ e. absurd (cc))
@@ -339,7 +339,7 @@ run_ended asks path retries new mid w here after s steps came items Stopped H M 
 
 pub brought_ran : {S : Type 0} (asks : Asking S) (path : Path) (retries : ℕ) (old new : S) (w after : WalkPlace) (steps : ℕ) (came : List Came) (items : List Item) (ended : Ended)
     (H : History) (M : List Moment) (low s : ℕ) →
-    Brought asks path retries old w steps came items ended after new → AreSaidAt H M came → w.next ≡ sequence_number s →
+    Brought (reaching asks path retries) (walk_over old w) steps came items ended (walk_over new after) → AreSaidAt H M came → w.next ≡ sequence_number s →
     0 < length M → NeverGoesBack M → AreInWindow low M → (w.fresh ≡ false → (low ≤ s) × (s < low + 2147483648)) →
     Ran w after s came items ended H M
 brought_ran asks path retries old new w after steps came items ended H M low s run said here some back window at =

@@ -4,12 +4,12 @@ use Rattle.std.proofs.lemmas.List.{length-append}
 use Rattle.bac_link.specs.declared.exchanges.ExchangeFault.{ExchangeFault}
 use Rattle.bac_link.specs.declared.item.Item.{Item}
 use Rattle.bac_link.specs.declared.item.Item.TheVariants.{Logged}
-use Rattle.bac_link.specs.Exchanges.{Exchanges, Unanswered}
+use Rattle.bac_link.specs.Exchanges.{Exchanges, Unanswered, way_by}
 use Rattle.bac_link.specs.Links.{question}
 use Rattle.bac_link.specs.Path.{Path}
 use Rattle.bac_link.specs.Requests.{request_octets}
 use Rattle.bac_link.specs.declared.link.Lost.{Lost as Loss}
-use Rattle.bac_walk.specs.Came.{AreOf, Came, Comes, LostIsAsked, NothingCame}
+use Rattle.bac_walk.specs.Came.{AreOf, Came, Comes, LostIsAsked, NothingCame, reaching, walk_over}
 use Rattle.bac_walk.specs.Place.{WalkPlace}
 use Rattle.bac_walk.specs.Walks.{question_of}
 use Rattle.bac_walk.specs.declared.outcome.Ended.{Ended}
@@ -27,11 +27,11 @@ lost_asked {S = S} asks = λ count path retries old new w after steps came items
     let here : WalkPlace = run.0 in
     let mid : S = run.1 in
     let asked = run.3.1.1 in
-    let P : Result (List ℕ) ExchangeFault → Type 0 = λ r. Exchanges asks path asked.0 (question here.log (question_of here)) retries mid r new in
+    let P : Result (List ℕ) ExchangeFault → Type 0 = λ r. Exchanges asks (way_by path asked.0 retries) (question here.log (question_of here)) mid r new in
     (here, mid, run.2, counted asks count (request_octets path asked.0 (question here.log (question_of here))) one (retries + 1) mid new (subst P run.3.1.2 asked.1))
 
 none_came : {S : Type 0} (asks : Asking S) (path : Path) (retries : ℕ) (old mid : S) (w here : WalkPlace) (came : List Came) →
-    ((a b : S) (octets datagram : List ℕ) → asks a octets (Ok datagram) b → ⊥) → Comes asks path retries old w came here mid → came ≡ []
+    ((a b : S) (octets datagram : List ℕ) → asks a octets (Ok datagram) b → ⊥) → Comes (reaching asks path retries) (walk_over old w) came (walk_over mid here) → came ≡ []
 none_came asks path retries old mid w here [] silent comes = refl
 none_came asks path retries old mid w here (c ∷ came) silent comes =
     absurd (let answers = comes.4.1 in silent answers.1 comes.0 _ c.datagram answers.4)

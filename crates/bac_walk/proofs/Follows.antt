@@ -8,7 +8,7 @@ use Rattle.bac_walk.specs.declared.outcome.Ended.{Ended}
 use Rattle.bac_walk.specs.declared.outcome.Ended.TheVariants.{CaughtUp, StepLimit, Stopped, Fault}
 use Rattle.bac_walk.specs.declared.outcome.Progress.{Progress}
 use Rattle.bac_walk.specs.declared.outcome.Progress.TheVariants.{Batch as BatchOf, AskOldest, CaughtUp as IsUp}
-use Rattle.bac_walk.specs.Came.{Came, Asks, AreOf, Comes, EndsBy, EndsEmpty, answers_of, restarted}
+use Rattle.bac_walk.specs.Came.{Came, Asks, AreOf, Comes, EndsBy, EndsEmpty, answers_of, restarted, reaching, walk_over}
 use Rattle.bac_walk.specs.Collects.{Goes, turn_items}
 use Rattle.bac_walk.specs.Follows.{BroughtGoes, BroughtTells}
 use Rattle.bac_walk.specs.Place.{WalkPlace}
@@ -36,7 +36,7 @@ says_up asks path retries old new w c IsUp next asked taken is none oldest =
     subst Q (sym same) (c.datagram, (old, asked.0, asked.1), subst P same taken)
 
 last_up : {S : Type 0} (asks : Asking S) (path : Path) (retries : ℕ) (old new : S) (w here : WalkPlace) (came : List Came) →
-    Comes asks path retries old w came here new → EndsEmpty came → ToldUp asks path retries here new
+    Comes (reaching asks path retries) (walk_over old w) came (walk_over new here) → EndsEmpty came → ToldUp asks path retries here new
 last_up asks path retries old new w here [] comes ends = absurd ends
 last_up {S = S} asks path retries old new w here (c ∷ []) comes ends =
     let N : WalkPlace → Type 0 = λ v. asks_oldest_now v ≡ true in
@@ -47,7 +47,7 @@ last_up {S = S} asks path retries old new w here (c ∷ []) comes ends =
 last_up asks path retries old new w here (c ∷ d ∷ came) comes ends = last_up asks path retries comes.0 new comes.1 here (d ∷ came) comes.7 ends
 
 tells : {S : Type 0} (asks : Asking S) (path : Path) (retries steps : ℕ) (old mid new : S) (w here after : WalkPlace) (came : List Came) (ended : Ended) →
-    Comes asks path retries old w came here mid → EndsBy asks path retries steps came here mid ended after new →
+    Comes (reaching asks path retries) (walk_over old w) came (walk_over mid here) → EndsBy (reaching asks path retries) steps came (walk_over mid here) ended (walk_over new after) →
     (restarted here ≡ restarted after) × Told asks path retries ended here new ⊎ (ended ≡ Stopped)
 tells {S = S} asks path retries steps old mid new w here after came CaughtUp comes ends =
     let P : S → Type 0 = λ l. ToldUp asks path retries here l in
@@ -68,7 +68,7 @@ brought_tells asks path retries old new before after steps came items ended brou
 -- ---- its numbers go on
 
 replies_go : {S : Type 0} (asks : Asking S) (path : Path) (retries : ℕ) (old new : S) (w here : WalkPlace) (came : List Came) →
-    Comes asks path retries old w came here new → (s : ℕ) → Goes w.fresh w.next s (items_of (answers_of came)) here.fresh here.next
+    Comes (reaching asks path retries) (walk_over old w) came (walk_over new here) → (s : ℕ) → Goes w.fresh w.next s (items_of (answers_of came)) here.fresh here.next
 replies_go asks path retries old new w here [] comes s =
     let P : WalkPlace → Type 0 = λ v. Goes w.fresh w.next s [] v.fresh v.next in subst P (sym comes.0) (stays_goes w.fresh w.next s)
 replies_go asks path retries old new w here (c ∷ came) comes s =
@@ -88,7 +88,7 @@ whole_goes fresh before here after whole items same is goes s =
 
 ends_go : {S : Type 0} (asks : Asking S) (path : Path) (retries steps : ℕ) (mid new : S) (fresh : Bool) (before : ℕ) (here after : WalkPlace)
     (came : List Came) (items : List Item) (ended : Ended) →
-    EndsBy asks path retries steps came here mid ended after new → AreOf ended came items after →
+    EndsBy (reaching asks path retries) steps came (walk_over mid here) ended (walk_over new after) → AreOf ended came items after →
     ((s : ℕ) → Goes fresh before s (items_of (answers_of came)) here.fresh here.next) →
     (s : ℕ) → Goes fresh before s items after.fresh after.next
 ends_go asks path retries steps mid new fresh before here after came items CaughtUp ends are goes =

@@ -10,10 +10,10 @@ use Rattle.bac_link.specs.declared.link.Lost.{Lost as Loss}
 use Rattle.bac_link.specs.declared.transactions.Transactions.{Transactions}
 use Rattle.bac_link.specs.Datagrams.{apdu_in}
 use Rattle.bac_link.specs.Delivery.{History, Moment, later}
-use Rattle.bac_link.specs.Exchanges.{Answers, Unanswered}
+use Rattle.bac_link.specs.Exchanges.{Answers, Unanswered, way_by}
 use Rattle.bac_link.specs.Growing.{Standing, IsStanding, IsOnward, IsGiven, StaysHonest, StaysHonestWhere}
 use Rattle.bac_link.specs.Heard.{heard_in}
-use Rattle.bac_link.specs.Honest.{IsAskedIn, asked_octets}
+use Rattle.bac_link.specs.Honest.{IsAskedIn, asked_octets, asked_log}
 use Rattle.bac_link.specs.Links.{question}
 use Rattle.bac_link.specs.Moments.{NeverGoesBack}
 use Rattle.bac_link.specs.Path.{Path, towards}
@@ -22,12 +22,12 @@ use Rattle.bac_link.specs.Standard.{IsSaidAt}
 use Rattle.bac_link.proofs.Growing.{further_on, goes_further, goes_itself, honest_stays, said_on, stays_on, stays_there, within_on}
 use Rattle.bac_link.proofs.Honest.{stands_honest}
 use Rattle.bac_log.specs.TrendLog.{sequence_number}
-use Rattle.bac_walk.specs.Came.{Came, AreSaidAt, BroughtIsDelivered, answers_of, restarted}
-use Rattle.bac_walk.specs.Transacted.{AsksBy, BroughtBy, BroughtIntoBy, ComesBy, EndsAfter, asked, spare}
+use Rattle.bac_walk.specs.Came.{Came, AreSaidAt, BroughtIsDelivered, answers_of, restarted, reaching, walk_over, reaching_by}
+use Rattle.bac_walk.specs.Transacted.{AsksBy, BroughtBy, BroughtIntoBy, ComesBy, EndsAfter, asked, spare, walk_by}
 use Rattle.bac_walk.proofs.Transacted.{brought_plain}
 use Rattle.bac_walk.specs.Collects.{batches}
 use Rattle.bac_walk.specs.Growing.{AreLeftAt, DeliversGrowing, GrowingIsDelivered, HasGone, OursStayHonest, most_asks, standing_at}
-use Rattle.bac_walk.specs.Honest.{IsHonestEnd, OursAreHonest}
+use Rattle.bac_walk.specs.Honest.{IsHonestEnd, OursAreHonest, log_course}
 use Rattle.bac_walk.specs.Meant.{Means}
 use Rattle.bac_walk.specs.Place.{WalkPlace}
 use Rattle.bac_walk.specs.Walks.{asked_by, question_of}
@@ -43,7 +43,7 @@ use Rattle.bac_walk.proofs.Back.{never_back}
 use Rattle.bac_walk.proofs.Came.{brought_ran, cut_of, delivered_to}
 use Rattle.bac_walk.proofs.Honest.{as_ended}
 use Rattle.bac_walk.specs.Outcomes.{IsRunOf}
-use Rattle.bac_walk.specs.Sinks.{Call, Takes, is_stopped, put_items}
+use Rattle.bac_walk.specs.Sinks.{Call, Takes, is_stopped, put_items, sink_filled}
 use Rattle.bac_walk.specs.Told.{ended_of}
 use Rattle.bac_walk.specs.declared.batch.Gap.{Gap as GapOf}
 use Rattle.bac_walk.specs.declared.batch.Numbered.{Numbered}
@@ -76,7 +76,7 @@ Reaches stands low at more link = (next : Standing) × IsOnward low at next × s
 
 -- what one ask of the walk's question brings
 one_ask : {S : Type 0} (asks : Asking S) (stands : Standings S) (path : Path) (log : Id) (count low more : ℕ) (at : Standing) (w : WalkPlace) (invoke : ℕ) (old new : S) (answer : Result (List ℕ) Loss) →
-    StaysHonestWhere asks path log count low stands → Place low log count w → stands (suc more) old at → asks old (asked_for path invoke w) answer new →
+    StaysHonestWhere asks (asked_log path log count) low stands → Place low log count w → stands (suc more) old at → asks old (asked_for path invoke w) answer new →
     (next : Standing) × IsOnward low at next × IsGiven next w.log (asked_by w) (asked_for path invoke w) answer × stands more new next
 one_ask asks stands path log count low more at w invoke old new answer honest here stood asked =
     let P : Id → Type 0 = λ i. asks old (asked_octets path invoke i (asked_by w)) answer new in
@@ -84,7 +84,7 @@ one_ask asks stands path log count low more at w invoke old new answer honest he
     subst Q (sym here.log_is) (honest.goes_on more old new at (asked_by w) invoke answer stood (subst (λ n. IsAskedIn low n (asked_by w)) here.count_is (asked_in w low here.ordinal here.next here.at)) (subst P here.log_is asked))
 
 unanswered : {S : Type 0} (asks : Asking S) (stands : Standings S) (path : Path) (log : Id) (count low more : ℕ) (at : Standing) (w : WalkPlace) (invoke n : ℕ) (old new : S) →
-    StaysHonestWhere asks path log count low stands → Place low log count w → IsStanding low at → stands (n + more) old at → Unanswered asks (asked_for path invoke w) n old new →
+    StaysHonestWhere asks (asked_log path log count) low stands → Place low log count w → IsStanding low at → stands (n + more) old at → Unanswered asks (asked_for path invoke w) n old new →
     Reaches stands low at more new
 unanswered asks stands path log count low more at w invoke zero old new honest here is stood none =
     let e : 0 + more ≡ more = omega arith in
@@ -96,7 +96,7 @@ unanswered asks stands path log count low more at w invoke (suc n) old new hones
     (y.0, further_on low at x.0 y.0 x.1 y.1, y.3)
 
 -- for fewer asks
-fewer_by : {S : Type 0} (asks : Asking S) (stands : Standings S) (path : Path) (log : Id) (count low j more : ℕ) (link : S) (at : Standing) → StaysHonestWhere asks path log count low stands →
+fewer_by : {S : Type 0} (asks : Asking S) (stands : Standings S) (path : Path) (log : Id) (count low j more : ℕ) (link : S) (at : Standing) → StaysHonestWhere asks (asked_log path log count) low stands →
     stands (j + more) link at → stands more link at
 fewer_by asks stands path log count low zero more link at honest stood =
     let e : 0 + more ≡ more = omega arith in subst (λ k. stands k link at) e stood
@@ -105,8 +105,8 @@ fewer_by asks stands path log count low (suc j) more link at honest stood =
     fewer_by asks stands path log count low j more link at honest (honest.fewer (j + more) link at (subst (λ k. stands k link at) e stood))
 
 answered : {S : Type 0} (asks : Asking S) (stands : Standings S) (path : Path) (log : Id) (count low more : ℕ) (at : Standing) (w : WalkPlace) (invoke retries : ℕ) (v : Verdict) (old : S) (datagram : List ℕ) (new : S) →
-    StaysHonestWhere asks path log count low stands → Place low log count w → IsStanding low at → stands ((retries + 1) + more) old at →
-    Answers asks path invoke (question w.log (question_of w)) retries v old datagram new →
+    StaysHonestWhere asks (asked_log path log count) low stands → Place low log count w → IsStanding low at → stands ((retries + 1) + more) old at →
+    Answers asks (way_by path invoke retries) (question w.log (question_of w)) v old datagram new →
     (next : Standing) × IsOnward low at next × IsSaidAt next.moment next.history w.log (asked_by w) datagram × stands more new next × (v ≡ verdict.Ack)
 answered asks stands path log count low more at w invoke retries v old datagram new honest here is stood (tries, mid, few, first, ask, answer) =
     let j : ℕ = retries - tries in
@@ -156,22 +156,22 @@ later_of m (n ∷ M) some = refl
 
 -- what replies came to, and the end
 abbrev Went : {S : Type 0} (asks : Asking S) (stands : Standings S) (low more : ℕ) (at : Standing) (first : Transactions) (old : S) (w : WalkPlace) (came : List Came) (here : WalkPlace) (last : Transactions) (mid new : S)
-    (ended : Ended) → ComesBy asks first old w came here last mid → Type 0
+    (ended : Ended) → ComesBy asks (walk_by old first w) came (walk_by mid last here) → Type 0
 Went {S = S} asks stands low more at first old w came here last mid new ended comes =
     (H : History) × (M : List Moment) × HasGone low at H M (length came) × AreSaidAt H M came
-    × AreLeftAt asks stands first old w came here last mid comes H M
+    × AreLeftAt asks stands (walk_by old first w) came (walk_by mid last here) comes (log_course H M)
     × stands more new (standing_at H M (length came)) × IsHonestEnd ended
 
 -- a reply, and those after it
 with_reply : {S : Type 0} (asks : Asking S) (stands : Standings S) (low more left : ℕ) (at then : Standing) (first : Transactions) (old : S) (w : WalkPlace) (c : Came) (came : List Came) (here : WalkPlace) (last : Transactions) (mid new : S)
     (ended : Ended) → IsOnward low at then → IsSaidAt then.moment then.history c.place.log (asked_by c.place) c.datagram →
-    (comes : ComesBy asks first old w (c ∷ came) here last mid) → stands left comes.0 then → Went asks stands low more then (asked w first) comes.0 comes.1 came here last mid new ended comes.7 →
+    (comes : ComesBy asks (walk_by old first w) (c ∷ came) (walk_by mid last here)) → stands left comes.0 then → Went asks stands low more then (asked w first) comes.0 comes.1 came here last mid new ended comes.7 →
     Went asks stands low more at first old w (c ∷ came) here last mid new ended comes
 with_reply {S = S} asks stands low more left at then first old w c came here last mid new ended on said comes stood (H, M, gone, says, are, end, honest) =
     let some : 0 < length M = omega (arith, gone.many) in
     let same = sym (later_of then.moment M some) in
     let A : List Moment → Type 0 = λ N. AreSaidAt H N came in
-    let L : List Moment → Type 0 = λ N. AreLeftAt asks stands (asked w first) comes.0 comes.1 came here last mid comes.7 H N in
+    let L : List Moment → Type 0 = λ N. AreLeftAt asks stands (walk_by comes.0 (asked w first) comes.1) came (walk_by mid last here) comes.7 (log_course H N) in
     let E : List Moment → Type 0 = λ N. stands more new (standing_at H N (length came)) in (
       H,
       then.moment ∷ M,
@@ -195,8 +195,8 @@ Ends stands low more here log count left mid new ended =
     (next : Standing) × IsOnward low at next × stands more new next × IsHonestEnd ended
 
 came_went : {S : Type 0} (asks : Asking S) (stands : Standings S) (log : Id) (count low left more : ℕ) (came : List Came) (at : Standing) (first : Transactions) (old : S) (w here : WalkPlace) (last : Transactions) (mid new : S) (ended : Ended) →
-    StaysHonestWhere asks (towards first.route) log count low stands → Place low log count w → IsStanding low at → stands (length came * (first.retries + 1) + left) old at →
-    (comes : ComesBy asks first old w came here last mid) → Ends stands low more here log count left mid new ended → Went asks stands low more at first old w came here last mid new ended comes
+    StaysHonestWhere asks (asked_log (towards first.route) log count) low stands → Place low log count w → IsStanding low at → stands (length came * (first.retries + 1) + left) old at →
+    (comes : ComesBy asks (walk_by old first w) came (walk_by mid last here)) → Ends stands low more here log count left mid new ended → Went asks stands low more at first old w came here last mid new ended comes
 came_went {S = S} asks stands log count low left more [] at first old w here last mid new ended honest place is stood comes ends =
     let e : 0 * (first.retries + 1) + left ≡ left = omega arith in
     let x = ends at is (subst (λ v. Place low log count v) (sym comes.0) place) (subst (λ l. stands left l at) (sym comes.1) (subst (λ k. stands k old at) e stood)) in (
@@ -238,7 +238,7 @@ same_end stands log count low more here mid new ended honest same = λ at is pla
     (at, stays_there low at is, subst (λ l. stands more l at) (sym same) (subst (λ k. stands k mid at) e stood), honest)
 
 run_ends : {S : Type 0} (asks : Asking S) (stands : Standings S) (log : Id) (count low more steps : ℕ) (first : Transactions) (came : List Came) (here after : WalkPlace) (last : Transactions) (mid new : S) (ended : Ended) →
-    StaysHonestWhere asks (towards first.route) log count low stands → EndsAfter asks first steps came here mid ended after last new → Ends stands low more here log count (last_asks ended first.retries + more) mid new ended
+    StaysHonestWhere asks (asked_log (towards first.route) log count) low stands → EndsAfter asks steps came (walk_by mid first here) ended (walk_by new last after) → Ends stands low more here log count (last_asks ended first.retries + more) mid new ended
 run_ends asks stands log count low more steps first came here after last mid new IsUp honest ends = same_end stands log count low more here mid new IsUp tt ends.3
 run_ends asks stands log count low more steps first came here after last mid new StepLimit honest ends = same_end stands log count low more here mid new StepLimit tt ends.3
 run_ends asks stands log count low more steps first came here after last mid new Stopped honest ends = same_end stands log count low more here mid new Stopped tt ends.3
@@ -282,7 +282,7 @@ last_is (Fault f) retries = omega arith
 
 -- a run has at most two questions a step
 few_questions : {S : Type 0} (asks : Asking S) (first : Transactions) (steps : ℕ) (came : List Came) (here after : WalkPlace) (last : Transactions) (mid new : S) (ended : Ended) →
-    EndsAfter asks first steps came here mid ended after last new → length came ≤ 2 * batches (answers_of came) + spare ended → length came + lasts ended ≤ 2 * steps
+    EndsAfter asks steps came (walk_by mid first here) ended (walk_by new last after) → length came ≤ 2 * batches (answers_of came) + spare ended → length came + lasts ended ≤ 2 * steps
 few_questions asks first steps came here after last mid new IsUp ends few = omega (arith, ends.1, few)
 few_questions asks first steps came here after last mid new StepLimit ends few = omega (arith, ends.1, few)
 few_questions asks first steps came here after last mid new Stopped ends few = omega (arith, ends.2, few)
@@ -297,7 +297,7 @@ split_asks steps retries c l more few =
     subst P (sym e) (omega (arith, add-mul d (c + l) (retries + 1), add-mul c l (retries + 1)))
 
 -- the way and the retries stay
-ways_stay : {S : Type 0} (asks : Asking S) (came : List Came) (first : Transactions) (old : S) (w here : WalkPlace) (last : Transactions) (mid : S) → ComesBy asks first old w came here last mid →
+ways_stay : {S : Type 0} (asks : Asking S) (came : List Came) (first : Transactions) (old : S) (w here : WalkPlace) (last : Transactions) (mid : S) → ComesBy asks (walk_by old first w) came (walk_by mid last here) →
     (last.route ≡ first.route) × (last.retries ≡ first.retries)
 ways_stay asks [] first old w here last mid comes = (ap (λ (t : Transactions). t.route) comes.2, ap (λ (t : Transactions). t.retries) comes.2)
 ways_stay asks (c ∷ came) first old w here last mid comes = ways_stay asks came (asked w first) comes.0 comes.1 here last mid comes.7
@@ -307,7 +307,7 @@ back_of m [] back = tt
 back_of m (n ∷ M) back = back.2
 
 run_went : {S : Type 0} (asks : Asking S) (stands : Standings S) (first last : Transactions) (old new : S) (w after : WalkPlace) (steps : ℕ) (came : List Came) (items : List Item) (ended : Ended) (at : Standing) (low s more : ℕ) →
-    StaysHonestWhere asks (towards first.route) w.log w.count low stands → stands (most_asks steps first.retries + more) old at → IsStanding low at → (run : BroughtBy asks first old w steps came items ended after last new) →
+    StaysHonestWhere asks (asked_log (towards first.route) w.log w.count) low stands → stands (most_asks steps first.retries + more) old at → IsStanding low at → (run : BroughtBy asks (walk_by old first w) steps came items ended (walk_by new last after)) →
     w.next ≡ sequence_number s → (w.fresh ≡ false → (low ≤ s) × (s < low + 2147483648)) →
     Went asks stands low more at first old (restarted w) came run.here run.half run.mid new ended run.comes
 run_went {S = S} asks stands first last old new w after steps came items ended at low s more honest stood is run next window =
@@ -319,7 +319,7 @@ run_went {S = S} asks stands first last old new w after steps came items ended a
     let all : most_asks steps r + more ≡ (2 * steps - (length came + lasts ended)) * (r + 1) + (length came * (r + 1) + left) =
     split_asks steps r (length came) (lasts ended) more few ∙ ap (λ n. (2 * steps - (length came + lasts ended)) * (r + 1) + (length came * (r + 1) + (n + more))) (sym (last_is ended r)) in
     let begun = fewer_by asks stands (towards first.route) w.log w.count low ((2 * steps - (length came + lasts ended)) * (r + 1)) (length came * (r + 1) + left) old at honest (subst (λ n. stands n old at) all stood) in
-    let there = subst (λ y. StaysHonestWhere asks (towards y) w.log w.count low stands) (sym ways.0) honest in
+    let there = subst (λ y. StaysHonestWhere asks (asked_log (towards y) w.log w.count) low stands) (sym ways.0) honest in
     let E : ℕ → Type 0 = λ k. Ends stands low more run.here w.log w.count (last_asks ended k + more) run.mid new ended in
     came_went asks stands w.log w.count low left more came at first old (restarted w) run.here run.half run.mid new ended honest place is begun run.comes
     (subst E ways.1 (run_ends asks stands w.log w.count low more steps run.half came run.here after last run.mid new ended there run.ends))
@@ -341,10 +341,10 @@ growing_delivers asks stands law = λ first last old new w after steps came item
 -- ---- what a run delivers
 
 pub delivers_growing : {S : Type 0} (asks : Asking S) (first last : Transactions) (old new : S) (w after : WalkPlace) (steps : ℕ) (items : List Item) (ended : Ended) →
-    (came : List Came) × BroughtBy asks first old w steps came items ended after last new → DeliversGrowing asks (towards first.route) first.retries old w steps items ended after new
+    (came : List Came) × BroughtBy asks (walk_by old first w) steps came items ended (walk_by new last after) → DeliversGrowing (reaching_by asks first) (walk_over old w) steps items ended (walk_over new after)
 delivers_growing {S = S} asks first last old new w after steps items ended (came, run) = λ at s low more honest is next window.
     let path = towards first.route in
-    let stands : Standings S = λ n link at. StaysHonest asks path w.log w.count low n link at in
+    let stands : Standings S = λ n link at. StaysHonest asks (asked_log path w.log w.count) low n link at in
     let went = run_went asks stands first last old new w after steps came items ended at low s more (stays_on asks path w.log w.count low) honest is run next window in
     let H = went.0 in
     let M = went.1 in
@@ -373,14 +373,14 @@ delivers_growing {S = S} asks first last old new w after steps items ended (came
 
 -- of fewer steps
 growing_fewer : {S : Type 0} (asks : Asking S) (path : Path) (retries : ℕ) (old new : S) (w after : WalkPlace) (n steps : ℕ) (items : List Item) (ended : Ended) → n ≤ steps →
-    DeliversGrowing asks path retries old w n items ended after new → DeliversGrowing asks path retries old w steps items ended after new
+    DeliversGrowing (reaching asks path retries) (walk_over old w) n items ended (walk_over new after) → DeliversGrowing (reaching asks path retries) (walk_over old w) steps items ended (walk_over new after)
 growing_fewer {S = S} asks path retries old new w after n steps items ended le delivers = λ at s low more honest is next window.
     let d : ℕ = (2 * (steps - n)) * (retries + 1) in
     let twice : 2 * steps ≡ 2 * n + 2 * (steps - n) = omega (arith, le) in
     let P : ℕ → Type 0 = λ k. k * (retries + 1) + more ≡ most_asks n retries + (d + more) in
     let e : most_asks steps retries + more ≡ most_asks n retries + (d + more) = subst P (sym twice) (omega (arith, add-mul (2 * n) (2 * (steps - n)) (retries + 1))) in
-    let stands : Standings S = λ k link at. StaysHonest asks path w.log w.count low k link at in
-    let x = delivers at s low (d + more) (subst (λ k. StaysHonest asks path w.log w.count low k old at) e honest) is next window in
+    let stands : Standings S = λ k link at. StaysHonest asks (asked_log path w.log w.count) low k link at in
+    let x = delivers at s low (d + more) (subst (λ k. StaysHonest asks (asked_log path w.log w.count) low k old at) e honest) is next window in
     (x.0, fewer_by asks stands path w.log w.count low d more new (standing_at x.0.history x.0.moments (length x.0.came)) (stays_on asks path w.log w.count low) x.1)
 
 pub few_steps : (why : Why) (steps n : ℕ) (ended : Ended) → IsRunOf why steps n ended → n ≤ steps
@@ -390,16 +390,16 @@ few_steps (WasFault e) steps n ended run = omega (arith, run.0)
 few_steps Memory steps n ended run = omega (arith, run.0)
 
 pub growing_run : {S : Type 0} (asks : Asking S) (first last : Transactions) (old new : S) (w after : WalkPlace) (steps : ℕ) (items : List Item) (why : Why) →
-    (n : ℕ) × (ended : Ended) × IsRunOf why steps n ended × ((came : List Came) × BroughtBy asks first old w n came items ended after last new) →
-    DeliversGrowing asks (towards first.route) first.retries old w steps items (ended_of why) after new
+    (n : ℕ) × (ended : Ended) × IsRunOf why steps n ended × ((came : List Came) × BroughtBy asks (walk_by old first w) n came items ended (walk_by new last after)) →
+    DeliversGrowing (reaching_by asks first) (walk_over old w) steps items (ended_of why) (walk_over new after)
 growing_run asks first last old new w after steps items why (n, ended, run, brought) =
-    let P : Ended → Type 0 = λ e. DeliversGrowing asks (towards first.route) first.retries old w steps items e after new in
+    let P : Ended → Type 0 = λ e. DeliversGrowing (reaching_by asks first) (walk_over old w) steps items e (walk_over new after) in
     subst P (as_ended why steps n ended run)
     (growing_fewer asks (towards first.route) first.retries old new w after n steps items ended (few_steps why steps n ended run) (delivers_growing asks first last old new w after n items ended brought))
 
 pub into_growing : {S T : Type 0} (asks : Asking S) (first last : Transactions) (puts : T → Option GapOf → Numbered → Bool → T → Type 0) (old new : S) (sink left : T) (w after : WalkPlace) (steps : ℕ) (ended : Ended) →
-    BroughtIntoBy asks first puts old sink w steps ended after left last new →
-    (calls : List Call) × Takes puts sink calls (is_stopped ended) left × DeliversGrowing asks (towards first.route) first.retries old w steps (put_items calls) ended after new
+    BroughtIntoBy asks (sink_filled puts sink left) (walk_by old first w) steps ended (walk_by new last after) →
+    (calls : List Call) × Takes puts sink calls (is_stopped ended) left × DeliversGrowing (reaching_by asks first) (walk_over old w) steps (put_items calls) ended (walk_over new after)
 into_growing asks first last puts old new sink left w after steps ended (calls, takes, few, gaps, brought) =
     (calls, takes, delivers_growing asks first last old new w after steps (put_items calls) ended brought)
 

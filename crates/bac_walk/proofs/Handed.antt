@@ -19,8 +19,8 @@ use Rattle.bac_link.specs.Laws.{after_answers}
 use Rattle.bac_link.proofs.Delivers.{brings_cut}
 use Rattle.bac_walk.specs.Near.{IsNearStep}
 use Rattle.bac_walk.specs.Walks.{gap_items, item_of, items_in}
-use Rattle.bac_walk.specs.Collects.{Goes, Collected, LeadsInSteps, start_of, IsFreshAfter, FoundEnd, FoundStep, batches, step_items, step_ended, is_fresh_after}
-use Rattle.bac_walk.specs.Sinks.{Call, put_items, gaps, Takes, PutAll, IsRun, Delivery}
+use Rattle.bac_walk.specs.Collects.{Goes, Collected, LeadsInSteps, start_of, IsFreshAfter, FoundEnd, FoundStep, batches, step_items, step_ended, is_fresh_after, our_log, started_at, losses_of, yield}
+use Rattle.bac_walk.specs.Sinks.{Call, put_items, gaps, Takes, PutAll, IsRun, Delivery, sink_filled, ours_around}
 use Rattle.bac_walk.specs.Handing.{walk_after, ended_after, HandedOn}
 use Rattle.bac_walk.proofs.Goes.{cut_goes}
 use Rattle.bac_walk.proofs.Shown.{after-number}
@@ -95,7 +95,7 @@ record CutRun (r count : ℕ) (H : History) (M : List Moment) (fresh : Bool) (ne
   cut : List (List Item)
   many : length cut ≡ length answers
   some : 0 < batches cut
-  run : Collected r count H M fresh next 1 retries old new items t Stopped cut
+  run : Collected (our_log r M H) (started_at count fresh next) 1 (losses_of retries old new) (yield items Stopped) t cut
 
 -- one batch, from an ordinal
 cut_batch : (H : History) (m : Moment) (s t k : ℕ) (e : Entry) (pre post : List Item) (batch reply : List Item) (y : Item) (ys : List Item) →
@@ -123,7 +123,7 @@ same_second true next M x y b ys = refl
 same_second false next M x y b ys = refl
 
 cut_run : (r count : ℕ) (H : History) (M : List Moment) (fresh : Bool) (next retries old new t k : ℕ) (e : Entry) (pre post : List Item) (answers : List (List Item)) →
-    Collected r count H M fresh next 1 retries old new (pre ++ Logged k e ∷ post) t StepLimit answers →
+    Collected (our_log r M H) (started_at count fresh next) 1 (losses_of retries old new) (yield (pre ++ Logged k e ∷ post) StepLimit) t answers →
     CutRun r count H M fresh next retries old new k (pre ++ Logged k e ∷ []) answers
 cut_run r count H M fresh next retries old new t k e [] post [] run = absurd (let h = run.all in cc)
 cut_run r count H M fresh next retries old new t k e (p ∷ pre) post [] run = absurd (let h = run.all in cc)
@@ -136,7 +136,7 @@ cut_run r count H M fresh next retries old new t k e pre post ((x ∷ b) ∷ [])
     let c = cut_batch H (now M) (start_of fresh next M ((x ∷ b) ∷ [])) run.leads.0 k e pre post (x ∷ b) _ y ys
     (sym (append-nil (x ∷ b)) ∙ run.all) same run.leads.1 run.leads.2 in
     let P : List Item → Type 0 = λ l. CutRun r count H M fresh next retries old new k l ((x ∷ b) ∷ []) in
-    let Q : ℕ → Type 0 = λ n. LeadsInSteps Stopped r count H M false n ((y ∷ ys) ∷ []) c.0 in
+    let Q : ℕ → Type 0 = λ n. LeadsInSteps Stopped (our_log r M H) count false n ((y ∷ ys) ∷ []) c.0 in
     subst P (sym same) (record {
       t = c.0;
       shown = c.1;
@@ -156,7 +156,7 @@ cut_run r count H M fresh next retries old new t k e pre post ([] ∷ (x ∷ b) 
     let c = cut_batch H (now (later M)) (start_of fresh next M ([] ∷ (x ∷ b) ∷ [])) run.leads.1.0 k e pre post (x ∷ b) _ y ys
     (sym (append-nil (x ∷ b)) ∙ run.all) same run.leads.1.1 run.leads.1.2 in
     let P : List Item → Type 0 = λ l. CutRun r count H M fresh next retries old new k l ([] ∷ (x ∷ b) ∷ []) in
-    let Q : ℕ → Type 0 = λ n. LeadsInSteps Stopped r count H M false n ([] ∷ (y ∷ ys) ∷ []) c.0 in
+    let Q : ℕ → Type 0 = λ n. LeadsInSteps Stopped (our_log r M H) count false n ([] ∷ (y ∷ ys) ∷ []) c.0 in
     subst P (sym same) (record {
       t = c.0;
       shown = c.1;
@@ -178,12 +178,12 @@ IsStep was is retries old new before after z =
     ((s : ℕ) → Goes before.fresh before.next s (step_items z) after.fresh after.next)
     × ((r : ℕ) (M : List Moment) (H : History) (s : ℕ) → was r M H → before.next ≡ sequence_number s → (before.fresh ≡ false → IsNearStep before.count s M) →
     (answers : List (List Item)) × (t : ℕ) × (after.next ≡ sequence_number t)
-    × Collected r before.count H M before.fresh s 1 retries old new (step_items z) t (step_ended z) answers
+    × Collected (our_log r M H) (started_at before.count before.fresh s) 1 (losses_of retries old new) (yield (step_items z) (step_ended z)) t answers
     × is r (after_answers (length answers) M) H × (after.fresh ≡ is_fresh_after before.fresh z))
 
 -- a step is a run of one step
 run_of_step : (was is : ℕ → List Moment → History → Type 0) (retries old new : ℕ) (before after : WalkPlace) (z : Result Step WalkFault) →
-    IsStep was is retries old new before after z → IsRun was is retries old new before after 1 (step_ended z) (step_items z)
+    IsStep was is retries old new before after z → IsRun (ours_around was is) (losses_of retries old new) before after 1 (step_ended z) (step_items z)
 run_of_step was is retries old new before after z step = (
   step.0,
   λ r M H s ours next near.
@@ -193,8 +193,8 @@ run_of_step was is retries old new before after z step = (
 
 -- a step whose batch was cut
 run_of_cut : (was is : ℕ → List Moment → History → Type 0) (retries old new k : ℕ) (e : Entry) (before after : WalkPlace) (pre post : List Item) →
-    IsRun was is retries old new before after 1 StepLimit (pre ++ Logged k e ∷ post) →
-    IsRun was is retries old new before (record after { next = number_after k 1; fresh = false; asks_oldest = false }) 1 Stopped (pre ++ Logged k e ∷ [])
+    IsRun (ours_around was is) (losses_of retries old new) before after 1 StepLimit (pre ++ Logged k e ∷ post) →
+    IsRun (ours_around was is) (losses_of retries old new) before (record after { next = number_after k 1; fresh = false; asks_oldest = false }) 1 Stopped (pre ++ Logged k e ∷ [])
 run_of_cut was is retries old new k e before after pre post run = (
   (λ s. cut_goes before.fresh before.next s pre k e post after.fresh after.next (run.0 s)),
   (λ r M H s ours next near.
@@ -213,10 +213,10 @@ map-append (x ∷ xs) ys = ap (λ l. item_of x ∷ l) (map-append xs ys)
 -- a batch that was put, as far as it was
 of_batch : {S : Type 0} (puts : S → Option GapOf → Numbered → Bool → S → Type 0) (sink left : S) (was is : ℕ → List Moment → History → Type 0)
     (retries old new : ℕ) (before mid : WalkPlace) (b : Batch) (refused : Option ℕ) → length b.entries.items ≤ 100 → 0 < length b.entries.items →
-    IsRun was is retries old new before mid 1 StepLimit (items_in b) → PutAll puts sink b.gap b.entries.items refused left →
-    Delivery puts sink left was is retries old new before (walk_after mid refused) 1 (ended_after refused)
+    IsRun (ours_around was is) (losses_of retries old new) before mid 1 StepLimit (items_in b) → PutAll puts sink b.gap b.entries.items refused left →
+    Delivery (sink_filled puts sink left) (ours_around was is) (losses_of retries old new) before (walk_after mid refused) 1 (ended_after refused)
 of_batch puts sink left was is retries old new before mid b None most some run put =
-    let P : List Item → Type 0 = λ l. IsRun was is retries old new before mid 1 StepLimit l in (
+    let P : List Item → Type 0 = λ l. IsRun (ours_around was is) (losses_of retries old new) before mid 1 StepLimit l in (
       calls_of b.gap b.entries.items,
       put_whole puts sink b.gap b.entries.items left put,
       omega (arith, length-calls b.gap b.entries.items),
@@ -236,9 +236,9 @@ of_batch puts sink left was is retries old new before mid b (Some n) most some r
     items-calls b.gap (c.before ++ c.last ∷ []) (omega (arith, length-append c.before (c.last ∷ [])))
     ∙ ap (λ l. gap_items b.gap ++ l) (map-append c.before (c.last ∷ []))
     ∙ sym (append_assoc (gap_items b.gap) (map item_of c.before) (one ∷ [])) in
-    let P : List Item → Type 0 = λ l. IsRun was is retries old new before mid 1 StepLimit l in
-    let Q : ℕ → Type 0 = λ m. IsRun was is retries old new before (record mid { next = number_after m 1; fresh = false; asks_oldest = false }) 1 Stopped (pre ++ one ∷ []) in
-    let R : List Item → Type 0 = λ l. IsRun was is retries old new before (record mid { next = number_after n 1; fresh = false; asks_oldest = false }) 1 Stopped l in (
+    let P : List Item → Type 0 = λ l. IsRun (ours_around was is) (losses_of retries old new) before mid 1 StepLimit l in
+    let Q : ℕ → Type 0 = λ m. IsRun (ours_around was is) (losses_of retries old new) before (record mid { next = number_after m 1; fresh = false; asks_oldest = false }) 1 Stopped (pre ++ one ∷ []) in
+    let R : List Item → Type 0 = λ l. IsRun (ours_around was is) (losses_of retries old new) before (record mid { next = number_after n 1; fresh = false; asks_oldest = false }) 1 Stopped l in (
       calls_of b.gap (c.before ++ c.last ∷ []),
       c.takes,
       omega (arith, length-calls b.gap (c.before ++ c.last ∷ []), ap length c.is, length-append c.before (c.last ∷ c.after), length-append c.before (c.last ∷ [])),
@@ -251,22 +251,22 @@ of_batch puts sink left was is retries old new before mid b (Some n) most some r
 pub handed : {S : Type 0} (puts : S → Option GapOf → Numbered → Bool → S → Type 0) (sink left : S) (was is : ℕ → List Moment → History → Type 0)
     (retries old new : ℕ) (before mid after : WalkPlace) (z : Result Step WalkFault) (ended : Ended) →
     IsStep was is retries old new before mid z → HandedOn puts sink mid z ended after left →
-    Delivery puts sink left was is retries old new before after 1 ended
+    Delivery (sink_filled puts sink left) (ours_around was is) (losses_of retries old new) before after 1 ended
 handed puts sink left was is retries old new before mid after (Err e) ended step put =
     let run = run_of_step was is retries old new before mid (Err e) step in
-    let P : WalkPlace → Type 0 = λ w. IsRun was is retries old new before w 1 (Fault e) [] in
-    let Q : Ended → Type 0 = λ x. Delivery puts sink left was is retries old new before after 1 x in
+    let P : WalkPlace → Type 0 = λ w. IsRun (ours_around was is) (losses_of retries old new) before w 1 (Fault e) [] in
+    let Q : Ended → Type 0 = λ x. Delivery (sink_filled puts sink left) (ours_around was is) (losses_of retries old new) before after 1 x in
     subst Q (sym put.2) ([], (put.0, refl), omega arith, omega arith, subst P (sym put.1) run, λ e. absurd (cc))
 handed puts sink left was is retries old new before mid after (Ok NoStep) ended step put =
     let run = run_of_step was is retries old new before mid (Ok NoStep) step in
-    let P : WalkPlace → Type 0 = λ w. IsRun was is retries old new before w 1 CaughtUp [] in
-    let Q : Ended → Type 0 = λ x. Delivery puts sink left was is retries old new before after 1 x in
+    let P : WalkPlace → Type 0 = λ w. IsRun (ours_around was is) (losses_of retries old new) before w 1 CaughtUp [] in
+    let Q : Ended → Type 0 = λ x. Delivery (sink_filled puts sink left) (ours_around was is) (losses_of retries old new) before after 1 x in
     subst Q (sym put.2) ([], (put.0, refl), omega arith, omega arith, subst P (sym put.1) run, λ e. absurd (cc))
 handed puts sink left was is retries old new before mid after (Ok (StepOf b)) ended step put =
     let run = run_of_step was is retries old new before mid (Ok (StepOf b)) step in
     let done = of_batch puts sink left was is retries old new before mid b put.0 b.most b.some run put.1 in
-    let P : WalkPlace → Type 0 = λ w. Delivery puts sink left was is retries old new before w 1 (ended_after put.0) in
-    let Q : Ended → Type 0 = λ x. Delivery puts sink left was is retries old new before after 1 x in
+    let P : WalkPlace → Type 0 = λ w. Delivery (sink_filled puts sink left) (ours_around was is) (losses_of retries old new) before w 1 (ended_after put.0) in
+    let Q : Ended → Type 0 = λ x. Delivery (sink_filled puts sink left) (ours_around was is) (losses_of retries old new) before after 1 x in
     subst Q (sym put.3) (subst P (sym put.2) done)
 
 -- a step that isn't lost doesn't end as lost

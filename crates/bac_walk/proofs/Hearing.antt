@@ -8,14 +8,14 @@ use Rattle.bac_walk.specs.declared.reply.Turned.{Turned}
 use Rattle.bac_walk.specs.declared.reply.Turned.TheVariants as turned
 use Rattle.bac_walk.specs.Walks.{IsTakenFrom}
 use Rattle.bac_walk.specs.Replied.{progress_of}
-use Rattle.bac_walk.specs.Collects.{Goes, turn_items}
+use Rattle.bac_walk.specs.Collects.{Goes, turn_items, our_log, losses_of}
 use Rattle.bac_walk.specs.Turned.{IsTurned}
 use Rattle.bac_walk.proofs.Turns.{TurnOf}
 use Rattle.bac_walk.proofs.Goes.{turn_goes}
 
 -- a turn that brought this
 pub turned_of : (stays : List Moment → Type 0) (r : ℕ) (M : List Moment) (H : History) (s : ℕ) (w : WalkPlace) (retries old new : ℕ) (t : Turned) (after : WalkPlace) →
-    TurnOf r H (now M) s w (progress_of (Ok t)) after → stays (later M) → IsTurned stays r M H s w retries old new (progress_of (Ok t)) after
+    TurnOf r H (now M) s w (progress_of (Ok t)) after → stays (later M) → IsTurned stays (our_log r M H) s w (losses_of retries old new) (progress_of (Ok t)) after
 turned_of stays r M H s w retries old new (turned.Reply b) after turn rest = (turn, rest)
 turned_of stays r M H s w retries old new turned.AskOldest after turn rest = (turn, rest)
 turned_of stays r M H s w retries old new turned.CaughtUp after turn rest = (turn, rest)

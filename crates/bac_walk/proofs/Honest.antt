@@ -7,7 +7,7 @@ use Rattle.bac_link.specs.declared.exchanges.Verdict.{Verdict}
 use Rattle.bac_link.specs.declared.exchanges.Verdict.TheVariants as verdict
 use Rattle.bac_link.specs.Datagrams.{apdu_in}
 use Rattle.bac_link.specs.Delivery.{History, Moment, Leads, items_of, now, later}
-use Rattle.bac_link.specs.Exchanges.{Answers, IsNoAnswer, Unanswered}
+use Rattle.bac_link.specs.Exchanges.{Answers, IsNoAnswer, Unanswered, way_by}
 use Rattle.bac_link.specs.Laws.{after_answers}
 use Rattle.std.proofs.lemmas.Grind.{flat_map-append}
 use Rattle.bac_link.proofs.Delivers.{leads-append}
@@ -16,13 +16,13 @@ use Rattle.bac_link.specs.Path.{Path, towards}
 use Rattle.bac_link.specs.declared.transactions.Transactions.{Transactions}
 use Rattle.bac_log.specs.TrendLog.{sequence_number}
 use Rattle.bac_link.specs.Moments.{NeverGoesBack}
-use Rattle.bac_walk.specs.Came.{Came, Asks, Comes, AreSaidAt, EndsBy, EndsWith, IsCutIn, answers_of, restarted}
+use Rattle.bac_walk.specs.Came.{Came, Asks, Comes, AreSaidAt, EndsBy, EndsWith, IsCutIn, answers_of, restarted, reaching, walk_over}
 use Rattle.bac_link.specs.Moments.{AreInWindow}
 use Rattle.bac_walk.specs.Place.{WalkPlace}
 use Rattle.bac_link.specs.Heard.{heard_in}
 use Rattle.bac_walk.specs.Collects.{IsCaughtUp, batches}
-use Rattle.bac_walk.specs.Honest.{DeliversIn, DeliversSaid, IsHonestEnd, IsLeftAt, HonestIsDelivered}
-use Rattle.bac_link.specs.Honest.{IsAskedIn, IsSaidOrLost, IsHonest, IsHonestWhere, asked_octets}
+use Rattle.bac_walk.specs.Honest.{DeliversIn, DeliversSaid, IsHonestEnd, IsLeftAt, HonestIsDelivered, log_course}
+use Rattle.bac_link.specs.Honest.{IsAskedIn, IsSaidOrLost, IsHonest, IsHonestWhere, asked_octets, asked_log}
 use Rattle.bac_link.proofs.Honest.{goes_on}
 use Rattle.bac_link.specs.Standard.{IsSaidAt}
 use Rattle.bac_walk.specs.Walks.{asked_by, question_of}
@@ -36,13 +36,13 @@ use Rattle.bac_walk.specs.declared.outcome.WalkFault.TheVariants.{Lost, Refused,
 use Rattle.bac_walk.specs.Delivers.{NoneFrom}
 use Rattle.bac_walk.proofs.Joins.{after_answers-add, batches-append}
 use Rattle.bac_walk.proofs.Transacted.{brought_plain}
-use Rattle.bac_walk.specs.Transacted.{BroughtBy, BroughtIntoBy, spare}
+use Rattle.bac_walk.specs.Transacted.{BroughtBy, BroughtIntoBy, spare, walk_by}
 use Rattle.bac_walk.proofs.Window.{stays_in_window}
 use Rattle.bac_walk.proofs.Came.{Asking, answers_came, back_later, brought_delivers, brought_ran, cut_of, some_later, start_old, window_later, window_now}
 use Rattle.bac_link.specs.declared.item.Item.{Item}
 use Rattle.bac_walk.specs.Meant.{Means}
 use Rattle.bac_walk.specs.Outcomes.{IsRunOf}
-use Rattle.bac_walk.specs.Sinks.{Call, Takes, is_stopped, put_items}
+use Rattle.bac_walk.specs.Sinks.{Call, Takes, is_stopped, put_items, sink_filled}
 use Rattle.bac_walk.specs.Told.{ended_of}
 use Rattle.bac_walk.specs.declared.batch.Gap.{Gap as GapOf}
 use Rattle.bac_walk.specs.declared.batch.Numbered.{Numbered}
@@ -67,7 +67,7 @@ asked_for path invoke w = asked_octets path invoke w.log (asked_by w)
 
 -- what one ask of the walk's question brings
 one_ask : {S : Type 0} (asks : Asking S) (stands : S → List Moment → Type 0) (path : Path) (log : Id) (count : ℕ) (H : History) (low : ℕ) (M : List Moment) (w : WalkPlace) (invoke : ℕ) (old new : S) (answer : Result (List ℕ) Loss) →
-    IsHonestWhere asks path log count H low stands → Here low log count M w → stands old M → asks old (asked_for path invoke w) answer new →
+    IsHonestWhere asks (asked_log path log count) H low stands → Here low log count M w → stands old M → asks old (asked_for path invoke w) answer new →
     IsSaidOrLost (λ N. stands new N) M H w.log (asked_by w) (asked_for path invoke w) answer
 one_ask asks stands path log count H low M w invoke old new answer honest here at asked =
     let P : Id → Type 0 = λ i. asks old (asked_octets path invoke i (asked_by w)) answer new in
@@ -75,7 +75,7 @@ one_ask asks stands path log count H low M w invoke old new answer honest here a
     subst Q (sym here.log_is) (honest old new M (asked_by w) invoke answer at here.some here.window (subst (λ n. IsAskedIn low n (asked_by w)) here.count_is (asked_in w low here.ordinal here.next here.at)) (subst P here.log_is asked))
 
 unanswered : {S : Type 0} (asks : Asking S) (stands : S → List Moment → Type 0) (path : Path) (log : Id) (count : ℕ) (H : History) (low : ℕ) (M : List Moment) (w : WalkPlace) (invoke n : ℕ) (old mid : S) →
-    IsHonestWhere asks path log count H low stands → Here low log count M w → stands old M → Unanswered asks (asked_for path invoke w) n old mid → stands mid M
+    IsHonestWhere asks (asked_log path log count) H low stands → Here low log count M w → stands old M → Unanswered asks (asked_for path invoke w) n old mid → stands mid M
 unanswered asks stands path log count H low M w invoke zero old mid honest here at none = subst (λ x. stands x M) (sym none) at
 unanswered asks stands path log count H low M w invoke (suc n) old mid honest here at (before, answer, first, asked, none) =
     let at_before = unanswered asks stands path log count H low M w invoke n old before honest here at first in
@@ -86,7 +86,7 @@ unanswered asks stands path log count H low M w invoke (suc n) old mid honest he
     last (Err lost) said none = said
 
 answered : {S : Type 0} (asks : Asking S) (stands : S → List Moment → Type 0) (path : Path) (log : Id) (count : ℕ) (H : History) (low : ℕ) (M : List Moment) (w : WalkPlace) (invoke retries : ℕ) (v : Verdict) (old : S) (datagram : List ℕ) (new : S) →
-    IsHonestWhere asks path log count H low stands → Here low log count M w → stands old M → Answers asks path invoke (question w.log (question_of w)) retries v old datagram new →
+    IsHonestWhere asks (asked_log path log count) H low stands → Here low log count M w → stands old M → Answers asks (way_by path invoke retries) (question w.log (question_of w)) v old datagram new →
     IsSaidAt (now M) H w.log (asked_by w) datagram × stands new (later M) × (v ≡ verdict.Ack)
 answered asks stands path log count H low M w invoke retries v old datagram new honest here at (tries, mid, few, first, asked, is) =
     let at_mid = unanswered asks stands path log count H low M w invoke tries old mid honest here at first in
@@ -126,7 +126,7 @@ after_reply H low log count M w next CaughtUp here means = record {
 }
 
 honest_comes : {S : Type 0} (asks : Asking S) (stands : S → List Moment → Type 0) (path : Path) (retries : ℕ) (log : Id) (count : ℕ) (H : History) (low : ℕ) (came : List Came) (M : List Moment) (old new : S) (w after : WalkPlace) →
-    IsHonestWhere asks path log count H low stands → Here low log count M w → stands old M → Comes asks path retries old w came after new →
+    IsHonestWhere asks (asked_log path log count) H low stands → Here low log count M w → stands old M → Comes (reaching asks path retries) (walk_over old w) came (walk_over new after) →
     AreSaidAt H M came × stands new (after_answers (length came) M) × Here low log count (after_answers (length came) M) after
 honest_comes asks stands path retries log count H low [] M old new w after honest here at comes =
     (tt, subst (λ x. stands x M) (sym comes.1) at, subst (λ v. Here low log count M v) (sym comes.0) here)
@@ -140,7 +140,7 @@ honest_comes asks stands path retries log count H low (c ∷ came) M old new w a
 -- ---- a run
 
 ended_honest : {S : Type 0} (asks : Asking S) (stands : S → List Moment → Type 0) (path : Path) (retries steps : ℕ) (log : Id) (count : ℕ) (H : History) (low : ℕ) (came : List Came) (M : List Moment) (here after : WalkPlace) (mid new : S) (ended : Ended) →
-    IsHonestWhere asks path log count H low stands → Here low log count M here → stands mid M → EndsBy asks path retries steps came here mid ended after new → stands new M × IsHonestEnd ended
+    IsHonestWhere asks (asked_log path log count) H low stands → Here low log count M here → stands mid M → EndsBy (reaching asks path retries) steps came (walk_over mid here) ended (walk_over new after) → stands new M × IsHonestEnd ended
 ended_honest asks stands path retries steps log count H low came M here after mid new IsUp honest is at ends = (subst (λ x. stands x M) (sym ends.3) at, tt)
 ended_honest asks stands path retries steps log count H low came M here after mid new StepLimit honest is at ends = (subst (λ x. stands x M) (sym ends.3) at, tt)
 ended_honest asks stands path retries steps log count H low came M here after mid new Stopped honest is at ends = (subst (λ x. stands x M) (sym ends.3) at, tt)
@@ -182,19 +182,19 @@ as_ended (WasFault e) steps n ended run = run.1
 as_ended Memory steps n ended run = run.1
 
 pub delivers_said : {S : Type 0} (asks : Asking S) (first last : Transactions) (old new : S) (w after : WalkPlace) (steps : ℕ) (items : List Item) (ended : Ended) →
-    (came : List Came) × BroughtBy asks first old w steps came items ended after last new → DeliversSaid asks (towards first.route) (spare ended) old w items ended after new
+    (came : List Came) × BroughtBy asks (walk_by old first w) steps came items ended (walk_by new last after) → DeliversSaid asks (towards first.route) (spare ended) (walk_over old w) items ended (walk_over new after)
 delivers_said {S = S} asks first last old new w after steps items ended (came, by_turns) = λ H M s low honest next some back window at.
     let path : Path = towards first.route in
     let retries : ℕ = first.retries in
     let run = brought_plain asks first last old new w after steps came items ended by_turns in
     let here : Here low w.log w.count M (restarted w) = record { ordinal = s; log_is = refl; count_is = refl; next = next; some = some; window = window; at = at } in
-    let stands : S → List Moment → Type 0 = λ link N. IsHonest asks path w.log w.count H low link N in
+    let stands : S → List Moment → Type 0 = λ link N. IsHonest asks (asked_log path w.log w.count) H low link N in
     let goes = goes_on asks path w.log w.count H low in
     let all = honest_comes asks stands path retries w.log w.count H low came M old run.1 (restarted w) run.0 goes here honest run.2 in
     let end = ended_honest asks stands path retries steps w.log w.count H low came (after_answers (length came) M) run.0 after run.1 new ended goes all.2 all.1 run.3 in
     let ran = brought_ran asks path retries old new w after steps came items ended H M low s run all.0 next some back window at in
     let cut = cut_of ended came items after run.4 in
-    let L : ℕ → Type 0 = λ n. IsLeftAt asks path w.log w.count H low old new M n in
+    let L : ℕ → Type 0 = λ n. IsLeftAt asks (asked_log path w.log w.count) low old new (log_course H M) n in
     let F : ℕ → Type 0 = λ n. n ≤ 2 * batches (answers_of came) + spare ended in (
       ran.0,
       ran.1,
@@ -215,15 +215,15 @@ delivers_said {S = S} asks first last old new w after steps items ended (came, b
     )
 
 pub delivers_run : {S : Type 0} (asks : Asking S) (first last : Transactions) (old new : S) (w after : WalkPlace) (steps : ℕ) (items : List Item) (why : Why) →
-    (n : ℕ) × (ended : Ended) × IsRunOf why steps n ended × ((came : List Came) × BroughtBy asks first old w n came items ended after last new) →
-    DeliversSaid asks (towards first.route) (spare (ended_of why)) old w items (ended_of why) after new
+    (n : ℕ) × (ended : Ended) × IsRunOf why steps n ended × ((came : List Came) × BroughtBy asks (walk_by old first w) n came items ended (walk_by new last after)) →
+    DeliversSaid asks (towards first.route) (spare (ended_of why)) (walk_over old w) items (ended_of why) (walk_over new after)
 delivers_run asks first last old new w after steps items why (n, ended, run, brought) =
-    let P : Ended → Type 0 = λ e. DeliversSaid asks (towards first.route) (spare e) old w items e after new in
+    let P : Ended → Type 0 = λ e. DeliversSaid asks (towards first.route) (spare e) (walk_over old w) items e (walk_over new after) in
     subst P (as_ended why steps n ended run) (delivers_said asks first last old new w after n items ended brought)
 
 pub into_said : {S T : Type 0} (asks : Asking S) (first last : Transactions) (puts : T → Option GapOf → Numbered → Bool → T → Type 0) (old new : S) (sink left : T) (w after : WalkPlace) (steps : ℕ) (ended : Ended) →
-    BroughtIntoBy asks first puts old sink w steps ended after left last new →
-    (calls : List Call) × Takes puts sink calls (is_stopped ended) left × DeliversSaid asks (towards first.route) (spare ended) old w (put_items calls) ended after new
+    BroughtIntoBy asks (sink_filled puts sink left) (walk_by old first w) steps ended (walk_by new last after) →
+    (calls : List Call) × Takes puts sink calls (is_stopped ended) left × DeliversSaid asks (towards first.route) (spare ended) (walk_over old w) (put_items calls) ended (walk_over new after)
 into_said asks first last puts old new sink left w after steps ended (calls, takes, few, gaps, brought) =
     (calls, takes, delivers_said asks first last old new w after steps (put_items calls) ended brought)
 
@@ -270,8 +270,8 @@ cut_behind items more rest xs ys (before, item, is, ends) =
     (items ++ before, item, ap (λ l. items ++ l) is ∙ sym (append_assoc items before (item ∷ [])), ends_behind item rest xs ys ends)
 
 pub said_joins : {S : Type 0} (asks : Asking S) (path : Path) (spare_one spare_two : ℕ) (old half new : S) (w mid resumed after : WalkPlace) (xs ys : List Item) (e f : Ended) →
-    DeliversSaid asks path spare_one old w xs e mid half → DeliversSaid asks path spare_two half resumed ys f after new → resumed.log ≡ w.log → resumed.count ≡ w.count → resumed.next ≡ mid.next → resumed.fresh ≡ false → w.fresh ≡ false →
-    DeliversSaid asks path (spare_one + spare_two) old w (xs ++ ys) f after new
+    DeliversSaid asks path spare_one (walk_over old w) xs e (walk_over half mid) → DeliversSaid asks path spare_two (walk_over half resumed) ys f (walk_over new after) → resumed.log ≡ w.log → resumed.count ≡ w.count → resumed.next ≡ mid.next → resumed.fresh ≡ false → w.fresh ≡ false →
+    DeliversSaid asks path (spare_one + spare_two) (walk_over old w) (xs ++ ys) f (walk_over new after)
 said_joins {S = S} asks path spare_one spare_two old half new w mid resumed after xs ys e f first second log_is count_is next_is by_number had_number = λ H M s low honest next some back window at.
     let a = first H M s low honest next some back window at in
     let count : ℕ = length a.2 in
@@ -279,8 +279,8 @@ said_joins {S = S} asks path spare_one spare_two old half new w mid resumed afte
     let one = subst P (a.3.start ∙ start_old w.fresh s M a.2 had_number) a.5 in
     let place = stays_in_window H M low s a.1 count xs some window (at had_number).0 (at had_number).1 (one.0, one.1, one.2, one.3) in
     let left : List Moment = after_answers count M in
-    let R : Id → Type 0 = λ i. IsHonest asks path i w.count H low half left in
-    let Rc : ℕ → Type 0 = λ n. IsHonest asks path resumed.log n H low half left in
+    let R : Id → Type 0 = λ i. IsHonest asks (asked_log path i w.count) H low half left in
+    let Rc : ℕ → Type 0 = λ n. IsHonest asks (asked_log path resumed.log n) H low half left in
     let b = second H left a.1 low (subst Rc (sym count_is) (subst R (sym log_is) a.6.0)) (next_is ∙ a.4) (some_after count M some) (back_after count M back) place.2 (λ old. (place.0, place.1)) in
     let more : ℕ = length b.2 in
     let begun : b.0 ≡ a.1 = b.3.start ∙ start_old resumed.fresh a.1 left b.2 by_number in
@@ -289,16 +289,16 @@ said_joins {S = S} asks path spare_one spare_two old half new w mid resumed afte
     let F : ℕ → Type 0 = λ n. Leads H left n b.2 b.3.reached in
     let G : List Moment → Type 0 = λ N. Leads H N a.1 b.2 b.3.reached in
     let leads = leads-append H M s a.1 b.3.reached one.0 b.2 one.3 (subst (λ n. Leads H (after_answers n M) a.1 b.2 b.3.reached) (sym one.1) (subst F begun b.3.leads)) in
-    let K : Id → Type 0 = λ i. IsHonest asks path i w.count H low new (after_answers more left) in
-    let Kc : ℕ → Type 0 = λ n. IsHonest asks path resumed.log n H low new (after_answers more left) in
-    let L : List Moment → Type 0 = λ N. IsHonest asks path w.log w.count H low new N in
-    let T : Id → Type 0 = λ i. (moments : S → List Moment) → IsHonestWhere asks path i w.count H low (λ link N. moments link ≡ N) → moments half ≡ left → moments new ≡ after_answers more left in
-    let Tc : ℕ → Type 0 = λ n. (moments : S → List Moment) → IsHonestWhere asks path resumed.log n H low (λ link N. moments link ≡ N) → moments half ≡ left → moments new ≡ after_answers more left in
+    let K : Id → Type 0 = λ i. IsHonest asks (asked_log path i w.count) H low new (after_answers more left) in
+    let Kc : ℕ → Type 0 = λ n. IsHonest asks (asked_log path resumed.log n) H low new (after_answers more left) in
+    let L : List Moment → Type 0 = λ N. IsHonest asks (asked_log path w.log w.count) H low new N in
+    let T : Id → Type 0 = λ i. (moments : S → List Moment) → IsHonestWhere asks (asked_log path i w.count) H low (λ link N. moments link ≡ N) → moments half ≡ left → moments new ≡ after_answers more left in
+    let Tc : ℕ → Type 0 = λ n. (moments : S → List Moment) → IsHonestWhere asks (asked_log path resumed.log n) H low (λ link N. moments link ≡ N) → moments half ≡ left → moments new ≡ after_answers more left in
     let both = sym (after_answers-add count more M) in
     let counted : length (one.0 ++ b.2) ≡ count + more = omega (arith, length-append one.0 b.2, one.1) in
     let D : ℕ → Type 0 = λ n. Leads H (after_answers n M) a.1 two.0 b.1 in
     let to = leads-append H M s a.1 b.1 one.0 two.0 one.3 (subst D (sym one.1) two.3) in
-    let Z : ℕ → Type 0 = λ n. IsLeftAt asks path w.log w.count H low old new M n in (
+    let Z : ℕ → Type 0 = λ n. IsLeftAt asks (asked_log path w.log w.count) low old new (log_course H M) n in (
       s,
       b.1,
       one.0 ++ b.2,

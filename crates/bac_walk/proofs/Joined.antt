@@ -5,7 +5,7 @@ use Rattle.bac_link.specs.declared.item.Item.TheVariants.{Logged}
 use Rattle.bac_link.specs.Delivery.{items_of}
 use Rattle.bac_link.specs.Path.{Path}
 use Rattle.bac_log.specs.declared.entry.Entry.{Entry}
-use Rattle.bac_walk.specs.Came.{Came, Comes, Brought, EndsBy, EndsEmpty, EndsFull, EndsWith, AreOf, answers_of, restarted}
+use Rattle.bac_walk.specs.Came.{Came, Comes, Brought, EndsBy, EndsEmpty, EndsFull, EndsWith, AreOf, answers_of, restarted, reaching, walk_over}
 use Rattle.bac_walk.specs.Collects.{batches, turn_items}
 use Rattle.bac_link.specs.Heard.{AckParameters}
 use Rattle.bac_walk.specs.Place.{WalkPlace}
@@ -24,24 +24,24 @@ use Rattle.bac_walk.proofs.Cuts.{items_of-append}
 -- ---- how many records are asked for
 
 pub comes_count : {S : Type 0} (asks : Asking S) (path : Path) (retries : ℕ) (came : List Came) (old new : S) (w after : WalkPlace) →
-    Comes asks path retries old w came after new → after.count ≡ w.count
+    Comes (reaching asks path retries) (walk_over old w) came (walk_over new after) → after.count ≡ w.count
 comes_count asks path retries [] old new w after comes = ap (λ (v : WalkPlace). v.count) comes.0
 comes_count asks path retries (c ∷ came) old new w after (half, next, p, place, asked, taken, is, more) =
     comes_count asks path retries came half new next after more ∙ count_stays w (heard_in w.log c.datagram) p next taken
 
 -- a run whose steps were all whole leaves that
 pub limit_count : {S : Type 0} (asks : Asking S) (path : Path) (retries : ℕ) (old new : S) (w after : WalkPlace) (steps : ℕ) (came : List Came) (items : List Item) →
-    Brought asks path retries old w steps came items StepLimit after new → after.count ≡ w.count
+    Brought (reaching asks path retries) (walk_over old w) steps came items StepLimit (walk_over new after) → after.count ≡ w.count
 limit_count asks path retries old new w after steps came items (here, mid, comes, ends, are) =
     ap (λ (v : WalkPlace). v.count) ends.2 ∙ comes_count asks path retries came old mid (restarted w) here comes
 
 -- ---- two in a row
 
 comes_append : {S : Type 0} (asks : Asking S) (path : Path) (retries : ℕ) (xs ys : List Came) (old mid new : S) (w here after : WalkPlace) →
-    Comes asks path retries old w xs here mid → Comes asks path retries mid here ys after new → Comes asks path retries old w (xs ++ ys) after new
+    Comes (reaching asks path retries) (walk_over old w) xs (walk_over mid here) → Comes (reaching asks path retries) (walk_over mid here) ys (walk_over new after) → Comes (reaching asks path retries) (walk_over old w) (xs ++ ys) (walk_over new after)
 comes_append {S = S} asks path retries [] ys old mid new w here after first rest =
-    let P : WalkPlace → Type 0 = λ v. Comes asks path retries mid v ys after new in
-    let Q : S → Type 0 = λ l. Comes asks path retries l w ys after new in
+    let P : WalkPlace → Type 0 = λ v. Comes (reaching asks path retries) (walk_over mid v) ys (walk_over new after) in
+    let Q : S → Type 0 = λ l. Comes (reaching asks path retries) (walk_over l w) ys (walk_over new after) in
     subst Q first.1 (subst P first.0 rest)
 comes_append asks path retries (c ∷ xs) ys old mid new w here after (half, next, p, place, asked, taken, is, more) rest =
     (half, next, p, place, asked, taken, is, comes_append asks path retries xs ys half mid new next here after more rest)
@@ -92,7 +92,7 @@ full_turn w heard AskOldest items after taken is full = absurd (omega (arith, fu
 full_turn w heard IsUp items after taken is full = absurd (omega (arith, full, ap length is))
 
 pub full_place : {S : Type 0} (asks : Asking S) (path : Path) (retries : ℕ) (came : List Came) (old new : S) (w here : WalkPlace) →
-    Comes asks path retries old w came here new → EndsFull came → restarted w ≡ w → restarted here ≡ here
+    Comes (reaching asks path retries) (walk_over old w) came (walk_over new here) → EndsFull came → restarted w ≡ w → restarted here ≡ here
 full_place asks path retries [] old new w here comes full by_number = ap restarted comes.0 ∙ by_number ∙ sym comes.0
 full_place asks path retries (c ∷ []) old new w here (half, next, p, place, asked, taken, is, more) full by_number =
     let same : here ≡ next = more.0 in
@@ -101,7 +101,7 @@ full_place asks path retries (c ∷ d ∷ came) old new w here (half, next, p, p
     behind asks path retries d came half new next here more full
   where
     behind : {S : Type 0} (asks : Asking S) (path : Path) (retries : ℕ) (d : Came) (came : List Came) (old new : S) (w here : WalkPlace) →
-        Comes asks path retries old w (d ∷ came) here new → EndsFull (d ∷ came) → restarted here ≡ here
+        Comes (reaching asks path retries) (walk_over old w) (d ∷ came) (walk_over new here) → EndsFull (d ∷ came) → restarted here ≡ here
     behind asks path retries d [] old new w here (half, next, p, place, asked, taken, is, more) full =
         let same : here ≡ next = more.0 in
         ap restarted same ∙ full_turn w (heard_in w.log d.datagram) p d.items next taken is full ∙ sym same
@@ -109,24 +109,24 @@ full_place asks path retries (c ∷ d ∷ came) old new w here (half, next, p, p
         behind asks path retries e came half new next here more full
 
 pub no_brought : {S : Type 0} (asks : Asking S) (path : Path) (retries : ℕ) (old : S) (w : WalkPlace) →
-    (came : List Came) × Brought asks path retries old w 0 came [] StepLimit w old
+    (came : List Came) × Brought (reaching asks path retries) (walk_over old w) 0 came [] StepLimit (walk_over old w)
 no_brought asks path retries old w = ([], (restarted w, old, (refl, refl), (tt, refl, refl, refl), refl))
 
 -- a run whose steps were all whole, and one more
 pub brought_joins : {S : Type 0} (asks : Asking S) (path : Path) (retries : ℕ) (old half new : S) (w mid after : WalkPlace) (n more : ℕ) (xs ys : List Item) (ended : Ended) →
-    (came : List Came) × Brought asks path retries old w n came xs StepLimit mid half →
-    (came : List Came) × Brought asks path retries half mid more came ys ended after new →
-    (came : List Came) × Brought asks path retries old w (n + more) came (xs ++ ys) ended after new
+    (came : List Came) × Brought (reaching asks path retries) (walk_over old w) n came xs StepLimit (walk_over half mid) →
+    (came : List Came) × Brought (reaching asks path retries) (walk_over half mid) more came ys ended (walk_over new after) →
+    (came : List Came) × Brought (reaching asks path retries) (walk_over old w) (n + more) came (xs ++ ys) ended (walk_over new after)
 brought_joins {S = S} asks path retries old half new w mid after n more xs ys ended (first, (here, link, comes, ends, are)) (rest, (there, last, goes, over, same)) =
     let at : restarted mid ≡ here = ends.2 ∙ full_place asks path retries first old link (restarted w) here comes ends.0 refl in
-    let P : WalkPlace → Type 0 = λ v. Comes asks path retries half v rest there last in
-    let Q : S → Type 0 = λ l. Comes asks path retries l here rest there last in
+    let P : WalkPlace → Type 0 = λ v. Comes (reaching asks path retries) (walk_over half v) rest (walk_over last there) in
+    let Q : S → Type 0 = λ l. Comes (reaching asks path retries) (walk_over l here) rest (walk_over last there) in
     (first ++ rest, (there, last, comes_append asks path retries first rest old link last (restarted w) here there comes (subst Q ends.3 (subst P at goes)), both ended over, all ended same))
   where
     count : batches (answers_of (first ++ rest)) ≡ n + batches (answers_of rest)
     count = omega (arith, came_batches first rest, ends.1)
 
-    both : (why : Ended) → EndsBy asks path retries more rest there last why after new → EndsBy asks path retries (n + more) (first ++ rest) there last why after new
+    both : (why : Ended) → EndsBy (reaching asks path retries) more rest (walk_over last there) why (walk_over new after) → EndsBy (reaching asks path retries) (n + more) (first ++ rest) (walk_over last there) why (walk_over new after)
     both CaughtUp over = (empty_append first rest over.0, omega (arith, count, over.1), over.2, over.3)
     both StepLimit over = (full_append first rest ends.0 over.0, omega (arith, count, over.1), over.2, over.3)
     both Stopped over = (full_append first rest ends.0 over.0, omega (arith, count, over.1), omega (arith, count, over.2), over.3)

@@ -10,7 +10,7 @@ use Rattle.bac_walk.specs.declared.outcome.Ended.TheVariants.{CaughtUp, StepLimi
 use Rattle.bac_link.specs.Delivery.{History, Moment, now, later, items_of}
 use Rattle.bac_link.specs.Laws.{after_answers}
 use Rattle.bac_walk.specs.Delivers.{NoneFrom}
-use Rattle.bac_walk.specs.Collects.{IsOfReply, LeadsInSteps, batches, IsWhole, start_of, IsEnded, Collected, IsFreshAfter, step_items, step_ended, is_fresh_after}
+use Rattle.bac_walk.specs.Collects.{IsOfReply, LeadsInSteps, batches, IsWhole, start_of, IsEnded, Collected, IsFreshAfter, step_items, step_ended, is_fresh_after, our_log, started_at, losses_of, yield}
 use Rattle.bac_walk.proofs.Cuts.{items_of-append}
 
 pub batches-append : (xs ys : List (List Item)) → batches (xs ++ ys) ≡ batches xs + batches ys
@@ -43,8 +43,8 @@ whole_of (Fault e) [] [] items reply is = is
 
 -- whole steps, and others after them
 LeadsInSteps-append : (ended : Ended) (r count : ℕ) (H : History) (M : List Moment) (s t u : ℕ) (xs ys : List (List Item)) → IsWhole xs →
-    LeadsInSteps StepLimit r count H M false s xs t → LeadsInSteps ended r count H (after_answers (length xs) M) false t ys u → LeadsInSteps ended r count H M false s (xs ++ ys) u
-LeadsInSteps-append ended r count H M s t u [] ys whole first rest = let P : ℕ → Type 0 = λ n. LeadsInSteps ended r count H M false n ys u in subst P first rest
+    LeadsInSteps StepLimit (our_log r M H) count false s xs t → LeadsInSteps ended (our_log r (after_answers (length xs) M) H) count false t ys u → LeadsInSteps ended (our_log r M H) count false s (xs ++ ys) u
+LeadsInSteps-append ended r count H M s t u [] ys whole first rest = let P : ℕ → Type 0 = λ n. LeadsInSteps ended (our_log r M H) count false n ys u in subst P first rest
 LeadsInSteps-append ended r count H M s t u ([] ∷ []) ys whole first rest = absurd whole
 LeadsInSteps-append ended r count H M s t u ([] ∷ [] ∷ xs) ys whole first rest = absurd whole
 LeadsInSteps-append ended r count H M s t u ([] ∷ (x ∷ b) ∷ xs) ys whole first rest = (
@@ -100,7 +100,7 @@ no_items ((x ∷ b) ∷ ys) h = absurd (cc)
 
 ended_after : (why : Ended) (fresh mid_fresh : Bool) (t : ℕ) (M : List Moment) (xs ys : List (List Item)) (i j retries old mid new : ℕ) →
     (batches xs ≡ 0 → mid_fresh ≡ fresh) → batches xs ≡ i → IsWhole xs → old ≤ mid →
-    IsEnded why mid_fresh t (after_answers (length xs) M) ys j retries mid new → IsEnded why fresh t M (xs ++ ys) (i + j) retries old new
+    IsEnded why mid_fresh t (after_answers (length xs) M) ys j (losses_of retries mid new) → IsEnded why fresh t M (xs ++ ys) (i + j) (losses_of retries old new)
 ended_after CaughtUp fresh mid_fresh t M xs ys i j retries old mid new same count whole up ended =
     let P : List (List Item) → Type 0 = λ l. batches l ≡ 0 in
     let Q : List Moment → Type 0 = λ N. NoneFrom t (now N) in
@@ -126,13 +126,13 @@ ended_after (Fault BadReply) fresh mid_fresh t M xs ys i j retries old mid new s
 -- a run that brought something, and one after it
 join_some : (r count : ℕ) (H : History) (M : List Moment) (fresh : Bool) (next i j retries old mid new : ℕ) (items more : List Item) (t u : ℕ) (why : Ended)
     (x : List Item) (xs ys : List (List Item)) →
-    Collected r count H M fresh next i retries old mid items t StepLimit (x ∷ xs) →
-    Collected r count H (after_answers (length (x ∷ xs)) M) false t j retries mid new more u why ys → old ≤ mid →
-    Collected r count H M fresh next (i + j) retries old new (items ++ more) u why ((x ∷ xs) ++ ys)
+    Collected (our_log r M H) (started_at count fresh next) i (losses_of retries old mid) (yield items StepLimit) t (x ∷ xs) →
+    Collected (our_log r (after_answers (length (x ∷ xs)) M) H) (started_at count false t) j (losses_of retries mid new) (yield more why) u ys → old ≤ mid →
+    Collected (our_log r M H) (started_at count fresh next) (i + j) (losses_of retries old new) (yield (items ++ more) why) u ((x ∷ xs) ++ ys)
 join_some r count H M fresh next i j retries old mid new items more t u why x xs ys first rest up =
     let whole : IsWhole (x ∷ xs) = first.end.1 in
     let start : start_of fresh next M ((x ∷ xs) ++ ys) ≡ start_of fresh next M (x ∷ xs) = start_of-append fresh next M x xs ys whole in
-    let P : ℕ → Type 0 = λ n. LeadsInSteps why r count H M false n ((x ∷ xs) ++ ys) u in
+    let P : ℕ → Type 0 = λ n. LeadsInSteps why (our_log r M H) count false n ((x ∷ xs) ++ ys) u in
     record {
       all = items_of-append (x ∷ xs) ys ∙ ap (λ n. n ++ items_of ys) first.all ∙ ap (λ n. items ++ n) rest.all;
       leads = subst P (sym start) (LeadsInSteps-append why r count H M (start_of fresh next M (x ∷ xs)) t u (x ∷ xs) ys whole first.leads rest.leads);
@@ -144,12 +144,12 @@ join_some r count H M fresh next i j retries old mid new items more t u why x xs
 -- a run that brought nothing, and one after it
 join_none : (r count : ℕ) (H : History) (M : List Moment) (fresh : Bool) (next i j retries old mid new : ℕ) (items more : List Item) (t u : ℕ) (why : Ended)
     (ys : List (List Item)) →
-    Collected r count H M fresh next i retries old mid items t StepLimit [] →
-    Collected r count H M fresh t j retries mid new more u why ys → old ≤ mid →
-    Collected r count H M fresh next (i + j) retries old new (items ++ more) u why ys
+    Collected (our_log r M H) (started_at count fresh next) i (losses_of retries old mid) (yield items StepLimit) t [] →
+    Collected (our_log r M H) (started_at count fresh t) j (losses_of retries mid new) (yield more why) u ys → old ≤ mid →
+    Collected (our_log r M H) (started_at count fresh next) (i + j) (losses_of retries old new) (yield (items ++ more) why) u ys
 join_none r count H M fresh next i j retries old mid new [] more t u why ys first rest up =
     let same : t ≡ next = first.leads ∙ start_of-nil fresh next M in
-    let S : ℕ → Type 0 = λ n. Collected r count H M fresh n j retries mid new more u why ys in
+    let S : ℕ → Type 0 = λ n. Collected (our_log r M H) (started_at count fresh n) j (losses_of retries mid new) (yield more why) u ys in
     let moved = subst S same rest in
     record {
       all = moved.all;
@@ -162,14 +162,14 @@ join_none r count H M fresh next i j retries old mid new (x ∷ items) more t u 
 
 pub join : (r count : ℕ) (H : History) (M : List Moment) (fresh mid_fresh : Bool) (next i j retries old mid new : ℕ) (items more : List Item) (t u : ℕ) (why : Ended)
     (xs ys : List (List Item)) →
-    Collected r count H M fresh next i retries old mid items t StepLimit xs → IsFreshAfter fresh xs mid_fresh →
-    Collected r count H (after_answers (length xs) M) mid_fresh t j retries mid new more u why ys → old ≤ mid →
-    Collected r count H M fresh next (i + j) retries old new (items ++ more) u why (xs ++ ys)
+    Collected (our_log r M H) (started_at count fresh next) i (losses_of retries old mid) (yield items StepLimit) t xs → IsFreshAfter fresh xs mid_fresh →
+    Collected (our_log r (after_answers (length xs) M) H) (started_at count mid_fresh t) j (losses_of retries mid new) (yield more why) u ys → old ≤ mid →
+    Collected (our_log r M H) (started_at count fresh next) (i + j) (losses_of retries old new) (yield (items ++ more) why) u (xs ++ ys)
 join r count H M fresh mid_fresh next i j retries old mid new items more t u why [] ys first left rest up =
-    let P : Bool → Type 0 = λ b. Collected r count H M b t j retries mid new more u why ys in
+    let P : Bool → Type 0 = λ b. Collected (our_log r M H) (started_at count b t) j (losses_of retries mid new) (yield more why) u ys in
     join_none r count H M fresh next i j retries old mid new items more t u why ys first (subst P (left.none refl) rest) up
 join r count H M fresh mid_fresh next i j retries old mid new items more t u why (x ∷ xs) ys first left rest up =
-    let P : Bool → Type 0 = λ b. Collected r count H (after_answers (length (x ∷ xs)) M) b t j retries mid new more u why ys in
+    let P : Bool → Type 0 = λ b. Collected (our_log r (after_answers (length (x ∷ xs)) M) H) (started_at count b t) j (losses_of retries mid new) (yield more why) u ys in
     join_some r count H M fresh next i j retries old mid new items more t u why x xs ys first (subst P (left.some (whole_some x xs first.end.1)) rest) up
 
 pub fresh_join : (fresh mid_fresh new_fresh : Bool) (xs ys : List (List Item)) →
@@ -186,7 +186,7 @@ fresh_join fresh mid_fresh new_fresh xs ys first rest = record {
 
 -- how whole steps end has nothing to do with what was lost
 pub at_limit : (r count : ℕ) (H : History) (M : List Moment) (fresh : Bool) (s i retries old new tries was is : ℕ) (items : List Item) (t : ℕ) (answers : List (List Item)) →
-    Collected r count H M fresh s i retries old new items t StepLimit answers → Collected r count H M fresh s i tries was is items t StepLimit answers
+    Collected (our_log r M H) (started_at count fresh s) i (losses_of retries old new) (yield items StepLimit) t answers → Collected (our_log r M H) (started_at count fresh s) i (losses_of tries was is) (yield items StepLimit) t answers
 at_limit r count H M fresh s i retries old new tries was is items t answers run = record {
   all = run.all;
   leads = run.leads;
@@ -196,7 +196,7 @@ at_limit r count H M fresh s i retries old new tries was is items t answers run 
 }
 
 -- a run of no steps
-pub no_steps : (r count : ℕ) (H : History) (M : List Moment) (fresh : Bool) (next retries old : ℕ) → Collected r count H M fresh next 0 retries old old [] next StepLimit []
+pub no_steps : (r count : ℕ) (H : History) (M : List Moment) (fresh : Bool) (next retries old : ℕ) → Collected (our_log r M H) (started_at count fresh next) 0 (losses_of retries old old) (yield [] StepLimit) next []
 no_steps r count H M fresh next retries old = record {
   all = refl;
   leads = sym (start_of-nil fresh next M);
@@ -207,7 +207,7 @@ no_steps r count H M fresh next retries old = record {
 
 -- a run that ended before its last step
 pub ended_early : (r count : ℕ) (H : History) (M : List Moment) (fresh : Bool) (next i n retries old new : ℕ) (items : List Item) (t : ℕ) (why : Ended) (xs : List (List Item)) →
-    why ≢ StepLimit → i ≤ n → Collected r count H M fresh next i retries old new items t why xs → Collected r count H M fresh next n retries old new items t why xs
+    why ≢ StepLimit → i ≤ n → Collected (our_log r M H) (started_at count fresh next) i (losses_of retries old new) (yield items why) t xs → Collected (our_log r M H) (started_at count fresh next) n (losses_of retries old new) (yield items why) t xs
 ended_early r count H M fresh next i n retries old new items t why xs not_limit le run = record {
   all = run.all;
   leads = run.leads;
@@ -217,7 +217,7 @@ ended_early r count H M fresh next i n retries old new items t why xs not_limit 
 }
   where
     early : (why : Ended) (fresh : Bool) (t : ℕ) (M : List Moment) (xs : List (List Item)) (i n retries old new : ℕ) → why ≢ StepLimit → i ≤ n →
-        IsEnded why fresh t M xs i retries old new → IsEnded why fresh t M xs n retries old new
+        IsEnded why fresh t M xs i (losses_of retries old new) → IsEnded why fresh t M xs n (losses_of retries old new)
     early CaughtUp fresh t M xs i n retries old new not_limit le e = (omega (arith, e.0), e.1)
     early StepLimit fresh t M xs i n retries old new not_limit le e = absurd (not_limit refl)
     early Stopped fresh t M xs i n retries old new not_limit le e = (e.0, omega (arith, e.1), e.2)
@@ -226,7 +226,7 @@ ended_early r count H M fresh next i n retries old new items t why xs not_limit 
     early (Fault BadReply) fresh t M xs i n retries old new not_limit le e = e
 
 pub step_fresh : (r count : ℕ) (H : History) (M : List Moment) (before after : Bool) (t retries old new u : ℕ) (s : Result Step WalkFault) (ys : List (List Item)) →
-    Collected r count H M before t 1 retries old new (step_items s) u (step_ended s) ys → after ≡ is_fresh_after before s → IsFreshAfter before ys after
+    Collected (our_log r M H) (started_at count before t) 1 (losses_of retries old new) (yield (step_items s) (step_ended s)) u ys → after ≡ is_fresh_after before s → IsFreshAfter before ys after
 step_fresh r count H M before after t retries old new u (Ok (StepOf b)) ys run is = record {
   none = λ h. absurd (omega (arith, run.end.0));
   some = λ h. is;

@@ -10,12 +10,12 @@ use Rattle.bac_link.proofs.Client.{answers_tell_apart}
 use Rattle.bac_link.proofs.Verdicts.{question_fits}
 use Rattle.bac_walk.specs.Came.{Came, restarted}
 use Rattle.bac_walk.specs.Place.{WalkPlace}
-use Rattle.bac_walk.specs.Transacted.{ComesBy, LateRepliesAreLeft, RepliesAnswer, asked as asked_at, asked_after}
+use Rattle.bac_walk.specs.Transacted.{ComesBy, LateRepliesAreLeft, RepliesAnswer, asked as asked_at, asked_after, walk_by}
 use Rattle.bac_walk.specs.Walks.{question_of}
 use Rattle.bac_walk.proofs.Told.{Asking}
 
 answers_there : {S : Type 0} (asks : Asking S) (c : Came) (earlier later : List Came) (t last : Transactions) (old new : S) (w after : WalkPlace) →
-    ComesBy asks t old w (earlier ++ c ∷ later) after last new → answers_to (asked_after t (length earlier) c.place) c.datagram ≡ true
+    ComesBy asks (walk_by old t w) (earlier ++ c ∷ later) (walk_by new last after) → answers_to (asked_after t (length earlier) c.place) c.datagram ≡ true
 answers_there asks c [] later t last old new w after (mid, next, p, place, asked, taken, is, rest) =
     let P : WalkPlace → Type 0 = λ v. answers_to (request_octets (towards t.route) ((t.invoke + 1) % 256) (question v.log (question_of v))) c.datagram ≡ true in
     let Q : ℕ → Type 0 = λ i. answers_to (request_octets (towards t.route) (i % 256) (question c.place.log (question_of c.place))) c.datagram ≡ true in

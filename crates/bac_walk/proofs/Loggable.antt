@@ -6,7 +6,7 @@ use Rattle.bac_apdu.specs.declared.service.extent.Extent.{Extent}
 use Rattle.bac_link.specs.declared.link.Lost.{Lost as Loss}
 use Rattle.bac_link.specs.Delivery.{History, Moment, now}
 use Rattle.bac_link.specs.Exchanges.{IsNoAnswer, Unanswered}
-use Rattle.bac_link.specs.Links.{question, IsAsked, IsQuestion, TellsOurs}
+use Rattle.bac_link.specs.Links.{question, IsAsked, IsQuestion, TellsOurs, our_question}
 use Rattle.bac_link.specs.Moments.{log_at}
 use Rattle.bac_link.specs.Path.{towards}
 use Rattle.bac_link.specs.Requests.{request_octets}
@@ -18,7 +18,7 @@ use Rattle.bac_walk.proofs.Came.{Asking}
 
 -- a try that brought no answer was lost, and leaves the moments
 left_by : (stays : List Moment → Type 0) (r : ℕ) (M : List Moment) (H : History) (log : Id) (extent : Extent) (place : Option Place) (invoke : ℕ) (octets : List ℕ) (answer : Result (List ℕ) Loss) →
-    IsQuestion log extent (towards place) invoke octets → IsAsked stays r M H log extent (towards place) invoke answer → IsNoAnswer octets answer → stays M
+    IsQuestion log extent (towards place) invoke octets → IsAsked stays (our_question r M H log extent (towards place)) invoke answer → IsNoAnswer octets answer → stays M
 left_by stays r M H log extent place invoke octets (Err lost) is told none = told
 left_by stays r M H log extent place invoke octets (Ok datagram) is told none =
     absurd (let e = sym (our_answers r (log_at (now M) H) log extent place invoke octets datagram is told.0.1) ∙ none in cc)

@@ -7,7 +7,7 @@ use Rattle.bac_link.specs.Laws.{after_answers}
 use Rattle.bac_link.specs.Moments.{AreServed}
 use Rattle.bac_link.proofs.Delivers.{after_one, held_end, first_held}
 use Rattle.bac_walk.specs.declared.outcome.Ended.TheVariants.{StepLimit}
-use Rattle.bac_walk.specs.Collects.{batches, start_of, Collected, IsFreshAfter}
+use Rattle.bac_walk.specs.Collects.{batches, start_of, Collected, IsFreshAfter, our_log, started_at, losses_of, yield}
 use Rattle.bac_link.specs.Moments.{IsInWindow, AreInWindow}
 use Rattle.bac_walk.specs.Near.{IsNear, IsNearStep, StaysNear}
 use Rattle.bac_walk.proofs.Headline.{leads}
@@ -24,7 +24,7 @@ pub at_once : (r count : ℕ) (H : History) (M : List Moment) (fresh : Bool) (s 
 at_once r count H M fresh s steps retries old some near not_fresh = near 0 retries old old s [] [] some (no_steps r count H M fresh s retries old) (λ none. not_fresh)
 
 pub next_steps : (r count : ℕ) (H : History) (M : List Moment) (fresh mid_fresh : Bool) (s i j retries old mid t : ℕ) (items : List Item) (answers : List (List Item)) →
-    StaysNear r count H M fresh s (i + j) → Collected r count H M fresh s i retries old mid items t StepLimit answers → IsFreshAfter fresh answers mid_fresh →
+    StaysNear r count H M fresh s (i + j) → Collected (our_log r M H) (started_at count fresh s) i (losses_of retries old mid) (yield items StepLimit) t answers → IsFreshAfter fresh answers mid_fresh →
     StaysNear r count H (after_answers (length answers) M) mid_fresh t j
 next_steps r count H M fresh mid_fresh s i j retries old mid t items answers near run left = λ k tries was is u more others lt rest not_fresh.
     let N : List Moment = after_answers (length answers) M in
@@ -38,7 +38,7 @@ next_steps r count H M fresh mid_fresh s i j retries old mid t items answers nea
     (λ none. sym (left.none (omega (arith, batches-append answers others, none))) ∙ not_fresh (omega (arith, batches-append answers others, none))))
 
 pub next_step : (r count : ℕ) (H : History) (M : List Moment) (fresh mid_fresh : Bool) (s i retries old mid t : ℕ) (items : List Item) (answers : List (List Item)) →
-    StaysNear r count H M fresh s (i + 1) → Collected r count H M fresh s i retries old mid items t StepLimit answers → IsFreshAfter fresh answers mid_fresh →
+    StaysNear r count H M fresh s (i + 1) → Collected (our_log r M H) (started_at count fresh s) i (losses_of retries old mid) (yield items StepLimit) t answers → IsFreshAfter fresh answers mid_fresh →
     StaysNear r count H (after_answers (length answers) M) mid_fresh t 1
 next_step r count H M fresh mid_fresh s i retries old mid t items answers near run left = next_steps r count H M fresh mid_fresh s i 1 retries old mid t items answers near run left
 

@@ -21,7 +21,7 @@ use Rattle.bac_log.proofs.Sizes.{entry_sized}
 use Rattle.bac_walk.specs.Replies.{Wanted, count_wanted, extent_of, IsShown}
 use Rattle.bac_link.specs.Datagrams.{apdu_in}
 use Rattle.bac_link.specs.Heard.{AckParameters, heard_at, heard_if, heard_of, records_in, same_id}
-use Rattle.bac_link.specs.Links.{IsReply, reply_parameters}
+use Rattle.bac_link.specs.Links.{IsReply, reply_parameters, our_question}
 use Rattle.bac_link.specs.Delivery.{History, Moment, now}
 use Rattle.bac_link.specs.Path.{Path}
 use Rattle.bac_link.specs.Moments.{AreServed, log_at}
@@ -56,7 +56,7 @@ heard_reply id log extent r is most valid =
     ∙ heard_shown id (reply_of log extent (selected log extent) (packed extent r (selected log extent))).flags (first_of r log extent) (records_of r log extent) (packed_loggable log extent r is most)
 
 says_reply : (result : Option (List ℕ)) (datagram : List ℕ) (r : ℕ) (M : List Moment) (H : History) (id : Id) (wanted : Wanted) (path : Path) (invoke : ℕ) → result ≡ parameters_in (apdu_in datagram) → AreServed r M H → count_wanted wanted < 2147483648 → IsNearTo wanted (now M) → IsValid (Object id) →
-    IsReply r (now M) H id (extent_of wanted) path invoke datagram → IsSomeAnd result (λ p. Says r (now M) H wanted (heard_at id p))
+    IsReply (our_question r M H id (extent_of wanted) path) invoke datagram → IsSomeAnd result (λ p. Says r (now M) H wanted (heard_at id p))
 says_reply result datagram r M H id wanted path invoke gives served small near valid reply =
     let sound = Sound-now r M H served in
     let within = In-now r M H served in
@@ -74,6 +74,6 @@ says_heard None r m H id wanted h = absurd h
 says_heard (Some p) r m H id wanted h = h
 
 pub says_in : (datagram : List ℕ) (r : ℕ) (M : List Moment) (H : History) (id : Id) (wanted : Wanted) (path : Path) (invoke : ℕ) → AreServed r M H → count_wanted wanted < 2147483648 → IsNearTo wanted (now M) → IsValid (Object id) →
-    IsReply r (now M) H id (extent_of wanted) path invoke datagram → Says r (now M) H wanted (heard_in id datagram)
+    IsReply (our_question r M H id (extent_of wanted) path) invoke datagram → Says r (now M) H wanted (heard_in id datagram)
 says_in datagram r M H id wanted path invoke served small near valid reply =
     says_heard (parameters_in (apdu_in datagram)) r (now M) H id wanted (says_reply (parameters_in (apdu_in datagram)) datagram r M H id wanted path invoke refl served small near valid reply)

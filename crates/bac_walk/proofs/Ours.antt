@@ -6,7 +6,7 @@ use Rattle.bac_apdu.specs.Npdu.{Place}
 use Rattle.bac_apdu.specs.Service.Extent.{IsExtent}
 use Rattle.bac_link.specs.declared.link.Lost.{Lost as Loss}
 use Rattle.bac_link.specs.Delivery.{History, Moment, now}
-use Rattle.bac_link.specs.Links.{IsAsked, IsQuestion, IsReply, TellsOurs}
+use Rattle.bac_link.specs.Links.{IsAsked, IsQuestion, IsReply, TellsOurs, our_question}
 use Rattle.bac_link.specs.Moments.{AreServed, log_at}
 use Rattle.bac_link.specs.Path.{towards}
 use Rattle.bac_link.proofs.Verdicts.{our_answers}
@@ -30,11 +30,11 @@ in_window H m low s sound window at = record {
 -- our reply to a question is one by the standard
 said_by : (r : ℕ) (M : List Moment) (H : History) (log : Id) (place : Option Place) (low count : ℕ) (asked : Asked) (invoke : ℕ) (datagram : List ℕ) →
     AreServed r M H → IsValid (Object log) → IsInWindow low (now M) → IsCount count → IsAskedIn low count asked →
-    IsReply r (now M) H log (extent_asked asked) (towards place) invoke datagram → IsSaidAt (now M) H log asked datagram
+    IsReply (our_question r M H log (extent_asked asked) (towards place)) invoke datagram → IsSaidAt (now M) H log asked datagram
 said_by r M H log place low count (FromOldest asked) invoke datagram served valid window many same reply =
     own_said r M H log (FromTheOldest asked) (towards place) invoke datagram served valid (subst IsCount (sym same) many) tt reply
 said_by r M H log place low count (FromNumber n asked) invoke datagram served valid window many (same, (s, number, above, below)) reply =
-    let P : ℕ → Type 0 = λ k. IsReply r (now M) H log (extent_asked (FromNumber k asked)) (towards place) invoke datagram in
+    let P : ℕ → Type 0 = λ k. IsReply (our_question r M H log (extent_asked (FromNumber k asked)) (towards place)) invoke datagram in
     let Q : ℕ → Type 0 = λ k. IsSaidAt (now M) H log (FromNumber k asked) datagram in
     let near = in_window H (now M) low s (Sound-now r M H served) window (above, below) in
     subst Q (sym number) (own_said r M H log (FromOrdinal s asked) (towards place) invoke datagram served valid (subst IsCount (sym same) many) near (subst P number reply))
@@ -54,7 +54,7 @@ ours_are_honest {S = S} asks ours serves tells = λ place log count r H low way 
   where
     answered : (place : Option Place) (log : Id) (count r : ℕ) (H : History) (low : ℕ) (old new : S) (M : List Moment) (asked : Asked) (invoke : ℕ) (answer : Result (List ℕ) Loss) (octets : List ℕ) →
         AreServed r M H → IsValid (Object log) → IsInWindow low (now M) → IsCount count → IsAskedIn low count asked → IsQuestion log (extent_asked asked) (towards place) invoke octets →
-        IsAsked (λ N. ours new log r N H) r M H log (extent_asked asked) (towards place) invoke answer → IsSaidOrLost (λ N. ours new log r N H) M H log asked octets answer
+        IsAsked (λ N. ours new log r N H) (our_question r M H log (extent_asked asked) (towards place)) invoke answer → IsSaidOrLost (λ N. ours new log r N H) M H log asked octets answer
     answered place log count r H low old new M asked invoke (Ok datagram) octets served valid window many in_it is told = (
       λ yes. (said_by r M H log place low count asked invoke datagram served valid window many in_it told.0, told.1),
       λ other. absurd (let e = sym (our_answers r (log_at (now M) H) log (extent_asked asked) place invoke octets datagram is told.0.1) ∙ other in cc),

@@ -17,7 +17,7 @@ use Rattle.bac_walk.specs.Walks.{items_in, numbered}
 use Rattle.bac_log.specs.declared.entry.Entry.{Entry}
 use Rattle.bac_walk.specs.declared.outcome.Step.{Step}
 use Rattle.bac_walk.specs.declared.outcome.Step.TheVariants.{Batch as StepOf, CaughtUp as NoStep}
-use Rattle.bac_walk.specs.Collects.{Collected, IsEnded, FoundEnd, FoundStep, step_items, step_ended, batches, IsWhole, IsOfReply, LeadsInSteps, start_of}
+use Rattle.bac_walk.specs.Collects.{Collected, IsEnded, FoundEnd, FoundStep, step_items, step_ended, batches, IsWhole, IsOfReply, LeadsInSteps, start_of, our_log, started_at, losses_of, yield}
 use Rattle.bac_walk.proofs.Bridge.{fitting_most}
 use Rattle.bac_walk.proofs.Shown.{length-numbered}
 use Rattle.bac_walk.specs.Rests.{Rested, rest_from, rest_oldest, rest, IsRest}
@@ -171,7 +171,7 @@ whole_head Stopped m t steps [] all items reply ends is = absurd ends
 whole_head (Fault e) m t steps [] all items reply ends is = absurd ends
 
 pub rests : (r count : ℕ) (H : History) (m : Moment) (why : Ended) (s t steps : ℕ) (answers : List (List Item)) →
-    LeadsInSteps why r count H (m ∷ []) false s answers t → Ends why m t answers steps →
+    LeadsInSteps why (our_log r (m ∷ []) H) count false s answers t → Ends why m t answers steps →
     record { items = items_of answers; next = t; ended = why } ≡ rest_from r count H m s steps
 rests r count H m why s t steps [] leads ends = stops r count H m s t steps why leads ends
 rests r count H m why s t steps ([] ∷ []) leads ends = stops r count H m s t steps why leads.1 (ends_none why m t steps ends)
@@ -193,7 +193,7 @@ rests r count H m why s t (suc n) ((x ∷ xs) ∷ answers) leads ends =
     (near_first r count H m s u (x ∷ xs) (omega arith) brings whole) whole (rests r count H m why u t n answers leads.3 (ends_more why m t n x xs answers ends))
 
 ends_of : (why : Ended) (m : Moment) (fresh : Bool) (t : ℕ) (answers : List (List Item)) (steps retries old new : ℕ) → FoundEnd why → why ≢ Stopped →
-    IsEnded why fresh t (m ∷ []) answers steps retries old new → Ends why m t answers steps
+    IsEnded why fresh t (m ∷ []) answers steps (losses_of retries old new) → Ends why m t answers steps
 ends_of CaughtUp m fresh t answers steps retries old new found on end =
     let P : List Moment → Type 0 = λ N. NoneFrom t (now N) in
     (end.0, subst P (after_one end.1.0 m) end.1.3)
@@ -205,7 +205,7 @@ ends_of (Fault BadReply) m fresh t answers steps retries old new found on end = 
 
 -- from an ordinal
 rest_at : (r count : ℕ) (H : History) (m : Moment) (s steps : ℕ) (items : List Item) (t shown : ℕ) (why : Ended) (answers : List (List Item)) →
-    items_of answers ≡ items → LeadsInSteps why r count H (m ∷ []) false s answers t → Ends why m t answers steps → shown ≡ sequence_number t →
+    items_of answers ≡ items → LeadsInSteps why (our_log r (m ∷ []) H) count false s answers t → Ends why m t answers steps → shown ≡ sequence_number t →
     IsRest (rest_from r count H m s steps) items shown why
 rest_at r count H m s steps items t shown why answers all leads ends is =
     let eq = rests r count H m why s t steps answers leads ends in
@@ -223,7 +223,7 @@ start_some next m ([] ∷ answers) some = start_some next m answers some
 start_some next m ((x ∷ xs) ∷ answers) some = refl
 
 some_held : (why : Ended) (r count : ℕ) (H : History) (m : Moment) (by_oldest : Bool) (s t : ℕ) (answers : List (List Item)) → 0 < batches answers →
-    LeadsInSteps why r count H (m ∷ []) by_oldest s answers t → m.oldest ≤ m.newest
+    LeadsInSteps why (our_log r (m ∷ []) H) count by_oldest s answers t → m.oldest ≤ m.newest
 some_held why r count H m by_oldest s t [] some leads = absurd (omega arith)
 some_held why r count H m false s t ([] ∷ answers) some leads = some_held why r count H m true s t answers some leads.1
 some_held why r count H m true s t ([] ∷ answers) some leads = absurd (omega (arith, some, ap batches leads.0))
@@ -231,7 +231,7 @@ some_held why r count H m by_oldest s t ((x ∷ xs) ∷ answers) some leads =
     let held = batch_held H m s leads.0 (x ∷ xs) (omega arith) leads.1 in omega (arith, held.0, held.1)
 
 idle_stays : (why : Ended) (r count : ℕ) (H : History) (M : List Moment) (by_oldest : Bool) (s t : ℕ) (answers : List (List Item)) → batches answers ≡ 0 →
-    LeadsInSteps why r count H M by_oldest s answers t → t ≡ s
+    LeadsInSteps why (our_log r M H) count by_oldest s answers t → t ≡ s
 idle_stays why r count H M by_oldest s t [] none leads = leads
 idle_stays why r count H M false s t ([] ∷ answers) none leads = idle_stays why r count H (later M) true s t answers none leads.1
 idle_stays why r count H M true s t ([] ∷ answers) none leads = leads.2
@@ -247,7 +247,7 @@ rest_some r count H m s zero some held = absurd (omega arith)
 rest_some r count H m s (suc n) some held = let no : nat_lt m.newest m.oldest ≡ false = le-ltb m.newest m.oldest held in rw no refl
 
 idle_oldest : (r count : ℕ) (H : History) (m : Moment) (s steps t shown retries old new : ℕ) (why : Ended) (answers : List (List Item)) → FoundEnd why → why ≢ Stopped →
-    batches answers ≡ 0 → t ≡ s → shown ≡ sequence_number t → IsEnded why true t (m ∷ []) answers steps retries old new →
+    batches answers ≡ 0 → t ≡ s → shown ≡ sequence_number t → IsEnded why true t (m ∷ []) answers steps (losses_of retries old new) →
     IsRest (rest_oldest r count H m s steps) [] shown why
 idle_oldest r count H m s zero t shown retries old new CaughtUp answers found on none same is end = absurd (omega (arith, end.0))
 idle_oldest r count H m s (suc n) t shown retries old new CaughtUp answers found on none same is end =
@@ -263,7 +263,7 @@ idle_oldest r count H m s steps t shown retries old new (Fault (Refused refusal)
 idle_oldest r count H m s steps t shown retries old new (Fault BadReply) answers found on none same is end = absurd end
 
 oldest_at : (r count : ℕ) (H : History) (m : Moment) (s steps retries old new : ℕ) (items : List Item) (t shown : ℕ) (why : Ended) (answers : List (List Item)) (n : ℕ) →
-    batches answers ≡ n → FoundEnd why → why ≢ Stopped → Collected r count H (m ∷ []) true s steps retries old new items t why answers → shown ≡ sequence_number t →
+    batches answers ≡ n → FoundEnd why → why ≢ Stopped → Collected (our_log r (m ∷ []) H) (started_at count true s) steps (losses_of retries old new) (yield items why) t answers → shown ≡ sequence_number t →
     IsRest (rest_oldest r count H m s steps) items shown why
 oldest_at r count H m s steps retries old new items t shown why answers zero none found on run is =
     let nothing : items ≡ [] = sym run.all ∙ no_items_of answers none in
@@ -274,7 +274,7 @@ oldest_at r count H m s steps retries old new items t shown why answers (suc n) 
     let some : 0 < batches answers = omega (arith, many) in
     let start : start_of true s (m ∷ []) answers ≡ m.oldest = start_some s m answers some in
     let ends = ends_of why m true t answers steps retries old new found on run.end in
-    let A : ℕ → Type 0 = λ u. LeadsInSteps why r count H (m ∷ []) false u answers t in
+    let A : ℕ → Type 0 = λ u. LeadsInSteps why (our_log r (m ∷ []) H) count false u answers t in
     let R : Rested → Type 0 = λ x. IsRest x items shown why in
     let leads = subst A start run.leads in
     subst R (rest_some r count H m s steps (some_steps steps refl some ends) (some_held why r count H m false m.oldest t answers some leads))
@@ -286,7 +286,7 @@ oldest_at r count H m s steps retries old new items t shown why answers (suc n) 
     some_steps (suc k) is some ends = omega (arith, is)
 
 pub rested : (r count : ℕ) (H : History) (m : Moment) (fresh : Bool) (s steps retries old new : ℕ) (items : List Item) (t shown : ℕ) (why : Ended) (answers : List (List Item)) →
-    FoundEnd why → why ≢ Stopped → Collected r count H (m ∷ []) fresh s steps retries old new items t why answers → shown ≡ sequence_number t →
+    FoundEnd why → why ≢ Stopped → Collected (our_log r (m ∷ []) H) (started_at count fresh s) steps (losses_of retries old new) (yield items why) t answers → shown ≡ sequence_number t →
     IsRest (rest r count H m fresh s steps) items shown why
 rested r count H m false s steps retries old new items t shown why answers found on run is =
     rest_at r count H m s steps items t shown why answers run.all run.leads (ends_of why m false t answers steps retries old new found on run.end) is
@@ -295,7 +295,7 @@ rested r count H m true s steps retries old new items t shown why answers found 
 
 -- a step
 pub rested_step : (r count : ℕ) (H : History) (m : Moment) (fresh : Bool) (s retries old new : ℕ) (t shown : ℕ) (z : Result Step WalkFault) (answers : List (List Item)) →
-    FoundStep z → Collected r count H (m ∷ []) fresh s 1 retries old new (step_items z) t (step_ended z) answers → shown ≡ sequence_number t →
+    FoundStep z → Collected (our_log r (m ∷ []) H) (started_at count fresh s) 1 (losses_of retries old new) (yield (step_items z) (step_ended z)) t answers → shown ≡ sequence_number t →
     IsRest (rest r count H m fresh s 1) (step_items z) shown (step_ended z)
 rested_step r count H m fresh s retries old new t shown (Ok (StepOf b)) answers found run is =
     rested r count H m fresh s 1 retries old new (items_in b) t shown StepLimit answers tt (λ e. cc) run is

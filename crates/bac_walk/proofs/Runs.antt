@@ -14,29 +14,29 @@ use Rattle.bac_link.specs.Delivery.{History, Moment, DeliversTo}
 use Rattle.bac_link.specs.Laws.{after_answers}
 use Rattle.bac_walk.specs.Near.{StaysNear}
 use Rattle.bac_walk.specs.Walks.{gap_items, item_of}
-use Rattle.bac_walk.specs.Collects.{start_of, Collected, IsFreshAfter}
-use Rattle.bac_walk.specs.Sinks.{Call, put_items, gaps, Takes, is_stopped, IsRun, Delivery}
+use Rattle.bac_walk.specs.Collects.{start_of, Collected, IsFreshAfter, our_log, started_at, losses_of, yield}
+use Rattle.bac_walk.specs.Sinks.{Call, put_items, gaps, Takes, is_stopped, IsRun, Delivery, sink_filled, ours_around}
 use Rattle.bac_walk.proofs.Joins.{join, fresh_join, no_steps, ended_early, after_answers-add}
 use Rattle.bac_walk.proofs.Came.{start_old}
 use Rattle.bac_walk.proofs.Goes.{join_goes, stays_goes}
 use Rattle.bac_walk.proofs.Headline.{leads}
 use Rattle.bac_walk.proofs.Near.{fewer_steps, next_steps}
 
-pub no_run : (was : ℕ → List Moment → History → Type 0) (retries old : ℕ) (w : WalkPlace) → IsRun was was retries old old w w 0 StepLimit []
+pub no_run : (was : ℕ → List Moment → History → Type 0) (retries old : ℕ) (w : WalkPlace) → IsRun (ours_around was was) (losses_of retries old old) w w 0 StepLimit []
 no_run was retries old w = (
   (λ s. stays_goes w.fresh w.next s),
   (λ r M H s ours next near. ([], s, next, no_steps r w.count H M w.fresh s retries old, ours, record { none = λ h. refl; some = λ h. absurd (omega arith) })),
 )
 
 pub join_runs : (was mid is : ℕ → List Moment → History → Type 0) (retries old half new : ℕ) (before middle after : WalkPlace) (i j : ℕ) (ended : Ended) (xs ys : List Item) →
-    IsRun was mid retries old half before middle i StepLimit xs → IsRun mid is retries half new middle after j ended ys → old ≤ half → middle.count ≡ before.count →
-    IsRun was is retries old new before after (i + j) ended (xs ++ ys)
+    IsRun (ours_around was mid) (losses_of retries old half) before middle i StepLimit xs → IsRun (ours_around mid is) (losses_of retries half new) middle after j ended ys → old ≤ half → middle.count ≡ before.count →
+    IsRun (ours_around was is) (losses_of retries old new) before after (i + j) ended (xs ++ ys)
 join_runs was mid is retries old half new before middle after i j ended xs ys first rest up same = (
   (λ s. join_goes before.fresh before.next xs middle.fresh middle.next ys after.fresh after.next first.0 rest.0 s),
   (λ r M H s ours next near.
       let a = first.1 r M H s ours next (fewer_steps r before.count H M before.fresh s i (i + j) (omega arith) near) in
       let R : ℕ → Type 0 = λ count. (r : ℕ) (N : List Moment) (G : History) (k : ℕ) → mid r N G → middle.next ≡ sequence_number k → StaysNear r count G N middle.fresh k j →
-      (answers : List (List Item)) × (t : ℕ) × (after.next ≡ sequence_number t) × Collected r count G N middle.fresh k j retries half new ys t ended answers
+      (answers : List (List Item)) × (t : ℕ) × (after.next ≡ sequence_number t) × Collected (our_log r N G) (started_at count middle.fresh k) j (losses_of retries half new) (yield ys ended) t answers
       × is r (after_answers (length answers) N) G × IsFreshAfter middle.fresh answers after.fresh in
       let b = subst R same rest.1 r (after_answers (length a.0) M) H a.1 a.4 a.2
       (next_steps r before.count H M before.fresh middle.fresh s i j retries old half a.1 xs a.0 near a.3 a.5) in
@@ -53,13 +53,13 @@ join_runs was mid is retries old half new before middle after i j ended xs ys fi
 )
 
 pub join_run : (was mid is : ℕ → List Moment → History → Type 0) (retries old half new : ℕ) (before middle after : WalkPlace) (i : ℕ) (ended : Ended) (xs ys : List Item) →
-    IsRun was mid retries old half before middle i StepLimit xs → IsRun mid is retries half new middle after 1 ended ys → old ≤ half → middle.count ≡ before.count →
-    IsRun was is retries old new before after (i + 1) ended (xs ++ ys)
+    IsRun (ours_around was mid) (losses_of retries old half) before middle i StepLimit xs → IsRun (ours_around mid is) (losses_of retries half new) middle after 1 ended ys → old ≤ half → middle.count ≡ before.count →
+    IsRun (ours_around was is) (losses_of retries old new) before after (i + 1) ended (xs ++ ys)
 join_run was mid is retries old half new before middle after i ended xs ys first rest up same =
     join_runs was mid is retries old half new before middle after i 1 ended xs ys first rest up same
 
 pub run_early : (was is : ℕ → List Moment → History → Type 0) (retries old new : ℕ) (before after : WalkPlace) (i n : ℕ) (ended : Ended) (xs : List Item) →
-    ended ≢ StepLimit → i ≤ n → IsRun was is retries old new before after i ended xs → IsRun was is retries old new before after n ended xs
+    ended ≢ StepLimit → i ≤ n → IsRun (ours_around was is) (losses_of retries old new) before after i ended xs → IsRun (ours_around was is) (losses_of retries old new) before after n ended xs
 run_early was is retries old new before after i n ended xs not_limit le run = (
   run.0,
   (λ r M H s ours next near.
@@ -87,15 +87,15 @@ gaps-append [] ys = omega arith
 gaps-append (x ∷ xs) ys = omega (arith, gaps-append xs ys)
 
 pub no_delivery : {S : Type 0} (puts : S → Option GapOf → Numbered → Bool → S → Type 0) (sink : S) (was : ℕ → List Moment → History → Type 0)
-    (retries old : ℕ) (w : WalkPlace) → Delivery puts sink sink was was retries old old w w 0 StepLimit
+    (retries old : ℕ) (w : WalkPlace) → Delivery (sink_filled puts sink sink) (ours_around was was) (losses_of retries old old) w w 0 StepLimit
 no_delivery puts sink was retries old w = ([], (refl, refl), omega arith, omega arith, no_run was retries old w, λ e. omega arith)
 
 pub join_delivers : {S : Type 0} (puts : S → Option GapOf → Numbered → Bool → S → Type 0) (sink held left : S) (was mid is : ℕ → List Moment → History → Type 0)
     (retries old half new : ℕ) (before middle after : WalkPlace) (i : ℕ) (ended : Ended) →
-    Delivery puts sink held was mid retries old half before middle i StepLimit → Delivery puts held left mid is retries half new middle after 1 ended → old ≤ half → middle.count ≡ before.count →
-    Delivery puts sink left was is retries old new before after (i + 1) ended
+    Delivery (sink_filled puts sink held) (ours_around was mid) (losses_of retries old half) before middle i StepLimit → Delivery (sink_filled puts held left) (ours_around mid is) (losses_of retries half new) middle after 1 ended → old ≤ half → middle.count ≡ before.count →
+    Delivery (sink_filled puts sink left) (ours_around was is) (losses_of retries old new) before after (i + 1) ended
 join_delivers puts sink held left was mid is retries old half new before middle after i ended first rest up same =
-    let P : List Item → Type 0 = λ l. IsRun was is retries old new before after (i + 1) ended l in (
+    let P : List Item → Type 0 = λ l. IsRun (ours_around was is) (losses_of retries old new) before after (i + 1) ended l in (
       first.0 ++ rest.0,
       Takes-append puts sink held left first.0 rest.0 (is_stopped ended) first.1 rest.1,
       omega (arith, length-append first.0 rest.0, first.2, rest.2),
@@ -106,7 +106,7 @@ join_delivers puts sink held left was mid is retries old half new before middle 
 
 pub delivers_early : {S : Type 0} (puts : S → Option GapOf → Numbered → Bool → S → Type 0) (sink left : S) (was is : ℕ → List Moment → History → Type 0)
     (retries old new : ℕ) (before after : WalkPlace) (i n : ℕ) (ended : Ended) → ended ≢ StepLimit → i ≤ n →
-    Delivery puts sink left was is retries old new before after i ended → Delivery puts sink left was is retries old new before after n ended
+    Delivery (sink_filled puts sink left) (ours_around was is) (losses_of retries old new) before after i ended → Delivery (sink_filled puts sink left) (ours_around was is) (losses_of retries old new) before after n ended
 delivers_early puts sink left was is retries old new before after i n ended not_limit le run = (
   run.0,
   run.1,
@@ -161,12 +161,12 @@ not_stopped (Fault f) on = λ e. cc
 
 -- what a run over a link of ours delivers
 pub collected_delivers : (r count : ℕ) (H : History) (M : List Moment) (fresh : Bool) (s steps retries old new : ℕ) (items : List Item) (t : ℕ) (ended : Ended) (answers : List (List Item)) →
-    Collected r count H M fresh s steps retries old new items t ended answers → DeliversTo H (start_of fresh s M answers) items t M (length answers)
+    Collected (our_log r M H) (started_at count fresh s) steps (losses_of retries old new) (yield items ended) t answers → DeliversTo H (start_of fresh s M answers) items t M (length answers)
 collected_delivers r count H M fresh s steps retries old new items t ended answers run =
     (answers, refl, run.all, leads ended r count H M false (start_of fresh s M answers) t answers run.leads)
 
 pub headline_of : (was is : ℕ → List Moment → History → Type 0) (retries old new : ℕ) (before after : WalkPlace) (n : ℕ) (ended : Ended) (items : List Item) →
-    IsRun was is retries old new before after n ended items → (r : ℕ) (M : List Moment) (H : History) (s : ℕ) → was r M H → before.next ≡ sequence_number s →
+    IsRun (ours_around was is) (losses_of retries old new) before after n ended items → (r : ℕ) (M : List Moment) (H : History) (s : ℕ) → was r M H → before.next ≡ sequence_number s →
     StaysNear r before.count H M before.fresh s n → (b : ℕ) × (a : ℕ) × (t : ℕ) × (before.fresh ≡ false → b ≡ s) × (after.next ≡ sequence_number t) × DeliversTo H b items t M a × is r (after_answers a M) H
 headline_of was is retries old new before after n ended items run r M H s ours next near =
     let c = run.1 r M H s ours next near in

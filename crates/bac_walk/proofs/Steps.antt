@@ -14,7 +14,7 @@ use Rattle.bac_link.specs.Laws.{after_answers}
 use Rattle.bac_link.specs.Moments.{AreServed}
 use Rattle.bac_walk.specs.Turns.{whole_reply, NoneOfAsked}
 use Rattle.bac_link.specs.Links.{RisesBy}
-use Rattle.bac_walk.specs.Collects.{Collected, asks_next, finished, step_items, step_ended, is_fresh_after}
+use Rattle.bac_walk.specs.Collects.{Collected, asks_next, finished, step_items, step_ended, is_fresh_after, our_log, started_at, losses_of, yield}
 use Rattle.bac_walk.specs.Turned.{IsTurned}
 use Rattle.bac_walk.proofs.Held.{Rises, Rises-later}
 use Rattle.bac_walk.specs.Walks.{asks_oldest_now}
@@ -22,7 +22,7 @@ use Rattle.bac_walk.specs.Walks.{asks_oldest_now}
 pub one_batch : (r count : ℕ) (H : History) (M : List Moment) (fresh : Bool) (next retries old new : ℕ) (items : List Item) (t : ℕ) →
     Brings H (now M) (if fresh then (now M).oldest else next) items t → 0 < length items →
     items ≡ whole_reply r count H (now M) false (if fresh then (now M).oldest else next) →
-    Collected r count H M fresh next 1 retries old new items t StepLimit (items ∷ [])
+    Collected (our_log r M H) (started_at count fresh next) 1 (losses_of retries old new) (yield items StepLimit) t (items ∷ [])
 one_batch r count H M fresh next retries old new [] t brings some whole = absurd (omega arith)
 one_batch r count H M true next retries old new (x ∷ xs) t brings some whole = record {
   all = append-nil (x ∷ xs);
@@ -42,7 +42,7 @@ one_batch r count H M false next retries old new (x ∷ xs) t brings some whole 
 pub idle_batch : (r count : ℕ) (H : History) (M : List Moment) (next retries old new : ℕ) (items : List Item) (t : ℕ) →
     NoneOfAsked count next (now M) → Brings H (now (later M)) next items t → 0 < length items →
     items ≡ whole_reply r count H (now (later M)) true next →
-    Collected r count H M false next 1 retries old new items t StepLimit ([] ∷ items ∷ [])
+    Collected (our_log r M H) (started_at count false next) 1 (losses_of retries old new) (yield items StepLimit) t ([] ∷ items ∷ [])
 idle_batch r count H M next retries old new [] t none brings some whole = absurd (omega arith)
 idle_batch r count H M next retries old new (x ∷ xs) t none brings some whole = record {
   all = append-nil (x ∷ xs);
@@ -53,7 +53,7 @@ idle_batch r count H M next retries old new (x ∷ xs) t none brings some whole 
 }
 
 pub none_held : (r count : ℕ) (H : History) (M : List Moment) (next retries old new : ℕ) → (now M).newest < (now M).oldest →
-    Collected r count H M true next 1 retries old new [] next CaughtUp ([] ∷ [])
+    Collected (our_log r M H) (started_at count true next) 1 (losses_of retries old new) (yield [] CaughtUp) next ([] ∷ [])
 none_held r count H M next retries old new none = record {
   all = refl;
   twice_steps = omega arith;
@@ -65,7 +65,7 @@ none_held r count H M next retries old new none = record {
 pub none_left : (r count : ℕ) (H : History) (M : List Moment) (next retries old new : ℕ) → 0 < count → NoneOfAsked count next (now M) →
     Rises (now M) (now (later M)) →
     ((now (later M)).newest < (now (later M)).oldest) ⊎ ((now (later M)).oldest < next) →
-    Collected r count H M false next 1 retries old new [] next CaughtUp ([] ∷ [] ∷ [])
+    Collected (our_log r M H) (started_at count false next) 1 (losses_of retries old new) (yield [] CaughtUp) next ([] ∷ [] ∷ [])
 none_left r count H M next retries old new some none rises (inl empty) = record {
   all = refl;
   twice_steps = omega arith;
@@ -92,7 +92,7 @@ none_left r count H M next retries old new some none rises (inr past) = record {
 }
 
 pub lost_first : (r count : ℕ) (H : History) (M : List Moment) (fresh : Bool) (next retries old new : ℕ) → RisesBy (retries + 1) old new →
-    Collected r count H M fresh next 1 retries old new [] next (Fault Lost) []
+    Collected (our_log r M H) (started_at count fresh next) 1 (losses_of retries old new) (yield [] (Fault Lost)) next []
 lost_first r count H M true next retries old new rises = record {
   all = refl;
   twice_steps = omega arith;
@@ -110,7 +110,7 @@ lost_first r count H M false next retries old new rises = record {
 
 pub lost_second : (r count : ℕ) (H : History) (M : List Moment) (next retries old mid new : ℕ) → NoneOfAsked count next (now M) →
     old ≤ mid → RisesBy (retries + 1) mid new →
-    Collected r count H M false next 1 retries old new [] next (Fault Lost) ([] ∷ [])
+    Collected (our_log r M H) (started_at count false next) 1 (losses_of retries old new) (yield [] (Fault Lost)) next ([] ∷ [])
 lost_second r count H M next retries old mid new none first rises = record {
   all = refl;
   twice_steps = omega arith;
@@ -123,14 +123,14 @@ lost_second r count H M next retries old mid new none first rises = record {
 abbrev pub Stepped : (List Moment → Type 0) → (r count : ℕ) → History → List Moment → Bool → ℕ → ℕ → ℕ → ℕ → Result Progress WalkFault → WalkPlace → Type 0
 Stepped stays r count H M fresh s retries old new p after =
     (answers : List (List Item)) × (t : ℕ) × (after.next ≡ sequence_number t)
-    × Collected r count H M fresh s 1 retries old new (step_items (finished p)) t (step_ended (finished p)) answers
+    × Collected (our_log r M H) (started_at count fresh s) 1 (losses_of retries old new) (yield (step_items (finished p)) (step_ended (finished p))) t answers
     × stays (after_answers (length answers) M)
     × (after.fresh ≡ is_fresh_after fresh (finished p))
 
 -- a step that its first answer ends
 first_core : (stays : List Moment → Type 0) (r count : ℕ) (H : History) (M : List Moment) (log : Id) (next s : ℕ) (fresh : Bool) (retries old new : ℕ) (p : Result Progress WalkFault) (after : WalkPlace) →
     next ≡ sequence_number s →
-    IsTurned stays r M H s (record { log = log; next = next; fresh = fresh; asks_oldest = false; count = count }) retries old new p after →
+    IsTurned stays (our_log r M H) s (record { log = log; next = next; fresh = fresh; asks_oldest = false; count = count }) (losses_of retries old new) p after →
     asks_next p ≡ false → Stepped stays r count H M fresh s retries old new p after
 first_core stays r count H M log next s fresh retries old new (Ok (BatchOf b)) after is turned done = (
   _,
@@ -153,16 +153,16 @@ first_core stays r count H M log next s fresh retries old new (Err (Refused refu
 first_core stays r count H M log next s fresh retries old new (Err BadReply) after is turned done = absurd turned
 
 pub first_at : (stays : List Moment → Type 0) (r : ℕ) (H : History) (M : List Moment) (s : ℕ) (w v : WalkPlace) (retries old new : ℕ) (p : Result Progress WalkFault) (after : WalkPlace) →
-    w.next ≡ sequence_number s → v ≡ record w { asks_oldest = false } → IsTurned stays r M H s v retries old new p after → asks_next p ≡ false →
+    w.next ≡ sequence_number s → v ≡ record w { asks_oldest = false } → IsTurned stays (our_log r M H) s v (losses_of retries old new) p after → asks_next p ≡ false →
     Stepped stays r w.count H M w.fresh s retries old new p after
 first_at stays r H M s w v retries old new p after next is turned done =
-    let P : WalkPlace → Type 0 = λ u. IsTurned stays r M H s u retries old new p after in
+    let P : WalkPlace → Type 0 = λ u. IsTurned stays (our_log r M H) s u (losses_of retries old new) p after in
     first_core stays r w.count H M w.log w.next s w.fresh retries old new p after next (subst P is turned) done
 
 -- a step of two answers, the first of which brought nothing
 second_core : (stays : List Moment → Type 0) (r count : ℕ) (H : History) (M : List Moment) (log : Id) (next s : ℕ) (fresh : Bool) (retries old mid new : ℕ) (p : Result Progress WalkFault) (after : WalkPlace) →
     next ≡ sequence_number s → Rises (now M) (now (later M)) → (fresh || false) ≡ false → 0 < count → NoneOfAsked count s (now M) → old ≤ mid →
-    IsTurned stays r (later M) H s (record { log = log; next = next; fresh = fresh; asks_oldest = true; count = count }) retries mid new p after →
+    IsTurned stays (our_log r (later M) H) s (record { log = log; next = next; fresh = fresh; asks_oldest = true; count = count }) (losses_of retries mid new) p after →
     Stepped stays r count H M fresh s retries old new p after
 second_core stays r count H M log next s true retries old mid new p after is rises old_walk positive none up turned = absurd (cc)
 second_core stays r count H M log next s false retries old mid new (Ok (BatchOf b)) after is rises old_walk positive none up turned = (
@@ -189,7 +189,7 @@ second_core stays r count H M log next s false retries old mid new (Err BadReply
 
 -- asked on, the first answer having brought nothing
 asked_on : (stays : List Moment → Type 0) (r : ℕ) (H : History) (M : List Moment) (s : ℕ) (w : WalkPlace) (retries old new : ℕ) (p : Result Progress WalkFault) (after : WalkPlace) →
-    IsTurned stays r M H s w retries old new p after → asks_next p ≡ true →
+    IsTurned stays (our_log r M H) s w (losses_of retries old new) p after → asks_next p ≡ true →
     (asks_oldest_now w ≡ false) × NoneOfAsked w.count s (now M) × (after ≡ record w { asks_oldest = true }) × stays (later M)
 asked_on stays r H M s w retries old new (Ok AskOldest) after turned asks = (turned.0.0, turned.0.1, turned.0.2, turned.1)
 asked_on stays r H M s w retries old new (Ok IsUp) after turned asks = absurd (cc)
@@ -198,16 +198,16 @@ asked_on stays r H M s w retries old new (Err e) after turned asks = absurd (cc)
 
 -- the first answer of a step of two
 pub asked : (stays : List Moment → Type 0) (r : ℕ) (H : History) (M : List Moment) (s : ℕ) (w v : WalkPlace) (retries old new : ℕ) (p : Result Progress WalkFault) (after : WalkPlace) →
-    v ≡ record w { asks_oldest = false } → IsTurned stays r M H s v retries old new p after → asks_next p ≡ true →
+    v ≡ record w { asks_oldest = false } → IsTurned stays (our_log r M H) s v (losses_of retries old new) p after → asks_next p ≡ true →
     ((w.fresh || false) ≡ false) × NoneOfAsked w.count s (now M) × (after ≡ record w { asks_oldest = true }) × stays (later M)
 asked stays r H M s w v retries old new p after is turned asks =
-    let P : WalkPlace → Type 0 = λ u. IsTurned stays r M H s u retries old new p after in
+    let P : WalkPlace → Type 0 = λ u. IsTurned stays (our_log r M H) s u (losses_of retries old new) p after in
     asked_on stays r H M s (record w { asks_oldest = false }) retries old new p after (subst P is turned) asks
 
 pub second_at : (stays : List Moment → Type 0) (r : ℕ) (H : History) (M : List Moment) (s : ℕ) (w v : WalkPlace) (retries old mid new : ℕ) (p : Result Progress WalkFault) (after : WalkPlace) →
     w.next ≡ sequence_number s → AreServed r M H → (w.fresh || false) ≡ false → 0 < w.count → NoneOfAsked w.count s (now M) → old ≤ mid →
-    v ≡ record w { asks_oldest = true } → IsTurned stays r (later M) H s v retries mid new p after →
+    v ≡ record w { asks_oldest = true } → IsTurned stays (our_log r (later M) H) s v (losses_of retries mid new) p after →
     Stepped stays r w.count H M w.fresh s retries old new p after
 second_at stays r H M s w v retries old mid new p after next served old_walk positive none up is turned =
-    let P : WalkPlace → Type 0 = λ u. IsTurned stays r (later M) H s u retries mid new p after in
+    let P : WalkPlace → Type 0 = λ u. IsTurned stays (our_log r (later M) H) s u (losses_of retries mid new) p after in
     second_core stays r w.count H M w.log w.next s w.fresh retries old mid new p after next (Rises-later r M H served) old_walk positive none up (subst P is turned)

@@ -3,7 +3,7 @@ use Rattle.std.proofs.Common.{◌≡◌, ℕ, Bool, true, false, ◌||◌, ◌&&
 use Rattle.bac_link.specs.declared.exchanges.ExchangeFault.{ExchangeFault}
 use Rattle.bac_link.specs.declared.link.Lost.{Lost as Loss}
 use Rattle.bac_link.specs.declared.request.Request.{Request}
-use Rattle.bac_link.specs.Exchanges.{Exchanges}
+use Rattle.bac_link.specs.Exchanges.{Exchanges, way_by}
 use Rattle.bac_link.specs.Links.{question}
 use Rattle.bac_link.specs.Path.{Path}
 use Rattle.bac_log.specs.declared.entry.Entry.{Entry}
@@ -79,9 +79,9 @@ asks_here w (Some h) after taken = asks_by w h.first h.count h.entries after tak
 -- ---- a turn
 
 pub has_asked : {S : Type 0} (asks : Asking S) (path : Path) (retries : ℕ) (w : WalkPlace) (invoke : ℕ) (r : Request) (link : S) (result : Result (List ℕ) ExchangeFault) (new : S) →
-    r ≡ question w.log (question_of w) → Exchanges asks path invoke r retries link result new → HasAsked asks path retries w result new
+    r ≡ question w.log (question_of w) → Exchanges asks (way_by path invoke retries) r link result new → HasAsked asks path retries w result new
 has_asked asks path retries w invoke r link result new is exchanged =
-    let P : Request → Type 0 = λ x. Exchanges asks path invoke x retries link result new in (link, invoke, subst P is exchanged)
+    let P : Request → Type 0 = λ x. Exchanges asks (way_by path invoke retries) x link result new in (link, invoke, subst P is exchanged)
 
 pub told_turned : {S : Type 0} (asks : Asking S) (path : Path) (retries : ℕ) (w : WalkPlace) (datagram : List ℕ) (t : Turned) (after : WalkPlace) (new : S) →
     HasAsked asks path retries w (Ok datagram) new → IsTakenFrom w (heard_in w.log datagram) (progress_of (Ok t)) after →

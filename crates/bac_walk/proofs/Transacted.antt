@@ -2,17 +2,17 @@
 use Rattle.std.proofs.Common.{◌≡◌, ℕ, ◌+◌, ◌*◌, ◌≤◌, Bool, true, false, ◌||◌, Option, Result, Ok, Err, List, [], ◌∷◌, length, refl, sym, ap, subst, ◌∙◌, arith, inr}
 use Rattle.std.proofs.Math.Nat.{min-le_left}
 use Rattle.bac_walk.specs.declared.batch.Gap.{Gap as GapOf}
-use Rattle.bac_walk.specs.Sinks.{put_items}
+use Rattle.bac_walk.specs.Sinks.{put_items, sink_filled}
 use Rattle.bac_link.specs.declared.exchanges.ExchangeFault.{ExchangeFault}
 use Rattle.bac_link.specs.declared.item.Item.{Item}
 use Rattle.bac_link.specs.declared.request.Request.{Request}
-use Rattle.bac_link.specs.Exchanges.{Exchanges}
+use Rattle.bac_link.specs.Exchanges.{Exchanges, next_way}
 use Rattle.bac_link.specs.Links.{question}
 use Rattle.bac_link.specs.Path.{Path, towards}
 use Rattle.bac_link.specs.Requests.{next_invoke}
 use Rattle.bac_link.specs.declared.transactions.Transactions.{Transactions}
-use Rattle.bac_walk.specs.Came.{Came, Comes, BroughtInto, EndsBy, AreOf, answers_of, restarted}
-use Rattle.bac_walk.specs.Transacted.{AsksBy, ComesBy, TurnBy, EndsAfter, BroughtBy, BroughtIntoBy, TransactedIsBounded, TransactedIsBrought, asked as asked_at, spare}
+use Rattle.bac_walk.specs.Came.{Came, Comes, BroughtInto, EndsBy, AreOf, answers_of, restarted, reaching, walk_over, reaching_by}
+use Rattle.bac_walk.specs.Transacted.{AsksBy, ComesBy, TurnBy, EndsAfter, BroughtBy, BroughtIntoBy, TransactedIsBounded, TransactedIsBrought, asked as asked_at, spare, walk_by}
 use Rattle.bac_walk.specs.Collects.{asks_next, batches, finished, step_ended, step_items}
 use Rattle.bac_walk.specs.Place.{WalkPlace}
 use Rattle.bac_link.specs.Heard.{heard_in}
@@ -36,9 +36,9 @@ use Rattle.bac_walk.proofs.Brought.{all_items, full_batch, one_batch, up_asks}
 -- ---- a turn
 
 pub asks_from : {S : Type 0} (asks : Asking S) (t : Transactions) (w : WalkPlace) (r : Request) (old : S) (result : Result (List ℕ) ExchangeFault) (new : S) →
-    r ≡ question w.log (question_of w) → Exchanges asks (towards t.route) (next_invoke t.invoke) r t.retries old result new → AsksBy asks t old w result new
+    r ≡ question w.log (question_of w) → Exchanges asks (next_way t) r old result new → AsksBy asks t old w result new
 asks_from asks t w r old result new is exchanged =
-    let P : Request → Type 0 = λ x. Exchanges asks (towards t.route) (next_invoke t.invoke) x t.retries old result new in subst P is exchanged
+    let P : Request → Type 0 = λ x. Exchanges asks (next_way t) x old result new in subst P is exchanged
 
 pub came_turned : {S : Type 0} (asks : Asking S) (t : Transactions) (old : S) (w : WalkPlace) (datagram : List ℕ) (b : Turned) (after : WalkPlace) (new : S) →
     AsksBy asks t old w (Ok datagram) new → IsTakenFrom w (heard_in w.log datagram) (progress_of (Ok b)) after →
@@ -57,20 +57,20 @@ came_bad asks t old w datagram bad after new asked taken =
 
 -- replies leave the route and the retries
 pub comes_same : {S : Type 0} (asks : Asking S) (came : List Came) (t last : Transactions) (old new : S) (w after : WalkPlace) →
-    ComesBy asks t old w came after last new → (last.route ≡ t.route) × (last.retries ≡ t.retries)
+    ComesBy asks (walk_by old t w) came (walk_by new last after) → (last.route ≡ t.route) × (last.retries ≡ t.retries)
 comes_same asks [] t last old new w after comes = (ap (λ (u : Transactions). u.route) comes.2, ap (λ (u : Transactions). u.retries) comes.2)
 comes_same asks (c ∷ came) t last old new w after comes = comes_same asks came (asked_at w t) last comes.0 new comes.1 after comes.7
 
 -- ---- what came over the link
 
 pub comes_plain : {S : Type 0} (asks : Asking S) (came : List Came) (t last : Transactions) (old new : S) (w after : WalkPlace) →
-    ComesBy asks t old w came after last new → Comes asks (towards t.route) t.retries old w came after new
+    ComesBy asks (walk_by old t w) came (walk_by new last after) → Comes (reaching_by asks t) (walk_over old w) came (walk_over new after)
 comes_plain asks [] t last old new w after (at, same, left) = (at, same)
 comes_plain asks (c ∷ came) t last old new w after (mid, next, p, place, asked, taken, is, more) =
     (mid, next, p, place, (next_invoke t.invoke, asked), taken, is, comes_plain asks came (asked_at w t) last mid new next after more)
 
 ends_plain : {S : Type 0} (asks : Asking S) (t last : Transactions) (steps : ℕ) (came : List Came) (here : WalkPlace) (mid : S) (ended : Ended) (after : WalkPlace) (new : S) →
-    EndsAfter asks t steps came here mid ended after last new → EndsBy asks (towards t.route) t.retries steps came here mid ended after new
+    EndsAfter asks steps came (walk_by mid t here) ended (walk_by new last after) → EndsBy (reaching_by asks t) steps came (walk_over mid here) ended (walk_over new after)
 ends_plain asks t last steps came here mid CaughtUp after new (empty, few, same, end, left) = (empty, few, same, end)
 ends_plain asks t last steps came here mid StepLimit after new (full, all, same, end, left) = (full, all, same, end)
 ends_plain asks t last steps came here mid Stopped after new (full, some, few, end, left) = (full, some, few, end)
@@ -80,8 +80,8 @@ ends_plain asks t last steps came here mid (Fault e) after new (few, (result, as
 pub brought_plain : {S : Type 0} (asks : Asking S) → TransactedIsBrought asks
 brought_plain asks = λ t last old new before after steps came items ended run.
     let same = comes_same asks came t run.half old run.mid (restarted before) run.here run.comes in
-    let P : Path → Type 0 = λ q. EndsBy asks q run.half.retries steps came run.here run.mid ended after new in
-    let Q : ℕ → Type 0 = λ n. EndsBy asks (towards t.route) n steps came run.here run.mid ended after new in (
+    let P : Path → Type 0 = λ q. EndsBy (reaching asks q run.half.retries) steps came (walk_over run.mid run.here) ended (walk_over new after) in
+    let Q : ℕ → Type 0 = λ n. EndsBy (reaching asks (towards t.route) n) steps came (walk_over run.mid run.here) ended (walk_over new after) in (
       run.here,
       run.mid,
       comes_plain asks came t run.half old run.mid (restarted before) run.here run.comes,
@@ -90,29 +90,29 @@ brought_plain asks = λ t last old new before after steps came items ended run.
     )
 
 pub into_plain : {S T : Type 0} (asks : Asking S) (t last : Transactions) (puts : T → Option GapOf → Numbered → Bool → T → Type 0) (old new : S) (sink left : T) (w after : WalkPlace) (steps : ℕ) (ended : Ended) →
-    BroughtIntoBy asks t puts old sink w steps ended after left last new → BroughtInto asks (towards t.route) t.retries puts old sink w steps ended after left new
+    BroughtIntoBy asks (sink_filled puts sink left) (walk_by old t w) steps ended (walk_by new last after) → BroughtInto (reaching_by asks t) (sink_filled puts sink left) (walk_over old w) steps ended (walk_over new after)
 into_plain asks t last puts old new sink left w after steps ended (calls, takes, few, gaps, (came, run)) =
     (calls, takes, few, gaps, (came, brought_plain asks t last old new w after steps came (put_items calls) ended run))
 
 -- with as many retries and by the same networks
 pub into_same : {S T : Type 0} (asks : Asking S) (path way : Path) (retries tries : ℕ) (puts : T → Option GapOf → Numbered → Bool → T → Type 0) (old new : S) (sink left : T) (w after : WalkPlace) (n : ℕ) (ended : Ended) → way ≡ path → tries ≡ retries →
-    BroughtInto asks way tries puts old sink w n ended after left new → BroughtInto asks path retries puts old sink w n ended after left new
+    BroughtInto (reaching asks way tries) (sink_filled puts sink left) (walk_over old w) n ended (walk_over new after) → BroughtInto (reaching asks path retries) (sink_filled puts sink left) (walk_over old w) n ended (walk_over new after)
 into_same asks path way retries tries puts old new sink left w after n ended same_path same_retries run =
-    let P : Path → Type 0 = λ q. BroughtInto asks q tries puts old sink w n ended after left new in
-    let Q : ℕ → Type 0 = λ k. BroughtInto asks path k puts old sink w n ended after left new in
+    let P : Path → Type 0 = λ q. BroughtInto (reaching asks q tries) (sink_filled puts sink left) (walk_over old w) n ended (walk_over new after) in
+    let Q : ℕ → Type 0 = λ k. BroughtInto (reaching asks path k) (sink_filled puts sink left) (walk_over old w) n ended (walk_over new after) in
     subst Q same_retries (subst P same_path run)
 
 -- ---- how many there were
 
 begun_by : {S : Type 0} (asks : Asking S) (came : List Came) (t last : Transactions) (old new : S) (w after : WalkPlace) →
-    ComesBy asks t old w came after last new → last.begun ≤ t.begun + length came
+    ComesBy asks (walk_by old t w) came (walk_by new last after) → last.begun ≤ t.begun + length came
 begun_by asks [] t last old new w after (at, same, left) = omega (arith, ap (λ (u : Transactions). u.begun) left)
 begun_by asks (c ∷ came) t last old new w after (mid, next, p, place, asked, taken, is, more) =
     omega (arith, begun_by asks came (asked_at w t) last mid new next after more, min-le_left (t.begun + 1) 18446744073709551615)
 
 -- how a run ended leaves them
 ended_by : {S : Type 0} (asks : Asking S) (half last : Transactions) (steps : ℕ) (came : List Came) (here : WalkPlace) (mid : S) (ended : Ended) (after : WalkPlace) (new : S) →
-    EndsAfter asks half steps came here mid ended after last new → length came ≤ 2 * batches (answers_of came) + spare ended →
+    EndsAfter asks steps came (walk_by mid half here) ended (walk_by new last after) → length came ≤ 2 * batches (answers_of came) + spare ended →
     (length came ≤ 2 * steps) × (last.begun + length came ≤ half.begun + 2 * steps) × (last.route ≡ half.route) × (last.retries ≡ half.retries)
 ended_by asks half last steps came here mid CaughtUp after new (empty, less, same, end, left) few = (
   omega (arith, few, less),
@@ -150,8 +150,8 @@ transacted_bounded asks = λ t last old new before after steps came items ended 
 -- what a run of one step brought whose first question is this place's, with so many replies fewer than it may have
 abbrev Ran : {S : Type 0} → Asking S → Transactions → S → WalkPlace → List Item → Ended → ℕ → WalkPlace → Transactions → S → Type 0
 Ran {S = S} asks t old w items ended fewer after last new =
-    (came : List Came) × (here : WalkPlace) × (mid : S) × (half : Transactions) × ComesBy asks t old w came here half mid
-    × EndsAfter asks half 1 came here mid ended after last new × AreOf ended came items after
+    (came : List Came) × (here : WalkPlace) × (mid : S) × (half : Transactions) × ComesBy asks (walk_by old t w) came (walk_by mid half here)
+    × EndsAfter asks 1 came (walk_by mid half here) ended (walk_by new last after) × AreOf ended came items after
     × (length came + fewer ≤ 2 * batches (answers_of came) + spare ended)
 
 last_turn : {S : Type 0} (asks : Asking S) (t : Transactions) (old : S) (w : WalkPlace) (p : Result Progress WalkFault) (after : WalkPlace) (new : S) →
@@ -200,7 +200,7 @@ one_more asks t old w datagram next half items ended after last new whole asked 
     c : Came
     c = record { place = w; datagram = datagram; items = [] }
 
-    more : (why : Ended) → (why ≡ Stopped → ⊥) → (came : List Came) → EndsAfter asks passed 1 came here mid why after last new → EndsAfter asks passed 1 (c ∷ came) here mid why after last new
+    more : (why : Ended) → (why ≡ Stopped → ⊥) → (came : List Came) → EndsAfter asks 1 came (walk_by mid passed here) why (walk_by new last after) → EndsAfter asks 1 (c ∷ came) (walk_by mid passed here) why (walk_by new last after)
     more CaughtUp whole [] ends = absurd ends.0
     more CaughtUp whole (d ∷ came) ends = ends
     more StepLimit whole [] ends = absurd (omega (arith, ends.1))
@@ -224,7 +224,7 @@ never_stopped z is = no z is
 
 as_step : {S : Type 0} (asks : Asking S) (t : Transactions) (old : S) (w v : WalkPlace) (p : Result Progress WalkFault) (z : Result Step WalkFault) (fewer : ℕ) (after : WalkPlace) (last end : Transactions) (new : S) →
     v ≡ restarted w → z ≡ finished p → last ≡ end → Ran asks t old v (step_items (finished p)) (step_ended (finished p)) fewer after end new →
-    (came : List Came) × BroughtBy asks t old w 1 came (step_items z) (step_ended z) after last new
+    (came : List Came) × BroughtBy asks (walk_by old t w) 1 came (step_items z) (step_ended z) (walk_by new last after)
 as_step asks t old w v p z fewer after last end new from is left ran =
     let P : Result Step WalkFault → Type 0 = λ x. Ran asks t old (restarted w) (step_items x) (step_ended x) fewer after last new in
     let Q : WalkPlace → Type 0 = λ u. Ran asks t old u (step_items (finished p)) (step_ended (finished p)) fewer after last new in
@@ -241,14 +241,14 @@ never (Err e) asked over = absurd (cc)
 -- the only turn of a step
 pub brought_first : {S : Type 0} (asks : Asking S) (t : Transactions) (old : S) (w v : WalkPlace) (p : Result Progress WalkFault) (z : Result Step WalkFault) (after : WalkPlace) (last : Transactions) (new : S) →
     v ≡ restarted w → z ≡ finished p → asks_next p ≡ false → TurnBy asks t old v p after new → last ≡ asked_at v t →
-    (came : List Came) × BroughtBy asks t old w 1 came (step_items z) (step_ended z) after last new
+    (came : List Came) × BroughtBy asks (walk_by old t w) 1 came (step_items z) (step_ended z) (walk_by new last after)
 brought_first asks t old w v p z after last new from is over came left =
     as_step asks t old w v p z 1 after last (asked_at v t) new from is left (last_turn asks t old v p after new (λ asked. never p asked over) came)
 
 -- the second, which asks for the oldest records, after the first
 pub brought_second : {S : Type 0} (asks : Asking S) (t between : Transactions) (old : S) (w v : WalkPlace) (q : Result Progress WalkFault) (next : WalkPlace) (half : S) (p : Result Progress WalkFault) (z : Result Step WalkFault) (after : WalkPlace) (last : Transactions) (new : S) →
     v ≡ restarted w → z ≡ finished p → asks_next q ≡ true → TurnBy asks t old v q next half → between ≡ asked_at v t → TurnBy asks between half next p after new → last ≡ asked_at next between →
-    (came : List Came) × BroughtBy asks t old w 1 came (step_items z) (step_ended z) after last new
+    (came : List Came) × BroughtBy asks (walk_by old t w) 1 came (step_items z) (step_ended z) (walk_by new last after)
 brought_second asks t between old w v q next half p z after last new from is more first passed second left =
     as_step asks t old w v p z 0 after last (asked_at next (asked_at v t)) new from is (left ∙ ap (λ u. asked_at next u) passed) (both q more first)
   where

@@ -7,14 +7,14 @@ use Rattle.bac_link.specs.Delivery.{items_of}
 use Rattle.bac_link.specs.declared.transactions.Transactions.{Transactions}
 use Rattle.bac_link.specs.Path.{towards}
 use Rattle.bac_walk.specs.Came.{Came, EndsFull, EndsWith, AreOf, answers_of, restarted}
-use Rattle.bac_walk.specs.Transacted.{BroughtBy, BroughtIntoBy, ComesBy, EndsAfter, asked as asked_at}
+use Rattle.bac_walk.specs.Transacted.{BroughtBy, BroughtIntoBy, ComesBy, EndsAfter, asked as asked_at, walk_by}
 use Rattle.bac_walk.proofs.Joined.{came_batches, came_items, empty_append, ends_behind, full_append, full_place}
 use Rattle.bac_walk.proofs.Transacted.{comes_plain}
 use Rattle.bac_walk.specs.Collects.{batches, step_ended, step_items}
 use Rattle.bac_walk.specs.Handing.{walk_after, ended_after, HandedOn}
 use Rattle.bac_link.specs.Ordinals.{number_after}
 use Rattle.bac_walk.specs.Place.{WalkPlace}
-use Rattle.bac_walk.specs.Sinks.{PutAll, is_stopped, put_items}
+use Rattle.bac_walk.specs.Sinks.{PutAll, is_stopped, put_items, sink_filled}
 use Rattle.bac_walk.specs.Walks.{gap_items, item_of, items_in}
 use Rattle.bac_walk.specs.declared.batch.Batch.{Batch}
 use Rattle.bac_walk.specs.declared.batch.Gap.{Gap as GapOf}
@@ -30,31 +30,31 @@ use Rattle.bac_walk.proofs.Told.{Asking}
 use Rattle.bac_walk.proofs.Joins.{batches-append}
 
 pub comes_append : {S : Type 0} (asks : Asking S) (xs ys : List Came) (t between last : Transactions) (old mid new : S) (w here after : WalkPlace) →
-    ComesBy asks t old w xs here between mid → ComesBy asks between mid here ys after last new → ComesBy asks t old w (xs ++ ys) after last new
+    ComesBy asks (walk_by old t w) xs (walk_by mid between here) → ComesBy asks (walk_by mid between here) ys (walk_by new last after) → ComesBy asks (walk_by old t w) (xs ++ ys) (walk_by new last after)
 comes_append {S = S} asks [] ys t between last old mid new w here after first rest =
-    let P : WalkPlace → Type 0 = λ v. ComesBy asks between mid v ys after last new in
-    let Q : S → Type 0 = λ l. ComesBy asks between l w ys after last new in
-    let R : Transactions → Type 0 = λ u. ComesBy asks u old w ys after last new in
+    let P : WalkPlace → Type 0 = λ v. ComesBy asks (walk_by mid between v) ys (walk_by new last after) in
+    let Q : S → Type 0 = λ l. ComesBy asks (walk_by l between w) ys (walk_by new last after) in
+    let R : Transactions → Type 0 = λ u. ComesBy asks (walk_by old u w) ys (walk_by new last after) in
     subst R first.2 (subst Q first.1 (subst P first.0 rest))
 comes_append asks (c ∷ xs) ys t between last old mid new w here after (half, next, p, place, asked, taken, is, more) rest =
     (half, next, p, place, asked, taken, is, comes_append asks xs ys (asked_at w t) between last half mid new next here after more rest)
 
 pub no_brought : {S : Type 0} (asks : Asking S) (t : Transactions) (old : S) (w : WalkPlace) →
-    (came : List Came) × BroughtBy asks t old w 0 came [] StepLimit w t old
+    (came : List Came) × BroughtBy asks (walk_by old t w) 0 came [] StepLimit (walk_by old t w)
 no_brought asks t old w =
     ([], record { here = restarted w; mid = old; half = t; comes = (refl, refl, refl); ends = (tt, refl, refl, refl, refl); are = refl; few = omega arith })
 
 -- a run whose steps were all whole, and one more
 pub brought_joins : {S : Type 0} (asks : Asking S) (t between last : Transactions) (old half new : S) (w mid after : WalkPlace) (n more : ℕ) (xs ys : List Item) (ended : Ended) →
-    (came : List Came) × BroughtBy asks t old w n came xs StepLimit mid between half →
-    (came : List Came) × BroughtBy asks between half mid more came ys ended after last new →
-    (came : List Came) × BroughtBy asks t old w (n + more) came (xs ++ ys) ended after last new
+    (came : List Came) × BroughtBy asks (walk_by old t w) n came xs StepLimit (walk_by half between mid) →
+    (came : List Came) × BroughtBy asks (walk_by half between mid) more came ys ended (walk_by new last after) →
+    (came : List Came) × BroughtBy asks (walk_by old t w) (n + more) came (xs ++ ys) ended (walk_by new last after)
 brought_joins {S = S} asks t between last old half new w mid after n more xs ys ended (first, one) (rest, two) =
     let at : restarted mid ≡ one.here = one.ends.2 ∙ full_place asks (towards t.route) t.retries first old one.mid (restarted w) one.here
     (comes_plain asks first t one.half old one.mid (restarted w) one.here one.comes) one.ends.0 refl in
-    let P : WalkPlace → Type 0 = λ v. ComesBy asks between half v rest two.here two.half two.mid in
-    let Q : S → Type 0 = λ l. ComesBy asks between l one.here rest two.here two.half two.mid in
-    let R : Transactions → Type 0 = λ u. ComesBy asks u one.mid one.here rest two.here two.half two.mid in (
+    let P : WalkPlace → Type 0 = λ v. ComesBy asks (walk_by half between v) rest (walk_by two.mid two.half two.here) in
+    let Q : S → Type 0 = λ l. ComesBy asks (walk_by l between one.here) rest (walk_by two.mid two.half two.here) in
+    let R : Transactions → Type 0 = λ u. ComesBy asks (walk_by one.mid u one.here) rest (walk_by two.mid two.half two.here) in (
       first ++ rest,
       record {
         here = two.here;
@@ -71,8 +71,8 @@ brought_joins {S = S} asks t between last old half new w mid after n more xs ys 
     count : batches (answers_of (first ++ rest)) ≡ n + batches (answers_of rest)
     count = omega (arith, came_batches first rest, one.ends.1)
 
-    both : (why : Ended) → EndsAfter asks two.half more rest two.here two.mid why after last new →
-        EndsAfter asks two.half (n + more) (first ++ rest) two.here two.mid why after last new
+    both : (why : Ended) → EndsAfter asks more rest (walk_by two.mid two.half two.here) why (walk_by new last after) →
+        EndsAfter asks (n + more) (first ++ rest) (walk_by two.mid two.half two.here) why (walk_by new last after)
     both CaughtUp over = (empty_append first rest over.0, omega (arith, count, over.1), over.2, over.3, over.4)
     both StepLimit over = (full_append first rest one.ends.0 over.0, omega (arith, count, over.1), over.2, over.3, over.4)
     both Stopped over = (full_append first rest one.ends.0 over.0, omega (arith, count, over.1), omega (arith, count, over.2), over.3, over.4)
@@ -99,12 +99,12 @@ brought_joins {S = S} asks t between last old half new w mid after n more xs ys 
 
 -- with more steps left
 pub brought_early : {S : Type 0} (asks : Asking S) (t last : Transactions) (old new : S) (w after : WalkPlace) (n steps : ℕ) (xs : List Item) (ended : Ended) → ended ≢ StepLimit → n ≤ steps →
-    (came : List Came) × BroughtBy asks t old w n came xs ended after last new → (came : List Came) × BroughtBy asks t old w steps came xs ended after last new
+    (came : List Came) × BroughtBy asks (walk_by old t w) n came xs ended (walk_by new last after) → (came : List Came) × BroughtBy asks (walk_by old t w) steps came xs ended (walk_by new last after)
 brought_early asks t last old new w after n steps xs ended other le (came, run) =
     (came, record { here = run.here; mid = run.mid; half = run.half; comes = run.comes; ends = more ended other run.ends; are = run.are; few = run.few })
   where
-    more : (why : Ended) → why ≢ StepLimit → EndsAfter asks run.half n came run.here run.mid why after last new →
-        EndsAfter asks run.half steps came run.here run.mid why after last new
+    more : (why : Ended) → why ≢ StepLimit → EndsAfter asks n came (walk_by run.mid run.half run.here) why (walk_by new last after) →
+        EndsAfter asks steps came (walk_by run.mid run.half run.here) why (walk_by new last after)
     more CaughtUp other ends = (ends.0, omega (arith, le, ends.1), ends.2, ends.3, ends.4)
     more StepLimit other ends = absurd (other refl)
     more Stopped other ends = (ends.0, ends.1, omega (arith, le, ends.2), ends.3, ends.4)
@@ -143,10 +143,10 @@ last_is items (c ∷ d ∷ came) full one are item rest front is =
         absurd (omega (arith, subst B more one, some d came full))
 
 handed_batch : {S T : Type 0} (asks : Asking S) (t last : Transactions) (puts : Putting T) (old new : S) (sink left : T) (before mid : WalkPlace) (b : Batch) (refused : Option ℕ) →
-    (came : List Came) × BroughtBy asks t old before 1 came (items_in b) StepLimit mid last new → PutAll puts sink b.gap b.entries.items refused left →
-    BroughtIntoBy asks t puts old sink before 1 (ended_after refused) (walk_after mid refused) left last new
+    (came : List Came) × BroughtBy asks (walk_by old t before) 1 came (items_in b) StepLimit (walk_by new last mid) → PutAll puts sink b.gap b.entries.items refused left →
+    BroughtIntoBy asks (sink_filled puts sink left) (walk_by old t before) 1 (ended_after refused) (walk_by new last (walk_after mid refused))
 handed_batch asks t last puts old new sink left before mid b None brought put =
-    let P : List Item → Type 0 = λ l. (came : List Came) × BroughtBy asks t old before 1 came l StepLimit mid last new in (
+    let P : List Item → Type 0 = λ l. (came : List Came) × BroughtBy asks (walk_by old t before) 1 came l StepLimit (walk_by new last mid) in (
       calls_of b.gap b.entries.items,
       put_whole puts sink b.gap b.entries.items left put,
       omega (arith, length-calls b.gap b.entries.items, b.most),
@@ -194,30 +194,30 @@ handed_batch asks t last puts old new sink left before mid b (Some n) (came, run
     )
 
 pub handed_brought : {S T : Type 0} (asks : Asking S) (t last : Transactions) (puts : Putting T) (old new : S) (sink left : T) (before mid after : WalkPlace) (z : Result Step WalkFault) (ended : Ended) →
-    (came : List Came) × BroughtBy asks t old before 1 came (step_items z) (step_ended z) mid last new → HandedOn puts sink mid z ended after left →
-    BroughtIntoBy asks t puts old sink before 1 ended after left last new
+    (came : List Came) × BroughtBy asks (walk_by old t before) 1 came (step_items z) (step_ended z) (walk_by new last mid) → HandedOn puts sink mid z ended after left →
+    BroughtIntoBy asks (sink_filled puts sink left) (walk_by old t before) 1 ended (walk_by new last after)
 handed_brought asks t last puts old new sink left before mid after (Err e) ended brought put =
-    let P : WalkPlace → Type 0 = λ w. (came : List Came) × BroughtBy asks t old before 1 came [] (Fault e) w last new in
-    let Q : Ended → Type 0 = λ x. BroughtIntoBy asks t puts old sink before 1 x after left last new in
+    let P : WalkPlace → Type 0 = λ w. (came : List Came) × BroughtBy asks (walk_by old t before) 1 came [] (Fault e) (walk_by new last w) in
+    let Q : Ended → Type 0 = λ x. BroughtIntoBy asks (sink_filled puts sink left) (walk_by old t before) 1 x (walk_by new last after) in
     subst Q (sym put.2) ([], (put.0, refl), omega arith, omega arith, subst P (sym put.1) brought)
 handed_brought asks t last puts old new sink left before mid after (Ok NoStep) ended brought put =
-    let P : WalkPlace → Type 0 = λ w. (came : List Came) × BroughtBy asks t old before 1 came [] CaughtUp w last new in
-    let Q : Ended → Type 0 = λ x. BroughtIntoBy asks t puts old sink before 1 x after left last new in
+    let P : WalkPlace → Type 0 = λ w. (came : List Came) × BroughtBy asks (walk_by old t before) 1 came [] CaughtUp (walk_by new last w) in
+    let Q : Ended → Type 0 = λ x. BroughtIntoBy asks (sink_filled puts sink left) (walk_by old t before) 1 x (walk_by new last after) in
     subst Q (sym put.2) ([], (put.0, refl), omega arith, omega arith, subst P (sym put.1) brought)
 handed_brought asks t last puts old new sink left before mid after (Ok (StepOf b)) ended brought put =
-    let P : WalkPlace → Type 0 = λ w. BroughtIntoBy asks t puts old sink before 1 (ended_after put.0) w left last new in
-    let Q : Ended → Type 0 = λ x. BroughtIntoBy asks t puts old sink before 1 x after left last new in
+    let P : WalkPlace → Type 0 = λ w. BroughtIntoBy asks (sink_filled puts sink left) (walk_by old t before) 1 (ended_after put.0) (walk_by new last w) in
+    let Q : Ended → Type 0 = λ x. BroughtIntoBy asks (sink_filled puts sink left) (walk_by old t before) 1 x (walk_by new last after) in
     subst Q (sym put.3) (subst P (sym put.2) (handed_batch asks t last puts old new sink left before mid b put.0 brought put.1))
 
 pub no_into : {S T : Type 0} (asks : Asking S) (t : Transactions) (puts : Putting T) (old : S) (sink : T) (w : WalkPlace) →
-    BroughtIntoBy asks t puts old sink w 0 StepLimit w sink t old
+    BroughtIntoBy asks (sink_filled puts sink sink) (walk_by old t w) 0 StepLimit (walk_by old t w)
 no_into asks t puts old sink w = ([], (refl, refl), omega arith, omega arith, no_brought asks t old w)
 
 pub into_joins : {S T : Type 0} (asks : Asking S) (t between last : Transactions) (puts : Putting T) (old half new : S) (sink held left : T) (w mid after : WalkPlace) (n more : ℕ) (ended : Ended) →
-    BroughtIntoBy asks t puts old sink w n StepLimit mid held between half → BroughtIntoBy asks between puts half held mid more ended after left last new →
-    BroughtIntoBy asks t puts old sink w (n + more) ended after left last new
+    BroughtIntoBy asks (sink_filled puts sink held) (walk_by old t w) n StepLimit (walk_by half between mid) → BroughtIntoBy asks (sink_filled puts held left) (walk_by half between mid) more ended (walk_by new last after) →
+    BroughtIntoBy asks (sink_filled puts sink left) (walk_by old t w) (n + more) ended (walk_by new last after)
 into_joins asks t between last puts old half new sink held left w mid after n more ended first rest =
-    let P : List Item → Type 0 = λ l. (came : List Came) × BroughtBy asks t old w (n + more) came l ended after last new in (
+    let P : List Item → Type 0 = λ l. (came : List Came) × BroughtBy asks (walk_by old t w) (n + more) came l ended (walk_by new last after) in (
       first.0 ++ rest.0,
       Takes-append puts sink held left first.0 rest.0 (is_stopped ended) first.1 rest.1,
       omega (arith, length-append first.0 rest.0, first.2, rest.2),
@@ -226,6 +226,6 @@ into_joins asks t between last puts old half new sink held left w mid after n mo
     )
 
 pub into_early : {S T : Type 0} (asks : Asking S) (t last : Transactions) (puts : Putting T) (old new : S) (sink left : T) (w after : WalkPlace) (n steps : ℕ) (ended : Ended) → ended ≢ StepLimit → n ≤ steps →
-    BroughtIntoBy asks t puts old sink w n ended after left last new → BroughtIntoBy asks t puts old sink w steps ended after left last new
+    BroughtIntoBy asks (sink_filled puts sink left) (walk_by old t w) n ended (walk_by new last after) → BroughtIntoBy asks (sink_filled puts sink left) (walk_by old t w) steps ended (walk_by new last after)
 into_early asks t last puts old new sink left w after n steps ended other le run =
     (run.0, run.1, omega (arith, le, run.2), omega (arith, le, run.3), brought_early asks t last old new w after n steps (put_items run.0) ended other le run.4)

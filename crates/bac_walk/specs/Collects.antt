@@ -23,6 +23,46 @@ use Rattle.bac_link.specs.declared.item.Item.TheVariants.{Gap, Logged}
 use Rattle.bac_log.specs.TrendLog.{sequence_number}
 use Rattle.bac_walk.specs.Walks.{items_in}
 
+-- a log over a link of ours: its replies have at most so many octets, and are given at these moments, with this history
+pub record OurLog : Type 0 where
+  pub reply_size : ℕ
+  pub moments : List Moment
+  pub history : History
+
+-- the three together
+abbrev pub our_log : ℕ → List Moment → History → OurLog
+our_log r M H = record { reply_size = r; moments = M; history = H }
+
+-- where a walk starts: how many records a question asks for, whether it begins at the oldest record, and the ordinal of
+-- its number
+pub record Started : Type 0 where
+  pub count : ℕ
+  pub fresh : Bool
+  pub ordinal : ℕ
+
+-- the three together
+abbrev pub started_at : ℕ → Bool → ℕ → Started
+started_at count fresh s = record { count = count; fresh = fresh; ordinal = s }
+
+-- how often a question is asked again, and how many asks had failed before and after
+pub record Losses : Type 0 where
+  pub retries : ℕ
+  pub before : ℕ
+  pub after : ℕ
+
+-- the three together
+abbrev pub losses_of : ℕ → ℕ → ℕ → Losses
+losses_of retries before after = record { retries = retries; before = before; after = after }
+
+-- what a run yields: its items, and how it ended
+pub record Yield : Type 0 where
+  pub items : List Item
+  pub ended : Ended
+
+-- the two together
+abbrev pub yield : List Item → Ended → Yield
+yield items ended = record { items = items; ended = ended }
+
 -- how many answers brought a batch
 abbrev pub batches : List (List Item) → ℕ
 batches [] = 0
@@ -49,15 +89,17 @@ IsOfReply [] (Fault e) items reply = items ≡ reply
 -- Step by step the answers of a run lead from ordinal s to t. A step asks by number. If that brings nothing, none is
 -- held of the ordinals that were asked for, so many, and the oldest are asked for; if these bring nothing either, the
 -- run ends, caught up. A batch is the whole of a reply.
-abbrev pub LeadsInSteps : Ended → (r count : ℕ) → History → List Moment → Bool → ℕ → List (List Item) → ℕ → Type 0
-LeadsInSteps ended r count H M by_oldest s [] t = t ≡ s
-LeadsInSteps ended r count H M false s ([] ∷ answers) t =
-    NoneOfAsked count s (now M) × LeadsInSteps ended r count H (later M) true s answers t
-LeadsInSteps ended r count H M true s ([] ∷ answers) t = (answers ≡ []) × (ended ≡ CaughtUp) × (t ≡ s)
-LeadsInSteps ended r count H M by_oldest s ((x ∷ xs) ∷ answers) t =
-    (u : ℕ) × Brings H (now M) s (x ∷ xs) u
-    × IsOfReply answers ended (x ∷ xs) (whole_reply r count H (now M) by_oldest s)
-    × LeadsInSteps ended r count H (later M) false u answers t
+abbrev pub LeadsInSteps : Ended → OurLog → (count : ℕ) → Bool → ℕ → List (List Item) → ℕ → Type 0
+LeadsInSteps ended ours count by_oldest s [] t = t ≡ s
+LeadsInSteps ended ours count false s ([] ∷ answers) t =
+    NoneOfAsked count s (now ours.moments)
+    × LeadsInSteps ended (our_log ours.reply_size (later ours.moments) ours.history) count true s answers t
+LeadsInSteps ended ours count true s ([] ∷ answers) t = (answers ≡ []) × (ended ≡ CaughtUp) × (t ≡ s)
+LeadsInSteps ended ours count by_oldest s ((x ∷ xs) ∷ answers) t =
+    (u : ℕ) × Brings ours.history (now ours.moments) s (x ∷ xs) u
+    × IsOfReply answers ended (x ∷ xs)
+    (whole_reply ours.reply_size count ours.history (now ours.moments) by_oldest s)
+    × LeadsInSteps ended (our_log ours.reply_size (later ours.moments) ours.history) count false u answers t
 
 -- the ordinal where a run begins: that of the next number, or for a walk from the oldest entry at the oldest of its
 -- first batch's moment
@@ -75,24 +117,25 @@ IsCaughtUp fresh t M answers =
     × (fresh ≡ true → batches answers ≡ 0 → (moment_at M i).newest < (moment_at M i).oldest)
 
 -- why a run of so many steps may end
-abbrev pub IsEnded : Ended → Bool → ℕ → List Moment → List (List Item) → ℕ → ℕ → ℕ → ℕ → Type 0
-IsEnded CaughtUp fresh t M answers steps retries old new = (batches answers < steps) × IsCaughtUp fresh t M answers
-IsEnded StepLimit fresh t M answers steps retries old new = (batches answers ≡ steps) × IsWhole answers
-IsEnded Stopped fresh t M answers steps retries old new =
+abbrev pub IsEnded : Ended → Bool → ℕ → List Moment → List (List Item) → ℕ → Losses → Type 0
+IsEnded CaughtUp fresh t M answers steps losses = (batches answers < steps) × IsCaughtUp fresh t M answers
+IsEnded StepLimit fresh t M answers steps losses = (batches answers ≡ steps) × IsWhole answers
+IsEnded Stopped fresh t M answers steps losses =
     (0 < batches answers) × (batches answers ≤ steps) × IsWhole answers
-IsEnded (Fault Lost) fresh t M answers steps retries old new = RisesBy (retries + 1) old new
-IsEnded (Fault (Refused refusal)) fresh t M answers steps retries old new = ⊥
-IsEnded (Fault BadReply) fresh t M answers steps retries old new = ⊥
+IsEnded (Fault Lost) fresh t M answers steps losses = RisesBy (losses.retries + 1) losses.before losses.after
+IsEnded (Fault (Refused refusal)) fresh t M answers steps losses = ⊥
+IsEnded (Fault BadReply) fresh t M answers steps losses = ⊥
 
 -- what the answers of a run of at most so many steps over a link of ours brought, each to a question for so many
--- records, and how it ended. The walk was at ordinal next, and is at t
-pub record Collected (r count : ℕ) (H : History) (M : List Moment) (fresh : Bool) (next : ℕ) (steps retries old new : ℕ)
-    (items : List Item) (t : ℕ) (ended : Ended) (answers : List (List Item)) : Type 0 where
-  pub all : items_of answers ≡ items
-  pub leads : LeadsInSteps ended r count H M false (start_of fresh next M answers) answers t
+-- records, and how it ended. The walk started so, and is at ordinal t
+pub record Collected (ours : OurLog) (start : Started) (steps : ℕ) (losses : Losses) (run : Yield) (t : ℕ)
+    (answers : List (List Item)) : Type 0 where
+  pub all : items_of answers ≡ run.items
+  pub leads : LeadsInSteps run.ended ours start.count false
+      (start_of start.fresh start.ordinal ours.moments answers) answers t
   pub twice_steps : length answers ≤ 2 * steps
   pub twice_batches : length answers ≤ 2 * batches answers + 2
-  pub end : IsEnded ended fresh t M answers steps retries old new
+  pub end : IsEnded run.ended start.fresh t ours.moments answers steps losses
 
 -- a walk from the oldest entry is one until its first batch
 pub record IsFreshAfter (before : Bool) (answers : List (List Item)) (after : Bool) : Type 0 where

@@ -9,7 +9,7 @@ use Rattle.bac_apdu.specs.Service.ReadRangeAck.{RangeAck, read_range_ack_at}
 use Rattle.bac_log.specs.declared.entry.Entry.{Entry}
 use Rattle.bac_log.specs.RecordReading.{entry_at}
 use Rattle.bac_link.specs.Datagrams.{apdu_in}
-use Rattle.bac_link.specs.Exchanges.{Answers}
+use Rattle.bac_link.specs.Exchanges.{Answers, way_by}
 use Rattle.bac_link.specs.Links.{question}
 use Rattle.bac_link.specs.Path.{Path}
 use Rattle.bac_link.specs.declared.exchanges.Verdict.{Verdict}
@@ -95,7 +95,7 @@ abbrev pub ToldFlaw : {S : Type 0} → (S → List ℕ → Result (List ℕ) Los
     Path → ℕ → WalkPlace → ReplyFlaw → S → Type 0
 ToldFlaw {S = S} asks path retries w told new =
     (link : S) × (invoke : ℕ) × (datagram : List ℕ) × (said : Verdict)
-    × Answers asks path invoke (question w.log (question_of w)) retries said link datagram new
+    × Answers asks (way_by path invoke retries) (question w.log (question_of w)) said link datagram new
     × (flaw_in w datagram ≡ Some told)
 
 -- The replies that a walk can't take are those with a flaw.

@@ -12,16 +12,18 @@ use Rattle.bac_link.specs.Delivery.{History, Moment, DeliversTo, Leads, now, lat
 use Rattle.bac_link.specs.Growing.{GoesOn, Standing, IsStanding, StaysHonest, StaysHonestWhere}
 use Rattle.bac_link.specs.Laws.{moment_at}
 use Rattle.bac_link.specs.Moments.{AreIn, AreInWindow, NeverGoesBack}
-use Rattle.bac_link.specs.Path.{Path, towards}
+use Rattle.bac_link.specs.Path.{towards}
 use Rattle.bac_link.specs.Standard.{IsCount}
+use Rattle.bac_link.specs.Exchanges.{Ask}
+use Rattle.bac_link.specs.Honest.{asked_log}
 use Rattle.bac_log.specs.TrendLog.{sequence_number}
 use Rattle.bac_walk.specs.declared.outcome.Ended.{Ended}
 use Rattle.bac_walk.specs.declared.outcome.Ended.TheVariants.{CaughtUp}
-use Rattle.bac_walk.specs.Came.{Came, Comes, AreSaidAt, answers_of, restarted}
-use Rattle.bac_walk.specs.Collects.{IsCaughtUp, start_of}
-use Rattle.bac_walk.specs.Honest.{AreBroughtFrom, IsHonestEnd}
+use Rattle.bac_walk.specs.Came.{Came, Comes, AreSaidAt, Reach, WalkOver, answers_of, restarted, walk_over}
+use Rattle.bac_walk.specs.Collects.{IsCaughtUp, Yield, start_of, yield}
+use Rattle.bac_walk.specs.Honest.{AreBroughtFrom, IsHonestEnd, LogCourse, log_asked, log_course}
 use Rattle.bac_walk.specs.Place.{WalkPlace}
-use Rattle.bac_walk.specs.Transacted.{BroughtBy, ComesBy, asked}
+use Rattle.bac_walk.specs.Transacted.{BroughtBy, ComesBy, WalkBy, asked, walk_by}
 
 -- how many asks a run of so many steps may make: each of its questions once, and as often again as the retries say
 abbrev pub most_asks : ℕ → ℕ → ℕ
@@ -41,14 +43,14 @@ abbrev pub standing_at : History → List Moment → ℕ → Standing
 standing_at H M count = record { history = H; moment = moment_at M count }
 
 -- As each of the replies left the link, it stood at the moment of that reply, with a history that went on to this one.
-abbrev pub AreLeftAt : {S : Type 0} (asks : S → List ℕ → Result (List ℕ) Loss → S → Type 0)
-    (stands : ℕ → S → Standing → Type 0) (first : Transactions) (old : S) (w : WalkPlace) (came : List Came)
-    (after : WalkPlace) (last : Transactions) (new : S) → ComesBy asks first old w came after last new →
-    History → List Moment → Type 0
-AreLeftAt {S = S} asks stands first old w [] after last new comes H M = Unit {0}
-AreLeftAt {S = S} asks stands first old w (c ∷ came) after last new comes H M =
-    ((more : ℕ) × (then : History) × GoesOn then H × stands more comes.0 (record { history = then; moment = now M }))
-    × AreLeftAt asks stands (asked w first) comes.0 comes.1 came after last new comes.7 H (later M)
+abbrev pub AreLeftAt : {S : Type 0} (asks : Ask S) (stands : ℕ → S → Standing → Type 0) (before : WalkBy S)
+    (came : List Came) (after : WalkBy S) → ComesBy asks before came after → LogCourse → Type 0
+AreLeftAt {S = S} asks stands before [] after comes course = Unit {0}
+AreLeftAt {S = S} asks stands before (c ∷ came) after comes course =
+    ((more : ℕ) × (then : History) × GoesOn then course.history
+    × stands more comes.0 (record { history = then; moment = now course.moments }))
+    × AreLeftAt asks stands (walk_by comes.0 (asked before.place before.transactions) comes.1) came after comes.7
+    (log_course course.history (later course.moments))
 
 -- A link that stays honest for as many asks as a run may make, and for more: what the log went through is a history
 -- and moments at which the replies were said, what the run brought is delivered at them, and if the run ended with a
@@ -58,12 +60,12 @@ abbrev pub GrowingIsDelivered : {S : Type 0} → (S → List ℕ → Result (Lis
 GrowingIsDelivered {S = S} asks stands =
     (first last : Transactions) (old new : S) (w after : WalkPlace) (steps : ℕ) (came : List Came) (items : List Item)
     (ended : Ended) (at : Standing) (low s more : ℕ) →
-    StaysHonestWhere asks (towards first.route) w.log w.count low stands →
+    StaysHonestWhere asks (log_asked (towards first.route) w) low stands →
     stands (most_asks steps first.retries + more) old at → IsStanding low at →
-    (run : BroughtBy asks first old w steps came items ended after last new) →
+    (run : BroughtBy asks (walk_by old first w) steps came items ended (walk_by new last after)) →
     w.next ≡ sequence_number s → (w.fresh ≡ false → (low ≤ s) × (s < low + 2147483648)) →
     (H : History) × (M : List Moment) × HasGone low at H M (length came) × AreSaidAt H M came
-    × AreLeftAt asks stands first old _ came run.here run.half run.mid run.comes H M
+    × AreLeftAt asks stands _ came (walk_by run.mid run.half run.here) run.comes (log_course H M)
     × stands more new (standing_at H M (length came)) × IsHonestEnd ended
     × ((b : ℕ) × (t : ℕ) × (b ≡ start_of w.fresh s M (answers_of came)) × (after.next ≡ sequence_number t)
     × ((u : ℕ) × Leads H M b (answers_of came) u)
@@ -72,8 +74,7 @@ GrowingIsDelivered {S = S} asks stands =
 -- What a run delivered of a log that went on: replies came over the link, each said what the log held at its moment,
 -- and the items are theirs: from the ordinal of the walk's number on, or from the oldest, the records that the log held
 -- when each was reached.
-pub record HasDelivered {S : Type 0} (asks : S → List ℕ → Result (List ℕ) Loss → S → Type 0) (path : Path)
-    (retries : ℕ) (old : S) (low s : ℕ) (at : Standing) (before : WalkPlace) (items : List Item) (ended : Ended)
+pub record HasDelivered {S : Type 0} (reach : Reach S) (low s : ℕ) (at : Standing) (before : WalkOver S) (run : Yield)
     (after : WalkPlace) : Type 0 where
   pub history : History
   pub moments : List Moment
@@ -82,25 +83,27 @@ pub record HasDelivered {S : Type 0} (asks : S → List ℕ → Result (List ℕ
   pub mid : S
   pub from : ℕ
   pub to : ℕ
-  pub comes : Comes asks path retries old (restarted before) came here mid
+  pub comes : Comes reach (walk_over before.link (restarted before.place)) came (walk_over mid here)
   pub gone : HasGone low at history moments (length came)
   pub said : AreSaidAt history moments came
-  pub brought : AreBroughtFrom history moments before.fresh s from (answers_of came) ended items
+  pub brought : AreBroughtFrom (log_course history moments) before.place.fresh s from (answers_of came) run.ended
+      run.items
   pub next : after.next ≡ sequence_number to
-  pub delivers : DeliversTo history from items to moments (length came)
-  pub caught_up : ended ≡ CaughtUp → IsCaughtUp before.fresh to moments (answers_of came)
-  pub end : IsHonestEnd ended
+  pub delivers : DeliversTo history from run.items to moments (length came)
+  pub caught_up : run.ended ≡ CaughtUp → IsCaughtUp before.place.fresh to moments (answers_of came)
+  pub end : IsHonestEnd run.ended
 
 -- So it does over a link that stays honest for the log for as many asks as the run may make, and for more; and the link
 -- stays honest for these, for the log as it then stands.
-abbrev pub DeliversGrowing : {S : Type 0} → (S → List ℕ → Result (List ℕ) Loss → S → Type 0) → Path → ℕ →
-    S → WalkPlace → ℕ → List Item → Ended → WalkPlace → S → Type 0
-DeliversGrowing {S = S} asks path retries old before steps items ended after new =
+abbrev pub DeliversGrowing : {S : Type 0} → Reach S → WalkOver S → ℕ → List Item → Ended → WalkOver S → Type 0
+DeliversGrowing {S = S} reach before steps items ended after =
     (at : Standing) (s low more : ℕ) →
-    StaysHonest asks path before.log before.count low (most_asks steps retries + more) old at → IsStanding low at →
-    before.next ≡ sequence_number s → (before.fresh ≡ false → (low ≤ s) × (s < low + 2147483648)) →
-    (d : HasDelivered asks path retries old low s at before items ended after)
-    × StaysHonest asks path before.log before.count low more new (standing_at d.history d.moments (length d.came))
+    StaysHonest reach.asks (log_asked reach.path before.place) low (most_asks steps reach.retries + more)
+    before.link at → IsStanding low at →
+    before.place.next ≡ sequence_number s → (before.place.fresh ≡ false → (low ≤ s) × (s < low + 2147483648)) →
+    (d : HasDelivered reach low s at before (yield items ended) after.place)
+    × StaysHonest reach.asks (log_asked reach.path before.place) low more after.link
+    (standing_at d.history d.moments (length d.came))
 
 -- a link of ours stays honest, for however many asks, for each log for which it is ours, by every way that a request
 -- can go, for each count of records
@@ -109,4 +112,4 @@ abbrev pub OursStayHonest : {S : Type 0} → (S → List ℕ → Result (List �
 OursStayHonest {S = S} asks ours =
     (place : Option Place) (log : Id) (count r : ℕ) (H : History) (M : List Moment) (low more : ℕ) (link : S) →
     IsWay place → IsValid (Object log) → IsCount count → ours link log r M H → AreInWindow low M →
-    StaysHonest asks (towards place) log count low more link (record { history = H; moment = now M })
+    StaysHonest asks (asked_log (towards place) log count) low more link (record { history = H; moment = now M })

@@ -17,12 +17,13 @@ use Rattle.bac_walk.specs.declared.outcome.Ended.{Ended}
 use Rattle.bac_walk.specs.declared.outcome.Ended.TheVariants.{CaughtUp, StepLimit, Stopped, Fault}
 use Rattle.bac_walk.specs.declared.outcome.WalkFault.TheVariants.{Lost, Refused, BadReply}
 use Rattle.bac_link.specs.Moments.{NeverGoesBack}
-use Rattle.bac_walk.specs.Came.{Came, Comes, AreSaidAt, Brought, IsCutIn, answers_of}
+use Rattle.bac_walk.specs.Came.{Came, Comes, AreSaidAt, Brought, IsCutIn, WalkOver, answers_of, reaching, walk_over}
 use Rattle.bac_walk.specs.Collects.{IsCaughtUp, batches, start_of}
 use Rattle.bac_link.specs.Moments.{AreInWindow}
 use Rattle.bac_walk.specs.Near.{IsNear}
 use Rattle.bac_walk.specs.Place.{WalkPlace}
-use Rattle.bac_link.specs.Honest.{IsHonest, IsHonestWhere}
+use Rattle.bac_link.specs.Exchanges.{Ask}
+use Rattle.bac_link.specs.Honest.{AskedLog, IsHonest, IsHonestWhere, asked_log}
 use Rattle.bac_link.specs.Standard.{IsCount}
 
 -- how a run over such a link ends: the device refuses nothing, and no reply is a bad one
@@ -34,6 +35,10 @@ IsHonestEnd (Fault Lost) = Unit {0}
 IsHonestEnd (Fault (Refused refusal)) = ⊥
 IsHonestEnd (Fault BadReply) = ⊥
 
+-- what a walk that is here asks a link for, by this path
+abbrev pub log_asked : Path → WalkPlace → AskedLog
+log_asked path w = asked_log path w.log w.count
+
 -- Over a link that is honest for the log of a walk: what a run brought is delivered, the replies are by the standard,
 -- the link stands at the moments that they left, and if the run ended with a fault, that is a loss.
 abbrev pub HonestIsDelivered : {S : Type 0} → (S → List ℕ → Result (List ℕ) Loss → S → Type 0) →
@@ -41,8 +46,8 @@ abbrev pub HonestIsDelivered : {S : Type 0} → (S → List ℕ → Result (List
 HonestIsDelivered {S = S} asks stands =
     (path : Path) (retries : ℕ) (old new : S) (w after : WalkPlace) (steps : ℕ) (came : List Came) (items : List Item)
     (ended : Ended) (H : History) (M : List Moment) (low s : ℕ) →
-    IsHonestWhere asks path w.log w.count H low stands → stands old M →
-    Brought asks path retries old w steps came items ended after new →
+    IsHonestWhere asks (log_asked path w) H low stands → stands old M →
+    Brought (reaching asks path retries) (walk_over old w) steps came items ended (walk_over new after) →
     w.next ≡ sequence_number s → 0 < length M → NeverGoesBack M → AreInWindow low M →
     (w.fresh ≡ false → (low ≤ s) × (s < low + 2147483648)) →
     ((b : ℕ) × (t : ℕ) × (b ≡ start_of w.fresh s M (answers_of came)) × (after.next ≡ sequence_number t)
@@ -50,24 +55,32 @@ HonestIsDelivered {S = S} asks stands =
     × DeliversTo H b items t M (length came) × (ended ≡ CaughtUp → IsCaughtUp w.fresh t M (answers_of came)))
     × AreSaidAt H M came × stands new (after_answers (length came) M) × IsHonestEnd ended
 
--- The link is honest from the moments on that so many answers left, asked for so many records at a time. If a function
+-- the course of a log: all that it ever logged, and its moments at the answers to come
+pub record LogCourse : Type 0 where
+  pub history : History
+  pub moments : List Moment
+
+-- the two together
+abbrev pub log_course : History → List Moment → LogCourse
+log_course H M = record { history = H; moments = M }
+
+-- The link is honest for the log that it is asked for from the moments on that so many answers left. If a function
 -- tells where it stands, by which it is honest, it stands at these.
-abbrev pub IsLeftAt : {S : Type 0} → (S → List ℕ → Result (List ℕ) Loss → S → Type 0) →
-    Path → Id → (count : ℕ) → History → ℕ → S → S → List Moment → ℕ → Type 0
-IsLeftAt {S = S} asks path log count H low old new M a =
-    IsHonest asks path log count H low new (after_answers a M)
-    × ((moments : S → List Moment) → IsHonestWhere asks path log count H low (λ link N. moments link ≡ N) →
-    moments old ≡ M → moments new ≡ after_answers a M)
+abbrev pub IsLeftAt : {S : Type 0} → Ask S → AskedLog → (low : ℕ) → S → S → LogCourse → ℕ → Type 0
+IsLeftAt {S = S} asks source low old new course a =
+    IsHonest asks source course.history low new (after_answers a course.moments)
+    × ((moments : S → List Moment) → IsHonestWhere asks source course.history low (λ link N. moments link ≡ N) →
+    moments old ≡ course.moments → moments new ≡ after_answers a course.moments)
 
 -- What the replies to a run brought, one after the other: each what the log held at its moment, from the ordinal b on.
 -- That is the walk's, or of a walk from the oldest record the oldest that was held when the first batch was given,
 -- which so has no gap before it. The items of the run are these, but where a record was refused those up to it, which
 -- lies in the last reply: the rest of that is dropped.
-pub record AreBroughtFrom (H : History) (M : List Moment) (fresh : Bool) (s b : ℕ) (answers : List (List Item))
-    (ended : Ended) (items : List Item) : Type 0 where
-  pub start : b ≡ start_of fresh s M answers
+pub record AreBroughtFrom (course : LogCourse) (fresh : Bool) (s b : ℕ) (answers : List (List Item)) (ended : Ended)
+    (items : List Item) : Type 0 where
+  pub start : b ≡ start_of fresh s course.moments answers
   pub reached : ℕ
-  pub leads : Leads H M b answers reached
+  pub leads : Leads course.history course.moments b answers reached
   pub dropped : List Item
   pub all : items ++ dropped ≡ items_of answers
   pub whole : (ended ≡ Stopped → ⊥) → dropped ≡ []
@@ -84,17 +97,18 @@ DeliversIn H b items t M answers =
 -- the walk's number on, or from the oldest, the records that the log holds when each is reached. So many answers use up
 -- as many moments, and there are at most two for each that brings records, and so many more to spare; caught up, the
 -- log held nothing more at an answer after the last batch; and the only fault is a loss.
-abbrev pub DeliversSaid : {S : Type 0} → (S → List ℕ → Result (List ℕ) Loss → S → Type 0) → Path → ℕ →
-    S → WalkPlace → List Item → Ended → WalkPlace → S → Type 0
-DeliversSaid {S = S} asks path spare old before items ended after new =
+abbrev pub DeliversSaid : {S : Type 0} →
+    Ask S → Path → ℕ → WalkOver S → List Item → Ended → WalkOver S → Type 0
+DeliversSaid {S = S} asks path spare before items ended after =
     (H : History) (M : List Moment) (s low : ℕ) →
-    IsHonest asks path before.log before.count H low old M → before.next ≡ sequence_number s →
+    IsHonest asks (log_asked path before.place) H low before.link M → before.place.next ≡ sequence_number s →
     0 < length M → NeverGoesBack M → AreInWindow low M →
-    (before.fresh ≡ false → (low ≤ s) × (s < low + 2147483648)) →
-    (b : ℕ) × (t : ℕ) × (answers : List (List Item)) × AreBroughtFrom H M before.fresh s b answers ended items
-    × (after.next ≡ sequence_number t) × DeliversIn H b items t M answers
-    × IsLeftAt asks path before.log before.count H low old new M (length answers)
-    × (ended ≡ CaughtUp → IsCaughtUp before.fresh t M answers) × IsHonestEnd ended
+    (before.place.fresh ≡ false → (low ≤ s) × (s < low + 2147483648)) →
+    (b : ℕ) × (t : ℕ) × (answers : List (List Item))
+    × AreBroughtFrom (log_course H M) before.place.fresh s b answers ended items
+    × (after.place.next ≡ sequence_number t) × DeliversIn H b items t M answers
+    × IsLeftAt asks (log_asked path before.place) low before.link after.link (log_course H M) (length answers)
+    × (ended ≡ CaughtUp → IsCaughtUp before.place.fresh t M answers) × IsHonestEnd ended
     × (length answers ≤ 2 * batches answers + spare)
 
 -- a link is honest for each log for which it is ours, by every way that a request can go, for each count of records
@@ -103,7 +117,7 @@ abbrev pub OursAreHonest : {S : Type 0} → (S → List ℕ → Result (List ℕ
 OursAreHonest {S = S} asks ours =
     (place : Option Place) (log : Id) (count r : ℕ) (H : History) (low : ℕ) → IsWay place →
     IsValid (Object log) → IsCount count →
-    IsHonestWhere asks (towards place) log count H low (λ link M. ours link log r M H)
+    IsHonestWhere asks (asked_log (towards place) log count) H low (λ link M. ours link log r M H)
 
 -- Where a reply came to a walk over a link of ours, all that the log holds at the next moment is loggable: so whether
 -- it is needn't be asked of who begins the walk.
@@ -112,7 +126,8 @@ abbrev pub RepliesAreLoggable : {S : Type 0} → (S → List ℕ → Result (Lis
 RepliesAreLoggable {S = S} asks ours =
     (place : Option Place) (retries : ℕ) (old new : S) (w after : WalkPlace) (c : Came) (came : List Came)
     (r s : ℕ) (M : List Moment) (H : History) → ours old w.log r M H → IsWay place → IsValid (Object w.log) →
-    IsCount w.count → w.next ≡ sequence_number s → Comes asks (towards place) retries old w (c ∷ came) after new →
+    IsCount w.count → w.next ≡ sequence_number s →
+    Comes (reaching asks (towards place) retries) (walk_over old w) (c ∷ came) (walk_over new after) →
     All IsLoggable (log_at (now M) H).entries
 
 -- there is one moment at least of one log, and its moments never go back

@@ -5,7 +5,7 @@ use Rattle.bac_link.specs.Delivery.{History, Moment, DeliversTo, now, later}
 use Rattle.bac_link.specs.Laws.{after_answers}
 use Rattle.bac_link.specs.Moments.{AreServed, AreInWindow}
 use Rattle.bac_walk.specs.declared.outcome.Ended.TheVariants.{StepLimit}
-use Rattle.bac_walk.specs.Collects.{batches, Collected}
+use Rattle.bac_walk.specs.Collects.{batches, Collected, our_log, started_at, losses_of, yield}
 use Rattle.bac_walk.specs.Turns.{NoneOfAsked}
 
 -- an ordinal is less than half of the count away from the oldest entry held
@@ -22,7 +22,9 @@ IsNearStep count s M = IsNear s (now M) × (NoneOfAsked count s (now M) → IsNe
 -- walk from the oldest entry may be anywhere until its first batch.
 abbrev pub StaysNear : (r count : ℕ) → History → List Moment → Bool → ℕ → ℕ → Type 0
 StaysNear r count H M fresh s steps = (i retries old new t : ℕ) (items : List Item) (answers : List (List Item)) →
-    i < steps → Collected r count H M fresh s i retries old new items t StepLimit answers →
+    i < steps →
+    Collected (our_log r M H) (started_at count fresh s) i (losses_of retries old new) (yield items StepLimit)
+    t answers →
     (batches answers ≡ 0 → fresh ≡ false) →
     IsNearStep count t (after_answers (length answers) M)
 

@@ -6,8 +6,8 @@ use Rattle.bac_link.specs.Delivery.{History, Moment, DeliversTo}
 use Rattle.bac_walk.specs.declared.outcome.Ended.{Ended}
 use Rattle.bac_walk.specs.declared.outcome.Ended.TheVariants.{StepLimit}
 use Rattle.bac_walk.specs.Place.{WalkPlace}
-use Rattle.bac_walk.specs.Collects.{start_of, Collected}
-use Rattle.bac_walk.specs.Sinks.{IsDeliveredNear, IsRun}
+use Rattle.bac_walk.specs.Collects.{start_of, Collected, our_log, started_at, losses_of, yield}
+use Rattle.bac_walk.specs.Sinks.{IsDeliveredNear, IsRun, ours_around}
 
 -- what the answers of a run brought is delivered from the ordinal where it began: for a walk from the oldest entry, the
 -- oldest of its first batch's moment
@@ -15,14 +15,16 @@ abbrev pub CollectedIsDelivered : Type 0
 CollectedIsDelivered =
     (r count : ℕ) (H : History) (M : List Moment) (fresh : Bool) (s steps retries old new : ℕ) (items : List Item)
     (t : ℕ) (ended : Ended) (answers : List (List Item)) →
-    Collected r count H M fresh s steps retries old new items t ended answers →
+    Collected (our_log r M H) (started_at count fresh s) steps (losses_of retries old new) (yield items ended)
+    t answers →
     DeliversTo H (start_of fresh s M answers) items t M (length answers)
 
 -- a run over links of ours so delivers its items
 abbrev pub RunsDeliver : {L : Type 0} → (L → Id → ℕ → List Moment → History → Type 0) → Type 0
 RunsDeliver {L = L} ours =
     (link left : L) (log : Id) (retries old new : ℕ) (before after : WalkPlace) (steps : ℕ) (ended : Ended)
-    (items : List Item) → IsRun (ours link log) (ours left log) retries old new before after steps ended items →
+    (items : List Item) →
+    IsRun (ours_around (ours link log) (ours left log)) (losses_of retries old new) before after steps ended items →
     IsDeliveredNear (ours link log) (ours left log) before after steps items
 
 -- A run whose steps were all whole, and one from where it ended that asks for as many records, are together one run of
@@ -31,6 +33,8 @@ abbrev pub RunsJoin : {L : Type 0} → (L → Id → ℕ → List Moment → His
 RunsJoin {L = L} ours =
     (link half left : L) (log : Id) (retries old mid new : ℕ) (before middle after : WalkPlace) (steps more : ℕ)
     (ended : Ended) (first rest : List Item) → old ≤ mid → middle.count ≡ before.count →
-    IsRun (ours link log) (ours half log) retries old mid before middle steps StepLimit first →
-    IsRun (ours half log) (ours left log) retries mid new middle after more ended rest →
-    IsRun (ours link log) (ours left log) retries old new before after (steps + more) ended (first ++ rest)
+    IsRun (ours_around (ours link log) (ours half log)) (losses_of retries old mid) before middle steps
+    StepLimit first →
+    IsRun (ours_around (ours half log) (ours left log)) (losses_of retries mid new) middle after more ended rest →
+    IsRun (ours_around (ours link log) (ours left log)) (losses_of retries old new) before after (steps + more) ended
+    (first ++ rest)

@@ -13,7 +13,7 @@ use Rattle.bac_link.specs.Laws.{after_answers}
 use Rattle.bac_link.specs.Moments.{AreInWindow}
 use Rattle.bac_walk.specs.Near.{StaysNear}
 use Rattle.bac_walk.specs.Walks.{gap_items, item_of}
-use Rattle.bac_walk.specs.Collects.{Goes, Collected, IsFreshAfter}
+use Rattle.bac_walk.specs.Collects.{Goes, Collected, IsFreshAfter, Losses, our_log, started_at, yield}
 
 -- one call of put: a record, with the gap before it
 pub record Call : Type 0 where
@@ -57,27 +57,43 @@ is_stopped StepLimit = false
 is_stopped Stopped = true
 is_stopped (Fault e) = false
 
+-- a sink that records were put into: what putting one does, and the sink before and after them
+pub record SinkFilled (S : Type 0) : Type 1 where
+  pub puts : S → Option GapOf → Numbered → Bool → S → Type 0
+  pub before : S
+  pub after : S
+
+-- the three together
+abbrev pub sink_filled : {S : Type 0} → (S → Option GapOf → Numbered → Bool → S → Type 0) → S → S → SinkFilled S
+sink_filled puts before after = record { puts = puts; before = before; after = after }
+
+-- at which moments of a log, with replies of which size, a link is ours before a run and after it
+pub record OursAround : Type 1 where
+  pub before : ℕ → List Moment → History → Type 0
+  pub after : ℕ → List Moment → History → Type 0
+
+-- the two together
+abbrev pub ours_around : (ℕ → List Moment → History → Type 0) → (ℕ → List Moment → History → Type 0) → OursAround
+ours_around before after = record { before = before; after = after }
+
 -- a run of at most so many steps: over any link its items cover all from the walk's number up to the new one; over one
 -- that was ours, wherever the walk stays near, they are what its answers brought, and it is ours still
-abbrev pub IsRun : (ℕ → List Moment → History → Type 0) →
-    (ℕ → List Moment → History → Type 0) → ℕ → ℕ → ℕ → WalkPlace → WalkPlace → ℕ → Ended → List Item → Type 0
-IsRun was is retries old new before after steps ended items =
+abbrev pub IsRun : OursAround → Losses → WalkPlace → WalkPlace → ℕ → Ended → List Item → Type 0
+IsRun ours losses before after steps ended items =
     ((s : ℕ) → Goes before.fresh before.next s items after.fresh after.next)
-    × ((r : ℕ) (M : List Moment) (H : History) (s : ℕ) → was r M H → before.next ≡ sequence_number s →
+    × ((r : ℕ) (M : List Moment) (H : History) (s : ℕ) → ours.before r M H → before.next ≡ sequence_number s →
     StaysNear r before.count H M before.fresh s steps →
     (answers : List (List Item)) × (t : ℕ) × (after.next ≡ sequence_number t)
-    × Collected r before.count H M before.fresh s steps retries old new items t ended answers
-    × is r (after_answers (length answers) M) H × IsFreshAfter before.fresh answers after.fresh)
+    × Collected (our_log r M H) (started_at before.count before.fresh s) steps losses (yield items ended) t answers
+    × ours.after r (after_answers (length answers) M) H × IsFreshAfter before.fresh answers after.fresh)
 
 -- such a run into a sink: over any link each step puts at most 100 records and at most one gap; each brought a record
 -- at least if it ended since there were so many
-abbrev pub Delivery : {S : Type 0} → (S → Option GapOf → Numbered → Bool → S → Type 0) → S → S →
-    (ℕ → List Moment → History → Type 0) → (ℕ → List Moment → History → Type 0) →
-    ℕ → ℕ → ℕ → WalkPlace → WalkPlace → ℕ → Ended → Type 0
-Delivery {S = S} puts sink left was is retries old new before after steps ended =
-    (calls : List Call) × Takes puts sink calls (is_stopped ended) left
+abbrev pub Delivery : {S : Type 0} → SinkFilled S → OursAround → Losses → WalkPlace → WalkPlace → ℕ → Ended → Type 0
+Delivery {S = S} sink ours losses before after steps ended =
+    (calls : List Call) × Takes sink.puts sink.before calls (is_stopped ended) sink.after
     × (length calls ≤ 100 * steps) × (gaps calls ≤ steps)
-    × IsRun was is retries old new before after steps ended (put_items calls)
+    × IsRun ours losses before after steps ended (put_items calls)
     × (ended ≡ StepLimit → steps ≤ length calls)
 
 -- Over a link that was ours, at moments within half of the count: from the ordinal of its number on, or from that of

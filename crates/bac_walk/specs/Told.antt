@@ -3,7 +3,7 @@ use Rattle.std.specs.Prelude.{◌≡◌, ℕ, true, false, ◌⊎◌, Result, Ok
 use Rattle.bac_link.specs.declared.exchanges.ExchangeFault.{ExchangeFault}
 use Rattle.bac_link.specs.declared.exchanges.ExchangeFault.TheVariants as fault
 use Rattle.bac_link.specs.declared.link.Lost.{Lost as Loss}
-use Rattle.bac_link.specs.Exchanges.{Exchanges}
+use Rattle.bac_link.specs.Exchanges.{Exchanges, way_by}
 use Rattle.bac_link.specs.Links.{question}
 use Rattle.bac_link.specs.Path.{Path}
 use Rattle.bac_walk.specs.declared.outcome.BadReply.{BadReply as NotTaken}
@@ -24,7 +24,8 @@ use Rattle.bac_walk.specs.Walks.{asks_oldest_now, question_of, IsTakenFrom}
 abbrev pub HasAsked : {S : Type 0} → (S → List ℕ → Result (List ℕ) Loss → S → Type 0) → Path → ℕ → WalkPlace →
     Result (List ℕ) ExchangeFault → S → Type 0
 HasAsked {S = S} asks path retries w result new =
-    (link : S) × (invoke : ℕ) × Exchanges asks path invoke (question w.log (question_of w)) retries link result new
+    (link : S) × (invoke : ℕ)
+    × Exchanges asks (way_by path invoke retries) (question w.log (question_of w)) link result new
 
 -- The fault that such a result is: no answer came; the device refused; or an answer came that doesn't belong to the
 -- question, or an ACK that a walk here can't take.

@@ -9,14 +9,14 @@ ghost use Rattle.bac_link.specs.Laws.{after_answers};
 ghost use Rattle.bac_walk.specs.declared.outcome.Ended.{Ended as EndedOf};
 ghost use Rattle.bac_link.specs.Moments.{AreInWindow};
 ghost use Rattle.bac_walk.specs.Near.{IsNear, StaysNear};
-ghost use Rattle.bac_walk.specs.Sinks.{IsRun};
-ghost use Rattle.bac_walk.specs.Collects.{MissingWhy};
+ghost use Rattle.bac_walk.specs.Sinks.{IsRun, ours_around};
+ghost use Rattle.bac_walk.specs.Collects.{MissingWhy, losses_of};
 ghost use Rattle.bac_walk.specs.Kept.{IsKept};
 ghost use Rattle.bac_walk.specs.Outcomes.{IsRunOf};
 ghost use Rattle.bac_walk.specs.Rests.{rest, Rests, Misses};
 ghost use Rattle.bac_walk.specs.Told.{Told, ended_of};
-ghost use Rattle.bac_walk.specs.Came.{Came, Brought};
-ghost use Rattle.bac_walk.specs.Transacted.{BroughtBy, spare};
+ghost use Rattle.bac_walk.specs.Came.{Came, Brought, walk_over, reaching_by};
+ghost use Rattle.bac_walk.specs.Transacted.{BroughtBy, spare, walk_by};
 ghost use Rattle.bac_walk.specs.Growing.{DeliversGrowing};
 ghost use Rattle.bac_walk.specs.Honest.{DeliversSaid};
 
@@ -90,28 +90,29 @@ pub fn collect<L: LogLink>(
         (ended_of result.why) walk.new link.new }
     // Over any link: what came, and that the items are those of these replies.
     ensures brought { (n : ℕ) × (ended : EndedOf) × IsRunOf result.why steps n ended
-        × ((came : List Came) × Brought L.asks (towards transactions.old.route)
-        transactions.old.retries link.old walk.old n came result.items.items ended walk.new
-        link.new) }
+        × ((came : List Came)
+        × Brought (reaching_by L.asks transactions.old) (walk_over link.old walk.old) n came
+        result.items.items ended (walk_over link.new walk.new)) }
     // Each exchange is the next of the transactions, and none is open after it: two replies a batch
     // at most, and two more.
     ensures transacted { (n : ℕ) × (ended : EndedOf) × IsRunOf result.why steps n ended
-        × ((came : List Came) × BroughtBy L.asks transactions.old link.old walk.old n came
-        result.items.items ended walk.new transactions.new link.new) }
+        × ((came : List Came)
+        × BroughtBy L.asks (walk_by link.old transactions.old walk.old) n came result.items.items
+        ended (walk_by link.new transactions.new walk.new)) }
     // The headline: over a link that is honest for the log, whatever records it holds and however
     // it encodes them, it delivers the records from its number on that the log holds when each is
     // reached, each once, in rising order, with one exact gap for what is gone; and the only fault
     // is a loss. The number is that of ordinal s; it and all moments lie within half of the count
     // from one ordinal on.
     ensures headline { DeliversSaid L.asks (towards transactions.old.route)
-        (spare (ended_of result.why)) link.old walk.old result.items.items (ended_of result.why)
-        walk.new link.new }
+        (spare (ended_of result.why)) (walk_over link.old walk.old) result.items.items
+        (ended_of result.why) (walk_over link.new walk.new) }
     // So it does over a link that stays honest while its log goes on, between any two asks, and
     // that may lose any: for as many asks as these steps may make, and then for the asks that are
     // left.
-    ensures growing { DeliversGrowing L.asks (towards transactions.old.route)
-        transactions.old.retries link.old walk.old steps result.items.items (ended_of result.why)
-        walk.new link.new }
+    ensures growing { DeliversGrowing (reaching_by L.asks transactions.old)
+        (walk_over link.old walk.old) steps result.items.items (ended_of result.why)
+        (walk_over link.new walk.new) }
     // Over a link of ours it does so too, and the link is ours still, at the moments that are left.
     ensures ours { (r : ℕ) (M : List Moment) (H : History) (s low : ℕ)
         → L.is_ours link.old walk.old.log r M H → walk.old.next ≡ sequence_number s
@@ -131,9 +132,10 @@ pub fn collect<L: LogLink>(
     // was asked: over any link, and over one of ours with all that its answers brought and how it
     // ended.
     ensures delivers { (n : ℕ) × (ended : EndedOf) × IsRunOf result.why steps n ended
-        × IsRun (λ r M H. L.is_ours link.old walk.old.log r M H)
-        (λ r M H. L.is_ours link.new walk.old.log r M H) transactions.old.retries
-        (L.failures link.old) (L.failures link.new) walk.old walk.new n ended result.items.items
+        × IsRun (ours_around (λ r M H. L.is_ours link.old walk.old.log r M H)
+        (λ r M H. L.is_ours link.new walk.old.log r M H))
+        (losses_of transactions.old.retries (L.failures link.old) (L.failures link.new)) walk.old
+        walk.new n ended result.items.items
         × (length result.items.items ≤ 101 * n)
         × (transactions.new.begun ≤ transactions.old.begun + 2 * n) }
     // Over a link that loses nothing, of a log that doesn't change, or that the link lacks.

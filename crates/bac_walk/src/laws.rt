@@ -3,7 +3,7 @@ ghost use Rattle.std.specs.Prelude.{◌≡◌, ℕ, ◌≤◌, List};
 ghost use Rattle.bac_wire.specs.Primitive.{Id};
 ghost use Rattle.bac_link.specs.Delivery.{History, Moment};
 ghost use Rattle.bac_link.specs.Growing.{Standing, StaysHonest};
-ghost use Rattle.bac_link.specs.Honest.{IsHonest};
+ghost use Rattle.bac_link.specs.Honest.{IsHonest, asked_log};
 ghost use Rattle.bac_link.specs.Path.{Path};
 ghost use Rattle.bac_walk.specs.Came.{BroughtIsDelivered, CameIsDelivered, LostIsAsked};
 ghost use Rattle.bac_walk.specs.Came.{NothingCame, OwnIsSaid, SaidIsTaken};
@@ -144,7 +144,8 @@ pub fn honest_is_delivered<L: LogLink>()
     ensures ours { (log : Id) (r : ℕ) (H : History)
         → HonestIsDelivered L.asks (λ link M. L.is_ours link log r M H) }
     ensures honest { (path : Path) (log : Id) (count : ℕ) (H : History) (low : ℕ)
-        → HonestIsDelivered L.asks (λ link M. IsHonest L.asks path log count H low link M) }
+        → HonestIsDelivered L.asks (λ link M. IsHonest L.asks (asked_log path log count) H low link
+        M) }
 {}
 
 /// The same where the log goes on and any ask may be lost: over a link that stays honest for as
@@ -156,7 +157,7 @@ pub fn growing_is_delivered<L: LogLink>()
         → GrowingIsDelivered L.asks (λ more link at. (standing link ≡ at) × (more ≤ most link)) }
     ensures honest { (path : Path) (log : Id) (count low : ℕ)
         → GrowingIsDelivered L.asks
-        (λ more link at. StaysHonest L.asks path log count low more link at) }
+        (λ more link at. StaysHonest L.asks (asked_log path log count) low more link at) }
 {}
 
 /// A link is honest for each log for which it is ours.

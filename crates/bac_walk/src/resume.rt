@@ -4,12 +4,12 @@ ghost use Rattle.std.specs.Prelude.{false, ◌≡◌, ◌+◌, ◌<◌, ◌≤�
 ghost use Rattle.bac_log.specs.TrendLog.{sequence_number};
 ghost use Rattle.bac_link.specs.Delivery.{History, Moment, DeliversTo};
 ghost use Rattle.bac_link.specs.Path.{towards};
-ghost use Rattle.bac_walk.specs.Came.{BroughtInto};
+ghost use Rattle.bac_walk.specs.Came.{BroughtInto, walk_over, reaching_by};
 ghost use Rattle.bac_link.specs.declared.transactions.Transactions.{Transactions as TransactionsOf};
-ghost use Rattle.bac_walk.specs.Transacted.{BroughtIntoBy, spare};
+ghost use Rattle.bac_walk.specs.Transacted.{BroughtIntoBy, spare, walk_by};
 ghost use Rattle.bac_walk.specs.Place.{WalkPlace, resumed};
 ghost use Rattle.bac_link.specs.Moments.{AreInWindow};
-ghost use Rattle.bac_walk.specs.Sinks.{Call, Takes, put_items, is_stopped};
+ghost use Rattle.bac_walk.specs.Sinks.{Call, Takes, put_items, is_stopped, sink_filled};
 ghost use Rattle.bac_walk.specs.Honest.{DeliversSaid};
 
 use crate::outcome::Ended;
@@ -46,19 +46,24 @@ pub fn stop_and_resume<L: LogLink, S: Sink, R: Sink>(
         × Takes S.puts sink.old first (is_stopped result.0) sink.new
         × Takes R.puts rest.old second (is_stopped result.1) rest.new
         × DeliversSaid L.asks (towards transactions.old.route) (spare result.0 + spare result.1)
-        link.old walk.old (put_items first ++ put_items second) result.1 walk.new link.new }
+        (walk_over link.old walk.old) (put_items first ++ put_items second) result.1
+        (walk_over link.new walk.new) }
     // Over any link: what came to the first walk, and to the second, which began at the number, and
     // on the link, where the first ended, and asks for as many records.
     ensures brought { (here : WalkPlace) × (half : L)
-        × BroughtInto L.asks (towards transactions.old.route) transactions.old.retries S.puts
-        link.old sink.old walk.old steps result.0 here sink.new half
-        × BroughtInto L.asks (towards transactions.old.route) transactions.old.retries R.puts half
-        rest.old (resumed here) more result.1 walk.new rest.new link.new }
+        × BroughtInto (reaching_by L.asks transactions.old)
+        (sink_filled S.puts sink.old sink.new) (walk_over link.old walk.old) steps result.0
+        (walk_over half here)
+        × BroughtInto (reaching_by L.asks transactions.old)
+        (sink_filled R.puts rest.old rest.new) (walk_over half (resumed here)) more result.1
+        (walk_over link.new walk.new) }
     // The second went on with the transactions as the first left them.
     ensures transacted { (here : WalkPlace) × (half : L) × (between : TransactionsOf)
-        × BroughtIntoBy L.asks transactions.old S.puts link.old sink.old walk.old steps result.0
-        here sink.new between half × BroughtIntoBy L.asks between R.puts half rest.old
-        (resumed here) more result.1 walk.new rest.new transactions.new link.new }
+        × BroughtIntoBy L.asks (sink_filled S.puts sink.old sink.new)
+        (walk_by link.old transactions.old walk.old) steps result.0 (walk_by half between here)
+        × BroughtIntoBy L.asks (sink_filled R.puts rest.old rest.new)
+        (walk_by half between (resumed here)) more result.1
+        (walk_by link.new transactions.new walk.new) }
 {
     let first = deliver(link, transactions, walk, steps, sink);
     *walk = walk.resumed();

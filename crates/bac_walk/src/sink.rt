@@ -8,14 +8,15 @@ ghost use Rattle.bac_walk.specs.declared.batch.Gap.{Gap as GapOf};
 ghost use Rattle.bac_walk.specs.declared.batch.Numbered.{Numbered as NumberedOf};
 ghost use Rattle.bac_walk.specs.Near.{StaysNear};
 ghost use Rattle.bac_walk.specs.Sinks.{Call, PutAll, Delivery, IsDelivered, IsDeliveredNear, Takes};
+ghost use Rattle.bac_walk.specs.Sinks.{sink_filled, ours_around};
 ghost use Rattle.bac_walk.specs.Sinks.{is_stopped, put_items};
 ghost use Rattle.bac_walk.specs.Handing.{HandedOn};
 ghost use Rattle.bac_walk.specs.Replied.{step_of};
 ghost use Rattle.bac_walk.specs.Spelled.{IsWhole, records_from};
-ghost use Rattle.bac_walk.specs.Collects.{FoundEnd, MissingEnd};
+ghost use Rattle.bac_walk.specs.Collects.{FoundEnd, MissingEnd, losses_of};
 ghost use Rattle.bac_walk.specs.Told.{Told};
-ghost use Rattle.bac_walk.specs.Came.{BroughtInto};
-ghost use Rattle.bac_walk.specs.Transacted.{BroughtIntoBy, spare};
+ghost use Rattle.bac_walk.specs.Came.{BroughtInto, walk_over, reaching_by};
+ghost use Rattle.bac_walk.specs.Transacted.{BroughtIntoBy, spare, walk_by};
 ghost use Rattle.bac_walk.specs.Growing.{DeliversGrowing};
 ghost use Rattle.bac_walk.specs.Honest.{DeliversSaid};
 
@@ -64,26 +65,28 @@ pub fn deliver<L: LogLink, S: Sink>(
     ensures told { Told L.asks (towards transactions.old.route) transactions.old.retries result
         walk.new link.new }
     // Over any link: what came, and that what is put is what these replies brought.
-    ensures brought { BroughtInto L.asks (towards transactions.old.route) transactions.old.retries
-        S.puts link.old sink.old walk.old steps result walk.new sink.new link.new }
+    ensures brought { BroughtInto (reaching_by L.asks transactions.old)
+        (sink_filled S.puts sink.old sink.new) (walk_over link.old walk.old) steps result
+        (walk_over link.new walk.new) }
     // Each exchange is the next of the transactions, and none is open after it: two replies a batch
     // at most, and two more.
-    ensures transacted { BroughtIntoBy L.asks transactions.old S.puts link.old sink.old walk.old
-        steps result walk.new sink.new transactions.new link.new }
+    ensures transacted { BroughtIntoBy L.asks (sink_filled S.puts sink.old sink.new)
+        (walk_by link.old transactions.old walk.old) steps result
+        (walk_by link.new transactions.new walk.new) }
     // The headline: over a link that is honest for the log, whatever records it holds and however
     // it encodes them, it delivers the records from its number on that the log holds when each is
     // reached, each once, in rising order, with one exact gap for what is gone; and the only fault
     // is a loss.
     ensures headline { (calls : List Call)
         × Takes S.puts sink.old calls (is_stopped result) sink.new
-        × DeliversSaid L.asks (towards transactions.old.route) (spare result) link.old walk.old
-        (put_items calls) result walk.new link.new }
+        × DeliversSaid L.asks (towards transactions.old.route) (spare result)
+        (walk_over link.old walk.old) (put_items calls) result (walk_over link.new walk.new) }
     // So it does over a link that stays honest while its log goes on, between any two asks, and
     // that may lose any: for as many asks as these steps may make, and then for the asks that are
     // left.
     ensures growing { (calls : List Call) × Takes S.puts sink.old calls (is_stopped result) sink.new
-        × DeliversGrowing L.asks (towards transactions.old.route) transactions.old.retries link.old
-        walk.old steps (put_items calls) result walk.new link.new }
+        × DeliversGrowing (reaching_by L.asks transactions.old)
+        (walk_over link.old walk.old) steps (put_items calls) result (walk_over link.new walk.new) }
     // Over a link of ours it does so too, and the link is ours still, at the moments that are left.
     ensures ours { (calls : List Call) × Takes S.puts sink.old calls (is_stopped result) sink.new
         × IsDelivered (λ r M H. L.is_ours link.old walk.old.log r M H)
@@ -94,10 +97,11 @@ pub fn deliver<L: LogLink, S: Sink>(
         (λ r M H. L.is_ours link.new walk.old.log r M H) walk.old walk.new steps
         (put_items calls) }
     // It is a run of so many steps, with all that its answers brought and how it ended.
-    ensures delivers { Delivery S.puts sink.old sink.new
-        (λ r M H. L.is_ours link.old walk.old.log r M H)
-        (λ r M H. L.is_ours link.new walk.old.log r M H) transactions.old.retries
-        (L.failures link.old) (L.failures link.new) walk.old walk.new steps result }
+    ensures delivers { Delivery (sink_filled S.puts sink.old sink.new)
+        (ours_around (λ r M H. L.is_ours link.old walk.old.log r M H)
+        (λ r M H. L.is_ours link.new walk.old.log r M H))
+        (losses_of transactions.old.retries (L.failures link.old) (L.failures link.new)) walk.old
+        walk.new steps result }
     // Over a link that loses nothing, nothing is lost, and asking changes nothing.
     ensures sure { L.is_sure link.old (towards transactions.old.route)
         → L.is_sure link.new (towards transactions.new.route) }
@@ -137,14 +141,17 @@ fn deliver_step<L: LogLink, S: Sink>(
     ensures count { walk.new.count ≡ walk.old.count }
     ensures told { Told L.asks (towards transactions.old.route) transactions.old.retries result
         walk.new link.new }
-    ensures brought { BroughtInto L.asks (towards transactions.old.route) transactions.old.retries
-        S.puts link.old sink.old walk.old 1 result walk.new sink.new link.new }
-    ensures transacted { BroughtIntoBy L.asks transactions.old S.puts link.old sink.old walk.old 1
-        result walk.new sink.new transactions.new link.new }
-    ensures delivers { Delivery S.puts sink.old sink.new
-        (λ r M H. L.is_ours link.old walk.old.log r M H)
-        (λ r M H. L.is_ours link.new walk.old.log r M H) transactions.old.retries
-        (L.failures link.old) (L.failures link.new) walk.old walk.new 1 result }
+    ensures brought { BroughtInto (reaching_by L.asks transactions.old)
+        (sink_filled S.puts sink.old sink.new) (walk_over link.old walk.old) 1 result
+        (walk_over link.new walk.new) }
+    ensures transacted { BroughtIntoBy L.asks (sink_filled S.puts sink.old sink.new)
+        (walk_by link.old transactions.old walk.old) 1 result
+        (walk_by link.new transactions.new walk.new) }
+    ensures delivers { Delivery (sink_filled S.puts sink.old sink.new)
+        (ours_around (λ r M H. L.is_ours link.old walk.old.log r M H)
+        (λ r M H. L.is_ours link.new walk.old.log r M H))
+        (losses_of transactions.old.retries (L.failures link.old) (L.failures link.new)) walk.old
+        walk.new 1 result }
     ensures sure { L.is_sure link.old (towards transactions.old.route)
         → L.is_sure link.new (towards transactions.new.route) }
     ensures kept { L.is_sure link.old (towards transactions.old.route) → L.keeps link.old link.new }

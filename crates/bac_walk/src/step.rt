@@ -2,6 +2,7 @@
 ghost use Rattle.std.specs.Prelude.{[], ◌∷◌, ℕ, ◌≡◌, ◌+◌, ◌≤◌, List, length, true, false, OnErr};
 ghost use Rattle.bac_link.specs.declared.item.Item.{Item};
 ghost use Rattle.bac_walk.specs.Collects.{FoundTurn, FoundStep, MissingTurn, MissingStep, Goes};
+ghost use Rattle.bac_walk.specs.Collects.{our_log, started_at, losses_of, yield};
 ghost use Rattle.bac_walk.specs.Collects.{turn_items, asks_next, finished, Collected, step_items};
 ghost use Rattle.bac_walk.specs.Collects.{step_ended, is_fresh_after};
 ghost use Rattle.bac_link.specs.Delivery.{History, Moment, DeliversTo, now};
@@ -15,8 +16,8 @@ ghost use Rattle.bac_link.specs.Heard.{heard_in};
 ghost use Rattle.bac_walk.specs.Replied.{IsSame, progress_of, step_of};
 ghost use Rattle.bac_walk.specs.Spelled.{data_held, records_from};
 ghost use Rattle.bac_walk.specs.Told.{Told, ToldTurn};
-ghost use Rattle.bac_walk.specs.Came.{Came, Brought};
-ghost use Rattle.bac_walk.specs.Transacted.{TurnBy, BroughtBy, asked, spare};
+ghost use Rattle.bac_walk.specs.Came.{Came, Brought, walk_over, reaching_by};
+ghost use Rattle.bac_walk.specs.Transacted.{TurnBy, BroughtBy, asked, spare, walk_by};
 ghost use Rattle.bac_walk.specs.Growing.{DeliversGrowing};
 ghost use Rattle.bac_walk.specs.Honest.{DeliversSaid};
 ghost use Rattle.bac_walk.specs.Walks.{IsTakenFrom};
@@ -89,8 +90,8 @@ impl Walk {
         ensures ours { (r : ℕ) (M : List Moment) (H : History) (s : ℕ)
             → L.is_ours link.old self.old.log r M H → self.old.next ≡ sequence_number s
             → (self.old.fresh ≡ false → IsNear s (now M))
-            → IsTurned (λ N. L.is_ours link.new self.old.log r N H) r M H s self.old
-            transactions.old.retries (L.failures link.old) (L.failures link.new)
+            → IsTurned (λ N. L.is_ours link.new self.old.log r N H) (our_log r M H) s self.old
+            (losses_of transactions.old.retries (L.failures link.old) (L.failures link.new))
             (progress_of result) self.new }
     {
         let question = self.question();
@@ -147,12 +148,13 @@ impl Walk {
             (step_ended result) self.new link.new }
         // Over any link: what came, and that the step is what these replies make.
         ensures brought { (came : List Came)
-            × Brought L.asks (towards transactions.old.route) transactions.old.retries link.old
-            self.old 1 came (step_items result) (step_ended result) self.new link.new }
+            × Brought (reaching_by L.asks transactions.old)
+            (walk_over link.old self.old) 1 came (step_items result) (step_ended result)
+            (walk_over link.new self.new) }
         // Each exchange is the next of the transactions, and none is open after it.
         ensures transacted { (came : List Came)
-            × BroughtBy L.asks transactions.old link.old self.old 1 came (step_items result)
-            (step_ended result) self.new transactions.new link.new }
+            × BroughtBy L.asks (walk_by link.old transactions.old self.old) 1 came
+            (step_items result) (step_ended result) (walk_by link.new transactions.new self.new) }
         ensures goes { (s : ℕ)
             → Goes self.old.fresh self.old.next s (step_items result) self.new.fresh self.new.next }
         // So it does over a link of ours, if the walk is near at each answer.
@@ -165,20 +167,20 @@ impl Walk {
         // Over a link that is honest for the log it delivers the next records that the log holds,
         // with the gap before them.
         ensures headline { DeliversSaid L.asks (towards transactions.old.route)
-            (spare (step_ended result)) link.old self.old (step_items result) (step_ended result)
-            self.new link.new }
+            (spare (step_ended result)) (walk_over link.old self.old) (step_items result)
+            (step_ended result) (walk_over link.new self.new) }
         // So it does over one that stays honest while its log goes on, and may lose any ask.
-        ensures growing { DeliversGrowing L.asks (towards transactions.old.route)
-            transactions.old.retries link.old self.old 1 (step_items result) (step_ended result)
-            self.new link.new }
+        ensures growing { DeliversGrowing (reaching_by L.asks transactions.old)
+            (walk_over link.old self.old) 1 (step_items result) (step_ended result)
+            (walk_over link.new self.new) }
         // The walk is at ordinal s before the step, near its log, and at t after it.
         ensures ours { (r : ℕ) (M : List Moment) (H : History) (s : ℕ)
             → L.is_ours link.old self.old.log r M H → self.old.next ≡ sequence_number s
             → (self.old.fresh ≡ false → IsNearStep self.old.count s M)
             → (answers : List (List Item)) × (t : ℕ) × (self.new.next ≡ sequence_number t)
-            × Collected r self.old.count H M self.old.fresh s 1 transactions.old.retries
-            (L.failures link.old) (L.failures link.new) (step_items result) t
-            (step_ended result) answers
+            × Collected (our_log r M H) (started_at self.old.count self.old.fresh s) 1
+            (losses_of transactions.old.retries (L.failures link.old) (L.failures link.new))
+            (yield (step_items result) (step_ended result)) t answers
             × L.is_ours link.new self.old.log r (after_answers (length answers) M) H
             × (self.new.fresh ≡ is_fresh_after self.old.fresh result) }
     {
@@ -214,22 +216,22 @@ impl Walk {
         ensures told { Told L.asks (towards transactions.old.route) transactions.old.retries
             (step_ended (step_of result)) self.new link.new }
         ensures brought { (came : List Came)
-            × Brought L.asks (towards transactions.old.route) transactions.old.retries link.old
-            self.old 1 came (step_items (step_of result)) (step_ended (step_of result)) self.new
-            link.new }
+            × Brought (reaching_by L.asks transactions.old)
+            (walk_over link.old self.old) 1 came (step_items (step_of result))
+            (step_ended (step_of result)) (walk_over link.new self.new) }
         ensures transacted { (came : List Came)
-            × BroughtBy L.asks transactions.old link.old self.old 1 came
-            (step_items (step_of result)) (step_ended (step_of result)) self.new
-            transactions.new link.new }
+            × BroughtBy L.asks (walk_by link.old transactions.old self.old) 1 came
+            (step_items (step_of result)) (step_ended (step_of result))
+            (walk_by link.new transactions.new self.new) }
         ensures goes { (s : ℕ) → Goes self.old.fresh self.old.next s (step_items (step_of result))
             self.new.fresh self.new.next }
         ensures ours { (r : ℕ) (M : List Moment) (H : History) (s : ℕ)
             → L.is_ours link.old self.old.log r M H → self.old.next ≡ sequence_number s
             → (self.old.fresh ≡ false → IsNearStep self.old.count s M)
             → (answers : List (List Item)) × (t : ℕ) × (self.new.next ≡ sequence_number t)
-            × Collected r self.old.count H M self.old.fresh s 1 transactions.old.retries
-            (L.failures link.old) (L.failures link.new) (step_items (step_of result)) t
-            (step_ended (step_of result)) answers
+            × Collected (our_log r M H) (started_at self.old.count self.old.fresh s) 1
+            (losses_of transactions.old.retries (L.failures link.old) (L.failures link.new))
+            (yield (step_items (step_of result)) (step_ended (step_of result))) t answers
             × L.is_ours link.new self.old.log r (after_answers (length answers) M) H
             × (self.new.fresh ≡ is_fresh_after self.old.fresh (step_of result)) }
     {

@@ -16,7 +16,7 @@ use Rattle.bac_device.specs.Answer.{answer, records_ack}
 use Rattle.bac_device.specs.Reply.{datagram_to, reply}
 use Rattle.bac_link.specs.Datagrams.{answer_in, answers_to, apdu_in, message_in}
 use Rattle.bac_link.specs.Delivery.{History, Moment}
-use Rattle.bac_link.specs.Links.{HasReply, IsQuestion, IsReply, question, reply_parameters}
+use Rattle.bac_link.specs.Links.{HasReply, IsQuestion, IsReply, question, reply_parameters, our_question}
 use Rattle.bac_link.specs.Moments.{AreServed, log_at}
 use Rattle.bac_link.specs.Path.{towards}
 use Rattle.bac_link.specs.Requests.{request_octets}
@@ -58,7 +58,7 @@ alone : (rounds : ℕ) (d : State) (n : ℕ) → IsSound d → IsThere d n → I
 alone rounds d n sound there = in_history rounds (history_ahead rounds d n []) n d [] sound (record { there = there; past = []; gone = omega arith; entries = refl })
 
 pub replied_at : (rounds : ℕ) (H : History) (d : State) (id : Id) (extent : Extent) (invoke : ℕ) → id.kind ≡ 20 → InHistory rounds H id.instance d →
-    IsReply d.reply_size (placed rounds (moment_of (log_with d id.instance))) H id extent (towards None) invoke (reply_text d id extent invoke)
+    IsReply (our_question d.reply_size (placed rounds (moment_of (log_with d id.instance)) ∷ []) H id extent (towards None)) invoke (reply_text d id extent invoke)
 replied_at rounds H d id extent invoke kind here =
     let n = id.instance in
     let m : Moment = placed rounds (moment_of (log_with d n)) in

@@ -1,9 +1,10 @@
 use Rattle.std.proofs.Common.{List, subst}
 use denote.Ref.{Bor}
 use Rattle.bac_asked.specs.declared.wanted.Wanted.{Wanted}
+use Rattle.bac_hearing.specs.Beside.{BeginsToHear}
 use Rattle.bac_hearing.specs.Hearing.{paced}
 use Rattle.bac_ports.specs.Sockets.{socket_rules}
-use Rattle.bac_absent.specs.Calling.{HearsFirst, seen}
+use Rattle.bac_absent.specs.Calling.{identities_of, seen}
 use Rattle.bac_absent.proofs.calling.begin_as.Goals as goal
 
 pub returns-in-Some-clause-begun : goal.returns-in-Some-clause-begun
@@ -13,7 +14,7 @@ returns-in-Some-clause-begun g c =
     let hears = rw c.in-Some.is at c.in_ok-begun.ensures.begun in
     let left = c.in_ok-calling_of-in-Some.ensures.calling in (
       begun.early.items,
-      rw left.1 (subst (λ (refs : List (Bor Wanted)). HearsFirst over (paced g.C.Clock.reads c.args.clock c.args.window) c.args.asked.now (seen refs) c.args.sockets.now
-          begun.early.items begun.desks.port begun.desks.clock begun.desks.table c.begin_called.new.sockets) c.as_slice.ensures.value hears),
+      rw left.1 (subst (λ (refs : List (Bor Wanted)). BeginsToHear over (paced g.C.Clock.reads c.args.clock c.args.window) (identities_of c.args.asked.now (seen refs))
+          c.args.sockets.now begun.early.items begun.desks c.begin_called.new.sockets) c.as_slice.ensures.value hears),
       left.0,
     )

@@ -9,7 +9,7 @@ returns-in-Ok-clause-begun g c =
     let over = socket_rules g.S.Sockets.opens g.S.Sockets.closes g.S.Socket.Port.sends g.S.Socket.Port.receives g.S.Socket.Port.receives_within in
     let begun = c.in-Ok.begun in
     hears_first over (paced g.C.Clock.reads c.args.clock c.args.window) c.args.asked.now c.args.called.now c.as_slice.result.now c.as_slice-2.result.now c.args.sockets.now
-    c.begin_all.new.sockets begun.early.items begun.desks.port begun.desks.clock begun.desks.table (c.as_slice.ensures.value ∙ c.in-Ok-Ok.ensures)
+    c.begin_all.new.sockets begun.early.items begun.desks (c.as_slice.ensures.value ∙ c.in-Ok-Ok.ensures)
     (c.as_slice-2.ensures.value ∙ c.in-Ok-Ok.ensures') c.in-Ok.ensures.begun
 
 pub returns-in-Err-Unfinished-clause-unending : goal.returns-in-Err-Unfinished-clause-unending

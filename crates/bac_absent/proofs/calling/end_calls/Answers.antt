@@ -16,8 +16,8 @@ pub returns-in-Err-Unfinished-clause-ended : goal.returns-in-Err-Unfinished-clau
 returns-in-Err-Unfinished-clause-ended g c =
     let over = socket_rules g.S.Sockets.opens g.S.Sockets.closes g.S.Socket.Port.sends g.S.Socket.Port.receives g.S.Socket.Port.receives_within in
     inr (
-      unending_last over g.C.Clock.reads c.args.calling.called.items c.as_slice.result.now c.as_slice-2.result.now c.args.calling.desks.port c.args.calling.desks.clock
-          c.args.calling.desks.table c.args.sockets.now c.end_all.new.sockets c.as_slice.ensures.value (c.as_slice-2.ensures.value ∙ c.in-Ok.ensures)
+      unending_last over g.C.Clock.reads c.args.calling.called.items c.as_slice.result.now c.as_slice-2.result.now c.args.calling.desks c.args.sockets.now
+          c.end_all.new.sockets c.as_slice.ensures.value (c.as_slice-2.ensures.value ∙ c.in-Ok.ensures)
           (rw c.in-Err-Unfinished.field-0-is at c.in-Err-Unfinished.ensures.fault),
       refl,
     )

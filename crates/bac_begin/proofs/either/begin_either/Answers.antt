@@ -3,7 +3,7 @@ use Rattle.std.proofs.lemmas.Result.{IfOk-weaker}
 use Rattle.bac_link.specs.Ordinals.{number_after}
 use Rattle.bac_query.specs.Tables.{client}
 use Rattle.bac_keep.specs.Items.{era, era_after}
-use Rattle.bac_begin.specs.Hands.{StepsAt}
+use Rattle.bac_begin.specs.Hands.{StepsAt, log_asked}
 use Rattle.bac_begin.specs.Starts.{OpensBehind, gap_up_to, next_from}
 use Rattle.bac_begin.proofs.either.begin_either.Goals as goal
 
@@ -23,7 +23,7 @@ returns-clause-either g c =
       hand,
       c.in-Some.ensures.log,
       subst (λ (n : ℕ). era place ≡ era_after (era from) (gap_up_to n oldest) + 1) is c.in-Some.ensures.behind,
-      subst (λ (n : ℕ). StepsAt g.L.LogLink.asks place old c.args.log c.args.many n hand new) c.beginning_of-number.ensures.number c.in_ok-hand.ensures.steps,
+      subst (λ (n : ℕ). StepsAt g.L.LogLink.asks place old (log_asked c.args.log c.args.many) n hand new) c.beginning_of-number.ensures.number c.in_ok-hand.ensures.steps,
       subst (λ (n : ℕ). OpensBehind from (gap_up_to n oldest) hand n begun) is it,
     ))
     (c.open_behind.ensures.opened from (gap_up_to next oldest) c.in-Some.ensures.rows c.in-Some.ensures.gaps)

@@ -1,5 +1,5 @@
 use Rattle.std.proofs.Common.{subst}
-use Rattle.bac_walk.specs.Transacted.{BroughtBy}
+use Rattle.bac_walk.specs.Transacted.{BroughtBy, walk_by}
 use Rattle.bac_walk.specs.declared.outcome.Ended.{Ended}
 use Rattle.bac_keep.specs.Rising.{IsCause}
 use Rattle.bac_keep.specs.declared.sink.Refusal.{Refusal}
@@ -8,7 +8,7 @@ use Rattle.bac_begin.proofs.hands.take_step.Goals as goal
 pub returns-in-Fault-clause-steps : goal.returns-in-Fault-clause-steps
 returns-in-Fault-clause-steps g c =
     let it = c.in-Ok.ensures.transacted in
-    let B : Ended → Type 0 = λ e. BroughtBy g.L.LogLink.asks c.args.transactions.now c.args.link.now c.args.walk 1 it.0.2.0 it.0.0 e c.gather.new.walk c.gather.new.transactions c.gather.new.link in
+    let B : Ended → Type 0 = λ e. BroughtBy g.L.LogLink.asks (walk_by c.args.link.now c.args.transactions.now c.args.walk) 1 it.0.2.0 it.0.0 e (walk_by c.gather.new.link c.gather.new.transactions c.gather.new.walk) in
     (it.0.2.0, it.0.0, c.gather.new.walk, subst B c.in-Fault.is it.1)
 
 pub returns-in-Err-Back-clause-steps : goal.returns-in-Err-Back-clause-steps

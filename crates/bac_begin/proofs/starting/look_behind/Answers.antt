@@ -1,7 +1,8 @@
 use Rattle.std.proofs.Common.{◌≡◌, ◌∙◌, ℕ, List, ap, subst}
-use Rattle.bac_keep.specs.Looks.{KeptAs, LooksBy}
+use Rattle.bac_keep.specs.Looks.{KeptAs, LooksBy, sought}
 use Rattle.bac_begin.specs.Stands.{kept_last}
 use Rattle.bac_begin.proofs.starting.look_behind.Goals as goal
+use Rattle.bac_link.specs.Exchanges.{client}
 
 pub returns-in-Ok-clause-looks : goal.returns-in-Ok-clause-looks
 returns-in-Ok-clause-looks g c =
@@ -12,5 +13,5 @@ returns-in-Ok-clause-looks g c =
     let D : List ℕ → KeptAs = λ d. record { number = it.number; stamp = it.stamp; datum = d; flags = given.flags.now } in
     let F : List ℕ → KeptAs = λ f. record { number = it.number; stamp = it.stamp; datum = it.datum; flags = f } in
     let same : N given.number ≡ it = ap N c.last_kept.ensures.number ∙ (ap S c.last_kept.ensures.stamp ∙ (ap D c.last_kept.ensures.datum ∙ ap F c.last_kept.ensures.flags)) in
-    subst (λ (k : KeptAs). LooksBy g.L.LogLink.asks c.args.transactions.now c.args.link.now c.args.log c.args.many k c.in-Ok.found c.look_for.new.transactions c.look_for.new.link)
+    subst (λ (k : KeptAs). LooksBy g.L.LogLink.asks (client c.args.link.now c.args.transactions.now) (sought c.args.log c.args.many k) c.in-Ok.found (client c.look_for.new.link c.look_for.new.transactions))
     same c.in-Ok.ensures.transacted

@@ -2,9 +2,10 @@ use Rattle.std.proofs.Common.{Result, subst, sym}
 use Rattle.std.proofs.lemmas.Result.{IfOk-weaker}
 use Rattle.bac_asked.specs.declared.end.Ending.{Ending}
 use Rattle.bac_query.specs.Tables.{client}
-use Rattle.bac_begin.specs.Starts.{ByHand}
+use Rattle.bac_begin.specs.Starts.{ByHand, run_log, at_start, log_at}
 use Rattle.bac_begin.specs.declared.hands.Hand.{Hand}
 use Rattle.bac_begin.proofs.starting.start_behind.Goals as goal
+use Rattle.bac_begin.specs.Hands.{log_asked}
 
 pub returns-clause-starts : goal.returns-clause-starts
 returns-clause-starts g c =
@@ -12,6 +13,6 @@ returns-clause-starts g c =
     let mid = client c.look_behind.new.link c.look_behind.new.transactions in
     let new = client c.start_seen.new.link c.start_seen.new.transactions in
     IfOk-weaker c.start_seen.result _ _
-    (λ begun it. subst (λ (h : Result Hand Ending). ByHand g.L.LogLink.asks old c.args.id c.args.log c.args.many c.args.word c.args.stand.now c.args.from h begun new) (sym c.in-Ok.is)
+    (λ begun it. subst (λ (h : Result Hand Ending). ByHand g.L.LogLink.asks old (log_at (run_log c.args.id (log_asked c.args.log c.args.many)) c.args.stand.now c.args.from) c.args.word h (at_start begun new)) (sym c.in-Ok.is)
     (c.in_ok-found.found, mid, c.in_ok-found.ensures.looks, it))
     c.start_seen.ensures.starts

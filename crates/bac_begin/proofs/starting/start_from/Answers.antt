@@ -5,6 +5,7 @@ use Rattle.bac_begin.specs.Hands.{LooksAhead}
 use Rattle.bac_walk.specs.Place.{WalkPlace, asking, walk_at}
 use Rattle.bac_begin.specs.Starts.{next_from}
 use Rattle.bac_begin.proofs.starting.start_from.Goals as goal
+use Rattle.bac_keep.specs.Rising.{room}
 
 pub returns-clause-starts : goal.returns-clause-starts
 returns-clause-starts g c =
@@ -18,8 +19,8 @@ returns-clause-starts g c =
       mid,
       c.in-Some.ensures.found.0,
       c.in-Some.ensures.found.1,
-      subst (λ (n : ℕ). LooksAhead g.L.LogLink.asks c.in-Some.from n old (asking c.args.many (walk_at c.args.log (next_from c.args.stand.now))) c.args.steps hand mid) c.in-Some.ensures.found.2
-          (subst (λ (w : WalkPlace). LooksAhead g.L.LogLink.asks c.in-Some.from c.in-Some.free old w c.args.steps hand mid) c.walk_behind-walk.ensures c.in_ok-hand.ensures.looks),
+      subst (λ (n : ℕ). LooksAhead g.L.LogLink.asks (room c.in-Some.from n) old (asking c.args.many (walk_at c.args.log (next_from c.args.stand.now))) c.args.steps hand mid) c.in-Some.ensures.found.2
+          (subst (λ (w : WalkPlace). LooksAhead g.L.LogLink.asks (room c.in-Some.from c.in-Some.free) old w c.args.steps hand mid) c.walk_behind-walk.ensures c.in_ok-hand.ensures.looks),
       it,
     ))
     c.start_behind.ensures.starts

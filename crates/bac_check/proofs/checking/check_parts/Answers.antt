@@ -3,7 +3,7 @@ use Rattle.std.proofs.lemmas.List.{map-append}
 use Rattle.std.proofs.lemmas.Result.{IfErr-weaker, IfOk-weaker}
 use Rattle.std.specs.String.{string_bytes}
 use Rattle.bac_files.specs.Parts.{PartRules, part_rules}
-use Rattle.bac_check.specs.Checked.{ChecksAll, RefusesText}
+use Rattle.bac_check.specs.Checked.{ChecksAll, RefusesText, checking}
 use Rattle.bac_check.proofs.checking.check_parts.Goals as goal
 
 pub returns-in-Some-clause-checks : goal.returns-in-Some-clause-checks
@@ -17,8 +17,7 @@ returns-in-Some-clause-checks g c =
       map string_bytes before,
       string_bytes last,
       ap (map string_bytes) all ∙ map-append string_bytes before (last ∷ []),
-      subst (λ (path : List ℕ). ChecksAll over c.args.parts.now (map string_bytes before) path
-          (g.O.Write.contents c.args.output.now) (g.O.Write.contents c.check_all.new.output) status c.check_all.new.parts) c.as_str.ensures.value it,
+      subst (λ (path : List ℕ). ChecksAll over (checking c.args.parts.now (g.O.Write.contents c.args.output.now)) (map string_bytes before) path status (checking c.check_all.new.parts (g.O.Write.contents c.check_all.new.output))) c.as_str.ensures.value it,
     ))
     c.check_all.ensures.checks
 
@@ -37,8 +36,7 @@ returns-in-Some-clause-refused g c =
           map string_bytes before,
           string_bytes last,
           ap (map string_bytes) all ∙ map-append string_bytes before (last ∷ []),
-          subst (λ (path : List ℕ). RefusesText over c.args.parts.now (map string_bytes before) path
-              (g.O.Write.contents c.args.output.now) (g.O.Write.contents c.check_all.new.output) c.check_all.new.parts) c.as_str.ensures.value write.1,
+          subst (λ (path : List ℕ). RefusesText over (checking c.args.parts.now (g.O.Write.contents c.args.output.now)) (map string_bytes before) path (checking c.check_all.new.parts (g.O.Write.contents c.check_all.new.output))) c.as_str.ensures.value write.1,
         ),
       )
     ])

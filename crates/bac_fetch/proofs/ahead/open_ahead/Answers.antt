@@ -14,7 +14,7 @@ pub returns-clause-caused : goal.returns-clause-caused
 returns-clause-caused g c clean has =
     let over = socket_rules g.S.Sockets.opens g.S.Sockets.closes g.S.Socket.Port.sends g.S.Socket.Port.receives g.S.Socket.Port.receives_within in
     IfErr-weaker c.ask_ahead.result _ _
-    (λ fault it. ends_ahead over (paced g.C.Clock.reads c.args.clock c.args.window) (state g.A.Store c.args.conn.now).now.trees c.args.known.now c.args.heard.now c.args.all.now
+    (λ fault it. ends_ahead over (paced g.C.Clock.reads c.args.clock c.args.window) (state g.A.Store c.args.conn.now).now c.args.known.now c.args.heard.now c.args.all.now
     c.first-item.result c.in_ok-openings.openings.items c.args.sockets.now c.ask_ahead.new.sockets fault c.in-len1-up.len_at_least c.first-item.is
     (c.in_ok-openings.ensures.openings clean has) it)
     c.ask_ahead.ensures.fault
@@ -23,7 +23,7 @@ pub returns-clause-opens : goal.returns-clause-opens
 returns-clause-opens g c clean has =
     let over = socket_rules g.S.Sockets.opens g.S.Sockets.closes g.S.Socket.Port.sends g.S.Socket.Port.receives g.S.Socket.Port.receives_within in
     IfOk-weaker c.ask_ahead.result _ _
-    (λ came it. ahead_by over (paced g.C.Clock.reads c.args.clock c.args.window) (state g.A.Store c.args.conn.now).now.trees c.args.known.now c.args.heard.now c.args.all.now
+    (λ came it. ahead_by over (paced g.C.Clock.reads c.args.clock c.args.window) (state g.A.Store c.args.conn.now).now c.args.known.now c.args.heard.now c.args.all.now
     c.first-item.result c.in_ok-openings.openings.items came.items c.args.sockets.now c.ask_ahead.new.sockets c.in-len1-up.len_at_least c.first-item.is
     (c.in_ok-openings.ensures.openings clean has) it)
     c.ask_ahead.ensures.asked
@@ -48,7 +48,7 @@ returns-clause-fault g c =
 pub returns-in_default-clause-opens : goal.returns-in_default-clause-opens
 returns-in_default-clause-opens g c clean has =
     let over = socket_rules g.S.Sockets.opens g.S.Sockets.closes g.S.Socket.Port.sends g.S.Socket.Port.receives g.S.Socket.Port.receives_within in
-    no_logs over (paced g.C.Clock.reads c.args.clock c.args.window) (state g.A.Store c.args.conn.now).now.trees c.args.known.now c.args.heard.now c.args.all.now
+    no_logs over (paced g.C.Clock.reads c.args.clock c.args.window) (state g.A.Store c.args.conn.now).now c.args.known.now c.args.heard.now c.args.all.now
     c.new.result.items c.args.sockets.now c.args.sockets.now (omega arith) c.new.ensures.items refl
 
 pub returns-in_default-clause-quiet : goal.returns-in_default-clause-quiet
@@ -68,5 +68,5 @@ pub returns-in_err-openings-clause-caused : goal.returns-in_err-openings-clause-
 returns-in_err-openings-clause-caused g c clean has =
     let over = socket_rules g.S.Sockets.opens g.S.Sockets.closes g.S.Socket.Port.sends g.S.Socket.Port.receives g.S.Socket.Port.receives_within in
     because c.from_residual.result c.in_err-openings.field-0.0 _ (search rules)
-    (ends_on_rows over (paced g.C.Clock.reads c.args.clock c.args.window) (state g.A.Store c.args.conn.now).now.trees c.args.known.now c.args.heard.now c.args.all.now
+    (ends_on_rows over (paced g.C.Clock.reads c.args.clock c.args.window) (state g.A.Store c.args.conn.now).now c.args.known.now c.args.heard.now c.args.all.now
     c.args.sockets.now c.args.sockets.now c.in_err-openings.field-0.0 c.in-len1-up.len_at_least (c.in_err-openings.ensures.caused clean has))

@@ -17,7 +17,7 @@ returns-in_err-call_on-clause-caused g c clean has =
     let over = socket_rules g.S.Sockets.opens g.S.Sockets.closes g.S.Socket.Port.sends g.S.Socket.Port.receives g.S.Socket.Port.receives_within in
     let by = at_once g.S.Recalls.holds g.C.Clock.reads c.args.clock c.args.window in
     because c.from_residual-in_err-call_on.result c.in_err-call_on.field-0.0 _ (search rules)
-    (call_on_ends over by (state g.A.Store c.args.conn.now).now.trees c.args.known.now c.args.all.now c.args.heard.now.items c.begin_calls.new.heard.items c.in-Some.calling
+    (call_on_ends over by (state g.A.Store c.args.conn.now).now c.args.known.now c.args.all.now c.args.heard.now.items c.begin_calls.new.heard.items c.in-Some.calling
     c.args.sockets.now c.begin_calls.new.sockets c.call_on.new.sockets c.in_err-call_on.field-0.0
     (search rules) (c.in_err-call_on.ensures.caused clean has))
 

@@ -11,6 +11,7 @@ use Rattle.bac_ports.specs.Sockets.{socket_rules}
 use Rattle.bac_questions.specs.declared.whose.Heard.{Heard}
 use Rattle.bac_fetch.specs.Ahead.{EndsOpening, OpensAhead, at_once}
 use Rattle.bac_fetch.specs.Called.{told_early}
+use Rattle.bac_fetch.specs.Points.{knowing, run_point}
 use Rattle.bac_archive.proofs.PartsLemmas.{on_ok_then}
 use Rattle.bac_fetch.proofs.called.call_on.Goals as goal
 
@@ -51,9 +52,9 @@ returns-clause-calls g c clean has =
     let told : c.told_early-told.result.now ≡ told_early all heard = c.told_early-told.ensures ∙ ap (told_early all) c.as_slice.ensures.value in
     let rest : c.behind-rest.result.now ≡ drop (length (told_early all heard)) found =
     c.behind-rest.ensures ∙ ap₂ drop (ap (length {A = Heard}) told) c.as_slice-2.ensures.value in
-    let opens = subst (λ (l : List Heard). OpensAhead over by.pace old.now.trees known l all c.args.sockets.now c.in_ok-early.early.items half) told (c.in_ok-early.ensures.opens early has) in
-    let late = subst (λ (d : Database). OpensAhead over by.pace d.trees known (drop (length (told_early all heard)) found) all between c.in_ok-late.late.items last) same
-    (subst (λ (l : List Heard). OpensAhead over by.pace mid.now.trees known l all between c.in_ok-late.late.items last) rest (c.in_ok-late.ensures.opens clean schema)) in
+    let opens = subst (λ (l : List Heard). OpensAhead over by.pace (knowing known l) all (run_point c.args.sockets.now old.now) c.in_ok-early.early.items half) told (c.in_ok-early.ensures.opens early has) in
+    let late = subst (λ (d : Database). OpensAhead over by.pace (knowing known (drop (length (told_early all heard)) found)) all (run_point between d) c.in_ok-late.late.items last) same
+    (subst (λ (l : List Heard). OpensAhead over by.pace (knowing known l) all (run_point between mid.now) c.in_ok-late.late.items last) rest (c.in_ok-late.ensures.opens clean schema)) in
     on_ok_then c.hold_both.result _ _
     (λ holds. record {
       early = c.in_ok-early.early.items;
@@ -87,10 +88,10 @@ returns-in_err-late-clause-caused g c clean has =
     let told : c.told_early-told.result.now ≡ told_early all heard = c.told_early-told.ensures ∙ ap (told_early all) c.as_slice.ensures.value in
     let rest : c.behind-rest.result.now ≡ drop (length (told_early all heard)) found =
     c.behind-rest.ensures ∙ ap₂ drop (ap (length {A = Heard}) told) c.as_slice-2.ensures.value in
-    let opens = subst (λ (l : List Heard). OpensAhead over by.pace old.now.trees known l all c.args.sockets.now c.in_ok-early.early.items half) told (c.in_ok-early.ensures.opens early has) in
+    let opens = subst (λ (l : List Heard). OpensAhead over by.pace (knowing known l) all (run_point c.args.sockets.now old.now) c.in_ok-early.early.items half) told (c.in_ok-early.ensures.opens early has) in
     let fault = c.in_err-late.field-0.0 in
-    let late = subst (λ (d : Database). EndsOpening over by.pace d.trees known (drop (length (told_early all heard)) found) all between last fault) same
-    (subst (λ (l : List Heard). EndsOpening over by.pace mid.now.trees known l all between last fault) rest (c.in_err-late.ensures.caused clean schema)) in
+    let late = subst (λ (d : Database). EndsOpening over by.pace (knowing known (drop (length (told_early all heard)) found)) all (run_point between d) last fault) same
+    (subst (λ (l : List Heard). EndsOpening over by.pace (knowing known l) all (run_point between mid.now) last fault) rest (c.in_err-late.ensures.caused clean schema)) in
     because c.from_residual-in_err-late.result fault _ (search rules)
     (inr (inr (c.in_ok-early.early.items, half, opens, found, between, c.in_ok-end_calls.ensures.ended, late)))
 

@@ -4,7 +4,8 @@ use Rattle.sqlite.specs.Effect.{Database}
 use Rattle.sqlite.specs.State.{HasCleanDisk}
 use Rattle.sqlite.specs.Held.{state}
 use Rattle.bac_query.specs.Tables.{client}
-use Rattle.bac_begin.specs.Starts.{IsBegun}
+use Rattle.bac_begin.specs.Starts.{IsBegun, run_log, at_start}
+use Rattle.bac_begin.specs.Hands.{log_asked}
 use Rattle.bac_fetch.proofs.KeepsLemmas.{keeps_begun}
 use Rattle.bac_fetch.proofs.StaysLemmas.{quiet_first, quiet_rows, quiet_stays, quiet_word}
 use Rattle.bac_archive.specs.Schema.{HasArchive}
@@ -19,7 +20,7 @@ returns-in-Ok-clause-kept g c clean has =
     let early : HasCleanDisk mid = c.keep_entered.ensures.clean clean in
     let same = c.in_ok-start.ensures.same early has in
     let schema : HasArchive mid.now.schema = subst (λ (d : Database). HasArchive d.schema) (sym same) has in
-    let begun : IsBegun g.L.LogLink.asks (client c.args.link.now c.args.transactions.now) (client c.where_to_start.new.link c.where_to_start.new.transactions) entry.row.id c.args.log c.args.many entry.word c.args.steps old.now.trees (Ok c.in-Ok.start) = rw c.in-Ok.is at c.in_ok-start.ensures.begun early has in
+    let begun : IsBegun g.L.LogLink.asks (client c.args.link.now c.args.transactions.now) (run_log entry.row.id (log_asked c.args.log c.args.many)) entry.word c.args.steps old.now.trees (at_start (Ok c.in-Ok.start) (client c.where_to_start.new.link c.where_to_start.new.transactions)) = rw c.in-Ok.is at c.in_ok-start.ensures.begun early has in
     IfOk-weaker c.keep_entered.result _ _
     (λ end it. keeps_begun g.L.LogLink.asks (client c.args.link.now c.args.transactions.now) (client c.where_to_start.new.link c.where_to_start.new.transactions)
     (client c.keep_entered.new.link c.keep_entered.new.transactions) c.args.steps entry c.args.log c.args.many old.now mid.now new.now c.in-Ok.start end begun same it)
@@ -30,7 +31,7 @@ returns-in-Err-clause-kept g c clean has =
     let entry = c.args.entry.now in
     let old = state g.A.Store c.args.conn.now in
     let same = c.in_ok-start.ensures.same clean has in
-    let begun : IsBegun g.L.LogLink.asks (client c.args.link.now c.args.transactions.now) (client c.where_to_start.new.link c.where_to_start.new.transactions) entry.row.id c.args.log c.args.many entry.word c.args.steps old.now.trees (Err c.in-Err.end) = rw c.in-Err.is at c.in_ok-start.ensures.begun clean has in
+    let begun : IsBegun g.L.LogLink.asks (client c.args.link.now c.args.transactions.now) (run_log entry.row.id (log_asked c.args.log c.args.many)) entry.word c.args.steps old.now.trees (at_start (Err c.in-Err.end) (client c.where_to_start.new.link c.where_to_start.new.transactions)) = rw c.in-Err.is at c.in_ok-start.ensures.begun clean has in
     (Err c.in-Err.end, client c.where_to_start.new.link c.where_to_start.new.transactions, begun, (same, refl, refl))
 
 pub returns-in-Ok-clause-word : goal.returns-in-Ok-clause-word
@@ -42,7 +43,7 @@ returns-in-Ok-clause-word g c clean has =
     let early : HasCleanDisk mid = c.keep_entered.ensures.clean clean in
     let same = c.in_ok-start.ensures.same early has in
     let schema : HasArchive mid.now.schema = subst (λ (d : Database). HasArchive d.schema) (sym same) has in
-    let begun : IsBegun g.L.LogLink.asks (client c.args.link.now c.args.transactions.now) (client c.where_to_start.new.link c.where_to_start.new.transactions) entry.row.id c.args.log c.args.many entry.word c.args.steps old.now.trees (Ok c.in-Ok.start) = rw c.in-Ok.is at c.in_ok-start.ensures.begun early has in
+    let begun : IsBegun g.L.LogLink.asks (client c.args.link.now c.args.transactions.now) (run_log entry.row.id (log_asked c.args.log c.args.many)) entry.word c.args.steps old.now.trees (at_start (Ok c.in-Ok.start) (client c.where_to_start.new.link c.where_to_start.new.transactions)) = rw c.in-Ok.is at c.in_ok-start.ensures.begun early has in
     quiet_word old mid new _ _ same (c.where_to_start.ensures.crash has)
     (λ db it. (
       it.0,

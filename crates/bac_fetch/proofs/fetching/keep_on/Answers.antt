@@ -8,7 +8,7 @@ use Rattle.bac_archive.proofs.RowsLemmas.{because}
 use Rattle.bac_query.specs.Tables.{client}
 use Rattle.bac_keep.specs.Rising.{free_after}
 use Rattle.bac_keep.specs.declared.keep.NotKept.TheVariants.{NoArchive}
-use Rattle.bac_fetch.specs.Fetched.{ComesFrom, IsEndingOf, IsLeftBy, IsRunTo}
+use Rattle.bac_fetch.specs.Fetched.{ComesFrom, IsEndingOf, IsLeftBy, IsRunTo, footing}
 use Rattle.bac_fetch.specs.Keeps.{KeepsFrom}
 use Rattle.bac_fetch.specs.Stays.{HasSameLogs}
 use Rattle.bac_fetch.proofs.CausesLemmas.{never}
@@ -16,6 +16,7 @@ use Rattle.bac_fetch.proofs.EndsLemmas.{both, comes_from, comes_unkept, either_w
 use Rattle.bac_fetch.proofs.GroupLemmas.{commit_leaves}
 use Rattle.bac_fetch.proofs.SameLemmas.{adds_same, same_itself, same_quiet_last, same_stays_then, survives_as}
 use Rattle.bac_fetch.proofs.fetching.keep_on.Goals as goal
+use Rattle.bac_fetch.specs.Points.{log_point}
 
 pub returns-clause-kept : goal.returns-clause-kept
 returns-clause-kept g c clean has =
@@ -59,8 +60,8 @@ returns-clause-came g c clean has =
     let schema : HasArchive first.now.schema = subst (λ (d : Database). HasArchive d.schema) (sym still) has in
     let cause = c.keep_log-run.ensures.cause early schema in
     IfOk-weaker c.end_of.result _ _ (λ end told.
-    subst (λ (d : Database). ComesFrom asks before left place free walk step c.args.steps d new.now end) still
-    (subst (λ (d : Database). ComesFrom asks before left place free walk step c.args.steps first.now d end) (sym same)
+    subst (λ (d : Database). ComesFrom asks (log_point before d) (log_point left new.now) (footing place free walk step) c.args.steps end) still
+    (subst (λ (d : Database). ComesFrom asks (log_point before first.now) (log_point left d) (footing place free walk step) c.args.steps end) (sym same)
     (either_way run.end _ _ _ _ (c.keep_log-run.ensures.transacted early schema) (c.in_ok-look_at.ensures.open clean) (λ shown. both run.end _ _ shown cause)
     (λ why is it.
     let walked = subst (λ r. IsEndingOf r end.why) is told.0 in
@@ -68,7 +69,7 @@ returns-clause-came g c clean has =
     (subst (λ w. IsRunTo w c.args.steps it.0 it.1) (sym walked) it.3)
     (subst (λ w. IsLeftBy asks w run.place (free_after free it.5.over.items) it.2 left left) (sym walked) refl) told.1 told.2 (it.4 ∙ sym told.3))
     (λ error is it.
-    comes_unkept asks before left place run.place free g.A.Store c.commit.new.conn c.keep_log-run.new.conn walk step c.args.steps run.next run.records run.gaps error end it.1 it.0
+    comes_unkept asks before left place run free g.A.Store c.commit.new.conn c.keep_log-run.new.conn walk step c.args.steps error end it.1 it.0
     (subst (λ r. IsEndingOf r end.why) is told.0) told.1 told.2 told.3))))
     c.end_of.ensures.end
 

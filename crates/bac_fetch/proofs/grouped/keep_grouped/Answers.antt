@@ -9,6 +9,7 @@ use Rattle.bac_fetch.specs.Keeps.{KeepsNext}
 use Rattle.bac_fetch.proofs.GroupLemmas.{commit_stays, line_waits, unopened_leaves, unopened_stays}
 use Rattle.bac_fetch.proofs.StaysLemmas.{next_stays}
 use Rattle.bac_fetch.proofs.grouped.keep_grouped.Goals as goal
+use Rattle.bac_fetch.specs.Points.{knowing, run_point}
 
 pub returns-clause-told : goal.returns-clause-told
 returns-clause-told g c =
@@ -21,7 +22,7 @@ returns-clause-told g c =
       line_waits (g.O.Write.contents c.args.output.now) (g.O.Write.contents c.end_if_due.new.output) c.args.lines.now.items c.keep_next.new.output.items c.end_if_due.new.lines.items
           (summary_line wanted.source it.0) it.2 c.in_ok-end_if_due.ensures.waits,
       λ clean has.
-          subst (λ (d : Database). KeepsNext over c.args.known.now c.args.heard.now.items c.keep_next.new.heard.items wanted c.args.sockets.now c.keep_next.new.sockets old.now d it.0)
+          subst (λ (d : Database). KeepsNext over (knowing c.args.known.now c.args.heard.now.items) c.keep_next.new.heard.items wanted (run_point c.args.sockets.now old.now) (run_point c.keep_next.new.sockets d) it.0)
           (sym (c.in_ok-end_if_due.ensures.same clean)) (it.3 (c.end_if_due.ensures.clean clean) has),
     )
 

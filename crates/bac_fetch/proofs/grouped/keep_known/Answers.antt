@@ -24,6 +24,7 @@ use Rattle.bac_fetch.proofs.TakenLemmas.{has_taken}
 use Rattle.bac_archive.specs.Schema.{HasArchive}
 use Rattle.bac_archive.proofs.RowsLemmas.{because}
 use Rattle.bac_fetch.proofs.grouped.keep_known.Goals as goal
+use Rattle.bac_fetch.specs.Points.{knowing, run_point}
 
 pub loop-wanted-preserved : goal.loop-wanted-preserved
 loop-wanted-preserved g c =
@@ -90,14 +91,14 @@ returns-clause-told g c =
     let told = c.loop-wanted.invariant.told in
     subst (λ l. AreToldBy out (g.O.Write.contents c.end_group.new.output) l
     (λ ends. HasCleanDisk new → HasArchive old.now.schema →
-    (last : List Heard) × KeepsAll over c.args.known.now c.args.heard.items last l c.args.sockets.now c.loop-wanted.sockets old.now new.now ends) c.loop-wanted.greatest) all (
+    (last : List Heard) × KeepsAll over (knowing c.args.known.now c.args.heard.items) last l (run_point c.args.sockets.now old.now) (run_point c.loop-wanted.sockets new.now) ends) c.loop-wanted.greatest) all (
       told.0,
       told.1,
       told.2,
       printed_behind out (g.O.Write.contents c.loop-wanted.output) (g.O.Write.contents c.end_group.new.output) c.loop-wanted.lines.items (lines_of yielded told.0) told.3 c.in_ok-end_group.ensures.printed.0,
       λ clean has. (
         c.loop-wanted.heard.items,
-        subst (λ (d : Database). KeepsAll over c.args.known.now c.args.heard.items c.loop-wanted.heard.items yielded c.args.sockets.now c.loop-wanted.sockets old.now d told.0)
+        subst (λ (d : Database). KeepsAll over (knowing c.args.known.now c.args.heard.items) c.loop-wanted.heard.items yielded (run_point c.args.sockets.now old.now) (run_point c.loop-wanted.sockets d) told.0)
             (sym (c.in_ok-end_group.ensures.same clean)) (told.4 (c.end_group.ensures.clean clean) has),
       ),
     )
@@ -136,7 +137,7 @@ returns-then-is_empty-clause-told g c =
     let zero : length c.args.all.items ≡ 0 = first_of (omega arith, grind (arith, nat_tests)) in
     let none : c.args.all.items ≡ [] = nil_from_length _ zero in
     subst (λ (l : List Wanted). AreToldBy out out l (λ ends. HasCleanDisk old → HasArchive old.now.schema →
-    (last : List Heard) × KeepsAll over c.args.known.now c.args.heard.items last l c.args.sockets.now c.args.sockets.now old.now old.now ends) 0) (sym none)
+    (last : List Heard) × KeepsAll over (knowing c.args.known.now c.args.heard.items) last l (run_point c.args.sockets.now old.now) (run_point c.args.sockets.now old.now) ends) 0) (sym none)
     ([], refl, refl, Appends-nil out, λ clean has. (c.args.heard.items, (refl, refl, refl)))
 
 pub returns-then-is_empty-clause-stays : goal.returns-then-is_empty-clause-stays

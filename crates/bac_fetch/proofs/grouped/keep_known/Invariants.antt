@@ -7,6 +7,7 @@ use Rattle.bac_fetch.specs.Keeps.{AreToldBy, KeepsAll}
 use Rattle.bac_fetch.specs.Stays.{HasAllOf}
 use Rattle.bac_archive.specs.Schema.{HasArchive}
 use Rattle.bac_fetch.proofs.grouped.keep_known.Given as goal
+use Rattle.bac_fetch.specs.Points.{knowing, run_point}
 
 -- so far the logs that were taken are kept or passed over, their lines are printed or wait, and nothing is taken away;
 -- before the first one nothing is done
@@ -14,7 +15,7 @@ abbrev pub invariant-loop-wanted : goal.invariant-loop-wanted
 invariant-loop-wanted g l = record {
   told : AreToldBy (g.O.Write.contents l.fn.output) (append_known (g.O.Write.contents l.output) l.lines.items) l.yielded
       (λ ends. HasCleanDisk (state g.A.Store l.conn) → HasArchive (state g.A.Store l.fn.conn).now.schema →
-      KeepsAll (socket_rules g.S.Sockets.opens g.S.Sockets.closes g.S.Socket.Port.sends g.S.Socket.Port.receives g.S.Socket.Port.receives_within) l.known l.fn.heard.items l.heard.items l.yielded l.fn.sockets l.sockets (state g.A.Store l.fn.conn).now (state g.A.Store l.conn).now ends) l.greatest;
+      KeepsAll (socket_rules g.S.Sockets.opens g.S.Sockets.closes g.S.Socket.Port.sends g.S.Socket.Port.receives g.S.Socket.Port.receives_within) (knowing l.known l.fn.heard.items) l.heard.items l.yielded (run_point l.fn.sockets (state g.A.Store l.fn.conn).now) (run_point l.sockets (state g.A.Store l.conn).now) ends) l.greatest;
   clean : HasCleanDisk (state g.A.Store l.conn) → HasCleanDisk (state g.A.Store l.fn.conn);
   stays : HasCleanDisk (state g.A.Store l.conn) → HasArchive (state g.A.Store l.fn.conn).now.schema →
       HasAllOf (state g.A.Store l.fn.conn).now.trees (state g.A.Store l.conn).now.trees

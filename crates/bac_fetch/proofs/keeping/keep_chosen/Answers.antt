@@ -3,7 +3,7 @@ use Rattle.std.proofs.KnownBytes.{Appends-trans}
 use Rattle.sqlite.specs.Effect.{Database}
 use Rattle.sqlite.specs.State.{HasCleanDisk}
 use Rattle.sqlite.specs.Held.{state}
-use Rattle.bac_fetch.specs.Ahead.{at_once}
+use Rattle.bac_fetch.specs.Ahead.{at_once, reach}
 use Rattle.bac_ports.specs.Sockets.{socket_rules}
 use Rattle.bac_fetch.specs.Causes.{EndsLogs}
 use Rattle.bac_fetch.specs.Keeps.{KeepsLogs, lines_of}
@@ -17,6 +17,7 @@ use Rattle.bac_fetch.proofs.FaultsLemmas.{run_of}
 use Rattle.bac_fetch.proofs.LeftLemmas.{left_as_was, left_then}
 use Rattle.bac_fetch.proofs.StaysLemmas.{quiet_first, quiet_stays}
 use Rattle.bac_fetch.proofs.keeping.keep_chosen.Goals as goal
+use Rattle.bac_fetch.specs.Points.{run_point}
 
 pub returns-clause-told : goal.returns-clause-told
 returns-clause-told g c =
@@ -40,7 +41,7 @@ returns-clause-told g c =
         λ clean has.
             let early : HasCleanDisk mid = c.keep_each.ensures.clean clean in
             let same = c.in_ok-found.ensures.same early has in
-            subst (λ (d : Database). KeepsLogs over (at_once g.S.Recalls.holds g.C.Clock.reads c.args.clock c.args.window) (given_in c.args.options.now) all c.chosen_logs.new.sockets c.keep_each.new.sockets d new.now told.0) same (told.4 clean (subst (λ (d : Database). HasArchive d.schema) (sym same) has)),
+            subst (λ (d : Database). KeepsLogs (reach over (at_once g.S.Recalls.holds g.C.Clock.reads c.args.clock c.args.window)) (given_in c.args.options.now) all (run_point c.chosen_logs.new.sockets d) (run_point c.keep_each.new.sockets new.now) told.0) same (told.4 clean (subst (λ (d : Database). HasArchive d.schema) (sym same) has)),
       ),
     )
 
@@ -74,7 +75,7 @@ returns-in_err-kept-clause-fault g c =
     let none = OverArchive old new (HasNone old.now.trees) in
     let early_lacks = OverArchive mid new (LacksAddress given mid.now.trees) in
     let lacks = OverArchive old new (LacksAddress given old.now.trees) in
-    because c.from_residual-in_err-kept.result fault (EndsKeeping over (at_once g.S.Recalls.holds g.C.Clock.reads c.args.clock c.args.window) c.args.chosen none lacks c.args.sockets.now c.keep_each.new.sockets) (search rules)
+    because c.from_residual-in_err-kept.result fault (EndsKeeping (reach over (at_once g.S.Recalls.holds g.C.Clock.reads c.args.clock c.args.window)) c.args.chosen none lacks c.args.sockets.now c.keep_each.new.sockets) (search rules)
     (run_of over (at_once g.S.Recalls.holds g.C.Clock.reads c.args.clock c.args.window) c.args.chosen none early_lacks lacks c.args.sockets.now c.chosen_logs.new.sockets c.keep_each.new.sockets c.in_ok-found.found.all.items found.0 fault found.1
     (λ wrong clean has.
     let early : HasCleanDisk mid = c.keep_each.ensures.clean clean in
@@ -101,7 +102,7 @@ returns-in_err-kept-clause-caused g c clean has =
         found.0,
         c.chosen_logs.new.sockets,
         found.1,
-        subst (λ (d : Database). EndsLogs over (at_once g.S.Recalls.holds g.C.Clock.reads c.args.clock c.args.window) (given_in c.args.options.now) all c.chosen_logs.new.sockets c.keep_each.new.sockets d it.0 fault) same it.2,
+        subst (λ (d : Database). EndsLogs (reach over (at_once g.S.Recalls.holds g.C.Clock.reads c.args.clock c.args.window)) (given_in c.args.options.now) all (run_point c.chosen_logs.new.sockets d) c.keep_each.new.sockets it.0 fault) same it.2,
       ),
     )
 

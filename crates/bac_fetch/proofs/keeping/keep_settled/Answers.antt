@@ -9,8 +9,9 @@ use Rattle.bac_archive.specs.declared.trend_logs.Log.{Log}
 use Rattle.bac_archive.proofs.RowsLemmas.{because}
 use Rattle.bac_begin.proofs.Quiet.{quiet_then}
 use Rattle.bac_ports.specs.Sockets.{socket_rules}
-use Rattle.bac_fetch.specs.Ahead.{at_once}
-use Rattle.bac_fetch.specs.Called.{CallsAhead, EndsCallsAhead}
+use Rattle.bac_fetch.specs.Ahead.{at_once, reach}
+use Rattle.bac_fetch.specs.Called.{CallsAhead, EndsCallsAhead, after_call}
+use Rattle.bac_fetch.specs.Points.{knowing, run_point}
 use Rattle.bac_fetch.specs.Causes.{EndsAll}
 use Rattle.bac_fetch.specs.Faults.{HasNoInstance}
 use Rattle.bac_fetch.specs.Keeps.{KeepsAll}
@@ -51,10 +52,10 @@ returns-clause-told g c =
           let still : late.now ≡ mid.now = c.in_ok-called.ensures.same shown schema in
           let late_schema : HasArchive late.now.schema = subst (λ (d : Database). HasArchive d.schema) (sym still) schema in
           let are : AreLogs old.now.trees known = subst (λ (l : List Log). AreLogs old.now.trees l) (sym c.as_slice-logs.ensures.value) (c.in_ok-known.ensures.logs early has) in
-          let calls = subst (λ (d : Database). CallsAhead over by d.trees known all heard before found called held) same
-          (calls_as over by mid.now.trees known _ all heard found called before held c.as_slice.ensures.value (c.in_ok-called.ensures.calls shown schema)) in
+          let calls = subst (λ (d : Database). CallsAhead (reach over by) (knowing known heard) all (run_point before d) (after_call found called held)) same
+          (calls_as over by mid.now known _ all heard found called before held c.as_slice.ensures.value (c.in_ok-called.ensures.calls shown schema)) in
           let it = told.4 clean late_schema in
-          (known, are, (found, called, held, calls, it.0, subst (λ (d : Database). KeepsAll over known found it.0 all held after d new.now told.0) (still ∙ same) it.1)),
+          (known, are, (found, called, held, calls, it.0, subst (λ (d : Database). KeepsAll over (knowing known found) it.0 all (run_point held d) (run_point after new.now) told.0) (still ∙ same) it.1)),
     ))
     c.keep_known.ensures.told
 
@@ -107,15 +108,15 @@ returns-clause-caused g c clean has =
     let still : late.now ≡ mid.now = c.in_ok-called.ensures.same shown schema in
     let late_schema : HasArchive late.now.schema = subst (λ (d : Database). HasArchive d.schema) (sym still) schema in
     let are : AreLogs old.now.trees known = subst (λ (l : List Log). AreLogs old.now.trees l) (sym c.as_slice-logs.ensures.value) (c.in_ok-known.ensures.logs early has) in
-    let calls = subst (λ (d : Database). CallsAhead over by d.trees known all heard before found called held) same
-    (calls_as over by mid.now.trees known _ all heard found called before held c.as_slice.ensures.value (c.in_ok-called.ensures.calls shown schema)) in
+    let calls = subst (λ (d : Database). CallsAhead (reach over by) (knowing known heard) all (run_point before d) (after_call found called held)) same
+    (calls_as over by mid.now known _ all heard found called before held c.as_slice.ensures.value (c.in_ok-called.ensures.calls shown schema)) in
     IfErr-weaker c.keep_known.result _ _
     (λ fault it. (
       it.0,
       (λ was opened.
           it.1 (seen_behind old mid late (c.in_ok-known.ensures.kept early has tt) (still ∙ same) shown (c.call_ahead.ensures.quiet shown schema)
           (λ db may. g.met.A.Store.settled c.logs_of.new.conn.store db (c.in_ok-known.ensures.open early has) may) was) opened),
-      inr (known, are, inr (found, called, held, calls, subst (λ (d : Database). EndsAll over known found all held after d it.0 fault) (still ∙ same) it.2)),
+      inr (known, are, inr (found, called, held, calls, subst (λ (d : Database). EndsAll over (knowing known found) all (run_point held d) after it.0 fault) (still ∙ same) it.2)),
     ))
     (c.keep_known.ensures.caused clean late_schema)
 
@@ -144,8 +145,8 @@ returns-in_err-called-clause-caused g c clean has =
     let same : mid.now ≡ old.now = c.in_ok-known.ensures.same early has in
     let schema : HasArchive mid.now.schema = subst (λ (d : Database). HasArchive d.schema) (sym same) has in
     let are : AreLogs old.now.trees known = subst (λ (l : List Log). AreLogs old.now.trees l) (sym c.as_slice-logs.ensures.value) (c.in_ok-known.ensures.logs early has) in
-    let ends = subst (λ (d : Database). EndsCallsAhead over by d.trees known all heard before held fault) same
-    (call_ends_as over by mid.now.trees known _ all heard before held fault c.as_slice.ensures.value (c.in_err-called.ensures.caused clean schema)) in
+    let ends = subst (λ (d : Database). EndsCallsAhead (reach over by) (knowing known heard) all (run_point before d) held fault) same
+    (call_ends_as over by mid.now known _ all heard before held fault c.as_slice.ensures.value (c.in_err-called.ensures.caused clean schema)) in
     let left = left_quiet old mid (state g.A.Store c.call_ahead.new.conn) (c.in_ok-known.ensures.kept early has tt) clean (c.call_ahead.ensures.quiet clean schema)
     (λ db may. g.met.A.Store.settled c.logs_of.new.conn.store db (c.in_ok-known.ensures.open early has) may)
     (λ opened. g.met.A.Store.stays c.call_ahead.new.conn.store opened) in

@@ -18,6 +18,7 @@ use Rattle.bac_fetch.proofs.FaultsLemmas.{all_end_so}
 use Rattle.bac_archive.specs.Schema.{HasArchive}
 use Rattle.bac_archive.proofs.RowsLemmas.{because}
 use Rattle.bac_fetch.proofs.keeping.settle_known.Goals as goal
+use Rattle.bac_fetch.specs.Points.{run_point}
 
 pub returns-clause-settled : goal.returns-clause-settled
 returns-clause-settled g c clean has =
@@ -31,7 +32,7 @@ returns-clause-settled g c clean has =
     let are : AreLogs old.now.trees known = subst (λ (l : List Log). AreLogs old.now.trees l) (sym c.as_slice.ensures.value) (c.in_ok-known.ensures.logs early has) in
     let schema : HasArchive mid.now.schema = subst (λ (d : Database). HasArchive d.schema) (sym same) has in
     IfOk-weaker c.settle.result _ _
-    (λ heard it. (known, are, subst (λ (d : Database). Settles over (given_in c.args.options.now) known c.args.all.now c.args.sockets.now heard.items c.settle.new.sockets d new.now) same it))
+    (λ heard it. (known, are, subst (λ (d : Database). Settles over (given_in c.args.options.now) known c.args.all.now (run_point c.args.sockets.now d) heard.items (run_point c.settle.new.sockets new.now)) same it))
     (c.settle.ensures.settled clean schema)
 
 pub returns-clause-stays : goal.returns-clause-stays
@@ -81,11 +82,11 @@ returns-clause-caused g c clean has =
         known,
         are,
         it.0,
-        subst (λ (d : Database). LeavesUnsettled (λ db. (heard : List Heard) × Settles over given known all before heard after d db) d.trees it.1.0 fault) same it.1.2,
+        subst (λ (d : Database). LeavesUnsettled (λ db. (heard : List Heard) × Settles over given known all (run_point before d) heard (run_point after db)) d.trees it.1.0 fault) same it.1.2,
       ),
     ))
     (both_err c.settle.result (EndsSettling over given known all before after)
-    (λ fault. Leaves mid new (λ left. LeavesUnsettled (λ db. (heard : List Heard) × Settles over given known all before heard after mid.now db) mid.now.trees left fault))
+    (λ fault. Leaves mid new (λ left. LeavesUnsettled (λ db. (heard : List Heard) × Settles over given known all (run_point before mid.now) heard (run_point after db)) mid.now.trees left fault))
     c.settle.ensures.caused (c.settle.ensures.left clean schema))
 
 pub returns-in_err-known-clause-fault : goal.returns-in_err-known-clause-fault

@@ -3,7 +3,7 @@ use denote.Ref.{Bor}
 use Rattle.bac_asked.specs.declared.wanted.Wanted.{Wanted}
 use Rattle.bac_hearing.specs.Hearing.{paced}
 use Rattle.bac_fetch.specs.Listed.{devices_of}
-use Rattle.bac_listing.specs.Devices.{EndsLists, ListsAhead}
+use Rattle.bac_listing.specs.Devices.{EndsLists, ListsAhead, listed}
 use Rattle.bac_ports.specs.Sockets.{socket_rules}
 use Rattle.bac_fetch.proofs.listed.hold_lists.Goals as goal
 use Rattle.bac_archive.proofs.RowsLemmas.{because}
@@ -18,7 +18,7 @@ returns-clause-holds g c =
     let mid = c.list_ahead.new.sockets in (
       came,
       mid,
-      subst (λ (l : List Wanted). ListsAhead over (paced g.C.Clock.reads c.args.clock c.args.window) l c.args.sockets.now came silent mid) are c.in_ok-lists.ensures.lists,
+      subst (λ (l : List Wanted). ListsAhead over (paced g.C.Clock.reads c.args.clock c.args.window) l c.args.sockets.now (listed came silent) mid) are c.in_ok-lists.ensures.lists,
       c.hold.ensures,
     )
 

@@ -10,6 +10,7 @@ use Rattle.sqlite.specs.Held.{state}
 use Rattle.bac_ports.specs.Sockets.{socket_rules}
 use Rattle.bac_fetch.proofs.MovesLemmas.{settles_of_first}
 use Rattle.bac_fetch.proofs.moving.settle.Goals as goal
+use Rattle.bac_fetch.specs.Points.{run_point}
 
 pub returns-in-len1-up-clause-settled : goal.returns-in-len1-up-clause-settled
 returns-in-len1-up-clause-settled g c clean has =
@@ -41,7 +42,7 @@ returns-in-len1-up-clause-left g c clean has =
     let old = state g.A.Store c.args.conn.now in
     let new = state g.A.Store c.settle_unless.new.conn in
     IfErr-weaker c.settle_unless.result _ _
-    (λ fault it. unsettled_so (λ (db : Database). (heard : List Heard) × SettlesUnless over given known first before heard after old.now db)
-    (λ (db : Database). (heard : List Heard) × Settles over given known all before heard after old.now db) old new fault
+    (λ fault it. unsettled_so (λ (db : Database). (heard : List Heard) × SettlesUnless over given known first (run_point before old.now) heard (run_point after db))
+    (λ (db : Database). (heard : List Heard) × Settles over given known all (run_point before old.now) heard (run_point after db)) old new fault
     (λ db one. (one.0, settles_of_first over given known all first before one.0 after old.now db c.in-len1-up.len_at_least c.first-item.is one.1)) it)
     (c.settle_unless.ensures.left clean has)

@@ -1,11 +1,13 @@
 use Rattle.std.proofs.Common.{Some, subst, sym}
 use Rattle.std.proofs.lemmas.Result.{IfErr-weaker}
+use Rattle.sqlite.specs.Effect.{Database}
 use Rattle.sqlite.specs.Held.{state}
 use Rattle.bac_asked.specs.AsLog.{given_in}
 use Rattle.bac_asked.specs.Wanted.{HasNoAddress}
 use Rattle.bac_ports.specs.Sockets.{socket_rules}
 use Rattle.bac_fetch.specs.Faults.{HaveNoAddress}
-use Rattle.bac_fetch.specs.Moves.{AsksThere, SettlesBy}
+use Rattle.bac_fetch.specs.Moves.{AsksThere, SettlesBy, arrival}
+use Rattle.bac_fetch.specs.Points.{run_point}
 use Rattle.bac_questions.specs.declared.said.Identity.{Identity}
 use Rattle.bac_fetch.proofs.LeftLemmas.{unsettled_so}
 use Rattle.bac_fetch.proofs.FaultsLemmas.{all_end_so}
@@ -34,6 +36,6 @@ returns-in-Some-clause-left g c clean has =
     let old = state g.A.Store c.args.conn.now in
     let new = state g.A.Store c.settle_from.new.conn in
     IfErr-weaker c.settle_from.result _ _
-    (λ fault it. unsettled_so (AsksThere over given device log.source to known before after old.now) (SettlesBy over given known to c.args.identity before after old.now) old new fault
-    (λ db asks. subst (λ (i : Identity). SettlesBy over given known to i before after old.now db) (sym c.in-Told.is) (Some log, c.in-Some.ensures {u = tt}, asks)) it)
+    (λ fault it. unsettled_so (λ (db : Database). AsksThere over given log.source (arrival device to) known (run_point before old.now) (run_point after db)) (λ (db : Database). SettlesBy over given known to c.args.identity (run_point before old.now) (run_point after db)) old new fault
+    (λ db asks. subst (λ (i : Identity). SettlesBy over given known to i (run_point before old.now) (run_point after db)) (sym c.in-Told.is) (Some log, c.in-Some.ensures {u = tt}, asks)) it)
     (c.settle_from.ensures.left clean has)

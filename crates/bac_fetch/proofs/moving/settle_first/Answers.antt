@@ -8,6 +8,7 @@ use Rattle.bac_fetch.specs.Moves.{SettlesBy, SettlesFirst}
 use Rattle.bac_fetch.proofs.LeftLemmas.{unsettled_as_was, unsettled_so}
 use Rattle.bac_fetch.proofs.StaysLemmas.{itself_stays}
 use Rattle.bac_fetch.proofs.moving.settle_first.Goals as goal
+use Rattle.bac_fetch.specs.Points.{run_point}
 use Rattle.bac_archive.proofs.RowsLemmas.{because}
 
 pub returns-in_err-said-clause-caused : goal.returns-in_err-said-clause-caused
@@ -38,7 +39,7 @@ returns-in_err-source-clause-left g c clean has =
     let over = socket_rules g.S.Sockets.opens g.S.Sockets.closes g.S.Socket.Port.sends g.S.Socket.Port.receives g.S.Socket.Port.receives_within in
     let old = state g.A.Store c.args.conn.now in
     because c.from_residual.result c.in_err-source.field-0.0 _ (search rules)
-    (unsettled_as_was (λ (db : Database). (one : Heard) × SettlesFirst over (given_in c.args.options.now) c.args.known.now c.args.first.now c.args.sockets.now one c.args.sockets.now old.now db) old old
+    (unsettled_as_was (λ (db : Database). (one : Heard) × SettlesFirst over (given_in c.args.options.now) c.args.known.now c.args.first.now (run_point c.args.sockets.now old.now) one (run_point c.args.sockets.now db)) old old
     c.in_err-source.field-0.0 (λ opened. refl))
 
 pub returns-in_err-said-clause-left : goal.returns-in_err-said-clause-left
@@ -46,7 +47,7 @@ returns-in_err-said-clause-left g c clean has =
     let over = socket_rules g.S.Sockets.opens g.S.Sockets.closes g.S.Socket.Port.sends g.S.Socket.Port.receives g.S.Socket.Port.receives_within in
     let old = state g.A.Store c.args.conn.now in
     because c.from_residual-in_err-said.result c.in_err-said.field-0.0 _ (search rules)
-    (unsettled_as_was (λ (db : Database). (one : Heard) × SettlesFirst over (given_in c.args.options.now) c.args.known.now c.args.first.now c.args.sockets.now one c.identify.new.sockets old.now db) old old
+    (unsettled_as_was (λ (db : Database). (one : Heard) × SettlesFirst over (given_in c.args.options.now) c.args.known.now c.args.first.now (run_point c.args.sockets.now old.now) one (run_point c.identify.new.sockets db)) old old
     c.in_err-said.field-0.0 (λ opened. refl))
 
 pub returns-in_err-settle_by-clause-left : goal.returns-in_err-settle_by-clause-left
@@ -62,5 +63,5 @@ returns-in_err-settle_by-clause-left g c clean has =
     let said = c.in_ok-said.said in
     let one : Heard = record { source = c.in_ok-source.source; said = said; was_told = false } in
     because c.from_residual-in_err-settle_by.result c.in_err-settle_by.field-0.0 _ (search rules)
-    (unsettled_so (SettlesBy over given known first.source said.identity half after old.now) (λ (db : Database). (heard : Heard) × SettlesFirst over given known first c.args.sockets.now heard after old.now db) old new
+    (unsettled_so (λ (db : Database). SettlesBy over given known first.source said.identity (run_point half old.now) (run_point after db)) (λ (db : Database). (heard : Heard) × SettlesFirst over given known first (run_point c.args.sockets.now old.now) heard (run_point after db)) old new
     c.in_err-settle_by.field-0.0 (λ db by. (one, (half, c.in_ok-said.ensures.identifies, refl, c.in_ok-source.ensures.copy, by))) (c.in_err-settle_by.ensures.left clean has))

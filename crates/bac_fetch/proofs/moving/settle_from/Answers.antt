@@ -1,5 +1,6 @@
 use Rattle.std.proofs.Common.{◌≡◌, ◌∙◌, MatchBool, List, refl, subst, sym, rules, inl}
 use Rattle.std.proofs.lemmas.Result.{IfErr-weaker}
+use Rattle.sqlite.specs.Effect.{Database}
 use Rattle.sqlite.specs.Held.{state}
 use Rattle.bac_archive.specs.Changes.{HasChangedLogs}
 use Rattle.bac_archive.specs.declared.trend_logs.Log.{Log}
@@ -7,7 +8,8 @@ use Rattle.bac_archive.proofs.QueryLemmas.{on_ok}
 use Rattle.bac_archive.proofs.RowsLemmas.{because}
 use Rattle.bac_ports.specs.Sockets.{socket_rules}
 use Rattle.bac_asked.specs.AsLog.{given_in}
-use Rattle.bac_fetch.specs.Moves.{AreMoved, AsksThere}
+use Rattle.bac_fetch.specs.Moves.{AreMoved, AsksThere, arrival}
+use Rattle.bac_fetch.specs.Points.{run_point}
 use Rattle.bac_fetch.proofs.LeftLemmas.{settled_before, unsettled_as_was}
 use Rattle.bac_fetch.proofs.StaysLemmas.{itself_stays}
 use Rattle.bac_fetch.proofs.moving.settle_from.Goals as goal
@@ -17,7 +19,7 @@ returns-then-is_told-clause-settled g c clean has =
     let over = socket_rules g.S.Sockets.opens g.S.Sockets.closes g.S.Socket.Port.sends g.S.Socket.Port.receives g.S.Socket.Port.receives_within in
     let old = (state g.A.Store c.args.conn.now).now in
     let (there, asked_there, identifies) = c.in_ok-said.ensures.identifies in
-    let asked : AsksThere over (given_in c.args.options.now) c.args.device c.args.from.now c.args.to.now c.args.known.now c.args.sockets.now c.identify_there.new.sockets old old = (
+    let asked : AsksThere over (given_in c.args.options.now) c.args.from.now (arrival c.args.device c.args.to.now) c.args.known.now (run_point c.args.sockets.now old) (run_point c.identify_there.new.sockets old) = (
       there,
       asked_there,
       c.in_ok-said.said,
@@ -33,7 +35,7 @@ returns-clause-settled g c clean has =
     let old = (state g.A.Store c.args.conn.now).now in
     let new = (state g.A.Store c.move_logs.new.conn).now in
     let (there, asked_there, identifies) = c.in_ok-said.ensures.identifies in
-    let asked : AsksThere over (given_in c.args.options.now) c.args.device c.args.from.now c.args.to.now c.args.known.now c.args.sockets.now c.identify_there.new.sockets old new = (
+    let asked : AsksThere over (given_in c.args.options.now) c.args.from.now (arrival c.args.device c.args.to.now) c.args.known.now (run_point c.args.sockets.now old) (run_point c.identify_there.new.sockets new) = (
       there,
       asked_there,
       c.in_ok-said.said,
@@ -80,7 +82,7 @@ returns-in_err-said-clause-left g c clean has =
     let over = socket_rules g.S.Sockets.opens g.S.Sockets.closes g.S.Socket.Port.sends g.S.Socket.Port.receives g.S.Socket.Port.receives_within in
     let old = state g.A.Store c.args.conn.now in
     because c.from_residual.result c.in_err-said.field-0.0 _ (search rules)
-    (unsettled_as_was (AsksThere over (given_in c.args.options.now) c.args.device c.args.from.now c.args.to.now c.args.known.now c.args.sockets.now c.identify_there.new.sockets old.now) old old
+    (unsettled_as_was (λ (db : Database). AsksThere over (given_in c.args.options.now) c.args.from.now (arrival c.args.device c.args.to.now) c.args.known.now (run_point c.args.sockets.now old.now) (run_point c.identify_there.new.sockets db)) old old
     c.in_err-said.field-0.0 (λ opened. refl))
 
 pub returns-then-is_told-clause-left : goal.returns-then-is_told-clause-left
@@ -88,7 +90,7 @@ returns-then-is_told-clause-left g c clean has =
     let over = socket_rules g.S.Sockets.opens g.S.Sockets.closes g.S.Socket.Port.sends g.S.Socket.Port.receives g.S.Socket.Port.receives_within in
     let old = state g.A.Store c.args.conn.now in
     IfErr-weaker c.tell_place.result _ _
-    (λ fault memory. unsettled_as_was (AsksThere over (given_in c.args.options.now) c.args.device c.args.from.now c.args.to.now c.args.known.now c.args.sockets.now c.identify_there.new.sockets old.now) old old
+    (λ fault memory. unsettled_as_was (λ (db : Database). AsksThere over (given_in c.args.options.now) c.args.from.now (arrival c.args.device c.args.to.now) c.args.known.now (run_point c.args.sockets.now old.now) (run_point c.identify_there.new.sockets db)) old old
     fault (λ opened. refl)) c.tell_place.ensures.fault
 
 pub returns-in_err-move_logs-clause-left : goal.returns-in_err-move_logs-clause-left
@@ -97,7 +99,7 @@ returns-in_err-move_logs-clause-left g c clean has =
     let old = state g.A.Store c.args.conn.now in
     let new = state g.A.Store c.move_logs.new.conn in
     because c.from_residual-in_err-move_logs.result c.in_err-move_logs.field-0.0 _ (search rules)
-    (unsettled_as_was (AsksThere over (given_in c.args.options.now) c.args.device c.args.from.now c.args.to.now c.args.known.now c.args.sockets.now c.identify_there.new.sockets old.now) old new
+    (unsettled_as_was (λ (db : Database). AsksThere over (given_in c.args.options.now) c.args.from.now (arrival c.args.device c.args.to.now) c.args.known.now (run_point c.args.sockets.now old.now) (run_point c.identify_there.new.sockets db)) old new
     c.in_err-move_logs.field-0.0 (λ opened. c.in_err-move_logs.ensures.left clean has opened))
 
 pub returns-clause-left : goal.returns-clause-left
@@ -105,9 +107,9 @@ returns-clause-left g c clean has =
     let over = socket_rules g.S.Sockets.opens g.S.Sockets.closes g.S.Socket.Port.sends g.S.Socket.Port.receives g.S.Socket.Port.receives_within in
     let old = state g.A.Store c.args.conn.now in
     let new = state g.A.Store c.move_logs.new.conn in
-    let asks = AsksThere over (given_in c.args.options.now) c.args.device c.args.from.now c.args.to.now c.args.known.now c.args.sockets.now c.identify_there.new.sockets old.now in
+    let asks = λ (db : Database). AsksThere over (given_in c.args.options.now) c.args.from.now (arrival c.args.device c.args.to.now) c.args.known.now (run_point c.args.sockets.now old.now) (run_point c.identify_there.new.sockets db) in
     let (there, asked_there, identifies) = c.in_ok-said.ensures.identifies in
-    let asked : AsksThere over (given_in c.args.options.now) c.args.device c.args.from.now c.args.to.now c.args.known.now c.args.sockets.now c.identify_there.new.sockets old.now new.now = (
+    let asked : AsksThere over (given_in c.args.options.now) c.args.from.now (arrival c.args.device c.args.to.now) c.args.known.now (run_point c.args.sockets.now old.now) (run_point c.identify_there.new.sockets new.now) = (
       there,
       asked_there,
       c.in_ok-said.said,

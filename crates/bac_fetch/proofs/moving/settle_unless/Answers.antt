@@ -10,6 +10,7 @@ use Rattle.bac_fetch.proofs.MovesLemmas.{settles_of_one}
 use Rattle.bac_questions.specs.declared.whose.Heard.{Heard}
 use Rattle.bac_fetch.proofs.StaysLemmas.{itself_stays}
 use Rattle.bac_fetch.proofs.moving.settle_unless.Goals as goal
+use Rattle.bac_fetch.specs.Points.{run_point}
 
 pub returns-then-is_placed-clause-settled : goal.returns-then-is_placed-clause-settled
 returns-then-is_placed-clause-settled g c clean has =
@@ -18,7 +19,7 @@ returns-then-is_placed-clause-settled g c clean has =
     let before = c.args.sockets.now in
     let none : List Heard = c.new-heard.result.items in
     subst (λ b. MatchBool b ((none ≡ []) × (before ≡ before) × (old ≡ old))
-    ((one : Heard) × (none ≡ one ∷ []) × SettlesFirst over (given_in c.args.options.now) c.args.known.now c.args.first.now before one before old old))
+    ((one : Heard) × (none ≡ one ∷ []) × SettlesFirst over (given_in c.args.options.now) c.args.known.now c.args.first.now (run_point before old) one (run_point before old)))
     (sym (sym c.is_placed.ensures ∙ c.if-is_placed.true)) (search rules, refl, refl)
 
 pub returns-in-Ok-clause-settled : goal.returns-in-Ok-clause-settled
@@ -31,7 +32,7 @@ returns-in-Ok-clause-settled g c clean has =
     let after = c.settle_first.new.sockets in
     let one : heard ≡ c.in_ok-one.one ∷ [] = search rules in
     subst (λ b. MatchBool b ((heard ≡ []) × (after ≡ before) × (new ≡ old))
-    ((one : Heard) × (heard ≡ one ∷ []) × SettlesFirst over (given_in c.args.options.now) c.args.known.now c.args.first.now before one after old new))
+    ((one : Heard) × (heard ≡ one ∷ []) × SettlesFirst over (given_in c.args.options.now) c.args.known.now c.args.first.now (run_point before old) one (run_point after new)))
     (sym (sym c.is_placed.ensures ∙ c.if-is_placed.false)) (c.in_ok-one.one, one, c.in_ok-one.ensures.settled clean has)
 
 pub returns-then-is_placed-clause-stays : goal.returns-then-is_placed-clause-stays
@@ -48,7 +49,7 @@ returns-in_err-one-clause-left g c clean has =
     let old = state g.A.Store c.args.conn.now in
     let new = state g.A.Store c.settle_first.new.conn in
     because c.from_residual.result c.in_err-one.field-0.0 _ (search rules)
-    (unsettled_so (λ (db : Database). (one : Heard) × SettlesFirst over given known first before one after old.now db) (λ (db : Database). (heard : List Heard) × SettlesUnless over given known first before heard after old.now db) old new
+    (unsettled_so (λ (db : Database). (one : Heard) × SettlesFirst over given known first (run_point before old.now) one (run_point after db)) (λ (db : Database). (heard : List Heard) × SettlesUnless over given known first (run_point before old.now) heard (run_point after db)) old new
     c.in_err-one.field-0.0 (λ db it. (it.0 ∷ [], settles_of_one over given known first before it.0 after old.now db (sym c.is_placed.ensures ∙ c.if-is_placed.false) it.1)) (c.in_err-one.ensures.left clean has))
 
 pub returns-in-Err-clause-left : goal.returns-in-Err-clause-left
@@ -62,6 +63,6 @@ returns-in-Err-clause-left g c clean has =
     let old = state g.A.Store c.args.conn.now in
     let new = state g.A.Store c.settle_first.new.conn in
     let one = c.in_ok-one.one in
-    settled_before (λ (db : Database). (heard : List Heard) × SettlesUnless over given known first before heard after old.now db) old new _ refl
+    settled_before (λ (db : Database). (heard : List Heard) × SettlesUnless over given known first (run_point before old.now) heard (run_point after db)) old new _ refl
     (one ∷ [], settles_of_one over given known first before one after old.now new.now (sym c.is_placed.ensures ∙ c.if-is_placed.false) (c.in_ok-one.ensures.settled clean has))
     (λ was. c.in_ok-one.ensures.committed clean has was)

@@ -4,12 +4,13 @@ use Rattle.std.proofs.lemmas.Result.{IfErr-weaker, IfOk-weaker}
 use Rattle.sqlite.specs.Held.{state}
 use Rattle.bac_ports.specs.Sockets.{socket_rules}
 use Rattle.bac_asked.specs.declared.end.Ending.{Ending}
-use Rattle.bac_fetch.specs.Keeps.{KeepsUnless}
+use Rattle.bac_fetch.specs.Keeps.{KeepsUnless, introduced}
 use Rattle.bac_fetch.proofs.single.keep_heard.Goals as goal
 use Rattle.bac_archive.proofs.RowsLemmas.{because}
 use Rattle.bac_fetch.proofs.FaultsLemmas.{asking_ends_run}
 use Rattle.bac_fetch.proofs.CausesLemmas.{nothing_done}
 use Rattle.bac_fetch.proofs.StaysLemmas.{itself_stays}
+use Rattle.bac_fetch.specs.Points.{run_point}
 
 pub returns-clause-told : goal.returns-clause-told
 returns-clause-told g c =
@@ -32,7 +33,7 @@ returns-clause-told g c =
         asked = rw c.as_slice.ensures.value at c.in_ok-said.ensures.identified;
         on_record = c.device_on_record-on_record.result;
         on_record_is = c.device_on_record-on_record.ensures;
-        kept = subst (λ (w : Option Ending). KeepsUnless over known wanted said.told w half after old.now new.now told.0) (rw c.as_slice-2.ensures.value at c.hindrance-why.ensures) (told.3.1 clean has);
+        kept = subst (λ (w : Option Ending). KeepsUnless over known (introduced wanted said.told) w (run_point half old.now) (run_point after new.now) told.0) (rw c.as_slice-2.ensures.value at c.hindrance-why.ensures) (told.3.1 clean has);
         heard_is = told.3.0;
       },
     ))

@@ -8,6 +8,7 @@ use Rattle.bac_questions.specs.Whose.{is_silent}
 use Rattle.bac_fetch.proofs.CausesLemmas.{rows_leave}
 use Rattle.bac_fetch.proofs.StaysLemmas.{quiet_stays}
 use Rattle.bac_fetch.proofs.single.keep_next.Goals as goal
+use Rattle.bac_fetch.specs.Points.{knowing, run_point}
 
 pub returns-then-is_silent-clause-told : goal.returns-then-is_silent-clause-told
 returns-then-is_silent-clause-told g c =
@@ -26,7 +27,7 @@ returns-then-is_silent-clause-told g c =
       λ clean has.
           let it = told.3.4 clean has in
           let silent : is_silent heard wanted.source ≡ true = rw c.as_slice.ensures.value at (sym c.is_silent.ensures ∙ c.if-is_silent.true) in
-          subst (λ b. MatchBool b (PassesOver known wanted NotAsked before before old.now new.now told.0 × (heard ≡ heard)) (KeepsHeard over known heard heard wanted before before old.now new.now told.0))
+          subst (λ b. MatchBool b (PassesOver known wanted NotAsked (run_point before old.now) (run_point before new.now) told.0 × (heard ≡ heard)) (KeepsHeard over (knowing known heard) heard wanted (run_point before old.now) (run_point before new.now) told.0))
           (sym silent)
           ((it.0, refl, (told.3.0, told.3.1, told.3.2, told.3.3, _, c.log_among-log.ensures, it.1)), refl),
     ))
@@ -53,7 +54,7 @@ returns-clause-told g c =
       told.2,
       λ clean has.
           let spoke : is_silent heard wanted.source ≡ false = rw c.as_slice.ensures.value at (sym c.is_silent.ensures ∙ c.if-is_silent.false) in
-          subst (λ b. MatchBool b (PassesOver known wanted NotAsked before after old.now new.now told.0 × (more ≡ heard)) (KeepsHeard over known heard more wanted before after old.now new.now told.0))
+          subst (λ b. MatchBool b (PassesOver known wanted NotAsked (run_point before old.now) (run_point after new.now) told.0 × (more ≡ heard)) (KeepsHeard over (knowing known heard) more wanted (run_point before old.now) (run_point after new.now) told.0))
           (sym spoke)
           (told.3 clean has),
     ))

@@ -11,12 +11,13 @@ use Rattle.bac_ports.specs.Sockets.{socket_rules}
 use Rattle.bac_fetch.specs.Causes.{EndsFetch}
 use Rattle.bac_fetch.specs.Faults.{EndsRun, IsNoInstance}
 use Rattle.bac_ahead.specs.Ahead.{trend_log}
-use Rattle.bac_fetch.specs.Keeps.{KeepsLog}
+use Rattle.bac_fetch.specs.Keeps.{KeepsLog, target}
 use Rattle.bac_fetch.proofs.CausesLemmas.{entry_leaves, leaves_behind, rows_leave, shut_log}
 use Rattle.bac_fetch.proofs.StaysLemmas.{quiet_first, quiet_stays}
 use Rattle.bac_archive.specs.Schema.{HasArchive}
 use Rattle.bac_archive.proofs.RowsLemmas.{because}
 use Rattle.bac_fetch.proofs.single.keep_one.Goals as goal
+use Rattle.bac_fetch.specs.Points.{run_point}
 
 pub returns-clause-told : goal.returns-clause-told
 returns-clause-told g c =
@@ -42,11 +43,11 @@ returns-clause-told g c =
             let same : mid.now ≡ old.now = c.in_ok-entry.ensures.same early has in
             let schema : HasArchive mid.now.schema = subst (λ (d : Database). HasArchive d.schema) (sym same) has in
             let kept = c.in_ok-end.ensures.kept clean schema in
-            let kept₁ = subst (λ (s : Source). KeepsLog over c.args.wanted.asking c.args.sockets.now c.fetch_told.new.sockets entry (trend_log s.instance) mid.now new.now end) row.0 kept in (
+            let kept₁ = subst (λ (s : Source). KeepsLog over c.args.wanted.asking (run_point c.args.sockets.now mid.now) (run_point c.fetch_told.new.sockets new.now) (target entry (trend_log s.instance)) end) row.0 kept in (
               entry,
               c.in_ok-entry.ensures.entry early has,
               row,
-              subst (λ (d : Database). KeepsLog over c.args.wanted.asking c.args.sockets.now c.fetch_told.new.sockets entry (trend_log c.args.wanted.source.instance) d new.now end) same kept₁,
+              subst (λ (d : Database). KeepsLog over c.args.wanted.asking (run_point c.args.sockets.now d) (run_point c.fetch_told.new.sockets new.now) (target entry (trend_log c.args.wanted.source.instance)) end) same kept₁,
             ),
       ),
     )

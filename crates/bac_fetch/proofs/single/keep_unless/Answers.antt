@@ -3,10 +3,11 @@ use Rattle.std.proofs.lemmas.Result.{IfErr-weaker, IfOk-weaker}
 use Rattle.sqlite.specs.Held.{state}
 use Rattle.bac_ports.specs.Sockets.{socket_rules}
 use Rattle.bac_asked.specs.declared.end.Ending.{Ending}
-use Rattle.bac_fetch.specs.Keeps.{KeepsUnless}
+use Rattle.bac_fetch.specs.Keeps.{KeepsUnless, introduced}
 use Rattle.bac_fetch.proofs.CausesLemmas.{rows_leave}
 use Rattle.bac_fetch.proofs.StaysLemmas.{quiet_stays}
 use Rattle.bac_fetch.proofs.single.keep_unless.Goals as goal
+use Rattle.bac_fetch.specs.Points.{run_point}
 
 pub returns-in-None-clause-told : goal.returns-in-None-clause-told
 returns-in-None-clause-told g c =
@@ -24,7 +25,7 @@ returns-in-None-clause-told g c =
         told.3.0,
         λ clean has.
             let (entry, is, row, kept) = told.3.1 clean has in
-            subst (λ (w : Option Ending). KeepsUnless over known wanted c.args.said.told w c.args.sockets.now c.keep_one.new.sockets old.now new.now told.0) (sym c.in-None.is)
+            subst (λ (w : Option Ending). KeepsUnless over known (introduced wanted c.args.said.told) w (run_point c.args.sockets.now old.now) (run_point c.keep_one.new.sockets new.now) told.0) (sym c.in-None.is)
             (record { log = _; among = c.log_among-log.ensures; entry = entry; entered = is; row = row; kept = kept }),
       ),
     ))
@@ -47,7 +48,7 @@ returns-in-Some-clause-told g c =
         told.3.0,
         λ clean has.
             let it = told.3.5 clean has in
-            subst (λ (w : Option Ending). KeepsUnless over known wanted c.args.said.told w before before old.now new.now told.0) (sym c.in-Some.is)
+            subst (λ (w : Option Ending). KeepsUnless over known (introduced wanted c.args.said.told) w (run_point before old.now) (run_point before new.now) told.0) (sym c.in-Some.is)
             (it.0, refl, (told.3.1, told.3.2, told.3.3, told.3.4, _, c.log_among-log.ensures, it.1)),
       ),
     ))

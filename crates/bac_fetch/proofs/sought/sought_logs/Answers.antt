@@ -4,7 +4,7 @@ use Rattle.std.proofs.KnownBytes.{Appends-trans}
 use Rattle.std.proofs.lemmas.List.Elements.{All-contains}
 use Rattle.std.specs.Io.KnownBytes.{Appends}
 use Rattle.std.specs.List.{Contains}
-use Rattle.bac_fetch.specs.Chosen.{AddSought, AskOneSource, told_by, unlisted_by}
+use Rattle.bac_fetch.specs.Chosen.{AddSought, AskOneSource, findings, told_by, unlisted_by}
 use Rattle.bac_fetch.specs.Faults.{EndsAt}
 use Rattle.bac_fetch.specs.Unlisted.{unlisted_lines}
 use Rattle.bac_fetch.specs.declared.sought.Sought.{Sought}
@@ -52,7 +52,7 @@ returns-clause-found g c =
     ∙ c.into_iter-one-iterator.ensures.into_iter_gives.0 in
     let found = c.loop-one.invariant.found in (
       found.0,
-      subst (λ (l : List Sought). AddSought over c.args.silent.now l [] [] c.args.sockets.now c.loop-one.all.items found.0 c.loop-one.sockets) all found.1,
+      subst (λ (l : List Sought). AddSought over c.args.silent.now l (findings [] [] c.args.sockets.now) (findings c.loop-one.all.items found.0 c.loop-one.sockets)) all found.1,
       found.2,
       found.3,
     )

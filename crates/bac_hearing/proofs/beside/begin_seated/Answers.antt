@@ -1,3 +1,6 @@
+use Rattle.bac_hearing.specs.Hearing.{seated}
+use Rattle.bac_jobs.specs.Wanted.{work_of}
+use Rattle.bac_desks.specs.Served.{acting}
 use Rattle.bac_hearing.proofs.Parted.{begins}
 use Rattle.bac_hearing.proofs.Ended.{on_err, stops, stops_at, waits, weaker, weaker_none}
 use Rattle.bac_hearing.proofs.beside.begin_seated.Goals as goal
@@ -5,27 +8,27 @@ use Rattle.bac_hearing.proofs.beside.begin_seated.Goals as goal
 pub returns-clause-begun : goal.returns-clause-begun
 returns-clause-begun g c =
     weaker c.begin.result _ _
-    (λ all begun. begins g.P.Port.sends g.P.Port.receives_within g.C.Clock.reads g.J.Job.plays c.args.jobs.now c.args.desks.now.port c.seat_all.new.desks.port c.begin.new.desks.port
-    c.args.desks.now.clock c.seat_all.new.desks.clock c.begin.new.desks.clock _ c.seat_all.new.desks.table c.begin.new.desks.table all.items
-    c.seat_all.ensures.port c.seat_all.ensures.clock c.in_ok-seat_all.ensures.table c.begin.ensures.serves begun)
+    (λ all begun. begins (acting g.P.Port.sends g.P.Port.receives_within g.C.Clock.reads) (work_of g.J.Job.plays c.args.jobs.now)
+    (seated c.args.desks.now c.args.peers.now) c.seat_all.new.desks c.begin.new.desks all.items c.seat_all.ensures.port c.seat_all.ensures.clock
+    c.in_ok-seat_all.ensures.table c.begin.ensures.serves begun)
     c.begin.ensures.begun
 
 pub returns-clause-unfinished : goal.returns-clause-unfinished
 returns-clause-unfinished g c =
     weaker_none c.begin.result _ _
-    (λ made. waits g.P.Port.sends g.P.Port.receives_within g.C.Clock.reads g.J.Job.plays c.args.jobs.now 18446744073709551615 c.args.desks.now.port c.seat_all.new.desks.port c.begin.new.desks.port
-    c.args.desks.now.clock c.seat_all.new.desks.clock c.begin.new.desks.clock _ c.seat_all.new.desks.table c.begin.new.desks.table
-    c.seat_all.ensures.port c.seat_all.ensures.clock c.in_ok-seat_all.ensures.table made)
+    (λ made. waits (acting g.P.Port.sends g.P.Port.receives_within g.C.Clock.reads) (work_of g.J.Job.plays c.args.jobs.now) 18446744073709551615
+    (seated c.args.desks.now c.args.peers.now) c.seat_all.new.desks c.begin.new.desks c.seat_all.ensures.port c.seat_all.ensures.clock c.in_ok-seat_all.ensures.table
+    made)
     c.begin.ensures.unfinished
 
 pub returns-in_err-seat_all-clause-stops : goal.returns-in_err-seat_all-clause-stops
 returns-in_err-seat_all-clause-stops g c =
     on_err c.from_residual.result _
-    (stops_at g.P.Port.sends g.P.Port.receives_within g.C.Clock.reads g.J.Job.plays c.args.jobs.now c.args.desks.now.port c.seat_all.new.desks.port c.args.desks.now.clock _ c.seat_all.ensures.port)
+    (stops_at (acting g.P.Port.sends g.P.Port.receives_within g.C.Clock.reads) (work_of g.J.Job.plays c.args.jobs.now) (seated c.args.desks.now c.args.peers.now)
+    c.seat_all.new.desks.port c.seat_all.ensures.port)
 
 pub returns-clause-stops : goal.returns-clause-stops
 returns-clause-stops g c =
     on_err c.begin.result _
-    (stops g.P.Port.sends g.P.Port.receives_within g.C.Clock.reads g.J.Job.plays c.args.jobs.now c.args.desks.now.port c.seat_all.new.desks.port c.begin.new.desks.port
-    c.args.desks.now.clock c.seat_all.new.desks.clock c.begin.new.desks.clock _ c.seat_all.new.desks.table c.begin.new.desks.table
-    c.seat_all.ensures.port c.seat_all.ensures.clock c.in_ok-seat_all.ensures.table c.begin.ensures.serves)
+    (stops (acting g.P.Port.sends g.P.Port.receives_within g.C.Clock.reads) (work_of g.J.Job.plays c.args.jobs.now) (seated c.args.desks.now c.args.peers.now)
+    c.seat_all.new.desks c.begin.new.desks c.seat_all.ensures.port c.seat_all.ensures.clock c.in_ok-seat_all.ensures.table c.begin.ensures.serves)

@@ -1,13 +1,12 @@
-use Rattle.bac_jobs.specs.Wanted.{MakesRounds}
+use Rattle.bac_desks.specs.Served.{acting}
+use Rattle.bac_jobs.specs.Wanted.{MakesRounds, work_of}
 use Rattle.bac_jobs.proofs.ForJobs.{RunsJobs}
 use Rattle.bac_jobs.proofs.beginning.begin.Given as goal
 
 abbrev pub invariant-loop-round : goal.invariant-loop-round
 invariant-loop-round g l = record {
   runs :
-      RunsJobs g.J.Job.plays l.jobs g.P.Port.sends g.P.Port.receives_within g.C.Clock.reads l.fn.desks.port l.fn.desks.clock l.fn.desks.table
-      l.desks.port l.desks.clock l.desks.table;
+      RunsJobs g.J.Job.plays l.jobs (acting g.P.Port.sends g.P.Port.receives_within g.C.Clock.reads) l.fn.desks l.desks;
   rounds :
-      MakesRounds g.P.Port.sends g.P.Port.receives_within g.C.Clock.reads g.J.Job.plays l.jobs l.round l.fn.desks.port l.fn.desks.clock l.fn.desks.table
-      l.desks.port l.desks.clock l.desks.table;
+      MakesRounds (acting g.P.Port.sends g.P.Port.receives_within g.C.Clock.reads) (work_of g.J.Job.plays l.jobs) l.round l.fn.desks l.desks;
 }

@@ -6,17 +6,18 @@ use Rattle.sqlite.specs.Held.{Held, state}
 use Rattle.sqlite.proofs.StateLemmas.{survives_then, survives_weaker}
 use Rattle.bac_link.specs.declared.item.Item.{Item}
 use Rattle.bac_walk.specs.Came.{Came}
-use Rattle.bac_walk.specs.Transacted.{BroughtBy}
+use Rattle.bac_walk.specs.Transacted.{BroughtBy, walk_by}
 use Rattle.bac_walk.specs.declared.outcome.Ended.{Ended}
 use Rattle.bac_walk.specs.declared.outcome.Ended.TheVariants.{StepLimit}
 use Rattle.bac_walk.proofs.Runs.{ends_run, not_limit, goes_on as limit_reached}
 use Rattle.bac_archive.proofs.RowsLemmas.{stays}
 use Rattle.bac_keep.specs.declared.place.Place.{Place}
 use Rattle.bac_link.specs.Path.{towards}
+use Rattle.bac_link.specs.Exchanges.{client}
 use Rattle.bac_keep.specs.Came.{KeepsBy}
 use Rattle.bac_keep.specs.Rising.{AddsRising}
 use Rattle.bac_walk.specs.Place.{WalkPlace}
-use Rattle.bac_keep.specs.Runs.{KeepsRun}
+use Rattle.bac_keep.specs.Runs.{KeepsRun, run_place, tally}
 use Rattle.bac_keep.proofs.ByLemmas.{KeepsUpTo, by_early, by_nothing, by_then, came_last, came_then, none_came, up_to_nothing, up_to_then}
 use Rattle.bac_keep.proofs.CauseLemmas.{still_archive, unkept_at}
 use Rattle.bac_keep.proofs.CameLemmas.{leaves_over_more, leaves_over_then}
@@ -51,10 +52,8 @@ loop-done-init g c = record {
 pub returns-in-Err-clause-stands : goal.returns-in-Err-clause-stands
 returns-in-Err-clause-stands g c clean is_open has =
     let early : HasCleanDisk (state g.S.Store c.loop-done.conn) = omega (arith, clean, c.keep_next.ensures.crash.clean) in
-    let P : Database → Type 0 = λ db. KeepsRun (λ link id r M H. g.L.LogLink.is_ours link id r M H) (λ link. g.L.LogLink.failures link)
-    c.args.place c.loop-done.place c.args.transactions.now.retries (state g.S.Store c.args.conn.now).now db c.args.link.now c.loop-done.link c.args.walk c.loop-done.walk c.loop-done.done StepLimit c.loop-done.records c.loop-done.gaps in
-    let Q : Place → Type 0 = λ there. KeepsRun (λ link id r M H. g.L.LogLink.is_ours link id r M H) (λ link. g.L.LogLink.failures link)
-    c.args.place there c.args.transactions.now.retries (state g.S.Store c.args.conn.now).now (state g.S.Store c.keep_next.new.conn).now c.args.link.now c.loop-done.link c.args.walk c.loop-done.walk c.loop-done.done StepLimit c.loop-done.records c.loop-done.gaps in (
+    let P : Database → Type 0 = λ db. KeepsRun (λ link id r M H. g.L.LogLink.is_ours link id r M H) (λ link. g.L.LogLink.failures link) c.args.transactions.now.retries (run_place (state g.S.Store c.args.conn.now).now c.args.place c.args.link.now c.args.walk) (run_place db c.loop-done.place c.loop-done.link c.loop-done.walk) (tally c.loop-done.done StepLimit c.loop-done.records c.loop-done.gaps) in
+    let Q : Place → Type 0 = λ there. KeepsRun (λ link id r M H. g.L.LogLink.is_ours link id r M H) (λ link. g.L.LogLink.failures link) c.args.transactions.now.retries (run_place (state g.S.Store c.args.conn.now).now c.args.place c.args.link.now c.args.walk) (run_place (state g.S.Store c.keep_next.new.conn).now there c.loop-done.link c.loop-done.walk) (tally c.loop-done.done StepLimit c.loop-done.records c.loop-done.gaps) in (
       c.loop-done.done,
       c.loop-done.link,
       c.loop-done.walk,
@@ -131,9 +130,7 @@ loop-done-preserved g c = record {
   kept = λ clean has.
       let early : HasCleanDisk (state g.S.Store c.loop-done.conn) = omega (arith, clean, c.keep_next.ensures.crash.clean) in
       let limit = limit_reached c.in-Ok.step.ended (sym c.why.ensures ∙ c.in_default.is) in
-      let P : Ended → Type 0 = λ ended. KeepsRun (λ link id r M H. g.L.LogLink.is_ours link id r M H) (λ link. g.L.LogLink.failures link)
-      c.args.place c.keep_next.new.place c.args.transactions.now.retries (state g.S.Store c.args.conn.now).now (state g.S.Store c.keep_next.new.conn).now c.args.link.now c.keep_next.new.link c.args.walk c.keep_next.new.walk
-      (c.loop-done.done + 1) ended (c.loop-done.records + c.in-Ok.step.records) (c.loop-done.gaps + c.in-Ok.step.gaps) in
+      let P : Ended → Type 0 = λ ended. KeepsRun (λ link id r M H. g.L.LogLink.is_ours link id r M H) (λ link. g.L.LogLink.failures link) c.args.transactions.now.retries (run_place (state g.S.Store c.args.conn.now).now c.args.place c.args.link.now c.args.walk) (run_place (state g.S.Store c.keep_next.new.conn).now c.keep_next.new.place c.keep_next.new.link c.keep_next.new.walk) (tally (c.loop-done.done + 1) ended (c.loop-done.records + c.in-Ok.step.records) (c.loop-done.gaps + c.in-Ok.step.gaps)) in
       subst P limit (keeps_then (λ link id r M H. g.L.LogLink.is_ours link id r M H) (λ link. g.L.LogLink.failures link)
       c.args.place c.loop-done.place c.keep_next.new.place c.args.transactions.now.retries c.loop-done.transactions.retries (state g.S.Store c.args.conn.now).now (state g.S.Store c.loop-done.conn).now (state g.S.Store c.keep_next.new.conn).now
       c.args.link.now c.loop-done.link c.keep_next.new.link c.args.walk c.loop-done.walk c.keep_next.new.walk c.loop-done.done 1 c.in-Ok.step.ended c.loop-done.records c.loop-done.gaps c.in-Ok.step.records c.in-Ok.step.gaps
@@ -141,9 +138,7 @@ loop-done-preserved g c = record {
   transacted = λ clean has.
       let early : HasCleanDisk (state g.S.Store c.loop-done.conn) = omega (arith, clean, c.keep_next.ensures.crash.clean) in
       let limit = limit_reached c.in-Ok.step.ended (sym c.why.ensures ∙ c.in_default.is) in
-      let P : Ended → Type 0 = λ ended. KeepsBy g.L.LogLink.asks c.args.transactions.now c.args.place c.keep_next.new.place
-      (state g.S.Store c.args.conn.now).now (state g.S.Store c.keep_next.new.conn).now c.args.link.now c.keep_next.new.link c.args.walk c.keep_next.new.walk
-      (c.loop-done.done + 1) ended (c.loop-done.records + c.in-Ok.step.records) (c.loop-done.gaps + c.in-Ok.step.gaps) c.keep_next.new.transactions in
+      let P : Ended → Type 0 = λ ended. KeepsBy g.L.LogLink.asks (run_place (state g.S.Store c.args.conn.now).now c.args.place (client c.args.link.now c.args.transactions.now) c.args.walk) (run_place (state g.S.Store c.keep_next.new.conn).now c.keep_next.new.place (client c.keep_next.new.link c.keep_next.new.transactions) c.keep_next.new.walk) (tally (c.loop-done.done + 1) ended (c.loop-done.records + c.in-Ok.step.records) (c.loop-done.gaps + c.in-Ok.step.gaps)) in
       subst P limit (by_then g.L.LogLink.asks c.args.transactions.now c.loop-done.transactions c.keep_next.new.transactions c.args.place c.loop-done.place c.keep_next.new.place
       (state g.S.Store c.args.conn.now).now (state g.S.Store c.loop-done.conn).now (state g.S.Store c.keep_next.new.conn).now
       c.args.link.now c.loop-done.link c.keep_next.new.link c.args.walk c.loop-done.walk c.keep_next.new.walk c.loop-done.done 1 c.in-Ok.step.ended c.loop-done.records c.loop-done.gaps c.in-Ok.step.records c.in-Ok.step.gaps
@@ -161,7 +156,7 @@ loop-done-preserved g c = record {
   asked =
       let limit = limit_reached c.in-Ok.step.ended (sym c.why.ensures ∙ c.in_default.is) in
       let P : Ended → Type 0 = λ ended. (came : List Came) × (items : List Item)
-      × BroughtBy g.L.LogLink.asks c.args.transactions.now c.args.link.now c.args.walk (c.loop-done.done + 1) came items ended c.keep_next.new.walk c.keep_next.new.transactions c.keep_next.new.link in
+      × BroughtBy g.L.LogLink.asks (walk_by c.args.link.now c.args.transactions.now c.args.walk) (c.loop-done.done + 1) came items ended (walk_by c.keep_next.new.link c.keep_next.new.transactions c.keep_next.new.walk) in
       subst P limit (came_then g.L.LogLink.asks c.args.transactions.now c.loop-done.transactions c.keep_next.new.transactions c.args.link.now c.loop-done.link c.keep_next.new.link
       c.args.walk c.loop-done.walk c.keep_next.new.walk c.loop-done.done c.in-Ok.step.ended c.loop-done.invariant.asked c.in-Ok.ensures.asked);
   crash_over = survives_then (state g.S.Store c.args.conn.now) (state g.S.Store c.loop-done.conn) (state g.S.Store c.keep_next.new.conn) _ _ _
@@ -208,11 +203,8 @@ returns-clause-crash g c =
 pub returns-in-Err-clause-stands_by : goal.returns-in-Err-clause-stands_by
 returns-in-Err-clause-stands_by g c clean is_open has =
     let early : HasCleanDisk (state g.S.Store c.loop-done.conn) = omega (arith, clean, c.keep_next.ensures.crash.clean) in
-    let P : Database → Type 0 = λ db. KeepsBy g.L.LogLink.asks c.args.transactions.now c.args.place c.loop-done.place
-    (state g.S.Store c.args.conn.now).now db c.args.link.now c.loop-done.link c.args.walk c.loop-done.walk c.loop-done.done StepLimit c.loop-done.records c.loop-done.gaps c.loop-done.transactions in
-    let Q : Place → Type 0 = λ there. KeepsBy g.L.LogLink.asks c.args.transactions.now c.args.place there
-    (state g.S.Store c.args.conn.now).now (state g.S.Store c.keep_next.new.conn).now c.args.link.now c.loop-done.link c.args.walk c.loop-done.walk c.loop-done.done StepLimit c.loop-done.records c.loop-done.gaps
-    c.loop-done.transactions in (
+    let P : Database → Type 0 = λ db. KeepsBy g.L.LogLink.asks (run_place (state g.S.Store c.args.conn.now).now c.args.place (client c.args.link.now c.args.transactions.now) c.args.walk) (run_place db c.loop-done.place (client c.loop-done.link c.loop-done.transactions) c.loop-done.walk) (tally c.loop-done.done StepLimit c.loop-done.records c.loop-done.gaps) in
+    let Q : Place → Type 0 = λ there. KeepsBy g.L.LogLink.asks (run_place (state g.S.Store c.args.conn.now).now c.args.place (client c.args.link.now c.args.transactions.now) c.args.walk) (run_place (state g.S.Store c.keep_next.new.conn).now there (client c.loop-done.link c.loop-done.transactions) c.loop-done.walk) (tally c.loop-done.done StepLimit c.loop-done.records c.loop-done.gaps) in (
       c.loop-done.done,
       c.loop-done.link,
       c.loop-done.transactions,
@@ -317,8 +309,8 @@ returns-in-Err-clause-cause g c clean has =
     let there = still_archive (c.loop-done.invariant.transacted early has) has in
     let up_to = c.loop-done.invariant.behind early has in
     let why = c.in-Err.ensures.cause clean there in
-    unkept_at g.L.LogLink.asks c.args.transactions.now c.loop-done.transactions c.keep_next.new.transactions c.args.place c.loop-done.place c.keep_next.new.place c.args.free c.loop-done.free g.S.Store c.args.conn.now c.keep_next.new.conn c.loop-done.conn
-    c.args.link.now c.loop-done.link c.keep_next.new.link c.args.walk c.loop-done.walk c.keep_next.new.walk c.args.steps c.loop-done.done _ c.loop-done.records c.loop-done.gaps c.in-Err.error
+    unkept_at g.L.LogLink.asks c.args.transactions.now c.loop-done.transactions c.keep_next.new.transactions c.args.place c.loop-done.place _ c.args.free c.loop-done.free g.S.Store c.args.conn.now c.keep_next.new.conn c.loop-done.conn
+    c.args.link.now c.loop-done.link c.keep_next.new.link c.args.walk c.loop-done.walk c.keep_next.new.walk c.args.steps c.loop-done.done c.in-Err.error
     (omega (arith, c.loop-done-test.true)) (λ e. (c.loop-done.invariant.none e).0) c.loop-done.invariant.ended (sym c.next_number-next.ensures.next) (λ is_open. (c.in-Err.ensures.neither clean is_open).0) c.in-Err.ensures.stays up_to why
 
 pub returns-in-Err-clause-foreign : goal.returns-in-Err-clause-foreign

@@ -3,13 +3,14 @@ use Rattle.sqlite.specs.Effect.{Database}
 use Rattle.sqlite.specs.State.{HasCleanDisk, IsUnchanged}
 use Rattle.sqlite.specs.Held.{state}
 use Rattle.sqlite_trees.specs.Tree.{Trees}
-use Rattle.bac_link.specs.Honest.{IsHonest}
+use Rattle.bac_link.specs.Honest.{IsHonest, asked_log}
 use Rattle.bac_link.specs.Laws.{after_answers}
 use Rattle.bac_link.specs.Path.{Path, towards}
 use Rattle.bac_keep.specs.declared.place.Place.{Place}
 use Rattle.bac_keep.specs.Came.{LeavesOver}
 use Rattle.bac_keep.specs.Items.{era}
-use Rattle.bac_keep.specs.Kept.{IsKept}
+use Rattle.bac_keep.specs.Kept.{IsKept, eras}
+use Rattle.bac_keep.specs.Runs.{run_place}
 use Rattle.bac_keep_tests.proofs.CrashLemmas.{any_cut, behind_crash, cut_early}
 use Rattle.bac_keep_tests.proofs.OverLemmas.{AnyEnd, any_end}
 use Rattle.bac_archive.specs.Schema.{HasArchive}
@@ -32,7 +33,7 @@ returns g c clean was_open committed has none later may has_then was_open_then c
     let straight : route ≡ None = search rules in
     let route_then = c.new-others.result.route in
     let straight_then : route_then ≡ None = search rules in
-    let left : (opened.trees ≡ old.trees) ⊎ LeavesOver g.L.LogLink.asks (towards route) c.new-transactions.result.retries c.args.place old c.args.link.now c.in_ok-from_number.field-0 c.args.steps opened.trees =
+    let left : (opened.trees ≡ old.trees) ⊎ LeavesOver g.L.LogLink.asks (towards route) c.new-transactions.result.retries (run_place old c.args.place c.args.link.now c.in_ok-from_number.field-0) c.args.steps opened.trees =
     elim (c.keep_log-cut.ensures.crash_over.crash clean opened.trees may) [
       | inl m ↦ inl (c.leaves_the_last_commit.ensures was_open opened.trees m ∙ ap (λ (d : Database). d.trees) committed)
       | inr it ↦ inr it
@@ -44,8 +45,8 @@ returns g c clean was_open committed has none later may has_then was_open_then c
     any_end g.K.LogLink.asks (towards route_then) c.new-others.result.retries c.in_ok-from.from second.place mid new c.args.later.now two.link
     c.in_ok-from_number-2.field-0 c.args.steps second.next second.records second.gaps second.end (c.keep_log.ensures.brought clean_then archive_still) (c.keep_log.ensures.stands_over clean_then shut archive_still) in
     let leaves_then : (trees : Trees) → (state g.T.Store two.conn).may_leave trees →
-    LeavesOver g.K.LogLink.asks (towards route_then) c.new-others.result.retries c.in_ok-from.from mid c.args.later.now c.in_ok-from_number-2.field-0 c.args.steps trees = λ trees m.
-    let cut : (trees ≡ mid.trees) ⊎ LeavesOver g.K.LogLink.asks (towards route_then) c.new-others.result.retries c.in_ok-from.from mid c.args.later.now c.in_ok-from_number-2.field-0 c.args.steps trees =
+    LeavesOver g.K.LogLink.asks (towards route_then) c.new-others.result.retries (run_place mid c.in_ok-from.from c.args.later.now c.in_ok-from_number-2.field-0) c.args.steps trees = λ trees m.
+    let cut : (trees ≡ mid.trees) ⊎ LeavesOver g.K.LogLink.asks (towards route_then) c.new-others.result.retries (run_place mid c.in_ok-from.from c.args.later.now c.in_ok-from_number-2.field-0) c.args.steps trees =
     elim (c.keep_log.ensures.crash_over.crash clean_then trees m) [
       | inl n ↦ inl (elim ((c.newest.ensures.crash has_then).crash before trees n) [
         | inl p ↦ c.leaves_the_last_commit-2.ensures was_open_then trees p ∙ ap (λ (d : Database). d.trees) (committed_then ∙ sym as_it_was)
@@ -55,7 +56,7 @@ returns g c clean was_open committed has none later may has_then was_open_then c
     ] in
     cut_early g.K.LogLink.asks (towards route_then) c.new-others.result.retries c.in_ok-from.from mid c.args.later.now c.in_ok-from_number-2.field-0 c.args.steps trees cut in
     λ H M k low honest here some back window above below.
-    let I : Path → Type 0 = λ p. IsHonest g.L.LogLink.asks p c.args.log 100 H low c.args.link.now M in
+    let I : Path → Type 0 = λ p. IsHonest g.L.LogLink.asks (asked_log p c.args.log 100) H low c.args.link.now M in
     let both = behind_crash g.L.LogLink.asks g.K.LogLink.asks c.honest_is_kept.ensures c.honest_is_kept-2.ensures c.begins_empty.ensures c.all_runs_are_kept.ensures
     c.kept_is_covered.ensures c.newest_ends_what_is_kept.ensures c.none_later_stays.ensures c.delivers_each_once.ensures
     (towards route) (towards route_then) c.new-transactions.result.retries c.new-others.result.retries c.args.place c.in_ok-from.from old opened c.args.link.now c.args.later.now
@@ -63,18 +64,18 @@ returns g c clean was_open committed has none later may has_then was_open_then c
     (c.in-Ok.ensures.told before has_then) c.in_ok-from.ensures.0 c.in_ok-from.ensures.1 c.in_ok-from.ensures.2 H M k low (subst I (ap towards (sym straight)) honest) here some back window above below in (
       both.0,
       λ wait honest_then.
-          let J : Path → Type 0 = λ p. IsHonest g.K.LogLink.asks p c.args.log 100 H low c.args.later.now (after_answers (both.0 + wait) M) in
+          let J : Path → Type 0 = λ p. IsHonest g.K.LogLink.asks (asked_log p c.args.log 100) H low c.args.later.now (after_answers (both.0 + wait) M) in
           let goes = both.1 wait (subst J (ap towards (sym straight_then)) honest_then) in (
             λ shut.
                 let E : Database → Type 0 = λ d. Ends second.place d new second.next in
                 let kept = goes second.place new second.next (c.keep_log.ensures.log ∙ c.in_ok-from.ensures.0) (subst E as_it_was (ended shut)) in
-                let K : Database → Type 0 = λ d. IsKept H (era c.args.place) (era second.place) d.trees k kept.0 M kept.1 in
+                let K : Database → Type 0 = λ d. IsKept H (eras (era c.args.place) (era second.place)) d.trees k kept.0 M kept.1 in
                 (kept.0, kept.1, kept.2, subst K (sym (done shut)) kept.3),
             λ trees m.
                 let cut = any_cut g.K.LogLink.asks (towards route_then) c.new-others.result.retries c.in_ok-from.from mid c.args.later.now c.in_ok-from_number-2.field-0 c.args.steps trees (leaves_then trees m) in
                 let E : Database → Type 0 = λ d. Ends cut.1 d cut.0 cut.2 in
                 let kept = goes cut.1 cut.0 cut.2 (cut.4 ∙ c.in_ok-from.ensures.0) (subst E as_it_was cut.5) in
-                let K : Trees → Type 0 = λ t. IsKept H (era c.args.place) (era cut.1) t k kept.0 M kept.1 in
+                let K : Trees → Type 0 = λ t. IsKept H (eras (era c.args.place) (era cut.1)) t k kept.0 M kept.1 in
                 (cut.1, kept.0, kept.1, subst K (sym cut.3) kept.3),
           ),
     )

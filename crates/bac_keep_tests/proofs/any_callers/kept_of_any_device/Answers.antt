@@ -2,7 +2,7 @@ use Rattle.std.proofs.Common.{rules, ◌≡◌, ◌+◌, None, ap, sym, subst, �
 use Rattle.sqlite.specs.Effect.{Database}
 use Rattle.sqlite.specs.State.{HasCleanDisk, IsUnchanged}
 use Rattle.sqlite.specs.Held.{state}
-use Rattle.bac_link.specs.Honest.{IsHonest}
+use Rattle.bac_link.specs.Honest.{IsHonest, asked_log}
 use Rattle.bac_link.specs.Laws.{after_answers}
 use Rattle.bac_link.specs.Path.{Path, towards}
 use Rattle.bac_keep_tests.proofs.OverLemmas.{AnyEnd, again_over, any_end}
@@ -34,7 +34,7 @@ returns g c clean shut has none free =
     let ended_then = any_end g.K.LogLink.asks (towards one.transactions.route) one.transactions.retries first.place second.place mid new c.args.later.now two.link
     c.in_ok-again.again c.args.steps second.next second.records second.gaps second.end (c.keep_log-second.ensures.brought clean archive_still) (c.keep_log-second.ensures.stands_over clean shut archive_still) in
     λ H M k low honest here some back window above below.
-    let I : Path → Type 0 = λ p. IsHonest g.L.LogLink.asks p c.args.log 100 H low c.args.link.now M in
+    let I : Path → Type 0 = λ p. IsHonest g.L.LogLink.asks (asked_log p c.args.log 100) H low c.args.link.now M in
     let both = again_over g.L.LogLink.asks g.K.LogLink.asks c.honest_is_kept.ensures c.honest_is_kept-2.ensures c.begins_empty.ensures c.all_runs_are_kept.ensures
     (towards route) (towards one.transactions.route) c.new-transactions.result.retries one.transactions.retries c.args.place first.place second.place old mid new c.args.link.now c.args.later.now
     c.in_ok-walk.walk c.in_ok-again.again c.args.log c.args.s first.next second.next c.in_ok-walk.ensures.some c.in_ok-again.ensures.some none free (subst E (sym as_it_was) ended) ended_then
@@ -43,6 +43,6 @@ returns g c clean shut has none free =
       both.1,
       both.2,
       λ wait honest_then.
-          let J : Path → Type 0 = λ p. IsHonest g.K.LogLink.asks p c.args.log 100 H low c.args.later.now (after_answers (both.1 + wait) M) in
+          let J : Path → Type 0 = λ p. IsHonest g.K.LogLink.asks (asked_log p c.args.log 100) H low c.args.later.now (after_answers (both.1 + wait) M) in
           both.3 wait (subst J (ap towards (sym straight_then)) honest_then),
     )

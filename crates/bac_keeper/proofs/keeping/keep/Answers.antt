@@ -3,11 +3,13 @@ use Rattle.std.proofs.Common.{refl, ◌≡◌, ◌∙◌, ℕ, List, Bool, inl, 
 use Rattle.sqlite.specs.Files.{file_state}
 use Rattle.sqlite_wal.specs.Files.{image_at}
 use Rattle.bac_files.specs.Files.{IsNamed}
-use Rattle.bac_fetch.specs.Ahead.{at_once}
+use Rattle.bac_fetch.specs.Ahead.{at_once, reach, reaching}
 use Rattle.bac_ports.specs.Sockets.{socket_rules}
 use Rattle.bac_asked.specs.AsLog.{given_in}
 use Rattle.bac_fetch.specs.Faults.{EndsKeeping}
-use Rattle.bac_keeper.specs.Done.{EndsChosenKeep, EndsKeep, EndsOver, IsQuiet, RefusesKeep}
+use Rattle.bac_fetch.specs.Points.{run_point, scene}
+use Rattle.bac_fetch.specs.Chosen.{selection}
+use Rattle.bac_keeper.specs.Done.{EndsChosenKeep, EndsKeep, EndsOver, IsQuiet, RefusesKeep, on_disk, unbegun}
 use Rattle.bac_offline.specs.Options.{given_of}
 use Rattle.std.specs.String.{string_bytes}
 use Rattle.bac_offline.specs.Begun.{BarsPart, BeginsOn}
@@ -25,7 +27,7 @@ returns-clause-kept g c =
     let over = socket_rules g.S.Sockets.opens g.S.Sockets.closes g.S.Socket.Port.sends g.S.Socket.Port.receives g.S.Socket.Port.receives_within in
     let done = c.keep_in-done in
     let part = file_ghosts g.row.G g.G.Start g.G.Start-dict g.G.Destruct-dict in
-    keeps_in (image_at g.F.Start) c.in_ok-conn.conn done.new.conn c.close_file.new.files.closed c.in_ok-conn.ensures.opened done.ensures.clean
+    keeps_in (image_at g.F.Start) c.in_ok-conn.conn done.new.conn c.close_file.new.files c.in_ok-conn.ensures.opened done.ensures.clean
     over (at_once g.S.Recalls.holds g.C.Clock.reads c.args.clock) (BeginsOn part (image_at g.G.Start) c.args.place.now.before done.new.parts) c.args.asked.now (given_in c.options_of-options.result) c.in_ok-chosen.chosen c.args.sockets.now done.new.sockets (g.O.Write.contents c.args.output.now) (g.O.Write.contents done.new.output)
     c.close_file.result done.result c.options_of-options.ensures c.in_ok-chosen.ensures.chosen done.ensures.told c.close_file.ensures.done c.close_file.ensures.closed
 
@@ -42,7 +44,7 @@ returns-clause-fault g c =
     let done = c.keep_in-done in
     let part = file_ghosts g.row.G g.G.Start g.G.Start-dict g.G.Destruct-dict in
     let bars = BarsPart part (image_at g.G.Start) c.args.place.now.before done.new.parts in
-    let quiet = IsQuiet c.args.sockets.now done.new.sockets (g.O.Write.contents c.args.output.now) (g.O.Write.contents done.new.output)
+    let quiet = IsQuiet (scene c.args.sockets.now (g.O.Write.contents c.args.output.now)) (scene done.new.sockets (g.O.Write.contents done.new.output))
     × (g.E.Write.contents done.new.errors ≡ g.E.Write.contents c.args.errors.now) in
     let may = are_any c.args.asked.now.groups || is_some c.args.place.now.before in
     let named = subst₂ (λ (p : List ℕ) (b : Bool). IsNamed p b c.close_file.new.files) c.as_str.ensures.value c.may_make.ensures
@@ -51,7 +53,7 @@ returns-clause-fault g c =
     let by = given_of c.args.asked.now.options in
     all_fail _ _ c.close_file.result (λ why it. (c.in_ok-chosen.chosen, c.in_ok-chosen.ensures.chosen, inr it))
     (fails_file (image_at g.F.Start) c.in_ok-conn.conn done.new.conn c.close_file.new.files c.in_ok-conn.ensures.opened (string_bytes c.args.place.now.path) may named
-    (RefusesKeep over (at_once g.S.Recalls.holds g.C.Clock.reads c.args.clock c.args.asked.now.at_once) bars quiet c.in_ok-chosen.chosen by c.args.sockets.now done.new.sockets) done.result c.close_file.result (fails_clean _ _ _ done.result done.ensures.clean
+    (λ found left. RefusesKeep (reach over (at_once g.S.Recalls.holds g.C.Clock.reads c.args.clock c.args.asked.now.at_once)) (unbegun quiet bars) (selection by c.in_ok-chosen.chosen) (run_point c.args.sockets.now found) (run_point done.new.sockets left)) done.result c.close_file.result (fails_clean _ _ _ done.result done.ensures.clean
     (refused_by over (at_once g.S.Recalls.holds g.C.Clock.reads c.args.clock c.args.asked.now.at_once) bars quiet c.in_ok-chosen.chosen c.args.sockets.now done.new.sockets (file_state c.in_ok-conn.conn).now (file_state done.new.conn) given by done.result c.options_of-options.ensures done.ensures.fault)) c.close_file.ensures.fault c.close_file.ensures.shut)
 
 pub returns-in_err-conn-clause-fault : goal.returns-in_err-conn-clause-fault
@@ -77,14 +79,14 @@ returns-in_err-chosen-clause-ends g c =
     let disk = file_ghosts g.row.F g.F.Start g.F.Start-dict g.F.Destruct-dict in
     let over = socket_rules g.S.Sockets.opens g.S.Sockets.closes g.S.Socket.Port.sends g.S.Socket.Port.receives g.S.Socket.Port.receives_within in
     handed_on c.from_residual.result c.in_err-chosen.field-0.0 _ c.from_residual.ensures.1
-    (may_ask (EndsKeep over (at_once g.S.Recalls.holds g.C.Clock.reads c.args.clock) disk (image_at g.F.Start) c.args.asked.now c.args.sockets.now c.args.sockets.now c.args.files.now) c.in_err-chosen.field-0.0 (inr (inl (c.in_err-chosen.ensures.none, refl))))
+    (may_ask (EndsKeep (reaching over (at_once g.S.Recalls.holds g.C.Clock.reads c.args.clock)) (on_disk disk (image_at g.F.Start) c.args.files.now) c.args.asked.now c.args.sockets.now c.args.sockets.now) c.in_err-chosen.field-0.0 (inr (inl (c.in_err-chosen.ensures.none, refl))))
 
 pub returns-in_err-conn-clause-ends : goal.returns-in_err-conn-clause-ends
 returns-in_err-conn-clause-ends g c =
     let disk = file_ghosts g.row.F g.F.Start g.F.Start-dict g.F.Destruct-dict in
     let over = socket_rules g.S.Sockets.opens g.S.Sockets.closes g.S.Socket.Port.sends g.S.Socket.Port.receives g.S.Socket.Port.receives_within in
     handed_on c.from_residual-in_err-conn.result c.in_err-conn.field-0.0 _ c.from_residual-in_err-conn.ensures.1
-    (file_asks (EndsKeep over (at_once g.S.Recalls.holds g.C.Clock.reads c.args.clock) disk (image_at g.F.Start) c.args.asked.now c.args.sockets.now c.args.sockets.now c.open_file.new.files) c.in_err-conn.field-0.0 c.in_err-conn.ensures.file)
+    (file_asks (EndsKeep (reaching over (at_once g.S.Recalls.holds g.C.Clock.reads c.args.clock)) (on_disk disk (image_at g.F.Start) c.open_file.new.files) c.args.asked.now c.args.sockets.now c.args.sockets.now) c.in_err-conn.field-0.0 c.in_err-conn.ensures.file)
 
 pub returns-clause-ends : goal.returns-clause-ends
 returns-clause-ends g c =
@@ -93,11 +95,11 @@ returns-clause-ends g c =
     let done = c.keep_in-done in
     let which = c.in_ok-chosen.chosen in
     let by = given_of c.args.asked.now.options in
-    let runs = EndsKeeping over (at_once g.S.Recalls.holds g.C.Clock.reads c.args.clock c.args.asked.now.at_once) which (Unit {0}) (Unit {0}) c.args.sockets.now done.new.sockets in
-    all_ask_so (EndsChosenKeep over (at_once g.S.Recalls.holds g.C.Clock.reads c.args.clock c.args.asked.now.at_once) disk (image_at g.F.Start) which by c.args.sockets.now done.new.sockets c.close_file.new.files)
-    (EndsKeep over (at_once g.S.Recalls.holds g.C.Clock.reads c.args.clock) disk (image_at g.F.Start) c.args.asked.now c.args.sockets.now done.new.sockets c.close_file.new.files) c.close_file.result
+    let runs = EndsKeeping (reach over (at_once g.S.Recalls.holds g.C.Clock.reads c.args.clock c.args.asked.now.at_once)) which (Unit {0}) (Unit {0}) c.args.sockets.now done.new.sockets in
+    all_ask_so (EndsChosenKeep (reach over (at_once g.S.Recalls.holds g.C.Clock.reads c.args.clock c.args.asked.now.at_once)) (on_disk disk (image_at g.F.Start) c.close_file.new.files) (selection by which) c.args.sockets.now done.new.sockets)
+    (EndsKeep (reaching over (at_once g.S.Recalls.holds g.C.Clock.reads c.args.clock)) (on_disk disk (image_at g.F.Start) c.close_file.new.files) c.args.asked.now c.args.sockets.now done.new.sockets) c.close_file.result
     (λ fault it. inr (inr (which, c.in_ok-chosen.ensures.chosen, it)))
     (asks_file (image_at g.F.Start) c.in_ok-conn.conn done.new.conn c.close_file.new.files c.in_ok-conn.ensures.opened done.ensures.clean runs
-    (EndsOver over (at_once g.S.Recalls.holds g.C.Clock.reads c.args.clock c.args.asked.now.at_once) which by c.args.sockets.now done.new.sockets) done.result c.close_file.result
+    (λ found left. EndsOver (reach over (at_once g.S.Recalls.holds g.C.Clock.reads c.args.clock c.args.asked.now.at_once)) (selection by which) (run_point c.args.sockets.now found) (run_point done.new.sockets left)) done.result c.close_file.result
     (ended_by over (at_once g.S.Recalls.holds g.C.Clock.reads c.args.clock c.args.asked.now.at_once) which c.args.sockets.now done.new.sockets (file_state c.in_ok-conn.conn).now (file_state done.new.conn) (given_in c.options_of-options.result) by runs done.result
     c.options_of-options.ensures done.ensures.ends) c.close_file.ensures.fault c.close_file.ensures.shut)

@@ -3,7 +3,7 @@ use Rattle.std.proofs.lemmas.Result.{IfOk-weaker}
 use Rattle.sqlite.specs.Effect.{Database}
 use Rattle.sqlite.specs.Held.{state}
 use Rattle.sqlite.specs.State.{HasCleanDisk}
-use Rattle.bac_fetch.specs.Chosen.{AreChosen}
+use Rattle.bac_fetch.specs.Chosen.{AreChosen, selection}
 use Rattle.bac_fetch.specs.Keeps.{KeepsLogs}
 use Rattle.bac_keeper.proofs.ArchiveLemmas.{loses_nothing, tells_weaker}
 use Rattle.bac_offline.proofs.ArchiveLemmas.{taken_fits}
@@ -16,7 +16,7 @@ use Rattle.bac_keeper.specs.Archives.{KeepsArchive}
 use Rattle.bac_archive.specs.Schema.{OverArchive, HasArchive, no_schema}
 use Rattle.bac_offline.proofs.EndLemmas.{handed_on}
 use Rattle.bac_keeper.specs.Done.{EndsOver, IsQuiet, TellsThese}
-use Rattle.bac_fetch.specs.Ahead.{at_once}
+use Rattle.bac_fetch.specs.Ahead.{at_once, reach}
 use Rattle.bac_ports.specs.Sockets.{socket_rules}
 use Rattle.bac_asked.specs.AsLog.{given_in}
 use Rattle.bac_keeper.proofs.FileLemmas.{all_database_ask, all_database_fail}
@@ -27,6 +27,7 @@ use Rattle.bac_files.proofs.FileGhosts.{file_ghosts}
 use Rattle.sqlite_wal.specs.Files.{image_at}
 use Rattle.bac_fetch.proofs.StaysLemmas.{all_itself}
 use Rattle.bac_fetch.specs.Stays.{HasAllOf}
+use Rattle.bac_fetch.specs.Points.{run_point, scene}
 use Rattle.bac_offline.specs.Begun.{BarsPart, BeginsOn}
 use Rattle.bac_keeper.proofs.keeping.keep_in.Goals as goal
 
@@ -44,9 +45,9 @@ returns-clause-told g c =
     let told = c.in_ok-status.ensures.told in
     IfOk-weaker c.settled.result _ _
     (λ done is.
-    subst (λ (n : ℕ). TellsThese over (at_once g.S.Recalls.holds g.C.Clock.reads c.args.clock c.args.window) c.args.chosen c.args.sockets.now out out' (λ all between ends. IsHeld last → KeepsArchive over (at_once g.S.Recalls.holds g.C.Clock.reads c.args.clock c.args.window) (given_in c.args.options.now) c.args.chosen all between after begins ends found.now last.committed) n) (sym is.0)
+    subst (λ (n : ℕ). TellsThese (reach over (at_once g.S.Recalls.holds g.C.Clock.reads c.args.clock c.args.window)) c.args.chosen c.args.sockets.now out out' (λ all between ends. IsHeld last → KeepsArchive (reach over (at_once g.S.Recalls.holds g.C.Clock.reads c.args.clock c.args.window)) (selection (given_in c.args.options.now) c.args.chosen) all (run_point between found.now) (run_point after last.committed) begins ends) n) (sym is.0)
     (tells_weaker over (at_once g.S.Recalls.holds g.C.Clock.reads c.args.clock c.args.window) c.args.chosen c.args.sockets.now out out'
-    (λ all between ends. OverArchive archive last (AreChosen (given_in c.args.options.now) c.args.chosen archive.now.trees all × KeepsLogs over (at_once g.S.Recalls.holds g.C.Clock.reads c.args.clock c.args.window) (given_in c.args.options.now) all between after archive.now last.now ends)) _ _
+    (λ all between ends. OverArchive archive last (AreChosen (given_in c.args.options.now) c.args.chosen archive.now.trees all × KeepsLogs (reach over (at_once g.S.Recalls.holds g.C.Clock.reads c.args.clock c.args.window)) (given_in c.args.options.now) all (run_point between archive.now) (run_point after last.now) ends)) _ _
     (λ all between ends kept held.
     let early : HasCleanDisk archive = c.keep_chosen.ensures.clean held.0 in
     let opened = c.in_ok-begin_archive.ensures.archive early in
@@ -56,7 +57,7 @@ returns-clause-told g c =
       opened = opened;
       begun = c.in_ok-begin_archive.ensures.begun early;
       chose = it.0;
-      kept = subst (λ (d : Database). KeepsLogs over (at_once g.S.Recalls.holds g.C.Clock.reads c.args.clock c.args.window) (given_in c.args.options.now) all between after archive.now d ends) (is.1 held.1) it.1;
+      kept = subst (λ (d : Database). KeepsLogs (reach over (at_once g.S.Recalls.holds g.C.Clock.reads c.args.clock c.args.window)) (given_in c.args.options.now) all (run_point between archive.now) (run_point after d) ends) (is.1 held.1) it.1;
     })
     (told.0, told.1, told.2, told.3, told.4, (told.6.0, told.6.1, told.6.2, told.6.3, λ clean schema. (told.5 clean schema, told.6.4 clean schema)))))
     c.settled.ensures.settled
@@ -98,8 +99,8 @@ pub returns-in_err-begin_archive-clause-ends : goal.returns-in_err-begin_archive
 returns-in_err-begin_archive-clause-ends g c =
     let over = socket_rules g.S.Sockets.opens g.S.Sockets.closes g.S.Socket.Port.sends g.S.Socket.Port.receives g.S.Socket.Port.receives_within in
     handed_on c.from_residual.result c.in_err-begin_archive.field-0.0 _ c.from_residual.ensures.1
-    (file_asks (λ fault. EndsKeeping over (at_once g.S.Recalls.holds g.C.Clock.reads c.args.clock c.args.window) c.args.chosen (Unit {0}) (Unit {0}) c.args.sockets.now c.args.sockets.now fault
-    × (IsHeld (state g.A.Store c.begin_archive.new.conn) → EndsOver over (at_once g.S.Recalls.holds g.C.Clock.reads c.args.clock c.args.window) c.args.chosen (given_in c.args.options.now) c.args.sockets.now c.args.sockets.now (state g.A.Store c.args.conn.now).now (state g.A.Store c.begin_archive.new.conn).committed fault))
+    (file_asks (λ fault. EndsKeeping (reach over (at_once g.S.Recalls.holds g.C.Clock.reads c.args.clock c.args.window)) c.args.chosen (Unit {0}) (Unit {0}) c.args.sockets.now c.args.sockets.now fault
+    × (IsHeld (state g.A.Store c.begin_archive.new.conn) → EndsOver (reach over (at_once g.S.Recalls.holds g.C.Clock.reads c.args.clock c.args.window)) (selection (given_in c.args.options.now) c.args.chosen) (run_point c.args.sockets.now (state g.A.Store c.args.conn.now).now) (run_point c.args.sockets.now (state g.A.Store c.begin_archive.new.conn).committed) fault))
     c.in_err-begin_archive.field-0.0 c.in_err-begin_archive.ensures.file)
 
 pub returns-in_err-status-clause-fault : goal.returns-in_err-status-clause-fault
@@ -108,7 +109,7 @@ returns-in_err-status-clause-fault g c =
     let archive = state g.A.Store c.begin_archive.new.conn in
     let part = file_ghosts g.row.G g.G.Start g.G.Start-dict g.G.Destruct-dict in
     let bars = BarsPart part (image_at g.G.Start) c.args.place.now.before c.begin_archive.new.parts in
-    let quiet = IsQuiet c.args.sockets.now c.keep_chosen.new.sockets (g.O.Write.contents c.args.output.now) (g.O.Write.contents c.keep_chosen.new.output)
+    let quiet = IsQuiet (scene c.args.sockets.now (g.O.Write.contents c.args.output.now)) (scene c.keep_chosen.new.sockets (g.O.Write.contents c.keep_chosen.new.output))
     × (g.E.Write.contents c.keep_chosen.new.errors ≡ g.E.Write.contents c.args.errors.now) in
     handed_on c.from_residual-in_err-status.result c.in_err-status.field-0.0 _ c.from_residual-in_err-status.ensures.1
     (refused_so over (at_once g.S.Recalls.holds g.C.Clock.reads c.args.clock c.args.window) bars quiet c.args.chosen (given_in c.args.options.now) (state g.A.Store c.args.conn.now).now archive (state g.A.Store c.keep_chosen.new.conn) c.args.sockets.now c.keep_chosen.new.sockets c.in_err-status.field-0.0
@@ -123,8 +124,8 @@ returns-in_err-status-clause-ends g c =
     let archive = state g.A.Store c.begin_archive.new.conn in
     let last = state g.A.Store c.keep_chosen.new.conn in
     handed_on c.from_residual-in_err-status.result c.in_err-status.field-0.0 _ c.from_residual-in_err-status.ensures.1
-    (may_ask (λ fault. EndsKeeping over (at_once g.S.Recalls.holds g.C.Clock.reads c.args.clock c.args.window) c.args.chosen (Unit {0}) (Unit {0}) c.args.sockets.now c.keep_chosen.new.sockets fault
-    × (IsHeld last → EndsOver over (at_once g.S.Recalls.holds g.C.Clock.reads c.args.clock c.args.window) c.args.chosen (given_in c.args.options.now) c.args.sockets.now c.keep_chosen.new.sockets (state g.A.Store c.args.conn.now).now last.committed fault)) c.in_err-status.field-0.0 (
+    (may_ask (λ fault. EndsKeeping (reach over (at_once g.S.Recalls.holds g.C.Clock.reads c.args.clock c.args.window)) c.args.chosen (Unit {0}) (Unit {0}) c.args.sockets.now c.keep_chosen.new.sockets fault
+    × (IsHeld last → EndsOver (reach over (at_once g.S.Recalls.holds g.C.Clock.reads c.args.clock c.args.window)) (selection (given_in c.args.options.now) c.args.chosen) (run_point c.args.sockets.now (state g.A.Store c.args.conn.now).now) (run_point c.keep_chosen.new.sockets last.committed) fault)) c.in_err-status.field-0.0 (
       keeping_so over (at_once g.S.Recalls.holds g.C.Clock.reads c.args.clock c.args.window) (OverArchive archive last (HasNone archive.now.trees)) (Unit {0}) (OverArchive archive last (LacksAddress (given_in c.args.options.now) archive.now.trees)) (Unit {0})
           (λ n. tt {0}) (λ n. tt {0}) c.args.chosen c.args.sockets.now c.keep_chosen.new.sockets c.in_err-status.field-0.0 c.in_err-status.ensures.fault,
       λ held.
@@ -132,7 +133,7 @@ returns-in_err-status-clause-ends g c =
           let opened = c.in_ok-begin_archive.ensures.archive early in (
             archive.now,
             opened,
-            leaves_committed archive last (λ left. EndsRunOver over (at_once g.S.Recalls.holds g.C.Clock.reads c.args.clock c.args.window) (given_in c.args.options.now) c.args.chosen c.args.sockets.now c.keep_chosen.new.sockets archive.now left c.in_err-status.field-0.0)
+            leaves_committed archive last (λ left. EndsRunOver (reach over (at_once g.S.Recalls.holds g.C.Clock.reads c.args.clock c.args.window)) (selection (given_in c.args.options.now) c.args.chosen) (run_point c.args.sockets.now archive.now) c.keep_chosen.new.sockets left c.in_err-status.field-0.0)
                 (c.in_ok-begin_archive.ensures.committed early) held.1 (c.in_err-status.ensures.caused held.0 opened.is.schema),
           ),
     ))
@@ -143,8 +144,8 @@ returns-clause-fault g c = all_database_fail _ c.settled.result c.settled.ensure
 pub returns-clause-ends : goal.returns-clause-ends
 returns-clause-ends g c =
     let over = socket_rules g.S.Sockets.opens g.S.Sockets.closes g.S.Socket.Port.sends g.S.Socket.Port.receives g.S.Socket.Port.receives_within in
-    all_database_ask (λ fault. EndsKeeping over (at_once g.S.Recalls.holds g.C.Clock.reads c.args.clock c.args.window) c.args.chosen (Unit {0}) (Unit {0}) c.args.sockets.now c.keep_chosen.new.sockets fault
-    × (IsHeld (state g.A.Store c.keep_chosen.new.conn) → EndsOver over (at_once g.S.Recalls.holds g.C.Clock.reads c.args.clock c.args.window) c.args.chosen (given_in c.args.options.now) c.args.sockets.now c.keep_chosen.new.sockets (state g.A.Store c.args.conn.now).now (state g.A.Store c.keep_chosen.new.conn).committed fault))
+    all_database_ask (λ fault. EndsKeeping (reach over (at_once g.S.Recalls.holds g.C.Clock.reads c.args.clock c.args.window)) c.args.chosen (Unit {0}) (Unit {0}) c.args.sockets.now c.keep_chosen.new.sockets fault
+    × (IsHeld (state g.A.Store c.keep_chosen.new.conn) → EndsOver (reach over (at_once g.S.Recalls.holds g.C.Clock.reads c.args.clock c.args.window)) (selection (given_in c.args.options.now) c.args.chosen) (run_point c.args.sockets.now (state g.A.Store c.args.conn.now).now) (run_point c.keep_chosen.new.sockets (state g.A.Store c.keep_chosen.new.conn).committed) fault))
     c.settled.result c.settled.ensures.fault
 
 pub returns-in_err-begin_archive-clause-stays : goal.returns-in_err-begin_archive-clause-stays

@@ -4,10 +4,10 @@ use Rattle.std.specs.String.{string_bytes}
 use Rattle.bac_files.specs.Files.{IsNamed}
 use Rattle.sqlite_wal.specs.Files.{image_at}
 use Rattle.bac_keeper.proofs.EndLemmas.{blamed_is, ended, not_done}
-use Rattle.bac_fetch.specs.Ahead.{at_once}
+use Rattle.bac_fetch.specs.Ahead.{at_once, reaching}
 use Rattle.bac_ports.specs.Sockets.{socket_rules}
 use Rattle.bac_words.specs.Groups.{are_any}
-use Rattle.bac_keeper.specs.Done.{EndsKeep}
+use Rattle.bac_keeper.specs.Done.{EndsKeep, on_disk}
 use Rattle.bac_keeper.proofs.program.keep_at.Goals as goal
 
 pub returns-clause-kept : goal.returns-clause-kept
@@ -25,4 +25,4 @@ returns-clause-ends g c =
     let disk = file_ghosts g.row.F g.F.Start g.F.Start-dict g.F.Destruct-dict in
     let over = socket_rules g.S.Sockets.opens g.S.Sockets.closes g.S.Socket.Port.sends g.S.Socket.Port.receives g.S.Socket.Port.receives_within in
     let done = c.keep-done in
-    not_done (EndsKeep over (at_once g.S.Recalls.holds g.C.Clock.reads c.args.clock) disk (image_at g.F.Start) c.args.asked.now c.args.sockets.now done.new.sockets done.new.files) done.result c.tell_done.result (λ file is. inl refl) done.ensures.ends c.tell_done.ensures.why
+    not_done (EndsKeep (reaching over (at_once g.S.Recalls.holds g.C.Clock.reads c.args.clock)) (on_disk disk (image_at g.F.Start) done.new.files) c.args.asked.now c.args.sockets.now done.new.sockets) done.result c.tell_done.result (λ file is. inl refl) done.ensures.ends c.tell_done.ensures.why

@@ -7,9 +7,9 @@ use Rattle.std.proofs.lemmas.Result.{IfOk-weaker}
 use Rattle.bac_offline.proofs.FileLemmas.{file_asks, none_closed}
 use Rattle.sqlite_wal.specs.Files.{image_at}
 use Rattle.bac_keeper.proofs.EndLemmas.{ended_early, not_done}
-use Rattle.bac_fetch.specs.Ahead.{at_once}
+use Rattle.bac_fetch.specs.Ahead.{at_once, reaching}
 use Rattle.bac_ports.specs.Sockets.{socket_rules}
-use Rattle.bac_keeper.specs.Done.{EndsKeep}
+use Rattle.bac_keeper.specs.Done.{EndsKeep, on_disk}
 use Rattle.bac_keeper.proofs.program.run_keep.Goals as goal
 
 pub returns-clause-kept : goal.returns-clause-kept
@@ -40,5 +40,5 @@ pub returns-in-Err-clause-ends : goal.returns-in-Err-clause-ends
 returns-in-Err-clause-ends g c keeps =
     let disk = file_ghosts g.row.F g.F.Start g.F.Start-dict g.F.Destruct-dict in
     let over = socket_rules g.S.Sockets.opens g.S.Sockets.closes g.S.Socket.Port.sends g.S.Socket.Port.receives g.S.Socket.Port.receives_within in
-    let ends = EndsKeep over (at_once g.S.Recalls.holds g.C.Clock.reads c.args.clock) disk (image_at g.F.Start) c.args.asked.now c.args.sockets.now c.args.sockets.now c.place_of.new.files in
+    let ends = EndsKeep (reaching over (at_once g.S.Recalls.holds g.C.Clock.reads c.args.clock)) (on_disk disk (image_at g.F.Start) c.place_of.new.files) c.args.asked.now c.args.sockets.now c.args.sockets.now in
     not_done ends (Err c.in-Err.fault) c.tell_done.result (λ file is. inl refl) (file_asks ends c.in-Err.fault c.in-Err.ensures.file) c.tell_done.ensures.why

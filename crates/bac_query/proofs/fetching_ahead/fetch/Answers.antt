@@ -8,15 +8,17 @@ use Rattle.bac_walk.specs.declared.outcome.Ended.TheVariants.{StepLimit, Stopped
 use Rattle.bac_walk.specs.declared.outcome.Why.TheVariants as why
 use Rattle.bac_walk.proofs.Runs.{ends_run, goes_on, not_limit}
 use Rattle.bac_walk.proofs.Told.{Asking}
-use Rattle.bac_query.specs.Ahead.{IsRunOver, PrintsLast, PrintsLeft, port_asks}
+use Rattle.bac_query.specs.Ahead.{IsRunOver, PrintsLast, PrintsLeft, closing, port_asks}
 use Rattle.bac_query.specs.declared.layout.Layout.{Layout}
 use Rattle.bac_walk.specs.declared.outcome.WalkFault.TheVariants.{BadReply}
-use Rattle.bac_query.specs.Flaws.{IsBadlyFetched}
+use Rattle.bac_query.specs.Flaws.{IsBadlyFetched, log_place}
 use Rattle.bac_query.proofs.Delivered.{not_stopped}
 use Rattle.bac_query.proofs.Flaws.{badly, last_is, no_flaw, no_last_flaw, why_bad}
 use Rattle.bac_query.proofs.Laid.{laid_kept, laid_none, laid_then}
 use Rattle.bac_query.proofs.RunsAhead.{Learns, fails, finishes, limit_on, none_over, over_early, over_joins, whole_ahead, without_lines}
 use Rattle.bac_query.proofs.fetching_ahead.fetch.Goals as goal
+use Rattle.bac_query.specs.Fetching.{course}
+use Rattle.bac_link.specs.Exchanges.{client}
 
 pub loop-done-init : goal.loop-done-init
 loop-done-init g c =
@@ -27,8 +29,8 @@ loop-done-init g c =
     let failures = link.failures in
     let old = g.W.Write.contents c.args.ahead.now.out.now in
     let none = none_over asks t link c.args.walk c.args.ahead.now.said_more in
-    let P : List Item → Type 0 = λ l. IsRunOver asks t link c.args.walk 0 l StepLimit c.args.walk t link c.args.ahead.now.said_more c.args.ahead.now.said_more in
-    let B : Bool → Type 0 = λ b. IsRunOver asks t link c.args.walk 0 [] StepLimit c.args.walk t link b c.args.ahead.now.said_more in
+    let P : List Item → Type 0 = λ l. IsRunOver asks (client link t) c.args.walk (course l 0 StepLimit c.args.walk) (client link t) c.args.ahead.now.said_more c.args.ahead.now.said_more in
+    let B : Bool → Type 0 = λ b. IsRunOver asks (client link t) c.args.walk (course [] 0 StepLimit c.args.walk) (client link t) b c.args.ahead.now.said_more in
     record {
       well = c.requires.well;
       same_link = refl;
@@ -156,7 +158,7 @@ returns-in-Some g c =
     let some : why_of ended ≡ Some c.in-Some.why = sym (ap why_of ok.0) ∙ sym c.why-why.ensures ∙ c.in-Some.is in
     let end = g.W.Write.contents c.finish.new.self.out.now in
     let P : UdpLink g.row.P.Denot → Type 0 = λ x. Learns y asks t link c.args.walk c.args.steps c.finish.result failures x.failures z x old (g.W.Write.contents c.finish.new.self.out.now) in
-    let Q : List Item → Type 0 = λ l. PrintsLast y l c.in-Some.why c.next_number.result c.next_number-before.result c.finish.result out end in
+    let Q : List Item → Type 0 = λ l. PrintsLast y (closing l c.in-Some.why c.next_number.result c.next_number-before.result) c.finish.result out end in
     let more = over_joins asks t v z link half new c.args.walk c.loop-done.walk c.turn.new.walk (n + k) 1 (items ++ left) brought ended false c.loop-done.ahead.said_more c.turn.new.ahead.said_more whole ran in
     let early = over_early asks t z link new c.args.walk c.turn.new.walk (n + k + 1) c.args.steps ((items ++ left) ++ brought) ended false c.turn.new.ahead.said_more (not_limit ended c.in-Some.why some) (omega (arith, sum, c.loop-done-test.true)) more in
     let both = finishes y asks t v z link half new c.args.walk c.loop-done.walk c.turn.new.walk c.args.steps (n + k) 1 c.args.steps (items ++ left) brought ended c.in-Some.why c.next_number.result
@@ -165,7 +167,7 @@ returns-in-Some g c =
     c.next_number-before.ensures.next lines (subst Q (ok.1 on) (rw (c.turn.ensures.layout, c.loop-done.invariant.layout) at c.finish.ensures.prints)) in
     let all = subst P (sym c.finish.ensures.link) both in
     let flawed = rw c.in-Ok.is at c.turn.ensures.flaw in
-    let N : ℕ → Type 0 = λ next. IsBadlyFetched asks (towards t.route) t.retries c.args.walk.log next c.finish.new.self.flaw c.finish.new.self.link.now in
+    let N : ℕ → Type 0 = λ next. IsBadlyFetched asks (towards t.route) t.retries (log_place c.args.walk.log next) c.finish.new.self.flaw c.finish.new.self.link.now in
     let badly_told = λ (bad : c.in-Some.why ≡ why.Fault BadReply).
     badly asks (towards t.route) (towards c.loop-done.transactions.route) t.retries c.loop-done.transactions.retries c.turn.new.walk c.args.walk.log c.next_number.result c.finish.new.self.flaw
     c.turn.new.ahead.flaw c.finish.new.self.link.now new (ap towards c.loop-done.invariant.route) c.loop-done.invariant.retries (c.turn.ensures.log ∙ c.loop-done.invariant.log)
@@ -195,8 +197,8 @@ loop-done-preserved g c =
     let ok = rw c.in-Ok.is at is in
     let on : ended ≢ Stopped = λ e. c.in_default.not-Stopped (ok.0 ∙ e) in
     let limit : ended ≡ StepLimit = goes_on ended (sym (ap why_of ok.0) ∙ sym c.why-why.ensures ∙ c.in_default-why.is) in
-    let R : Ended → Type 0 = λ e. IsRunOver asks v half c.loop-done.walk 1 brought e c.turn.new.walk z new c.loop-done.ahead.said_more c.turn.new.ahead.said_more in
-    let Q : List Item → Type 0 = λ l. IsRunOver asks v half c.loop-done.walk 1 l StepLimit c.turn.new.walk z new c.loop-done.ahead.said_more c.turn.new.ahead.said_more in
+    let R : Ended → Type 0 = λ e. IsRunOver asks (client half v) c.loop-done.walk (course brought 1 e c.turn.new.walk) (client new z) c.loop-done.ahead.said_more c.turn.new.ahead.said_more in
+    let Q : List Item → Type 0 = λ l. IsRunOver asks (client half v) c.loop-done.walk (course l 1 StepLimit c.turn.new.walk) (client new z) c.loop-done.ahead.said_more c.turn.new.ahead.said_more in
     record {
       well = rw c.in-Ok.is at c.turn.ensures.well;
       same_link = c.turn.ensures.same_link ∙ c.loop-done.invariant.same_link;

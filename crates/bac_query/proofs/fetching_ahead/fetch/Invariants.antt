@@ -6,6 +6,8 @@ use Rattle.bac_walk.specs.Place.{WalkPlace}
 use Rattle.bac_walk.specs.declared.outcome.Ended.TheVariants.{StepLimit}
 use Rattle.bac_query.specs.Ahead.{IsRunOver, port_asks}
 use Rattle.bac_query.proofs.fetching_ahead.fetch.Given as goal
+use Rattle.bac_query.specs.Fetching.{course}
+use Rattle.bac_link.specs.Exchanges.{client}
 
 -- so far it was a run of so many steps, and the lines of all were written but for those of the last step, which are left
 abbrev pub invariant-loop-done : goal.invariant-loop-done
@@ -19,8 +21,8 @@ invariant-loop-done g l = record {
   begun : l.transactions.begun ≤ l.fn.transactions.begun + 2 * l.done;
   log : l.walk.log ≡ l.fn.walk.log;
   so_far : (items : List Item) × (n : ℕ) × (k : ℕ) × (half : Transactions) × (mid : _) × (w : WalkPlace) × (was : Bool)
-      × IsRunOver (port_asks g.P.Port.sends g.P.Port.receives) l.fn.transactions l.fn.ahead.link.now l.fn.walk n items StepLimit w half mid false was
-      × IsRunOver (port_asks g.P.Port.sends g.P.Port.receives) half mid w k l.ahead.left.now.items StepLimit l.walk l.transactions l.ahead.link.now was l.ahead.said_more
+      × IsRunOver (port_asks g.P.Port.sends g.P.Port.receives) (client l.fn.ahead.link.now l.fn.transactions) l.fn.walk (course items n StepLimit w) (client mid half) false was
+      × IsRunOver (port_asks g.P.Port.sends g.P.Port.receives) (client mid half) w (course l.ahead.left.now.items k StepLimit l.walk) (client l.ahead.link.now l.transactions) was l.ahead.said_more
       × (n + k ≡ l.done) × (k ≤ 1) × (l.told ≡ w.next)
       × AppendsItems l.fn.ahead.layout items (g.W.Write.contents l.fn.ahead.out.now) (g.W.Write.contents l.ahead.out.now);
 }

@@ -1,11 +1,11 @@
 -- What is still to be printed makes the whole.
 use Rattle.std.proofs.Common.{◌-◌}
-use Rattle.bac_query.specs.Reading.{Answer, Held}
+use Rattle.bac_query.specs.Reading.{Answer, Held, printing}
 use Rattle.bac_query.specs.Tables.{PrintsEach, PrintsListedAt, client}
 use Rattle.bac_query.proofs.table.print_among.Given as goal
 
 abbrev pub invariant-loop-place : goal.invariant-loop-place
 invariant-loop-place g l =
     (result : Answer) (new : _) (has : Held)
-    → PrintsEach (PrintsListedAt g.L.LogLink.asks l.values) l.place (l.count - l.place) (client l.link l.transactions) result new (g.W.Write.contents l.out) has
-    → PrintsEach (PrintsListedAt g.L.LogLink.asks l.values) 0 l.count (client l.initial.link l.initial.transactions) result new (g.W.Write.contents l.initial.out) has
+    → PrintsEach (PrintsListedAt g.L.LogLink.asks l.values) l.place (l.count - l.place) (printing (client l.link l.transactions) (g.W.Write.contents l.out)) result (printing new has)
+    → PrintsEach (PrintsListedAt g.L.LogLink.asks l.values) 0 l.count (printing (client l.initial.link l.initial.transactions) (g.W.Write.contents l.initial.out)) result (printing new has)

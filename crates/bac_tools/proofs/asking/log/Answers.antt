@@ -1,5 +1,5 @@
 use Rattle.std.proofs.Common.{Err, ap, arith, inl, inr, refl}
-use Rattle.bac_ports.specs.Sockets.{socket_asks, socket_rules}
+use Rattle.bac_ports.specs.Sockets.{link_over, socket_asks, socket_rules}
 use Rattle.bac_tools.proofs.Fetched.{begun_with, quiet_as, quiet_end, run_of}
 use Rattle.bac_tools.proofs.asking.log.Goals as goal
 
@@ -42,7 +42,7 @@ returns-in-Ok-clause-fetches g c =
             begun_with c.args.asking.layout c.begin_layout.result _ _ c.in_default.not-Err c.begin_layout.ensures,
             (
               (c.fetch_log_ahead-fetched.new.transactions, rw (linked, begun) at c.fetch_log_ahead-fetched.ensures.came, omega (arith, most)),
-              run_of rules c.args.asking.layout c.args.asked c.args.asking.walk _ _ _ _ _ _ c.fetch_log_ahead-fetched.new.link _ _ items prints (rw (linked, begun) at run),
+              run_of rules c.args.asking.layout c.args.asked c.args.asking.walk _ _ _ _ _ _ (link_over c.args.asked.address c.in_ok-link.field-0.link.port) c.fetch_log_ahead-fetched.new.link _ _ items prints (rw (linked, begun) at run),
               rw begun at c.fetch_log_ahead-fetched.ensures.flaw,
             ),
           ),
@@ -74,7 +74,7 @@ returns-in-Err-fetched-clause-fetches g c =
             begun_with c.args.asking.layout c.begin_layout.result _ _ c.in_default.not-Err c.begin_layout.ensures,
             (
               (c.fetch_log_ahead-fetched.new.transactions, rw (linked, begun) at c.fetch_log_ahead-fetched.ensures.came, omega (arith, most)),
-              run_of rules c.args.asking.layout c.args.asked c.args.asking.walk _ _ _ _ _ _ c.fetch_log_ahead-fetched.new.link _ _ items prints (rw (linked, begun) at run),
+              run_of rules c.args.asking.layout c.args.asked c.args.asking.walk _ _ _ _ _ _ (link_over c.args.asked.address c.in_ok-link.field-0.link.port) c.fetch_log_ahead-fetched.new.link _ _ items prints (rw (linked, begun) at run),
               rw begun at c.fetch_log_ahead-fetched.ensures.flaw,
             ),
           ),

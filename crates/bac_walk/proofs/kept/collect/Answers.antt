@@ -9,10 +9,10 @@ use Rattle.bac_walk.specs.declared.outcome.Why.{Why}
 use Rattle.bac_walk.specs.declared.outcome.Why.TheVariants.{StepLimit as WasLimit, Memory}
 use Rattle.bac_link.specs.Delivery.{History, Moment}
 use Rattle.bac_link.specs.Laws.{after_answers}
-use Rattle.bac_walk.specs.Sinks.{gaps, put_items, is_stopped, IsRun}
+use Rattle.bac_walk.specs.Sinks.{gaps, put_items, is_stopped, IsRun, sink_filled, ours_around}
 use Rattle.bac_walk.specs.Outcomes.{IsRunOf, why_of}
 use Rattle.bac_walk.specs.Rests.{rest, Rests}
-use Rattle.bac_walk.specs.Collects.{MissingEnd, MissingWhy}
+use Rattle.bac_walk.specs.Collects.{MissingEnd, MissingWhy, losses_of}
 use Rattle.bac_walk.proofs.Runs.{headline_of, join_run, no_run, run_early, ends_run, not_limit, not_stopped, goes_on, why_limit}
 use Rattle.bac_walk.proofs.Near.{fewer_steps, next_step, rest_near, windows_near}
 use Rattle.bac_walk.proofs.Keeps.{kept_all, put_length}
@@ -20,7 +20,7 @@ use Rattle.bac_walk.proofs.Told.{told_same, told_why}
 use Rattle.bac_walk.proofs.TransactedRuns.{no_brought, brought_joins, brought_early}
 use Rattle.bac_walk.proofs.Transacted.{brought_plain}
 use Rattle.bac_walk.specs.Came.{Came}
-use Rattle.bac_walk.specs.Transacted.{BroughtBy, BroughtIntoBy}
+use Rattle.bac_walk.specs.Transacted.{BroughtBy, BroughtIntoBy, walk_by}
 use Rattle.bac_walk.specs.Kept.{IsKept}
 use Rattle.bac_walk.specs.Place.{WalkPlace}
 use Rattle.bac_walk.specs.Near.{StaysNear}
@@ -41,20 +41,19 @@ items_in_sink k = k.items.items
 -- what came to this step, behind what came before it
 step_joined : {S : Type 0} (asks : Asking S) (t between last : Transactions) (old half new : S) (before kept after : Kept) (w mid left : WalkPlace) (n : ℕ) (ended : Ended) →
     kept.items.items ≡ before.items.items → length kept.items.items + 101 ≤ vec_capacity kept.items →
-    (came : List Came) × BroughtBy asks t old w n came before.items.items StepLimit mid between half →
-    BroughtIntoBy asks between (λ a gap x taken b. IsKept (room a) (items_in_sink a) gap x taken (room b) (items_in_sink b)) half kept mid 1 ended left after last new →
-    (came : List Came) × BroughtBy asks t old w (n + 1) came after.items.items ended left last new
+    (came : List Came) × BroughtBy asks (walk_by old t w) n came before.items.items StepLimit (walk_by half between mid) →
+    BroughtIntoBy asks (sink_filled (λ a gap x taken b. IsKept (room a) (items_in_sink a) gap x taken (room b) (items_in_sink b)) kept after) (walk_by half between mid) 1 ended (walk_by new last left) →
+    (came : List Came) × BroughtBy asks (walk_by old t w) (n + 1) came after.items.items ended (walk_by new last left)
 step_joined asks t between last old half new before kept after w mid left n ended same wide first one =
     let all = kept_all room items_in_sink kept one.0 (is_stopped ended) after one.1 (omega (arith, one.2, one.3, wide)) in
     let is : before.items.items ++ put_items one.0 ≡ after.items.items = ap (λ l. l ++ put_items one.0) (sym same) ∙ sym all.1 in
-    let P : List Item → Type 0 = λ l. (came : List Came) × BroughtBy asks t old w (n + 1) came l ended left last new in
+    let P : List Item → Type 0 = λ l. (came : List Came) × BroughtBy asks (walk_by old t w) (n + 1) came l ended (walk_by new last left) in
     subst P is (brought_joins asks t between last old half new w mid left n 1 before.items.items (put_items one.0) ended first one.4)
 
 pub loop-done-init : goal.loop-done-init
 loop-done-init g c =
     let was : ℕ → List Moment → History → Type 0 = λ r M H. g.L.LogLink.is_ours c.args.link.now c.args.walk.now.log r M H in
-    let P : List Item → Type 0 = λ l. IsRun was was c.args.transactions.now.retries (g.L.LogLink.failures c.args.link.now) (g.L.LogLink.failures c.args.link.now)
-    c.args.walk.now c.args.walk.now 0 StepLimit l in
+    let P : List Item → Type 0 = λ l. IsRun (ours_around was was) (losses_of c.args.transactions.now.retries (g.L.LogLink.failures c.args.link.now) (g.L.LogLink.failures c.args.link.now)) c.args.walk.now c.args.walk.now 0 StepLimit l in
     record {
       log = refl;
       count = refl;
@@ -70,16 +69,13 @@ loop-done-init g c =
       few = search rules;
       run = subst P (search rules) (no_run was c.args.transactions.now.retries (g.L.LogLink.failures c.args.link.now) c.args.walk.now);
       transacted =
-          let B : List Item → Type 0 = λ l. (came : List Came) × BroughtBy g.L.LogLink.asks c.args.transactions.now c.args.link.now c.args.walk.now 0 came
-          l StepLimit c.args.walk.now c.args.transactions.now c.args.link.now in
+          let B : List Item → Type 0 = λ l. (came : List Came) × BroughtBy g.L.LogLink.asks (walk_by c.args.link.now c.args.transactions.now c.args.walk.now) 0 came l StepLimit (walk_by c.args.link.now c.args.transactions.now c.args.walk.now) in
           subst B (search rules) (no_brought g.L.LogLink.asks c.args.transactions.now c.args.link.now c.args.walk.now);
     }
 
 pub returns-then-not-make_room-clause-delivers : goal.returns-then-not-make_room-clause-delivers
 returns-then-not-make_room-clause-delivers g c =
-    let P : List Item → Type 0 = λ l. IsRun (λ r M H. g.L.LogLink.is_ours c.args.link.now c.args.walk.now.log r M H)
-    (λ r M H. g.L.LogLink.is_ours c.loop-done.link c.args.walk.now.log r M H) c.args.transactions.now.retries
-    (g.L.LogLink.failures c.args.link.now) (g.L.LogLink.failures c.loop-done.link) c.args.walk.now c.loop-done.walk c.loop-done.done StepLimit l in (
+    let P : List Item → Type 0 = λ l. IsRun (ours_around (λ r M H. g.L.LogLink.is_ours c.args.link.now c.args.walk.now.log r M H) (λ r M H. g.L.LogLink.is_ours c.loop-done.link c.args.walk.now.log r M H)) (losses_of c.args.transactions.now.retries (g.L.LogLink.failures c.args.link.now) (g.L.LogLink.failures c.loop-done.link)) c.args.walk.now c.loop-done.walk c.loop-done.done StepLimit l in (
       c.loop-done.done,
       StepLimit,
       (omega arith, refl),
@@ -98,19 +94,15 @@ returns-in-Some-clause-delivers g c =
     (omega (arith, put.2, put.3, c.make_room.ensures.room (cc))) in
     let more : length c.deliver-ended.new.sink.items.items ≡ length c.loop-done.kept.items.items + (length put.0 + gaps put.0) =
     omega (arith, ap length all.1, length-append c.make_room.new.kept.items.items (put_items put.0), put_length put.0, ap length c.make_room.ensures.items) in
-    let P : Id → Type 0 = λ n. IsRun (λ r M H. g.L.LogLink.is_ours c.loop-done.link n r M H) (λ r M H. g.L.LogLink.is_ours c.deliver-ended.new.link n r M H)
-    c.loop-done.transactions.retries (g.L.LogLink.failures c.loop-done.link) (g.L.LogLink.failures c.deliver-ended.new.link)
-    c.loop-done.walk c.deliver-ended.new.walk 1 c.deliver-ended.result (put_items put.0) in
-    let Q : ℕ → Type 0 = λ n. IsRun mid is n (g.L.LogLink.failures c.loop-done.link) (g.L.LogLink.failures c.deliver-ended.new.link)
-    c.loop-done.walk c.deliver-ended.new.walk 1 c.deliver-ended.result (put_items put.0) in
+    let P : Id → Type 0 = λ n. IsRun (ours_around (λ r M H. g.L.LogLink.is_ours c.loop-done.link n r M H) (λ r M H. g.L.LogLink.is_ours c.deliver-ended.new.link n r M H)) (losses_of c.loop-done.transactions.retries (g.L.LogLink.failures c.loop-done.link) (g.L.LogLink.failures c.deliver-ended.new.link)) c.loop-done.walk c.deliver-ended.new.walk 1 c.deliver-ended.result (put_items put.0) in
+    let Q : ℕ → Type 0 = λ n. IsRun (ours_around mid is) (losses_of n (g.L.LogLink.failures c.loop-done.link) (g.L.LogLink.failures c.deliver-ended.new.link)) c.loop-done.walk c.deliver-ended.new.walk 1 c.deliver-ended.result (put_items put.0) in
     let step = subst Q c.loop-done.invariant.retries (subst P c.loop-done.invariant.log put.4) in
     let joined = join_run was mid is c.args.transactions.now.retries (g.L.LogLink.failures c.args.link.now) (g.L.LogLink.failures c.loop-done.link)
     (g.L.LogLink.failures c.deliver-ended.new.link) c.args.walk.now c.loop-done.walk c.deliver-ended.new.walk c.loop-done.done c.deliver-ended.result
     c.loop-done.kept.items.items (put_items put.0) c.loop-done.invariant.run step c.loop-done.invariant.never_falls c.loop-done.invariant.count in
     let same : c.loop-done.kept.items.items ++ put_items put.0 ≡ c.deliver-ended.new.sink.items.items =
     ap (λ l. l ++ put_items put.0) (sym c.make_room.ensures.items) ∙ sym all.1 in
-    let R : List Item → Type 0 = λ l. IsRun was is c.args.transactions.now.retries (g.L.LogLink.failures c.args.link.now) (g.L.LogLink.failures c.deliver-ended.new.link)
-    c.args.walk.now c.deliver-ended.new.walk (c.loop-done.done + 1) c.deliver-ended.result l in
+    let R : List Item → Type 0 = λ l. IsRun (ours_around was is) (losses_of c.args.transactions.now.retries (g.L.LogLink.failures c.args.link.now) (g.L.LogLink.failures c.deliver-ended.new.link)) c.args.walk.now c.deliver-ended.new.walk (c.loop-done.done + 1) c.deliver-ended.result l in
     let run = subst R same joined in
     let some = sym c.why.ensures ∙ c.in-Some.is in (
       c.args.steps,
@@ -131,19 +123,15 @@ returns-in-Some-clause-resting g c r m H s sure ours next near =
     let put = c.deliver-ended.ensures.delivers in
     let all = kept_all room items_in_sink c.make_room.new.kept put.0 (is_stopped c.deliver-ended.result) c.deliver-ended.new.sink put.1
     (omega (arith, put.2, put.3, c.make_room.ensures.room (cc))) in
-    let P : Id → Type 0 = λ n. IsRun (λ r M H. g.L.LogLink.is_ours c.loop-done.link n r M H) (λ r M H. g.L.LogLink.is_ours c.deliver-ended.new.link n r M H)
-    c.loop-done.transactions.retries (g.L.LogLink.failures c.loop-done.link) (g.L.LogLink.failures c.deliver-ended.new.link)
-    c.loop-done.walk c.deliver-ended.new.walk 1 c.deliver-ended.result (put_items put.0) in
-    let Q : ℕ → Type 0 = λ n. IsRun mid is n (g.L.LogLink.failures c.loop-done.link) (g.L.LogLink.failures c.deliver-ended.new.link)
-    c.loop-done.walk c.deliver-ended.new.walk 1 c.deliver-ended.result (put_items put.0) in
+    let P : Id → Type 0 = λ n. IsRun (ours_around (λ r M H. g.L.LogLink.is_ours c.loop-done.link n r M H) (λ r M H. g.L.LogLink.is_ours c.deliver-ended.new.link n r M H)) (losses_of c.loop-done.transactions.retries (g.L.LogLink.failures c.loop-done.link) (g.L.LogLink.failures c.deliver-ended.new.link)) c.loop-done.walk c.deliver-ended.new.walk 1 c.deliver-ended.result (put_items put.0) in
+    let Q : ℕ → Type 0 = λ n. IsRun (ours_around mid is) (losses_of n (g.L.LogLink.failures c.loop-done.link) (g.L.LogLink.failures c.deliver-ended.new.link)) c.loop-done.walk c.deliver-ended.new.walk 1 c.deliver-ended.result (put_items put.0) in
     let step = subst Q c.loop-done.invariant.retries (subst P c.loop-done.invariant.log put.4) in
     let joined = join_run was mid is c.args.transactions.now.retries (g.L.LogLink.failures c.args.link.now) (g.L.LogLink.failures c.loop-done.link)
     (g.L.LogLink.failures c.deliver-ended.new.link) c.args.walk.now c.loop-done.walk c.deliver-ended.new.walk c.loop-done.done c.deliver-ended.result
     c.loop-done.kept.items.items (put_items put.0) c.loop-done.invariant.run step c.loop-done.invariant.never_falls c.loop-done.invariant.count in
     let same : c.loop-done.kept.items.items ++ put_items put.0 ≡ c.deliver-ended.new.sink.items.items =
     ap (λ l. l ++ put_items put.0) (sym c.make_room.ensures.items) ∙ sym all.1 in
-    let R : List Item → Type 0 = λ l. IsRun was is c.args.transactions.now.retries (g.L.LogLink.failures c.args.link.now) (g.L.LogLink.failures c.deliver-ended.new.link)
-    c.args.walk.now c.deliver-ended.new.walk (c.loop-done.done + 1) c.deliver-ended.result l in
+    let R : List Item → Type 0 = λ l. IsRun (ours_around was is) (losses_of c.args.transactions.now.retries (g.L.LogLink.failures c.args.link.now) (g.L.LogLink.failures c.deliver-ended.new.link)) c.args.walk.now c.deliver-ended.new.walk (c.loop-done.done + 1) c.deliver-ended.result l in
     let run = subst R same joined in
     let some = sym c.why.ensures ∙ c.in-Some.is in
     let early = run_early was is c.args.transactions.now.retries (g.L.LogLink.failures c.args.link.now) (g.L.LogLink.failures c.deliver-ended.new.link)
@@ -175,23 +163,18 @@ loop-done-preserved g c =
     (omega (arith, put.2, put.3, c.make_room.ensures.room (cc))) in
     let more : length c.deliver-ended.new.sink.items.items ≡ length c.loop-done.kept.items.items + (length put.0 + gaps put.0) =
     omega (arith, ap length all.1, length-append c.make_room.new.kept.items.items (put_items put.0), put_length put.0, ap length c.make_room.ensures.items) in
-    let P : Id → Type 0 = λ n. IsRun (λ r M H. g.L.LogLink.is_ours c.loop-done.link n r M H) (λ r M H. g.L.LogLink.is_ours c.deliver-ended.new.link n r M H)
-    c.loop-done.transactions.retries (g.L.LogLink.failures c.loop-done.link) (g.L.LogLink.failures c.deliver-ended.new.link)
-    c.loop-done.walk c.deliver-ended.new.walk 1 c.deliver-ended.result (put_items put.0) in
-    let Q : ℕ → Type 0 = λ n. IsRun mid is n (g.L.LogLink.failures c.loop-done.link) (g.L.LogLink.failures c.deliver-ended.new.link)
-    c.loop-done.walk c.deliver-ended.new.walk 1 c.deliver-ended.result (put_items put.0) in
+    let P : Id → Type 0 = λ n. IsRun (ours_around (λ r M H. g.L.LogLink.is_ours c.loop-done.link n r M H) (λ r M H. g.L.LogLink.is_ours c.deliver-ended.new.link n r M H)) (losses_of c.loop-done.transactions.retries (g.L.LogLink.failures c.loop-done.link) (g.L.LogLink.failures c.deliver-ended.new.link)) c.loop-done.walk c.deliver-ended.new.walk 1 c.deliver-ended.result (put_items put.0) in
+    let Q : ℕ → Type 0 = λ n. IsRun (ours_around mid is) (losses_of n (g.L.LogLink.failures c.loop-done.link) (g.L.LogLink.failures c.deliver-ended.new.link)) c.loop-done.walk c.deliver-ended.new.walk 1 c.deliver-ended.result (put_items put.0) in
     let step = subst Q c.loop-done.invariant.retries (subst P c.loop-done.invariant.log put.4) in
     let joined = join_run was mid is c.args.transactions.now.retries (g.L.LogLink.failures c.args.link.now) (g.L.LogLink.failures c.loop-done.link)
     (g.L.LogLink.failures c.deliver-ended.new.link) c.args.walk.now c.loop-done.walk c.deliver-ended.new.walk c.loop-done.done c.deliver-ended.result
     c.loop-done.kept.items.items (put_items put.0) c.loop-done.invariant.run step c.loop-done.invariant.never_falls c.loop-done.invariant.count in
     let same : c.loop-done.kept.items.items ++ put_items put.0 ≡ c.deliver-ended.new.sink.items.items =
     ap (λ l. l ++ put_items put.0) (sym c.make_room.ensures.items) ∙ sym all.1 in
-    let R : List Item → Type 0 = λ l. IsRun was is c.args.transactions.now.retries (g.L.LogLink.failures c.args.link.now) (g.L.LogLink.failures c.deliver-ended.new.link)
-    c.args.walk.now c.deliver-ended.new.walk (c.loop-done.done + 1) c.deliver-ended.result l in
+    let R : List Item → Type 0 = λ l. IsRun (ours_around was is) (losses_of c.args.transactions.now.retries (g.L.LogLink.failures c.args.link.now) (g.L.LogLink.failures c.deliver-ended.new.link)) c.args.walk.now c.deliver-ended.new.walk (c.loop-done.done + 1) c.deliver-ended.result l in
     let run = subst R same joined in
     let limit = goes_on c.deliver-ended.result (sym c.why.ensures ∙ c.in_default.is) in
-    let S : Ended → Type 0 = λ e. IsRun was is c.args.transactions.now.retries (g.L.LogLink.failures c.args.link.now) (g.L.LogLink.failures c.deliver-ended.new.link)
-    c.args.walk.now c.deliver-ended.new.walk (c.loop-done.done + 1) e c.deliver-ended.new.sink.items.items in
+    let S : Ended → Type 0 = λ e. IsRun (ours_around was is) (losses_of c.args.transactions.now.retries (g.L.LogLink.failures c.args.link.now) (g.L.LogLink.failures c.deliver-ended.new.link)) c.args.walk.now c.deliver-ended.new.walk (c.loop-done.done + 1) e c.deliver-ended.new.sink.items.items in
     let K : Id → Type 0 = λ n. g.L.LogLink.lacks c.loop-done.link n in
     let E : Ended → Type 0 = λ e. MissingEnd 1 e in
     record {
@@ -212,8 +195,7 @@ loop-done-preserved g c =
       few = omega (arith, more, put.2, put.3, c.loop-done.invariant.few);
       run = subst S limit run;
       transacted =
-          let B : Ended → Type 0 = λ e. (came : List Came) × BroughtBy g.L.LogLink.asks c.args.transactions.now c.args.link.now c.args.walk.now
-          (c.loop-done.done + 1) came c.deliver-ended.new.sink.items.items e c.deliver-ended.new.walk c.deliver-ended.new.transactions c.deliver-ended.new.link in
+          let B : Ended → Type 0 = λ e. (came : List Came) × BroughtBy g.L.LogLink.asks (walk_by c.args.link.now c.args.transactions.now c.args.walk.now) (c.loop-done.done + 1) came c.deliver-ended.new.sink.items.items e (walk_by c.deliver-ended.new.link c.deliver-ended.new.transactions c.deliver-ended.new.walk) in
           subst B limit (step_joined g.L.LogLink.asks c.args.transactions.now c.loop-done.transactions c.deliver-ended.new.transactions
           c.args.link.now c.loop-done.link c.deliver-ended.new.link c.loop-done.kept c.make_room.new.kept c.deliver-ended.new.sink c.args.walk.now c.loop-done.walk c.deliver-ended.new.walk
           c.loop-done.done c.deliver-ended.result c.make_room.ensures.items (c.make_room.ensures.room (cc))
@@ -300,8 +282,7 @@ returns-clause-limit g c is = omega (arith, c.loop-done.invariant.many)
 
 pub returns-then-not-make_room-clause-transacted : goal.returns-then-not-make_room-clause-transacted
 returns-then-not-make_room-clause-transacted g c =
-    let B : List Item → Type 0 = λ l. (came : List Came) × BroughtBy g.L.LogLink.asks c.args.transactions.now c.args.link.now c.args.walk.now
-    c.loop-done.done came l StepLimit c.loop-done.walk c.loop-done.transactions c.loop-done.link in
+    let B : List Item → Type 0 = λ l. (came : List Came) × BroughtBy g.L.LogLink.asks (walk_by c.args.link.now c.args.transactions.now c.args.walk.now) c.loop-done.done came l StepLimit (walk_by c.loop-done.link c.loop-done.transactions c.loop-done.walk) in
     (c.loop-done.done, StepLimit, (omega arith, refl), subst B (sym c.make_room.ensures.items) c.loop-done.invariant.transacted)
 
 pub returns-in-Some-clause-transacted : goal.returns-in-Some-clause-transacted

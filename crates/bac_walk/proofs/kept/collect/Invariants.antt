@@ -2,8 +2,9 @@ use Rattle.std.proofs.Common.{[], ◌≡◌, ◌+◌, ◌*◌, ◌≤◌, length
 use Rattle.bac_walk.specs.declared.outcome.Ended.TheVariants.{StepLimit}
 use Rattle.std.specs.Prelude.{List}
 use Rattle.bac_walk.specs.Came.{Came}
-use Rattle.bac_walk.specs.Transacted.{BroughtBy}
-use Rattle.bac_walk.specs.Sinks.{IsRun}
+use Rattle.bac_walk.specs.Transacted.{BroughtBy, walk_by}
+use Rattle.bac_walk.specs.Sinks.{IsRun, ours_around}
+use Rattle.bac_walk.specs.Collects.{losses_of}
 use Rattle.bac_link.specs.Path.{towards}
 use Rattle.bac_walk.proofs.kept.collect.Given as goal
 
@@ -22,8 +23,6 @@ invariant-loop-done g l = record {
   none : l.done ≡ 0 → (l.kept.items.items ≡ []) × (l.walk.next ≡ l.fn.walk.next) × (l.walk ≡ l.fn.walk) × (l.link ≡ l.fn.link) × (l.transactions ≡ l.fn.transactions);
   many : l.done ≤ length l.kept.items.items;
   few : length l.kept.items.items ≤ 101 * l.done;
-  run : IsRun (λ r M H. g.L.LogLink.is_ours l.fn.link l.fn.walk.log r M H) (λ r M H. g.L.LogLink.is_ours l.link l.fn.walk.log r M H)
-      l.fn.transactions.retries (g.L.LogLink.failures l.fn.link) (g.L.LogLink.failures l.link) l.fn.walk l.walk l.done StepLimit l.kept.items.items;
-  transacted : (came : List Came) × BroughtBy g.L.LogLink.asks l.fn.transactions l.fn.link l.fn.walk l.done came
-      l.kept.items.items StepLimit l.walk l.transactions l.link;
+  run : IsRun (ours_around (λ r M H. g.L.LogLink.is_ours l.fn.link l.fn.walk.log r M H) (λ r M H. g.L.LogLink.is_ours l.link l.fn.walk.log r M H)) (losses_of l.fn.transactions.retries (g.L.LogLink.failures l.fn.link) (g.L.LogLink.failures l.link)) l.fn.walk l.walk l.done StepLimit l.kept.items.items;
+  transacted : (came : List Came) × BroughtBy g.L.LogLink.asks (walk_by l.fn.link l.fn.transactions l.fn.walk) l.done came l.kept.items.items StepLimit (walk_by l.link l.transactions l.walk);
 }

@@ -4,13 +4,13 @@ use Rattle.bac_walk.specs.Place.{WalkPlace, resumed}
 use Rattle.bac_link.specs.Path.{Path, towards}
 use Rattle.bac_walk.specs.Honest.{DeliversSaid}
 use Rattle.bac_walk.proofs.Honest.{said_joins}
-use Rattle.bac_walk.specs.Came.{BroughtInto}
-use Rattle.bac_walk.specs.Transacted.{BroughtIntoBy, spare}
+use Rattle.bac_walk.specs.Came.{BroughtInto, walk_over, reaching_by}
+use Rattle.bac_walk.specs.Transacted.{BroughtIntoBy, spare, walk_by}
 use Rattle.bac_walk.proofs.Transacted.{into_same}
 use Rattle.bac_link.specs.Laws.{after_answers}
 use Rattle.bac_link.specs.Delivery.{DeliversTo}
 use Rattle.bac_link.specs.Moments.{AreInWindow}
-use Rattle.bac_walk.specs.Sinks.{put_items}
+use Rattle.bac_walk.specs.Sinks.{put_items, sink_filled}
 use Rattle.bac_link.proofs.Delivers.{joined}
 use Rattle.bac_walk.proofs.Near.{windows_near, stays_in}
 use Rattle.bac_walk.proofs.Runs.{headline_of}
@@ -21,10 +21,8 @@ returns g c =
     let x = c.deliver-first.ensures.delivers in
     let y = c.deliver-second.ensures.delivers in
     let to : c.resumed.result ≡ resumed c.deliver-first.new.walk = c.resumed.ensures in
-    let B : WalkPlace → Type 0 = λ w. BroughtInto g.L.LogLink.asks (towards c.args.transactions.now.route) c.args.transactions.now.retries g.R.Sink.puts
-    c.deliver-first.new.link c.args.rest.now w c.args.more c.deliver-second.result c.deliver-second.new.walk c.deliver-second.new.sink c.deliver-second.new.link in
-    let C : WalkPlace → Type 0 = λ w. BroughtIntoBy g.L.LogLink.asks c.deliver-first.new.transactions g.R.Sink.puts
-    c.deliver-first.new.link c.args.rest.now w c.args.more c.deliver-second.result c.deliver-second.new.walk c.deliver-second.new.sink c.deliver-second.new.transactions c.deliver-second.new.link in record {
+    let B : WalkPlace → Type 0 = λ w. BroughtInto (reaching_by g.L.LogLink.asks c.args.transactions.now) (sink_filled g.R.Sink.puts c.args.rest.now c.deliver-second.new.sink) (walk_over c.deliver-first.new.link w) c.args.more c.deliver-second.result (walk_over c.deliver-second.new.link c.deliver-second.new.walk) in
+    let C : WalkPlace → Type 0 = λ w. BroughtIntoBy g.L.LogLink.asks (sink_filled g.R.Sink.puts c.args.rest.now c.deliver-second.new.sink) (walk_by c.deliver-first.new.link c.deliver-first.new.transactions w) c.args.more c.deliver-second.result (walk_by c.deliver-second.new.link c.deliver-second.new.transactions c.deliver-second.new.walk) in record {
       brought = (
         c.deliver-first.new.walk,
         c.deliver-first.new.link,
@@ -43,7 +41,7 @@ returns g c =
       headline = λ had_number.
           let one = c.deliver-first.ensures.headline in
           let two = c.deliver-second.ensures.headline in
-          let D : Path → Type 0 = λ q. DeliversSaid g.L.LogLink.asks q (spare c.deliver-second.result) c.deliver-first.new.link c.resumed.result (put_items two.0) c.deliver-second.result c.deliver-second.new.walk c.deliver-second.new.link in (
+          let D : Path → Type 0 = λ q. DeliversSaid g.L.LogLink.asks q (spare c.deliver-second.result) (walk_over c.deliver-first.new.link c.resumed.result) (put_items two.0) c.deliver-second.result (walk_over c.deliver-second.new.link c.deliver-second.new.walk) in (
             one.0,
             two.0,
             one.1,

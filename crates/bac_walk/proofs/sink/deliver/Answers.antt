@@ -4,8 +4,8 @@ use Rattle.bac_walk.specs.declared.outcome.Ended.{Ended}
 use Rattle.bac_walk.specs.declared.outcome.Ended.TheVariants.{CaughtUp, StepLimit, Stopped, Fault}
 use Rattle.bac_link.specs.Delivery.{History, Moment}
 use Rattle.bac_link.specs.Laws.{after_answers}
-use Rattle.bac_walk.specs.Sinks.{Delivery, put_items}
-use Rattle.bac_walk.specs.Collects.{MissingEnd}
+use Rattle.bac_walk.specs.Sinks.{Delivery, put_items, sink_filled, ours_around}
+use Rattle.bac_walk.specs.Collects.{MissingEnd, losses_of}
 use Rattle.bac_walk.specs.Near.{StaysNear}
 use Rattle.bac_walk.proofs.Near.{fewer_steps, next_step}
 use Rattle.bac_walk.proofs.Runs.{no_delivery, join_delivers, delivers_early, headline_of}
@@ -13,7 +13,7 @@ use Rattle.bac_walk.proofs.Told.{told_same}
 use Rattle.bac_walk.proofs.Window.{in_window_of}
 use Rattle.bac_walk.proofs.TransactedRuns.{no_into, into_joins, into_early}
 use Rattle.bac_walk.proofs.Transacted.{into_plain}
-use Rattle.bac_walk.specs.Transacted.{BroughtIntoBy}
+use Rattle.bac_walk.specs.Transacted.{BroughtIntoBy, walk_by}
 use Rattle.bac_link.specs.Path.{towards}
 use Rattle.bac_walk.proofs.Growing.{into_growing}
 use Rattle.bac_walk.proofs.Honest.{into_said}
@@ -47,13 +47,8 @@ returns-in_default g c =
     let was : ℕ → List Moment → History → Type 0 = λ r M H. g.L.LogLink.is_ours c.args.link.now c.args.walk.now.log r M H in
     let mid : ℕ → List Moment → History → Type 0 = λ r M H. g.L.LogLink.is_ours c.loop-done.link c.args.walk.now.log r M H in
     let is : ℕ → List Moment → History → Type 0 = λ r M H. g.L.LogLink.is_ours c.deliver_step.new.link c.args.walk.now.log r M H in
-    let P : Id → Type 0 = λ n. Delivery g.S.Sink.puts c.loop-done.sink c.deliver_step.new.sink
-    (λ r M H. g.L.LogLink.is_ours c.loop-done.link n r M H) (λ r M H. g.L.LogLink.is_ours c.deliver_step.new.link n r M H)
-    c.loop-done.transactions.retries (g.L.LogLink.failures c.loop-done.link) (g.L.LogLink.failures c.deliver_step.new.link)
-    c.loop-done.walk c.deliver_step.new.walk 1 c.deliver_step.result in
-    let Q : ℕ → Type 0 = λ n. Delivery g.S.Sink.puts c.loop-done.sink c.deliver_step.new.sink mid is
-    n (g.L.LogLink.failures c.loop-done.link) (g.L.LogLink.failures c.deliver_step.new.link)
-    c.loop-done.walk c.deliver_step.new.walk 1 c.deliver_step.result in
+    let P : Id → Type 0 = λ n. Delivery (sink_filled g.S.Sink.puts c.loop-done.sink c.deliver_step.new.sink) (ours_around (λ r M H. g.L.LogLink.is_ours c.loop-done.link n r M H) (λ r M H. g.L.LogLink.is_ours c.deliver_step.new.link n r M H)) (losses_of c.loop-done.transactions.retries (g.L.LogLink.failures c.loop-done.link) (g.L.LogLink.failures c.deliver_step.new.link)) c.loop-done.walk c.deliver_step.new.walk 1 c.deliver_step.result in
+    let Q : ℕ → Type 0 = λ n. Delivery (sink_filled g.S.Sink.puts c.loop-done.sink c.deliver_step.new.sink) (ours_around mid is) (losses_of n (g.L.LogLink.failures c.loop-done.link) (g.L.LogLink.failures c.deliver_step.new.link)) c.loop-done.walk c.deliver_step.new.walk 1 c.deliver_step.result in
     let step = subst Q c.loop-done.invariant.retries (subst P c.loop-done.invariant.log c.deliver_step.ensures.delivers) in
     let not_limit : c.deliver_step.result ≢ StepLimit = c.in_default.not-StepLimit in
     let K : Id → Type 0 = λ n. g.L.LogLink.lacks c.loop-done.link n in
@@ -130,16 +125,9 @@ loop-done-preserved g c =
     let was : ℕ → List Moment → History → Type 0 = λ r M H. g.L.LogLink.is_ours c.args.link.now c.args.walk.now.log r M H in
     let mid : ℕ → List Moment → History → Type 0 = λ r M H. g.L.LogLink.is_ours c.loop-done.link c.args.walk.now.log r M H in
     let is : ℕ → List Moment → History → Type 0 = λ r M H. g.L.LogLink.is_ours c.deliver_step.new.link c.args.walk.now.log r M H in
-    let P : Id → Type 0 = λ n. Delivery g.S.Sink.puts c.loop-done.sink c.deliver_step.new.sink
-    (λ r M H. g.L.LogLink.is_ours c.loop-done.link n r M H) (λ r M H. g.L.LogLink.is_ours c.deliver_step.new.link n r M H)
-    c.loop-done.transactions.retries (g.L.LogLink.failures c.loop-done.link) (g.L.LogLink.failures c.deliver_step.new.link)
-    c.loop-done.walk c.deliver_step.new.walk 1 c.deliver_step.result in
-    let Q : ℕ → Type 0 = λ n. Delivery g.S.Sink.puts c.loop-done.sink c.deliver_step.new.sink mid is
-    n (g.L.LogLink.failures c.loop-done.link) (g.L.LogLink.failures c.deliver_step.new.link)
-    c.loop-done.walk c.deliver_step.new.walk 1 c.deliver_step.result in
-    let R : Ended → Type 0 = λ e. Delivery g.S.Sink.puts c.loop-done.sink c.deliver_step.new.sink mid is
-    c.args.transactions.now.retries (g.L.LogLink.failures c.loop-done.link) (g.L.LogLink.failures c.deliver_step.new.link)
-    c.loop-done.walk c.deliver_step.new.walk 1 e in
+    let P : Id → Type 0 = λ n. Delivery (sink_filled g.S.Sink.puts c.loop-done.sink c.deliver_step.new.sink) (ours_around (λ r M H. g.L.LogLink.is_ours c.loop-done.link n r M H) (λ r M H. g.L.LogLink.is_ours c.deliver_step.new.link n r M H)) (losses_of c.loop-done.transactions.retries (g.L.LogLink.failures c.loop-done.link) (g.L.LogLink.failures c.deliver_step.new.link)) c.loop-done.walk c.deliver_step.new.walk 1 c.deliver_step.result in
+    let Q : ℕ → Type 0 = λ n. Delivery (sink_filled g.S.Sink.puts c.loop-done.sink c.deliver_step.new.sink) (ours_around mid is) (losses_of n (g.L.LogLink.failures c.loop-done.link) (g.L.LogLink.failures c.deliver_step.new.link)) c.loop-done.walk c.deliver_step.new.walk 1 c.deliver_step.result in
+    let R : Ended → Type 0 = λ e. Delivery (sink_filled g.S.Sink.puts c.loop-done.sink c.deliver_step.new.sink) (ours_around mid is) (losses_of c.args.transactions.now.retries (g.L.LogLink.failures c.loop-done.link) (g.L.LogLink.failures c.deliver_step.new.link)) c.loop-done.walk c.deliver_step.new.walk 1 e in
     let step = subst R c.in-StepLimit.is (subst Q c.loop-done.invariant.retries (subst P c.loop-done.invariant.log c.deliver_step.ensures.delivers)) in
     let K : Id → Type 0 = λ n. g.L.LogLink.lacks c.loop-done.link n in
     let E : Ended → Type 0 = λ e. MissingEnd 1 e in
@@ -162,8 +150,7 @@ loop-done-preserved g c =
           c.args.walk.now c.loop-done.walk c.deliver_step.new.walk c.loop-done.done StepLimit
           c.loop-done.invariant.delivers step c.loop-done.invariant.never_falls c.loop-done.invariant.count;
       transacted =
-          let B : Ended → Type 0 = λ e. BroughtIntoBy g.L.LogLink.asks c.loop-done.transactions g.S.Sink.puts c.loop-done.link c.loop-done.sink
-          c.loop-done.walk 1 e c.deliver_step.new.walk c.deliver_step.new.sink c.deliver_step.new.transactions c.deliver_step.new.link in
+          let B : Ended → Type 0 = λ e. BroughtIntoBy g.L.LogLink.asks (sink_filled g.S.Sink.puts c.loop-done.sink c.deliver_step.new.sink) (walk_by c.loop-done.link c.loop-done.transactions c.loop-done.walk) 1 e (walk_by c.deliver_step.new.link c.deliver_step.new.transactions c.deliver_step.new.walk) in
           into_joins g.L.LogLink.asks c.args.transactions.now c.loop-done.transactions c.deliver_step.new.transactions g.S.Sink.puts c.args.link.now c.loop-done.link c.deliver_step.new.link
           c.args.sink.now c.loop-done.sink c.deliver_step.new.sink c.args.walk.now c.loop-done.walk c.deliver_step.new.walk c.loop-done.done 1 StepLimit
           c.loop-done.invariant.transacted
@@ -173,10 +160,7 @@ loop-done-preserved g c =
 pub returns-clause-delivers : goal.returns-clause-delivers
 returns-clause-delivers g c =
     let all : c.loop-done.done ≡ c.args.steps = omega arith in
-    let P : ℕ → Type 0 = λ n. Delivery g.S.Sink.puts c.args.sink.now c.loop-done.sink
-    (λ r M H. g.L.LogLink.is_ours c.args.link.now c.args.walk.now.log r M H) (λ r M H. g.L.LogLink.is_ours c.loop-done.link c.args.walk.now.log r M H)
-    c.args.transactions.now.retries (g.L.LogLink.failures c.args.link.now) (g.L.LogLink.failures c.loop-done.link)
-    c.args.walk.now c.loop-done.walk n StepLimit in
+    let P : ℕ → Type 0 = λ n. Delivery (sink_filled g.S.Sink.puts c.args.sink.now c.loop-done.sink) (ours_around (λ r M H. g.L.LogLink.is_ours c.args.link.now c.args.walk.now.log r M H) (λ r M H. g.L.LogLink.is_ours c.loop-done.link c.args.walk.now.log r M H)) (losses_of c.args.transactions.now.retries (g.L.LogLink.failures c.args.link.now) (g.L.LogLink.failures c.loop-done.link)) c.args.walk.now c.loop-done.walk n StepLimit in
     subst P all c.loop-done.invariant.delivers
 
 pub returns-clause-near : goal.returns-clause-near
@@ -206,8 +190,7 @@ returns-clause-ours g c =
 pub returns-clause-transacted : goal.returns-clause-transacted
 returns-clause-transacted g c =
     let all : c.loop-done.done ≡ c.args.steps = omega arith in
-    let P : ℕ → Type 0 = λ n. BroughtIntoBy g.L.LogLink.asks c.args.transactions.now g.S.Sink.puts c.args.link.now c.args.sink.now
-    c.args.walk.now n StepLimit c.loop-done.walk c.loop-done.sink c.loop-done.transactions c.loop-done.link in
+    let P : ℕ → Type 0 = λ n. BroughtIntoBy g.L.LogLink.asks (sink_filled g.S.Sink.puts c.args.sink.now c.loop-done.sink) (walk_by c.args.link.now c.args.transactions.now c.args.walk.now) n StepLimit (walk_by c.loop-done.link c.loop-done.transactions c.loop-done.walk) in
     subst P all c.loop-done.invariant.transacted
 
 pub returns-clause-brought : goal.returns-clause-brought

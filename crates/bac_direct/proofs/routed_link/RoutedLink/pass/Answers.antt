@@ -2,7 +2,7 @@ use Rattle.std.proofs.Common.{ℕ, List, Option, Some, Ok, Err, false, refl, sym
 use Rattle.bac_apdu.specs.Apdu.{Complex, Error}
 use Rattle.bac_log.specs.Ack.{read_range_service}
 use Rattle.bac_link.specs.Delivery.{now}
-use Rattle.bac_link.specs.Links.{IsQuestion, IsReply, IsUnknown, reply_parameters}
+use Rattle.bac_link.specs.Links.{IsQuestion, IsReply, IsUnknown, reply_parameters, our_question}
 use Rattle.bac_link.specs.Moments.{log_at}
 use Rattle.bac_link.specs.Path.{Path, back, towards}
 use Rattle.bac_direct.specs.Routing.{handed_on, PassesOn}
@@ -37,7 +37,7 @@ returns-in-Some-handed_on-clause-ours g c = λ id r M H extent path invoke h ask
     let m = Complex false invoke read_range_service (reply_parameters id (log_at (now M) H) extent r) in
     let on = ap (λ (o : List ℕ). handed_on near far o) (sym c.octets-2.ensures.value) ∙ sym c.in-Some-handed_on.ensures.handed in
     let back_is = reply_back far near c.in-Ok.reply c.in-Some-handed_on.datagram m c.in-Some.ensures.dest a.0.1 on in
-    (subst (λ (p : Path). IsReply r (now M) H id extent p invoke c.in-Some-handed_on.datagram) (sym q.1) (a.0.0, back_is), a.1)
+    (subst (λ (p : Path). IsReply (our_question r M H id extent p) invoke c.in-Some-handed_on.datagram) (sym q.1) (a.0.0, back_is), a.1)
 
 pub returns-in-Some-handed_on-clause-lacking : goal.returns-in-Some-handed_on-clause-lacking
 returns-in-Some-handed_on-clause-lacking g c = λ id extent path invoke h asks.

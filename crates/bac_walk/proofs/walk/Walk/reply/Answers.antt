@@ -7,7 +7,7 @@ use Rattle.bac_walk.specs.declared.outcome.WalkFault.{WalkFault}
 use Rattle.bac_log.specs.TrendLog.{sequence_number}
 use Rattle.bac_link.specs.Delivery.{later}
 use Rattle.bac_link.specs.Laws.{after_answers}
-use Rattle.bac_walk.specs.Collects.{asks_next, FoundTurn, FoundStep, MissingTurn, MissingStep, Collected, finished, step_items, step_ended, is_fresh_after}
+use Rattle.bac_walk.specs.Collects.{asks_next, FoundTurn, FoundStep, MissingTurn, MissingStep, Collected, finished, step_items, step_ended, is_fresh_after, our_log, started_at, losses_of, yield}
 use Rattle.bac_walk.specs.Turned.{IsTurned}
 use Rattle.bac_walk.proofs.Steps.{first_at, asked, second_at}
 use Rattle.bac_walk.specs.Replied.{progress_of, step_of}
@@ -56,9 +56,7 @@ returns-then-not-asks_next-clause-ours g c r M H s ours next near =
     let done = first_at (λ N. g.L.LogLink.is_ours c.turn-first.new.link c.restart.new.self.log r N H) r H M s
     c.args.self.now c.restart.new.self c.args.transactions.now.retries (g.L.LogLink.failures c.args.link.now) (g.L.LogLink.failures c.turn-first.new.link) (progress_of c.turn-first.result) c.turn-first.new.self next c.restart.ensures
     (c.turn-first.ensures.ours r M H s (subst P (sym log) ours) shown (λ old. (near (sym fresh ∙ old)).0)) (cc) in
-    let Q : Result Step WalkFault → Type 0 = λ z. Collected r c.args.self.now.count H M c.args.self.now.fresh s 1
-    c.args.transactions.now.retries (g.L.LogLink.failures c.args.link.now) (g.L.LogLink.failures c.turn-first.new.link)
-    (step_items z) done.1 (step_ended z) done.0 in
+    let Q : Result Step WalkFault → Type 0 = λ z. Collected (our_log r M H) (started_at c.args.self.now.count c.args.self.now.fresh s) 1 (losses_of c.args.transactions.now.retries (g.L.LogLink.failures c.args.link.now) (g.L.LogLink.failures c.turn-first.new.link)) (yield (step_items z) (step_ended z)) done.1 done.0 in
     let R : Id → Type 0 = λ n. g.L.LogLink.is_ours c.turn-first.new.link n r (after_answers (length done.0) M) H in
     let S : Result Step WalkFault → Type 0 = λ s. c.turn-first.new.self.fresh ≡ is_fresh_after c.args.self.now.fresh s in
     (done.0, done.1, done.2, subst Q (sym c.finished.ensures) done.3, subst R log done.4, subst S (sym c.finished.ensures) done.5)
@@ -82,8 +80,7 @@ returns-clause-ours g c r M H s ours next near =
     (c.turn-first.ensures.ours r M H s (subst P (sym log) ours) shown (λ old. (near (sym fresh ∙ old)).0)) (cc) in
     let shown_next : c.turn-first.new.self.next ≡ sequence_number s = c.turn-first.ensures.asks (cc) ∙ shown in
     let U : Id → Type 0 = λ n. g.L.LogLink.is_ours c.turn-first.new.link n r (later M) H in
-    let V : ℕ → Type 0 = λ n. IsTurned (λ N. g.L.LogLink.is_ours c.turn.new.link c.turn-first.new.self.log r N H) r (later M) H s c.turn-first.new.self n
-    (g.L.LogLink.failures c.turn-first.new.link) (g.L.LogLink.failures c.turn.new.link) (progress_of c.turn.result) c.turn.new.self in
+    let V : ℕ → Type 0 = λ n. IsTurned (λ N. g.L.LogLink.is_ours c.turn.new.link c.turn-first.new.self.log r N H) (our_log r (later M) H) s c.turn-first.new.self (losses_of n (g.L.LogLink.failures c.turn-first.new.link) (g.L.LogLink.failures c.turn.new.link)) (progress_of c.turn.result) c.turn.new.self in
     let done = second_at (λ N. g.L.LogLink.is_ours c.turn.new.link c.turn-first.new.self.log r N H) r H M s
     c.args.self.now c.turn-first.new.self c.args.transactions.now.retries (g.L.LogLink.failures c.args.link.now)
     (g.L.LogLink.failures c.turn-first.new.link) (g.L.LogLink.failures c.turn.new.link) (progress_of c.turn.result) c.turn.new.self
@@ -91,9 +88,7 @@ returns-clause-ours g c r M H s ours next near =
     first.0 (omega (arith, c.count-count.ensures.count, c.count-count.ensures.bounds.some)) first.1 c.turn-first.ensures.never_falls first.2
     (subst V c.turn-first.ensures.retries (c.turn.ensures.ours r (later M) H s (subst U (sym c.turn-first.ensures.log) first.3) shown_next
     (λ old. (near (or_parts c.args.self.now.fresh false first.0).0).1 first.1))) in
-    let Q : Result Step WalkFault → Type 0 = λ z. Collected r c.args.self.now.count H M c.args.self.now.fresh s 1
-    c.args.transactions.now.retries (g.L.LogLink.failures c.args.link.now) (g.L.LogLink.failures c.turn.new.link)
-    (step_items z) done.1 (step_ended z) done.0 in
+    let Q : Result Step WalkFault → Type 0 = λ z. Collected (our_log r M H) (started_at c.args.self.now.count c.args.self.now.fresh s) 1 (losses_of c.args.transactions.now.retries (g.L.LogLink.failures c.args.link.now) (g.L.LogLink.failures c.turn.new.link)) (yield (step_items z) (step_ended z)) done.1 done.0 in
     let R : Id → Type 0 = λ n. g.L.LogLink.is_ours c.turn.new.link n r (after_answers (length done.0) M) H in
     let S : Result Step WalkFault → Type 0 = λ s. c.turn.new.self.fresh ≡ is_fresh_after c.args.self.now.fresh s in
     (done.0, done.1, done.2, subst Q (sym c.finished-2.ensures) done.3, subst R logs done.4, subst S (sym c.finished-2.ensures) done.5)

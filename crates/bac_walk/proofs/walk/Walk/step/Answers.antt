@@ -1,7 +1,7 @@
 use Rattle.std.proofs.Common.{◌≡◌, false, [], ◌∷◌, List, length, subst, ◌∙◌}
 use Rattle.bac_link.specs.declared.item.Item.{Item}
 use Rattle.bac_walk.specs.declared.outcome.Ended.{Ended}
-use Rattle.bac_walk.specs.Collects.{Collected, Goes, start_of, step_items, step_ended}
+use Rattle.bac_walk.specs.Collects.{Collected, Goes, start_of, step_items, step_ended, our_log, started_at, losses_of, yield}
 use Rattle.bac_walk.specs.Near.{IsNearStep}
 use Rattle.bac_walk.specs.Replied.{step_of}
 use Rattle.bac_walk.proofs.Rests.{rested_step}
@@ -10,8 +10,8 @@ use Rattle.bac_walk.proofs.Runs.{collected_delivers}
 use Rattle.bac_walk.proofs.Sames.{same_step}
 use Rattle.bac_link.specs.Path.{towards}
 use Rattle.bac_walk.specs.Told.{Told}
-use Rattle.bac_walk.specs.Came.{Came, Brought}
-use Rattle.bac_walk.specs.Transacted.{BroughtBy}
+use Rattle.bac_walk.specs.Came.{Came, Brought, walk_over, reaching_by}
+use Rattle.bac_walk.specs.Transacted.{BroughtBy, walk_by}
 use Rattle.bac_walk.proofs.Growing.{delivers_growing}
 use Rattle.bac_walk.proofs.Honest.{delivers_said}
 use Rattle.bac_walk.proofs.walk.Walk.step.Goals as goal
@@ -41,10 +41,8 @@ pub returns-clause-ours : goal.returns-clause-ours
 returns-clause-ours g c r M H s ours next near =
     let same = same_step (step_of c.reply.result) c.decoded.result c.decoded.ensures in
     let run = c.reply.ensures.ours r M H s ours next near in
-    let P : List Item → Type 0 = λ l. Collected r c.args.self.now.count H M c.args.self.now.fresh s 1 c.args.transactions.now.retries
-    (g.L.LogLink.failures c.args.link.now) (g.L.LogLink.failures c.reply.new.link) l run.1 (step_ended (step_of c.reply.result)) run.0 in
-    let Q : Ended → Type 0 = λ e. Collected r c.args.self.now.count H M c.args.self.now.fresh s 1 c.args.transactions.now.retries
-    (g.L.LogLink.failures c.args.link.now) (g.L.LogLink.failures c.reply.new.link) (step_items c.decoded.result) run.1 e run.0 in
+    let P : List Item → Type 0 = λ l. Collected (our_log r M H) (started_at c.args.self.now.count c.args.self.now.fresh s) 1 (losses_of c.args.transactions.now.retries (g.L.LogLink.failures c.args.link.now) (g.L.LogLink.failures c.reply.new.link)) (yield l (step_ended (step_of c.reply.result))) run.1 run.0 in
+    let Q : Ended → Type 0 = λ e. Collected (our_log r M H) (started_at c.args.self.now.count c.args.self.now.fresh s) 1 (losses_of c.args.transactions.now.retries (g.L.LogLink.failures c.args.link.now) (g.L.LogLink.failures c.reply.new.link)) (yield (step_items c.decoded.result) e) run.1 run.0 in
     (run.0, run.1, run.2, subst Q same.ended (subst P same.items run.3), run.4, run.5 ∙ same.fresh c.args.self.now.fresh)
 
 pub returns-clause-resting : goal.returns-clause-resting
@@ -75,19 +73,15 @@ returns-clause-near g c r M H s ours next near =
 pub returns-clause-brought : goal.returns-clause-brought
 returns-clause-brought g c =
     let same = same_step (step_of c.reply.result) c.decoded.result c.decoded.ensures in
-    let P : List Item → Type 0 = λ l. (came : List Came) × Brought g.L.LogLink.asks (towards c.args.transactions.now.route) c.args.transactions.now.retries
-    c.args.link.now c.args.self.now 1 came l (step_ended (step_of c.reply.result)) c.reply.new.self c.reply.new.link in
-    let Q : Ended → Type 0 = λ e. (came : List Came) × Brought g.L.LogLink.asks (towards c.args.transactions.now.route) c.args.transactions.now.retries
-    c.args.link.now c.args.self.now 1 came (step_items c.decoded.result) e c.reply.new.self c.reply.new.link in
+    let P : List Item → Type 0 = λ l. (came : List Came) × Brought (reaching_by g.L.LogLink.asks c.args.transactions.now) (walk_over c.args.link.now c.args.self.now) 1 came l (step_ended (step_of c.reply.result)) (walk_over c.reply.new.link c.reply.new.self) in
+    let Q : Ended → Type 0 = λ e. (came : List Came) × Brought (reaching_by g.L.LogLink.asks c.args.transactions.now) (walk_over c.args.link.now c.args.self.now) 1 came (step_items c.decoded.result) e (walk_over c.reply.new.link c.reply.new.self) in
     subst Q same.ended (subst P same.items c.reply.ensures.brought)
 
 pub returns-clause-transacted : goal.returns-clause-transacted
 returns-clause-transacted g c =
     let same = same_step (step_of c.reply.result) c.decoded.result c.decoded.ensures in
-    let P : List Item → Type 0 = λ l. (came : List Came) × BroughtBy g.L.LogLink.asks c.args.transactions.now
-    c.args.link.now c.args.self.now 1 came l (step_ended (step_of c.reply.result)) c.reply.new.self c.reply.new.transactions c.reply.new.link in
-    let Q : Ended → Type 0 = λ e. (came : List Came) × BroughtBy g.L.LogLink.asks c.args.transactions.now
-    c.args.link.now c.args.self.now 1 came (step_items c.decoded.result) e c.reply.new.self c.reply.new.transactions c.reply.new.link in
+    let P : List Item → Type 0 = λ l. (came : List Came) × BroughtBy g.L.LogLink.asks (walk_by c.args.link.now c.args.transactions.now c.args.self.now) 1 came l (step_ended (step_of c.reply.result)) (walk_by c.reply.new.link c.reply.new.transactions c.reply.new.self) in
+    let Q : Ended → Type 0 = λ e. (came : List Came) × BroughtBy g.L.LogLink.asks (walk_by c.args.link.now c.args.transactions.now c.args.self.now) 1 came (step_items c.decoded.result) e (walk_by c.reply.new.link c.reply.new.transactions c.reply.new.self) in
     subst Q same.ended (subst P same.items c.reply.ensures.transacted)
 
 pub returns-clause-headline : goal.returns-clause-headline

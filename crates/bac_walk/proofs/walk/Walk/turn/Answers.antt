@@ -1,7 +1,7 @@
 use Rattle.std.proofs.Common.{Ok, Err, ap, inl, refl, subst}
 use Rattle.bac_apdu.specs.declared.service.extent.Extent.{Extent}
 use Rattle.bac_link.specs.Delivery.{now}
-use Rattle.bac_link.specs.Links.{IsReply}
+use Rattle.bac_link.specs.Links.{IsReply, our_question}
 use Rattle.bac_link.specs.Path.{towards}
 use Rattle.bac_link.specs.Requests.{next_invoke}
 use Rattle.bac_link.specs.declared.exchanges.ExchangeFault.{ExchangeFault}
@@ -21,7 +21,7 @@ returns-in-Ok-hear-clause-ours g c = λ r M H s ours next near.
     let w = c.args.self.now in
     let served = g.met.L.LogLink.serves c.args.link.now w.log r M H ours in
     let a = (c.in-Ok.ensures.ours w.log r M H (question_of w) ours c.question-question.ensures.asks).0 in
-    let P : Extent → Type 0 = λ x. IsReply r (now M) H w.log x (towards c.args.transactions.now.route) a.0.0 c.in-Ok.datagram in
+    let P : Extent → Type 0 = λ x. IsReply (our_question r M H w.log x (towards c.args.transactions.now.route)) a.0.0 c.in-Ok.datagram in
     let says = says_in c.in-Ok.datagram r M H w.log (wanted_at w s) (towards c.args.transactions.now.route) a.0.0 served (small_of w s c.question-question.ensures.asks.1) (near_to w s (now M) near) c.question-question.ensures.asks.2 (subst P (asks_at w s next) a.0.1) in
     turned_of (λ N. g.L.LogLink.is_ours c.exchange.new.link w.log r N H) r M H s w c.args.transactions.now.retries
     (g.L.LogLink.failures c.args.link.now) (g.L.LogLink.failures c.exchange.new.link) c.in-Ok-hear.turned c.hear.new.self
@@ -32,7 +32,7 @@ returns-in-Err-clause-ours g c = λ r M H s ours next near.
     let w = c.args.self.now in
     let served = g.met.L.LogLink.serves c.args.link.now w.log r M H ours in
     let a = (c.in-Ok.ensures.ours w.log r M H (question_of w) ours c.question-question.ensures.asks).0 in
-    let P : Extent → Type 0 = λ x. IsReply r (now M) H w.log x (towards c.args.transactions.now.route) a.0.0 c.in-Ok.datagram in
+    let P : Extent → Type 0 = λ x. IsReply (our_question r M H w.log x (towards c.args.transactions.now.route)) a.0.0 c.in-Ok.datagram in
     let says = says_in c.in-Ok.datagram r M H w.log (wanted_at w s) (towards c.args.transactions.now.route) a.0.0 served (small_of w s c.question-question.ensures.asks.1) (near_to w s (now M) near) c.question-question.ensures.asks.2 (subst P (asks_at w s next) a.0.1) in
     turn_of H M r s w (heard_in w.log c.in-Ok.datagram) (Err c.in-Err.field-0) c.hear.new.self (some_of w c.question-question.ensures.asks.1) next near served says (c.in-Err.ensures {u = tt})
 
