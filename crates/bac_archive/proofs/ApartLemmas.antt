@@ -40,10 +40,11 @@ use Rattle.bac_archive.proofs.LogLemmas.{from_map}
 abbrev rising : List (Term × Key)
 rising = (col 1 0, record { collation = Binary; descending = false }) ∷ []
 
-abbrev spans_query : Query
-spans_query = record {
+-- the question for the spans of the items that pass a filter, by rising ids
+abbrev pub spans_where : List Term → Query
+spans_where passes = record {
   from = inner 3 end;
-  filter = [];
+  filter = passes;
   group = None;
   project = col 1 0 ∷ col 1 2 ∷ [];
   distinct = false;
@@ -53,8 +54,11 @@ spans_query = record {
   offset = lit (Int (pos 0));
 }
 
+abbrev pub command_where : List Term → Command
+command_where passes = Select (record { lets = []; body = spans_where passes }) (codes "id" ∷ codes "last" ∷ [])
+
 abbrev spans_command : Command
-spans_command = Select (record { lets = []; body = spans_query }) (codes "id" ∷ codes "last" ∷ [])
+spans_command = command_where []
 
 spans_command_is : (s : Schema) (has : HasArchive s) → command_of (understood (around s has) spans_text) ≡ spans_command
 unfolding understood everything
@@ -68,44 +72,50 @@ spans_unlisted : (s : Schema) (has : HasArchive s) → reads_listing (around s h
 unfolding understood everything
 spans_unlisted s has = refl
 
-abbrev env_of : Values → Env
-env_of row = [] ∷ row ∷ []
+-- the rows of items that are asked for with these values
+abbrev pub env_with : Values → Values → Env
+env_with params row = params ∷ row ∷ []
 
 -- an output is sorted by the id that it shows
 abbrev ShowsKey : Output → Type 0
 ShowsKey o = column o.0 0 ≡ column o.1 0
 
-all_show : (envs : List Env) → All ShowsKey (map (output spans_query) envs)
-all_show [] = λ i d lt. absurd (omega (arith, lt))
-all_show (e ∷ es) = All-from_get_or ShowsKey (map (output spans_query) (e ∷ es)) (output spans_query e) (λ i lt.
-    subst ShowsKey (sym (get_or-map (output spans_query) (e ∷ es) i e (output spans_query e) (omega (arith, lt, length-map (e ∷ es) (output spans_query))))) refl)
-
-rises : (os : List Output) → All ShowsKey os → IsSorted (output_cmp spans_query) os → IsSorted by_id (map (λ (o : Output). o.1) os)
-rises os keyed sorted = λ k d low high.
-    let o : Output = (d, d) in
-    let len = length-map os (λ (o : Output). o.1) in
-    let one = get_or-map (λ (o : Output). o.1) os (k + 1) o d (omega (arith, high, len)) in
-    let two = get_or-map (λ (o : Output). o.1) os k o d (omega (arith, high, len)) in
-    let a = All-get_or ShowsKey os (k + 1) o (omega (arith, high, len)) keyed in
-    let b = All-get_or ShowsKey os k o (omega (arith, high, len)) keyed in
-    let was = sym (plain_then (value_cmp (column (get_or os (k + 1) o).0 0) (column (get_or os k o).0 0))) ∙ sorted k o low (omega (arith, high, len)) in
-    subst₂ (λ x y. is_lt (value_cmp (column x 0) (column y 0)) ≡ false) (sym one) (sym two) (subst₂ (λ x y. is_lt (value_cmp x y) ≡ false) a b was)
-
 -- these are the spans of items by rising ids
-record AreSpans (items rows : List Values) : Type 0 where
+pub record AreSpans (items rows : List Values) : Type 0 where
   pub each : IsPermutation (map span items) rows
   pub rising : IsSorted by_id rows
 
-answers : (db : Trees) (rows : List Values) → IsAnswer spans_query (overlay db []) [] rows → AreSpans (kept db) rows
-answers db rows a =
-    let staged : a.staged ≡ map env_of (overlay db [] 3) = a.grouped ∙ flat_map_single env_of (overlay db [] 3) in
-    let all : a.kept ≡ map (output spans_query) (map env_of (overlay db [] 3)) = a.distinct ∙ ap (map (output spans_query)) staged in
-    let same = subst (λ k. IsPermutation k a.ordered) all a.same in
-    let inside = map-map (λ (o : Output). o.1) (output spans_query) (map env_of (overlay db [] 3)) ∙ map-map (λ e. (output spans_query e).1) env_of (overlay db [] 3) in
-    record {
-      each = subst₂ IsPermutation inside (sym a.shown) (IsPermutation-map (λ (o : Output). o.1) _ _ same);
-      rising = subst (IsSorted by_id) (sym a.shown) (rises a.ordered (All-permutation ShowsKey _ _ same (all_show (map env_of (overlay db [] 3)))) a.sorted);
-    }
+module _ (passes : List Term) where
+  all_show : (envs : List Env) → All ShowsKey (map (output (spans_where passes)) envs)
+  all_show [] = λ i d lt. absurd (omega (arith, lt))
+  all_show (e ∷ es) = All-from_get_or ShowsKey (map (output (spans_where passes)) (e ∷ es)) (output (spans_where passes) e) (λ i lt.
+      subst ShowsKey (sym (get_or-map (output (spans_where passes)) (e ∷ es) i e (output (spans_where passes) e) (omega (arith, lt, length-map (e ∷ es) (output (spans_where passes)))))) refl)
+
+  rises : (os : List Output) → All ShowsKey os → IsSorted (output_cmp (spans_where passes)) os → IsSorted by_id (map (λ (o : Output). o.1) os)
+  rises os keyed sorted = λ k d low high.
+      let o : Output = (d, d) in
+      let len = length-map os (λ (o : Output). o.1) in
+      let one = get_or-map (λ (o : Output). o.1) os (k + 1) o d (omega (arith, high, len)) in
+      let two = get_or-map (λ (o : Output). o.1) os k o d (omega (arith, high, len)) in
+      let a = All-get_or ShowsKey os (k + 1) o (omega (arith, high, len)) keyed in
+      let b = All-get_or ShowsKey os k o (omega (arith, high, len)) keyed in
+      let was = sym (plain_then (value_cmp (column (get_or os (k + 1) o).0 0) (column (get_or os k o).0 0))) ∙ sorted k o low (omega (arith, high, len)) in
+      subst₂ (λ x y. is_lt (value_cmp (column x 0) (column y 0)) ≡ false) (sym one) (sym two) (subst₂ (λ x y. is_lt (value_cmp x y) ≡ false) a b was)
+
+  -- what is answered where these items pass
+  pub spans_answered : (db : Trees) (params : Values) (rows items : List Values) (a : IsAnswer (spans_where passes) (overlay db []) params rows) →
+      a.staged ≡ map (env_with params) items → AreSpans items rows
+  spans_answered db params rows items a passed =
+      let all : a.kept ≡ map (output (spans_where passes)) (map (env_with params) items) = a.distinct ∙ ap (map (output (spans_where passes))) passed in
+      let same = subst (λ k. IsPermutation k a.ordered) all a.same in
+      let inside = map-map (λ (o : Output). o.1) (output (spans_where passes)) (map (env_with params) items) ∙ map-map (λ e. (output (spans_where passes) e).1) (env_with params) items in
+      record {
+        each = subst₂ IsPermutation inside (sym a.shown) (IsPermutation-map (λ (o : Output). o.1) _ _ same);
+        rising = subst (IsSorted by_id) (sym a.shown) (rises a.ordered (All-permutation ShowsKey _ _ same (all_show (map (env_with params) items))) a.sorted);
+      }
+
+answers : (db : Trees) (rows : List Values) → IsAnswer (spans_where []) (overlay db []) [] rows → AreSpans (kept db) rows
+answers db rows a = spans_answered [] db [] rows (kept db) a (a.grouped ∙ flat_map_single (env_with []) (overlay db [] 3))
 
 -- rows that are listed first, and those behind them
 begins_with : (s : State) (rows : List Values) → HasArchive s.now.schema → Begins spans_text [] s rows → (more : List Values) × AreSpans (kept s.now.trees) (rows ++ more)

@@ -9,7 +9,7 @@ use Rattle.bac_link.specs.Moments.{entries_from, log_at}
 use Rattle.bac_link.specs.declared.item.Item.{Item}
 use Rattle.bac_link.specs.declared.item.Item.TheVariants.{Gap}
 use Rattle.bac_walk.specs.Rests.{Rested, rest_all}
-use Rattle.bac_walk.specs.Walks.{numbered}
+use Rattle.bac_walk.specs.Walks.{logged_from}
 use Rattle.bac_walk.specs.declared.outcome.Ended.TheVariants.{CaughtUp}
 use Rattle.bac_direct.specs.Ahead.{moment_of}
 use Rattle.bac_client_tests.specs.Held.{held_from}
@@ -30,14 +30,14 @@ held_if : (log : Log) (s : ℕ) (b : Bool) → nat_lt (newest log) (max s (oldes
     (if b
     then (let r : Rested = record { items = []; next = s; ended = CaughtUp } in r)
     else record {
-      items = gap_to log s ++ numbered (max s (oldest log)) (entries_from (history_of log) (max s (oldest log)) ((newest log + 1) - max s (oldest log)));
+      items = gap_to log s ++ logged_from (max s (oldest log)) (entries_from (history_of log) (max s (oldest log)) ((newest log + 1) - max s (oldest log)));
       next = newest log + 1;
       ended = CaughtUp;
     }).items
-    ≡ (if b then [] else (gap_to log s ++ numbered (max s (oldest log)) (drop (max s (oldest log) - oldest log) log.entries)))
+    ≡ (if b then [] else (gap_to log s ++ logged_from (max s (oldest log)) (drop (max s (oldest log) - oldest log) log.entries)))
 held_if log s true e = refl
 held_if log s false e =
-    ap (λ (es : List Entry). gap_to log s ++ numbered (max s (oldest log)) es)
+    ap (λ (es : List Entry). gap_to log s ++ logged_from (max s (oldest log)) es)
     (entries_are log (max s (oldest log)) (omega arith) (ltb-false (newest log) (max s (oldest log)) e))
 
 pub held_all : (log : Log) (s : ℕ) → (rest_all (history_of log) (moment_of log) s).items ≡ held_from log s

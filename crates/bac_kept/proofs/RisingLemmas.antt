@@ -1,17 +1,13 @@
 -- What is printed of a log's rows in parts.
 use Rattle.std.proofs.Common.{◌≡◌, ◌⊎◌, inl, inr, refl, sym, ap, subst, ◌∙◌, ℕ, ◌<◌, ◌==◌, ◌&&◌, ◌||◌, nat_lt, Bool, true, false, List, [], ◌∷◌, ◌++◌, append_assoc, Option, None, Some, arith}
 use Rattle.std.proofs.Math.Bool.{or-true}
-use Rattle.std.proofs.lemmas.Bool.{eq-eqb, eqb-true, lt-ltb, ltb-true}
+use Rattle.std.proofs.lemmas.Bool.{cases_Bool, eq-eqb, eqb-true, lt-ltb, ltb-true}
 use Rattle.std.specs.List.{AllByRecursion, filter}
 use Rattle.sqlite_value.specs.Order.{Row as Values}
 use Rattle.bac_archive.specs.Items.{epoch_in, number_in}
 use Rattle.bac_kept.specs.Parts.{IsIn, IsOneOf, PartsPrintEachOnce, Rise, printed_of}
 use Rattle.bac_kept.specs.Seen.{is_new, item_at, newest_of}
 use Rattle.bac_kept.specs.declared.seen.Newest.{Newest}
-
-by_bool : {X : Type 0} (b : Bool) → (b ≡ true → X) → (b ≡ false → X) → X
-by_bool true f g = f refl
-by_bool false f g = g refl
 
 -- by epoch, or by number in the same one
 abbrev Lies : ℕ → ℕ → ℕ → ℕ → Type 0
@@ -61,9 +57,10 @@ all_behind behind r (x ∷ rows) so (new, more) =
 
 rise_filter : (behind from : Option Newest) (rows : List Values) → Rise from rows → Rise behind (filter (is_new behind) rows)
 rise_filter behind from [] it = tt
-rise_filter behind from (r ∷ rows) (new, more) = by_bool (is_new behind r)
-    (λ so. subst (Rise behind) (sym (taken behind r rows so)) (so, subst (Rise (Some (item_at r))) (sym (all_behind behind r rows so more)) more))
-    (λ not. subst (Rise behind) (sym (left behind r rows not)) (rise_filter behind (Some (item_at r)) rows more))
+rise_filter behind from (r ∷ rows) (new, more) = elim (cases_Bool (is_new behind r)) [
+  | inl so ↦ subst (Rise behind) (sym (taken behind r rows so)) (so, subst (Rise (Some (item_at r))) (sym (all_behind behind r rows so more)) more)
+  | inr not ↦ subst (Rise behind) (sym (left behind r rows not)) (rise_filter behind (Some (item_at r)) rows more)
+]
 
 rise_append : (behind : Option Newest) (xs ys : List Values) → Rise behind xs → Rise (newest_of behind xs) ys → Rise behind (xs ++ ys)
 rise_append behind [] ys a b = b
@@ -88,9 +85,10 @@ in_filter : (behind : Option Newest) (row : Values) (rows : List Values) → IsO
 in_filter behind row [] it so = elim it [ ]
 in_filter behind row (x ∷ rows) (inl is) so =
     subst (IsOneOf row) (sym (taken behind x rows (ap (is_new behind) (sym is) ∙ so))) (inl is)
-in_filter behind row (x ∷ rows) (inr there) so = by_bool (is_new behind x)
-    (λ yes. subst (IsOneOf row) (sym (taken behind x rows yes)) (inr (in_filter behind row rows there so)))
-    (λ not. subst (IsOneOf row) (sym (left behind x rows not)) (in_filter behind row rows there so))
+in_filter behind row (x ∷ rows) (inr there) so = elim (cases_Bool (is_new behind x)) [
+  | inl kept ↦ subst (IsOneOf row) (sym (taken behind x rows kept)) (inr (in_filter behind row rows there so))
+  | inr not ↦ subst (IsOneOf row) (sym (left behind x rows not)) (in_filter behind row rows there so)
+]
 
 -- the newest item, if there is one, is that of a row that was printed
 abbrev Known : Option Newest → List Values → Type 0
@@ -112,9 +110,10 @@ Covers behind seen parts row = IsOneOf row (printed_of behind parts)
 here : (behind : Option Newest) (seen rows : List Values) (parts : List (List Values)) (row : Values) → Known behind seen → IsOneOf row rows → Covers behind seen (rows ∷ parts) row
 here None seen rows parts row known at =
     inl (one_left row (filter (is_new None) rows) _ (in_filter None row rows at refl))
-here (Some item) seen rows parts row (last, was, is) at = by_bool (is_new (Some item) row)
-    (λ so. inl (one_left row (filter (is_new (Some item)) rows) _ (in_filter (Some item) row rows at so)))
-    (λ not. inr (last, one_left last seen _ was, subst (λ (n : Newest). is_new (Some n) row ≡ false) is not))
+here (Some item) seen rows parts row (last, was, is) at = elim (cases_Bool (is_new (Some item) row)) [
+  | inl so ↦ inl (one_left row (filter (is_new (Some item)) rows) _ (in_filter (Some item) row rows at so))
+  | inr not ↦ inr (last, one_left last seen _ was, subst (λ (n : Newest). is_new (Some n) row ≡ false) is not)
+]
 
 covers : (behind : Option Newest) (seen : List Values) (parts : List (List Values)) → Known behind seen → (row : Values) → IsIn row parts → Covers behind seen parts row
 covers behind seen [] known row it = elim it [ ]

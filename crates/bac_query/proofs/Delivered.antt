@@ -6,7 +6,7 @@ use Rattle.bac_link.specs.declared.item.Item.{Item}
 use Rattle.bac_query.specs.Items.{item_line, items_text}
 use Rattle.bac_print.specs.Output.{AppendsPart}
 use Rattle.bac_query.specs.Reading.{Held}
-pub use Rattle.bac_walk.proofs.Runs.{runs_on as not_stopped}
+pub use Rattle.bac_walk.proofs.Runs.{runs_on}
 
 pub items_text-append : (xs ys : List Item) → items_text (xs ++ ys) ≡ items_text xs ++ items_text ys
 items_text-append [] ys = refl

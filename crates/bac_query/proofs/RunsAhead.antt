@@ -38,7 +38,7 @@ use Rattle.bac_query.specs.More.{TellsMore, more_after, more_last}
 use Rattle.bac_query.specs.Reading.{Held, printing}
 use Rattle.bac_query.specs.declared.fault.QueryFault.{QueryFault}
 use Rattle.bac_query.specs.declared.fault.QueryFault.TheVariants.{Exchange, Write, Memory}
-use Rattle.bac_query.proofs.Delivered.{not_stopped}
+use Rattle.bac_query.proofs.Delivered.{runs_on}
 use Rattle.bac_link.specs.Exchanges.{client}
 
 -- ---- runs
@@ -265,7 +265,7 @@ filled_whole : {K : Type 0} (items : K → List Item) (old : K) (calls : List Ca
     Takes (λ s gap item taken t. Fills items s gap item taken t) old calls (is_stopped ended) new → ended ≢ Stopped → items new ≡ put_items calls
 filled_whole items old calls new ended none taken on =
     let P : Bool → Type 0 = λ b. Takes (λ s gap item t u. Fills items s gap item t u) old calls b new in
-    all_filled items old calls new (subst P (not_stopped ended on) taken) ∙ ap (λ l. l ++ put_items calls) none
+    all_filled items old calls new (subst P (runs_on ended on) taken) ∙ ap (λ l. l ++ put_items calls) none
 
 -- what a step into such a sink brought, seen over the link below
 pub over_step : {S T K : Type 0} (f : S → T) (asks : Asking S) (other : Asking T) → Maps f asks other → (items : K → List Item) (last : S → Option (List ℕ)) →

@@ -17,7 +17,7 @@ use Rattle.bac_link.specs.Ordinals.{is_number, distance, number_after}
 use Rattle.bac_link.proofs.Delivers.{CoversEach-append}
 use Rattle.bac_walk.specs.Walks.{shown_from, brought, asks_oldest_now, is_past, fits, items_in, NextAct, Refuse, Ask, End, Bring, verdict, IsTaken, IsTakenFrom}
 use Rattle.bac_walk.specs.Collects.{Goes, turn_items, asks_next, finished, step_items}
-use Rattle.bac_walk.proofs.Shown.{covers_numbered, after-number, shown_numbered, number-distance}
+use Rattle.bac_walk.proofs.Shown.{covers_logged, after-number, shown_logged, number-distance}
 use Rattle.bac_walk.proofs.Cuts.{covers_cut}
 
 -- entries with the numbers from that of ordinal s on
@@ -26,7 +26,7 @@ covers_shown : (s shown : ℕ) (es : List Entry) → shown ≡ sequence_number s
 covers_shown s shown es is =
     let P : List Item → Type 0 = λ xs. CoversEach s xs (s + length es) in
     let Q : ℕ → Type 0 = λ n. (number_after n (length es) ≡ sequence_number (s + length es)) × CoversEach s (shown_from n es) (s + length es) in
-    subst Q (sym is) (after-number s (length es), subst P (sym (shown_numbered s es)) (covers_numbered s es))
+    subst Q (sym is) (after-number s (length es), subst P (sym (shown_logged s es)) (covers_logged s es))
 
 -- a batch of a walk that isn't one from the oldest entry any more
 goes_on : (next first s : ℕ) (e : Entry) (es : List Entry) (lt : Bool) → nat_lt 0 (distance next first) ≡ lt → is_number first ≡ true →

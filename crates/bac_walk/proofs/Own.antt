@@ -14,14 +14,14 @@ use Rattle.bac_link.specs.Heard.{heard_in}
 use Rattle.bac_walk.specs.Replies.{Wanted, FromOrdinal, FromOldest, IsAnswer, asked_at, asked_count, count_wanted, how_many}
 use Rattle.bac_link.specs.Standard.{IsCount, count_asked, HoldsNumber, AreHeldFrom, SaysAt, IsSaidAt}
 use Rattle.bac_walk.specs.Takes.{Says}
-use Rattle.bac_walk.specs.Walks.{numbered}
+use Rattle.bac_walk.specs.Walks.{logged_from}
 use Rattle.bac_walk.proofs.Bridge.{IsNearTo}
 use Rattle.bac_walk.proofs.Held.{Sound, Sound-now, In-now}
 use Rattle.bac_walk.proofs.OurReply.{says_in}
 use Rattle.bac_walk.proofs.Shown.{distance-number, records}
 use Rattle.bac_walk.proofs.Turns.{entries_count}
 
-held_of : (H : History) (m : Moment) (k u : ℕ) (es : List Entry) → AreHeld H m k (numbered k es) u → AreHeldFrom H m k es
+held_of : (H : History) (m : Moment) (k u : ℕ) (es : List Entry) → AreHeld H m k (logged_from k es) u → AreHeldFrom H m k es
 held_of H m k u [] are = tt
 held_of H m k u (e ∷ es) are = (are.1, are.2, held_of H m (k + 1) u es are.3)
 
@@ -44,7 +44,7 @@ says_of r m H (FromOrdinal s count) first (e ∷ es) sound within some near answ
     let same : length (entries_from H f (how_many r H (FromOrdinal s count) m)) ≡ how_many r H (FromOrdinal s count) m =
     entries_count H m f (how_many r H (FromOrdinal s count) m) sound within (omega arith) (λ h. omega (arith, answer.most)) in
     let n : length (e ∷ es) ≡ how_many r H (FromOrdinal s count) m = ap length answer.entries ∙ same in
-    let Q : List Entry → Type 0 = λ xs. AreHeld H m f (numbered f xs) (f + length xs) in
+    let Q : List Entry → Type 0 = λ xs. AreHeld H m f (logged_from f xs) (f + length xs) in
     let are = held_of H m f (f + length (e ∷ es)) (e ∷ es) (subst Q (sym answer.entries) (records H m f (how_many r H (FromOrdinal s count) m) (omega (arith, sound.above)) (omega arith) (omega (arith, n, same, answer.most)))) in (
       f,
       (answer.first_is (omega (arith, n)), omega (arith, n, answer.most), are),
@@ -67,7 +67,7 @@ says_of r m H (FromOldest count) first (e ∷ es) sound within some near answer 
     let same : length (entries_from H m.oldest (how_many r H (FromOldest count) m)) ≡ how_many r H (FromOldest count) m =
     entries_count H m m.oldest (how_many r H (FromOldest count) m) sound within (omega arith) (λ h. omega (arith, answer.most)) in
     let n : length (e ∷ es) ≡ how_many r H (FromOldest count) m = ap length answer.entries ∙ same in
-    let Q : List Entry → Type 0 = λ xs. AreHeld H m m.oldest (numbered m.oldest xs) (m.oldest + length xs) in
+    let Q : List Entry → Type 0 = λ xs. AreHeld H m m.oldest (logged_from m.oldest xs) (m.oldest + length xs) in
     let are = held_of H m m.oldest (m.oldest + length (e ∷ es)) (e ∷ es) (subst Q (sym answer.entries) (records H m m.oldest (how_many r H (FromOldest count) m) sound.above (omega arith) (omega (arith, n, same, answer.most)))) in
     (answer.first_is (omega (arith, n)), omega (arith, n, answer.most), are)
 

@@ -15,7 +15,7 @@ use Rattle.bac_log.specs.Entry.{IsLoggable}
 use Rattle.bac_walk.proofs.Bridge.{fitting_some, fitting_most, cut_loggable}
 use Rattle.bac_walk.proofs.Held.{Sound-now, In-now}
 use Rattle.bac_walk.proofs.Turns.{entries_count}
-use Rattle.bac_walk.specs.Walks.{numbered}
+use Rattle.bac_walk.specs.Walks.{logged_from}
 
 take-more : (c d : ℕ) (xs : List Entry) → take (c + d) xs ≡ take c xs ++ take d (drop c xs)
 take-more zero d xs = rw zero-add refl
@@ -42,17 +42,17 @@ entries-split H b c d above =
     ∙ ap (λ l. take c (drop (b - (H.logged + 1)) H.entries) ++ take d l)
     (sym (drop-more (b - (H.logged + 1)) c H.entries) ∙ ap (λ n. drop n H.entries) (sym at))
 
-numbered-append : (k : ℕ) (es fs : List Entry) → numbered k (es ++ fs) ≡ numbered k es ++ numbered (k + length es) fs
-numbered-append k [] fs = rw add-zero refl
-numbered-append k (e ∷ es) fs =
+logged_from-append : (k : ℕ) (es fs : List Entry) → logged_from k (es ++ fs) ≡ logged_from k es ++ logged_from (k + length es) fs
+logged_from-append k [] fs = rw add-zero refl
+logged_from-append k (e ∷ es) fs =
     let at : (k + 1) + length es ≡ k + suc (length es) = omega arith in
-    let P : ℕ → Type 0 = λ n. numbered (k + 1) (es ++ fs) ≡ numbered (k + 1) es ++ numbered n fs in
-    ap (λ l. Logged (sequence_number k) e ∷ l) (subst P at (numbered-append (k + 1) es fs))
+    let P : ℕ → Type 0 = λ n. logged_from (k + 1) (es ++ fs) ≡ logged_from (k + 1) es ++ logged_from n fs in
+    ap (λ l. Logged (sequence_number k) e ∷ l) (subst P at (logged_from-append (k + 1) es fs))
 
 -- all that is left after so many entries from b on
 after_some : (H : History) (m : Moment) (b c : ℕ) (past : Bool) → nat_lt m.newest (max (b + c) m.oldest) ≡ past →
     H.logged < b → m.oldest ≤ b → b + c ≤ m.newest + 1 → 0 < c →
-    (numbered (b + c) (entries_from H (b + c) ((m.newest + 1) - (b + c))) ≡ (rest_all H m (b + c)).items)
+    (logged_from (b + c) (entries_from H (b + c) ((m.newest + 1) - (b + c))) ≡ (rest_all H m (b + c)).items)
     × (m.newest + 1 ≡ (rest_all H m (b + c)).next) × (CaughtUp ≡ (rest_all H m (b + c)).ended)
 after_some H m b c true is above low high some =
     let end : m.newest + 1 ≡ b + c = omega (arith, ltb-true _ _ is) in
@@ -105,48 +105,48 @@ rests_all r count H m s (suc n) positive served loggable enough = by_end (λ u g
         let next : rest_from r count H m (b + c) n ≡ rest_all H m (b + c) = again (b + c) (omega arith) (omega (arith, many.0)) in
         let G : List Item = (if nat_lt s m.oldest then Gap (sequence_number s) (sequence_number m.oldest) ∷ [] else []) in
         let sum : c + ((m.newest + 1) - (b + c)) ≡ (m.newest + 1) - b = omega (arith, many.1) in
-        let joined : whole_reply r count H m far s ++ (rest_all H m (b + c)).items ≡ G ++ numbered b (entries_from H b ((m.newest + 1) - b)) =
-        append_assoc G (numbered b es) (rest_all H m (b + c)).items
-        ∙ ap (λ l. G ++ (numbered b es ++ l)) (sym left.0)
-        ∙ ap (λ k. G ++ (numbered b es ++ numbered (b + k) (entries_from H (b + c) ((m.newest + 1) - (b + c))))) (sym long)
-        ∙ ap (λ l. G ++ l) (sym (numbered-append b es (entries_from H (b + c) ((m.newest + 1) - (b + c)))))
-        ∙ ap (λ l. G ++ numbered b l) (sym (entries-split H b c ((m.newest + 1) - (b + c)) (omega (arith, sound.above))))
-        ∙ ap (λ k. G ++ numbered b (entries_from H b k)) sum in
+        let joined : whole_reply r count H m far s ++ (rest_all H m (b + c)).items ≡ G ++ logged_from b (entries_from H b ((m.newest + 1) - b)) =
+        append_assoc G (logged_from b es) (rest_all H m (b + c)).items
+        ∙ ap (λ l. G ++ (logged_from b es ++ l)) (sym left.0)
+        ∙ ap (λ k. G ++ (logged_from b es ++ logged_from (b + k) (entries_from H (b + c) ((m.newest + 1) - (b + c))))) (sym long)
+        ∙ ap (λ l. G ++ l) (sym (logged_from-append b es (entries_from H (b + c) ((m.newest + 1) - (b + c)))))
+        ∙ ap (λ l. G ++ logged_from b l) (sym (entries-split H b c ((m.newest + 1) - (b + c)) (omega (arith, sound.above))))
+        ∙ ap (λ k. G ++ logged_from b (entries_from H b k)) sum in
         let more : Rested → Rested = λ x. record { items = whole_reply r count H m far s ++ x.items; next = x.next; ended = x.ended } in
         let one : more (rest_from r count H m (b + c) n) ≡ more (rest_all H m (b + c)) = ap more next in
-        let two : more (rest_all H m (b + c)) ≡ record { items = G ++ numbered b (entries_from H b ((m.newest + 1) - b)); next = m.newest + 1; ended = CaughtUp } =
+        let two : more (rest_all H m (b + c)) ≡ record { items = G ++ logged_from b (entries_from H b ((m.newest + 1) - b)); next = m.newest + 1; ended = CaughtUp } =
         ap (λ (l : List Item). record { items = l; next = (rest_all H m (b + c)).next; ended = (rest_all H m (b + c)).ended }) joined
-        ∙ ap (λ (k : ℕ). record { items = G ++ numbered b (entries_from H b ((m.newest + 1) - b)); next = k; ended = (rest_all H m (b + c)).ended }) (sym left.1)
-        ∙ ap (λ (e : _). record { items = G ++ numbered b (entries_from H b ((m.newest + 1) - b)); next = m.newest + 1; ended = e }) (sym left.2) in
+        ∙ ap (λ (k : ℕ). record { items = G ++ logged_from b (entries_from H b ((m.newest + 1) - b)); next = k; ended = (rest_all H m (b + c)).ended }) (sym left.1)
+        ∙ ap (λ (e : _). record { items = G ++ logged_from b (entries_from H b ((m.newest + 1) - b)); next = m.newest + 1; ended = e }) (sym left.2) in
         rw is (one ∙ two)
 
 -- what follows an entry
-cut_numbered : (b : ℕ) (es : List Entry) (shown : ℕ) (e : Entry) (before after : List Item) → numbered b es ≡ before ++ Logged shown e ∷ after →
-    (j : ℕ) × (j < length es) × (shown ≡ sequence_number (b + j)) × (after ≡ numbered (b + (j + 1)) (drop (j + 1) es))
-cut_numbered b [] shown e [] after is = absurd (cc)
-cut_numbered b [] shown e (x ∷ before) after is = absurd (cc)
-cut_numbered b (f ∷ es) shown e [] after is =
+cut_logged : (b : ℕ) (es : List Entry) (shown : ℕ) (e : Entry) (before after : List Item) → logged_from b es ≡ before ++ Logged shown e ∷ after →
+    (j : ℕ) × (j < length es) × (shown ≡ sequence_number (b + j)) × (after ≡ logged_from (b + (j + 1)) (drop (j + 1) es))
+cut_logged b [] shown e [] after is = absurd (cc)
+cut_logged b [] shown e (x ∷ before) after is = absurd (cc)
+cut_logged b (f ∷ es) shown e [] after is =
     let head : Logged (sequence_number b) f ≡ Logged shown e = cc in
     let n : sequence_number b ≡ shown = cc in
-    let tail : numbered (b + 1) es ≡ after = cc in
+    let tail : logged_from (b + 1) es ≡ after = cc in
     (0, omega arith, rw add-zero (sym n), sym tail)
-cut_numbered b (f ∷ es) shown e (x ∷ before) after is =
-    let tail : numbered (b + 1) es ≡ before ++ Logged shown e ∷ after = cc in
-    let rest = cut_numbered (b + 1) es shown e before after tail in
+cut_logged b (f ∷ es) shown e (x ∷ before) after is =
+    let tail : logged_from (b + 1) es ≡ before ++ Logged shown e ∷ after = cc in
+    let rest = cut_logged (b + 1) es shown e before after tail in
     let at : (b + 1) + rest.0 ≡ b + (rest.0 + 1) = omega arith in
     let at_next : (b + 1) + (rest.0 + 1) ≡ b + ((rest.0 + 1) + 1) = omega arith in
-    let P : ℕ → Type 0 = λ k. after ≡ numbered k (drop (rest.0 + 1) es) in
+    let P : ℕ → Type 0 = λ k. after ≡ logged_from k (drop (rest.0 + 1) es) in
     let same : drop ((rest.0 + 1) + 1) (f ∷ es) ≡ drop (rest.0 + 1) es = (let s1 : (rest.0 + 1) + 1 ≡ suc (rest.0 + 1) = omega arith in rw s1 refl) in
-    let Q : List Entry → Type 0 = λ l. after ≡ numbered (b + ((rest.0 + 1) + 1)) l in
+    let Q : List Entry → Type 0 = λ l. after ≡ logged_from (b + ((rest.0 + 1) + 1)) l in
     (rest.0 + 1, omega (arith, rest.1), rest.2 ∙ ap sequence_number at, subst Q (sym same) (subst P at_next rest.3))
 
 from_held : (H : History) (m : Moment) (b shown : ℕ) (e : Entry) (before after : List Item) → IsMoment H.logged m → m.newest ≤ H.logged + length H.entries →
-    m.oldest ≤ b → b ≤ m.newest → numbered b (entries_from H b ((m.newest + 1) - b)) ≡ before ++ Logged shown e ∷ after →
+    m.oldest ≤ b → b ≤ m.newest → logged_from b (entries_from H b ((m.newest + 1) - b)) ≡ before ++ Logged shown e ∷ after →
     (k : ℕ) × (shown ≡ sequence_number k) × (after ≡ (rest_all H m (k + 1)).items)
 from_held H m b shown e before after sound within low high is =
     let count = (m.newest + 1) - b in
     let long : length (entries_from H b count) ≡ count = entries_count H m b count sound within low (λ h. omega arith) in
-    let c = cut_numbered b (entries_from H b count) shown e before after is in
+    let c = cut_logged b (entries_from H b count) shown e before after is in
     let j = c.0 + 1 in
     let split : entries_from H b count ≡ entries_from H b j ++ entries_from H (b + j) ((m.newest + 1) - (b + j)) =
     ap (λ n. entries_from H b n) (let e1 : count ≡ j + ((m.newest + 1) - (b + j)) = omega (arith, c.1, long) in e1)
@@ -157,7 +157,7 @@ from_held H m b shown e before after sound within low high is =
     ∙ drop-append_seam (entries_from H b j) (entries_from H (b + j) ((m.newest + 1) - (b + j))) in
     let left = after_some H m b j (nat_lt m.newest (max (b + j) m.oldest)) refl (omega (arith, sound.above)) low (omega (arith, c.1, long)) (omega arith) in
     let next : (b + c.0) + 1 ≡ b + j = omega arith in
-    (b + c.0, c.2, c.3 ∙ ap (λ l. numbered (b + j) l) rest ∙ left.0 ∙ ap (λ n. (rest_all H m n).items) (sym next))
+    (b + c.0, c.2, c.3 ∙ ap (λ l. logged_from (b + j) l) rest ∙ left.0 ∙ ap (λ n. (rest_all H m n).items) (sym next))
 
 pub rest_resumes : (H : History) (m : Moment) (s shown : ℕ) (entry : Entry) (before after : List Item) → IsMoment H.logged m → m.newest ≤ H.logged + length H.entries →
     (rest_all H m s).items ≡ before ++ Logged shown entry ∷ after →
@@ -168,7 +168,7 @@ rest_resumes H m s shown entry before after sound within is =
     pick : Bool → Bool → List Item
     pick true lt = []
     pick false lt = (if lt then Gap (sequence_number s) (sequence_number m.oldest) ∷ [] else [])
-        ++ numbered (max s m.oldest) (entries_from H (max s m.oldest) ((m.newest + 1) - max s m.oldest))
+        ++ logged_from (max s m.oldest) (entries_from H (max s m.oldest) ((m.newest + 1) - max s m.oldest))
 
     picked : (past : Bool) → nat_lt m.newest (max s m.oldest) ≡ past → pick (nat_lt m.newest (max s m.oldest)) (nat_lt s m.oldest) ≡ (rest_all H m s).items
     picked true e = rw e refl
@@ -184,9 +184,9 @@ rest_resumes H m s shown entry before after sound within is =
     by_end false false a b eq = from_held H m (max s m.oldest) shown entry before after sound within (omega arith) (ltb-false _ _ a) eq
     by_end false true a b eq = gone before eq
       where
-        gone : (l : List Item) → Gap (sequence_number s) (sequence_number m.oldest) ∷ numbered (max s m.oldest) (entries_from H (max s m.oldest) ((m.newest + 1) - max s m.oldest)) ≡ l ++ Logged shown entry ∷ after →
+        gone : (l : List Item) → Gap (sequence_number s) (sequence_number m.oldest) ∷ logged_from (max s m.oldest) (entries_from H (max s m.oldest) ((m.newest + 1) - max s m.oldest)) ≡ l ++ Logged shown entry ∷ after →
             (k : ℕ) × (shown ≡ sequence_number k) × (after ≡ (rest_all H m (k + 1)).items)
         gone [] e = absurd (let h : Gap (sequence_number s) (sequence_number m.oldest) ≡ Logged shown entry = cc in cc)
         gone (x ∷ l) e =
-            let tail : numbered (max s m.oldest) (entries_from H (max s m.oldest) ((m.newest + 1) - max s m.oldest)) ≡ l ++ Logged shown entry ∷ after = cc in
+            let tail : logged_from (max s m.oldest) (entries_from H (max s m.oldest) ((m.newest + 1) - max s m.oldest)) ≡ l ++ Logged shown entry ∷ after = cc in
             from_held H m (max s m.oldest) shown entry l after sound within (omega arith) (ltb-false _ _ a) tail

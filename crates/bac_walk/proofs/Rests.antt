@@ -13,13 +13,13 @@ use Rattle.bac_link.specs.Moments.{entries_from}
 use Rattle.bac_link.proofs.Delivers.{after_one, held_length, first_held}
 use Rattle.bac_walk.specs.Turns.{NoneOfAsked, whole_reply, reply_count}
 use Rattle.bac_walk.specs.Delivers.{NoneFrom}
-use Rattle.bac_walk.specs.Walks.{items_in, numbered}
+use Rattle.bac_walk.specs.Walks.{items_in, logged_from}
 use Rattle.bac_log.specs.declared.entry.Entry.{Entry}
 use Rattle.bac_walk.specs.declared.outcome.Step.{Step}
 use Rattle.bac_walk.specs.declared.outcome.Step.TheVariants.{Batch as StepOf, CaughtUp as NoStep}
 use Rattle.bac_walk.specs.Collects.{Collected, IsEnded, FoundEnd, FoundStep, step_items, step_ended, batches, IsWhole, IsOfReply, LeadsInSteps, start_of, our_log, started_at, losses_of, yield}
 use Rattle.bac_walk.proofs.Bridge.{fitting_most}
-use Rattle.bac_walk.proofs.Shown.{length-numbered}
+use Rattle.bac_walk.proofs.Shown.{length-logged_from}
 use Rattle.bac_walk.specs.Rests.{Rested, rest_from, rest_oldest, rest, IsRest}
 
 -- the first entry of a batch is held
@@ -34,21 +34,21 @@ entries_all : (H : History) (f c n : ℕ) → c ≤ length (entries_from H f n) 
 entries_all H f c n le =
     let xs = drop (f - (H.logged + 1)) H.entries in omega (arith, le, length-take c xs, length-take n xs)
 
-numbered_end : (H : History) (m : Moment) (s u k : ℕ) (es : List Entry) → Brings H m s (numbered k es) u → u ≡ s + length es
-numbered_end H m s u k [] brings = omega (arith, brings)
-numbered_end H m s u k (e ∷ es) brings = omega (arith, held_length H m s u (numbered k (e ∷ es)) brings, length-numbered k (e ∷ es))
+logged_end : (H : History) (m : Moment) (s u k : ℕ) (es : List Entry) → Brings H m s (logged_from k es) u → u ≡ s + length es
+logged_end H m s u k [] brings = omega (arith, brings)
+logged_end H m s u k (e ∷ es) brings = omega (arith, held_length H m s u (logged_from k (e ∷ es)) brings, length-logged_from k (e ∷ es))
 
 -- where entries bring a walk, with the gap before them
 reply_end : (H : History) (m : Moment) (s u : ℕ) (es : List Entry) (lt : Bool) → nat_lt s m.oldest ≡ lt →
-    Brings H m s ((if lt then Gap (sequence_number s) (sequence_number m.oldest) ∷ [] else []) ++ numbered (max s m.oldest) es) u →
-    0 < length ((if lt then Gap (sequence_number s) (sequence_number m.oldest) ∷ [] else []) ++ numbered (max s m.oldest) es) →
+    Brings H m s ((if lt then Gap (sequence_number s) (sequence_number m.oldest) ∷ [] else []) ++ logged_from (max s m.oldest) es) u →
+    0 < length ((if lt then Gap (sequence_number s) (sequence_number m.oldest) ∷ [] else []) ++ logged_from (max s m.oldest) es) →
     (0 < length es) × (u ≡ max s m.oldest + length es)
 reply_end H m s u es true is brings some =
-    let many = length-numbered (max s m.oldest) es in
-    (omega (arith, brings.3, many), omega (arith, brings.1, held_length H m m.oldest u (numbered (max s m.oldest) es) brings.4, many))
+    let many = length-logged_from (max s m.oldest) es in
+    (omega (arith, brings.3, many), omega (arith, brings.1, held_length H m m.oldest u (logged_from (max s m.oldest) es) brings.4, many))
 reply_end H m s u es false is brings some =
     let ge : m.oldest ≤ s = ltb-false s m.oldest is in
-    (omega (arith, some, length-numbered (max s m.oldest) es), omega (arith, numbered_end H m s u (max s m.oldest) es brings, ge))
+    (omega (arith, some, length-logged_from (max s m.oldest) es), omega (arith, logged_end H m s u (max s m.oldest) es brings, ge))
 
 -- where a whole reply brings it, and that it has an entry
 whole_end : (r count : ℕ) (H : History) (m : Moment) (by_oldest : Bool) (s u : ℕ) (items : List Item) → 0 < length items → Brings H m s items u →

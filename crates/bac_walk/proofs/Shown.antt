@@ -8,7 +8,7 @@ use Rattle.bac_link.specs.Delivery.{History, Moment, AreHeld}
 use Rattle.bac_link.specs.Laws.{CoversEach}
 use Rattle.bac_link.specs.Moments.{entries_from}
 use Rattle.bac_link.specs.Ordinals.{is_number, distance, number_after, is_ahead}
-use Rattle.bac_walk.specs.Walks.{shown_from, numbered}
+use Rattle.bac_walk.specs.Walks.{shown_from, logged_from}
 use Rattle.bac_link.specs.declared.item.Item.TheVariants.{Logged}
 
 -- ---- numbers round the count
@@ -40,10 +40,10 @@ ahead-by s f false is above below = le-ltb _ _ (distance-behind s f (leb-false s
 pub ahead-number : (s f : ℕ) → s < f + 2147483648 → f < s + 2147483648 → is_ahead (sequence_number s) (sequence_number f) ≡ nat_le s f
 ahead-number s f above below = ahead-by s f (nat_le s f) refl above below
 
-pub shown_numbered : (k : ℕ) (es : List Entry) → shown_from (sequence_number k) es ≡ numbered k es
-shown_numbered k [] = refl
-shown_numbered k (e ∷ es) =
-    ap (λ r. Logged (sequence_number k) e ∷ r) (ap (λ n. shown_from n es) (after-number k 1) ∙ shown_numbered (k + 1) es)
+pub shown_logged : (k : ℕ) (es : List Entry) → shown_from (sequence_number k) es ≡ logged_from k es
+shown_logged k [] = refl
+shown_logged k (e ∷ es) =
+    ap (λ r. Logged (sequence_number k) e ∷ r) (ap (λ n. shown_from n es) (after-number k 1) ∙ shown_logged (k + 1) es)
 
 -- ---- entries
 
@@ -57,14 +57,14 @@ get_at (x ∷ xs) (suc i) e rest h = get_at xs i e rest h
 
 records_at : (H : History) (m : Moment) (es : List Entry) (k : ℕ) (rest : List Entry) →
     H.logged < k → m.oldest ≤ k → k + length es ≤ m.newest + 1 →
-    drop (k - (H.logged + 1)) H.entries ≡ es ++ rest → AreHeld H m k (numbered k es) (k + length es)
+    drop (k - (H.logged + 1)) H.entries ≡ es ++ rest → AreHeld H m k (logged_from k es) (k + length es)
 records_at H m [] k rest above oldest newest are = omega arith
 records_at H m (e ∷ es) k rest above oldest newest are =
     let here = get_at H.entries (k - (H.logged + 1)) e (es ++ rest) are in
     let next : suc (k - (H.logged + 1)) ≡ (k + 1) - (H.logged + 1) = omega arith in
     let end : (k + 1) + length es ≡ k + suc (length es) = omega arith in
     let P : ℕ → Type 0 = λ n. drop n H.entries ≡ es ++ rest in
-    let Q : ℕ → Type 0 = λ n. AreHeld H m (k + 1) (numbered (k + 1) es) n in (
+    let Q : ℕ → Type 0 = λ n. AreHeld H m (k + 1) (logged_from (k + 1) es) n in (
       refl,
       (oldest, omega arith),
       (above, here.0),
@@ -73,18 +73,18 @@ records_at H m (e ∷ es) k rest above oldest newest are =
 
 pub records : (H : History) (m : Moment) (k c : ℕ) →
     H.logged < k → m.oldest ≤ k → k + length (entries_from H k c) ≤ m.newest + 1 →
-    AreHeld H m k (numbered k (entries_from H k c)) (k + length (entries_from H k c))
+    AreHeld H m k (logged_from k (entries_from H k c)) (k + length (entries_from H k c))
 records H m k c above oldest newest =
     records_at H m (entries_from H k c) k (drop c (drop (k - (H.logged + 1)) H.entries)) above oldest newest
     (sym (take-append-drop c (drop (k - (H.logged + 1)) H.entries)))
 
-pub length-numbered : (k : ℕ) (es : List Entry) → length (numbered k es) ≡ length es
-length-numbered k [] = refl
-length-numbered k (e ∷ es) = ap suc (length-numbered (k + 1) es)
+pub length-logged_from : (k : ℕ) (es : List Entry) → length (logged_from k es) ≡ length es
+length-logged_from k [] = refl
+length-logged_from k (e ∷ es) = ap suc (length-logged_from (k + 1) es)
 
-pub covers_numbered : (k : ℕ) (es : List Entry) → CoversEach k (numbered k es) (k + length es)
-covers_numbered k [] = omega arith
-covers_numbered k (e ∷ es) =
-    let P : ℕ → Type 0 = λ n. CoversEach (k + 1) (numbered (k + 1) es) n in
+pub covers_logged : (k : ℕ) (es : List Entry) → CoversEach k (logged_from k es) (k + length es)
+covers_logged k [] = omega arith
+covers_logged k (e ∷ es) =
+    let P : ℕ → Type 0 = λ n. CoversEach (k + 1) (logged_from (k + 1) es) n in
     let same : (k + 1) + length es ≡ k + suc (length es) = omega arith in
-    (refl, subst P same (covers_numbered (k + 1) es))
+    (refl, subst P same (covers_logged (k + 1) es))

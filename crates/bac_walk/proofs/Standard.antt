@@ -13,21 +13,21 @@ use Rattle.bac_link.specs.Ordinals.{distance, number_after, is_ahead}
 use Rattle.bac_walk.specs.Place.{WalkPlace}
 use Rattle.bac_link.specs.Standard.{Asked, FromNumber, FromOldest, IsCount, count_asked, HoldsNumber, AreHeldFrom, AreFrom, SaysAt}
 use Rattle.bac_walk.specs.Turns.{base}
-use Rattle.bac_walk.specs.Walks.{shown_from, gap_of, asked_by, asks_oldest_now, is_past, fits, items_in, NextAct, Bring, End, Ask, verdict, IsTaken, IsTakenFrom, numbered}
+use Rattle.bac_walk.specs.Walks.{shown_from, gap_of, asked_by, asks_oldest_now, is_past, fits, items_in, NextAct, Bring, End, Ask, verdict, IsTaken, IsTakenFrom, logged_from}
 use Rattle.bac_walk.specs.declared.outcome.BadReply.{BadReply}
 use Rattle.bac_walk.specs.declared.outcome.Progress.{Progress}
 use Rattle.bac_walk.specs.declared.outcome.Progress.TheVariants.{Batch as BatchOf, AskOldest, CaughtUp}
-use Rattle.bac_walk.proofs.Shown.{number-is, distance-number, distance-behind, after-number, ahead-number, shown_numbered}
+use Rattle.bac_walk.proofs.Shown.{number-is, distance-number, distance-behind, after-number, ahead-number, shown_logged}
 use Rattle.bac_walk.proofs.Turns.{gapped, gap_same, or_left, both_true, last_false}
 use Rattle.bac_walk.proofs.WalkTakes.{verdict-bring}
 
 -- ---- entries
 
 -- held entries, as items
-held_items : (H : History) (m : Moment) (k : ℕ) (es : List Entry) → AreHeldFrom H m k es → AreHeld H m k (numbered k es) (k + length es)
+held_items : (H : History) (m : Moment) (k : ℕ) (es : List Entry) → AreHeldFrom H m k es → AreHeld H m k (logged_from k es) (k + length es)
 held_items H m k [] are = omega arith
 held_items H m k (e ∷ es) are =
-    let P : ℕ → Type 0 = λ n. AreHeld H m (k + 1) (numbered (k + 1) es) n in
+    let P : ℕ → Type 0 = λ n. AreHeld H m (k + 1) (logged_from (k + 1) es) n in
     let same : (k + 1) + length es ≡ k + suc (length es) = omega arith in
     (refl, are.0, are.1, subst P same (held_items H m (k + 1) es are.2))
 
@@ -53,8 +53,8 @@ bring H m low s u w es (Ok CaughtUp) after window from taken some are gap = absu
 bring H m low s u w es (Ok (BatchOf b)) after window from taken some are gap =
     let f = max u m.oldest in
     let G : List Item = (if nat_lt u m.oldest then Gap (sequence_number u) (sequence_number m.oldest) ∷ [] else []) in
-    let items : items_in b ≡ G ++ numbered f es =
-    taken.0 ∙ ap (λ g. g ++ shown_from (sequence_number f) es) gap ∙ ap (λ x. G ++ x) (shown_numbered f es) in
+    let items : items_in b ≡ G ++ logged_from f es =
+    taken.0 ∙ ap (λ g. g ++ shown_from (sequence_number f) es) gap ∙ ap (λ x. G ++ x) (shown_logged f es) in
     let P : List Item → Type 0 = λ xs. Brings H m u xs (f + length es) in
     let next : number_after (sequence_number f) (length es) ≡ sequence_number (f + length es) = after-number f (length es) in
     let in_log = held_within H m f es some are in

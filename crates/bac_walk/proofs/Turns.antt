@@ -14,36 +14,36 @@ use Rattle.bac_link.specs.Moments.{AreServed, entries_from}
 use Rattle.bac_walk.specs.Replies.{Wanted, FromOrdinal, FromOldest, how_many, asked_count, fitting}
 use Rattle.bac_walk.specs.Replies.{IsAnswer}
 use Rattle.bac_link.specs.Heard.{AckParameters}
-use Rattle.bac_walk.specs.Walks.{shown_from, gap_of, asks_oldest_now, wanted_at, is_past, fits, items_in, NextAct, Bring, End, Ask, verdict, IsTaken, IsTakenFrom, numbered}
+use Rattle.bac_walk.specs.Walks.{shown_from, gap_of, asks_oldest_now, wanted_at, is_past, fits, items_in, NextAct, Bring, End, Ask, verdict, IsTaken, IsTakenFrom, logged_from}
 use Rattle.bac_walk.specs.Near.{IsNear}
 use Rattle.bac_walk.specs.Takes.{Says}
 use Rattle.bac_walk.specs.Turns.{NoneOfAsked, base, reply_count, whole_reply, IsTurn}
 use Rattle.bac_link.specs.Ordinals.{distance, number_after, is_ahead}
-use Rattle.bac_walk.proofs.Shown.{number-is, distance-number, after-number, ahead-number, shown_numbered, records, length-numbered}
+use Rattle.bac_walk.proofs.Shown.{number-is, distance-number, after-number, ahead-number, shown_logged, records, length-logged_from}
 use Rattle.bac_walk.proofs.Held.{Sound, Sound-now, In-now}
 use Rattle.bac_walk.proofs.WalkTakes.{verdict-bring}
 
 -- entries of the ordinals from f on bring a walk past them, with the gap before them
-brings_held : (H : History) (m : Moment) (f u : ℕ) (es : List Entry) → AreHeld H m f (numbered f es) u → Brings H m f (numbered f es) u
+brings_held : (H : History) (m : Moment) (f u : ℕ) (es : List Entry) → AreHeld H m f (logged_from f es) u → Brings H m f (logged_from f es) u
 brings_held H m f u [] are = are
 brings_held H m f u (e ∷ es) are = are
 
 pub gapped : (H : History) (m : Moment) (s u : ℕ) (es : List Entry) (lt : Bool) → nat_lt s m.oldest ≡ lt →
-    0 < length es → AreHeld H m (max s m.oldest) (numbered (max s m.oldest) es) u →
-    Brings H m s ((if lt then Gap (sequence_number s) (sequence_number m.oldest) ∷ [] else []) ++ numbered (max s m.oldest) es) u
+    0 < length es → AreHeld H m (max s m.oldest) (logged_from (max s m.oldest) es) u →
+    Brings H m s ((if lt then Gap (sequence_number s) (sequence_number m.oldest) ∷ [] else []) ++ logged_from (max s m.oldest) es) u
 gapped H m s u es true is some are =
     let lt : s < m.oldest = ltb-true s m.oldest is in
     let top : max s m.oldest ≡ m.oldest = omega arith in
-    let P : ℕ → Type 0 = λ n. AreHeld H m n (numbered (max s m.oldest) es) u in
-    (refl, lt, refl, omega (arith, length-numbered (max s m.oldest) es), subst P top are)
+    let P : ℕ → Type 0 = λ n. AreHeld H m n (logged_from (max s m.oldest) es) u in
+    (refl, lt, refl, omega (arith, length-logged_from (max s m.oldest) es), subst P top are)
 gapped H m s u es false is some are =
     let ge : m.oldest ≤ s = ltb-false s m.oldest is in
     let same : max s m.oldest ≡ s = omega arith in
-    let P : ℕ → Type 0 = λ n. Brings H m n (numbered (max s m.oldest) es) u in
+    let P : ℕ → Type 0 = λ n. Brings H m n (logged_from (max s m.oldest) es) u in
     subst P same (brings_held H m (max s m.oldest) u es are)
 
-some_shown : (G : List Item) (f : ℕ) (es : List Entry) → 0 < length es → 0 < length (G ++ numbered f es)
-some_shown G f es some = omega (arith, length-append G (numbered f es), length-numbered f es)
+some_shown : (G : List Item) (f : ℕ) (es : List Entry) → 0 < length es → 0 < length (G ++ logged_from f es)
+some_shown G f es some = omega (arith, length-append G (logged_from f es), length-logged_from f es)
 
 -- the gap that a walk reports
 pub gap_same : (w : WalkPlace) (s : ℕ) (m : Moment) (lt : Bool) → nat_lt s m.oldest ≡ lt → m.oldest < s + 4294967295 → w.next ≡ sequence_number s → w.fresh ≡ false →
@@ -67,7 +67,7 @@ TurnOf r H m s w (Err e) after = ⊥
 -- a batch that is taken
 bring : (r : ℕ) (H : History) (m : Moment) (s u : ℕ) (w : WalkPlace) (es : List Entry) (p : Result Progress BadReply) (after : WalkPlace) →
     base w s m ≡ u → IsTaken w es (Bring (sequence_number (max u m.oldest))) p after →
-    0 < length es → AreHeld H m (max u m.oldest) (numbered (max u m.oldest) es) (max u m.oldest + length es) →
+    0 < length es → AreHeld H m (max u m.oldest) (logged_from (max u m.oldest) es) (max u m.oldest + length es) →
     gap_of w (sequence_number (max u m.oldest)) ≡ (if nat_lt u m.oldest then Gap (sequence_number u) (sequence_number m.oldest) ∷ [] else []) →
     es ≡ entries_from H (max u m.oldest) (reply_count r w.count H m w.asks_oldest u) → TurnOf r H m s w p after
 bring r H m s u w es (Err e) after from taken some are gap is = absurd taken
@@ -76,8 +76,8 @@ bring r H m s u w es (Ok CaughtUp) after from taken some are gap is = absurd tak
 bring r H m s u w es (Ok (BatchOf b)) after from taken some are gap is =
     let f = max u m.oldest in
     let G : List Item = (if nat_lt u m.oldest then Gap (sequence_number u) (sequence_number m.oldest) ∷ [] else []) in
-    let items : items_in b ≡ G ++ numbered f es =
-    taken.0 ∙ ap (λ g. g ++ shown_from (sequence_number f) es) gap ∙ ap (λ x. G ++ x) (shown_numbered f es) in
+    let items : items_in b ≡ G ++ logged_from f es =
+    taken.0 ∙ ap (λ g. g ++ shown_from (sequence_number f) es) gap ∙ ap (λ x. G ++ x) (shown_logged f es) in
     let next : number_after (sequence_number f) (length es) ≡ sequence_number (f + length es) = after-number f (length es) in
     let P : List Item → Type 0 = λ xs. Brings H m u xs (f + length es) × (0 < length xs) in
     let both = subst P (sym items) (gapped H m u (f + length es) es (nat_lt u m.oldest) refl some are, some_shown G f es some) in
@@ -89,7 +89,7 @@ bring r H m s u w es (Ok (BatchOf b)) after from taken some are gap is =
       both.0,
       both.1,
       taken.1 ∙ ap (λ (n : ℕ). record w { next = n; fresh = false; asks_oldest = false }) next,
-      items ∙ ap (λ x. G ++ numbered f x) is,
+      items ∙ ap (λ x. G ++ logged_from f x) is,
     )
 
 ask : (r : ℕ) (H : History) (m : Moment) (s : ℕ) (w : WalkPlace) (es : List Entry) (p : Result Progress BadReply) (after : WalkPlace) →
@@ -172,7 +172,7 @@ by_number H m r s w first count (e ∷ es) p after sound within room few by next
     let v : verdict w first count (e ∷ es) ≡ Bring (sequence_number f) =
     ap (λ o. verdict w o count (e ∷ es)) here ∙ verdict-bring w (sequence_number f) count (e ∷ es) (omega arith) past counted fitting_in in
     let P : NextAct → Type 0 = λ u. IsTaken w (e ∷ es) u p after in
-    let Q : List Entry → Type 0 = λ xs. AreHeld H m f (numbered f xs) (f + length xs) in
+    let Q : List Entry → Type 0 = λ xs. AreHeld H m f (logged_from f xs) (f + length xs) in
     let old : w.fresh ≡ false = or_left w.fresh w.asks_oldest by in
     let asks : w.asks_oldest ≡ false = (or_parts w.fresh w.asks_oldest by).1 in
     let E : Bool → Type 0 = λ b. (e ∷ es) ≡ entries_from H f (reply_count r w.count H m b s) in
@@ -184,12 +184,12 @@ by_number H m r s w first count (e ∷ es) p after sound within room few by next
 oldest_batch : (r : ℕ) (H : History) (m : Moment) (s u : ℕ) (w : WalkPlace) (e : Entry) (es : List Entry) (p : Result Progress BadReply) (after : WalkPlace) →
     base w s m ≡ u → u ≤ m.oldest → (w.asks_oldest ≡ false → u ≡ m.oldest) →
     gap_of w (sequence_number (max u m.oldest)) ≡ (if nat_lt u m.oldest then Gap (sequence_number u) (sequence_number m.oldest) ∷ [] else []) →
-    AreHeld H m m.oldest (numbered m.oldest (e ∷ es)) (m.oldest + length (e ∷ es)) → (e ∷ es) ≡ entries_from H m.oldest (how_many r H (FromOldest w.count) m) →
+    AreHeld H m m.oldest (logged_from m.oldest (e ∷ es)) (m.oldest + length (e ∷ es)) → (e ∷ es) ≡ entries_from H m.oldest (how_many r H (FromOldest w.count) m) →
     IsTaken w (e ∷ es) (Bring (sequence_number m.oldest)) p after → TurnOf r H m s w p after
 oldest_batch r H m s u w e es p after from le asks gap are is taken =
     let top : m.oldest ≡ max u m.oldest = omega arith in
     let P : ℕ → Type 0 = λ f. IsTaken w (e ∷ es) (Bring (sequence_number f)) p after in
-    let Q : ℕ → Type 0 = λ f. AreHeld H m f (numbered f (e ∷ es)) (f + length (e ∷ es)) in
+    let Q : ℕ → Type 0 = λ f. AreHeld H m f (logged_from f (e ∷ es)) (f + length (e ∷ es)) in
     let R : ℕ → Type 0 = λ f. (e ∷ es) ≡ entries_from H f (how_many r H (FromOldest w.count) m) in
     let S : ℕ → Type 0 = λ c. (e ∷ es) ≡ entries_from H (max u m.oldest) c in
     bring r H m s u w (e ∷ es) p after from (subst P top taken) (omega arith) (subst Q top are) gap
@@ -198,7 +198,7 @@ oldest_batch r H m s u w e es p after from le asks gap are is taken =
 oldest_some : (r : ℕ) (H : History) (m : Moment) (s : ℕ) (w : WalkPlace) (count : ℕ) (e : Entry) (es : List Entry) (p : Result Progress BadReply) (after : WalkPlace) →
     w.next ≡ sequence_number s → asks_oldest_now w ≡ true → (past fresh : Bool) → is_past w (sequence_number m.oldest) ≡ past → w.fresh ≡ fresh →
     (w.fresh ≡ false → IsNear s m) → length (e ∷ es) ≤ w.count → count ≡ length (e ∷ es) →
-    AreHeld H m m.oldest (numbered m.oldest (e ∷ es)) (m.oldest + length (e ∷ es)) → (e ∷ es) ≡ entries_from H m.oldest (how_many r H (FromOldest w.count) m) →
+    AreHeld H m m.oldest (logged_from m.oldest (e ∷ es)) (m.oldest + length (e ∷ es)) → (e ∷ es) ≡ entries_from H m.oldest (how_many r H (FromOldest w.count) m) →
     IsTaken w (e ∷ es) (verdict w (Some (sequence_number m.oldest)) count (e ∷ es)) p after → TurnOf r H m s w p after
 oldest_some r H m s w count e es p after next by true fresh past is_fresh near few counted are is taken =
     let v : verdict w (Some (sequence_number m.oldest)) count (e ∷ es) ≡ End = rw past refl in
@@ -249,7 +249,7 @@ by_oldest H m r s w first count (e ∷ es) p after asks sound within room few by
     let n : length (e ∷ es) ≡ how_many r H (FromOldest w.count) m = ap length is ∙ same in
     let here : first ≡ Some (sequence_number m.oldest) = some (omega (arith, n)) in
     let P : Option ℕ → Type 0 = λ o. IsTaken w (e ∷ es) (verdict w o count (e ∷ es)) p after in
-    let Q : List Entry → Type 0 = λ xs. AreHeld H m m.oldest (numbered m.oldest xs) (m.oldest + length xs) in
+    let Q : List Entry → Type 0 = λ xs. AreHeld H m m.oldest (logged_from m.oldest xs) (m.oldest + length xs) in
     oldest_some r H m s w count e es p after next by (is_past w (sequence_number m.oldest)) w.fresh refl refl near (omega (arith, n, few)) counted
     (subst Q (sym is) (records H m m.oldest (how_many r H (FromOldest w.count) m) sound.above (omega arith) (omega (arith, n, same, few))))
     is (subst P here taken)

@@ -16,7 +16,7 @@ use Rattle.bac_link.specs.Delivery.{History, Moment}
 use Rattle.bac_link.specs.Moments.{IsMoment, AreServed, log_at, entries_from}
 use Rattle.bac_link.specs.declared.item.Item.TheVariants.{Gap, Logged}
 use Rattle.bac_walk.specs.Turns.{whole_reply, reply_count}
-use Rattle.bac_walk.specs.Walks.{numbered}
+use Rattle.bac_walk.specs.Walks.{logged_from}
 
 -- what such a walk delivers, the ordinal that it comes to, and why it ends
 pub record Rested : Type 0 where
@@ -75,7 +75,7 @@ rest_all H m s =
     then record { items = []; next = s; ended = CaughtUp }
     else record {
       items = (if nat_lt s m.oldest then Gap (sequence_number s) (sequence_number m.oldest) ∷ [] else [])
-          ++ numbered (max s m.oldest) (entries_from H (max s m.oldest) ((m.newest + 1) - max s m.oldest));
+          ++ logged_from (max s m.oldest) (entries_from H (max s m.oldest) ((m.newest + 1) - max s m.oldest));
       next = m.newest + 1;
       ended = CaughtUp;
     }

@@ -10,7 +10,7 @@ use Rattle.bac_walk.specs.declared.outcome.Progress.TheVariants.{Batch as BatchO
 use Rattle.bac_walk.specs.Replies.{fitting}
 use Rattle.bac_link.specs.Delivery.{History, Moment, Holds, Brings}
 use Rattle.bac_link.specs.Moments.{entries_from}
-use Rattle.bac_walk.specs.Walks.{items_in, asks_oldest_now, numbered}
+use Rattle.bac_walk.specs.Walks.{items_in, asks_oldest_now, logged_from}
 
 -- no entry of so many ordinals from s on is held
 abbrev pub NoneOfAsked : (count s : ℕ) → Moment → Type 0
@@ -28,7 +28,7 @@ reply_count r count H m by_oldest s =
 abbrev pub whole_reply : (r count : ℕ) → History → Moment → Bool → ℕ → List Item
 whole_reply r count H m by_oldest s =
     (if nat_lt s m.oldest then Gap (sequence_number s) (sequence_number m.oldest) ∷ [] else [])
-    ++ numbered (max s m.oldest) (entries_from H (max s m.oldest) (reply_count r count H m by_oldest s))
+    ++ logged_from (max s m.oldest) (entries_from H (max s m.oldest) (reply_count r count H m by_oldest s))
 
 -- the ordinal where the next batch begins, of a walk that is at ordinal s
 abbrev pub base : WalkPlace → ℕ → Moment → ℕ

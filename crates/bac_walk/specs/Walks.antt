@@ -45,9 +45,9 @@ shown_from n [] = []
 shown_from n (e ∷ es) = Logged n e ∷ shown_from (number_after n 1) es
 
 -- the entries of the ordinals from k on
-abbrev pub numbered : ℕ → List Entry → List Item
-numbered k [] = []
-numbered k (e ∷ es) = Logged (sequence_number k) e ∷ numbered (k + 1) es
+abbrev pub logged_from : ℕ → List Entry → List Item
+logged_from k [] = []
+logged_from k (e ∷ es) = Logged (sequence_number k) e ∷ logged_from (k + 1) es
 
 -- a record with its number, as an item
 abbrev pub item_of : Numbered → Item

@@ -22,7 +22,7 @@ use Rattle.bac_keep.proofs.ByLemmas.{KeepsUpTo, by_early, by_nothing, by_then, c
 use Rattle.bac_keep.proofs.CauseLemmas.{still_archive, unkept_at}
 use Rattle.bac_keep.proofs.CameLemmas.{leaves_over_more, leaves_over_then}
 use Rattle.bac_keep.proofs.RunLemmas.{keeps_nothing, keeps_then, keeps_early, leaves_more, leaves_then, tested_first}
-use Rattle.bac_keep.proofs.Taken.{goes_on}
+use Rattle.bac_keep.proofs.Taken.{runs_on}
 use Rattle.bac_archive.specs.Schema.{HasArchive}
 use Rattle.bac_keep.specs.declared.keep.NotKept.TheVariants.{NoArchive}
 use Rattle.bac_keep.proofs.run.keep_log.Goals as goal
@@ -85,7 +85,7 @@ returns-in-Some-clause-kept g c clean has =
       c.args.steps,
       c.in-Ok.step.ended,
       c.keep_next.new.walk,
-      ends_run c.in-Ok.step.ended c.in-Some.why c.args.steps (goes_on c.in-Ok.step.ended c.in-Ok.ensures.few.2) some,
+      ends_run c.in-Ok.step.ended c.in-Some.why c.args.steps (runs_on c.in-Ok.step.ended c.in-Ok.ensures.few.2) some,
       sym c.next_number.ensures.next,
       keeps_early (λ link id r M H. g.L.LogLink.is_ours link id r M H) (λ link. g.L.LogLink.failures link)
           c.args.place c.keep_next.new.place c.args.transactions.now.retries (state g.S.Store c.args.conn.now).now (state g.S.Store c.keep_next.new.conn).now c.args.link.now c.keep_next.new.link c.args.walk c.keep_next.new.walk
@@ -260,7 +260,7 @@ returns-in-Some-clause-transacted g c clean has =
       c.args.steps,
       c.in-Ok.step.ended,
       c.keep_next.new.walk,
-      ends_run c.in-Ok.step.ended c.in-Some.why c.args.steps (goes_on c.in-Ok.step.ended c.in-Ok.ensures.few.2) some,
+      ends_run c.in-Ok.step.ended c.in-Some.why c.args.steps (runs_on c.in-Ok.step.ended c.in-Ok.ensures.few.2) some,
       sym c.next_number.ensures.next,
       by_early g.L.LogLink.asks c.args.transactions.now c.keep_next.new.transactions c.args.place c.keep_next.new.place (state g.S.Store c.args.conn.now).now (state g.S.Store c.keep_next.new.conn).now c.args.link.now c.keep_next.new.link c.args.walk c.keep_next.new.walk
           (c.loop-done.done + 1) c.args.steps (c.loop-done.records + c.in-Ok.step.records) (c.loop-done.gaps + c.in-Ok.step.gaps) c.in-Ok.step.ended (not_limit c.in-Ok.step.ended c.in-Some.why some) (omega arith)

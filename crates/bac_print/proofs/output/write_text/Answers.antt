@@ -1,11 +1,5 @@
-use Rattle.std.proofs.Common.{take, ◌++◌}
-use Rattle.std.proofs.KnownBytes.{Appends-trans}
-use Rattle.bac_print.proofs.Octets.{moves_front}
+use Rattle.bac_print.proofs.Octets.{writes_on}
 use Rattle.bac_print.proofs.output.write_text.Goals as goal
 
 pub loop-rest-preserved : goal.loop-rest-preserved
-loop-rest-preserved g c =
-    let (done, split, appended) = c.loop-rest.invariant in
-    let rest = c.loop-rest.rest.now in
-    let n = c.in-Ok.n in
-    (done ++ take n rest, moves_front _ done rest n split, Appends-trans _ _ _ _ _ appended c.in-Ok.ensures.bytes)
+loop-rest-preserved g c = writes_on _ _ _ _ c.loop-rest.rest.now c.in-Ok.n c.loop-rest.invariant c.in-Ok.ensures.bytes

@@ -12,7 +12,7 @@ use Rattle.bac_query.specs.Ahead.{IsRunOver, PrintsLast, PrintsLeft, closing, po
 use Rattle.bac_query.specs.declared.layout.Layout.{Layout}
 use Rattle.bac_walk.specs.declared.outcome.WalkFault.TheVariants.{BadReply}
 use Rattle.bac_query.specs.Flaws.{IsBadlyFetched, log_place}
-use Rattle.bac_query.proofs.Delivered.{not_stopped}
+use Rattle.bac_query.proofs.Delivered.{runs_on}
 use Rattle.bac_query.proofs.Flaws.{badly, last_is, no_flaw, no_last_flaw, why_bad}
 use Rattle.bac_query.proofs.Laid.{laid_kept, laid_none, laid_then}
 use Rattle.bac_query.proofs.RunsAhead.{Learns, fails, finishes, limit_on, none_over, over_early, over_joins, whole_ahead, without_lines}
@@ -162,8 +162,8 @@ returns-in-Some g c =
     let more = over_joins asks t v z link half new c.args.walk c.loop-done.walk c.turn.new.walk (n + k) 1 (items ++ left) brought ended false c.loop-done.ahead.said_more c.turn.new.ahead.said_more whole ran in
     let early = over_early asks t z link new c.args.walk c.turn.new.walk (n + k + 1) c.args.steps ((items ++ left) ++ brought) ended false c.turn.new.ahead.said_more (not_limit ended c.in-Some.why some) (omega (arith, sum, c.loop-done-test.true)) more in
     let both = finishes y asks t v z link half new c.args.walk c.loop-done.walk c.turn.new.walk c.args.steps (n + k) 1 c.args.steps (items ++ left) brought ended c.in-Some.why c.next_number.result
-    c.next_number-before.result c.finish.result failures new.failures old out end c.loop-done.ahead.said_more c.turn.new.ahead.said_more whole ran on early c.finish.ensures.more (omega arith) (ends_run ended c.in-Some.why c.args.steps (not_stopped ended on) some)
-    (whole_ahead asks z new c.turn.new.walk ended c.in-Some.why (not_stopped ended on) some) (omega (arith, sum, c.loop-done-test.true)) (omega arith) c.next_number.ensures.next
+    c.next_number-before.result c.finish.result failures new.failures old out end c.loop-done.ahead.said_more c.turn.new.ahead.said_more whole ran on early c.finish.ensures.more (omega arith) (ends_run ended c.in-Some.why c.args.steps (runs_on ended on) some)
+    (whole_ahead asks z new c.turn.new.walk ended c.in-Some.why (runs_on ended on) some) (omega (arith, sum, c.loop-done-test.true)) (omega arith) c.next_number.ensures.next
     c.next_number-before.ensures.next lines (subst Q (ok.1 on) (rw (c.turn.ensures.layout, c.loop-done.invariant.layout) at c.finish.ensures.prints)) in
     let all = subst P (sym c.finish.ensures.link) both in
     let flawed = rw c.in-Ok.is at c.turn.ensures.flaw in
