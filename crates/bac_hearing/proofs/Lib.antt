@@ -2,3 +2,4 @@ pub mod Seated
 pub mod Heard
 pub mod Ended
 pub mod Parted
+pub mod Stopped

@@ -9,6 +9,7 @@ use Rattle.bac_desks.specs.Served.{Acts, Does}
 use Rattle.bac_desks.specs.Table.{IsResting}
 use Rattle.bac_desks.specs.declared.desks.Desks.{Desks}
 use Rattle.bac_jobs.specs.Jobs.{AreEndedSoFar}
+use Rattle.bac_jobs.specs.Rounds.{AreInRounds}
 use Rattle.bac_jobs.specs.Wanted.{AreWanted, JobStep, Work, work_of}
 use Rattle.bac_jobs.specs.declared.job.Ending.{Ending}
 use Rattle.bac_jobs.specs.declared.job.Turn.{Turn}
@@ -18,11 +19,12 @@ use Rattle.bac_hearing.specs.declared.hearing.NotHeard.TheVariants.{Memory, Unfi
 
 -- What happened at the port and by the clock leads from these desks to those where no question holds a place. Each job
 -- has ended so, by all that came to the questions at the desk at its place, or goes on. Nothing was asked but what the
--- jobs wanted.
+-- jobs wanted, and in each round all that might be was.
 abbrev pub Begins : {P C J E : Type 0} → Acts P C → Work J E → Desks P C → List (Option (Ending E)) → Desks P C → Type 0
 Begins acts work fresh early desks =
     (events : List Event) × Does acts fresh events desks
     × Chain (JobStep work.plays work.jobs) fresh.table events desks.table
+    × AreInRounds work fresh.table events desks.table
     × AreEndedSoFar work.plays work.jobs desks.table early × IsResting desks.table
 
 -- One socket was opened as asked. Over it the devices at these addresses were asked at once, from nothing on, each what

@@ -1,5 +1,5 @@
 -- Jobs of many devices beside one another, over one socket. Read `HearsAll`, and the laws.
-use Rattle.std.specs.Prelude.{◌≡◌, ℕ, ◌≤◌, List, [], ◌∷◌, ◌++◌, Option, Some, Err, All, map, slice_get}
+use Rattle.std.specs.Prelude.{◌≡◌, ◌≢◌, ◌⊎◌, ℕ, ◌≤◌, List, [], ◌∷◌, ◌++◌, Option, Some, Err, All, map, slice_get}
 use Rattle.bac_ports.specs.Port.{Sending}
 use Rattle.bac_ports.specs.Sockets.{SocketRules, UsesSocket, own_address}
 use Rattle.bac_play.specs.declared.play.Outcome.{Outcome}
@@ -9,14 +9,16 @@ use Rattle.bac_desks.specs.Seat.{IsDue, fresh_seat}
 use Rattle.bac_desks.specs.Served.{Acts, Does, acting, served}
 use Rattle.bac_desks.specs.Table.{IsWithin, Step, TableState}
 use Rattle.bac_desks.specs.Told.{Course, IsAsked}
-use Rattle.bac_desks.specs.Words.{WasServed}
+use Rattle.bac_desks.specs.Words.{WasServed, sent_for}
 use Rattle.bac_desks.specs.declared.desks.Desks.{Desks}
 use Rattle.bac_desks.specs.declared.rules.Rules.{Rules}
 use Rattle.bac_desks.specs.declared.seat.Seat.{Seat}
 use Rattle.bac_jobs.specs.Jobs.{AreEnded, IsIdle}
-use Rattle.bac_jobs.specs.Wanted.{IsWantedAt, JobStep, MakesRounds, Work}
+use Rattle.bac_jobs.specs.Rounds.{AreInRounds, MakesRounds}
+use Rattle.bac_jobs.specs.Wanted.{IsWantedAt, JobStep, Work}
 use Rattle.bac_jobs.specs.declared.job.Ending.{Ending}
 use Rattle.bac_jobs.specs.declared.job.Turn.{Turn}
+use Rattle.bac_jobs.specs.declared.job.Turn.TheVariants.{Ended}
 use Rattle.bac_hearing.specs.declared.hearing.NotHeard.{NotHeard}
 use Rattle.bac_hearing.specs.declared.hearing.NotHeard.TheVariants.{Memory, Unfinished, Unopened}
 
@@ -46,12 +48,12 @@ acts_over rules reads = acting rules.sends rules.receives_within reads
 
 -- What happened at the port and by the clock leads from these desks to those where each job has ended, by all that came
 -- to the questions at the desk at its place, which has a stray or none; and no question is open. Nothing was asked but
--- what the jobs wanted.
+-- what the jobs wanted, and in each round all that might be was.
 abbrev pub Ends : {P C J E : Type 0} → Acts P C → Work J E → Desks P C → List (Ending E) → P → Type 0
 Ends {C = C} acts work fresh ends last =
     (events : List Event) × (stop : C) × (left : TableState) × Does acts fresh events (served last stop left)
-    × Chain (JobStep work.plays work.jobs) fresh.table events left × AreEnded work.plays work.jobs left.seats ends
-    × IsIdle left
+    × Chain (JobStep work.plays work.jobs) fresh.table events left × AreInRounds work fresh.table events left
+    × AreEnded work.plays work.jobs left.seats ends × IsIdle left
 
 -- By what devices are asked at once: a clock as it was handed in, what a reading of it is, and how many questions may
 -- be open that weren't sent again.
@@ -91,17 +93,18 @@ HearsAll rules pace asked before ends after =
     (λ port last. Ends (acts_over rules pace.reads) asked.work (desks_for pace asked port) ends last)
     after
 
--- So many rounds were made from these desks on, each of which asks what the jobs want next and waits for what comes.
+-- So many rounds were made from these desks on, each of which asks all that the jobs want next and may be asked, sends
+-- it, and waits for what comes.
 abbrev pub Waits : {P C J E : Type 0} → Acts P C → Work J E → ℕ → Desks P C → P → Type 0
 Waits {C = C} acts work rounds fresh last =
     (stop : C) × (left : TableState) × MakesRounds acts work rounds fresh (served last stop left)
 
--- What happened at the port and by the clock leads from these desks to some: nothing was done but to ask devices so,
--- and nothing was asked but what the jobs wanted.
+-- What happened at the port and by the clock leads from these desks to some: nothing was done but to ask devices so, in
+-- such rounds, and nothing was asked but what the jobs wanted.
 abbrev pub Stops : {P C J E : Type 0} → Acts P C → Work J E → Desks P C → P → Type 0
 Stops {C = C} acts work fresh last =
     (events : List Event) × (stop : C) × (left : TableState) × Does acts fresh events (served last stop left)
-    × Chain (JobStep work.plays work.jobs) fresh.table events left
+    × Chain (JobStep work.plays work.jobs) fresh.table events left × AreInRounds work fresh.table events left
 
 -- Devices aren't heard: no socket was opened as asked; memory is wanting, of which std doesn't tell why; or as many
 -- rounds as fit a number of 64 bits were made over the one that was. It was closed then as the last of that left it.
@@ -116,6 +119,10 @@ FailsToHear rules pace asked before after Unfinished =
     UsesSocket rules (own_address asked.local) asked.timeout before
     (λ port last. Waits (acts_over rules pace.reads) asked.work 18446744073709551615 (desks_for pace asked port) last)
     after
+
+-- memory is wanting before a socket is asked for, or as devices are heard
+abbrev pub StopsHearing : {S P C J E : Type 0} → SocketRules S P → Pace C → Inquiry J E → S → S → Type 0
+StopsHearing rules pace asked before after = (after ≡ before) ⊎ FailsToHear rules pace asked before after Memory
 
 -- ---- laws
 
@@ -152,6 +159,14 @@ SendsAreWanted {J = J} plays =
     events ≡ front ++ Sent place octets to answer ∷ behind →
     (mid : TableState) × Chain Step (with_peers (no_desks rules) peers) front mid
     × IsWantedAt plays jobs mid place octets
+
+-- Where each job has ended, a question was sent to each device, unless its job ends without having asked any.
+abbrev pub EachWasAsked : {J E : Type 0} → (J → List Outcome → Turn E → Type 0) → Type 0
+EachWasAsked {J = J} {E = E} plays =
+    (rules : Rules) (peers : List (List ℕ)) (jobs : List J) (events : List Event) (left : TableState)
+    (ends : List (Ending E)) (place : ℕ) (job : J) →
+    Chain Step (with_peers (no_desks rules) peers) events left → AreEnded plays jobs left.seats ends →
+    slice_get jobs place ≡ Some job → ((end : E) → plays job [] (Ended end) → ⊥) → sent_for place events ≢ []
 
 -- at whatever moment, no more questions were open than the limits say, in all and at one address
 abbrev pub LimitsAreKept : Type 0

@@ -3,8 +3,8 @@
 
 ghost use Rattle.bac_ports.specs.Sockets.{socket_rules};
 ghost use Rattle.bac_hearing.specs.Beside.{BesideIsOneHearing};
-ghost use Rattle.bac_hearing.specs.Hearing.{AnswersWereHeard, LimitsAreKept, NothingElseIsSent};
-ghost use Rattle.bac_hearing.specs.Hearing.{SendsAreWanted};
+ghost use Rattle.bac_hearing.specs.Hearing.{AnswersWereHeard, EachWasAsked, LimitsAreKept};
+ghost use Rattle.bac_hearing.specs.Hearing.{NothingElseIsSent, SendsAreWanted};
 
 use bac_desks::Clock;
 use bac_jobs::Job;
@@ -26,6 +26,11 @@ pub fn nothing_else_is_sent()
 /// before.
 pub fn sends_are_wanted<J: Job>()
     ensures { SendsAreWanted J.plays }
+{}
+
+/// Where each job has ended, a question was sent to each device whose job asks something.
+pub fn each_was_asked<J: Job>()
+    ensures { EachWasAsked J.plays }
 {}
 
 /// No more questions are open than the limits say, at no moment.

@@ -1,6 +1,9 @@
 -- What is asked for jobs, and the open questions by it.
-use Rattle.std.proofs.Common.{◌≡◌, ◌<◌, ◌⊎◌, inl, inr, ℕ, Bool, true, false, List, [], ◌∷◌, ◌++◌, All, Option, Some, None, get_or, length, slice_get, refl, ap, sym, subst, ◌∙◌}
+use Rattle.std.proofs.Common.{◌≡◌, ◌<◌, ◌+◌, ◌⊎◌, inl, inr, ℕ, Bool, true, false, List, [], ◌∷◌, ◌++◌, All, Option, Some, None, get_or, length, length-append, slice_get, refl, ap, sym, subst, ◌∙◌, arith}
 use Rattle.std.proofs.lemmas.Bool.{cases_eq}
+use Rattle.std.proofs.lemmas.Grind.{flat_map-append}
+use Rattle.std.proofs.lemmas.List.{append_assoc, flat_map_more}
+use Rattle.std.specs.List.{flat_map}
 use Rattle.std.proofs.lemmas.List.Elements.{All-head, All-tail}
 use Rattle.std.proofs.lemmas.Option.{slice_get-get_or}
 use Rattle.std.proofs.Math.ListN.{set}
@@ -12,14 +15,15 @@ use Rattle.bac_desks.proofs.Tests.{same_seat}
 use Rattle.bac_desks.specs.Chain.{Chain}
 use Rattle.bac_desks.specs.Event.{Asked, ClockStep, Event, GivenUp, PortStep, Read, Received, Sent, Waited}
 use Rattle.bac_desks.specs.Seat.{after_ask, after_heard, after_loss, after_send, is_known}
-use Rattle.bac_desks.specs.Served.{Acts, Asks, Does, TurnStep}
+use Rattle.bac_desks.specs.Served.{Acts, Asks, Does, ServesTurn}
 use Rattle.bac_desks.specs.Table.{Step, TableState, with_seat}
 use Rattle.bac_desks.specs.declared.desks.Desks.{Desks}
 use Rattle.bac_desks.specs.declared.seat.Seat.{Seat}
 use Rattle.bac_desks.proofs.Kept.{kept}
-use Rattle.bac_desks.proofs.Lists.{get_map, get_set_other, get_set_same, joined}
+use Rattle.bac_desks.proofs.Lists.{get_map, get_set_other, get_set_same, joined, pushed}
 use Rattle.bac_desks.proofs.Runs.{AsksNone, turn_asks_none}
-use Rattle.bac_jobs.specs.Wanted.{AreWanted, AskStep, AsksJobs, IsForJobs, IsWantedAt, JobStep, ServesJobs, work_of}
+use Rattle.bac_jobs.specs.Rounds.{AreAllAsked, AreInRounds, AreRounds, MakesRounds, RoundStep, ServesJobs}
+use Rattle.bac_jobs.specs.Wanted.{AreWanted, AskStep, AsksJobs, IsForJobs, IsWantedAt, JobStep, work_of}
 use Rattle.bac_jobs.specs.declared.job.Turn.{Turn}
 use Rattle.bac_jobs.specs.declared.job.Turn.TheVariants.{Wants}
 
@@ -180,6 +184,63 @@ module _ {J E : Type 0} (plays : J → List Outcome → Turn E → Type 0) (jobs
   by_asks old new [] same = same
   by_asks old new (e ∷ es) (mid, first, more) = (mid, one_ask old mid e first, by_asks mid new es more)
 
+  -- rounds and questions, and then more of them
+  pub in_rounds_then : (old mid new : TableState) (es fs : List Event) → AreInRounds (work_of plays jobs) old es mid → AreInRounds (work_of plays jobs) mid fs new →
+      AreInRounds (work_of plays jobs) old (es ++ fs) new
+  in_rounds_then old mid new es fs (rounds, whole, asks, at, is, (made, are, flat, chain), asking)
+      (rounds', whole', asks', at', is', ([], are', flat', same), asking') = (
+        rounds,
+        whole,
+        asks ++ asks',
+        at,
+        ap (λ (l : List Event). l ++ fs) is ∙ ap (λ (l : List Event). (whole ++ asks) ++ l) (is' ∙ ap (λ (l : List Event). l ++ asks') flat')
+            ∙ append_assoc whole asks asks',
+        (made, are, flat, chain),
+        joined (AskStep plays jobs) at mid new asks asks' asking (subst (λ (t : TableState). Chain (AskStep plays jobs) t asks' new) same asking'),
+      )
+  in_rounds_then old mid new es fs (rounds, whole, asks, at, is, (made, are, flat, chain), asking)
+      (rounds', whole', asks', at', is', (round ∷ more, are', flat', (next, (first, turn, half, round_is, asked', none_left, steps, is_turn, quiet), chain')), asking') = (
+        length (made ++ (asks ++ round) ∷ more),
+        flat_map (λ (l : List Event). l) (made ++ (asks ++ round) ∷ more),
+        asks',
+        at',
+        ap (λ (l : List Event). l ++ fs) (is ∙ ap (λ (l : List Event). l ++ asks) flat)
+            ∙ ap (λ (l : List Event). (all made ++ asks) ++ l) (is' ∙ ap (λ (l : List Event). l ++ asks') flat')
+            ∙ sides (all made) asks round (all more) asks'
+            ∙ ap (λ (l : List Event). l ++ asks') (sym (flat_map-append (λ (l : List Event). l) made ((asks ++ round) ∷ more))),
+        (
+          made ++ (asks ++ round) ∷ more,
+          refl,
+          refl,
+          joined (RoundStep (work_of plays jobs)) old at at' made ((asks ++ round) ∷ more) chain (
+            next,
+            (
+              asks ++ first,
+              turn,
+              half,
+              ap (λ (l : List Event). asks ++ l) round_is ∙ sym (append_assoc asks first turn),
+              joined (AskStep plays jobs) at mid half asks first asking asked',
+              none_left,
+              steps,
+              is_turn,
+              quiet,
+            ),
+            chain',
+          ),
+        ),
+        asking',
+      )
+    where
+      all : List (List Event) → List Event
+      all l = flat_map (λ (x : List Event). x) l
+
+      -- the same events, taken together in two ways
+      sides : (a b c d e : List Event) → (a ++ b) ++ ((c ++ d) ++ e) ≡ (a ++ ((b ++ c) ++ d)) ++ e
+      sides a b c d e =
+          append_assoc a b ((c ++ d) ++ e)
+          ∙ ap (λ (l : List Event). a ++ l) (sym (append_assoc b (c ++ d) e) ∙ ap (λ (l : List Event). l ++ e) (sym (append_assoc b c d)))
+          ∙ sym (append_assoc a ((b ++ c) ++ d) e)
+
   -- ---- runs of jobs
 
   module _ {P C : Type 0} (acts : Acts P C) where
@@ -215,13 +276,48 @@ module _ {J E : Type 0} (plays : J → List Outcome → Turn E → Type 0) (jobs
     then_run old mid new (es, does, runs) (fs, does', runs') =
         (es ++ fs, does_then old mid new es fs does does', joined (JobStep plays jobs) old.table mid.table new.table es fs runs runs')
 
-    -- questions, and a turn
-    pub then_ask : (old mid new : Desks P C) → RunsJobs old mid → AsksJobs acts (work_of plays jobs) mid new → RunsJobs old new
-    then_ask old mid new runs (fs, does, asks) = then_run old mid new runs (fs, does, by_asks mid.table new.table fs asks)
+    -- ---- rounds
 
-    pub then_turn : (old mid new : Desks P C) (fs : List Event) → RunsJobs old mid → TurnStep acts mid fs new → RunsJobs old new
-    then_turn old mid new fs runs (does, keeps, turn) =
-        then_run old mid new runs (fs, does, no_asks mid.table new.table fs does.2 (turn_asks_none mid.table fs turn))
+    abbrev pub RunsRounds : ℕ → Desks P C → Desks P C → Type 0
+    RunsRounds rounds old new =
+        (es : List Event) × Does acts old es new × Chain (JobStep plays jobs) old.table es new.table × AreRounds (work_of plays jobs) rounds old.table es new.table
 
-    pub serves_jobs : (old new : Desks P C) → RunsJobs old new → ServesJobs acts (work_of plays jobs) old new
-    serves_jobs old new (es, does, runs) = (es, does, kept old.table new.table es does.2, runs, wanted_on old.table new.table es runs)
+    pub nothing_made : (at : Desks P C) → RunsRounds 0 at at
+    nothing_made at = ([], (refl, refl, refl), refl, ([], refl, refl, refl))
+
+    pub then_round : (rounds : ℕ) (old at mid new : Desks P C) → RunsRounds rounds old at → AsksJobs acts (work_of plays jobs) at mid →
+        AreAllAsked (work_of plays jobs) mid.table → ServesTurn acts mid new → RunsRounds (rounds + 1) old new
+    then_round rounds old at mid new (es, does, runs, (made, are, is, chain)) (asks, did, asking) all (turn, (turned, keeps, is_turn, quiet)) = (
+      es ++ (asks ++ turn),
+      does_then old at new es (asks ++ turn) does (does_then at mid new asks turn did turned),
+      joined (JobStep plays jobs) old.table at.table new.table es (asks ++ turn) runs
+          (joined (JobStep plays jobs) at.table mid.table new.table asks turn (by_asks at.table mid.table asks asking)
+          (no_asks mid.table new.table turn turned.2 (turn_asks_none mid.table turn is_turn))),
+      (
+        made ++ (asks ++ turn) ∷ [],
+        (let e : length made ≡ rounds = are in omega (arith, length-append made ((asks ++ turn) ∷ []))),
+        ap (λ (l : List Event). l ++ (asks ++ turn)) is ∙ flat_map_more (λ (l : List Event). l) [] made (asks ++ turn),
+        pushed (RoundStep (work_of plays jobs)) old.table at.table new.table made (asks ++ turn) chain
+            (asks, turn, mid.table, refl, asking, all, turned.2, is_turn, quiet),
+      ),
+    )
+
+    -- as many as are said
+    pub makes_rounds : (rounds said : ℕ) (old new : Desks P C) → rounds ≡ said → RunsRounds rounds old new → MakesRounds acts (work_of plays jobs) said old new
+    makes_rounds rounds said old new same (es, does, runs, (made, are, is, chain)) = (es, does, (made, are ∙ same, is, chain))
+
+    pub serves_asking : (rounds : ℕ) (old mid new : Desks P C) → RunsRounds rounds old mid → AsksJobs acts (work_of plays jobs) mid new →
+        ServesJobs acts (work_of plays jobs) old new
+    serves_asking rounds old mid new (es, does, runs, are) (asks, did, asking) =
+        let all_does = does_then old mid new es asks does did in
+        let all_runs = joined (JobStep plays jobs) old.table mid.table new.table es asks runs (by_asks mid.table new.table asks asking) in (
+          es ++ asks,
+          all_does,
+          kept old.table new.table (es ++ asks) all_does.2,
+          all_runs,
+          (rounds, es, asks, mid.table, refl, are, asking),
+          wanted_on old.table new.table (es ++ asks) all_runs,
+        )
+
+    pub serves_jobs : (rounds : ℕ) (old new : Desks P C) → RunsRounds rounds old new → ServesJobs acts (work_of plays jobs) old new
+    serves_jobs rounds old new runs = serves_asking rounds old new new runs (asks_nothing new)

@@ -1,9 +1,9 @@
--- What is asked for jobs of many devices: what the job of a device wants next, and nothing else. Read `ServesJobs`.
-use Rattle.std.specs.Prelude.{◌≡◌, ℕ, List, ◌++◌, Some, length, slice_get}
+-- What is asked for jobs of many devices: what the job of a device wants next, and nothing else. Read `JobStep`.
+use Rattle.std.specs.Prelude.{◌≡◌, ℕ, List, Some, slice_get}
 use Rattle.bac_play.specs.declared.play.Outcome.{Outcome}
 use Rattle.bac_desks.specs.Chain.{Chain}
 use Rattle.bac_desks.specs.Event.{Asked, Event, GivenUp, Read, Received, Sent, Waited}
-use Rattle.bac_desks.specs.Served.{Acts, Does, Keeps, TurnStep}
+use Rattle.bac_desks.specs.Served.{Acts, Does}
 use Rattle.bac_desks.specs.Table.{Step, TableState}
 use Rattle.bac_desks.specs.declared.desks.Desks.{Desks}
 use Rattle.bac_desks.specs.declared.seat.Seat.{Seat}
@@ -58,22 +58,3 @@ work_of plays jobs = record { plays = plays; jobs = jobs }
 abbrev pub AsksJobs : {P C J E : Type 0} → Acts P C → Work J E → Desks P C → Desks P C → Type 0
 AsksJobs acts work old new =
     (es : List Event) × Does acts old es new × Chain (AskStep work.plays work.jobs) old.table es new.table
-
--- Events lead from the port, the clock and the desks before to those after, and nothing is asked by them but what the
--- jobs want. So each question that is open then is wanted, if those were that are open now.
-abbrev pub ServesJobs : {P C J E : Type 0} → Acts P C → Work J E → Desks P C → Desks P C → Type 0
-ServesJobs acts work old new =
-    (es : List Event) × Does acts old es new × Keeps old.table es new.table
-    × Chain (JobStep work.plays work.jobs) old.table es new.table
-    × (AreWanted work.plays work.jobs old.table → AreWanted work.plays work.jobs new.table)
-
--- questions are asked for jobs, and then a turn is made
-abbrev pub RoundStep : {P C J E : Type 0} → Acts P C → Work J E → Desks P C → List Event → Desks P C → Type 0
-RoundStep {P = P} {C = C} acts work old es new =
-    (asks : List Event) × (turn : List Event) × (mid : Desks P C) × (es ≡ asks ++ turn) × Does acts old asks mid
-    × Chain (AskStep work.plays work.jobs) old.table asks mid.table × TurnStep acts mid turn new
-
--- that is done so often, one after the other
-abbrev pub MakesRounds : {P C J E : Type 0} → Acts P C → Work J E → ℕ → Desks P C → Desks P C → Type 0
-MakesRounds acts work rounds old new =
-    (made : List (List Event)) × (length made ≡ rounds) × Chain (RoundStep acts work) old made new

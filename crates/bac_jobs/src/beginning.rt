@@ -4,7 +4,8 @@ ghost use Rattle.std.specs.Prelude.{◌<◌, IfNone, IfOk, IfSome, length};
 ghost use Rattle.bac_desks.specs.Table.{IsResting};
 ghost use Rattle.bac_desks.specs.Served.{acting};
 ghost use Rattle.bac_jobs.specs.Jobs.{AreEndedSoFar, HasEndedIf};
-ghost use Rattle.bac_jobs.specs.Wanted.{MakesRounds, ServesJobs, work_of};
+ghost use Rattle.bac_jobs.specs.Rounds.{MakesRounds, ServesJobs};
+ghost use Rattle.bac_jobs.specs.Wanted.{work_of};
 
 use crate::finishing::{Progress, ask_all};
 use crate::job::{Ending, Job, Turn};
@@ -72,12 +73,13 @@ pub fn begin<P: Port, C: Clock, J: Job>(
     ensures begun { IfOk result (λ ends. IfSome ends
         (λ all. AreEndedSoFar J.plays jobs.now desks.new.table all.items
         × IsResting desks.new.table)) }
-    // Nothing only if as many turns were made, each behind what was asked then.
+    // Nothing only if as many rounds were made, in each of which every job was asked for that had
+    // something to ask and might.
     ensures unfinished { IfOk result (λ ends. IfNone ends
         (MakesRounds (acting P.sends P.receives_within C.reads) (work_of J.plays jobs.now) turns
         desks.old desks.new)) }
-    // Whatever comes of it: what was done at the port and by the clock, and what that makes of the
-    // desks; and nothing was asked but what the jobs wanted.
+    // Whatever comes of it: what was done at the port and by the clock, in such rounds, and what
+    // that makes of the desks; and nothing was asked but what the jobs wanted.
     ensures serves { ServesJobs (acting P.sends P.receives_within C.reads)
         (work_of J.plays jobs.now) desks.old desks.new }
 {

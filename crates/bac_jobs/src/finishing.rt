@@ -1,9 +1,13 @@
 //! Jobs are brought to their ends.
 
-ghost use Rattle.std.specs.Prelude.{◌<◌, IfNone, IfOk, IfSome, length};
+ghost use Rattle.std.specs.Prelude.{◌≡◌, ℕ, ◌<◌, ◌≤◌, ◌↔◌, true, false, Some, IfNone, IfOk};
+ghost use Rattle.std.specs.Prelude.{IfSome, IsTrue, OnOk, length, slice_get, slice_set};
 ghost use Rattle.bac_desks.specs.Served.{acting};
+ghost use Rattle.bac_desks.specs.Table.{IsSameElsewhere, MayAsk};
 ghost use Rattle.bac_jobs.specs.Jobs.{AreEnded, HasEnded, IsIdle};
-ghost use Rattle.bac_jobs.specs.Wanted.{AsksJobs, MakesRounds, ServesJobs, work_of};
+ghost use Rattle.bac_jobs.specs.Left.{AreMarkedBefore, IsDone, IsKnown, IsSettled, is_new_at};
+ghost use Rattle.bac_jobs.specs.Rounds.{AreAllAsked, MakesRounds, ServesJobs};
+ghost use Rattle.bac_jobs.specs.Wanted.{AsksJobs, work_of};
 
 use crate::job::{Ending, Job, Turn};
 use bac_desks::{Clock, Desks};
@@ -18,9 +22,14 @@ fn ask_at<P: Port, C: Clock, J: Job>(
     jobs: &[J],
     place: usize,
 ) -> Result<bool, AllocError>
-    requires { place < length jobs.now }
-    ensures { AsksJobs (acting P.sends P.receives_within C.reads) (work_of J.plays jobs.now)
+    requires within { place < length jobs.now }
+    requires free { MayAsk desks.old.table place }
+    ensures asks { AsksJobs (acting P.sends P.receives_within C.reads) (work_of J.plays jobs.now)
         desks.old desks.new }
+    ensures elsewhere { IsSameElsewhere place desks.old.table desks.new.table }
+    ensures done { IfOk result (λ none. none ≡ true
+        → IsDone (work_of J.plays jobs.now) desks.new.table place) }
+    ensures asked { IfOk result (λ none. none ≡ false → MayAsk desks.new.table place → ⊥) }
 {
     let Some(outcomes) = desks.outcomes(place) else {
         return Ok(true);
@@ -33,7 +42,9 @@ fn ask_at<P: Port, C: Clock, J: Job>(
 }
 
 /// Whether nothing came yet of a question of the desk at a place.
-fn is_new<P: Port, C: Clock>(desks: &Desks<P, C>, place: usize) -> bool {
+fn is_new<P: Port, C: Clock>(desks: &Desks<P, C>, place: usize) -> bool
+    ensures { result ≡ is_new_at desks.now.table place }
+{
     match desks.outcomes(place) {
         Some(outcomes) => outcomes.is_empty(),
         None => false,
@@ -52,7 +63,12 @@ pub(crate) struct Progress {
 
 impl Progress {
     /// None of so many jobs is done.
-    pub(crate) fn new(alloc: Global, jobs: usize) -> Result<Progress, AllocError> {
+    pub(crate) fn new(alloc: Global, jobs: usize) -> Result<Progress, AllocError>
+        ensures marks { IfOk result (λ progress. (place : ℕ)
+            → slice_get progress.done.items place ≡ Some true → ⊥) }
+        ensures left { IfOk result (λ progress. progress.first_left ≡ 0) }
+        ensures new { IfOk result (λ progress. progress.first_new ≡ 0) }
+    {
         let mut done = Vec::new(alloc);
         for _place in 0..jobs {
             done.push(false)?;
@@ -65,19 +81,30 @@ impl Progress {
     }
 
     /// Whether the job at a place is done.
-    fn is_done(&self, place: usize) -> bool {
+    fn is_done(&self, place: usize) -> bool
+        ensures { IsTrue result ↔ (slice_get self.now.done.items place ≡ Some true) }
+    {
         matches!(self.done.get(place), Some(true))
     }
 
     /// The job at a place is done.
-    fn put_done(&mut self, place: usize) {
+    fn put_done(&mut self, place: usize)
+        ensures done { self.new.done.items ≡ slice_set self.old.done.items place true }
+        ensures left { self.new.first_left ≡ self.old.first_left }
+        ensures new { self.new.first_new ≡ self.old.first_new }
+    {
         if let Some(one) = self.done.get_mut(place) {
             *one = true;
         }
     }
 
     /// Passes the jobs that are done.
-    fn pass_done(&mut self) {
+    fn pass_done(&mut self)
+        requires { AreMarkedBefore self.old.done.items self.old.first_left }
+        ensures done { self.new.done ≡ self.old.done }
+        ensures left { AreMarkedBefore self.old.done.items self.new.first_left }
+        ensures new { self.new.first_new ≡ self.old.first_new }
+    {
         for place in self.first_left..self.done.len() {
             if !self.is_done(place) {
                 return;
@@ -87,7 +114,14 @@ impl Progress {
     }
 
     /// Passes the desks to which something came.
-    fn pass_old<P: Port, C: Clock>(&mut self, desks: &Desks<P, C>) {
+    fn pass_old<P: Port, C: Clock>(&mut self, desks: &Desks<P, C>)
+        requires { (place : ℕ) → place < self.old.first_new
+            → is_new_at desks.now.table place ≡ false }
+        ensures done { self.new.done ≡ self.old.done }
+        ensures left { self.new.first_left ≡ self.old.first_left }
+        ensures new { (place : ℕ) → place < self.new.first_new
+            → is_new_at desks.now.table place ≡ false }
+    {
         for place in self.first_new..self.done.len() {
             if is_new(desks, place) {
                 return;
@@ -105,9 +139,14 @@ fn ask_unless<P: Port, C: Clock, J: Job>(
     place: usize,
     progress: &mut Progress,
 ) -> Result<(), AllocError>
-    requires { place < length jobs.now }
-    ensures { AsksJobs (acting P.sends P.receives_within C.reads) (work_of J.plays jobs.now)
+    requires within { place < length jobs.now }
+    requires left { slice_get progress.old.done.items place ≡ Some true → ⊥ }
+    requires known { IsKnown (work_of J.plays jobs.now) desks.old.table progress.old }
+    ensures asks { AsksJobs (acting P.sends P.receives_within C.reads) (work_of J.plays jobs.now)
         desks.old desks.new }
+    ensures known { OnOk result
+        (IsKnown (work_of J.plays jobs.now) desks.new.table progress.new) }
+    ensures settled { OnOk result (IsSettled (work_of J.plays jobs.now) desks.new.table place) }
 {
     if !desks.is_free(place) {
         return Ok(());
@@ -128,8 +167,14 @@ fn ask_those<P: Port, C: Clock, J: Job>(
     from: usize,
     new: bool,
 ) -> Result<(), AllocError>
-    ensures { AsksJobs (acting P.sends P.receives_within C.reads) (work_of J.plays jobs.now)
+    requires { IsKnown (work_of J.plays jobs.now) desks.old.table progress.old }
+    ensures asks { AsksJobs (acting P.sends P.receives_within C.reads) (work_of J.plays jobs.now)
         desks.old desks.new }
+    ensures known { OnOk result
+        (IsKnown (work_of J.plays jobs.now) desks.new.table progress.new) }
+    ensures settled { OnOk result ((place : ℕ) → from ≤ place → place < length jobs.now
+        → is_new_at desks.old.table place ≡ new
+        → IsSettled (work_of J.plays jobs.now) desks.new.table place) }
 {
     for place in from..jobs.len() {
         if progress.is_done(place) || desks.is_open(place) || is_new(desks, place) != new {
@@ -151,8 +196,12 @@ pub(crate) fn ask_all<P: Port, C: Clock, J: Job>(
     jobs: &[J],
     progress: &mut Progress,
 ) -> Result<(), AllocError>
-    ensures { AsksJobs (acting P.sends P.receives_within C.reads) (work_of J.plays jobs.now)
+    requires { IsKnown (work_of J.plays jobs.now) desks.old.table progress.old }
+    ensures asks { AsksJobs (acting P.sends P.receives_within C.reads) (work_of J.plays jobs.now)
         desks.old desks.new }
+    ensures known { OnOk result
+        (IsKnown (work_of J.plays jobs.now) desks.new.table progress.new) }
+    ensures all { OnOk result (AreAllAsked (work_of J.plays jobs.now) desks.new.table) }
 {
     progress.pass_old(desks);
     let first_new = progress.first_new;
@@ -246,12 +295,13 @@ pub fn finish<P: Port, C: Clock, J: Job>(
     ensures ended { IfOk result (λ ends. IfSome ends
         (λ all. AreEnded J.plays jobs.now desks.new.table.seats all.items
         × IsIdle desks.new.table)) }
-    // Nothing only if as many turns were made, each behind what was asked then.
+    // Nothing only if as many rounds were made, in each of which every job was asked for that had
+    // something to ask and might.
     ensures unfinished { IfOk result (λ ends. IfNone ends
         (MakesRounds (acting P.sends P.receives_within C.reads) (work_of J.plays jobs.now) turns
         desks.old desks.new)) }
-    // Whatever comes of it: what was done at the port and by the clock, and what that makes of the
-    // desks; and nothing was asked but what the jobs wanted.
+    // Whatever comes of it: what was done at the port and by the clock, in such rounds, and what
+    // that makes of the desks; and nothing was asked but what the jobs wanted.
     ensures serves { ServesJobs (acting P.sends P.receives_within C.reads)
         (work_of J.plays jobs.now) desks.old desks.new }
 {

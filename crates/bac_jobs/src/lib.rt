@@ -11,5 +11,5 @@ mod records;
 pub use beginning::begin;
 pub use finishing::finish;
 pub use job::{Ending, Job, Turn, ends_in};
-pub use laws::places_stay;
+pub use laws::{places_stay, rounds_ask_all};
 pub use records::{copy_outcomes, turn_by};

@@ -1,7 +1,7 @@
 use Rattle.bac_hearing.specs.Hearing.{seated}
 use Rattle.bac_jobs.specs.Wanted.{work_of}
 use Rattle.bac_desks.specs.Served.{acting}
-use Rattle.bac_hearing.proofs.Ended.{ends, on_err, stops, stops_at, waits, weaker, weaker_none}
+use Rattle.bac_hearing.proofs.Ended.{ends, stops, stops_at, waits, weaker, weaker_none}
 use Rattle.bac_hearing.proofs.hearing.hear.Goals as goal
 
 pub returns-clause-heard : goal.returns-clause-heard
@@ -21,12 +21,10 @@ returns-clause-unfinished g c =
 
 pub returns-in_err-seat_all-clause-stops : goal.returns-in_err-seat_all-clause-stops
 returns-in_err-seat_all-clause-stops g c =
-    on_err c.from_residual.result _
-    (stops_at (acting g.P.Port.sends g.P.Port.receives_within g.C.Clock.reads) (work_of g.J.Job.plays c.args.jobs.now) (seated c.args.desks.now c.args.peers.now)
-    c.seat_all.new.desks.port c.seat_all.ensures.port)
+    stops_at c.from_residual.result (acting g.P.Port.sends g.P.Port.receives_within g.C.Clock.reads) (work_of g.J.Job.plays c.args.jobs.now) (seated c.args.desks.now c.args.peers.now)
+    c.seat_all.new.desks.port c.seat_all.ensures.port
 
 pub returns-clause-stops : goal.returns-clause-stops
 returns-clause-stops g c =
-    on_err c.finish.result _
-    (stops (acting g.P.Port.sends g.P.Port.receives_within g.C.Clock.reads) (work_of g.J.Job.plays c.args.jobs.now) (seated c.args.desks.now c.args.peers.now)
-    c.seat_all.new.desks c.finish.new.desks c.seat_all.ensures.port c.seat_all.ensures.clock c.in_ok-seat_all.ensures.table c.finish.ensures.serves)
+    stops c.finish.result (acting g.P.Port.sends g.P.Port.receives_within g.C.Clock.reads) (work_of g.J.Job.plays c.args.jobs.now) (seated c.args.desks.now c.args.peers.now)
+    c.seat_all.new.desks c.finish.new.desks c.seat_all.ensures.port c.seat_all.ensures.clock c.in_ok-seat_all.ensures.table c.finish.ensures.serves
