@@ -1,9 +1,7 @@
 -- What is done of devices that are called, from one function to the next.
 use Rattle.std.specs.Prelude.{IfErr, IfOk, OnOk}
-use Rattle.std.proofs.Common.{◌≡◌, ◌∙◌, ◌⊎◌, ℕ, Bool, map, inl, inr, ◌≤◌, Option, List, [], ◌∷◌, length, get_or, Result, Ok, Err, ap, sym, subst, arith}
-use Rattle.std.specs.List.{Contains}
+use Rattle.std.proofs.Common.{◌≡◌, ◌∙◌, ℕ, Bool, map, inl, inr, ◌≤◌, Option, List, [], ◌∷◌, length, get_or, Result, Ok, Err, ap, subst, arith}
 use denote.Ref.{Bor}
-use Rattle.bac_asked.specs.Faults.{WantsMemory}
 use Rattle.bac_asked.specs.declared.end.NotDone.{NotDone}
 use Rattle.bac_asked.specs.declared.wanted.Wanted.{Wanted}
 use Rattle.bac_hearing.specs.Beside.{EndsHearing}
@@ -11,10 +9,9 @@ use Rattle.bac_hearing.specs.Hearing.{Pace}
 use Rattle.bac_jobs.specs.Wanted.{work_of}
 use Rattle.bac_jobs.specs.declared.job.Ending.{Ending}
 use Rattle.bac_ports.specs.Sockets.{SocketRules}
-use Rattle.bac_questions.specs.Faults.{EndsAsking, IsUnopened}
 use Rattle.bac_questions.specs.declared.said.Said.{Said}
 use Rattle.bac_questions.specs.declared.whose.Heard.{Heard}
-use Rattle.bac_absent.specs.Calling.{BeginsToCall, CallsMany, EndsCall, EndsCalling, IsBegunIf, seen, so_far}
+use Rattle.bac_absent.specs.Calling.{BeginsToCall, CallsMany, EndsBegun, EndsCall, EndsCalling, EndsMany, IsBegunIf, seen, so_far}
 use Rattle.bac_absent.specs.Each.{AreCalled, PutsEach, late_of}
 use Rattle.bac_absent.specs.Identifying.{IsPlayed, identifying_of}
 use Rattle.bac_absent.specs.declared.calling.Calling.{Calling}
@@ -64,28 +61,25 @@ ended rules reads calling asked shown waiting jobs ends heard now before after (
     )
 ended rules reads calling asked shown waiting jobs ends heard now before after (Err why) same are waits these hears puts = tt
 
--- the first is one of them
-first_of : (refs : List (Bor Wanted)) (first : Bor Wanted) → 2 ≤ length refs → first ≡ get_or refs 0 first → Contains (seen refs) first.now
-first_of [] first two is = absurd (omega (arith, two))
-first_of (x ∷ more) first two is = (0, (omega arith), ap (λ (r : Bor Wanted). r.now) (sym is))
+-- why two or more aren't called is why they aren't asked as the first is
+fails_of : {S P C : Type 0} (rules : SocketRules S P) (pace : Pace C) (refs : List (Bor Wanted)) (first : Bor Wanted) (before after : S) (fault : NotDone) →
+    2 ≤ length refs → first ≡ get_or refs 0 first → EndsBegun rules pace first.now.asking.asked (seen refs) before after fault →
+    EndsMany rules pace (seen refs) before after fault
+fails_of rules pace [] first before after fault two is ends = absurd (omega (arith, two))
+fails_of rules pace (x ∷ []) first before after fault two is ends = absurd (omega (arith, two))
+fails_of rules pace (x ∷ y ∷ more) first before after fault two is ends =
+    subst (λ (r : Bor Wanted). EndsBegun rules pace r.now.asking.asked (seen (x ∷ y ∷ more)) before after fault) is ends
 
--- why the first isn't asked is why one of them isn't
-pub fails : {S P A : Type 0} (rules : SocketRules S P) (refs shown : List (Bor Wanted)) (first : Bor Wanted) (before after : S) (result : Result A NotDone) →
-    shown ≡ refs → 2 ≤ length shown → first ≡ get_or shown 0 first → IfErr result (EndsAsking rules first.now.asking.asked before after) →
-    IfErr result (λ fault. WantsMemory fault ⊎ ((one : Wanted) × Contains (seen refs) one × IsUnopened rules one.asking.asked before after fault))
-fails rules refs shown first before after (Ok a) same two is ends = tt
-fails rules refs shown first before after (Err fault) same two is ends = elim ends [
-  | inl memory ↦ inl memory
-  | inr unopened ↦ inr (first.now, subst (λ (l : List (Bor Wanted)). Contains (seen l) first.now) same (first_of shown first two is), unopened)
-]
+pub fails : {S P C A : Type 0} (rules : SocketRules S P) (pace : Pace C) (refs shown : List (Bor Wanted)) (first : Bor Wanted) (before after : S) (result : Result A NotDone) →
+    shown ≡ refs → 2 ≤ length shown → first ≡ get_or shown 0 first → IfErr result (EndsBegun rules pace first.now.asking.asked (seen refs) before after) →
+    IfErr result (EndsMany rules pace (seen refs) before after)
+fails rules pace refs shown first before after (Ok a) same two is ends = tt
+fails rules pace refs shown first before after (Err fault) same two is ends =
+    fails_of rules pace refs first before after fault (subst (λ (l : List (Bor Wanted)). 2 ≤ length l) same two)
+    (subst (λ (l : List (Bor Wanted)). first ≡ get_or l 0 first) same is) ends
 
 -- nor are they called
-pub ends : {S P A : Type 0} (rules : SocketRules S P) (all called : List Wanted) (shown heard : List Heard) (before after : S) (result : Result A NotDone) →
-    shown ≡ heard → AreCalled shown all called →
-    IfErr result (λ fault. WantsMemory fault ⊎ ((one : Wanted) × Contains called one × IsUnopened rules one.asking.asked before after fault)) →
-    IfErr result (EndsCalling rules all heard before after)
-ends rules all called shown heard before after (Ok a) same are why = tt
-ends rules all called shown heard before after (Err fault) same are why = elim why [
-  | inl memory ↦ inl memory
-  | inr this ↦ (let among = (subst (λ (h : List Heard). AreCalled h all called) same are).among this.0 this.1 in inr (this.0, among.0, among.1, this.2))
-]
+pub ends : {S P C A : Type 0} (rules : SocketRules S P) (pace : Pace C) (all called : List Wanted) (shown heard : List Heard) (before after : S) (result : Result A NotDone) →
+    shown ≡ heard → AreCalled shown all called → IfErr result (EndsMany rules pace called before after) → IfErr result (EndsCalling rules pace all heard before after)
+ends rules pace all called shown heard before after (Ok a) same are why = tt
+ends rules pace all called shown heard before after (Err fault) same are why = inr (called, subst (λ (h : List Heard). AreCalled h all called) same are, why)

@@ -5,13 +5,13 @@ use Rattle.bac_asked.specs.declared.wanted.Wanted.{Wanted}
 use Rattle.bac_desks.specs.declared.desks.Desks.{Desks}
 use Rattle.bac_hearing.specs.Beside.{BeginsToHear, EndsHearing, FailsToEnd}
 use Rattle.bac_hearing.specs.Hearing.{FailsToHear, Pace, inquiring}
-use Rattle.bac_hearing.specs.declared.hearing.NotHeard.TheVariants.{Unfinished}
+use Rattle.bac_hearing.specs.declared.hearing.NotHeard.{NotHeard}
 use Rattle.bac_jobs.specs.Wanted.{work_of}
 use Rattle.bac_jobs.specs.declared.job.Ending.{Ending}
 use Rattle.bac_ports.specs.Sockets.{SocketRules}
 use Rattle.bac_questions.specs.declared.said.Said.{Said}
 use Rattle.bac_words.specs.declared.job.Asked.{Asked}
-use Rattle.bac_absent.specs.Calling.{Unending, identities_of, seen}
+use Rattle.bac_absent.specs.Calling.{identities_of, seen}
 use Rattle.bac_absent.specs.Each.{jobs_of, peers_of}
 use Rattle.bac_absent.specs.Identifying.{IsPlayed, identifying_of}
 use Rattle.bac_absent.specs.declared.identifying.Identifying.{Identifying}
@@ -36,26 +36,27 @@ hears_first rules pace asked refs peers jobs before after early desks are these 
     (subst (λ (j : List Identifying). BeginsToHear rules pace (inquiring peers (work_of IsPlayed j) asked.local asked.timeout asked.retries) before early desks after)
     (these ∙ jobs_seen refs) heard)
 
-pub unending : {S P C : Type 0} (rules : SocketRules S P) (pace : Pace C) (asked : Asked) (refs : List (Bor Wanted)) (peers : List (List ℕ))
-    (jobs : List Identifying) (before after : S) → peers ≡ map (λ (one : Bor Wanted). one.now.asking.asked.address) refs →
+-- nor are they told of
+pub unheard : {S P C : Type 0} (rules : SocketRules S P) (pace : Pace C) (asked : Asked) (refs : List (Bor Wanted)) (peers : List (List ℕ))
+    (jobs : List Identifying) (before after : S) (why : NotHeard) → peers ≡ map (λ (one : Bor Wanted). one.now.asking.asked.address) refs →
     jobs ≡ map (λ (one : Bor Wanted). identifying_of one.now) refs →
-    FailsToHear rules pace (inquiring peers (work_of IsPlayed jobs) asked.local asked.timeout asked.retries) before after Unfinished → Unending rules pace asked
-    (seen refs) before after
-unending rules pace asked refs peers jobs before after are these fails =
+    FailsToHear rules pace (inquiring peers (work_of IsPlayed jobs) asked.local asked.timeout asked.retries) before after why →
+    FailsToHear rules pace (identities_of asked (seen refs)) before after why
+unheard rules pace asked refs peers jobs before after why are these fails =
     subst (λ (p : List (List ℕ)). FailsToHear rules pace (inquiring p (work_of IsPlayed (jobs_of (seen refs))) asked.local asked.timeout asked.retries) before after
-    Unfinished)
+    why)
     (are ∙ peers_seen refs)
-    (subst (λ (j : List Identifying). FailsToHear rules pace (inquiring peers (work_of IsPlayed j) asked.local asked.timeout asked.retries) before after Unfinished)
+    (subst (λ (j : List Identifying). FailsToHear rules pace (inquiring peers (work_of IsPlayed j) asked.local asked.timeout asked.retries) before after why)
     (these ∙ jobs_seen refs) fails)
 
 -- nor do the last of them end
-pub unending_last : {S P C : Type 0} (rules : SocketRules S P) (reads : C → ℕ → C → Type 0) (refs shown : List (Bor Wanted)) (jobs : List Identifying) (desks : Desks P C)
-    (before after : S) → shown ≡ refs → jobs ≡ map (λ (one : Bor Wanted). identifying_of one.now) shown →
-    FailsToEnd rules reads (work_of IsPlayed jobs) desks before after Unfinished →
-    FailsToEnd rules reads (work_of IsPlayed (jobs_of (seen refs))) desks before after Unfinished
-unending_last rules reads refs shown jobs desks before after same these fails =
-    subst (λ (l : List (Bor Wanted)). FailsToEnd rules reads (work_of IsPlayed (jobs_of (seen l))) desks before after Unfinished) same
-    (subst (λ (j : List Identifying). FailsToEnd rules reads (work_of IsPlayed j) desks before after Unfinished) (these ∙ jobs_seen shown) fails)
+pub unheard_last : {S P C : Type 0} (rules : SocketRules S P) (reads : C → ℕ → C → Type 0) (refs shown : List (Bor Wanted)) (jobs : List Identifying) (desks : Desks P C)
+    (before after : S) (why : NotHeard) → shown ≡ refs → jobs ≡ map (λ (one : Bor Wanted). identifying_of one.now) shown →
+    FailsToEnd rules reads (work_of IsPlayed jobs) desks before after why →
+    FailsToEnd rules reads (work_of IsPlayed (jobs_of (seen refs))) desks before after why
+unheard_last rules reads refs shown jobs desks before after why same these fails =
+    subst (λ (l : List (Bor Wanted)). FailsToEnd rules reads (work_of IsPlayed (jobs_of (seen l))) desks before after why) same
+    (subst (λ (j : List Identifying). FailsToEnd rules reads (work_of IsPlayed j) desks before after why) (these ∙ jobs_seen shown) fails)
 
 pub hears_last : {S P C : Type 0} (rules : SocketRules S P) (reads : C → ℕ → C → Type 0) (refs : List (Bor Wanted)) (jobs : List Identifying) (desks : Desks P C)
     (before after : S) (ends : List (Ending Said)) → jobs ≡ map (λ (one : Bor Wanted). identifying_of one.now) refs →

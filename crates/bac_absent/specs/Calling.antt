@@ -1,22 +1,22 @@
 -- Devices are asked at once what they say of themselves, and something else is done with the sockets while the last of
 -- them are waited for. Read `BeginsToCall` and `EndsCall`.
-use Rattle.std.specs.Prelude.{◌≡◌, ◌⊎◌, ℕ, true, List, ◌∷◌, Option, Some, None, is_none, map}
-use Rattle.std.specs.List.{Contains}
+use Rattle.std.specs.Prelude.{◌≡◌, ◌⊎◌, ℕ, List, ◌∷◌, Option, Some, None, is_none, map}
 use denote.Ref.{Bor}
 use Rattle.bac_asked.specs.Faults.{WantsMemory}
 use Rattle.bac_asked.specs.declared.end.NotDone.{NotDone}
 use Rattle.bac_asked.specs.declared.wanted.Wanted.{Wanted}
+use Rattle.bac_desks.specs.declared.desks.Desks.{Desks}
 use Rattle.bac_hearing.specs.Beside.{BeginsToHear, EndsHearing, FailsToEnd}
-use Rattle.bac_hearing.specs.Hearing.{FailsToHear, Inquiry, Pace, inquiring}
+use Rattle.bac_hearing.specs.Hearing.{FailsToHear, Inquiry, Pace, StopsHearing, inquiring}
 use Rattle.bac_hearing.specs.declared.beside.Begun.{Begun}
-use Rattle.bac_hearing.specs.declared.hearing.NotHeard.TheVariants.{Unfinished}
+use Rattle.bac_hearing.specs.declared.hearing.NotHeard.TheVariants.{Memory, Unfinished}
 use Rattle.bac_jobs.specs.Wanted.{work_of}
 use Rattle.bac_jobs.specs.declared.job.Ending.{Ending}
 use Rattle.bac_ports.specs.Sockets.{SocketRules}
 use Rattle.bac_questions.specs.Faults.{IsUnopened}
 use Rattle.bac_questions.specs.declared.said.Said.{Said}
 use Rattle.bac_questions.specs.declared.whose.Heard.{Heard}
-use Rattle.bac_absent.specs.Each.{AreCalled, PutsEach, is_called, jobs_of, late_of, peers_of}
+use Rattle.bac_absent.specs.Each.{AreCalled, PutsEach, jobs_of, late_of, peers_of}
 use Rattle.bac_absent.specs.Identifying.{IsPlayed}
 use Rattle.bac_absent.specs.declared.calling.Calling.{Calling}
 use Rattle.bac_absent.specs.declared.identifying.Identifying.{Identifying}
@@ -99,8 +99,36 @@ EndsCall rules reads calling before after =
     after.sockets Unfinished
     × (after.heard ≡ before.heard))
 
--- They aren't called: memory is wanting; or no socket was opened for it, as one of them is asked.
-abbrev pub EndsCalling : {S P : Type 0} → SocketRules S P → List Wanted → List Heard → S → S → NotDone → Type 0
-EndsCalling rules all heard before after fault = WantsMemory fault
-    ⊎ ((one : Wanted) × Contains all one × (is_called heard one ≡ true)
-    × IsUnopened rules one.asking.asked before after fault)
+-- ---- why not
+
+-- These devices aren't asked so: no socket was opened as this says; or memory is wanting, before one is asked for, or
+-- behind what they were asked over one that was closed then.
+abbrev pub EndsAsked : {S P C : Type 0} → SocketRules S P → Pace C → Asked → List Wanted → S → S → NotDone → Type 0
+EndsAsked rules pace asked called before after fault = IsUnopened rules asked before after fault
+    ⊎ (WantsMemory fault × StopsHearing rules pace (identities_of asked called) before after)
+
+-- or they were, and memory is wanting for what they said; the socket is left as it is
+abbrev pub EndsBegun : {S P C : Type 0} → SocketRules S P → Pace C → Asked → List Wanted → S → S → NotDone → Type 0
+EndsBegun {P = P} {C = C} rules pace asked called before after fault =
+    EndsAsked rules pace asked called before after fault
+    ⊎ (WantsMemory fault × (early : List (Option (Ending Said))) × (desks : Desks P C)
+    × BeginsToHear rules pace (identities_of asked called) before early desks after)
+
+-- so it is of two or more, as the first of them is asked
+abbrev pub EndsMany : {S P C : Type 0} → SocketRules S P → Pace C → List Wanted → S → S → NotDone → Type 0
+EndsMany rules pace (one ∷ two ∷ more) before after fault =
+    EndsBegun rules pace one.asking.asked (one ∷ two ∷ more) before after fault
+EndsMany rules pace called before after fault = ⊥
+
+-- They aren't called: memory is wanting to tell which are, and nothing is done; or they aren't asked.
+abbrev pub EndsCalling : {S P C : Type 0} → SocketRules S P → Pace C → List Wanted → List Heard → S → S → NotDone
+    → Type 0
+EndsCalling rules pace all heard before after fault = (WantsMemory fault × (after ≡ before))
+    ⊎ ((called : List Wanted) × AreCalled heard all called × EndsMany rules pace called before after fault)
+
+-- They aren't waited for, or nothing is told of it: memory is wanting, before anything more is asked, or behind what
+-- was asked over the socket, which was closed then.
+abbrev pub StopsCall : {S P C : Type 0} → SocketRules S P → (C → ℕ → C → Type 0) → Calling P C → S → S → NotDone
+    → Type 0
+StopsCall rules reads calling before after fault = WantsMemory fault × ((after ≡ before)
+    ⊎ FailsToEnd rules reads (work_of IsPlayed (jobs_of (seen calling.called.items))) calling.desks before after Memory)

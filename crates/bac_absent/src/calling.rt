@@ -1,16 +1,14 @@
 //! Devices are asked at once what they say of themselves, and something else is done with the
 //! sockets while the last of them are waited for.
 
-ghost use Rattle.std.specs.Prelude.{◌≡◌, ◌⊎◌, IfErr, IfNone, IfOk, IfSome, OnOk, length, map};
-ghost use Rattle.std.specs.List.{Contains};
+ghost use Rattle.std.specs.Prelude.{◌≡◌, IfErr, IfNone, IfOk, IfSome, OnOk, length, map};
 ghost use Rattle.bac_asked.specs.Faults.{WantsMemory};
-ghost use Rattle.bac_asked.specs.declared.wanted.Wanted.{Wanted as WantedOf};
 ghost use Rattle.bac_hearing.specs.Beside.{BeginsToHear};
 ghost use Rattle.bac_hearing.specs.Hearing.{paced};
 ghost use Rattle.bac_ports.specs.Sockets.{socket_rules};
-ghost use Rattle.bac_questions.specs.Faults.{EndsAsking, IsUnopened};
-ghost use Rattle.bac_absent.specs.Calling.{BeginsToCall, CallsMany, EndsCall, EndsCalling};
-ghost use Rattle.bac_absent.specs.Calling.{IsBegunIf, IsCallingOf, Unending, identities_of, so_far};
+ghost use Rattle.bac_absent.specs.Calling.{BeginsToCall, CallsMany, EndsAsked, EndsBegun, EndsCall};
+ghost use Rattle.bac_absent.specs.Calling.{EndsCalling, EndsMany, IsBegunIf, IsCallingOf};
+ghost use Rattle.bac_absent.specs.Calling.{StopsCall, Unending, identities_of, so_far};
 ghost use Rattle.bac_absent.specs.Each.{PutsEach, late_of};
 
 use crate::each::{called_of, jobs_of, peers_of};
@@ -56,8 +54,9 @@ where
         (socket_rules S.opens S.closes S.Socket.sends S.Socket.receives
         S.Socket.receives_within) (paced C.reads clock window) asked.now
         (map (λ one. one.now) called.now) sockets.old sockets.new)) }
-    ensures fault { IfErr result (EndsAsking (socket_rules S.opens S.closes S.Socket.sends
-        S.Socket.receives S.Socket.receives_within) asked.now sockets.old sockets.new) }
+    ensures fault { IfErr result (EndsAsked (socket_rules S.opens S.closes S.Socket.sends
+        S.Socket.receives S.Socket.receives_within) (paced C.reads clock window) asked.now
+        (map (λ one. one.now) called.now) sockets.old sockets.new) }
 {
     let (Ok(peers), Ok(jobs)) = (peers_of(alloc, called), jobs_of(alloc, called)) else {
         return Err(NotDone::Asking(Fault::Memory));
@@ -125,8 +124,9 @@ where
         S.Socket.receives S.Socket.receives_within) (paced C.reads clock window) asked.now
         (map (λ one. one.now) called.entry.items) (so_far sockets.old heard.old.items)
         (so_far sockets.new heard.new.items)) }
-    ensures fault { IfErr result (EndsAsking (socket_rules S.opens S.closes S.Socket.sends
-        S.Socket.receives S.Socket.receives_within) asked.now sockets.old sockets.new) }
+    ensures fault { IfErr result (EndsBegun (socket_rules S.opens S.closes S.Socket.sends
+        S.Socket.receives S.Socket.receives_within) (paced C.reads clock window) asked.now
+        (map (λ one. one.now) called.entry.items) sockets.old sockets.new) }
 {
     match begin_called(sockets, alloc, clock, window, asked, called.as_slice())? {
         Some(begun) => Ok(Some(calling_of(alloc, called, begun, heard)?)),
@@ -149,10 +149,9 @@ where
         S.Socket.receives S.Socket.receives_within) (paced C.reads clock window)
         (map (λ one. one.now) called.entry.items) (so_far sockets.old heard.old.items) begun
         (so_far sockets.new heard.new.items)) }
-    ensures fault { IfErr result (λ fault. WantsMemory fault
-        ⊎ ((one : WantedOf) × Contains (map (λ one. one.now) called.entry.items) one
-        × IsUnopened (socket_rules S.opens S.closes S.Socket.sends S.Socket.receives
-        S.Socket.receives_within) one.asking.asked sockets.old sockets.new fault)) }
+    ensures fault { IfErr result (EndsMany (socket_rules S.opens S.closes S.Socket.sends
+        S.Socket.receives S.Socket.receives_within) (paced C.reads clock window)
+        (map (λ one. one.now) called.entry.items) sockets.old sockets.new) }
 {
     let [first, _, ..] = called.as_slice() else {
         return Ok(None);
@@ -190,8 +189,8 @@ where
         S.Socket.sends S.Socket.receives S.Socket.receives_within) (paced C.reads clock window)
         all.now (so_far sockets.old heard.old.items) begun (so_far sockets.new heard.new.items)) }
     ensures fault { IfErr result (EndsCalling (socket_rules S.opens S.closes S.Socket.sends
-        S.Socket.receives S.Socket.receives_within) all.now heard.old.items sockets.old
-        sockets.new) }
+        S.Socket.receives S.Socket.receives_within) (paced C.reads clock window) all.now
+        heard.old.items sockets.old sockets.new) }
 {
     let called = called_of(alloc, all, heard.as_slice())?;
     begin_many(sockets, alloc, clock, window, called, heard)
@@ -230,7 +229,9 @@ where
     ensures ended { OnOk result (EndsCall (socket_rules S.opens S.closes S.Socket.sends
         S.Socket.receives S.Socket.receives_within) C.reads calling.entry
         (so_far sockets.old heard.old.items) (so_far sockets.new heard.new.items)) }
-    ensures fault { IfErr result WantsMemory }
+    ensures fault { IfErr result (StopsCall (socket_rules S.opens S.closes S.Socket.sends
+        S.Socket.receives S.Socket.receives_within) C.reads calling.entry sockets.old
+        sockets.new) }
 {
     let Calling {
         called,
@@ -243,6 +244,8 @@ where
     match end_all(sockets, alloc, desks, jobs.as_slice()) {
         Ok(ends) => put_late(alloc, heard, called.as_slice(), waiting.as_slice(), ends),
         Err(NotHeard::Unfinished) => Ok(()),
-        Err(NotHeard::Memory | NotHeard::Unopened(_)) => Err(NotDone::Asking(Fault::Memory)),
+        Err(NotHeard::Memory) => Err(NotDone::Asking(Fault::Memory)),
+        // The socket is open.
+        Err(NotHeard::Unopened(_)) => unreachable!(),
     }
 }

@@ -1,17 +1,17 @@
 -- One round more.
 use Rattle.std.proofs.Common.{◌≡◌, List, [], ◌∷◌, ◌++◌, map, refl, ap, sym, subst, inl, inr, ◌⊎◌, ◌∙◌, ◌<◌, ◌≤◌, ℕ, length, append-nil, append_assoc, arith}
+use Rattle.bac_asked.specs.Faults.{WantsMemory}
 use Rattle.bac_asked.specs.declared.end.NotDone.{NotDone}
 use Rattle.bac_desks.specs.Chain.{Chain}
 use Rattle.bac_desks.proofs.Lists.{pushed}
 use Rattle.bac_hearing.specs.Hearing.{FailsToHear, Pace, paced}
 use Rattle.bac_hearing.specs.declared.hearing.NotHeard.TheVariants.{Unfinished}
 use Rattle.bac_ports.specs.Sockets.{SocketRules}
-use Rattle.bac_questions.specs.Faults.{EndsAsking}
 use Rattle.bac_recall.specs.declared.conversations.Conversation.{Conversation}
 use Rattle.bac_words.specs.declared.job.Asked.{Asked}
 use Rattle.bac_ahead.proofs.Parted.{two_devices}
 use Rattle.bac_ahead.specs.Laws.{SomeAreAsked}
-use Rattle.bac_ahead.specs.Rounds.{AsksAhead, EndsAhead, IsRound, IsRoundOf, IsUnending, Parts, Stage, conversations_of, devices_of, openings_of, parts, parts_of, stage}
+use Rattle.bac_ahead.specs.Rounds.{AsksAhead, EndsAhead, EndsRoundOf, IsRound, IsRoundOf, IsUnending, Parts, Stage, conversations_of, devices_of, openings_of, parts, parts_of, stage}
 use Rattle.bac_ahead.specs.declared.opening.Opened.{Opened}
 use Rattle.bac_ahead.specs.declared.opening.Opening.{Opening}
 
@@ -62,10 +62,18 @@ module _ {S P C : Type 0} (rules : SocketRules S P) (clock : Pace C) (asked : As
 
   -- one can't be made
   pub fails : (all left firsts rest : List Opening) (before mid after : S) (came : List Conversation) (fault : NotDone) → parts firsts rest ≡ parts_of left → 2 ≤ length firsts
-      → Came all before mid left came → EndsAsking rules asked mid after fault → EndsAhead rules clock asked all before after fault
-  fails all left firsts rest before mid after came fault are two (rounds, chain, is) (inl memory) = inl memory
-  fails all left firsts rest before mid after came fault are two (rounds, chain, is) (inr unopened) =
-      inr (rounds, stage mid left, chain, subst (λ (p : Parts). 2 ≤ length p.firsts) are two, unopened)
+      → Came all before mid left came → EndsRoundOf rules clock asked firsts mid after fault → EndsAhead rules clock asked all before after fault
+  fails all left firsts rest before mid after came fault are two (rounds, chain, is) ends = (
+    rounds,
+    stage mid left,
+    chain,
+    inr (subst (λ (p : Parts). (2 ≤ length p.firsts) × EndsRoundOf rules clock asked p.firsts mid after fault) are (two, ends)),
+  )
+
+  -- memory is wanting before one is made
+  pub stops : (all left : List Opening) (before mid : S) (came : List Conversation) (fault : NotDone) → Came all before mid left came → WantsMemory fault
+      → EndsAhead rules clock asked all before mid fault
+  stops all left before mid came fault (rounds, chain, is) memory = (rounds, stage mid left, chain, inl (memory, refl))
 
   -- of two devices some are asked
   pub first_round : (all : List Opening) (before after : S) (came : List Conversation) → 2 ≤ devices_of all → AsksAhead rules clock asked all before came after

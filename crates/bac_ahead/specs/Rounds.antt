@@ -3,7 +3,7 @@ use Rattle.std.specs.Prelude.{◌≡◌, ◌<◌, ◌≤◌, ◌⊎◌, ◌&&◌
 use Rattle.std.specs.Prelude.{length, map}
 use Rattle.std.specs.List.{list_any}
 use Rattle.bac_desks.specs.Chain.{Chain}
-use Rattle.bac_hearing.specs.Hearing.{FailsToHear, HearsAll, Inquiry, Pace, inquiring}
+use Rattle.bac_hearing.specs.Hearing.{FailsToHear, HearsAll, Inquiry, Pace, StopsHearing, inquiring}
 use Rattle.bac_hearing.specs.declared.hearing.NotHeard.TheVariants.{Unfinished}
 use Rattle.bac_jobs.specs.Wanted.{work_of}
 use Rattle.bac_jobs.specs.declared.job.Ending.{Ending}
@@ -113,10 +113,21 @@ AsksAhead {S = S} rules pace asked all before came after =
     × (came ≡ conversations_of rounds)
     × (IsOver last after ⊎ IsUnending rules pace asked last after)
 
--- The rounds end before that: memory is wanting, or no socket was opened for one.
+-- These logs aren't opened beside one another: no socket was opened as this is asked; or memory is wanting, before one
+-- is asked for, or behind what their devices were asked over one that was closed then.
+abbrev pub EndsRoundOf : {S P C : Type 0} → SocketRules S P → Pace C → Asked → List Opening → S → S → NotDone → Type 0
+EndsRoundOf rules pace asked firsts before after fault = IsUnopened rules asked before after fault
+    ⊎ (WantsMemory fault × StopsHearing rules pace (openings_of asked firsts) before after)
+
+-- No round is made: memory is wanting, and nothing is done; or the first logs of the devices aren't opened, of which
+-- there are two or more.
+abbrev pub EndsRound : {S P C : Type 0} → SocketRules S P → Pace C → Asked → Stage S → S → NotDone → Type 0
+EndsRound rules pace asked last after fault = (WantsMemory fault × (after ≡ last.sockets))
+    ⊎ ((2 ≤ devices_of last.left) × EndsRoundOf rules pace asked (parts_of last.left).firsts last.sockets after fault)
+
+-- the rounds end before that: some were made, and the next one isn't
 abbrev pub EndsAhead : {S P C : Type 0} → SocketRules S P → Pace C → Asked → List Opening → S → S → NotDone →
     Type 0
-EndsAhead {S = S} rules pace asked all before after fault = WantsMemory fault
-    ⊎ ((rounds : List (List Opened)) × (last : Stage S)
-    × Chain (IsRound rules pace asked) (stage before all) rounds last
-    × (2 ≤ devices_of last.left) × IsUnopened rules asked last.sockets after fault)
+EndsAhead {S = S} rules pace asked all before after fault =
+    (rounds : List (List Opened)) × (last : Stage S) × Chain (IsRound rules pace asked) (stage before all) rounds last
+    × EndsRound rules pace asked last after fault

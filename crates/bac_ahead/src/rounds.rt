@@ -4,9 +4,8 @@ ghost use Rattle.std.specs.Prelude.{◌≡◌, ◌++◌, IfErr, IfNone, IfOk, If
 ghost use Rattle.std.specs.Prelude.{List};
 ghost use Rattle.bac_hearing.specs.Hearing.{FailsToHear, HearsAll, paced};
 ghost use Rattle.bac_ports.specs.Sockets.{socket_rules};
-ghost use Rattle.bac_questions.specs.Faults.{EndsAsking};
-ghost use Rattle.bac_ahead.specs.Rounds.{AsksAhead, EndsAhead, IsRoundOf, left_of, openings_of};
-ghost use Rattle.bac_ahead.specs.Rounds.{parts, peers_of, stage};
+ghost use Rattle.bac_ahead.specs.Rounds.{AsksAhead, EndsAhead, EndsRoundOf, IsRoundOf, left_of};
+ghost use Rattle.bac_ahead.specs.Rounds.{openings_of, parts, peers_of, stage};
 ghost use Rattle.bac_ahead.specs.declared.opening.Opened.{Opened as OpenedOf};
 
 use crate::opening::{Opened, Opening};
@@ -39,8 +38,9 @@ where
         (socket_rules S.opens S.closes S.Socket.sends S.Socket.receives S.Socket.receives_within)
         (paced C.reads clock window) (openings_of asked.now firsts.now) sockets.old sockets.new
         NotHeard.Unfinished)) }
-    ensures fault { IfErr result (EndsAsking (socket_rules S.opens S.closes S.Socket.sends
-        S.Socket.receives S.Socket.receives_within) asked.now sockets.old sockets.new) }
+    ensures fault { IfErr result (EndsRoundOf (socket_rules S.opens S.closes S.Socket.sends
+        S.Socket.receives S.Socket.receives_within) (paced C.reads clock window) asked.now
+        firsts.now sockets.old sockets.new) }
 {
     let Ok(peers) = peers_of(alloc, firsts) else {
         return Err(NotDone::Asking(Fault::Memory));
@@ -116,8 +116,9 @@ where
         (paced C.reads clock window) (openings_of asked.now split.firsts.items) sockets.old
         sockets.new NotHeard.Unfinished
         × (came.new.items ≡ came.old.items))) }
-    ensures fault { IfErr result (EndsAsking (socket_rules S.opens S.closes S.Socket.sends
-        S.Socket.receives S.Socket.receives_within) asked.now sockets.old sockets.new) }
+    ensures fault { IfErr result (EndsRoundOf (socket_rules S.opens S.closes S.Socket.sends
+        S.Socket.receives S.Socket.receives_within) (paced C.reads clock window) asked.now
+        split.firsts.items sockets.old sockets.new) }
 {
     let Split { firsts, rest } = split;
     let Some(endings) = hear(sockets, alloc, clock, window, asked, firsts.as_slice())? else {

@@ -1,3 +1,4 @@
 pub mod Stands
 pub mod Hands
 pub mod Starts
+pub mod Stopped

@@ -10,6 +10,7 @@ ghost use Rattle.bac_begin.specs.Hands.{steps_of};
 ghost use Rattle.bac_begin.specs.Starts.{BeginsWith, GoesOn, asks_oldest_next, at_start};
 ghost use Rattle.bac_begin.specs.Starts.{first_answers};
 ghost use Rattle.bac_keep.specs.Rising.{room};
+ghost use Rattle.bac_begin.specs.Stopped.{AsksUpTo};
 
 use crate::hands::Hand;
 use crate::starting::Start;
@@ -61,6 +62,9 @@ fn take_answer<L: LogLink>(
     ensures takes { IfOk result (λ hand. TakesAnswer L.asks (room place free)
         (client link.old transactions.old) walk hand (client link.new transactions.new)) }
     ensures fault { IfErr result WantsMemory }
+    ensures log { IfOk result (λ hand. IfOk hand (λ h. h.walk.log ≡ walk.log)) }
+    ensures asks { AsksUpTo L.asks walk.log 1 (client link.old transactions.old)
+        (client link.new transactions.new) }
 {
     match gather_answer(alloc, link, transactions, &mut walk, place, free) {
         Ok(gathered) => {
@@ -158,6 +162,9 @@ fn take_more<L: LogLink>(
     ensures takes { IfOk result (λ all. TakesMore L.asks (client link.old transactions.old) hand all
         (client link.new transactions.new)) }
     ensures fault { IfErr result WantsMemory }
+    ensures log { IfOk result (λ all. all.walk.log ≡ hand.walk.log) }
+    ensures asks { AsksUpTo L.asks hand.walk.log 1 (client link.old transactions.old)
+        (client link.new transactions.new) }
 {
     let walk = hand.walk.copy();
     let place = hand.gathered.place;
@@ -181,6 +188,9 @@ fn take_second<L: LogLink>(
     ensures goes { IfOk result (λ all. GoesAhead L.asks (client link.old transactions.old) hand
         steps StepLimit (Ok all) (client link.new transactions.new)) }
     ensures fault { IfErr result WantsMemory }
+    ensures log { IfOk result (λ all. all.walk.log ≡ hand.walk.log) }
+    ensures asks { AsksUpTo L.asks hand.walk.log 1 (client link.old transactions.old)
+        (client link.new transactions.new) }
 {
     if may_take_more(steps) {
         take_more(alloc, link, transactions, hand)
@@ -202,6 +212,9 @@ fn go_ahead<L: LogLink>(
     ensures goes { IfOk result (λ ahead. GoesAhead L.asks (client link.old transactions.old) hand
         steps hand.gathered.step.ended ahead (client link.new transactions.new)) }
     ensures fault { IfErr result WantsMemory }
+    ensures log { IfOk result (λ ahead. IfOk ahead (λ h. h.walk.log ≡ hand.walk.log)) }
+    ensures asks { AsksUpTo L.asks hand.walk.log 1 (client link.old transactions.old)
+        (client link.new transactions.new) }
 {
     match hand.gathered.step.ended {
         Ended::Fault(fault) => Ok(Err(Ending::Walk(Why::Fault(fault)))),
@@ -226,6 +239,9 @@ pub(crate) fn look_ahead<L: LogLink>(
     ensures looks { IfOk result (λ ahead. LooksAhead L.asks (room place free)
         (client link.old transactions.old) walk steps ahead (client link.new transactions.new)) }
     ensures fault { IfErr result WantsMemory }
+    ensures log { IfOk result (λ ahead. IfOk ahead (λ h. h.walk.log ≡ walk.log)) }
+    ensures asks { AsksUpTo L.asks walk.log 2 (client link.old transactions.old)
+        (client link.new transactions.new) }
 {
     match take_answer(alloc, link, transactions, walk, place, free)? {
         Ok(hand) => go_ahead(alloc, link, transactions, hand, steps),
@@ -259,6 +275,8 @@ pub(crate) fn go_on<L: LogLink>(
     ensures goes { IfOk result (λ begun. GoesOn L.asks (client link.old transactions.old)
         (first_answers hand seen) (at_start begun (client link.new transactions.new))) }
     ensures fault { IfErr result WantsMemory }
+    ensures stops { IfErr result (λ _. AsksUpTo L.asks hand.walk.log 1
+        (client link.old transactions.old) (client link.new transactions.new)) }
 {
     if asks_oldest_next(seen, hand.gathered.step.ended) {
         let all = take_more(alloc, link, transactions, hand)?;

@@ -11,6 +11,7 @@ ghost use Rattle.bac_query.specs.Tables.{client};
 ghost use Rattle.bac_asked.specs.Faults.{WantsMemory};
 ghost use Rattle.bac_begin.specs.Hands.{row_of_span, rows_of_span, log_asked};
 ghost use Rattle.bac_begin.specs.Starts.{IsEither, OpensBehind, gap_up_to, at_start};
+ghost use Rattle.bac_begin.specs.Stopped.{AsksUpTo};
 
 use crate::hands::{Hand, take_step_at};
 use crate::stands::{Stand, last_kept, number_behind};
@@ -194,6 +195,8 @@ pub(crate) fn begin_either<L: LogLink>(
         (log_asked log many) stand.now from oldest
         (at_start begun (client link.new transactions.new))) }
     ensures fault { IfErr result WantsMemory }
+    ensures stops { IfErr result (λ _. AsksUpTo L.asks log 1
+        (client link.old transactions.old) (client link.new transactions.new)) }
 {
     let next = number_behind(last_kept(stand).number);
     let Some(missing) = missing_up_to(from, next, oldest) else {

@@ -5,6 +5,7 @@ ghost use Rattle.bac_query.specs.Tables.{client};
 ghost use Rattle.bac_asked.specs.Faults.{WantsMemory};
 ghost use Rattle.bac_begin.specs.Hands.{Steps, StepsAt, log_asked};
 ghost use Rattle.bac_keep.specs.Rising.{room};
+ghost use Rattle.bac_begin.specs.Stopped.{AsksUpTo};
 
 use bac_asked::{Ending, Fault, NotDone};
 use bac_keep::{Gathered, Place, Refusal, gather};
@@ -38,6 +39,8 @@ pub(crate) fn take_step<L: LogLink>(
     ensures steps { IfOk result (λ hand. Steps L.asks (room place free)
         (client link.old transactions.old) walk hand (client link.new transactions.new)) }
     ensures fault { IfErr result WantsMemory }
+    ensures asks { AsksUpTo L.asks walk.log 1 (client link.old transactions.old)
+        (client link.new transactions.new) }
 {
     match gather(alloc, link, transactions, &mut walk, place, free) {
         Ok(gathered) => match gathered.step.ended {
@@ -71,6 +74,8 @@ pub(crate) fn take_step_at<L: LogLink>(
     ensures steps { IfOk result (λ hand. StepsAt L.asks place (client link.old transactions.old)
         (log_asked log many) number hand (client link.new transactions.new)) }
     ensures fault { IfErr result WantsMemory }
+    ensures asks { AsksUpTo L.asks log 1 (client link.old transactions.old)
+        (client link.new transactions.new) }
 {
     match Walk::from_number(log, number) {
         Some(walk) => {

@@ -6,6 +6,7 @@ ghost use Rattle.bac_asked.specs.Faults.{WantsMemory};
 ghost use Rattle.bac_begin.specs.Starts.{ByCount, ByCourse, BySeen, CountsWhere, asks_count};
 ghost use Rattle.bac_begin.specs.Starts.{counted, run_log, at_start, log_at, first_answers};
 ghost use Rattle.bac_begin.specs.Hands.{log_asked};
+ghost use Rattle.bac_begin.specs.Stopped.{AsksUpTo};
 
 use crate::behind::go_on;
 use crate::either::begin_either;
@@ -43,6 +44,8 @@ fn start_by<L: LogLink>(
         course
         (at_start begun (client link.new transactions.new))) }
     ensures fault { IfErr result WantsMemory }
+    ensures stops { hand.walk.log ≡ log → IfErr result (λ _. AsksUpTo L.asks log 2
+        (client link.old transactions.old) (client link.new transactions.new)) }
 {
     match course {
         Course::GoOn => go_on(alloc, link, transactions, hand, seen),
@@ -90,6 +93,8 @@ fn start_counted<L: LogLink>(
         count
         (at_start begun (client link.new transactions.new))) }
     ensures fault { IfErr result WantsMemory }
+    ensures stops { hand.walk.log ≡ log → IfErr result (λ _. AsksUpTo L.asks log 2
+        (client link.old transactions.old) (client link.new transactions.new)) }
 {
     if count == Count::Lost {
         return Ok(Err(none_behind(stand, Ending::Walk(Why::Fault(WalkFault::Lost)))));
@@ -132,6 +137,8 @@ fn count_where<L: LogLink>(
     ensures route { transactions.new.route ≡ transactions.old.route }
     ensures counts { CountsWhere L.asks (client link.old transactions.old) log decides result
         (client link.new transactions.new) }
+    ensures asks { AsksUpTo L.asks log 1 (client link.old transactions.old)
+        (client link.new transactions.new) }
 {
     if decides {
         read_count(link, transactions, log)
@@ -161,6 +168,8 @@ pub(crate) fn start_seen<L: LogLink>(
         (log_at (run_log id (log_asked log many)) stand.now from) word hand found
         (at_start begun (client link.new transactions.new))) }
     ensures fault { IfErr result WantsMemory }
+    ensures stops { hand.walk.log ≡ log → IfErr result (λ _. AsksUpTo L.asks log 3
+        (client link.old transactions.old) (client link.new transactions.new)) }
 {
     let seen = match found {
         Ok(seen) => seen,

@@ -10,6 +10,7 @@ ghost use Rattle.bac_begin.specs.Starts.{AsksBeginning, BeginsBy, ByHand, FindsB
 ghost use Rattle.bac_begin.specs.Starts.{IsAnew, IsFirst, KeepsNone, OpensFirst, OpensWith, log_at};
 ghost use Rattle.bac_begin.specs.Starts.{StartsNew, next_from, run_log, at_start};
 ghost use Rattle.bac_begin.specs.Hands.{log_asked};
+ghost use Rattle.bac_begin.specs.Stopped.{AsksUpTo};
 
 use crate::behind::look_ahead;
 use crate::hands::{Hand, take_step, take_step_at};
@@ -91,6 +92,8 @@ fn begin_first<L: LogLink>(
         (run_log id (log_asked log many)) number
         (at_start begun (client link.new transactions.new))) }
     ensures fault { IfErr result WantsMemory }
+    ensures stops { IfErr result (λ _. AsksUpTo L.asks log 1
+        (client link.old transactions.old) (client link.new transactions.new)) }
 {
     let (Some(place), Some(walk)) = (Place::new(id, 0), Walk::oldest(log)) else {
         unreachable!()
@@ -122,6 +125,8 @@ fn start_first<L: LogLink>(
         (run_log id (log_asked log many)) count
         (at_start begun (client link.new transactions.new))) }
     ensures fault { IfErr result WantsMemory }
+    ensures stops { IfErr result (λ _. AsksUpTo L.asks log 1
+        (client link.old transactions.old) (client link.new transactions.new)) }
 {
     match count {
         Count::Told(count) => {
@@ -162,6 +167,8 @@ fn ask_beginning<L: LogLink>(
     ensures route { transactions.new.route ≡ transactions.old.route }
     ensures asks { AsksBeginning L.asks (client link.old transactions.old) (log_asked log many)
         result (client link.new transactions.new) }
+    ensures once { AsksUpTo L.asks log 1 (client link.old transactions.old)
+        (client link.new transactions.new) }
 {
     let Some(walk) = Walk::oldest(log) else {
         unreachable!()
@@ -188,6 +195,8 @@ pub(crate) fn find_beginning<L: LogLink>(
     ensures route { transactions.new.route ≡ transactions.old.route }
     ensures finds { FindsBeginning L.asks (client link.old transactions.old) (log_asked log many)
         seen count result (client link.new transactions.new) }
+    ensures asks { AsksUpTo L.asks log 1 (client link.old transactions.old)
+        (client link.new transactions.new) }
 {
     match (seen, count) {
         (Seen::Nothing, Count::Told(count)) => Ok(beginning_of(number_behind(count))),
@@ -213,6 +222,8 @@ fn begin_anew<L: LogLink>(
         (run_log id (log_asked log many)) stand.now (Ok number)
         (at_start begun (client link.new transactions.new))) }
     ensures fault { IfErr result WantsMemory }
+    ensures stops { IfErr result (λ _. AsksUpTo L.asks log 1
+        (client link.old transactions.old) (client link.new transactions.new)) }
 {
     let Some(place) = Place::new(id, epoch_of(stand).saturating_add(1)) else {
         return Ok(Err(none_behind(stand, Ending::Epochs)));
@@ -245,6 +256,8 @@ pub(crate) fn start_anew<L: LogLink>(
         (run_log id (log_asked log many)) stand.now found
         (at_start begun (client link.new transactions.new))) }
     ensures fault { IfErr result WantsMemory }
+    ensures stops { IfErr result (λ _. AsksUpTo L.asks log 1
+        (client link.old transactions.old) (client link.new transactions.new)) }
 {
     match found {
         Ok(number) => begin_anew(alloc, link, transactions, id, log, many, stand, number),
@@ -267,6 +280,8 @@ fn look_behind<L: LogLink>(
     ensures looks { IfOk result (λ found. LooksBy L.asks (client link.old transactions.old)
         (sought log many (kept_last stand.now)) found (client link.new transactions.new)) }
     ensures fault { IfErr result WantsMemory }
+    ensures asks { AsksUpTo L.asks log 2 (client link.old transactions.old)
+        (client link.new transactions.new) }
 {
     match look_for(alloc, link, transactions, log, many, last_kept(stand)) {
         Ok(found) => Ok(found),
@@ -294,6 +309,8 @@ fn start_behind<L: LogLink>(
         (log_at (run_log id (log_asked log many)) stand.now from) word hand
         (at_start begun (client link.new transactions.new))) }
     ensures fault { IfErr result WantsMemory }
+    ensures stops { IfOk hand (λ h. h.walk.log ≡ log) → IfErr result (λ _. AsksUpTo L.asks log 5
+        (client link.old transactions.old) (client link.new transactions.new)) }
 {
     let hand = match hand {
         Ok(hand) => hand,
@@ -346,6 +363,8 @@ fn start_from<L: LogLink>(
         (run_log id (log_asked log many)) word stand.now steps
         (at_start begun (client link.new transactions.new))) }
     ensures fault { IfErr result WantsMemory }
+    ensures stops { IfErr result (λ _. AsksUpTo L.asks log 7
+        (client link.old transactions.old) (client link.new transactions.new)) }
 {
     let Some((from, free)) = from_there(id, stand) else {
         return Ok(Err(none_behind(stand, Ending::Epochs)));
@@ -385,6 +404,9 @@ pub fn start_at<L: LogLink>(
         (run_log id (log_asked log many)) (word_at stand.now word) stand.now steps
         (at_start begun (client link.new transactions.new))) }
     ensures fault { IfErr result WantsMemory }
+    // Where memory is wanting, too, nothing was asked but for this log.
+    ensures stops { IfErr result (λ _. AsksUpTo L.asks log 7
+        (client link.old transactions.old) (client link.new transactions.new)) }
 {
     let told = word_at(stand, word);
     start_from(alloc, link, transactions, id, log, many, told, stand, steps)
@@ -406,6 +428,8 @@ pub fn start_new<L: LogLink>(
     ensures starts { IfOk result (λ begun. StartsNew L.asks (client link.old transactions.old)
         (run_log id (log_asked log many)) (at_start begun (client link.new transactions.new))) }
     ensures fault { IfErr result WantsMemory }
+    ensures stops { IfErr result (λ _. AsksUpTo L.asks log 2
+        (client link.old transactions.old) (client link.new transactions.new)) }
 {
     let count = read_count(link, transactions, log);
     start_first(alloc, link, transactions, id, log, many, count)

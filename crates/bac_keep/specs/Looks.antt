@@ -1,5 +1,5 @@
 -- What a device still holds of a log, by the record of it that was kept last.
-use Rattle.std.specs.Prelude.{◌≡◌, ℕ, ◌<◌, ◌==◌, ◌&&◌, not, Bool, if◌then◌else◌, List, [], ◌∷◌, Result, Ok, Err}
+use Rattle.std.specs.Prelude.{◌≡◌, ◌⊎◌, ℕ, ◌<◌, ◌==◌, ◌&&◌, not, Bool, if◌then◌else◌, List, [], ◌∷◌, Result, Ok, Err}
 use Rattle.std.specs.List.{list_any}
 use Rattle.std.specs.Str.{bytes_eq}
 use Rattle.std.specs.Ordering.{is_lt, nat_cmp}
@@ -125,6 +125,16 @@ LooksBy {S = S} asks old it seen new =
     × (AsksOldest answer →
     CameToBy asks mid half (asking it.count (walk_from_oldest it.log)) oldest new.transactions new.link)
     × ((AsksOldest answer → ⊥) → (new.transactions ≡ mid) × (new.link ≡ half)))
+
+-- It was looked for, whatever was seen: the first step was asked for; or behind that, as none was found from there on,
+-- the one for the oldest records.
+abbrev pub LooksInVain : {S : Type 0} → Ask S → Client S → Sought → Client S → Type 0
+LooksInVain {S = S} asks old it new =
+    (answer : Result Step WalkFault) × (mid : Transactions) × (half : S)
+    × CameToBy asks old.transactions old.link (asking it.count (walk_at it.log it.kept.number)) answer mid half
+    × (((new.transactions ≡ mid) × (new.link ≡ half))
+    ⊎ (AsksOldest answer × (oldest : Result Step WalkFault)
+    × CameToBy asks mid half (asking it.count (walk_from_oldest it.log)) oldest new.transactions new.link))
 
 -- what was looked for by such transactions was looked for over the link
 abbrev pub TransactedIsLooked : {S : Type 0} → (S → List ℕ → Result (List ℕ) Loss → S → Type 0) → Type 0

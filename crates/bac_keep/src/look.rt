@@ -1,13 +1,14 @@
 //! What a device still holds of a log, by the record of it that was kept last.
 
-ghost use Rattle.std.specs.Prelude.{◌≡◌, ◌≤◌, ◌<◌, Result, Ok, IfOk};
+ghost use Rattle.std.specs.Prelude.{◌≡◌, ◌≤◌, ◌<◌, Result, Ok, IfErr, IfOk};
 ghost use Rattle.bac_link.specs.Path.{towards};
 ghost use Rattle.bac_link.specs.Exchanges.{client};
 ghost use Rattle.bac_walk.specs.Place.{asking, walk_at, walk_from_oldest};
 ghost use Rattle.bac_walk.specs.declared.outcome.Step.{Step as StepOf};
 ghost use Rattle.bac_walk.specs.declared.outcome.WalkFault.{WalkFault as FaultOf};
 ghost use Rattle.bac_keep.specs.Looks.{AsksOldest, CameTo, CameToBy, IsSeen, IsSeenBy, IsSeenLast};
-ghost use Rattle.bac_keep.specs.Looks.{LooksBy, is_before, is_dated, is_held_as, seen_by, sought};
+ghost use Rattle.bac_keep.specs.Looks.{LooksBy, LooksInVain, is_before, is_dated, is_held_as};
+ghost use Rattle.bac_keep.specs.Looks.{seen_by, sought};
 
 use crate::courses::is_ahead;
 use crate::texts::{datum_of, flags_of, stamp_of};
@@ -81,6 +82,14 @@ pub fn look_for<L: LogLink>(
           flags = last.entry.flags.now;
         })) seen
         (client link.new transactions.new)) }
+    // Where memory is wanting for what came, nothing else was asked either.
+    ensures stopped { IfErr result (λ _. LooksInVain L.asks (client link.old transactions.old)
+        (sought log count (record {
+          number = last.entry.number;
+          stamp = last.entry.stamp.now;
+          datum = last.entry.datum.now;
+          flags = last.entry.flags.now;
+        })) (client link.new transactions.new)) }
 {
     let Some(walk) = Walk::from_number(log, last.number) else {
         return Ok(Ok(Seen::Another));
@@ -122,6 +131,9 @@ fn look_at_oldest<L: LogLink>(
           datum = last.entry.datum.now;
           flags = last.entry.flags.now;
         }) oldest seen
+        × CameToBy L.asks transactions.old link.old (asking count (walk_from_oldest log)) oldest
+        transactions.new link.new) }
+    ensures stopped { IfErr result (λ _. (oldest : Result StepOf FaultOf)
         × CameToBy L.asks transactions.old link.old (asking count (walk_from_oldest log)) oldest
         transactions.new link.new) }
 {

@@ -5,15 +5,14 @@ use denote.Ref.{Bor}
 use Rattle.bac_asked.specs.declared.end.NotDone.{NotDone}
 use Rattle.bac_asked.specs.declared.wanted.Wanted.{Wanted}
 use Rattle.bac_hearing.specs.Hearing.{FailsToHear, HearsAll, Pace, inquiring}
-use Rattle.bac_hearing.specs.declared.hearing.NotHeard.TheVariants.{Unfinished}
+use Rattle.bac_hearing.specs.declared.hearing.NotHeard.{NotHeard}
 use Rattle.bac_jobs.specs.declared.job.Ending.{Ending}
 use Rattle.bac_ports.specs.Sockets.{SocketRules}
-use Rattle.bac_questions.specs.Faults.{EndsAsking}
 use Rattle.bac_questions.specs.Silent.{is_same_device}
 use Rattle.bac_archive.specs.declared.trend_logs.Source.{Source}
 use Rattle.bac_recall.specs.declared.conversations.Conversation.{Conversation}
 use Rattle.bac_words.specs.declared.job.Asked.{Asked}
-use Rattle.bac_listing.specs.Devices.{AreHeard, EndsLists, ListsAhead, ListsAll, Unending, is_among, jobs_of, listed, peers_of, questions_of, with_device}
+use Rattle.bac_listing.specs.Devices.{AreHeard, EndsAll, EndsLists, ListsAhead, ListsAll, is_among, jobs_of, listed, listings_of, peers_of, questions_of, with_device}
 use Rattle.bac_listing.specs.Listing.{Plays, listing_of}
 use Rattle.bac_listing.specs.declared.listing.Came.{Came}
 use Rattle.bac_listing.specs.declared.listing.Listing.{Listing}
@@ -63,16 +62,16 @@ heard_all rules clock asked refs peers jobs before after ends are these heard =
     (subst (λ (j : List Listing). HearsAll rules clock (inquiring peers (work_of Plays j) asked.local asked.timeout asked.retries) before ends after)
     (these ∙ jobs_seen asked refs) heard)
 
-pub unending : {S P C : Type 0} (rules : SocketRules S P) (clock : Pace C) (asked : Asked) (refs : List (Bor Wanted)) (peers : List (List ℕ))
-    (jobs : List Listing) (before after : S) → peers ≡ map (λ (one : Bor Wanted). one.now.asking.asked.address) refs →
+pub unheard : {S P C : Type 0} (rules : SocketRules S P) (clock : Pace C) (asked : Asked) (refs : List (Bor Wanted)) (peers : List (List ℕ))
+    (jobs : List Listing) (before after : S) (why : NotHeard) → peers ≡ map (λ (one : Bor Wanted). one.now.asking.asked.address) refs →
     jobs ≡ map (λ (one : Bor Wanted). listing_of (questions_of asked.local (length refs)) one.now) refs →
-    FailsToHear rules clock (inquiring peers (work_of Plays jobs) asked.local asked.timeout asked.retries) before after Unfinished →
-    Unending rules clock asked (map now_of refs) before after
-unending rules clock asked refs peers jobs before after are these fails =
+    FailsToHear rules clock (inquiring peers (work_of Plays jobs) asked.local asked.timeout asked.retries) before after why →
+    FailsToHear rules clock (listings_of asked (map now_of refs)) before after why
+unheard rules clock asked refs peers jobs before after why are these fails =
     subst (λ (p : List (List ℕ)). FailsToHear rules clock (inquiring p (work_of Plays (jobs_of asked (map now_of refs))) asked.local asked.timeout asked.retries) before
-    after Unfinished)
+    after why)
     (are ∙ peers_seen refs)
-    (subst (λ (j : List Listing). FailsToHear rules clock (inquiring peers (work_of Plays j) asked.local asked.timeout asked.retries) before after Unfinished)
+    (subst (λ (j : List Listing). FailsToHear rules clock (inquiring peers (work_of Plays j) asked.local asked.timeout asked.retries) before after why)
     (these ∙ jobs_seen asked refs) fails)
 
 -- two or more are asked as the first one is
@@ -86,9 +85,10 @@ many rules clock (x ∷ y ∷ more) first came silent before after two is all =
     subst (λ (r : Bor Wanted). ListsAll rules clock r.now.asking.asked (map now_of (x ∷ y ∷ more)) before (listed came silent) after) is all
 
 -- nor are they if it isn't
-pub fails : {S P : Type 0} (rules : SocketRules S P) (refs : List (Bor Wanted)) (first : Bor Wanted) (before after : S) (why : NotDone) →
-    2 ≤ length refs → first ≡ get_or refs 0 first → EndsAsking rules first.now.asking.asked before after why → EndsLists rules (map now_of refs) before after why
-fails rules [] first before after why two is ends = absurd (omega (arith, two))
-fails rules (x ∷ []) first before after why two is ends = absurd (omega (arith, two))
-fails rules (x ∷ y ∷ more) first before after why two is ends =
-    subst (λ (r : Bor Wanted). EndsAsking rules r.now.asking.asked before after why) is ends
+pub fails : {S P C : Type 0} (rules : SocketRules S P) (clock : Pace C) (refs : List (Bor Wanted)) (first : Bor Wanted) (before after : S) (why : NotDone) →
+    2 ≤ length refs → first ≡ get_or refs 0 first → EndsAll rules clock first.now.asking.asked (map now_of refs) before after why
+    → EndsLists rules clock (map now_of refs) before after why
+fails rules clock [] first before after why two is ends = absurd (omega (arith, two))
+fails rules clock (x ∷ []) first before after why two is ends = absurd (omega (arith, two))
+fails rules clock (x ∷ y ∷ more) first before after why two is ends =
+    subst (λ (r : Bor Wanted). EndsAll rules clock r.now.asking.asked (map now_of (x ∷ y ∷ more)) before after why) is ends

@@ -3,14 +3,15 @@ use Rattle.std.specs.Prelude.{◌≡◌, ◌⊎◌, ◌&&◌, not, ℕ, ◌/◌,
 use Rattle.std.specs.Prelude.{if◌then◌else◌, length, map, Option, is_some}
 use Rattle.std.specs.List.{list_any}
 use Rattle.bac_archive.specs.declared.trend_logs.Source.{Source}
+use Rattle.bac_asked.specs.Faults.{WantsMemory}
 use Rattle.bac_asked.specs.declared.end.NotDone.{NotDone}
 use Rattle.bac_asked.specs.declared.wanted.Wanted.{Wanted}
-use Rattle.bac_hearing.specs.Hearing.{FailsToHear, HearsAll, Inquiry, Pace, inquiring}
+use Rattle.bac_hearing.specs.Hearing.{FailsToHear, HearsAll, Inquiry, Pace, StopsHearing, inquiring}
 use Rattle.bac_hearing.specs.declared.hearing.NotHeard.TheVariants.{Unfinished}
 use Rattle.bac_jobs.specs.Wanted.{work_of}
 use Rattle.bac_jobs.specs.declared.job.Ending.{Ending}
 use Rattle.bac_ports.specs.Sockets.{SocketRules}
-use Rattle.bac_questions.specs.Faults.{EndsAsking}
+use Rattle.bac_questions.specs.Faults.{IsUnopened}
 use Rattle.bac_questions.specs.Silent.{is_same_device, is_same_log}
 use Rattle.bac_recall.specs.declared.conversations.Conversation.{Conversation}
 use Rattle.bac_words.specs.declared.job.Asked.{Asked}
@@ -96,7 +97,14 @@ ListsAhead rules pace (one ∷ two ∷ more) before lists after =
     ListsAll rules pace one.asking.asked (one ∷ two ∷ more) before lists after
 ListsAhead rules pace devices before lists after = (lists.came ≡ []) × (lists.silent ≡ []) × (after ≡ before)
 
--- They aren't asked: memory is wanting, or no socket was opened as the first of them says.
-abbrev pub EndsLists : {S P : Type 0} → SocketRules S P → List Wanted → S → S → NotDone → Type 0
-EndsLists rules (one ∷ two ∷ more) before after fault = EndsAsking rules one.asking.asked before after fault
-EndsLists rules devices before after fault = ⊥
+-- They aren't asked so, or nothing is told of it: no socket was opened as this says; or memory is wanting, before one
+-- is asked for, or behind what they were asked over one that was closed then.
+abbrev pub EndsAll : {S P C : Type 0} → SocketRules S P → Pace C → Asked → List Wanted → S → S → NotDone → Type 0
+EndsAll rules pace asked devices before after fault = IsUnopened rules asked before after fault
+    ⊎ (WantsMemory fault × StopsHearing rules pace (listings_of asked devices) before after)
+
+-- so it is of two or more, as the first of them says
+abbrev pub EndsLists : {S P C : Type 0} → SocketRules S P → Pace C → List Wanted → S → S → NotDone → Type 0
+EndsLists rules pace (one ∷ two ∷ more) before after fault =
+    EndsAll rules pace one.asking.asked (one ∷ two ∷ more) before after fault
+EndsLists rules pace devices before after fault = ⊥

@@ -5,10 +5,9 @@ ghost use Rattle.std.specs.List.{list_any};
 ghost use Rattle.bac_asked.specs.Faults.{WantsMemory};
 ghost use Rattle.bac_hearing.specs.Hearing.{paced};
 ghost use Rattle.bac_ports.specs.Sockets.{socket_rules};
-ghost use Rattle.bac_questions.specs.Faults.{EndsAsking};
 ghost use Rattle.bac_questions.specs.Silent.{is_same_device};
-ghost use Rattle.bac_listing.specs.Devices.{AreHeard, EndsLists, ListsAhead, ListsAll, Unending};
-ghost use Rattle.bac_listing.specs.Devices.{listed, questions_of, with_device};
+ghost use Rattle.bac_listing.specs.Devices.{AreHeard, EndsAll, EndsLists, ListsAhead, ListsAll};
+ghost use Rattle.bac_listing.specs.Devices.{Unending, listed, questions_of, with_device};
 ghost use Rattle.bac_listing.specs.Listing.{listing_of};
 
 use crate::listing::{Came, Listing};
@@ -114,8 +113,9 @@ where
         (socket_rules S.opens S.closes S.Socket.sends S.Socket.receives
         S.Socket.receives_within) (paced C.reads clock window) asked.now
         (map (λ one. one.now) devices.now) sockets.old sockets.new)) }
-    ensures fault { IfErr result (EndsAsking (socket_rules S.opens S.closes S.Socket.sends
-        S.Socket.receives S.Socket.receives_within) asked.now sockets.old sockets.new) }
+    ensures fault { IfErr result (EndsAll (socket_rules S.opens S.closes S.Socket.sends
+        S.Socket.receives S.Socket.receives_within) (paced C.reads clock window) asked.now
+        (map (λ one. one.now) devices.now) sockets.old sockets.new) }
 {
     let (Ok(peers), Ok(jobs)) = (peers_of(alloc, devices), jobs_of(alloc, asked, devices)) else {
         return Err(NotDone::Asking(Fault::Memory));
@@ -153,8 +153,9 @@ where
         S.Socket.receives S.Socket.receives_within) (paced C.reads clock window) asked.now
         (map (λ one. one.now) devices.now) sockets.old (listed lists.came.items lists.silent.items)
         sockets.new) }
-    ensures fault { IfErr result (EndsAsking (socket_rules S.opens S.closes S.Socket.sends
-        S.Socket.receives S.Socket.receives_within) asked.now sockets.old sockets.new) }
+    ensures fault { IfErr result (EndsAll (socket_rules S.opens S.closes S.Socket.sends
+        S.Socket.receives S.Socket.receives_within) (paced C.reads clock window) asked.now
+        (map (λ one. one.now) devices.now) sockets.old sockets.new) }
 {
     match hear(sockets, alloc, clock, window, asked, devices)? {
         Some(endings) => lists_of(alloc, devices, endings),
@@ -183,8 +184,8 @@ where
         (map (λ one. one.now) devices.now) sockets.old (listed lists.came.items lists.silent.items)
         sockets.new) }
     ensures fault { IfErr result (EndsLists (socket_rules S.opens S.closes S.Socket.sends
-        S.Socket.receives S.Socket.receives_within) (map (λ one. one.now) devices.now)
-        sockets.old sockets.new) }
+        S.Socket.receives S.Socket.receives_within) (paced C.reads clock window)
+        (map (λ one. one.now) devices.now) sockets.old sockets.new) }
 {
     let [first, _, ..] = devices else {
         return Ok(Lists::none(alloc));

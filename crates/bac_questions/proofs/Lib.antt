@@ -6,3 +6,4 @@ pub mod WhoseLemmas
 pub mod UnfoundLemmas
 pub mod PlaceLemmas
 pub mod SaidLemmas
+pub mod StoppedLemmas

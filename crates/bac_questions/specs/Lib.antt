@@ -6,3 +6,4 @@ pub mod Counts
 pub mod Silent
 pub mod Said
 pub mod Whose
+pub mod Stopped

@@ -61,12 +61,15 @@ IsRestart (Err (fault.Refused refusal)) told = told ≡ restart.Untold
 IsRestart (Err fault.BadReply) told = told ≡ restart.Untold
 IsRestart (Err fault.TooLong) told = ⊥
 
--- a device was asked for its Time_Of_Device_Restart (203, clause 12.11)
+-- the question for the Time_Of_Device_Restart of a device (203, clause 12.11)
+abbrev pub restart_asked : Id → ReadProperty
+restart_asked device = record { object = device; property = 203; index = None }
+
+-- a device was asked for that
 abbrev pub AsksRestart : {S : Type 0} → (ReadProperty → S → Result (List ℕ) ExchangeFault → S → Type 0) → S → Id
     → Restart → S → Type 0
 AsksRestart reads old device told new =
-    (answer : Result (List ℕ) ExchangeFault) × IsRestart answer told
-    × reads (record { object = device; property = 203; index = None }) old answer new
+    (answer : Result (List ℕ) ExchangeFault) × IsRestart answer told × reads (restart_asked device) old answer new
 
 -- nothing is known of a device
 abbrev pub nothing_told : Kept

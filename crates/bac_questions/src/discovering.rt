@@ -15,6 +15,8 @@ ghost use Rattle.bac_questions.specs.Faults.{EndsFinding};
 ghost use Rattle.bac_questions.specs.Unfound.{FailsBy, FailsToFind, LacksNumber, LacksObject};
 ghost use Rattle.bac_questions.specs.Unfound.{LacksOf, LacksPlace};
 ghost use Rattle.bac_ports.specs.Sockets.{socket_rules};
+ghost use Rattle.bac_questions.specs.Stopped.{StopsAmong, StopsFinding, StopsFindingBy};
+ghost use Rattle.bac_questions.specs.Stopped.{StopsObject, StopsOf, StopsPlace, WasAsked};
 ghost use Rattle.bac_asked.specs.Wanted.{AsksItsSource, IsAskedAs, IsSourceOf};
 ghost use Rattle.bac_questions.specs.Silent.{is_same_device};
 
@@ -131,6 +133,9 @@ impl<L: LogLink> Station<L> {
             (client self.old.link self.old.transactions) name
             (client self.new.link self.new.transactions)) }
         ensures fault { IfErr result WantsMemory }
+        ensures stops { IfErr result (λ _. WasAsked (Questions L.asks) (name_of object)
+            (client self.old.link self.old.transactions)
+            (client self.new.link self.new.transactions)) }
         ensures address { self.new.address ≡ self.old.address }
     {
         match read(
@@ -223,6 +228,9 @@ fn wanted_of<L: LogLink>(
         (client device.old.link device.old.transactions) wanted.name
         (client device.new.link device.new.transactions)) }
     ensures fault { IfErr result WantsMemory }
+    ensures stops { IfErr result (λ _. WasAsked (Questions L.asks) (name_of object)
+        (client device.old.link device.old.transactions)
+        (client device.new.link device.new.transactions)) }
     ensures address { device.new.address ≡ device.old.address }
 {
     let name = device.name(alloc, object)?;
@@ -252,6 +260,9 @@ fn add_object<L: LogLink>(
         (client device.old.link device.old.transactions) all.old.items all.new.items
         (client device.new.link device.new.transactions)) }
     ensures fault { IfErr result WantsMemory }
+    ensures stops { IfErr result (λ _. StopsObject (Questions L.asks) object
+        (client device.old.link device.old.transactions)
+        (client device.new.link device.new.transactions)) }
     ensures address { device.new.address ≡ device.old.address }
 {
     if object.kind() != TREND_LOG {
@@ -277,7 +288,9 @@ fn add_listed<L: LogLink>(
     ensures finds { IfOk result (λ all. FindsTo (Questions L.asks) count
         (client device.old.link device.old.transactions) all.items
         (client device.new.link device.new.transactions)) }
-    ensures lacks { IfErr result (λ fault. WantsMemory fault
+    ensures lacks { IfErr result (λ fault. (WantsMemory fault × StopsPlace (Questions L.asks) count
+        (client device.old.link device.old.transactions)
+        (client device.new.link device.new.transactions))
         ⊎ ((why : _) × (fault ≡ NotDone.Asking (Fault.Exchange device.old.address why))
         × LacksPlace (Questions L.asks) count (client device.old.link device.old.transactions) why
         (client device.new.link device.new.transactions))) }
@@ -306,6 +319,9 @@ fn add_among<L: LogLink>(
         (client device.old.link device.old.transactions) all.items
         (client device.new.link device.new.transactions)) }
     ensures fault { IfErr result WantsMemory }
+    ensures stops { IfErr result (λ _. StopsAmong (Questions L.asks) values.now count
+        (client device.old.link device.old.transactions)
+        (client device.new.link device.new.transactions)) }
 {
     let mut all = Vec::new(alloc);
     for place in 0..count {
@@ -333,7 +349,9 @@ fn add_all<L: LogLink>(
     ensures finds { IfOk result (λ all. FindsOf (Questions L.asks) count
         (client device.old.link device.old.transactions) all.items
         (client device.new.link device.new.transactions)) }
-    ensures lacks { IfErr result (λ fault. WantsMemory fault
+    ensures lacks { IfErr result (λ fault. (WantsMemory fault × StopsOf (Questions L.asks) count
+        (client device.old.link device.old.transactions)
+        (client device.new.link device.new.transactions))
         ⊎ ((why : _) × (fault ≡ NotDone.Asking (Fault.Exchange device.old.address why))
         × LacksOf (Questions L.asks) count (client device.old.link device.old.transactions) why
         (client device.new.link device.new.transactions))) }
@@ -357,7 +375,9 @@ fn find_all<L: LogLink>(
     ensures finds { IfOk result (λ all. Finds (Questions L.asks)
         (client device.old.link device.old.transactions) all.items
         (client device.new.link device.new.transactions)) }
-    ensures lacks { IfErr result (λ fault. WantsMemory fault
+    ensures lacks { IfErr result (λ fault. (WantsMemory fault × StopsFinding (Questions L.asks)
+        (client device.old.link device.old.transactions)
+        (client device.new.link device.new.transactions))
         ⊎ ((why : _) × (fault ≡ NotDone.Asking (Fault.Exchange device.old.address why))
         × FailsToFind (Questions L.asks) (client device.old.link device.old.transactions) why
         (client device.new.link device.new.transactions))) }
@@ -382,7 +402,8 @@ pub fn find_logs<L: LogLink>(
         (λ all. All (λ wanted. IsAskedAs like.now wanted.asking) all.items) }
     ensures finds { IfOk result.0
         (λ all. FindsBy L.asks (client link transactions) all.items result.1) }
-    ensures lacks { IfErr result.0 (λ fault. WantsMemory fault
+    ensures lacks { IfErr result.0 (λ fault. (WantsMemory fault
+        × StopsFindingBy L.asks (client link transactions) result.1)
         ⊎ ((why : _) × (fault ≡ NotDone.Asking (Fault.Exchange like.now.asked.address why))
         × FailsBy L.asks (client link transactions) why result.1)) }
 {

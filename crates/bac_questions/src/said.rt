@@ -9,6 +9,7 @@ ghost use Rattle.bac_query.specs.Tables.{Questions, client};
 ghost use Rattle.bac_questions.specs.Said.{AsksRestart, Identifies, IsIdentity, IsRestart, Says};
 ghost use Rattle.bac_questions.specs.Said.{SaysBehind, SaysMore, TellsDevice, copies, itself_asked};
 ghost use Rattle.bac_questions.specs.Said.{itself_of, nothing_told, says_all, silent};
+ghost use Rattle.bac_questions.specs.Stopped.{StopsRestart, StopsSaying};
 
 use crate::connecting::connect;
 use crate::discovering::asked_like;
@@ -104,7 +105,8 @@ fn read_identity<L: LogLink>(
     ensures says { IfOk result (λ identity. (answer : _) × IsIdentity answer identity
         × Questions L.asks itself_asked (client link.old transactions.old) answer
         (client link.new transactions.new)) }
-    ensures fault { IfErr result WantsMemory }
+    // Each device can be asked that.
+    ensures never { IfErr result (λ _. ⊥) }
 {
     let Some(itself) = ObjectId::new(DEVICE, ITSELF) else {
         return Err(NotDone::Asking(Fault::BadValue(Word::Instance)));
@@ -143,6 +145,8 @@ fn read_restart<L: LogLink>(
     ensures asks { IfOk result (λ restart. AsksRestart (Questions L.asks)
         (client link.old transactions.old) itself restart (client link.new transactions.new)) }
     ensures fault { IfErr result WantsMemory }
+    ensures stops { IfErr result (λ _. StopsRestart (Questions L.asks)
+        (client link.old transactions.old) itself (client link.new transactions.new)) }
 {
     match read(link, transactions, itself, TIME_OF_DEVICE_RESTART, None) {
         Ok(answer) => restart_in(alloc, &answer),
@@ -193,6 +197,9 @@ fn read_more<L: LogLink>(
         (client link.old transactions.old) (itself_of device) said
         (client link.new transactions.new)) }
     ensures fault { device < 4194304 → IfErr result WantsMemory }
+    ensures stops { device < 4194304 → IfErr result (λ _. StopsRestart (Questions L.asks)
+        (client link.old transactions.old) (itself_of device)
+        (client link.new transactions.new)) }
 {
     let Some(itself) = ObjectId::new(DEVICE, device) else {
         return Err(NotDone::Asking(Fault::BadValue(Word::Instance)));
@@ -214,6 +221,9 @@ pub fn read_said<L: LogLink>(
     ensures says { IfOk result (λ said. Says (Questions L.asks) (client link.old transactions.old)
         said (client link.new transactions.new)) }
     ensures fault { IfErr result WantsMemory }
+    // Then no more was asked than is said of the other end.
+    ensures stops { IfErr result (λ _. StopsSaying (Questions L.asks)
+        (client link.old transactions.old) (client link.new transactions.new)) }
 {
     match read_identity(link, transactions)? {
         Identity::Told(device) => read_more(alloc, link, transactions, device),

@@ -1,7 +1,8 @@
-use Rattle.std.proofs.Common.{◌∙◌}
+use Rattle.std.proofs.Common.{◌∙◌, inr, refl}
 use Rattle.bac_hearing.specs.Hearing.{paced}
+use Rattle.bac_hearing.specs.declared.hearing.NotHeard.TheVariants.{Memory, Unfinished}
 use Rattle.bac_ports.specs.Sockets.{socket_rules}
-use Rattle.bac_absent.proofs.Together.{hears_first, unending}
+use Rattle.bac_absent.proofs.Together.{hears_first, unheard}
 use Rattle.bac_absent.proofs.calling.begin_called.Goals as goal
 
 pub returns-in-Ok-clause-begun : goal.returns-in-Ok-clause-begun
@@ -15,5 +16,15 @@ returns-in-Ok-clause-begun g c =
 pub returns-in-Err-Unfinished-clause-unending : goal.returns-in-Err-Unfinished-clause-unending
 returns-in-Err-Unfinished-clause-unending g c =
     let over = socket_rules g.S.Sockets.opens g.S.Sockets.closes g.S.Socket.Port.sends g.S.Socket.Port.receives g.S.Socket.Port.receives_within in
-    unending over (paced g.C.Clock.reads c.args.clock c.args.window) c.args.asked.now c.args.called.now c.as_slice.result.now c.as_slice-2.result.now c.args.sockets.now
-    c.begin_all.new.sockets (c.as_slice.ensures.value ∙ c.in-Ok-Ok.ensures) (c.as_slice-2.ensures.value ∙ c.in-Ok-Ok.ensures') (rw c.in-Err-Unfinished.field-0-is at c.in-Err-Unfinished.ensures.fault)
+    unheard over (paced g.C.Clock.reads c.args.clock c.args.window) c.args.asked.now c.args.called.now c.as_slice.result.now c.as_slice-2.result.now c.args.sockets.now
+    c.begin_all.new.sockets Unfinished (c.as_slice.ensures.value ∙ c.in-Ok-Ok.ensures) (c.as_slice-2.ensures.value ∙ c.in-Ok-Ok.ensures') (rw c.in-Err-Unfinished.field-0-is at c.in-Err-Unfinished.ensures.fault)
+
+pub returns-in-Err-Memory-clause-fault : goal.returns-in-Err-Memory-clause-fault
+returns-in-Err-Memory-clause-fault g c =
+    let over = socket_rules g.S.Sockets.opens g.S.Sockets.closes g.S.Socket.Port.sends g.S.Socket.Port.receives g.S.Socket.Port.receives_within in
+    inr (
+      refl,
+      inr (unheard over (paced g.C.Clock.reads c.args.clock c.args.window) c.args.asked.now c.args.called.now c.as_slice.result.now c.as_slice-2.result.now
+          c.args.sockets.now c.begin_all.new.sockets Memory (c.as_slice.ensures.value ∙ c.in-Ok-Ok.ensures) (c.as_slice-2.ensures.value ∙ c.in-Ok-Ok.ensures')
+          (rw c.in-Err-Memory.field-0-is at c.in-Err-Memory.ensures.fault)),
+    )

@@ -6,7 +6,7 @@ use Rattle.bac_absent.proofs.calling.begin_many.Goals as goal
 pub returns-clause-fault : goal.returns-clause-fault
 returns-clause-fault g c =
     let over = socket_rules g.S.Sockets.opens g.S.Sockets.closes g.S.Socket.Port.sends g.S.Socket.Port.receives g.S.Socket.Port.receives_within in
-    fails over c.args.called.items c.as_slice.result.now c.first-item.result c.args.sockets.now c.begin_as.new.sockets c.begin_as.result c.as_slice.ensures.value
+    fails over (paced g.C.Clock.reads c.args.clock c.args.window) c.args.called.items c.as_slice.result.now c.first-item.result c.args.sockets.now c.begin_as.new.sockets c.begin_as.result c.as_slice.ensures.value
     c.in-len2-up.len_at_least c.first-item.is c.begin_as.ensures.fault
 
 pub returns-clause-called : goal.returns-clause-called

@@ -2,7 +2,7 @@ use Rattle.std.proofs.Common.{◌<◌, ◌≤◌, [], length, rules, refl, arith
 use Rattle.bac_hearing.specs.Hearing.{paced}
 use Rattle.bac_ports.specs.Sockets.{socket_rules}
 use Rattle.bac_ahead.proofs.Parted.{fewer}
-use Rattle.bac_ahead.proofs.Rounded.{fails, no_more, round_more, unending}
+use Rattle.bac_ahead.proofs.Rounded.{fails, no_more, round_more, stops, unending}
 use Rattle.bac_ahead.proofs.rounds.ask_ahead.Goals as goal
 use Rattle.bac_archive.proofs.RowsLemmas.{because}
 
@@ -46,3 +46,9 @@ loop-split-smaller g c =
     let this = rw c.in-Some.is at c.in_ok-more.ensures.round in
     let many : 2 ≤ length c.in-Ok.split.firsts.items = omega arith in
     fewer c.loop-split.left.items c.in-Some.more.items (record { firsts = c.in-Ok.split.firsts.items; rest = c.in-Ok.split.rest.items }) this.0 c.in-Ok.ensures many this.1.3
+
+pub returns-in_default-clause-fault : goal.returns-in_default-clause-fault
+returns-in_default-clause-fault g c =
+    let over = socket_rules g.S.Sockets.opens g.S.Sockets.closes g.S.Socket.Port.sends g.S.Socket.Port.receives g.S.Socket.Port.receives_within in
+    stops over (paced g.C.Clock.reads c.args.clock c.args.window) c.args.asked.now c.args.all.items c.loop-split.left.items c.args.sockets.now c.loop-split.sockets
+    c.loop-split.came.items _ c.loop-split.invariant refl

@@ -1,4 +1,7 @@
-use Rattle.std.proofs.Common.{subst}
+use Rattle.bac_keep.specs.Gathers.{yield_of}
+use Rattle.bac_begin.proofs.StoppedLemmas.{gathered, walked}
+use Rattle.bac_query.specs.Tables.{client}
+use Rattle.std.proofs.Common.{subst, refl}
 use Rattle.bac_walk.specs.Transacted.{BroughtBy, walk_by}
 use Rattle.bac_walk.specs.declared.outcome.Ended.{Ended}
 use Rattle.bac_keep.specs.Rising.{IsCause}
@@ -20,3 +23,33 @@ pub returns-in-Err-Epochs-clause-steps : goal.returns-in-Err-Epochs-clause-steps
 returns-in-Err-Epochs-clause-steps g c =
     let it = c.in-Err-Epochs.ensures.cause in
     (it.0, it.1, c.gather.new.walk, it.2, subst (λ (r : Refusal). IsCause c.args.place c.args.free it.1 r) c.in-Err-Epochs.field-0-is it.3)
+
+pub returns-in-Fault-clause-asks : goal.returns-in-Fault-clause-asks
+returns-in-Fault-clause-asks g c =
+    let old = client c.args.link.now c.args.transactions.now in
+    let new = client c.gather.new.link c.gather.new.transactions in
+    gathered g.L.LogLink.asks c.args.walk.log old new c.args.place (yield_of c.in-Ok.gathered) c.args.walk c.gather.new.walk refl c.in-Ok.ensures.transacted
+
+pub returns-in-CaughtUp-clause-asks : goal.returns-in-CaughtUp-clause-asks
+returns-in-CaughtUp-clause-asks g c =
+    let old = client c.args.link.now c.args.transactions.now in
+    let new = client c.gather.new.link c.gather.new.transactions in
+    gathered g.L.LogLink.asks c.args.walk.log old new c.args.place (yield_of c.in-Ok.gathered) c.args.walk c.gather.new.walk refl c.in-Ok.ensures.transacted
+
+pub returns-in-Err-Back-clause-asks : goal.returns-in-Err-Back-clause-asks
+returns-in-Err-Back-clause-asks g c =
+    let old = client c.args.link.now c.args.transactions.now in
+    let new = client c.gather.new.link c.gather.new.transactions in
+    walked g.L.LogLink.asks c.args.walk.log old new c.args.walk refl c.in-Err-Back.ensures.unkept
+
+pub returns-in-Err-Epochs-clause-asks : goal.returns-in-Err-Epochs-clause-asks
+returns-in-Err-Epochs-clause-asks g c =
+    let old = client c.args.link.now c.args.transactions.now in
+    let new = client c.gather.new.link c.gather.new.transactions in
+    walked g.L.LogLink.asks c.args.walk.log old new c.args.walk refl c.in-Err-Epochs.ensures.unkept
+
+pub returns-in-Err-Memory-clause-asks : goal.returns-in-Err-Memory-clause-asks
+returns-in-Err-Memory-clause-asks g c =
+    let old = client c.args.link.now c.args.transactions.now in
+    let new = client c.gather.new.link c.gather.new.transactions in
+    walked g.L.LogLink.asks c.args.walk.log old new c.args.walk refl c.in-Err-Memory.ensures.unkept

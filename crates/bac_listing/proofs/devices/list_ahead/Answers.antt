@@ -16,5 +16,5 @@ pub returns-clause-fault : goal.returns-clause-fault
 returns-clause-fault g c =
     let over = socket_rules g.S.Sockets.opens g.S.Sockets.closes g.S.Socket.Port.sends g.S.Socket.Port.receives g.S.Socket.Port.receives_within in
     IfErr-weaker c.list_as.result _ _
-    (λ fault it. fails over c.args.devices.now c.first-item.result c.args.sockets.now c.list_as.new.sockets fault c.in-len2-up.len_at_least c.first-item.is it)
+    (λ fault it. fails over (paced g.C.Clock.reads c.args.clock c.args.window) c.args.devices.now c.first-item.result c.args.sockets.now c.list_as.new.sockets fault c.in-len2-up.len_at_least c.first-item.is it)
     c.list_as.ensures.fault

@@ -1,6 +1,7 @@
-use Rattle.std.proofs.Common.{refl}
+use Rattle.std.proofs.Common.{refl, rules}
 use Rattle.bac_query.specs.Tables.{Questions, client}
 use Rattle.bac_questions.proofs.DiscoveredLemmas.{next_among}
+use Rattle.bac_archive.proofs.RowsLemmas.{because}
 use Rattle.bac_questions.proofs.discovering.add_among.Goals as goal
 
 pub loop-place-preserved : goal.loop-place-preserved
@@ -21,3 +22,18 @@ loop-place-preserved g c =
 
 pub unreachable-requires : goal.unreachable-requires
 unreachable-requires g c = let it = c.requires.1 c.loop-place.place c.loop-place-test.true in c.in_default.ensures.none refl it.0 it.1
+
+pub returns-in_err-add_object-clause-stops : goal.returns-in_err-add_object-clause-stops
+returns-in_err-add_object-clause-stops g c =
+    let was = c.loop-place.invariant in
+    let then = c.loop-place.device in
+    because c.from_residual.result c.in_err-add_object.field-0.0 _ (search rules) (
+      c.loop-place.place,
+      search rules,
+      c.loop-place.all.items,
+      client then.link then.transactions,
+      was.finds,
+      c.in-Some.object,
+      c.in-Some.ensures.found,
+      c.in_err-add_object.ensures.stops,
+    )
