@@ -90,10 +90,10 @@ module _ {S P C : Type 0} (rules : SocketRules S P) (pace : Pace C) (archive : D
       (openings, are, subst (λ (w : Wanted). AsksAhead rules pace w.asking.asked openings before came after) at asks)
 
   -- the rows aren't read, or memory is wanting
-  pub ends_on_rows : (all : List Wanted) (before after : S) (fault : NotDone) → 1 ≤ length all → FailsOnRows fault
-      → EndsOpening rules pace (knowing known heard) all (run_point before archive) after fault
-  ends_on_rows [] before after fault some fails = absurd (omega (arith, some))
-  ends_on_rows (one ∷ rest) before after fault some fails = inl fails
+  pub ends_on_rows : (all : List Wanted) (before : S) (fault : NotDone) → 1 ≤ length all → FailsOnRows fault
+      → EndsOpening rules pace (knowing known heard) all (run_point before archive) before fault
+  ends_on_rows [] before fault some fails = absurd (omega (arith, some))
+  ends_on_rows (one ∷ rest) before fault some fails = inl (fails, refl)
 
   -- or the rounds end so
   pub ends_ahead : (all : List Wanted) (first : Wanted) (openings : List Opening) (before after : S) (fault : NotDone)

@@ -1,5 +1,5 @@
 -- A run over logs, behind a call of its devices.
-use Rattle.std.proofs.Common.{◌≡◌, ◌⊎◌, inl, inr, Bool, List, Some, subst}
+use Rattle.std.proofs.Common.{◌≡◌, inr, Bool, List, Some, subst}
 use Rattle.sqlite.specs.Effect.{Database}
 use Rattle.sqlite_trees.specs.Tree.{Trees}
 use Rattle.bac_absent.specs.Calling.{BeginsToCall, so_far}
@@ -7,7 +7,6 @@ use Rattle.bac_absent.specs.declared.calling.Calling.{Calling}
 use Rattle.bac_archive.specs.Logs.{AreLogs}
 use Rattle.bac_archive.specs.declared.trend_logs.Log.{Log}
 use Rattle.bac_asked.specs.AsLog.{Given}
-use Rattle.bac_asked.specs.Faults.{WantsMemory}
 use Rattle.bac_asked.specs.declared.end.End.{End}
 use Rattle.bac_asked.specs.declared.end.NotDone.{NotDone}
 use Rattle.bac_asked.specs.declared.wanted.Wanted.{Wanted}
@@ -47,7 +46,6 @@ module _ {S P C : Type 0} (rules : SocketRules S P) (by : AtOnce S C) where
 
   -- nor is what is asked behind a call
   pub call_on_ends : (archive : Database) (known : List Log) (all : List Wanted) (heard now : List Heard) (calling : Calling P C) (before mid after : S) (fault : NotDone)
-      → BeginsToCall rules by.pace all (so_far before heard) (Some calling) (so_far mid now) → WantsMemory fault ⊎ EndsCallsOn (reach rules by) (knowing known now) all calling (run_point mid archive) after fault
+      → BeginsToCall rules by.pace all (so_far before heard) (Some calling) (so_far mid now) → EndsCallsOn (reach rules by) (knowing known now) all calling (run_point mid archive) after fault
       → EndsCallsAhead (reach rules by) (knowing known heard) all (run_point before archive) after fault
-  call_on_ends archive known all heard now calling before mid after fault begins (inl memory) = inl (inl memory)
-  call_on_ends archive known all heard now calling before mid after fault begins (inr it) = inr (now, calling, mid, begins, it)
+  call_on_ends archive known all heard now calling before mid after fault begins it = inr (now, calling, mid, begins, it)

@@ -8,27 +8,22 @@ use Rattle.bac_archive.specs.declared.trend_logs.NotAdded.{NotAdded}
 use Rattle.bac_archive.specs.declared.trend_logs.NotAdded.TheVariants as unadded
 use Rattle.bac_asked.specs.AsLog.{Given}
 use Rattle.bac_asked.specs.Faults.{of_error, of_not_added}
-use Rattle.bac_asked.specs.declared.end.End.{End}
 use Rattle.bac_asked.specs.declared.end.NotDone.{NotDone}
-use Rattle.bac_asked.specs.declared.log_words.Asking.{Asking}
-use Rattle.bac_wire.specs.Primitive.{Id}
 use Rattle.bac_asked.specs.declared.end.NotDone.TheVariants.{File}
 use Rattle.bac_asked.specs.declared.fault.FileFault.{FileFault}
 use Rattle.bac_asked.specs.declared.wanted.Wanted.{Wanted}
 use Rattle.bac_ports.specs.Sockets.{SocketRules}
 use Rattle.bac_fetch.specs.Ahead.{AtOnce, reach}
-use Rattle.bac_fetch.specs.Causes.{EndsFirst, EndsSettling, FailsToEnter, IsShut, LeavesUndone, LeavesUnopened}
+use Rattle.bac_fetch.specs.Causes.{EndsAtFirst, EndsSettling, FailsToEnter, LeavesUndone, LeavesUnopened}
 use Rattle.sqlite.specs.State.{State, Survives}
 use Rattle.bac_begin.proofs.Quiet.{quiet_then}
 use Rattle.bac_fetch.proofs.StaysLemmas.{does_nothing}
-use Rattle.bac_fetch.specs.Keeps.{KeepsLog, target}
-use Rattle.bac_fetch.specs.declared.entry.Entry.{Entry}
 use Rattle.sqlite.specs.Effect.{Database}
 use Rattle.bac_asked.specs.Faults.{EndsLog, FailsOnRows}
 use Rattle.bac_fetch.specs.Faults.{EndsChosen}
 use Rattle.bac_fetch.specs.declared.keeping.Chosen.{Chosen}
 use Rattle.bac_fetch.specs.declared.keeping.Chosen.TheVariants.{Kept, Sought}
-use Rattle.bac_fetch.specs.Points.{run_point}
+use Rattle.bac_fetch.specs.Points.{RunPoint}
 
 -- a database answers by an error
 pub database_rows : (why : FileFault) (error : Error) → why ≡ of_error error → FailsOnRows (File why)
@@ -42,8 +37,8 @@ log_ends why (unadded.Database error) is = inr (inr (inr (inr (error, ap File is
 -- a log that has no row isn't entered
 pub not_entered : (why : FileFault) (fault : NotAdded) (trees : Trees) → why ≡ of_not_added fault
     → (◌≡◌ {A = Result ℕ NotAdded} (Err fault) (Err unadded.Full) → HasNoFreshId trees) → FailsToEnter None trees (File why)
-not_entered why unadded.Full trees is none = inr (ap File is, refl, none refl)
-not_entered why (unadded.Database error) trees is none = inl (database_rows why error is)
+not_entered why unadded.Full trees is none = (refl, inr (ap File is, none refl))
+not_entered why (unadded.Database error) trees is none = (refl, inl (database_rows why error is))
 
 -- what an error isn't
 pub never : {T E : Type 0} (r : Result T E) (e : E) (P : E → Type 0) → IfErr r P → (P e → ⊥) → r ≡ Err e → ⊥
@@ -59,10 +54,10 @@ chosen_so rules by Kept N M A B before after fault f h (inr (inr (inr it)), same
 chosen_so rules by (Sought sought) N M A B before after fault f h it = it
 
 -- the first of some logs
-pub settling_of_first : {S P : Type 0} (rules : SocketRules S P) (given : Given) (known : List Log) (all : List Wanted) (first : Wanted) (before after : S) (fault : NotDone)
-    → 1 ≤ length all → first ≡ slice_index_or all 0 first → EndsFirst rules given known first before after fault → EndsSettling rules given known all before after fault
+pub settling_of_first : {S P : Type 0} (rules : SocketRules S P) (given : Given) (known : List Log) (all : List Wanted) (first : Wanted) (before : RunPoint S) (after : S) (fault : NotDone)
+    → 1 ≤ length all → first ≡ slice_index_or all 0 first → EndsAtFirst rules given known first before after fault → EndsSettling rules given known all before after fault
 settling_of_first rules given known [] first before after fault lt is it = absurd (omega (arith, lt))
-settling_of_first rules given known (x ∷ xs) first before after fault lt is it = subst (λ (w : Wanted). EndsFirst rules given known w before after fault) is it
+settling_of_first rules given known (x ∷ xs) first before after fault lt is it = subst (λ (w : Wanted). EndsAtFirst rules given known w before after fault) is it
 
 -- what fails on rows is no socket that wasn't opened
 rows_open : (old new : Database) (fault : NotDone) → FailsOnRows fault → LeavesUnopened old new fault
@@ -79,8 +74,8 @@ nothing_done old fault = ((λ why is. refl), inr (does_nothing old (λ _. ⊥)))
 
 -- nor is a log that isn't entered
 pub entry_leaves : (old new : State) (log : Option Log) (trees : Trees) (fault : NotDone) → Survives old new (λ _. ⊥) → FailsToEnter log trees fault → LeavesUndone old new fault
-entry_leaves old new log trees fault quiet (inl rows) = rows_leave old new fault rows
-entry_leaves old new log trees fault quiet (inr (full, none, fresh)) = ((λ why is. absurd (cc)), inr quiet)
+entry_leaves old new log trees fault quiet (none, inl rows) = rows_leave old new fault rows
+entry_leaves old new log trees fault quiet (none, inr (full, fresh)) = ((λ why is. absurd (cc)), inr quiet)
 
 -- behind what changes nothing
 pub leaves_behind : (old mid new : State) (fault : NotDone) → mid.now ≡ old.now → Survives old mid (λ _. ⊥) → LeavesUndone mid new fault → LeavesUndone old new fault
@@ -88,8 +83,3 @@ leaves_behind old mid new fault same quiet it = (
   (λ why is. it.0 why is ∙ same),
   elim it.1 [ inl rows ↦ inl rows | inr still ↦ inr (quiet_then old mid new quiet still) ],
 )
-
--- the socket over which a log was kept is closed
-pub shut_log : {S P : Type 0} (rules : SocketRules S P) (asking : Asking) (before after : S) (entry : Entry) (object : Id) (old new : Database) (end : End)
-    → KeepsLog rules asking (run_point before old) (run_point after new) (target entry object) end → IsShut rules asking.asked before after
-shut_log rules asking before after entry object old new end it = inr (it.0, it.1, it.2, it.3, tt, it.5)

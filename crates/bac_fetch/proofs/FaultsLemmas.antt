@@ -1,5 +1,5 @@
 -- What ends a run.
-use Rattle.std.proofs.Common.{◌≡◌, inl, inr, refl, subst, ◌∙◌, ℕ, List, Option, None, Some, Result, Ok, Err, IfErr}
+use Rattle.std.proofs.Common.{◌≡◌, inl, inr, refl, subst, ◌∙◌, ℕ, List, [], ◌∷◌, Option, None, Some, Result, Ok, Err, IfErr}
 use Rattle.bac_asked.specs.declared.end.NotDone.{NotDone}
 use Rattle.bac_asked.specs.declared.log_words.Asking.{Asking as AskedFor}
 use Rattle.bac_fetch.specs.Ahead.{AtOnce, reach}
@@ -26,20 +26,25 @@ use Rattle.bac_words.specs.declared.job.Asked.{Asked}
 module _ {S P : Type 0} (rules : SocketRules S P) where
   -- a device that isn't asked ends the run
   pub asking_ends_run : (I A : Type 0) (asked : Asked) (before after : S) (fault : NotDone) → EndsAsking rules asked before after fault → EndsRun rules I A after fault
-  asking_ends_run I A asked before after fault (inl it) = inl (inl it)
+  asking_ends_run I A asked before after fault (inl it) = inl (inl it.0)
   asking_ends_run I A asked before after fault (inr it) = inr (inl (before, asked, it))
 
   -- devices that aren't called end it
-  pub calling_ends_run : (I A : Type 0) (all : List Wanted) (heard : List Heard) (before after : S) (fault : NotDone) → EndsCalling rules all heard before after fault
-      → EndsRun rules I A after fault
-  calling_ends_run I A all heard before after fault (inl it) = inl (inl it)
-  calling_ends_run I A all heard before after fault (inr it) = inr (inl (before, it.0.asking.asked, it.3))
+  pub calling_ends_run : {C : Type 0} (I A : Type 0) (pace : Pace C) (all : List Wanted) (heard : List Heard) (before after : S) (fault : NotDone)
+      → EndsCalling rules pace all heard before after fault → EndsRun rules I A after fault
+  calling_ends_run I A pace all heard before after fault (inl it) = inl (inl it.0)
+  calling_ends_run I A pace all heard before after fault (inr ([], are, it)) = absurd it
+  calling_ends_run I A pace all heard before after fault (inr (one ∷ [], are, it)) = absurd it
+  calling_ends_run I A pace all heard before after fault (inr (one ∷ two ∷ more, are, inl (inl it))) = inr (inl (before, one.asking.asked, it))
+  calling_ends_run I A pace all heard before after fault (inr (one ∷ two ∷ more, are, inl (inr it))) = inl (inl it.0)
+  calling_ends_run I A pace all heard before after fault (inr (one ∷ two ∷ more, are, inr it)) = inl (inl it.0)
 
   -- rounds that end before their time end it
   pub rounds_end_run : {C : Type 0} (I A : Type 0) (pace : Pace C) (asked : Asked) (all : List Opening) (before after : S) (fault : NotDone)
       → EndsAhead rules pace asked all before after fault → EndsRun rules I A after fault
-  rounds_end_run I A pace asked all before after fault (inl it) = inl (inl it)
-  rounds_end_run I A pace asked all before after fault (inr it) = inr (inl (it.1.sockets, asked, it.4))
+  rounds_end_run I A pace asked all before after fault (rounds, last, chain, inl it) = inl (inl it.0)
+  rounds_end_run I A pace asked all before after fault (rounds, last, chain, inr (two, inl it)) = inr (inl (last.sockets, asked, it))
+  rounds_end_run I A pace asked all before after fault (rounds, last, chain, inr (two, inr it)) = inl (inl it.0)
 
   -- what ends it for one reason ends it for another
   pub ends_so : (I J A B : Type 0) (after : S) (fault : NotDone) → (I → J) → (A → B) → EndsRun rules I A after fault → EndsRun rules J B after fault

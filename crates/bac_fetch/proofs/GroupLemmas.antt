@@ -1,5 +1,5 @@
 -- What the commit of a group leaves, what comes behind it, and the lines that wait for it.
-use Rattle.std.proofs.Common.{◌≡◌, ◌≢◌, ◌∙◌, ◌++◌, [], ◌∷◌, ℕ, List, Option, None, Some, IsTrue, ◌⊎◌, inl, inr, refl, subst, sym, ap, append_assoc, arith}
+use Rattle.std.proofs.Common.{◌≡◌, ◌≢◌, ◌∙◌, ◌++◌, [], ◌∷◌, ℕ, List, Option, None, Some, ◌⊎◌, inl, inr, refl, subst, sym, ap, append_assoc, arith}
 use Rattle.std.specs.Io.KnownBytes.{Appends, Keeps, append_known}
 use Rattle.sqlite.specs.Effect.{Database}
 use Rattle.sqlite.specs.State.{State, HasCleanDisk, Survives}
@@ -8,6 +8,7 @@ use Rattle.sqlite_trees.specs.Tree.{Trees}
 use Rattle.bac_archive.specs.Schema.{HasArchive}
 use Rattle.bac_archive.specs.declared.trend_logs.Log.{Log}
 use Rattle.bac_asked.specs.Faults.{FailsOnRows}
+use Rattle.bac_asked.specs.declared.end.End.{End}
 use Rattle.bac_asked.specs.declared.end.NotDone.{NotDone}
 use Rattle.bac_asked.specs.declared.end.NotDone.TheVariants.{Asking}
 use Rattle.bac_asked.specs.declared.fault.Fault.TheVariants.{Unopened}
@@ -16,7 +17,10 @@ use Rattle.bac_ports.specs.declared.port.OpenFault.{OpenFault}
 use Rattle.bac_ports.specs.Sockets.{SocketRules}
 use Rattle.bac_questions.specs.declared.whose.Heard.{Heard}
 use Rattle.bac_fetch.specs.Causes.{EndsAll, LeavesUndone, LeavesUnopened}
-use Rattle.bac_fetch.specs.Stays.{HasAllOf, LeavesBehind, LeavesSeen}
+use Rattle.bac_fetch.specs.Keeps.{KeepsAll}
+use Rattle.bac_fetch.specs.Left.{LeavesAll}
+use Rattle.bac_fetch.specs.Stays.{HasAllOf, LeavesSeen}
+use Rattle.bac_fetch.proofs.LeavesLemmas.{before_last}
 use Rattle.bac_fetch.proofs.SameLemmas.{survives_as}
 use Rattle.bac_fetch.proofs.StaysLemmas.{all_itself, stays_then}
 use Rattle.bac_fetch.specs.Points.{knowing, run_point}
@@ -59,23 +63,6 @@ unopened_leaves old mid new fault undone two = elim undone.1 [
       (λ _ db left. left.2 ∙ ap (λ (d : Database). d.trees) (undone.0 left.0 left.1)) one two)
 ]
 
--- what the first log leaves
-pub first_leaves : (old new : State) (front : List Wanted) (fault : NotDone) → HasCleanDisk new → (IsTrue new.is_open → new.may_leave new.committed.trees)
-    → FailsOnRows fault ⊎ (front ≡ [] → Survives old new (λ trees. trees ≡ old.now.trees))
-    → LeavesBehind old new (λ left. FailsOnRows fault ⊎ (front ≡ [] → left ≡ old.now.trees))
-first_leaves old new front fault clean stays (inl rows) = (new.committed.trees, (λ seen opened. refl), inl rows)
-first_leaves old new [] fault clean stays (inr still) = (
-  old.now.trees,
-  (λ seen opened. sym (elim ((still refl).crash clean new.committed.trees (stays opened)) [ inl was ↦ seen new.committed.trees was | inr is ↦ is ])),
-  inr (λ none. refl),
-)
-first_leaves old new (x ∷ xs) fault clean stays (inr still) = (new.committed.trees, (λ seen opened. refl), inr (λ none. absurd (cc)))
-
--- a log came behind others
-pub not_first : (front : List Wanted) (wanted : Wanted) → front ++ wanted ∷ [] ≡ [] → ⊥
-not_first [] wanted is = cc
-not_first (x ∷ xs) wanted is = cc
-
 -- a crash leaves what is seen behind calls that commit nothing, the first over a connection that is open then
 pub seen_behind : (old mid late : State) → mid.committed ≡ old.committed → late.now ≡ old.now → HasCleanDisk late → Survives mid late (λ _. ⊥)
     → ((db : Trees) → mid.may_leave db → db ≡ mid.committed.trees) → old.committed ≡ old.now → LeavesSeen late
@@ -107,19 +94,22 @@ line_waits (Some x) (Some y) xs ys zs line is it = it ∙ ap (λ l. x ++ l) is �
 -- ---- why a run ends
 
 -- what is done isn't committed, or isn't told
-pub ends_uncommitted : {S P : Type 0} (rules : SocketRules S P) (known : List Log) (heard : List Heard) (all : List Wanted) (before after : S) (old : Database) (left : Trees) (fault : NotDone)
-    → all ≢ [] → FailsOnRows fault → EndsAll rules (knowing known heard) all (run_point before old) after left fault
-ends_uncommitted rules known heard [] before after old left fault some fails = absurd (some refl)
-ends_uncommitted rules known heard (first ∷ more) before after old left fault some fails = record {
-  front = [];
-  wanted = first;
-  rest = more;
-  all_are = refl;
-  ends = [];
-  half = before;
-  mid = old;
-  now = heard;
-  kept = (refl, refl, refl);
-  cause = inl fails;
-  first = inl fails;
-}
+pub ends_uncommitted : {S P : Type 0} (rules : SocketRules S P) (known : List Log) (heard last : List Heard) (all : List Wanted) (before after : S) (old mid : Database) (ends : List End) (left : Trees) (fault : NotDone)
+    → all ≢ [] → KeepsAll rules (knowing known heard) last all (run_point before old) (run_point after mid) ends → FailsOnRows fault
+    → LeavesAll rules (knowing known heard) all (run_point before old) left → EndsAll rules (knowing known heard) all (run_point before old) after left fault
+ends_uncommitted rules known heard last [] before after old mid ends left fault some kept fails it = absurd (some refl)
+ends_uncommitted rules known heard last (first ∷ more) before after old mid ends left fault some kept fails it =
+    let (front, wanted, are, half, between, now, early, end, keeps, one) = before_last rules known heard last first more before after old mid ends kept in
+    record {
+      front = front;
+      wanted = wanted;
+      rest = [];
+      all_are = are;
+      ends = early;
+      half = half;
+      mid = between;
+      now = now;
+      kept = keeps;
+      cause = inr (fails, last, mid, end, one);
+      leaves = inr (fails, subst (λ l. LeavesAll rules (knowing known heard) l (run_point before old) left) are it);
+    }

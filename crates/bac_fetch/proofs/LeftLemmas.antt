@@ -56,11 +56,11 @@ pub settled_before : (settles : Database → Type 0) (old new : State) (fault : 
 settled_before settles old new fault memory it f = (
   new.now.trees,
   (λ was opened. ap (λ (d : Database). d.trees) (sym (f was))),
-  inr (memory, new.now, it, refl),
+  inr (memory, (new.now, it, refl)),
 )
 
 -- what is settled in one sense is settled in another
 pub unsettled_so : (P Q : Database → Type 0) (old new : State) (fault : NotDone) → ((db : Database) → P db → Q db)
     → Leaves old new (λ left. LeavesUnsettled P old.now.trees left fault) → Leaves old new (λ left. LeavesUnsettled Q old.now.trees left fault)
 unsettled_so P Q old new fault f (left, is, inl same) = (left, is, inl same)
-unsettled_so P Q old new fault f (left, is, inr (memory, db, it, same)) = (left, is, inr (memory, db, f db it, same))
+unsettled_so P Q old new fault f (left, is, inr (memory, made)) = (left, is, inr (memory, (made.0, f made.0 made.1, made.2)))

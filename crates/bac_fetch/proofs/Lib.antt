@@ -3,6 +3,7 @@ pub mod SameLemmas
 pub mod StaysLemmas
 pub mod EndsLemmas
 pub mod KeepsLemmas
+pub mod LeavesLemmas
 pub mod MovesLemmas
 pub mod LeftLemmas
 pub mod GroupLemmas

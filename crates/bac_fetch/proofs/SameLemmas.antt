@@ -88,3 +88,7 @@ same_stays_then old mid new all one two = survives_then old mid new _ _ (HasSame
 -- and one that commits nothing
 pub same_quiet_last : (old mid new : State) → Survives old mid (HasSameLogs old.now.trees) → Survives mid new (λ _. ⊥) → Survives old new (HasSameLogs old.now.trees)
 same_quiet_last old mid new one two = survives_then old mid new (HasSameLogs old.now.trees) (λ _. ⊥) (HasSameLogs old.now.trees) (λ _ db it. it) (λ _ db none. absurd none) one two
+
+-- what commits nothing takes none away
+pub same_quiet : (old new : State) → Survives old new (λ _. ⊥) → Survives old new (HasSameLogs old.now.trees)
+same_quiet old new it = survives_as old new (λ _. ⊥) (HasSameLogs old.now.trees) (λ _ db none. absurd none) it

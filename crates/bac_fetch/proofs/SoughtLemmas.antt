@@ -11,7 +11,7 @@ use Rattle.bac_asked.specs.declared.fault.Fault.TheVariants.{Memory, Unopened}
 use Rattle.bac_asked.specs.declared.log_words.Asking.{Asking as AskedFor}
 use Rattle.bac_asked.specs.declared.wanted.Wanted.{Wanted}
 use Rattle.bac_fetch.specs.Chosen.{AddSought, AreOfDevice, IsUntold, findings, is_wanted, told_by, unlisted_by, untold_in, with_new, with_one}
-use Rattle.bac_fetch.specs.Faults.{EndsAt, EndsDevice}
+use Rattle.bac_fetch.specs.Faults.{EndsDevice, EndsSought, EndsTelling}
 use Rattle.bac_fetch.specs.Ahead.{AtOnce, reach}
 use Rattle.bac_fetch.specs.Listed.{HoldsLists, was_silent}
 use Rattle.bac_fetch.specs.Unlisted.{unlisted_line, unlisted_lines, unlisted_status}
@@ -54,7 +54,7 @@ module _ {S P : Type 0} (rules : SocketRules S P) where
   -- a device was asked for its list, and this came of it
   pub finding_why : (like : AskedFor) (before after : S) (fault : NotDone) (why : ExchangeFault) → EndsFinding rules like before after fault → untold_in fault ≡ Ok why
       → FailsOver rules like before why after
-  finding_why like before after fault why (inl (inl memory)) is =
+  finding_why like before after fault why (inl (inl (memory, done))) is =
       let never : Err (Asking Memory) ≡ Ok why = subst (λ (f : NotDone). untold_in f ≡ Ok why) memory is in
       absurd (cc)
   finding_why like before after fault why (inl (inr (unopened, same, opens))) is =
@@ -92,10 +92,20 @@ module _ {S P : Type 0} (rules : SocketRules S P) where
   -- the next device isn't asked
   pub ends_at : (gone : List Source) (seen : List Sought) (one : Sought) (rest : List Sought) (first : List Wanted) (told : List Unlisted) (before : S) (known : List Wanted) (silent : List Unlisted)
       (mid after : S) (fault : NotDone)
-      → AddSought rules gone seen (findings first told before) (findings known silent mid) → EndsDevice rules gone one mid after fault → EndsAt rules gone (seen ++ one ∷ rest) before after fault
+      → AddSought rules gone seen (findings first told before) (findings known silent mid) → EndsDevice rules gone one mid after fault → EndsSought rules gone (seen ++ one ∷ rest) before after fault
   ends_at gone [] one rest first told before known silent mid after fault (same, none, still) it = inl (subst (λ (s : S). EndsDevice rules gone one s after fault) still it)
   ends_at gone (x ∷ seen) one rest first told before known silent mid after fault (l, between, of_x, more) it =
-      inr (l, between, of_x, ends_at gone seen one rest (with_new first (told_by l)) (told ++ unlisted_by l) between known silent mid after fault more it)
+      inr (l, between, of_x, inr (ends_at gone seen one rest (with_new first (told_by l)) (told ++ unlisted_by l) between known silent mid after fault more it))
+
+  -- it was, and that isn't told
+  pub stops_at : (gone : List Source) (seen : List Sought) (one : Sought) (rest : List Sought) (first : List Wanted) (told : List Unlisted) (before : S) (known : List Wanted) (silent : List Unlisted)
+      (mid : S) (listing : Listing) (after : S) (fault : NotDone)
+      → AddSought rules gone seen (findings first told before) (findings known silent mid) → AreOfDevice rules gone one mid listing after → EndsTelling listing fault
+      → EndsSought rules gone (seen ++ one ∷ rest) before after fault
+  stops_at gone [] one rest first told before known silent mid listing after fault (same, none, still) of it =
+      inr (listing, after, subst (λ (s : S). AreOfDevice rules gone one s listing after) still of, inl (it, refl))
+  stops_at gone (x ∷ seen) one rest first told before known silent mid listing after fault (l, between, of_x, more) of it =
+      inr (l, between, of_x, inr (stops_at gone seen one rest (with_new first (told_by l)) (told ++ unlisted_by l) between known silent mid listing after fault more of it))
 
 -- the devices that are asked ahead, and those that are silent, are seen as slices
 pub holds_so : {S P C : Type 0} (rules : SocketRules S P) (by : AtOnce S C) (sought seen : List Sought) (silent those : List Source) (before held : S) → seen ≡ sought → those ≡ silent

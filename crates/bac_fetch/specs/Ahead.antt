@@ -117,10 +117,11 @@ OpensAhead rules pace known (first ∷ more) before came after =
     × AsksAhead rules pace first.asking.asked openings before.sockets came after
 OpensAhead rules pace known [] before came after = (came ≡ []) × (after ≡ before.sockets)
 
--- That ends the run: the rows aren't read, memory is wanting, or no socket was opened for a round.
+-- That ends the run: the rows aren't read, or memory is wanting for what they are opened by, and nothing is done; or
+-- the rounds end before their time.
 abbrev pub EndsOpening : {S P C : Type 0} → SocketRules S P → Pace C → Known → List Wanted → RunPoint S → S → NotDone
     → Type 0
-EndsOpening rules pace known (first ∷ more) before after fault = FailsOnRows fault
+EndsOpening rules pace known (first ∷ more) before after fault = (FailsOnRows fault × (after ≡ before.sockets))
     ⊎ ((openings : List Opening)
     × AreOpenings before.archive.trees known.logs known.heard (batches_of (length (first ∷ more))) (first ∷ more)
     openings

@@ -1,8 +1,9 @@
 -- What is asked of many devices at once before a run over their logs. Read `CallsAhead`.
 use Rattle.std.specs.Prelude.{◌≡◌, ◌⊎◌, Bool, true, false, if◌then◌else◌, List, [], ◌∷◌, ◌++◌, Option, None, Some}
 use Rattle.std.specs.Prelude.{drop, is_some, length}
-use Rattle.bac_absent.specs.Calling.{BeginsToCall, EndsCall, EndsCalling, so_far}
+use Rattle.bac_absent.specs.Calling.{BeginsToCall, EndsCall, EndsCalling, StopsCall, so_far}
 use Rattle.bac_absent.specs.declared.calling.Calling.{Calling}
+use Rattle.bac_asked.specs.Faults.{WantsMemory}
 use Rattle.bac_asked.specs.declared.end.NotDone.{NotDone}
 use Rattle.bac_asked.specs.declared.wanted.Wanted.{Wanted}
 use Rattle.bac_questions.specs.declared.whose.Heard.{Heard}
@@ -63,22 +64,29 @@ CallsAhead {S = S} {P = P} {C = C} by known all before after =
 
 -- ---- what ends a run there
 
--- The logs of the devices that had told aren't opened; or they were, the others were waited for, and their logs aren't.
+-- The logs of the devices that were waited for aren't opened; or they were, and memory is wanting to hold what came.
+abbrev pub EndsLate : {S P C : Type 0} → Reach S P C → Known → List Wanted → RunPoint S → S → NotDone → Type 0
+EndsLate by late all before after fault = EndsOpening by.rules by.at_once.pace late all before after fault
+    ⊎ (WantsMemory fault × (came : List Conversation) × OpensAhead by.rules by.at_once.pace late all before came after)
+
+-- The logs of the devices that had told aren't opened; or they were, and the others aren't waited for, or they are, and
+-- with their logs it ends so.
 abbrev pub EndsCallsOn : {S P C : Type 0} → Reach S P C → Known → List Wanted → Calling P C → RunPoint S → S → NotDone
     → Type 0
 EndsCallsOn {S = S} by known all calling before after fault =
     EndsOpening by.rules by.at_once.pace (knowing known.logs (told_early all known.heard)) all before after fault
     ⊎ ((early : List Conversation) × (half : S)
     × OpensAhead by.rules by.at_once.pace (knowing known.logs (told_early all known.heard)) all before early half
-    × (found : List Heard) × (mid : S)
+    × (StopsCall by.rules by.at_once.pace.reads calling half after fault
+    ⊎ ((found : List Heard) × (mid : S)
     × EndsCall by.rules by.at_once.pace.reads calling (so_far half known.heard) (so_far mid found)
-    × EndsOpening by.rules by.at_once.pace (knowing known.logs (drop (length (told_early all known.heard)) found)) all
-    (run_point mid before.archive) after fault)
+    × EndsLate by (knowing known.logs (drop (length (told_early all known.heard)) found)) all
+    (run_point mid before.archive) after fault)))
 
--- Devices aren't called, or memory is wanting; or they were, and what is asked then ends so.
+-- Devices aren't called; or they were, and what is asked then ends so.
 abbrev pub EndsCallsAhead : {S P C : Type 0} → Reach S P C → Known → List Wanted → RunPoint S → S → NotDone → Type 0
 EndsCallsAhead {S = S} {P = P} {C = C} by known all before after fault =
-    EndsCalling by.rules all known.heard before.sockets after fault
+    EndsCalling by.rules by.at_once.pace all known.heard before.sockets after fault
     ⊎ ((now : List Heard) × (calling : Calling P C) × (mid : S)
     × BeginsToCall by.rules by.at_once.pace all (so_far before.sockets known.heard) (Some calling) (so_far mid now)
     × EndsCallsOn by (knowing known.logs now) all calling (run_point mid before.archive) after fault)

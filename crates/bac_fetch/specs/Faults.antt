@@ -19,11 +19,12 @@ use Rattle.bac_fetch.specs.Chosen.{AreFound, AreOfDevice, findings, not_stopped}
 use Rattle.bac_fetch.specs.declared.keeping.Chosen.{Chosen}
 use Rattle.bac_fetch.specs.declared.keeping.Chosen.TheVariants as chosen
 use Rattle.bac_fetch.specs.declared.sought.Listing.{Listing}
+use Rattle.bac_fetch.specs.declared.sought.Listing.TheVariants as listing
 use Rattle.bac_fetch.specs.declared.sought.Sought.{Sought}
 use Rattle.bac_fetch.specs.declared.sought.Sought.TheVariants.{Device, Named}
 use Rattle.bac_fetch.specs.declared.unlisted.Unlisted.{Unlisted}
 use Rattle.bac_ports.specs.Sockets.{SocketRules}
-use Rattle.bac_questions.specs.Faults.{EndsAsking, IsUnopened}
+use Rattle.bac_questions.specs.Faults.{EndsListing, IsUnopened}
 use Rattle.bac_words.specs.declared.job.Asked.{Asked}
 use Rattle.bac_words.specs.declared.word.Word.TheVariants.{Instance}
 
@@ -63,30 +64,30 @@ abbrev pub EndsKept : Type 0 → Type 0 → NotDone → Type 0
 EndsKept none no_address fault = WantsMemory fault ⊎ (IsOfDatabase fault
     ⊎ (((fault ≡ File NoLogs) × none) ⊎ ((fault ≡ File Address) × no_address)))
 
--- one device isn't asked for its logs, and isn't one of those that are silent: memory is wanting, or no socket was
--- opened for it
+-- one device isn't asked for its logs, or not to the end, and isn't one of those that are silent: memory is wanting, or
+-- no socket was opened for it
 abbrev pub EndsDevice : {S P : Type 0} → SocketRules S P → (silent : List Source) → Sought → S → S → NotDone → Type 0
 EndsDevice rules silent (Device like) before after fault =
-    (was_silent silent like.source ≡ false) × EndsAsking rules like.asking.asked before after fault
+    (was_silent silent like.source ≡ false) × EndsListing rules like.asking.asked before after fault
 EndsDevice rules silent (Named all) before after fault = ⊥
 
--- so it is of one of these devices; of those before it the logs were found, or they weren't told
-abbrev pub EndsAt : {S P : Type 0} → SocketRules S P → (silent : List Source) → List Sought → S → S → NotDone → Type 0
-EndsAt rules silent [] before after fault = ⊥
-EndsAt {S = S} rules silent (one ∷ more) before after fault = EndsDevice rules silent one before after fault
-    ⊎ ((listing : Listing) × (between : S) × AreOfDevice rules silent one before listing between
-    × EndsAt rules silent more between after fault)
+-- what came of a device isn't told: memory is wanting; or the output refused the line of one that didn't tell its logs
+abbrev pub EndsTelling : Listing → NotDone → Type 0
+EndsTelling (listing.Told all) fault = WantsMemory fault
+EndsTelling (listing.Untold device) fault = WantsMemory fault ⊎ RefusesLine fault
 
--- the logs of these devices aren't found: memory is wanting; the output refused the line of one that didn't tell its
--- own; or one of them isn't asked
+-- The logs of these devices aren't found. One of them isn't asked; or its logs were found, or weren't told, that isn't
+-- told, and nothing more is done; or so it is behind it.
 abbrev pub EndsSought : {S P : Type 0} → SocketRules S P → (silent : List Source) → List Sought → S → S → NotDone
     → Type 0
-EndsSought rules silent sought before after fault =
-    (WantsMemory fault ⊎ RefusesLine fault) ⊎ EndsAt rules silent sought before after fault
+EndsSought rules silent [] before after fault = ⊥
+EndsSought {S = S} rules silent (one ∷ more) before after fault = EndsDevice rules silent one before after fault
+    ⊎ ((listing : Listing) × (between : S) × AreOfDevice rules silent one before listing between
+    × ((EndsTelling listing fault × (after ≡ between)) ⊎ EndsSought rules silent more between after fault))
 
 -- they aren't asked for their lists ahead; or they were, and from there on their logs aren't found
 abbrev pub EndsListed : {S P C : Type 0} → Reach S P C → List Sought → S → S → NotDone → Type 0
-EndsListed {S = S} by sought before after fault = EndsHolding by.rules sought before after fault
+EndsListed {S = S} by sought before after fault = EndsHolding by sought before after fault
     ⊎ ((silent : List Source) × (held : S) × HoldsLists by sought before silent held
     × EndsSought by.rules silent sought held after fault)
 

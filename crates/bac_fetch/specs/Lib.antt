@@ -12,5 +12,6 @@ pub mod Moves
 pub mod Stays
 pub mod Faults
 pub mod Keeps
+pub mod Left
 pub mod Causes
 pub mod Told

@@ -1,5 +1,5 @@
 -- The Object_Lists of devices are asked for ahead, of many at once. Read `HoldsLists`.
-use Rattle.std.specs.Prelude.{◌⊎◌, Bool, List, [], fold}
+use Rattle.std.specs.Prelude.{◌≡◌, ◌⊎◌, Bool, List, [], fold}
 use Rattle.std.specs.List.{list_any}
 use Rattle.bac_archive.specs.declared.trend_logs.Source.{Source}
 use Rattle.bac_asked.specs.Faults.{WantsMemory}
@@ -9,7 +9,6 @@ use Rattle.bac_fetch.specs.Ahead.{Reach}
 use Rattle.bac_fetch.specs.declared.sought.Sought.{Sought}
 use Rattle.bac_fetch.specs.declared.sought.Sought.TheVariants.{Device, Named}
 use Rattle.bac_listing.specs.Devices.{EndsLists, ListsAhead, listed, with_device}
-use Rattle.bac_ports.specs.Sockets.{SocketRules}
 use Rattle.bac_questions.specs.Silent.{is_same_device}
 use Rattle.bac_recall.specs.declared.conversations.Conversation.{Conversation}
 
@@ -33,6 +32,8 @@ HoldsLists {S = S} by sought before silent held = (came : List Conversation) × 
 abbrev pub was_silent : List Source → Source → Bool
 was_silent silent source = list_any (λ (one : Source). is_same_device one source) silent
 
--- They aren't asked: memory is wanting, or no socket was opened as the first of them says.
-abbrev pub EndsHolding : {S P : Type 0} → SocketRules S P → List Sought → S → S → NotDone → Type 0
-EndsHolding rules sought before after fault = WantsMemory fault ⊎ EndsLists rules (devices_of sought) before after fault
+-- They aren't asked, or nothing is held: memory is wanting to tell which they are, and nothing is done; or their lists
+-- aren't told.
+abbrev pub EndsHolding : {S P C : Type 0} → Reach S P C → List Sought → S → S → NotDone → Type 0
+EndsHolding by sought before after fault = (WantsMemory fault × (after ≡ before))
+    ⊎ EndsLists by.rules by.at_once.pace (devices_of sought) before after fault

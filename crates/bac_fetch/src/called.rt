@@ -1,7 +1,7 @@
 //! What is asked of many devices at once before a run over their logs: what they say of themselves,
 //! and where their logs begin.
 
-ghost use Rattle.std.specs.Prelude.{◌≡◌, ◌⊎◌, ◌++◌, IfErr, IfOk, OnOk, drop};
+ghost use Rattle.std.specs.Prelude.{◌≡◌, ◌++◌, IfErr, IfOk, OnOk, drop};
 ghost use Rattle.sqlite.specs.State.{HasCleanDisk, Survives};
 ghost use Rattle.sqlite.specs.Held.{state};
 ghost use Rattle.bac_archive.specs.Schema.{OverArchive};
@@ -52,6 +52,7 @@ fn hold_both<S: Recalls>(
 ) -> Result<(), NotDone>
     ensures holds { OnOk result (S.holds sockets.old (early.items ++ late.items) sockets.new) }
     ensures fault { IfErr result WantsMemory }
+    ensures same { IfErr result (λ _. sockets.new ≡ sockets.old) }
 {
     let mut came = early;
     let mut late = late;
@@ -93,10 +94,10 @@ where
     ensures fault { IfErr result (EndsRun (socket_rules S.opens S.closes S.Socket.sends
         S.Socket.receives S.Socket.receives_within) ⊥ ⊥ sockets.new) }
     ensures caused { OverArchive (state A.Store conn.old) (state A.Store conn.new)
-        (IfErr result (λ fault. WantsMemory fault ⊎ EndsCallsOn (reach (socket_rules S.opens
-        S.closes S.Socket.sends S.Socket.receives S.Socket.receives_within)
-        (at_once S.holds C.reads clock window)) (knowing known.now heard.old.items) all.now
-        calling.entry (run_point sockets.old (state A.Store conn.old).now) sockets.new fault)) }
+        (IfErr result (EndsCallsOn (reach (socket_rules S.opens S.closes S.Socket.sends
+        S.Socket.receives S.Socket.receives_within) (at_once S.holds C.reads clock window))
+        (knowing known.now heard.old.items) all.now calling.entry
+        (run_point sockets.old (state A.Store conn.old).now) sockets.new)) }
 {
     let told = told_early(all, heard.as_slice());
     let from = told.len();

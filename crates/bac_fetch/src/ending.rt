@@ -134,6 +134,12 @@ pub(crate) fn mark<A: Alter>(
     ensures stays { OverArchive (state A.Store conn.old) (state A.Store conn.new)
         (Survives (state A.Store conn.old) (state A.Store conn.new)
         (HasSameLogs (state A.Store conn.old).now.trees)) }
+    // A crash leaves the beginnings as they were, or with this one, if it is to be on record.
+    ensures crash { HasArchive (state A.Store conn.old).now.schema
+        → Survives (state A.Store conn.old) (state A.Store conn.new)
+        (λ trees. (trees ≡ (state A.Store conn.old).now.trees)
+        ⊎ ((db : _) × Marks begins_at end.now (state A.Store conn.old).now db
+        × (trees ≡ db.trees))) }
     ensures clean { HasCleanDisk (state A.Store conn.new) → HasCleanDisk (state A.Store conn.old) }
     ensures fault { IfErr result EndsLog }
     ensures caused { IfErr result FailsOnRows }

@@ -260,6 +260,11 @@ pub(crate) fn admit<A: Alter>(conn: &mut Connection<A>, entry: &Entry) -> Result
     ensures rows { HasArchive (state A.Store conn.old).now.schema
         → Survives (state A.Store conn.old) (state A.Store conn.new)
         (HasRows (state A.Store conn.old).now.trees) }
+    // A crash leaves the rows as they were, or with this one.
+    ensures crash { HasArchive (state A.Store conn.old).now.schema
+        → Survives (state A.Store conn.old) (state A.Store conn.new)
+        (λ trees. (trees ≡ (state A.Store conn.old).now.trees)
+        ⊎ ((db : _) × Admits entry.now (state A.Store conn.old).now db × (trees ≡ db.trees))) }
     ensures clean { HasCleanDisk (state A.Store conn.new) → HasCleanDisk (state A.Store conn.old) }
     ensures fault { IfErr result EndsLog }
     ensures caused { OverArchive (state A.Store conn.old) (state A.Store conn.new)

@@ -1,12 +1,13 @@
 //! The records of one log are fetched and kept.
 
-ghost use Rattle.std.specs.Prelude.{◌≡◌, map, IfOk, IfErr, OnOk, Ok};
+ghost use Rattle.std.specs.Prelude.{◌≡◌, ◌⊎◌, map, IfOk, IfErr, OnOk, Ok};
 ghost use Rattle.sqlite.specs.State.{HasCleanDisk, Survives};
 ghost use Rattle.sqlite.specs.Effect.{Database};
 ghost use Rattle.sqlite.specs.Held.{state};
 ghost use Rattle.bac_archive.specs.Rows.{IsAppended, stored};
 ghost use Rattle.bac_archive.specs.Schema.{OverArchive, HasArchive};
 ghost use Rattle.bac_ports.specs.Sockets.{socket_rules};
+ghost use Rattle.bac_keep.specs.Came.{CameBy};
 ghost use Rattle.bac_query.specs.Tables.{Client, client};
 ghost use Rattle.bac_fetch.specs.Causes.{EndsFetch, LeavesUndone};
 ghost use Rattle.bac_asked.specs.Faults.{FailsOnRows, EndsLog};
@@ -15,6 +16,10 @@ ghost use Rattle.bac_fetch.specs.Fetched.{ComesFrom, footing};
 ghost use Rattle.bac_fetch.specs.Keeps.{KeepsBegun, KeepsEntered, KeepsFrom, KeepsLog, target};
 ghost use Rattle.bac_ahead.specs.Ahead.{trend_log};
 ghost use Rattle.bac_fetch.specs.Keeps.{KeepsOverLink, LeavesWord, Marks};
+ghost use Rattle.bac_begin.specs.Stopped.{AsksUpTo};
+ghost use Rattle.bac_fetch.specs.Left.{AsksOn, AsksOverLink};
+ghost use Rattle.bac_fetch.specs.Left.{LeavesBegun, LeavesEntered, LeavesFrom, LeavesLog};
+ghost use Rattle.bac_fetch.specs.Left.{LeavesMarked, LeavesOverLink};
 ghost use Rattle.bac_fetch.specs.Stays.{HasAllOf, HasSameLogs};
 ghost use Rattle.bac_fetch.specs.Points.{log_point, run_point};
 ghost use Rattle.bac_asked.specs.declared.end.End.{End as EndOf};
@@ -68,6 +73,9 @@ fn where_to_start<L: LogLink, A: Alter>(
     ensures crash { HasArchive (state A.Store conn.old).now.schema
         → Survives (state A.Store conn.old) (state A.Store conn.new) (λ _. ⊥) }
     ensures clean { HasCleanDisk (state A.Store conn.new) → HasCleanDisk (state A.Store conn.old) }
+    // Where rows fail only this log was asked for.
+    ensures asks { IfErr result (λ _. AsksUpTo L.asks log 7 (client link.old transactions.old)
+        (client link.new transactions.new)) }
     ensures fault { IfErr result EndsLog }
     ensures caused { OverArchive (state A.Store conn.old) (state A.Store conn.new)
         (IfErr result FailsOnRows) }
@@ -93,9 +101,9 @@ fn keep_hand<A: Alter>(conn: &mut Connection<A>, gathered: Gathered) -> Result<(
     ensures kept { HasCleanDisk (state A.Store conn.new)
         → OnOk result (IsAppended (state A.Store conn.old).now (state A.Store conn.new).now
         (map stored gathered.rows.items)) }
-    ensures stays { HasArchive (state A.Store conn.old).now.schema
-        → Survives (state A.Store conn.old) (state A.Store conn.new)
-        (HasSameLogs (state A.Store conn.old).now.trees) }
+    // Nothing is committed.
+    ensures crash { HasArchive (state A.Store conn.old).now.schema
+        → Survives (state A.Store conn.old) (state A.Store conn.new) (λ _. ⊥) }
     ensures clean { HasCleanDisk (state A.Store conn.new) → HasCleanDisk (state A.Store conn.old) }
     ensures fault { IfErr result EndsLog }
     ensures caused { OverArchive (state A.Store conn.old) (state A.Store conn.new)
@@ -139,7 +147,14 @@ fn keep_on<L: LogLink, A: Alter, P: Progress>(
     ensures stays { OverArchive (state A.Store conn.old) (state A.Store conn.new)
         (Survives (state A.Store conn.old) (state A.Store conn.new)
         (HasSameLogs (state A.Store conn.old).now.trees)) }
+    // And nothing more than the rows of some of its steps, from the first on.
+    ensures leaves { OverArchive (state A.Store conn.old) (state A.Store conn.new)
+        (Survives (state A.Store conn.old) (state A.Store conn.new) (LeavesFrom L.asks (log_point
+        (client link.old transactions.old) (state A.Store conn.old).now)
+        (footing place free walk step) steps)) }
     ensures clean { HasCleanDisk (state A.Store conn.new) → HasCleanDisk (state A.Store conn.old) }
+    ensures asked { (client link.new transactions.new ≡ client link.old transactions.old)
+        ⊎ CameBy L.asks transactions.old link.old walk steps transactions.new link.new }
     ensures fault { IfErr result EndsLog }
     ensures caused { OverArchive (state A.Store conn.old) (state A.Store conn.new)
         (IfErr result FailsOnRows) }
@@ -182,7 +197,14 @@ fn keep_from<L: LogLink, A: Alter, P: Progress>(
     ensures stays { OverArchive (state A.Store conn.old) (state A.Store conn.new)
         (Survives (state A.Store conn.old) (state A.Store conn.new)
         (HasSameLogs (state A.Store conn.old).now.trees)) }
+    // And nothing more than what is in hand, and some of what came behind it.
+    ensures leaves { OverArchive (state A.Store conn.old) (state A.Store conn.new)
+        (Survives (state A.Store conn.old) (state A.Store conn.new) (LeavesBegun L.asks (log_point
+        (client link.old transactions.old) (state A.Store conn.old).now) start steps)) }
     ensures clean { HasCleanDisk (state A.Store conn.new) → HasCleanDisk (state A.Store conn.old) }
+    // And whatever comes of it, only the next steps of its walk are asked for.
+    ensures asked { AsksOn L.asks (client link.old transactions.old) (Ok start) steps
+        (client link.new transactions.new) }
     ensures fault { IfErr result EndsLog }
     ensures caused { OverArchive (state A.Store conn.old) (state A.Store conn.new)
         (IfErr result FailsOnRows) }
@@ -245,7 +267,12 @@ fn keep_and_mark<L: LogLink, A: Alter, P: Progress>(
     ensures stays { OverArchive (state A.Store conn.old) (state A.Store conn.new)
         (Survives (state A.Store conn.old) (state A.Store conn.new)
         (HasSameLogs (state A.Store conn.old).now.trees)) }
+    ensures leaves { OverArchive (state A.Store conn.old) (state A.Store conn.new)
+        (Survives (state A.Store conn.old) (state A.Store conn.new) (LeavesMarked L.asks (log_point
+        (client link.old transactions.old) (state A.Store conn.old).now) start steps)) }
     ensures clean { HasCleanDisk (state A.Store conn.new) → HasCleanDisk (state A.Store conn.old) }
+    ensures asked { AsksOn L.asks (client link.old transactions.old) (Ok start) steps
+        (client link.new transactions.new) }
     ensures fault { IfErr result EndsLog }
     ensures caused { OverArchive (state A.Store conn.old) (state A.Store conn.new)
         (IfErr result FailsOnRows) }
@@ -282,7 +309,13 @@ fn keep_entered<L: LogLink, A: Alter, P: Progress>(
         (λ db. (left : Client L) × (end : EndOf) × KeepsEntered L.asks (log_point
         (client link.old transactions.old) (state A.Store conn.old).now) (log_point left db)
         (Ok start) steps entry.now end))) }
+    // And nothing more than the log's row, and some of what the run brought, or all of it.
+    ensures leaves { OverArchive (state A.Store conn.old) (state A.Store conn.new)
+        (Survives (state A.Store conn.old) (state A.Store conn.new) (LeavesEntered L.asks (log_point
+        (client link.old transactions.old) (state A.Store conn.old).now) start steps entry.now)) }
     ensures clean { HasCleanDisk (state A.Store conn.new) → HasCleanDisk (state A.Store conn.old) }
+    ensures asked { AsksOn L.asks (client link.old transactions.old) (Ok start) steps
+        (client link.new transactions.new) }
     ensures fault { IfErr result EndsLog }
     ensures caused { OverArchive (state A.Store conn.old) (state A.Store conn.new)
         (IfErr result FailsOnRows) }
@@ -322,7 +355,17 @@ fn fetch_over<L: LogLink, A: Alter, P: Progress>(
         (λ db. (left : Client L) × (end : EndOf) × KeepsOverLink L.asks (log_point
         (client link.old transactions.old) (state A.Store conn.old).now) (log_point left db) steps
         (target entry.now log) many end))) }
+    // And nothing more than the log's row, and some of what the run brought, or all of it.
+    ensures leaves { OverArchive (state A.Store conn.old) (state A.Store conn.new)
+        (Survives (state A.Store conn.old) (state A.Store conn.new) (LeavesOverLink L.asks
+        (log_point (client link.old transactions.old) (state A.Store conn.old).now) steps
+        (target entry.now log) many)) }
     ensures clean { HasCleanDisk (state A.Store conn.new) → HasCleanDisk (state A.Store conn.old) }
+    // Only what the run asks of the device went over the link, also where it fails.
+    ensures asked { OverArchive (state A.Store conn.old) (state A.Store conn.new)
+        (IfErr result (λ _. AsksOverLink L.asks
+        (log_point (client link.old transactions.old) (state A.Store conn.old).now) steps
+        (target entry.now log) many (client link.new transactions.new))) }
     ensures fault { IfErr result EndsLog }
     ensures caused { OverArchive (state A.Store conn.old) (state A.Store conn.new)
         (IfErr result FailsOnRows) }
@@ -373,6 +416,12 @@ pub(crate) fn fetch<S: Sockets, A: Alter, P: Progress>(
     ensures stays { OverArchive (state A.Store conn.old) (state A.Store conn.new)
         (Survives (state A.Store conn.old) (state A.Store conn.new)
         (HasAllOf (state A.Store conn.old).now.trees)) }
+    // And nothing more than the log's row, and what came over the socket that was opened for it.
+    ensures leaves { OverArchive (state A.Store conn.old) (state A.Store conn.new)
+        (Survives (state A.Store conn.old) (state A.Store conn.new) (LeavesLog (socket_rules S.opens
+        S.closes S.Socket.sends S.Socket.receives S.Socket.receives_within) asking
+        (run_point sockets.old (state A.Store conn.old).now) sockets.new
+        (target entry.now (trend_log entry.now.row.source.instance)))) }
     ensures clean { HasCleanDisk (state A.Store conn.new) → HasCleanDisk (state A.Store conn.old) }
     // Where no socket was opened, nothing was done, and after no fault but of rows was anything
     // committed.
@@ -383,8 +432,8 @@ pub(crate) fn fetch<S: Sockets, A: Alter, P: Progress>(
         (IsNoInstance entry.now.row.source.instance) ⊥ sockets.new) }
     ensures caused { OverArchive (state A.Store conn.old) (state A.Store conn.new)
         (IfErr result (EndsFetch (socket_rules S.opens S.closes S.Socket.sends S.Socket.receives
-        S.Socket.receives_within) asking.asked entry.now.row.source.instance sockets.old
-        sockets.new)) }
+        S.Socket.receives_within) asking (run_point sockets.old (state A.Store conn.old).now)
+        sockets.new (target entry.now (trend_log entry.now.row.source.instance)))) }
 {
     let Asking {
         asked,

@@ -1,15 +1,16 @@
 //! Logs are kept one after the other, in groups that are committed at once.
 
-ghost use Rattle.std.specs.Prelude.{◌≡◌, ◌≢◌, ◌⊎◌, false, IfErr, IfOk, OnOk, List, []};
+ghost use Rattle.std.specs.Prelude.{◌≡◌, ◌≢◌, ◌⊎◌, ◌∷◌, false, IfErr, IfOk, OnOk, List, []};
 ghost use Rattle.std.specs.Io.KnownBytes.{append_known};
 ghost use Rattle.sqlite.specs.State.{HasCleanDisk, Survives};
 ghost use Rattle.sqlite.specs.Held.{state};
 ghost use Rattle.bac_archive.specs.Schema.{OverArchive};
 ghost use Rattle.bac_ports.specs.Sockets.{socket_rules};
 ghost use Rattle.bac_asked.specs.Faults.{FailsOnRows};
-ghost use Rattle.bac_fetch.specs.Causes.{EndsAll, EndsNext};
+ghost use Rattle.bac_fetch.specs.Causes.{EndsAll, EndsWith};
 ghost use Rattle.bac_fetch.specs.Faults.{EndsRun, HasNoInstance, IsNoInstance};
 ghost use Rattle.bac_fetch.specs.Keeps.{AreToldBy, IsToldBy, KeepsAll, KeepsNext};
+ghost use Rattle.bac_fetch.specs.Left.{LeavesAll};
 ghost use Rattle.bac_fetch.specs.Stays.{HasAllOf, LeavesBehind};
 ghost use Rattle.bac_fetch.specs.Points.{knowing, run_point};
 ghost use Rattle.bac_questions.specs.declared.whose.Heard.{Heard as HeardOf};
@@ -55,6 +56,11 @@ fn keep_grouped<S: Heeds, A: Alter, O: Write, E: Write>(
     ensures stays { OverArchive (state A.Store conn.old) (state A.Store conn.new)
         (Survives (state A.Store conn.old) (state A.Store conn.new)
         (HasAllOf (state A.Store conn.old).now.trees)) }
+    ensures leaves { OverArchive (state A.Store conn.old) (state A.Store conn.new)
+        (Survives (state A.Store conn.old) (state A.Store conn.new) (LeavesAll (socket_rules S.opens
+        S.closes S.Socket.sends S.Socket.receives S.Socket.receives_within)
+        (knowing known.now heard.old.items) (wanted ∷ [])
+        (run_point sockets.old (state A.Store conn.old).now))) }
     ensures clean { HasCleanDisk (state A.Store conn.new) → HasCleanDisk (state A.Store conn.old) }
     ensures fault { IfErr result (EndsRun (socket_rules S.opens S.closes S.Socket.sends
         S.Socket.receives S.Socket.receives_within) (IsNoInstance wanted.source.instance) ⊥
@@ -64,7 +70,7 @@ fn keep_grouped<S: Heeds, A: Alter, O: Write, E: Write>(
         (IfErr result (λ fault. FailsOnRows fault ⊎ Survives (state A.Store conn.old)
         (state A.Store conn.new) (λ trees. trees ≡ (state A.Store conn.old).now.trees))) }
     ensures caused { OverArchive (state A.Store conn.old) (state A.Store conn.new)
-        (IfErr result (EndsNext (socket_rules S.opens S.closes S.Socket.sends S.Socket.receives
+        (IfErr result (EndsWith (socket_rules S.opens S.closes S.Socket.sends S.Socket.receives
         S.Socket.receives_within) (knowing known.now heard.old.items) wanted
         (run_point sockets.old (state A.Store conn.old).now) sockets.new)) }
 {
@@ -109,6 +115,13 @@ where
         (HasAllOf (state A.Store conn.old).now.trees)) }
     // Nothing waits for a commit.
     ensures ended { all.items ≢ [] → OnOk result (conn.new.in_transaction ≡ false) }
+    // What is on the disk then, or is left by a crash at any moment before, is what was there, or
+    // has what these logs brought by then, and nothing else.
+    ensures leaves { OverArchive (state A.Store conn.old) (state A.Store conn.new)
+        (Survives (state A.Store conn.old) (state A.Store conn.new) (LeavesAll (socket_rules S.opens
+        S.closes S.Socket.sends S.Socket.receives S.Socket.receives_within)
+        (knowing known.now heard.items) all.items
+        (run_point sockets.old (state A.Store conn.old).now))) }
     ensures clean { HasCleanDisk (state A.Store conn.new) → HasCleanDisk (state A.Store conn.old) }
     ensures fault { IfErr result (EndsRun (socket_rules S.opens S.closes S.Socket.sends
         S.Socket.receives S.Socket.receives_within) (HasNoInstance all.items) ⊥

@@ -16,7 +16,9 @@ ghost use Rattle.bac_fetch.specs.Causes.{FailsToSettle};
 ghost use Rattle.bac_fetch.specs.Faults.{EndsChosen, EndsKeeping, EndsKept, EndsRun, HasNoInstance};
 ghost use Rattle.bac_fetch.specs.Faults.{HasNone, LacksAddress};
 ghost use Rattle.bac_fetch.specs.Keeps.{AreToldBehind, AreToldBy, KeepsLogs, KeepsSettled};
+ghost use Rattle.bac_fetch.specs.Left.{LeavesCalled, LeavesLogs, LeavesRunOver, LeavesSettled};
 ghost use Rattle.bac_fetch.specs.Moves.{Settles};
+ghost use Rattle.bac_questions.specs.declared.whose.Heard.{Heard as HeardOf};
 ghost use Rattle.bac_archive.specs.declared.trend_logs.Log.{Log as LogOf};
 ghost use Rattle.bac_fetch.specs.Chosen.{AreFound, AreChosen, AreKeptLogs, AskTheirSources};
 ghost use Rattle.bac_fetch.specs.Chosen.{Finds, findings, not_stopped, selection};
@@ -170,6 +172,12 @@ where
         (HasAllOf (state A.Store conn.old).now.trees)) }
     // Nothing waits for a commit.
     ensures ended { all.items ≢ [] → OnOk result (conn.new.in_transaction ≡ false) }
+    ensures leaves { OverArchive (state A.Store conn.old) (state A.Store conn.new)
+        (Survives (state A.Store conn.old) (state A.Store conn.new)
+        (LeavesCalled (reach (socket_rules S.opens
+        S.closes S.Socket.sends S.Socket.receives S.Socket.receives_within)
+        (at_once S.holds C.reads clock window)) heard.items all.items
+        (run_point sockets.old (state A.Store conn.old).now))) }
     ensures clean { HasCleanDisk (state A.Store conn.new) → HasCleanDisk (state A.Store conn.old) }
     ensures fault { IfErr result (EndsRun (socket_rules S.opens S.closes S.Socket.sends
         S.Socket.receives S.Socket.receives_within) (HasNoInstance all.items) ⊥
@@ -221,6 +229,13 @@ fn settle_known<S: Sockets, A: Alter, E: Write>(
     ensures stays { OverArchive (state A.Store conn.old) (state A.Store conn.new)
         (Survives (state A.Store conn.old) (state A.Store conn.new)
         (HasAllOf (state A.Store conn.old).now.trees)) }
+    ensures leaves { OverArchive (state A.Store conn.old) (state A.Store conn.new)
+        (Survives (state A.Store conn.old) (state A.Store conn.new)
+        (λ left. (known : List LogOf) × AreLogs (state A.Store conn.old).now.trees known
+        × LeavesSettled (λ db. (heard : List HeardOf) × Settles (socket_rules S.opens S.closes
+        S.Socket.sends S.Socket.receives S.Socket.receives_within) (given_in options.now) known
+        all.now (run_point sockets.old (state A.Store conn.old).now) heard
+        (run_point sockets.new db)) left)) }
     ensures clean { HasCleanDisk (state A.Store conn.new) → HasCleanDisk (state A.Store conn.old) }
     ensures fault { IfErr result (EndsRun (socket_rules S.opens S.closes S.Socket.sends
         S.Socket.receives S.Socket.receives_within) ⊥
@@ -281,6 +296,14 @@ where
         (HasAllOf (state A.Store conn.old).now.trees)) }
     // Nothing waits for a commit.
     ensures ended { all.items ≢ [] → OnOk result (conn.new.in_transaction ≡ false) }
+    // And it has nothing more than what was settled of the first device, and what these logs
+    // brought by then over sockets that were opened as they are asked for.
+    ensures leaves { OverArchive (state A.Store conn.old) (state A.Store conn.new)
+        (Survives (state A.Store conn.old) (state A.Store conn.new)
+        (LeavesLogs (reach (socket_rules S.opens
+        S.closes S.Socket.sends S.Socket.receives S.Socket.receives_within)
+        (at_once S.holds C.reads clock window)) (given_in options.now) all.items
+        (run_point sockets.old (state A.Store conn.old).now))) }
     ensures clean { HasCleanDisk (state A.Store conn.new) → HasCleanDisk (state A.Store conn.old) }
     // Or it ends before that.
     ensures fault { IfErr result (EndsRun (socket_rules S.opens S.closes S.Socket.sends
@@ -391,6 +414,15 @@ where
     ensures stays { OverArchive (state A.Store conn.old) (state A.Store conn.new)
         (Survives (state A.Store conn.old) (state A.Store conn.new)
         (HasAllOf (state A.Store conn.old).now.trees)) }
+    // And nothing comes to it but what the logs that were found brought by then, whatever ends the
+    // run, a crash too.
+    ensures leaves { OverArchive (state A.Store conn.old) (state A.Store conn.new)
+        (Survives (state A.Store conn.old) (state A.Store conn.new)
+        (LeavesRunOver (reach (socket_rules S.opens
+        S.closes S.Socket.sends S.Socket.receives S.Socket.receives_within)
+        (at_once S.holds C.reads clock window))
+        (selection (given_in options.now) chosen)
+        (run_point sockets.old (state A.Store conn.old).now))) }
     ensures clean { HasCleanDisk (state A.Store conn.new) → HasCleanDisk (state A.Store conn.old) }
     // Or their names aren't found, or the run over them ends before that.
     ensures fault { IfErr result (EndsKeeping (reach (socket_rules S.opens S.closes S.Socket.sends

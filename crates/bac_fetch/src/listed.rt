@@ -68,8 +68,9 @@ where
     ensures holds { IfOk result (λ silent. HoldsLists (reach (socket_rules S.opens S.closes
         S.Socket.sends S.Socket.receives S.Socket.receives_within)
         (at_once S.holds C.reads clock window)) sought.now sockets.old silent.items sockets.new) }
-    ensures fault { IfErr result (EndsHolding (socket_rules S.opens S.closes S.Socket.sends
-        S.Socket.receives S.Socket.receives_within) sought.now sockets.old sockets.new) }
+    ensures fault { IfErr result (EndsHolding (reach (socket_rules S.opens S.closes
+        S.Socket.sends S.Socket.receives S.Socket.receives_within)
+        (at_once S.holds C.reads clock window)) sought.now sockets.old sockets.new) }
 {
     let devices = devices_of(alloc, sought)?;
     let lists = list_ahead(sockets, alloc, clock, window, devices.as_slice())?;

@@ -13,8 +13,9 @@ ghost use Rattle.bac_asked.specs.Wanted.{HasNoAddress};
 ghost use Rattle.bac_asked.specs.AsLog.{given_in};
 ghost use Rattle.bac_asked.specs.Faults.{WantsMemory, FailsOnRows, EndsLog};
 ghost use Rattle.bac_fetch.specs.Causes.{EndsFirst, EndsMoving, EndsSettling, EndsThere};
-ghost use Rattle.bac_fetch.specs.Causes.{LeavesUnsettled};
+ghost use Rattle.bac_fetch.specs.Causes.{EndsAtFirst, LeavesUnsettled};
 ghost use Rattle.bac_fetch.specs.Faults.{EndsRun, HaveNoAddress};
+ghost use Rattle.bac_fetch.specs.Left.{LeavesSettled};
 ghost use Rattle.bac_fetch.specs.Moves.{AreMoved, AsksThere, IsAskedThere, IsElsewhere, Settles};
 ghost use Rattle.bac_fetch.specs.Moves.{SettlesBy, SettlesFirst, SettlesUnless, arrival, is_placed};
 ghost use Rattle.bac_fetch.specs.Moves.{moved_columns, moved_of};
@@ -136,6 +137,11 @@ fn move_logs<A: Alter>(
     ensures stays { HasArchive (state A.Store conn.old).now.schema
         → Survives (state A.Store conn.old) (state A.Store conn.new)
         (HasAllOf (state A.Store conn.old).now.trees) }
+    // A crash leaves them where they stood, or where they stand from now on.
+    ensures crash { HasArchive (state A.Store conn.old).now.schema
+        → Survives (state A.Store conn.old) (state A.Store conn.new)
+        (LeavesSettled (λ db. (moved : _) × AreMoved device from.now to.now known.now moved
+        × HasChangedLogs (state A.Store conn.old).now db moved)) }
     ensures clean { HasCleanDisk (state A.Store conn.new) → HasCleanDisk (state A.Store conn.old) }
     ensures fault { IfErr result EndsLog }
     ensures caused { IfErr result FailsOnRows }
@@ -224,6 +230,12 @@ fn settle_from<S: Sockets, A: Alter, E: Write>(
     ensures stays { HasArchive (state A.Store conn.old).now.schema
         → Survives (state A.Store conn.old) (state A.Store conn.new)
         (HasAllOf (state A.Store conn.old).now.trees) }
+    ensures crash { HasArchive (state A.Store conn.old).now.schema
+        → Survives (state A.Store conn.old) (state A.Store conn.new)
+        (LeavesSettled (λ db. AsksThere (socket_rules S.opens S.closes
+        S.Socket.sends S.Socket.receives S.Socket.receives_within) (given_in options.now)
+        from.now (arrival device to.now) known.now
+        (run_point sockets.old (state A.Store conn.old).now) (run_point sockets.new db))) }
     ensures clean { HasCleanDisk (state A.Store conn.new) → HasCleanDisk (state A.Store conn.old) }
     ensures fault { IfErr result (EndsRun (socket_rules S.opens S.closes S.Socket.sends
         S.Socket.receives S.Socket.receives_within) ⊥
@@ -268,6 +280,12 @@ fn settle_by<S: Sockets, A: Alter, E: Write>(
     ensures stays { HasArchive (state A.Store conn.old).now.schema
         → Survives (state A.Store conn.old) (state A.Store conn.new)
         (HasAllOf (state A.Store conn.old).now.trees) }
+    ensures crash { HasArchive (state A.Store conn.old).now.schema
+        → Survives (state A.Store conn.old) (state A.Store conn.new)
+        (LeavesSettled (λ db. SettlesBy (socket_rules S.opens S.closes
+        S.Socket.sends S.Socket.receives S.Socket.receives_within) (given_in options.now)
+        known.now to.now identity (run_point sockets.old (state A.Store conn.old).now)
+        (run_point sockets.new db))) }
     ensures clean { HasCleanDisk (state A.Store conn.new) → HasCleanDisk (state A.Store conn.old) }
     ensures fault { IfErr result (EndsRun (socket_rules S.opens S.closes S.Socket.sends
         S.Socket.receives S.Socket.receives_within) ⊥
@@ -323,6 +341,12 @@ fn settle_first<S: Sockets, A: Alter, E: Write>(
     ensures stays { HasArchive (state A.Store conn.old).now.schema
         → Survives (state A.Store conn.old) (state A.Store conn.new)
         (HasAllOf (state A.Store conn.old).now.trees) }
+    ensures crash { HasArchive (state A.Store conn.old).now.schema
+        → Survives (state A.Store conn.old) (state A.Store conn.new)
+        (LeavesSettled (λ db. (one : HeardOf) × SettlesFirst (socket_rules S.opens S.closes
+        S.Socket.sends S.Socket.receives S.Socket.receives_within) (given_in options.now)
+        known.now first.now (run_point sockets.old (state A.Store conn.old).now) one
+        (run_point sockets.new db))) }
     ensures clean { HasCleanDisk (state A.Store conn.new) → HasCleanDisk (state A.Store conn.old) }
     ensures fault { IfErr result (EndsRun (socket_rules S.opens S.closes S.Socket.sends
         S.Socket.receives S.Socket.receives_within) ⊥
@@ -379,14 +403,20 @@ fn settle_unless<S: Sockets, A: Alter, E: Write>(
     ensures stays { HasArchive (state A.Store conn.old).now.schema
         → Survives (state A.Store conn.old) (state A.Store conn.new)
         (HasAllOf (state A.Store conn.old).now.trees) }
+    ensures crash { HasArchive (state A.Store conn.old).now.schema
+        → Survives (state A.Store conn.old) (state A.Store conn.new)
+        (LeavesSettled (λ db. (heard : List HeardOf) × SettlesUnless (socket_rules S.opens S.closes
+        S.Socket.sends S.Socket.receives S.Socket.receives_within) (given_in options.now)
+        known.now first.now (run_point sockets.old (state A.Store conn.old).now) heard
+        (run_point sockets.new db))) }
     ensures clean { HasCleanDisk (state A.Store conn.new) → HasCleanDisk (state A.Store conn.old) }
     ensures fault { IfErr result (EndsRun (socket_rules S.opens S.closes S.Socket.sends
         S.Socket.receives S.Socket.receives_within) ⊥
         (HaveNoAddress (given_in options.now) known.now) sockets.new) }
-    ensures caused { IfErr result (EndsFirst
-        (socket_rules S.opens S.closes S.Socket.sends S.Socket.receives
-        S.Socket.receives_within) (given_in options.now) known.now first.now sockets.old
-        sockets.new) }
+    ensures caused { OverArchive (state A.Store conn.old) (state A.Store conn.new)
+        (IfErr result (EndsAtFirst (socket_rules S.opens S.closes S.Socket.sends S.Socket.receives
+        S.Socket.receives_within) (given_in options.now) known.now first.now
+        (run_point sockets.old (state A.Store conn.old).now) sockets.new)) }
 {
     let mut heard = Vec::new(alloc);
     if is_placed(known, &first.source) {
@@ -430,14 +460,21 @@ pub(crate) fn settle<S: Sockets, A: Alter, E: Write>(
     ensures stays { HasArchive (state A.Store conn.old).now.schema
         → Survives (state A.Store conn.old) (state A.Store conn.new)
         (HasAllOf (state A.Store conn.old).now.trees) }
+    // A crash leaves the archive as it was, or settled.
+    ensures crash { HasArchive (state A.Store conn.old).now.schema
+        → Survives (state A.Store conn.old) (state A.Store conn.new)
+        (LeavesSettled (λ db. (heard : List HeardOf) × Settles (socket_rules S.opens S.closes
+        S.Socket.sends S.Socket.receives S.Socket.receives_within) (given_in options.now)
+        known.now all.now (run_point sockets.old (state A.Store conn.old).now) heard
+        (run_point sockets.new db))) }
     ensures clean { HasCleanDisk (state A.Store conn.new) → HasCleanDisk (state A.Store conn.old) }
     ensures fault { IfErr result (EndsRun (socket_rules S.opens S.closes S.Socket.sends
         S.Socket.receives S.Socket.receives_within) ⊥
         (HaveNoAddress (given_in options.now) known.now) sockets.new) }
-    ensures caused { IfErr result (EndsSettling
-        (socket_rules S.opens S.closes S.Socket.sends S.Socket.receives
-        S.Socket.receives_within) (given_in options.now) known.now all.now sockets.old
-        sockets.new) }
+    ensures caused { OverArchive (state A.Store conn.old) (state A.Store conn.new)
+        (IfErr result (EndsSettling (socket_rules S.opens S.closes S.Socket.sends S.Socket.receives
+        S.Socket.receives_within) (given_in options.now) known.now all.now
+        (run_point sockets.old (state A.Store conn.old).now) sockets.new)) }
 {
     match all {
         [first, ..] => settle_unless(sockets, conn, alloc, known, first, options, errors),

@@ -1,6 +1,6 @@
 //! One log of a run is kept, or it is told why it isn't.
 
-ghost use Rattle.std.specs.Prelude.{◌≡◌, if◌then◌else◌, IfErr, IfOk, OnOk, option_map};
+ghost use Rattle.std.specs.Prelude.{◌≡◌, if◌then◌else◌, IfErr, IfOk, None, OnOk, option_map};
 ghost use Rattle.std.specs.Io.KnownBytes.{Appends};
 ghost use Rattle.bac_heeding.specs.Notes.{nothing};
 ghost use Rattle.sqlite.specs.State.{HasCleanDisk, Survives};
@@ -9,11 +9,13 @@ ghost use Rattle.bac_archive.specs.Schema.{OverArchive};
 ghost use Rattle.bac_asked.specs.Faults.{EndsLog, FailsOnRows};
 ghost use Rattle.bac_asked.specs.Lines.{summary_line};
 ghost use Rattle.bac_ports.specs.Sockets.{socket_rules};
-ghost use Rattle.bac_fetch.specs.Causes.{EndsAmong, EndsFetch, EndsNext, EndsOne, LeavesUndone};
+ghost use Rattle.bac_fetch.specs.Causes.{EndsFetch, EndsHeard, EndsNext, EndsOne, EndsUnless};
+ghost use Rattle.bac_fetch.specs.Causes.{LeavesUndone};
 ghost use Rattle.bac_fetch.specs.Faults.{EndsRun, IsNoInstance};
 ghost use Rattle.bac_fetch.specs.Keeps.{IsRowOf, IsToldBy, KeepsHeard, KeepsLog, KeepsNext, target};
 ghost use Rattle.bac_ahead.specs.Ahead.{trend_log};
 ghost use Rattle.bac_fetch.specs.Keeps.{KeepsUnless, introduced};
+ghost use Rattle.bac_fetch.specs.Left.{LeavesHeard, LeavesLog, LeavesNext, LeavesSource};
 ghost use Rattle.bac_fetch.specs.Entries.{IsEntry};
 ghost use Rattle.bac_questions.specs.Whose.{heard_with};
 ghost use Rattle.bac_fetch.specs.declared.entry.Entry.{Entry as EntryOf};
@@ -79,6 +81,11 @@ fn fetch_told<S: Heeds, A: Alter, O: Write, E: Write>(
     ensures stays { OverArchive (state A.Store conn.old) (state A.Store conn.new)
         (Survives (state A.Store conn.old) (state A.Store conn.new)
         (HasAllOf (state A.Store conn.old).now.trees)) }
+    ensures leaves { OverArchive (state A.Store conn.old) (state A.Store conn.new)
+        (Survives (state A.Store conn.old) (state A.Store conn.new) (LeavesLog (socket_rules S.opens
+        S.closes S.Socket.sends S.Socket.receives S.Socket.receives_within) asking
+        (run_point sockets.old (state A.Store conn.old).now) sockets.new
+        (target entry.now (trend_log entry.now.row.source.instance)))) }
     ensures clean { HasCleanDisk (state A.Store conn.new) → HasCleanDisk (state A.Store conn.old) }
     ensures undone { OverArchive (state A.Store conn.old) (state A.Store conn.new)
         (IfErr result (LeavesUndone (state A.Store conn.old) (state A.Store conn.new))) }
@@ -87,8 +94,8 @@ fn fetch_told<S: Heeds, A: Alter, O: Write, E: Write>(
         (IsNoInstance entry.now.row.source.instance) ⊥ sockets.new) }
     ensures caused { OverArchive (state A.Store conn.old) (state A.Store conn.new)
         (IfErr result (EndsFetch (socket_rules S.opens S.closes S.Socket.sends S.Socket.receives
-        S.Socket.receives_within) asking.asked entry.now.row.source.instance sockets.old
-        sockets.new)) }
+        S.Socket.receives_within) asking (run_point sockets.old (state A.Store conn.old).now)
+        sockets.new (target entry.now (trend_log entry.now.row.source.instance)))) }
 {
     let address = asking.asked.address;
     let source = &entry.row.source;
@@ -141,6 +148,14 @@ fn keep_one<S: Heeds, A: Alter, O: Write, E: Write>(
     ensures stays { OverArchive (state A.Store conn.old) (state A.Store conn.new)
         (Survives (state A.Store conn.old) (state A.Store conn.new)
         (HasAllOf (state A.Store conn.old).now.trees)) }
+    // And nothing more than the log's row, and what came over the socket that was opened for it.
+    ensures leaves { OverArchive (state A.Store conn.old) (state A.Store conn.new)
+        (Survives (state A.Store conn.old) (state A.Store conn.new) (λ left. (entry : EntryOf)
+        × IsEntry (state A.Store conn.old).now.trees (option_map (λ it. it.now) log.entry) said.told
+        entry × IsRowOf wanted said.told entry.row
+        × LeavesLog (socket_rules S.opens S.closes S.Socket.sends S.Socket.receives
+        S.Socket.receives_within) wanted.asking (run_point sockets.old (state A.Store conn.old).now)
+        sockets.new (target entry (trend_log wanted.source.instance)) left)) }
     ensures clean { HasCleanDisk (state A.Store conn.new) → HasCleanDisk (state A.Store conn.old) }
     ensures undone { OverArchive (state A.Store conn.old) (state A.Store conn.new)
         (IfErr result (LeavesUndone (state A.Store conn.old) (state A.Store conn.new))) }
@@ -149,8 +164,9 @@ fn keep_one<S: Heeds, A: Alter, O: Write, E: Write>(
         sockets.new) }
     ensures caused { OverArchive (state A.Store conn.old) (state A.Store conn.new)
         (IfErr result (EndsOne (socket_rules S.opens S.closes S.Socket.sends S.Socket.receives
-        S.Socket.receives_within) (option_map (λ it. it.now) log.entry) wanted
-        (state A.Store conn.old).now.trees sockets.old sockets.new)) }
+        S.Socket.receives_within) (option_map (λ it. it.now) log.entry)
+        (introduced wanted said.told) (run_point sockets.old (state A.Store conn.old).now)
+        sockets.new)) }
 {
     let Wanted {
         source,
@@ -197,6 +213,12 @@ fn keep_unless<S: Heeds, A: Alter, O: Write, E: Write>(
     ensures stays { OverArchive (state A.Store conn.old) (state A.Store conn.new)
         (Survives (state A.Store conn.old) (state A.Store conn.new)
         (HasAllOf (state A.Store conn.old).now.trees)) }
+    // Nothing more is left where there is a reason.
+    ensures leaves { OverArchive (state A.Store conn.old) (state A.Store conn.new)
+        (Survives (state A.Store conn.old) (state A.Store conn.new) (λ left. (why ≡ None)
+        × LeavesSource (socket_rules S.opens S.closes S.Socket.sends S.Socket.receives
+        S.Socket.receives_within) known.now (introduced wanted said.told)
+        (run_point sockets.old (state A.Store conn.old).now) sockets.new left)) }
     ensures clean { HasCleanDisk (state A.Store conn.new) → HasCleanDisk (state A.Store conn.old) }
     ensures undone { OverArchive (state A.Store conn.old) (state A.Store conn.new)
         (IfErr result (LeavesUndone (state A.Store conn.old) (state A.Store conn.new))) }
@@ -204,9 +226,9 @@ fn keep_unless<S: Heeds, A: Alter, O: Write, E: Write>(
         S.Socket.receives S.Socket.receives_within) (IsNoInstance wanted.source.instance) ⊥
         sockets.new) }
     ensures caused { OverArchive (state A.Store conn.old) (state A.Store conn.new)
-        (IfErr result (EndsAmong (socket_rules S.opens S.closes S.Socket.sends S.Socket.receives
-        S.Socket.receives_within) known.now wanted (state A.Store conn.old).now.trees
-        sockets.old sockets.new)) }
+        (IfErr result (EndsUnless (socket_rules S.opens S.closes S.Socket.sends S.Socket.receives
+        S.Socket.receives_within) known.now (introduced wanted said.told) why
+        (run_point sockets.old (state A.Store conn.old).now) sockets.new)) }
 {
     let log = log_among(known, at, &wanted.source);
     match why {
@@ -258,6 +280,11 @@ fn keep_heard<S: Heeds, A: Alter, O: Write, E: Write>(
     ensures stays { OverArchive (state A.Store conn.old) (state A.Store conn.new)
         (Survives (state A.Store conn.old) (state A.Store conn.new)
         (HasAllOf (state A.Store conn.old).now.trees)) }
+    ensures leaves { OverArchive (state A.Store conn.old) (state A.Store conn.new)
+        (Survives (state A.Store conn.old) (state A.Store conn.new) (LeavesHeard (socket_rules
+        S.opens S.closes S.Socket.sends S.Socket.receives S.Socket.receives_within)
+        (knowing known.now heard.old.items) wanted
+        (run_point sockets.old (state A.Store conn.old).now) sockets.new)) }
     ensures clean { HasCleanDisk (state A.Store conn.new) → HasCleanDisk (state A.Store conn.old) }
     ensures undone { OverArchive (state A.Store conn.old) (state A.Store conn.new)
         (IfErr result (LeavesUndone (state A.Store conn.old) (state A.Store conn.new))) }
@@ -265,7 +292,7 @@ fn keep_heard<S: Heeds, A: Alter, O: Write, E: Write>(
         S.Socket.receives S.Socket.receives_within) (IsNoInstance wanted.source.instance) ⊥
         sockets.new) }
     ensures caused { OverArchive (state A.Store conn.old) (state A.Store conn.new)
-        (IfErr result (EndsNext (socket_rules S.opens S.closes S.Socket.sends S.Socket.receives
+        (IfErr result (EndsHeard (socket_rules S.opens S.closes S.Socket.sends S.Socket.receives
         S.Socket.receives_within) (knowing known.now heard.old.items) wanted
         (run_point sockets.old (state A.Store conn.old).now) sockets.new)) }
 {
@@ -310,6 +337,11 @@ pub(crate) fn keep_next<S: Heeds, A: Alter, O: Write, E: Write>(
     ensures stays { OverArchive (state A.Store conn.old) (state A.Store conn.new)
         (Survives (state A.Store conn.old) (state A.Store conn.new)
         (HasAllOf (state A.Store conn.old).now.trees)) }
+    ensures leaves { OverArchive (state A.Store conn.old) (state A.Store conn.new)
+        (Survives (state A.Store conn.old) (state A.Store conn.new) (LeavesNext (socket_rules
+        S.opens S.closes S.Socket.sends S.Socket.receives S.Socket.receives_within)
+        (knowing known.now heard.old.items) wanted
+        (run_point sockets.old (state A.Store conn.old).now) sockets.new)) }
     ensures clean { HasCleanDisk (state A.Store conn.new) → HasCleanDisk (state A.Store conn.old) }
     // Where no socket was opened, nothing was done, and after no fault but of rows was anything
     // committed.

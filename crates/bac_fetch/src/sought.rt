@@ -1,17 +1,17 @@
 //! The logs of devices, one device after the other: those that are named, and those that a device
 //! tells itself.
 
-ghost use Rattle.std.specs.Prelude.{◌≡◌, ◌⊎◌, IfErr, IfOk};
+ghost use Rattle.std.specs.Prelude.{◌≡◌, IfErr, IfOk};
 ghost use Rattle.std.specs.Prelude.{OnOk};
 ghost use Rattle.std.specs.Io.KnownBytes.{Appends};
 ghost use Rattle.std.specs.List.{All};
-ghost use Rattle.bac_asked.specs.Faults.{RefusesLine, WantsMemory};
+ghost use Rattle.bac_asked.specs.Faults.{WantsMemory};
 ghost use Rattle.bac_asked.specs.Wanted.{AsksItsSource};
 ghost use Rattle.bac_fetch.specs.Chosen.{AreOfDevice, AskOneSource, Finds, FindsEach, is_wanted};
 ghost use Rattle.bac_fetch.specs.Chosen.{passed_since, told_by, unlisted_by, untold_in, with_new};
 ghost use Rattle.bac_fetch.specs.Chosen.{with_one};
 ghost use Rattle.bac_fetch.specs.Ahead.{at_once, reach};
-ghost use Rattle.bac_fetch.specs.Faults.{EndsDevice, EndsListed, EndsSought};
+ghost use Rattle.bac_fetch.specs.Faults.{EndsDevice, EndsListed, EndsSought, EndsTelling};
 ghost use Rattle.bac_fetch.specs.Unlisted.{unlisted_lines, unlisted_status};
 ghost use Rattle.bac_fetch.specs.declared.keeping.Chosen.TheVariants as chosen;
 ghost use Rattle.bac_fetch.specs.Points.{scene};
@@ -174,7 +174,7 @@ fn add_listing<O: Write, E: Write>(
     ensures printed { OnOk result (Appends (O.contents output.old) (O.contents output.new)
         (unlisted_lines (unlisted_by listing))) }
     ensures status { IfOk result (λ status. status ≡ unlisted_status (unlisted_by listing)) }
-    ensures fault { IfErr result (λ fault. WantsMemory fault ⊎ RefusesLine fault) }
+    ensures fault { IfErr result (EndsTelling listing) }
 {
     match listing {
         Listing::Told(found) => {

@@ -69,4 +69,4 @@ returns-in_err-openings-clause-caused g c clean has =
     let over = socket_rules g.S.Sockets.opens g.S.Sockets.closes g.S.Socket.Port.sends g.S.Socket.Port.receives g.S.Socket.Port.receives_within in
     because c.from_residual.result c.in_err-openings.field-0.0 _ (search rules)
     (ends_on_rows over (paced g.C.Clock.reads c.args.clock c.args.window) (state g.A.Store c.args.conn.now).now c.args.known.now c.args.heard.now c.args.all.now
-    c.args.sockets.now c.args.sockets.now c.in_err-openings.field-0.0 c.in-len1-up.len_at_least (c.in_err-openings.ensures.caused clean has))
+    c.args.sockets.now c.in_err-openings.field-0.0 c.in-len1-up.len_at_least (c.in_err-openings.ensures.caused clean has))

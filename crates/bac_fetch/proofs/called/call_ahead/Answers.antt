@@ -31,7 +31,7 @@ pub returns-in_err-calling-clause-fault : goal.returns-in_err-calling-clause-fau
 returns-in_err-calling-clause-fault g c =
     let over = socket_rules g.S.Sockets.opens g.S.Sockets.closes g.S.Socket.Port.sends g.S.Socket.Port.receives g.S.Socket.Port.receives_within in
     because c.from_residual.result c.in_err-calling.field-0.0 _ (search rules)
-    (calling_ends_run over ⊥ ⊥ c.args.all.now c.args.heard.now.items c.args.sockets.now c.begin_calls.new.sockets c.in_err-calling.field-0.0 c.in_err-calling.ensures.fault)
+    (calling_ends_run over ⊥ ⊥ (at_once g.S.Recalls.holds g.C.Clock.reads c.args.clock c.args.window).pace c.args.all.now c.args.heard.now.items c.args.sockets.now c.begin_calls.new.sockets c.in_err-calling.field-0.0 c.in_err-calling.ensures.fault)
 
 pub returns-clause-calls : goal.returns-clause-calls
 returns-clause-calls g c clean has =

@@ -1,10 +1,10 @@
-use Rattle.std.proofs.Common.{◌≡◌, subst, sym}
+use Rattle.std.proofs.Common.{◌≡◌, ◌⊎◌, inl, inr, refl, subst, sym}
 use Rattle.sqlite.specs.Effect.{Database}
 use Rattle.sqlite.specs.State.{HasCleanDisk}
 use Rattle.sqlite.specs.Held.{state}
 use Rattle.sqlite_trees.specs.Tree.{Trees}
 use Rattle.bac_archive.specs.Schema.{HasArchive}
-use Rattle.bac_fetch.specs.Entries.{AdmitsRow}
+use Rattle.bac_fetch.specs.Entries.{Admits, AdmitsRow}
 use Rattle.bac_fetch.specs.Stays.{HasAllOf, HasRows}
 use Rattle.bac_fetch.specs.declared.entry.Recorded.{Recorded}
 use Rattle.bac_fetch.specs.declared.entry.Recorded.TheVariants.{Not}
@@ -62,3 +62,22 @@ pub returns-in_default-clause-rows : goal.returns-in_default-clause-rows
 returns-in_default-clause-rows g c has =
     let old = state g.A.Store c.args.conn.now in
     does_nothing old (HasRows old.now.trees)
+
+pub returns-clause-crash : goal.returns-clause-crash
+returns-clause-crash g c has =
+    let old = state g.A.Store c.args.conn.now in
+    let entry = c.args.entry.now in
+    let is : entry.recorded ≡ Not = c.in-Not.is in
+    let P : Database → Trees → Type 0 = λ d trees. (db : Database) × AdmitsRow Not entry.row d db × (trees ≡ db.trees) in
+    let Q : Database → Trees → Type 0 = λ d trees. (trees ≡ d.trees) ⊎ ((db : Database) × Admits entry d db × (trees ≡ db.trees)) in
+    commit_then P Q old (state g.A.Store c.commit.new.conn) (state g.A.Store c.add_row.new.conn) has (λ d. inl refl)
+    (λ db left. inr (left.0, subst (λ (r : Recorded). AdmitsRow r entry.row old.now left.0) (sym is) left.1, left.2))
+    c.in_ok-commit.ensures.same c.commit.ensures.crash c.add_row.ensures.crash
+
+pub returns-in_err-commit-clause-crash : goal.returns-in_err-commit-clause-crash
+returns-in_err-commit-clause-crash g c has =
+    let Q : Database → Trees → Type 0 = λ d trees. (trees ≡ d.trees) ⊎ ((db : Database) × Admits c.args.entry.now d db × (trees ≡ db.trees)) in
+    commit_leaves Q (state g.A.Store c.args.conn.now) (state g.A.Store c.commit.new.conn) (λ d. inl refl) c.commit.ensures.crash
+
+pub returns-in_default-clause-crash : goal.returns-in_default-clause-crash
+returns-in_default-clause-crash g c has = does_nothing (state g.A.Store c.args.conn.now) _

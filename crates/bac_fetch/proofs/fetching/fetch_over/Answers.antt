@@ -1,4 +1,4 @@
-use Rattle.std.proofs.Common.{Ok, Err, refl, subst, sym}
+use Rattle.std.proofs.Common.{Ok, Err, inl, inr, refl, rules, subst, sym}
 use Rattle.std.proofs.lemmas.Result.{IfOk-weaker}
 use Rattle.sqlite.specs.Effect.{Database}
 use Rattle.sqlite.specs.State.{HasCleanDisk}
@@ -7,8 +7,11 @@ use Rattle.bac_query.specs.Tables.{client}
 use Rattle.bac_begin.specs.Starts.{IsBegun, run_log, at_start}
 use Rattle.bac_begin.specs.Hands.{log_asked}
 use Rattle.bac_fetch.proofs.KeepsLemmas.{keeps_begun}
+use Rattle.bac_fetch.proofs.LeavesLemmas.{if_err, over_link_leaves}
+use Rattle.bac_fetch.proofs.SameLemmas.{survives_as}
 use Rattle.bac_fetch.proofs.StaysLemmas.{quiet_first, quiet_rows, quiet_stays, quiet_word}
 use Rattle.bac_archive.specs.Schema.{HasArchive}
+use Rattle.bac_archive.proofs.RowsLemmas.{because}
 use Rattle.bac_fetch.proofs.fetching.fetch_over.Goals as goal
 
 pub returns-in-Ok-clause-kept : goal.returns-in-Ok-clause-kept
@@ -79,3 +82,38 @@ returns-in-Err-clause-stays g c clean has =
 pub returns-in_err-start-clause-stays : goal.returns-in_err-start-clause-stays
 returns-in_err-start-clause-stays g c clean has =
     quiet_stays (state g.A.Store c.args.conn.now) (state g.A.Store c.where_to_start.new.conn) (c.where_to_start.ensures.crash has)
+
+pub returns-in-Ok-clause-leaves : goal.returns-in-Ok-clause-leaves
+returns-in-Ok-clause-leaves g c clean has =
+    let entry = c.args.entry.now in
+    let old = state g.A.Store c.args.conn.now in
+    let mid = state g.A.Store c.where_to_start.new.conn in
+    let new = state g.A.Store c.keep_entered.new.conn in
+    let early : HasCleanDisk mid = c.keep_entered.ensures.clean clean in
+    let same = c.in_ok-start.ensures.same early has in
+    let schema : HasArchive mid.now.schema = subst (λ (d : Database). HasArchive d.schema) (sym same) has in
+    let begun : IsBegun g.L.LogLink.asks (client c.args.link.now c.args.transactions.now) (run_log entry.row.id (log_asked c.args.log c.args.many)) entry.word c.args.steps old.now.trees (at_start (Ok c.in-Ok.start) (client c.where_to_start.new.link c.where_to_start.new.transactions)) = rw c.in-Ok.is at c.in_ok-start.ensures.begun early has in
+    over_link_leaves g.L.LogLink.asks (client c.args.link.now c.args.transactions.now) (client c.where_to_start.new.link c.where_to_start.new.transactions) c.args.steps entry c.args.log c.args.many
+    c.in-Ok.start old mid new begun same (c.where_to_start.ensures.crash has) (c.keep_entered.ensures.leaves clean schema)
+
+pub returns-in-Err-clause-leaves : goal.returns-in-Err-clause-leaves
+returns-in-Err-clause-leaves g c clean has =
+    survives_as (state g.A.Store c.args.conn.now) (state g.A.Store c.where_to_start.new.conn) (λ _. ⊥) _ (λ _ db none. absurd none) (c.where_to_start.ensures.crash has)
+
+pub returns-in_err-start-clause-leaves : goal.returns-in_err-start-clause-leaves
+returns-in_err-start-clause-leaves g c clean has =
+    survives_as (state g.A.Store c.args.conn.now) (state g.A.Store c.where_to_start.new.conn) (λ _. ⊥) _ (λ _ db none. absurd none) (c.where_to_start.ensures.crash has)
+
+pub returns-in-Ok-clause-asked : goal.returns-in-Ok-clause-asked
+returns-in-Ok-clause-asked g c clean has =
+    let entry = c.args.entry.now in
+    let old = state g.A.Store c.args.conn.now in
+    let mid = state g.A.Store c.where_to_start.new.conn in
+    let early : HasCleanDisk mid = c.keep_entered.ensures.clean clean in
+    let begun : IsBegun g.L.LogLink.asks (client c.args.link.now c.args.transactions.now) (run_log entry.row.id (log_asked c.args.log c.args.many)) entry.word c.args.steps old.now.trees (at_start (Ok c.in-Ok.start) (client c.where_to_start.new.link c.where_to_start.new.transactions)) = rw c.in-Ok.is at c.in_ok-start.ensures.begun early has in
+    if_err c.keep_entered.result _
+    (λ fault. inr (Ok c.in-Ok.start, client c.where_to_start.new.link c.where_to_start.new.transactions, begun, c.keep_entered.ensures.asked))
+
+pub returns-in_err-start-clause-asked : goal.returns-in_err-start-clause-asked
+returns-in_err-start-clause-asked g c clean has =
+    because c.from_residual.result c.in_err-start.field-0.0 _ (search rules) (inl c.in_err-start.ensures.asks)

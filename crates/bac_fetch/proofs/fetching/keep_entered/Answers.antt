@@ -4,7 +4,8 @@ use Rattle.sqlite.specs.Held.{state}
 use Rattle.bac_query.specs.Tables.{client}
 use Rattle.bac_fetch.proofs.KeepsLemmas.{admit_schema, marked_schema}
 use Rattle.bac_fetch.proofs.StaysLemmas.{admitted_keeps, admitted_stays, all_then, begun_stays, leaves_rows, marks_stay, leaves_word, rows_of_same, rows_then, same_after, stays_then}
-use Rattle.bac_fetch.proofs.SameLemmas.{begun_same, marks_same, same_then}
+use Rattle.bac_fetch.proofs.LeavesLemmas.{admitted_leaves, renewed_leaves}
+use Rattle.bac_fetch.proofs.SameLemmas.{begun_same, marks_same, same_then, survives_as}
 use Rattle.bac_fetch.specs.Stays.{HasRows}
 use Rattle.bac_archive.specs.Schema.{HasArchive}
 use Rattle.bac_archive.proofs.RowsLemmas.{because}
@@ -156,3 +157,45 @@ returns-in_err-renew-clause-fault g c =
 pub returns-in_err-renew-clause-caused : goal.returns-in_err-renew-clause-caused
 returns-in_err-renew-clause-caused g c clean has =
     because c.from_residual-in_err-renew.result c.in_err-renew.field-0.0 _ (search rules) c.in_err-renew.ensures.caused
+
+pub returns-in_err-admit-clause-leaves : goal.returns-in_err-admit-clause-leaves
+returns-in_err-admit-clause-leaves g c clean has =
+    survives_as (state g.A.Store c.args.conn.now) (state g.A.Store c.admit.new.conn) _ _
+    (λ _ db left. elim left [ inl same ↦ inl same | inr made ↦ inr (inl (made.0, made.1, inl made.2)) ]) (c.admit.ensures.crash has)
+
+pub returns-in_err-end-clause-leaves : goal.returns-in_err-end-clause-leaves
+returns-in_err-end-clause-leaves g c clean has =
+    let old = state g.A.Store c.args.conn.now in
+    let known = state g.A.Store c.admit.new.conn in
+    let early : HasCleanDisk known = c.keep_and_mark.ensures.clean clean in
+    let admits = c.in_ok-admit.ensures.admits early has in
+    let schema : HasArchive known.now.schema = admit_schema c.args.entry.now old.now known.now admits has in
+    admitted_leaves _ _ c.args.start _ c.args.entry.now old known (state g.A.Store c.keep_and_mark.new.conn) admits (c.admit.ensures.crash has) (c.keep_and_mark.ensures.leaves clean schema)
+
+pub returns-in_err-renew-clause-leaves : goal.returns-in_err-renew-clause-leaves
+returns-in_err-renew-clause-leaves g c clean has =
+    let old = state g.A.Store c.args.conn.now in
+    let known = state g.A.Store c.admit.new.conn in
+    let marked = state g.A.Store c.keep_and_mark.new.conn in
+    let late : HasCleanDisk marked = c.renew.ensures.clean clean in
+    let early : HasCleanDisk known = c.keep_and_mark.ensures.clean late in
+    let admits = c.in_ok-admit.ensures.admits early has in
+    let schema : HasArchive known.now.schema = admit_schema c.args.entry.now old.now known.now admits has in
+    let (last, keeps, marks) = c.in_ok-end.ensures.kept late schema in
+    let is : HasArchive marked.now.schema = marked_schema _ _ _ c.args.start _ known.now last marked.now c.in_ok-end.end keeps marks schema in
+    renewed_leaves _ _ _ c.args.start _ c.args.entry.now known.now last old marked (state g.A.Store c.renew.new.conn) c.in_ok-end.end admits keeps marks
+    (admitted_leaves _ _ c.args.start _ c.args.entry.now old known marked admits (c.admit.ensures.crash has) (c.keep_and_mark.ensures.leaves late schema)) (c.renew.ensures.crash is)
+
+pub returns-clause-leaves : goal.returns-clause-leaves
+returns-clause-leaves g c clean has =
+    let old = state g.A.Store c.args.conn.now in
+    let known = state g.A.Store c.admit.new.conn in
+    let marked = state g.A.Store c.keep_and_mark.new.conn in
+    let late : HasCleanDisk marked = c.renew.ensures.clean clean in
+    let early : HasCleanDisk known = c.keep_and_mark.ensures.clean late in
+    let admits = c.in_ok-admit.ensures.admits early has in
+    let schema : HasArchive known.now.schema = admit_schema c.args.entry.now old.now known.now admits has in
+    let (last, keeps, marks) = c.in_ok-end.ensures.kept late schema in
+    let is : HasArchive marked.now.schema = marked_schema _ _ _ c.args.start _ known.now last marked.now c.in_ok-end.end keeps marks schema in
+    renewed_leaves _ _ _ c.args.start _ c.args.entry.now known.now last old marked (state g.A.Store c.renew.new.conn) c.in_ok-end.end admits keeps marks
+    (admitted_leaves _ _ c.args.start _ c.args.entry.now old known marked admits (c.admit.ensures.crash has) (c.keep_and_mark.ensures.leaves late schema)) (c.renew.ensures.crash is)

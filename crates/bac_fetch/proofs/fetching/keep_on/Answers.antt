@@ -1,4 +1,4 @@
-use Rattle.std.proofs.Common.{◌≡◌, arith, refl, rules, subst, sym, ◌∙◌}
+use Rattle.std.proofs.Common.{◌≡◌, arith, inl, refl, rules, subst, sym, ◌∙◌}
 use Rattle.std.proofs.lemmas.Result.{IfOk-weaker}
 use Rattle.sqlite.specs.Effect.{Database}
 use Rattle.sqlite.specs.State.{HasCleanDisk}
@@ -14,6 +14,7 @@ use Rattle.bac_fetch.specs.Stays.{HasSameLogs}
 use Rattle.bac_fetch.proofs.CausesLemmas.{never}
 use Rattle.bac_fetch.proofs.EndsLemmas.{both, comes_from, comes_unkept, either_way, keeps_from}
 use Rattle.bac_fetch.proofs.GroupLemmas.{commit_leaves}
+use Rattle.bac_fetch.proofs.LeavesLemmas.{from_leaves}
 use Rattle.bac_fetch.proofs.SameLemmas.{adds_same, same_itself, same_quiet_last, same_stays_then, survives_as}
 use Rattle.bac_fetch.proofs.fetching.keep_on.Goals as goal
 use Rattle.bac_fetch.specs.Points.{log_point}
@@ -119,3 +120,30 @@ returns-clause-caused g c clean has =
     let still = c.in_ok-commit.ensures.same (omega (arith, early, c.keep_log-run.ensures.crash_over.clean)) in
     let schema = subst (λ (d : Database). HasArchive d.schema) (sym still) has in
     c.end_of.ensures.caused (never c.keep_log-run.result.end NoArchive _ (c.keep_log-run.ensures.cause early schema) (λ ends. ends.cause))
+
+pub returns-clause-leaves : goal.returns-clause-leaves
+returns-clause-leaves g c clean has =
+    let old = state g.A.Store c.args.conn.now in
+    let first = state g.A.Store c.commit.new.conn in
+    let mid = state g.A.Store c.keep_log-run.new.conn in
+    let new = state g.A.Store c.look_at.new.conn in
+    let early : HasCleanDisk mid = c.look_at.ensures.clean clean in
+    let still : first.now ≡ old.now = c.in_ok-commit.ensures.same (omega (arith, early, c.keep_log-run.ensures.crash_over.clean)) in
+    from_leaves g.L.LogLink.asks (client c.args.link.now c.args.transactions.now) (footing c.args.place c.args.free c.args.walk c.args.step) c.args.steps old first mid new still
+    c.commit.ensures.crash c.keep_log-run.ensures.crash_over c.look_at.ensures.crash
+
+pub returns-in_err-look_at-clause-leaves : goal.returns-in_err-look_at-clause-leaves
+returns-in_err-look_at-clause-leaves g c clean has =
+    let old = state g.A.Store c.args.conn.now in
+    let first = state g.A.Store c.commit.new.conn in
+    let mid = state g.A.Store c.keep_log-run.new.conn in
+    let new = state g.A.Store c.look_at.new.conn in
+    let early : HasCleanDisk mid = c.look_at.ensures.clean clean in
+    let still : first.now ≡ old.now = c.in_ok-commit.ensures.same (omega (arith, early, c.keep_log-run.ensures.crash_over.clean)) in
+    from_leaves g.L.LogLink.asks (client c.args.link.now c.args.transactions.now) (footing c.args.place c.args.free c.args.walk c.args.step) c.args.steps old first mid new still
+    c.commit.ensures.crash c.keep_log-run.ensures.crash_over c.look_at.ensures.crash
+
+pub returns-in_err-commit-clause-leaves : goal.returns-in_err-commit-clause-leaves
+returns-in_err-commit-clause-leaves g c clean has =
+    let old = state g.A.Store c.args.conn.now in
+    survives_as old (state g.A.Store c.commit.new.conn) (λ trees. trees ≡ old.now.trees) _ (λ _ db is. inl is) c.commit.ensures.crash

@@ -1,8 +1,11 @@
-use Rattle.std.proofs.Common.{None, Some, inl, inr}
+use Rattle.std.proofs.Common.{None, Some, inl, inr, refl, rules}
 use Rattle.std.proofs.lemmas.Result.{IfErr-weaker, IfOk-weaker}
 use Rattle.sqlite.specs.Held.{state}
 use Rattle.bac_archive.proofs.QueryLemmas.{on_ok}
+use Rattle.bac_archive.proofs.RowsLemmas.{because}
 use Rattle.bac_begin.specs.Stands.{IsStand}
+use Rattle.bac_begin.proofs.StoppedLemmas.{at_most}
+use Rattle.bac_query.specs.Tables.{client}
 use Rattle.bac_fetch.proofs.fetching.where_to_start.Goals as goal
 
 pub returns-in-Some-clause-begun : goal.returns-in-Some-clause-begun
@@ -32,3 +35,12 @@ returns-in-None-clause-fault g c = IfErr-weaker c.start_new.result _ _ (λ fault
 
 pub returns-in-None-clause-caused : goal.returns-in-None-clause-caused
 returns-in-None-clause-caused g c clean has = IfErr-weaker c.start_new.result _ _ (λ fault memory. inl memory) c.start_new.ensures.fault
+
+pub returns-in-None-clause-asks : goal.returns-in-None-clause-asks
+returns-in-None-clause-asks g c =
+    let old = client c.args.link.now c.args.transactions.now in
+    let new = client c.start_new.new.link c.start_new.new.transactions in
+    IfErr-weaker c.start_new.result _ _ (λ fault it. at_most g.L.LogLink.asks c.args.log 2 5 old new it) c.start_new.ensures.stops
+
+pub returns-in_err-stand-clause-asks : goal.returns-in_err-stand-clause-asks
+returns-in_err-stand-clause-asks g c = because c.from_residual.result c.in_err-stand.field-0.0 _ (search rules) (inl refl)

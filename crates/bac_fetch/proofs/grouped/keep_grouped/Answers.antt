@@ -1,7 +1,8 @@
-use Rattle.std.proofs.Common.{inl, rules, sym, subst}
+use Rattle.std.proofs.Common.{◌∙◌, ap, inl, inr, rules, sym, subst}
 use Rattle.sqlite.specs.Effect.{Database}
 use Rattle.sqlite.specs.State.{HasCleanDisk}
 use Rattle.sqlite.specs.Held.{state}
+use Rattle.sqlite.proofs.StateLemmas.{survives_then}
 use Rattle.bac_archive.proofs.RowsLemmas.{because}
 use Rattle.bac_asked.specs.Lines.{summary_line}
 use Rattle.bac_ports.specs.Sockets.{socket_rules}
@@ -52,19 +53,12 @@ pub returns-in_err-end_if_due-clause-fault : goal.returns-in_err-end_if_due-clau
 returns-in_err-end_if_due-clause-fault g c =
     because c.from_residual.result c.in_err-end_if_due.field-0.0 _ (search rules) (inl c.in_err-end_if_due.ensures.fault)
 
-pub returns-in_err-end_if_due-clause-caused : goal.returns-in_err-end_if_due-clause-caused
-returns-in_err-end_if_due-clause-caused g c clean has =
-    because c.from_residual.result c.in_err-end_if_due.field-0.0 _ (search rules) (inl c.in_err-end_if_due.ensures.caused)
-
 pub returns-in-Err-clause-stays : goal.returns-in-Err-clause-stays
 returns-in-Err-clause-stays g c clean has =
     let mid = state g.A.Store c.keep_next.new.conn in
     let early : HasCleanDisk mid = c.end_unopened.ensures.clean clean in
     unopened_stays (state g.A.Store c.args.conn.now) mid (state g.A.Store c.end_unopened.new.conn) c.in-Err.fault
     (c.in-Err.ensures.undone early has).0 (c.keep_next.ensures.stays early has) c.end_unopened.ensures.crash
-
-pub returns-in-Err-clause-caused : goal.returns-in-Err-clause-caused
-returns-in-Err-clause-caused g c clean has = c.in-Err.ensures.caused (c.end_unopened.ensures.clean clean) has
 
 pub returns-in-Err-clause-fault : goal.returns-in-Err-clause-fault
 returns-in-Err-clause-fault g c = c.in-Err.ensures.fault
@@ -79,3 +73,40 @@ returns-in-Err-clause-undone g c clean has =
     let early : HasCleanDisk mid = c.end_unopened.ensures.clean clean in
     unopened_leaves (state g.A.Store c.args.conn.now) mid (state g.A.Store c.end_unopened.new.conn) c.in-Err.fault
     (c.in-Err.ensures.undone early has) c.end_unopened.ensures.crash
+
+pub returns-clause-leaves : goal.returns-clause-leaves
+returns-clause-leaves g c clean has =
+    let it = c.in-Ok.ensures.told in
+    let mid = state g.A.Store c.keep_next.new.conn in
+    let early : HasCleanDisk mid = c.end_if_due.ensures.clean clean in
+    survives_then (state g.A.Store c.args.conn.now) mid (state g.A.Store c.end_if_due.new.conn) _ _ _ (λ _ db left. inr (inl (c.keep_next.new.sockets, left)))
+    (λ _ db is. inr (inr (it.0, mid.now, c.keep_next.new.sockets, c.keep_next.new.heard.items, it.3 early has, is)))
+    (c.keep_next.ensures.leaves early has) c.end_if_due.ensures.crash
+
+pub returns-in_err-end_if_due-clause-leaves : goal.returns-in_err-end_if_due-clause-leaves
+returns-in_err-end_if_due-clause-leaves g c clean has =
+    let it = c.in-Ok.ensures.told in
+    let mid = state g.A.Store c.keep_next.new.conn in
+    let early : HasCleanDisk mid = c.end_if_due.ensures.clean clean in
+    survives_then (state g.A.Store c.args.conn.now) mid (state g.A.Store c.end_if_due.new.conn) _ _ _ (λ _ db left. inr (inl (c.keep_next.new.sockets, left)))
+    (λ _ db is. inr (inr (it.0, mid.now, c.keep_next.new.sockets, c.keep_next.new.heard.items, it.3 early has, is)))
+    (c.keep_next.ensures.leaves early has) c.end_if_due.ensures.crash
+
+pub returns-in-Err-clause-leaves : goal.returns-in-Err-clause-leaves
+returns-in-Err-clause-leaves g c clean has =
+    let mid = state g.A.Store c.keep_next.new.conn in
+    let early : HasCleanDisk mid = c.end_unopened.ensures.clean clean in
+    survives_then (state g.A.Store c.args.conn.now) mid (state g.A.Store c.end_unopened.new.conn) _ _ _ (λ _ db left. inr (inl (c.keep_next.new.sockets, left)))
+    (λ _ db left. inl (left.2 ∙ ap (λ (d : Database). d.trees) ((c.in-Err.ensures.undone early has).0 left.0 left.1)))
+    (c.keep_next.ensures.leaves early has) c.end_unopened.ensures.crash
+
+pub returns-in_err-end_if_due-clause-caused : goal.returns-in_err-end_if_due-clause-caused
+returns-in_err-end_if_due-clause-caused g c clean has =
+    let it = c.in-Ok.ensures.told in
+    let mid = state g.A.Store c.keep_next.new.conn in
+    let early : HasCleanDisk mid = c.end_if_due.ensures.clean clean in
+    because c.from_residual.result c.in_err-end_if_due.field-0.0 _ (search rules)
+    (inr (c.in_err-end_if_due.ensures.caused, c.keep_next.new.heard.items, mid.now, it.0, it.3 early has))
+
+pub returns-in-Err-clause-caused : goal.returns-in-Err-clause-caused
+returns-in-Err-clause-caused g c clean has = inl (c.in-Err.ensures.caused (c.end_unopened.ensures.clean clean) has)

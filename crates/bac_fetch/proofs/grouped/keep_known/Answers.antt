@@ -1,4 +1,4 @@
-use Rattle.std.proofs.Common.{rules, arith, ap, inl, inr, ◌⊎◌, length, ◌≡◌, ◌≢◌, ◌<◌, ◌++◌, ◌∷◌, List, [], refl, ap₂, max, subst, sym, ◌∙◌}
+use Rattle.std.proofs.Common.{rules, arith, ap, inl, length, ◌≡◌, ◌≢◌, ◌<◌, ◌++◌, ◌∷◌, List, [], refl, ap₂, max, subst, sym, ◌∙◌}
 use Rattle.std.proofs.IntoIterSteps.{All-taken}
 use Rattle.std.proofs.KnownBytes.{Appends-nil, Appends-trans}
 use Rattle.std.proofs.lemmas.Bool.Decides.{nat_tests}
@@ -6,16 +6,19 @@ use Rattle.std.proofs.lemmas.List.{nil_from_length}
 use Rattle.std.specs.Io.KnownBytes.{Appends, append_known}
 use Rattle.sqlite.specs.Effect.{Database}
 use Rattle.sqlite.specs.State.{HasCleanDisk, Survives}
-use Rattle.bac_asked.specs.Faults.{FailsOnRows}
 use Rattle.sqlite.specs.Held.{state}
 use Rattle.bac_questions.specs.declared.whose.Heard.{Heard}
 use Rattle.bac_ports.specs.Sockets.{socket_rules}
+use Rattle.bac_fetch.specs.Causes.{EndsAll}
 use Rattle.bac_fetch.specs.Keeps.{AreToldBy, KeepsAll, lines_of}
+use Rattle.bac_fetch.specs.Left.{LeavesAll}
+use Rattle.bac_fetch.specs.Stays.{LeavesBehind}
 use Rattle.bac_asked.specs.Lines.{summary_line}
 use Rattle.bac_asked.specs.declared.wanted.Wanted.{Wanted}
-use Rattle.bac_fetch.proofs.GroupLemmas.{commit_stays, ends_uncommitted, first_leaves, none_waits, not_first, printed_behind}
+use Rattle.bac_fetch.proofs.GroupLemmas.{commit_stays, ends_uncommitted, none_waits, printed_behind}
 use Rattle.bac_fetch.proofs.KeepsLemmas.{all_schema, greatest_more, length_more, lines_more, one_more}
-use Rattle.bac_fetch.proofs.StaysLemmas.{all_itself, all_then, itself_stays, next_stays, stays_then}
+use Rattle.bac_fetch.proofs.LeavesLemmas.{behind_as, ends_leaves, group_leaves, leaves_itself, leaves_so, more_leaves}
+use Rattle.bac_fetch.proofs.StaysLemmas.{all_itself, all_then, does_nothing, itself_stays, next_stays, stays_then}
 use Rattle.std.specs.List.{Contains}
 use Rattle.bac_fetch.specs.Faults.{HasNoInstance, IsNoInstance}
 use Rattle.bac_fetch.proofs.FaultsLemmas.{ends_so}
@@ -64,7 +67,11 @@ loop-wanted-preserved g c =
             all_then old.now.trees mid.now.trees new.now.trees stays.0 (next_stays over known heard more wanted half after mid.now new.now it.0 (it.3 clean schema)),
             stays_then old mid new stays.0 stays.1 (c.keep_grouped.ensures.stays clean schema),
           );
-      first = λ none. absurd (not_first yielded wanted none);
+      leaves = λ clean has.
+          let early : HasCleanDisk mid = c.keep_grouped.ensures.clean clean in
+          let kept = was.4 early has in
+          let schema = all_schema over known c.args.heard.items heard yielded before half old.now mid.now was.0 kept has in
+          more_leaves over known c.args.heard.items heard yielded [] wanted before half old mid new was.0 kept (c.loop-wanted.invariant.leaves early has) (c.keep_grouped.ensures.leaves clean schema);
     }
 
 pub loop-wanted-init : goal.loop-wanted-init
@@ -75,7 +82,7 @@ loop-wanted-init g c =
       told = ([], refl, refl, quiet, (λ clean has. (refl, refl, refl)));
       clean = λ clean. clean;
       stays = λ clean has. (all_itself old.now.trees, itself_stays old);
-      first = λ none. refl;
+      leaves = λ clean has. does_nothing old _;
     }
 
 pub returns-clause-told : goal.returns-clause-told
@@ -120,14 +127,30 @@ returns-in_err-end_group-clause-fault g c =
 pub returns-in_err-end_group-clause-caused : goal.returns-in_err-end_group-clause-caused
 returns-in_err-end_group-clause-caused g c clean has =
     let over = socket_rules g.S.Sockets.opens g.S.Sockets.closes g.S.Socket.Port.sends g.S.Socket.Port.receives g.S.Socket.Port.receives_within in
+    let known = c.args.known.now in
+    let heard = c.args.heard.items in
+    let before = c.args.sockets.now in
+    let half = c.loop-wanted.sockets in
+    let yielded = c.loop-wanted.yielded in
+    let old = state g.A.Store c.args.conn.now in
+    let mid = state g.A.Store c.loop-wanted.conn in
+    let new = state g.A.Store c.end_group.new.conn in
+    let fault = c.in_err-end_group.field-0.0 in
+    let early : HasCleanDisk mid = c.end_group.ensures.clean clean in
+    let was = c.loop-wanted.invariant.told in
+    let kept = was.4 early has in
+    let all : yielded ≡ c.args.all.items =
+    All-taken c.into_iter-wanted-iterator.result yielded (c.next.new.self, (c.loop-wanted.wanted-iterator, c.loop-wanted.yielded_by, c.in-None.ensures.steps))
+    ∙ c.into_iter-wanted-iterator.ensures.into_iter_gives.0 in
     let more : 0 < length c.args.all.items = first_of (omega arith, grind (arith, nat_tests)) in
-    let some : c.args.all.items ≢ [] = λ none. let zero : length c.args.all.items ≡ 0 = ap length none in absurd (omega (arith, more, zero)) in
-    let left = (state g.A.Store c.end_group.new.conn).committed.trees in
-    because c.from_residual-in_err-end_group.result c.in_err-end_group.field-0.0 _ (search rules) (
-      left,
-      (λ seen opened. refl),
-      ends_uncommitted over c.args.known.now c.args.heard.items c.args.all.items c.args.sockets.now c.loop-wanted.sockets (state g.A.Store c.args.conn.now).now left c.in_err-end_group.field-0.0 some c.in_err-end_group.ensures.caused,
-    )
+    let some : yielded ≢ [] = λ none. let zero : length c.args.all.items ≡ 0 = ap length (sym all ∙ none) in absurd (omega (arith, more, zero)) in
+    let left = leaves_so old new (LeavesAll over (knowing known heard) yielded (run_point before old.now)) clean (λ opened. g.met.A.Store.stays c.end_group.new.conn.store opened)
+    (leaves_itself over known heard yielded before old.now old.now.trees refl)
+    (group_leaves over known heard c.loop-wanted.heard.items yielded before half old mid new was.0 kept (c.loop-wanted.invariant.leaves early has) c.end_group.ensures.crash) in
+    because c.from_residual-in_err-end_group.result fault _ (search rules)
+    (subst (λ (l : List Wanted). LeavesBehind old new (λ trees. EndsAll over (knowing known heard) l (run_point before old.now) half trees fault)) all
+    (behind_as old new _ _
+    (λ trees it. ends_uncommitted over known heard c.loop-wanted.heard.items yielded before half old.now mid.now was.0 trees fault some kept c.in_err-end_group.ensures.caused it) left))
 
 pub returns-then-is_empty-clause-told : goal.returns-then-is_empty-clause-told
 returns-then-is_empty-clause-told g c =
@@ -177,11 +200,9 @@ returns-in_err-status-clause-caused g c clean has =
     let (rest, are) = taken_apart c.into_iter-wanted-iterator.result yielded c.loop-wanted.wanted-iterator c.next.new.self c.in-Some.wanted c.loop-wanted.yielded_by c.in-Some.ensures.steps in
     let new = state g.A.Store c.keep_grouped.new.conn in
     let fault = c.in_err-status.field-0.0 in
-    let still : FailsOnRows fault ⊎ (yielded ≡ [] → Survives old new (λ trees. trees ≡ old.now.trees)) = elim (c.in_err-status.ensures.undone clean schema) [
-      | inl rows ↦ inl rows
-      | inr quiet ↦ inr (λ none. rw (c.loop-wanted.invariant.first none) at quiet)
-    ] in
-    let leaves = first_leaves old new yielded fault clean (λ opened. g.met.A.Store.stays c.keep_grouped.new.conn.store opened) still in
+    let leaves = ends_leaves over c.args.known.now c.args.heard.items c.loop-wanted.heard.items yielded c.in-Some.wanted c.args.sockets.now c.loop-wanted.sockets old mid new was.0 fault kept
+    (c.loop-wanted.invariant.leaves early has) (c.keep_grouped.ensures.leaves clean schema) clean (λ opened. g.met.A.Store.stays c.keep_grouped.new.conn.store opened)
+    (c.in_err-status.ensures.undone clean schema) in
     because c.from_residual.result fault _ (search rules) (
       leaves.0,
       leaves.1,
@@ -196,7 +217,7 @@ returns-in_err-status-clause-caused g c clean has =
         now = c.loop-wanted.heard.items;
         kept = kept;
         cause = c.in_err-status.ensures.caused clean schema;
-        first = leaves.2;
+        leaves = leaves.2;
       },
     )
 
@@ -216,3 +237,57 @@ returns-in_err-end_group-clause-clean g c late = c.loop-wanted.invariant.clean (
 
 pub returns-in_err-status-clause-clean : goal.returns-in_err-status-clause-clean
 returns-in_err-status-clause-clean g c late = c.loop-wanted.invariant.clean (c.keep_grouped.ensures.clean late)
+
+pub returns-clause-leaves : goal.returns-clause-leaves
+returns-clause-leaves g c clean has =
+    let over = socket_rules g.S.Sockets.opens g.S.Sockets.closes g.S.Socket.Port.sends g.S.Socket.Port.receives g.S.Socket.Port.receives_within in
+    let yielded = c.loop-wanted.yielded in
+    let old = state g.A.Store c.args.conn.now in
+    let mid = state g.A.Store c.loop-wanted.conn in
+    let new = state g.A.Store c.end_group.new.conn in
+    let early : HasCleanDisk mid = c.end_group.ensures.clean clean in
+    let was = c.loop-wanted.invariant.told in
+    let all : yielded ≡ c.args.all.items =
+    All-taken c.into_iter-wanted-iterator.result yielded (c.next.new.self, (c.loop-wanted.wanted-iterator, c.loop-wanted.yielded_by, c.in-None.ensures.steps))
+    ∙ c.into_iter-wanted-iterator.ensures.into_iter_gives.0 in
+    subst (λ (l : List Wanted). Survives old new (LeavesAll over (knowing c.args.known.now c.args.heard.items) l (run_point c.args.sockets.now old.now))) all
+    (group_leaves over c.args.known.now c.args.heard.items c.loop-wanted.heard.items yielded c.args.sockets.now c.loop-wanted.sockets old mid new was.0 (was.4 early has)
+    (c.loop-wanted.invariant.leaves early has) c.end_group.ensures.crash)
+
+pub returns-in_err-end_group-clause-leaves : goal.returns-in_err-end_group-clause-leaves
+returns-in_err-end_group-clause-leaves g c clean has =
+    let over = socket_rules g.S.Sockets.opens g.S.Sockets.closes g.S.Socket.Port.sends g.S.Socket.Port.receives g.S.Socket.Port.receives_within in
+    let yielded = c.loop-wanted.yielded in
+    let old = state g.A.Store c.args.conn.now in
+    let mid = state g.A.Store c.loop-wanted.conn in
+    let new = state g.A.Store c.end_group.new.conn in
+    let early : HasCleanDisk mid = c.end_group.ensures.clean clean in
+    let was = c.loop-wanted.invariant.told in
+    let all : yielded ≡ c.args.all.items =
+    All-taken c.into_iter-wanted-iterator.result yielded (c.next.new.self, (c.loop-wanted.wanted-iterator, c.loop-wanted.yielded_by, c.in-None.ensures.steps))
+    ∙ c.into_iter-wanted-iterator.ensures.into_iter_gives.0 in
+    subst (λ (l : List Wanted). Survives old new (LeavesAll over (knowing c.args.known.now c.args.heard.items) l (run_point c.args.sockets.now old.now))) all
+    (group_leaves over c.args.known.now c.args.heard.items c.loop-wanted.heard.items yielded c.args.sockets.now c.loop-wanted.sockets old mid new was.0 (was.4 early has)
+    (c.loop-wanted.invariant.leaves early has) c.end_group.ensures.crash)
+
+pub returns-then-is_empty-clause-leaves : goal.returns-then-is_empty-clause-leaves
+returns-then-is_empty-clause-leaves g c clean has = does_nothing (state g.A.Store c.args.conn.now) _
+
+pub returns-in_err-status-clause-leaves : goal.returns-in_err-status-clause-leaves
+returns-in_err-status-clause-leaves g c clean has =
+    let over = socket_rules g.S.Sockets.opens g.S.Sockets.closes g.S.Socket.Port.sends g.S.Socket.Port.receives g.S.Socket.Port.receives_within in
+    let known = c.args.known.now in
+    let heard = c.loop-wanted.heard.items in
+    let yielded = c.loop-wanted.yielded in
+    let old = state g.A.Store c.args.conn.now in
+    let mid = state g.A.Store c.loop-wanted.conn in
+    let new = state g.A.Store c.keep_grouped.new.conn in
+    let early : HasCleanDisk mid = c.keep_grouped.ensures.clean clean in
+    let was = c.loop-wanted.invariant.told in
+    let kept = was.4 early has in
+    let schema = all_schema over known c.args.heard.items heard yielded c.args.sockets.now c.loop-wanted.sockets old.now mid.now was.0 kept has in
+    let (rest, are) = taken_apart c.into_iter-wanted-iterator.result yielded c.loop-wanted.wanted-iterator c.next.new.self c.in-Some.wanted c.loop-wanted.yielded_by c.in-Some.ensures.steps in
+    subst (λ (l : List Wanted). Survives old new (LeavesAll over (knowing known c.args.heard.items) l (run_point c.args.sockets.now old.now)))
+    (sym (sym c.into_iter-wanted-iterator.ensures.into_iter_gives.0 ∙ are))
+    (more_leaves over known c.args.heard.items heard yielded rest c.in-Some.wanted c.args.sockets.now c.loop-wanted.sockets old mid new was.0 kept
+    (c.loop-wanted.invariant.leaves early has) (c.keep_grouped.ensures.leaves clean schema))

@@ -12,12 +12,59 @@ use Rattle.bac_asked.specs.AsLog.{given_in}
 use Rattle.bac_archive.specs.Schema.{OverArchive, HasArchive}
 use Rattle.bac_archive.proofs.RowsLemmas.{because}
 use Rattle.bac_fetch.specs.Faults.{EndsKeeping, HasNone, LacksAddress}
+use Rattle.sqlite.proofs.StateLemmas.{survives_then}
+use Rattle.bac_fetch.specs.Left.{LeavesLogs}
+use Rattle.bac_fetch.proofs.SameLemmas.{survives_as}
 use Rattle.bac_fetch.proofs.CausesLemmas.{chosen_so}
 use Rattle.bac_fetch.proofs.FaultsLemmas.{run_of}
 use Rattle.bac_fetch.proofs.LeftLemmas.{left_as_was, left_then}
 use Rattle.bac_fetch.proofs.StaysLemmas.{quiet_first, quiet_stays}
 use Rattle.bac_fetch.proofs.keeping.keep_chosen.Goals as goal
 use Rattle.bac_fetch.specs.Points.{run_point}
+
+pub returns-clause-leaves : goal.returns-clause-leaves
+returns-clause-leaves g c clean has =
+    let all = c.in_ok-found.found.all.items in
+    let found = c.in_ok-found.ensures.found in
+    let over = socket_rules g.S.Sockets.opens g.S.Sockets.closes g.S.Socket.Port.sends g.S.Socket.Port.receives g.S.Socket.Port.receives_within in
+    let old = state g.A.Store c.args.conn.now in
+    let mid = state g.A.Store c.chosen_logs.new.conn in
+    let new = state g.A.Store c.keep_each.new.conn in
+    let early : HasCleanDisk mid = c.keep_each.ensures.clean clean in
+    let same = c.in_ok-found.ensures.same early has in
+    survives_then old mid new (λ _. ⊥) _ _ (λ _ db none. absurd none)
+    (λ _ db left. (
+      all,
+      found.0,
+      c.chosen_logs.new.sockets,
+      found.1,
+      subst (λ (d : Database). LeavesLogs (reach over (at_once g.S.Recalls.holds g.C.Clock.reads c.args.clock c.args.window)) (given_in c.args.options.now) all (run_point c.chosen_logs.new.sockets d) db) same left,
+    ))
+    (c.chosen_logs.ensures.crash has) (c.keep_each.ensures.leaves clean (subst (λ (d : Database). HasArchive d.schema) (sym same) has))
+
+pub returns-in_err-kept-clause-leaves : goal.returns-in_err-kept-clause-leaves
+returns-in_err-kept-clause-leaves g c clean has =
+    let all = c.in_ok-found.found.all.items in
+    let found = c.in_ok-found.ensures.found in
+    let over = socket_rules g.S.Sockets.opens g.S.Sockets.closes g.S.Socket.Port.sends g.S.Socket.Port.receives g.S.Socket.Port.receives_within in
+    let old = state g.A.Store c.args.conn.now in
+    let mid = state g.A.Store c.chosen_logs.new.conn in
+    let new = state g.A.Store c.keep_each.new.conn in
+    let early : HasCleanDisk mid = c.keep_each.ensures.clean clean in
+    let same = c.in_ok-found.ensures.same early has in
+    survives_then old mid new (λ _. ⊥) _ _ (λ _ db none. absurd none)
+    (λ _ db left. (
+      all,
+      found.0,
+      c.chosen_logs.new.sockets,
+      found.1,
+      subst (λ (d : Database). LeavesLogs (reach over (at_once g.S.Recalls.holds g.C.Clock.reads c.args.clock c.args.window)) (given_in c.args.options.now) all (run_point c.chosen_logs.new.sockets d) db) same left,
+    ))
+    (c.chosen_logs.ensures.crash has) (c.keep_each.ensures.leaves clean (subst (λ (d : Database). HasArchive d.schema) (sym same) has))
+
+pub returns-in_err-found-clause-leaves : goal.returns-in_err-found-clause-leaves
+returns-in_err-found-clause-leaves g c clean has =
+    survives_as (state g.A.Store c.args.conn.now) (state g.A.Store c.chosen_logs.new.conn) (λ _. ⊥) _ (λ _ db none. absurd none) (c.chosen_logs.ensures.crash has)
 
 pub returns-clause-told : goal.returns-clause-told
 returns-clause-told g c =

@@ -1,10 +1,12 @@
-use Rattle.std.proofs.Common.{inl, rules}
+use Rattle.std.proofs.Common.{inl, inr, rules}
 use Rattle.std.proofs.lemmas.Result.{IfErr-weaker, IfOk-weaker}
 use Rattle.sqlite.specs.State.{HasCleanDisk}
 use Rattle.sqlite.specs.Held.{state}
 use Rattle.bac_fetch.specs.Ahead.{at_once}
 use Rattle.bac_ports.specs.Sockets.{socket_rules}
 use Rattle.bac_fetch.specs.Faults.{HasNoInstance, LacksAddress}
+use Rattle.sqlite.proofs.StateLemmas.{survives_then}
+use Rattle.bac_fetch.proofs.SameLemmas.{survives_as}
 use Rattle.bac_fetch.proofs.FaultsLemmas.{all_end_so, ends_so}
 use Rattle.bac_asked.specs.AsLog.{given_in}
 use Rattle.bac_fetch.proofs.CalledLemmas.{logs_end, logs_kept}
@@ -14,6 +16,29 @@ use Rattle.bac_fetch.proofs.StaysLemmas.{stays_then}
 use Rattle.bac_archive.specs.Schema.{HasArchive}
 use Rattle.bac_archive.proofs.RowsLemmas.{because}
 use Rattle.bac_fetch.proofs.keeping.keep_each.Goals as goal
+
+pub returns-clause-leaves : goal.returns-clause-leaves
+returns-clause-leaves g c clean has =
+    let over = socket_rules g.S.Sockets.opens g.S.Sockets.closes g.S.Socket.Port.sends g.S.Socket.Port.receives g.S.Socket.Port.receives_within in
+    let all = c.args.all.items in
+    let heard = c.in_ok-heard.heard.items in
+    let half = c.settle_known.new.sockets in
+    let old = state g.A.Store c.args.conn.now in
+    let mid = state g.A.Store c.settle_known.new.conn in
+    let early : HasCleanDisk mid = c.keep_settled.ensures.clean clean in
+    let (known, are, settles) = rw c.as_slice.ensures.value at c.in_ok-heard.ensures.settled early has in
+    let schema = settles_schema over (given_in c.args.options.now) known all c.args.sockets.now heard half old.now mid.now settles has in
+    let first = rw c.as_slice.ensures.value at c.settle_known.ensures.leaves early has in
+    survives_then old mid (state g.A.Store c.keep_settled.new.conn) _ _ _
+    (λ _ db left. (left.0, left.1, left.2.1.0, half, left.2.0, left.2.1.1, inl left.2.2))
+    (λ _ db left. (known, are, heard, half, mid.now, settles, inr left)) first (c.keep_settled.ensures.leaves clean schema)
+
+pub returns-in_err-heard-clause-leaves : goal.returns-in_err-heard-clause-leaves
+returns-in_err-heard-clause-leaves g c clean has =
+    let old = state g.A.Store c.args.conn.now in
+    let half = c.settle_known.new.sockets in
+    let first = rw c.as_slice.ensures.value at c.settle_known.ensures.leaves clean has in
+    survives_as old (state g.A.Store c.settle_known.new.conn) _ _ (λ _ db left. (left.0, left.1, left.2.1.0, half, left.2.0, left.2.1.1, inl left.2.2)) first
 
 pub returns-clause-told : goal.returns-clause-told
 returns-clause-told g c =

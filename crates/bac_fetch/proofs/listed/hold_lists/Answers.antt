@@ -29,4 +29,4 @@ returns-in_err-lists-clause-fault g c =
     ap (map (λ (r : Bor Wanted). r.now)) c.as_slice.ensures.value ∙ c.in_ok-devices.ensures.devices in
     let fault = c.in_err-lists.field-0.0 in
     because c.from_residual-in_err-lists.result fault _ (search rules)
-    (inr (subst (λ (l : List Wanted). EndsLists over l c.args.sockets.now c.list_ahead.new.sockets fault) are c.in_err-lists.ensures.fault))
+    (inr (subst (λ (l : List Wanted). EndsLists over (paced g.C.Clock.reads c.args.clock c.args.window) l c.args.sockets.now c.list_ahead.new.sockets fault) are c.in_err-lists.ensures.fault))

@@ -29,7 +29,7 @@ pub returns-in_err-there-clause-caused : goal.returns-in_err-there-clause-caused
 returns-in_err-there-clause-caused g c =
     let same = c.in_ok-copy_source.ensures.same in
     because c.from_residual-in_err-there.result c.in_err-there.field-0.0 _ (search rules) (elim c.in_err-there.ensures.refused [
-      | inl memory ↦ inl (inl memory)
+      | inl memory ↦ inl (memory, refl)
       | inr (is, wrong) ↦ inr (inl (is, copy_no_address (given_in c.args.options.now) c.in_ok-copy_source.field-0 c.args.from.now same.0 same.1 same.2 same.3 wrong, refl))
     ])
 
@@ -41,9 +41,4 @@ returns-clause-caused g c =
     let it = c.in_ok-copy_source.ensures.same in
     let same = subst (λ (s : Source). is_same_device s c.args.from.now ≡ true) (sym c.in_ok-there.ensures.source) c.in_ok-copy_source.ensures.copy in
     let asked = copy_asked given copy c.args.from.now there.asking it.0 it.1 it.2 it.3 c.in_ok-there.ensures.asked in
-    IfErr-weaker c.identify.result _ _
-    (λ fault it. elim it [
-      | inl memory ↦ inl (inl memory)
-      | inr unopened ↦ inr (inr (there, (c.in_ok-there.ensures.asks, same, asked), unopened))
-    ])
-    c.identify.ensures.fault
+    IfErr-weaker c.identify.result _ _ (λ fault it. inr (inr (there, (c.in_ok-there.ensures.asks, same, asked), inl it))) c.identify.ensures.fault

@@ -9,9 +9,37 @@ use Rattle.bac_fetch.specs.Faults.{HaveNoAddress}
 use Rattle.bac_fetch.specs.Moves.{AsksThere, SettlesBy, arrival}
 use Rattle.bac_fetch.specs.Points.{run_point}
 use Rattle.bac_questions.specs.declared.said.Identity.{Identity}
+use Rattle.bac_fetch.specs.Left.{LeavesSettled}
+use Rattle.bac_fetch.proofs.StaysLemmas.{does_nothing}
+use Rattle.bac_fetch.proofs.SameLemmas.{survives_as}
 use Rattle.bac_fetch.proofs.LeftLemmas.{unsettled_so}
 use Rattle.bac_fetch.proofs.FaultsLemmas.{all_end_so}
 use Rattle.bac_fetch.proofs.moving.settle_by.Goals as goal
+
+pub returns-in-Some-clause-crash : goal.returns-in-Some-clause-crash
+returns-in-Some-clause-crash g c has =
+    let over = socket_rules g.S.Sockets.opens g.S.Sockets.closes g.S.Socket.Port.sends g.S.Socket.Port.receives g.S.Socket.Port.receives_within in
+    let given = given_in c.args.options.now in
+    let known = c.args.known.now in
+    let to = c.args.to.now in
+    let before = c.args.sockets.now in
+    let after = c.settle_from.new.sockets in
+    let old = state g.A.Store c.args.conn.now in
+    survives_as old (state g.A.Store c.settle_from.new.conn) _ (LeavesSettled (λ (db : Database). SettlesBy over given known to c.args.identity (run_point before old.now) (run_point after db)))
+    (λ _ db left. (
+      left.0,
+      subst (λ (i : Identity). SettlesBy over given known to i (run_point before old.now) (run_point after left.0)) (sym c.in-Told.is) (Some c.in-Some.log.now, c.in-Some.ensures {u = tt}, left.1),
+      left.2,
+    ))
+    (c.settle_from.ensures.crash has)
+
+pub returns-in-None-clause-crash : goal.returns-in-None-clause-crash
+returns-in-None-clause-crash g c has =
+    does_nothing (state g.A.Store c.args.conn.now) _
+
+pub returns-in_default-clause-crash : goal.returns-in_default-clause-crash
+returns-in_default-clause-crash g c has =
+    does_nothing (state g.A.Store c.args.conn.now) _
 
 pub returns-in-Some-clause-fault : goal.returns-in-Some-clause-fault
 returns-in-Some-clause-fault g c =

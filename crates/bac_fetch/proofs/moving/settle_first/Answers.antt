@@ -5,18 +5,36 @@ use Rattle.bac_ports.specs.Sockets.{socket_rules}
 use Rattle.bac_asked.specs.AsLog.{given_in}
 use Rattle.bac_questions.specs.declared.whose.Heard.{Heard}
 use Rattle.bac_fetch.specs.Moves.{SettlesBy, SettlesFirst}
+use Rattle.bac_fetch.proofs.SameLemmas.{survives_as}
 use Rattle.bac_fetch.proofs.LeftLemmas.{unsettled_as_was, unsettled_so}
-use Rattle.bac_fetch.proofs.StaysLemmas.{itself_stays}
+use Rattle.bac_fetch.proofs.StaysLemmas.{does_nothing, itself_stays}
 use Rattle.bac_fetch.proofs.moving.settle_first.Goals as goal
 use Rattle.bac_fetch.specs.Points.{run_point}
 use Rattle.bac_archive.proofs.RowsLemmas.{because}
 
+pub returns-clause-crash : goal.returns-clause-crash
+returns-clause-crash g c has =
+    let one : Heard = record { source = c.in_ok-source.source; said = c.in_ok-said.said; was_told = false } in
+    survives_as (state g.A.Store c.args.conn.now) (state g.A.Store c.settle_by.new.conn) _ _
+    (λ _ db left. (left.0, (one, (c.identify.new.sockets, c.in_ok-said.ensures.identifies, refl, c.in_ok-source.ensures.copy, left.1)), left.2)) (c.settle_by.ensures.crash has)
+
+pub returns-in_err-settle_by-clause-crash : goal.returns-in_err-settle_by-clause-crash
+returns-in_err-settle_by-clause-crash g c has =
+    let one : Heard = record { source = c.in_ok-source.source; said = c.in_ok-said.said; was_told = false } in
+    survives_as (state g.A.Store c.args.conn.now) (state g.A.Store c.settle_by.new.conn) _ _
+    (λ _ db left. (left.0, (one, (c.identify.new.sockets, c.in_ok-said.ensures.identifies, refl, c.in_ok-source.ensures.copy, left.1)), left.2)) (c.settle_by.ensures.crash has)
+
+pub returns-in_err-source-clause-crash : goal.returns-in_err-source-clause-crash
+returns-in_err-source-clause-crash g c has =
+    does_nothing (state g.A.Store c.args.conn.now) _
+
+pub returns-in_err-said-clause-crash : goal.returns-in_err-said-clause-crash
+returns-in_err-said-clause-crash g c has =
+    does_nothing (state g.A.Store c.args.conn.now) _
+
 pub returns-in_err-said-clause-caused : goal.returns-in_err-said-clause-caused
 returns-in_err-said-clause-caused g c =
-    because c.from_residual-in_err-said.result c.in_err-said.field-0.0 _ (search rules) (elim c.in_err-said.ensures.fault [
-      | inl memory ↦ inl memory
-      | inr unopened ↦ inr (inl unopened)
-    ])
+    because c.from_residual-in_err-said.result c.in_err-said.field-0.0 _ (search rules) (inr (inl c.in_err-said.ensures.fault))
 
 pub returns-in_err-settle_by-clause-caused : goal.returns-in_err-settle_by-clause-caused
 returns-in_err-settle_by-clause-caused g c =

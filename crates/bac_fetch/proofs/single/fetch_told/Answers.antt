@@ -1,8 +1,7 @@
-use Rattle.std.proofs.Common.{inl, rules}
-use Rattle.bac_fetch.proofs.CausesLemmas.{rows_leave, shut_log}
+use Rattle.std.proofs.Common.{inl, inr, rules}
+use Rattle.bac_fetch.proofs.CausesLemmas.{rows_leave}
 use Rattle.bac_archive.proofs.RowsLemmas.{because}
 use Rattle.sqlite.specs.Held.{state}
-use Rattle.bac_ports.specs.Sockets.{socket_rules}
 use Rattle.bac_fetch.proofs.single.fetch_told.Goals as goal
 
 pub returns-in_err-tell_end-clause-undone : goal.returns-in_err-tell_end-clause-undone
@@ -13,14 +12,6 @@ returns-in_err-tell_end-clause-undone g c clean has =
 pub returns-in_err-tell_end-clause-fault : goal.returns-in_err-tell_end-clause-fault
 returns-in_err-tell_end-clause-fault g c =
     because c.from_residual-in_err-tell_end.result c.in_err-tell_end.field-0.0 _ (search rules) (inl c.in_err-tell_end.ensures.fault)
-
-pub returns-in_err-tell_end-clause-caused : goal.returns-in_err-tell_end-clause-caused
-returns-in_err-tell_end-clause-caused g c clean has =
-    let over = socket_rules g.S.Sockets.opens g.S.Sockets.closes g.S.Socket.Port.sends g.S.Socket.Port.receives g.S.Socket.Port.receives_within in
-    because c.from_residual-in_err-tell_end.result c.in_err-tell_end.field-0.0 _ (search rules) (inl (
-      c.in_err-tell_end.ensures.caused,
-      shut_log over c.args.asking c.args.sockets.now c.fetch-fetched.new.sockets c.args.entry.now _ _ _ _ (c.in_ok-end.ensures.kept clean has),
-    ))
 
 pub returns-clause-kept : goal.returns-clause-kept
 returns-clause-kept g c clean has = c.in_ok-end.ensures.kept clean has
@@ -47,3 +38,17 @@ returns-in_err-end-clause-fault g c = because c.from_residual.result c.in_err-en
 pub returns-in_err-end-clause-caused : goal.returns-in_err-end-clause-caused
 returns-in_err-end-clause-caused g c clean has =
     because c.from_residual.result c.in_err-end.field-0.0 _ (search rules) (c.in_err-end.ensures.caused clean has)
+
+pub returns-clause-leaves : goal.returns-clause-leaves
+returns-clause-leaves g c = c.fetch-fetched.ensures.leaves
+
+pub returns-in_err-tell_end-clause-leaves : goal.returns-in_err-tell_end-clause-leaves
+returns-in_err-tell_end-clause-leaves g c = c.fetch-fetched.ensures.leaves
+
+pub returns-in_err-end-clause-leaves : goal.returns-in_err-end-clause-leaves
+returns-in_err-end-clause-leaves g c = c.fetch-fetched.ensures.leaves
+
+pub returns-in_err-tell_end-clause-caused : goal.returns-in_err-tell_end-clause-caused
+returns-in_err-tell_end-clause-caused g c clean has =
+    because c.from_residual-in_err-tell_end.result c.in_err-tell_end.field-0.0 _ (search rules)
+    (inl (c.in_err-tell_end.ensures.caused, inr ((state g.A.Store c.fetch-fetched.new.conn).now, c.in_ok-end.end, c.in_ok-end.ensures.kept clean has)))

@@ -1,6 +1,6 @@
 use Rattle.std.proofs.Common.{List, inl, inr, rules, subst}
 use Rattle.std.proofs.lemmas.Result.{IfErr-weaker, IfOk-weaker}
-use Rattle.bac_fetch.specs.Ahead.{at_once}
+use Rattle.bac_fetch.specs.Ahead.{at_once, reach}
 use Rattle.bac_fetch.specs.Listed.{EndsHolding}
 use Rattle.bac_fetch.specs.declared.sought.Sought.{Sought}
 use Rattle.bac_ports.specs.Sockets.{socket_rules}
@@ -29,6 +29,7 @@ returns-clause-fault g c =
 pub returns-in_err-silent-clause-fault : goal.returns-in_err-silent-clause-fault
 returns-in_err-silent-clause-fault g c =
     let over = socket_rules g.S.Sockets.opens g.S.Sockets.closes g.S.Socket.Port.sends g.S.Socket.Port.receives g.S.Socket.Port.receives_within in
+    let by = at_once g.S.Recalls.holds g.C.Clock.reads c.args.clock c.args.window in
     let fault = c.in_err-silent.field-0.0 in
     because c.from_residual.result fault _ (search rules)
-    (inl (subst (λ (l : List Sought). EndsHolding over l c.args.sockets.now c.hold_lists.new.sockets fault) c.as_slice.ensures.value c.in_err-silent.ensures.fault))
+    (inl (subst (λ (l : List Sought). EndsHolding (reach over by) l c.args.sockets.now c.hold_lists.new.sockets fault) c.as_slice.ensures.value c.in_err-silent.ensures.fault))

@@ -1,15 +1,15 @@
-use Rattle.std.proofs.Common.{◌≡◌, ◌∙◌, ap₂, inl, inr, List, [], max, refl, subst, sym, rules, ◌++◌}
+use Rattle.std.proofs.Common.{◌≡◌, ◌∙◌, ap₂, List, [], max, refl, subst, sym, rules, ◌++◌}
 use Rattle.std.proofs.IntoIterSteps.{All-taken}
 use Rattle.std.proofs.KnownBytes.{Appends-trans}
 use Rattle.std.proofs.lemmas.List.Elements.{All-contains}
 use Rattle.std.specs.Io.KnownBytes.{Appends}
 use Rattle.std.specs.List.{Contains}
 use Rattle.bac_fetch.specs.Chosen.{AddSought, AskOneSource, findings, told_by, unlisted_by}
-use Rattle.bac_fetch.specs.Faults.{EndsAt}
+use Rattle.bac_fetch.specs.Faults.{EndsSought}
 use Rattle.bac_fetch.specs.Unlisted.{unlisted_lines}
 use Rattle.bac_fetch.specs.declared.sought.Sought.{Sought}
 use Rattle.bac_ports.specs.Sockets.{socket_rules}
-use Rattle.bac_fetch.proofs.SoughtLemmas.{add_one, all_ask, ends_at, lines_behind, status_behind}
+use Rattle.bac_fetch.proofs.SoughtLemmas.{add_one, all_ask, ends_at, lines_behind, status_behind, stops_at}
 use Rattle.bac_absent.proofs.Taken.{taken_apart}
 use Rattle.bac_fetch.proofs.TakenLemmas.{has_taken}
 use Rattle.bac_fetch.proofs.sought.sought_logs.Goals as goal
@@ -64,9 +64,16 @@ returns-in_err-listing-clause-fault g c =
     let (rest, is) = taken_apart c.into_iter-one-iterator.result c.loop-one.yielded c.loop-one.one-iterator c.next.new.self c.in-Some.one c.loop-one.yielded_by c.in-Some.ensures.steps in
     let found = c.loop-one.invariant.found in
     because c.from_residual.result fault _ (search rules)
-    (inr (subst (λ (l : List Sought). EndsAt over c.args.silent.now l c.args.sockets.now c.logs_of_device.new.sockets fault) (sym is ∙ c.into_iter-one-iterator.ensures.into_iter_gives.0)
-    (ends_at over c.args.silent.now c.loop-one.yielded c.in-Some.one rest [] [] c.args.sockets.now c.loop-one.all.items found.0 c.loop-one.sockets c.logs_of_device.new.sockets fault found.1 c.in_err-listing.ensures.fault)))
+    (subst (λ (l : List Sought). EndsSought over c.args.silent.now l c.args.sockets.now c.logs_of_device.new.sockets fault) (sym is ∙ c.into_iter-one-iterator.ensures.into_iter_gives.0)
+    (ends_at over c.args.silent.now c.loop-one.yielded c.in-Some.one rest [] [] c.args.sockets.now c.loop-one.all.items found.0 c.loop-one.sockets c.logs_of_device.new.sockets fault found.1 c.in_err-listing.ensures.fault))
 
 pub returns-in_err-told-clause-fault : goal.returns-in_err-told-clause-fault
 returns-in_err-told-clause-fault g c =
-    because c.from_residual-in_err-told.result c.in_err-told.field-0.0 _ (search rules) (inl c.in_err-told.ensures.fault)
+    let over = socket_rules g.S.Sockets.opens g.S.Sockets.closes g.S.Socket.Port.sends g.S.Socket.Port.receives g.S.Socket.Port.receives_within in
+    let fault = c.in_err-told.field-0.0 in
+    let (rest, is) = taken_apart c.into_iter-one-iterator.result c.loop-one.yielded c.loop-one.one-iterator c.next.new.self c.in-Some.one c.loop-one.yielded_by c.in-Some.ensures.steps in
+    let found = c.loop-one.invariant.found in
+    because c.from_residual-in_err-told.result fault _ (search rules)
+    (subst (λ (l : List Sought). EndsSought over c.args.silent.now l c.args.sockets.now c.logs_of_device.new.sockets fault) (sym is ∙ c.into_iter-one-iterator.ensures.into_iter_gives.0)
+    (stops_at over c.args.silent.now c.loop-one.yielded c.in-Some.one rest [] [] c.args.sockets.now c.loop-one.all.items found.0 c.loop-one.sockets c.in_ok-listing.listing c.logs_of_device.new.sockets fault
+    found.1 c.in_ok-listing.ensures.found c.in_err-told.ensures.fault))
