@@ -23,7 +23,7 @@ use Rattle.bac_archive.specs.Beginnings.{epoch_id}
 use Rattle.bac_archive.specs.Items.{last_at, number_at}
 use Rattle.bac_archive.specs.Rows.{kept}
 use Rattle.bac_archive.specs.Schema.{HasArchive}
-use Rattle.bac_check.specs.Epochs.{AreItemsIn, ReadsSpans, asked, first_id, is_in, is_new, last_id, last_of, span_of, spans_text}
+use Rattle.bac_check.specs.Epochs.{AreItemsIn, ReadsSpans, asked, first_id, is_in, is_new, last_id, last_of, span_of, epoch_spans_text}
 use Rattle.bac_check.specs.Holes.{end_of}
 use Rattle.bac_check.specs.Tallies.{GoesOn}
 use Rattle.bac_check.specs.declared.tally.Span.{Span}
@@ -181,6 +181,6 @@ pub none_over : {S : Type 0} (g : Ghosts S) (log epoch : ℕ) (old : State) (now
     → is_new (last_of before) (span_of row) ≡ true → LieApart (kept old.now.trees) → GoesOn counted (span_of row)
 none_over g log epoch old now given row before counted has same reads ends new apart =
     let schema = subst (λ (d : Database). HasArchive d.schema) (sym same.0.now_is) has in
-    let it = begins_with log epoch (state g now) (given ++ row ∷ []) schema (given_begin g spans_text (asked log epoch) now (given ++ row ∷ []) reads) in
+    let it = begins_with log epoch (state g now) (given ++ row ∷ []) schema (given_begin g epoch_spans_text (asked log epoch) now (given ++ row ∷ []) reads) in
     goes_on log epoch (kept old.now.trees) given it.0 row apart
     (subst (λ (d : Database). AreItemsIn log epoch (kept d.trees) ((given ++ row ∷ []) ++ it.0)) same.0.now_is it.1) before counted ends new

@@ -14,11 +14,15 @@ use Rattle.bac_archive.specs.Schema.{HasArchive}
 use Rattle.bac_archive.proofs.QueryLemmas.{left_by}
 pub use Rattle.bac_archive.proofs.QueryLemmas.{as_left_behind, as_left_then, as_was_behind, as_was_both, as_was_then, still}
 use Rattle.bac_check.specs.Asked.{IsAsLeft, IsUnasked}
+use Rattle.bac_check.specs.Uncounts.{FailsToCountEpochs}
+use Rattle.bac_check.specs.declared.tally.Uncounted.{Uncounted}
+use Rattle.bac_check.specs.declared.tally.Uncounted.TheVariants as uncounted
 
 -- a plain query of an archive that is refused
-pub unasked : {S X : Type 0} (g : Ghosts S) (text : List ℕ) (bound : Values) (old new : Held S) (r : Result X Error) → (HasArchive (state g old).now.schema → IsPlain (understood (state g old).now.schema text))
-    → IsRefused g text bound old r new → IsUnasked g old r new
-unasked g text bound old new r plain it = record {
+pub unasked : {S X : Type 0} (g : Ghosts S) (text : List ℕ) (bound params : Values) (old new : Held S) (r : Result X Error) → bound ≡ params → (HasArchive (state g old).now.schema → IsPlain (understood (state g old).now.schema text))
+    → IsRefused g text bound old r new → IsUnasked g text params old r new
+unasked g text bound params old new r same plain it = record {
+  cause = λ clean. subst (λ p. IfErr r (FailsToQuery text p (state g old) (state g new))) same (it.err clean);
   left = λ clean has. left r has (it.err clean);
   clean = λ late. omega (arith, late, it.survives.clean);
 }
@@ -40,3 +44,12 @@ pub as_committed : {S : Type 0} (g : Ghosts S) (a b : Held S) → (state g a).co
 as_committed g a b settled (inl none) is_open = ap (λ h. (state g h).now) none
 as_committed g a b settled (inr (inl same)) is_open = same.0.now_is
 as_committed g a b settled (inr (inr back)) is_open = (back.undone is_open).0 ∙ settled
+
+-- one error of the database
+pub same_error : {X : Type 0} {a b : Error} → ◌≡◌ {A = Result X Uncounted} (Err (uncounted.Database a)) (Err (uncounted.Database b)) → a ≡ b
+same_error is = cc
+
+module _ {S : Type 0} (g : Ghosts S) where
+  -- what isn't told of a database that was as it was isn't told of that
+  pub counts_then : (a b c : Held S) (e : Error) → (state g b).now ≡ (state g a).now → FailsToCountEpochs g b c e → FailsToCountEpochs g a c e
+  counts_then a b c e same (read, is, log, epoch, fails) = (read, is ∙ same, log, epoch, fails)

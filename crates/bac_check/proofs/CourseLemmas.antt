@@ -14,7 +14,7 @@ use Rattle.bac_archive.specs.Rows.{kept}
 use Rattle.bac_check.specs.declared.course.Course.{Course}
 use Rattle.bac_check.specs.declared.tally.Span.{Span}
 use Rattle.bac_check.specs.declared.tally.Tally.{Tally}
-use Rattle.bac_check.specs.Epochs.{AreItemsIn, CountsCourse, CountsOn, asked, is_behind, is_new, last_of, span_of, spans_text}
+use Rattle.bac_check.specs.Epochs.{AreItemsIn, CountsCourse, CountsOn, asked, is_behind, is_new, last_of, span_of, epoch_spans_text}
 use Rattle.bac_check.specs.Holes.{Have, Rise, end_of}
 use Rattle.bac_check.specs.Tallies.{IsTallied}
 use Rattle.bac_check.proofs.EpochLemmas.{shows_spans}
@@ -34,7 +34,7 @@ filter_one_more p rows row before =
 
 -- when no row is left, those that were given are the epoch's, in the archive as it was
 pub all_given : {S : Type 0} (g : Ghosts S) (log epoch : ℕ) (old : State) (mid new : Connected S) (rows : List Values) → HasArchive old.now.schema
-    → IsUnchanged old (state g mid) → Shown spans_text (asked log epoch) (state g mid) (state g new) rows → AreItemsIn log epoch (kept old.now.trees) rows
+    → IsUnchanged old (state g mid) → Shown epoch_spans_text (asked log epoch) (state g mid) (state g new) rows → AreItemsIn log epoch (kept old.now.trees) rows
 all_given g log epoch old mid new rows has same shown =
     subst (λ (d : Database). AreItemsIn log epoch (kept d.trees) rows) same.0.now_is
     (shows_spans log epoch (state g mid) (state g new) rows (subst (λ (d : Database). HasArchive d.schema) (sym same.0.now_is) has) shown)

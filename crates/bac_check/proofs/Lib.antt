@@ -8,6 +8,7 @@ pub mod AskedLemmas
 pub mod CheckedLemmas
 pub mod WholeLemmas
 pub mod TakenLemmas
+pub mod AnswerLemmas
 pub mod MissingLemmas
 pub mod CountLemmas
 pub mod EachLemmas

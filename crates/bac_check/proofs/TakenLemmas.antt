@@ -1,17 +1,22 @@
 -- An archive isn't refused for what it holds.
-use Rattle.std.proofs.Common.{◌≡◌, ◌⊎◌, ◌∙◌, inl, inr, refl, sym, ap, List, ◌++◌, get_or, length, Option, Some, arith}
+use Rattle.std.proofs.Common.{◌≡◌, ◌≢◌, ◌⊎◌, ◌∙◌, inl, inr, refl, sym, ap, List, ◌++◌, get_or, length, Option, Some, arith}
 use Rattle.sqlite.specs.Effect.{Database}
+use Rattle.sqlite.specs.Held.{Held, state}
 use Rattle.sqlite.specs.declared.error.Error.{Error}
 use Rattle.sqlite_schema.specs.declared.schema.Schema.{Schema}
 use Rattle.sqlite_schema.specs.declared.schema.Table.{Table}
-use Rattle.bac_archive.specs.Archive.{IsArchive}
+use Rattle.sqlite_trees.specs.declared.store.Store.{Ghosts}
+use Rattle.bac_archive.specs.Archive.{IsArchive, IsOfVersion, LieApart}
+use Rattle.bac_archive.specs.Beginnings.{AreBegun}
+use Rattle.bac_archive.specs.OpenCauses.{FailsToOpen}
+use Rattle.bac_archive.specs.Rows.{kept, versions}
 use Rattle.bac_archive.specs.Schema.{HasArchive, archive, archive_tables, first_tables, no_schema}
 use Rattle.bac_archive.specs.declared.opening.Refused.{Refused}
 use Rattle.bac_archive.specs.declared.opening.Refused.TheVariants as refused
-use Rattle.bac_asked.specs.Faults.{of_error, of_refusal}
+use Rattle.bac_asked.specs.Faults.{of_error}
 use Rattle.bac_asked.specs.declared.fault.FileFault.{FileFault}
 use Rattle.bac_asked.specs.declared.fault.FileFault.TheVariants as file
-use Rattle.bac_check.specs.Taken.{ArchivesAreCounted, IsRefusedBy, of_uncounted}
+use Rattle.bac_check.specs.Taken.{ArchivesAreCounted, FailsAsOpened, IsRefusedBy, of_uncounted}
 use Rattle.bac_check.specs.declared.tally.Uncounted.{Uncounted}
 use Rattle.bac_check.specs.declared.tally.Uncounted.TheVariants as uncounted
 
@@ -25,14 +30,27 @@ not_first s first has =
     let columns : 10 ≡ 6 = ap (λ (ts : List Table). length (get_or ts 1 archive).columns) (sym has.tables.are ∙ first) in
     omega (arith, columns)
 
--- it is refused by an error of its database alone
-pub refused_by_error : (found : Database) (why : Refused) → IsArchive found → IsRefusedBy found why → (error : Error) × (of_refusal why ≡ of_error error)
-refused_by_error found refused.Foreign is (none, tables, some) = absurd (none is.schema)
-refused_by_error found refused.First is first = absurd (not_first found.schema first is.schema)
-refused_by_error found refused.Version is (has, other) = absurd (other is.version_is)
-refused_by_error found refused.Overlap is (has, over) = absurd (over is.apart)
-refused_by_error found refused.Orphan is (has, alone) = absurd (alone is.begun)
-refused_by_error found (refused.Database error) is any = (error, refl)
+-- why a database is refused, by what `open` says
+pub refused_by : {S : Type 0} (g : Ghosts S) (old new : Held S) (why : Refused) → let found = (state g old).now in
+    (why ≡ refused.Foreign → (¬ HasArchive found.schema) × (found.schema.tables ≢ first_tables) × (found.schema ≢ no_schema))
+    → (why ≡ refused.First → found.schema.tables ≡ first_tables) → (why ≡ refused.Version → HasArchive found.schema × ¬ IsOfVersion (versions found.trees))
+    → (why ≡ refused.Overlap → HasArchive found.schema × ¬ LieApart (kept found.trees)) → (why ≡ refused.Orphan → HasArchive found.schema × ¬ AreBegun found.trees)
+    → ((error : Error) → why ≡ refused.Database error → FailsToOpen g old new error) → IsRefusedBy found why ⊎ FailsAsOpened g old new why
+refused_by g old new refused.Foreign foreign first version over orphan fails = inl (foreign refl)
+refused_by g old new refused.First foreign first version over orphan fails = inl (first refl)
+refused_by g old new refused.Version foreign first version over orphan fails = inl (version refl)
+refused_by g old new refused.Overlap foreign first version over orphan fails = inl (over refl)
+refused_by g old new refused.Orphan foreign first version over orphan fails = inl (orphan refl)
+refused_by g old new (refused.Database error) foreign first version over orphan fails = inr (fails error refl)
+
+-- so an archive isn't refused for what it holds
+pub never_refused : (found : Database) (why : Refused) → IsArchive found → IsRefusedBy found why → ⊥
+never_refused found refused.Foreign is (none, tables, some) = none is.schema
+never_refused found refused.First is first = not_first found.schema first is.schema
+never_refused found refused.Version is (has, other) = other is.version_is
+never_refused found refused.Overlap is (has, over) = over is.apart
+never_refused found refused.Orphan is (has, alone) = alone is.begun
+never_refused found (refused.Database error) is none = none
 
 -- and its rows are counted, but for an error or for want of memory
 uncounted_by_error : (failed : Uncounted) → (failed ≡ uncounted.Overlap → ⊥) → (of_uncounted failed ≡ file.Memory) ⊎ ((error : Error) × (of_uncounted failed ≡ of_error error))
@@ -47,9 +65,8 @@ so_told why fault told (inr (error, is)) = inr (error, told ∙ ap Some is)
 
 pub are_counted : ArchivesAreCounted
 are_counted old new found why is (inl passed) = absurd (not_both found.found.schema passed.nothing is.schema)
-are_counted old new found why is (inr (inl barred)) =
-    let it = refused_by_error found.found barred.reason is barred.refused in
-    inr (so_told why (of_refusal barred.reason) barred.told (inr it))
-are_counted old new found why is (inr (inr (inl counted))) = inl counted
-are_counted old new found why is (inr (inr (inr failed))) =
+are_counted old new found why is (inr (inl barred)) = absurd (never_refused found.found barred.reason is barred.refused)
+are_counted old new found why is (inr (inr (inl silent))) = inr (inr (silent.error, silent.told))
+are_counted old new found why is (inr (inr (inr (inl counted)))) = inl counted
+are_counted old new found why is (inr (inr (inr (inr failed)))) =
     inr (so_told why (of_uncounted failed.failed) failed.told (uncounted_by_error failed.failed failed.apart))

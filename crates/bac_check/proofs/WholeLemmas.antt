@@ -50,8 +50,9 @@ some_none A why a none some = let both_are : None ≡ Some a = sym none ∙ some
 is_counted : (old : Counts) (found : Reading) (why : Option FileFault) (new : Counts) → why ≡ None → TakesPart old found why new → IsCounted old found None new
 is_counted old found why new none (inl passed) = absurd (some_none _ why _ none passed.told)
 is_counted old found why new none (inr (inl barred)) = absurd (some_none _ why _ none barred.told)
-is_counted old found why new none (inr (inr (inl counted))) = subst (λ w. IsCounted old found w new) none counted
-is_counted old found why new none (inr (inr (inr uncounted))) = absurd (some_none _ why _ none uncounted.told)
+is_counted old found why new none (inr (inr (inl silent))) = absurd (some_none _ why _ none silent.told)
+is_counted old found why new none (inr (inr (inr (inl counted)))) = subst (λ w. IsCounted old found w new) none counted
+is_counted old found why new none (inr (inr (inr (inr uncounted)))) = absurd (some_none _ why _ none uncounted.told)
 
 module _ {P : Type 0} (rules : PartRules P) where
   is_right : (old : P) (path : List ℕ) (before : Counts) (why : Option FileFault) (after : Counts) (new : P) → why ≡ None

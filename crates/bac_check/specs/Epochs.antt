@@ -21,8 +21,8 @@ use Rattle.bac_check.specs.declared.tally.Span.{Span}
 use Rattle.bac_check.specs.declared.tally.Tally.{Tally}
 
 -- the question for what the rows whose ids are from one to another cover
-abbrev pub spans_text : List ℕ
-spans_text = codes "SELECT id, last FROM items WHERE id >= ?1 AND id <= ?2 ORDER BY id"
+abbrev pub epoch_spans_text : List ℕ
+epoch_spans_text = codes "SELECT id, last FROM items WHERE id >= ?1 AND id <= ?2 ORDER BY id"
 
 -- the first id of the items of an epoch
 abbrev pub first_id : ℕ → ℕ → ℕ
@@ -48,7 +48,7 @@ pub record AreItemsIn (log epoch : ℕ) (items rows : List Values) : Type 0 wher
 
 -- a connection reads them, and has given these rows
 abbrev pub ReadsSpans : {S : Type 0} → Ghosts S → ℕ → ℕ → Held S → List Values → Type 0
-ReadsSpans g log epoch now rows = HasGiven g spans_text (asked log epoch) now rows
+ReadsSpans g log epoch now rows = HasGiven g epoch_spans_text (asked log epoch) now rows
 
 -- what such a row covers
 abbrev pub span_of : Values → Span

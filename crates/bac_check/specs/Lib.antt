@@ -1,6 +1,7 @@
 pub mod Holes
 pub mod Tallies
 pub mod Asked
+pub mod Uncounts
 pub mod Epochs
 pub mod Lines
 pub mod Joins

@@ -10,6 +10,7 @@ ghost use Rattle.bac_archive.specs.Schema.{OverArchive};
 ghost use Rattle.bac_check.specs.Asked.{IsAsLeft};
 ghost use Rattle.bac_check.specs.Counted.{CountsPart, CountsRows, IsBefore, IsCountOf, IsEmpty};
 ghost use Rattle.bac_check.specs.Counted.{course_of, is_epoch, rank, with_begun};
+ghost use Rattle.bac_check.specs.Uncounts.{FailsToCount};
 
 use crate::course::{Course, count_each};
 use crate::joins::are_joined;
@@ -120,6 +121,9 @@ impl Counts {
             (OnOk result (IsUnchanged (state A.Store conn.old) (state A.Store conn.new))) }
         ensures left { OverArchive (state A.Store conn.old) (state A.Store conn.new)
             (OnErr result (IsAsLeft A.Store conn.old conn.new)) }
+        ensures cause { OverArchive (state A.Store conn.old) (state A.Store conn.new)
+            ((error : _) → result ≡ Err (Uncounted.Database error)
+            → FailsToCount A.Store conn.old conn.new error) }
         ensures clean { HasCleanDisk (state A.Store conn.new)
             → HasCleanDisk (state A.Store conn.old) }
     {
@@ -169,6 +173,9 @@ pub(crate) fn count_archive<A: Alter>(
         (OnOk result (IsUnchanged (state A.Store conn.old) (state A.Store conn.new))) }
     ensures left { OverArchive (state A.Store conn.old) (state A.Store conn.new)
         (OnErr result (IsAsLeft A.Store conn.old conn.new)) }
+    ensures cause { OverArchive (state A.Store conn.old) (state A.Store conn.new)
+        ((error : _) → result ≡ Err (Uncounted.Database error)
+        → FailsToCount A.Store conn.old conn.new error) }
     ensures clean { HasCleanDisk (state A.Store conn.new) → HasCleanDisk (state A.Store conn.old) }
 {
     let mut counts = Counts::new(alloc);

@@ -14,6 +14,8 @@ ghost use Rattle.bac_check.specs.Epochs.{last_of, span_of};
 ghost use Rattle.bac_check.specs.Holes.{end_of};
 ghost use Rattle.bac_check.specs.Tallies.{GoesOn, IsTallied};
 ghost use Rattle.bac_check.specs.declared.tally.Span.{Span as SpanOf};
+ghost use Rattle.bac_archive.specs.Causes.{FailsToRead};
+ghost use Rattle.bac_check.specs.Uncounts.{FailsToCountEpochs, span_kinds};
 
 use crate::rows::{EPOCHS, read_span, spans_in};
 use crate::tally::{Span, Tally, Uncounted, take};
@@ -55,6 +57,8 @@ fn count_row(
         ⊎ (last_of tally.new ≡ Some (end_of (span_of row.now)))) }
     ensures over { result ≡ Err Uncounted.Overlap
         → (is_new behind (span_of row.now) ≡ true) × ¬ GoesOn tally.old (span_of row.now) }
+    ensures cause { (error : _) → result ≡ Err (Uncounted.Database error)
+        → FailsToRead span_kinds row.now error }
 {
     let span = match read_span(row) {
         Ok(span) => span,
@@ -88,6 +92,9 @@ fn count_rows<A: Alter>(
         (OnOk result (IsUnchanged (state A.Store conn.old) (state A.Store conn.new))) }
     ensures left { OverArchive (state A.Store conn.old) (state A.Store conn.new)
         (OnErr result (IsAsLeft A.Store conn.old conn.new)) }
+    ensures cause { OverArchive (state A.Store conn.old) (state A.Store conn.new)
+        ((error : _) → result ≡ Err (Uncounted.Database error)
+        → FailsToCountEpochs A.Store conn.old conn.new error) }
     ensures clean { HasCleanDisk (state A.Store conn.new) → HasCleanDisk (state A.Store conn.old) }
 {
     if epoch >= EPOCHS {
@@ -97,7 +104,7 @@ fn count_rows<A: Alter>(
         Ok(rows) => rows,
         Err(error) => return Err(Uncounted::Database(error)),
     };
-    'rows: for _ in 0..u64::MAX {
+    'rows: for read in 0..u64::MAX {
         let row = match rows.next() {
             Ok(Some(row)) => row,
             Ok(None) => return Ok(()),
@@ -130,6 +137,9 @@ impl Course {
             (OnOk result (IsUnchanged (state A.Store conn.old) (state A.Store conn.new))) }
         ensures left { OverArchive (state A.Store conn.old) (state A.Store conn.new)
             (OnErr result (IsAsLeft A.Store conn.old conn.new)) }
+        ensures cause { OverArchive (state A.Store conn.old) (state A.Store conn.new)
+            ((error : _) → result ≡ Err (Uncounted.Database error)
+            → FailsToCountEpochs A.Store conn.old conn.new error) }
         ensures clean { HasCleanDisk (state A.Store conn.new)
             → HasCleanDisk (state A.Store conn.old) }
     {
@@ -155,6 +165,9 @@ pub fn count_each<A: Alter>(
     // An error leaves it as it was, or takes back what wasn't committed.
     ensures left { OverArchive (state A.Store conn.old) (state A.Store conn.new)
         (OnErr result (IsAsLeft A.Store conn.old conn.new)) }
+    ensures cause { OverArchive (state A.Store conn.old) (state A.Store conn.new)
+        ((error : _) → result ≡ Err (Uncounted.Database error)
+        → FailsToCountEpochs A.Store conn.old conn.new error) }
     ensures clean { HasCleanDisk (state A.Store conn.new) → HasCleanDisk (state A.Store conn.old) }
 {
     for course in courses.iter_mut() {

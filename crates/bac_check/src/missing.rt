@@ -12,6 +12,7 @@ ghost use Rattle.bac_check.specs.Missing.{TellsMissing, from_in, hole_head, is_b
 ghost use Rattle.bac_check.specs.Missing.{missing_among, missing_if, missing_in, missing_text};
 ghost use Rattle.bac_check.specs.Missing.{told_hole};
 ghost use Rattle.bac_print.specs.Output.{AppendsPart};
+ghost use Rattle.bac_check.specs.Uncounts.{FailsToCount};
 
 use crate::counts::{Counts, count_archive};
 use crate::course::Course;
@@ -257,6 +258,10 @@ pub fn tell_missing<A: Alter, E: Write>(
     // An error leaves the archive as it was, or takes back what wasn't committed.
     ensures left { OverArchive (state A.Store conn.old) (state A.Store conn.new)
         (OnErr result (IsAsLeft A.Store conn.old conn.new)) }
+    // Why the database answered by an error.
+    ensures cause { OverArchive (state A.Store conn.old) (state A.Store conn.new)
+        ((error : _) → result ≡ Err (Uncounted.Database error)
+        → FailsToCount A.Store conn.old conn.new error) }
     ensures clean { HasCleanDisk (state A.Store conn.new) → HasCleanDisk (state A.Store conn.old) }
 {
     let counts = count_archive(alloc, conn)?;

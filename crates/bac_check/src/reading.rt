@@ -1,12 +1,12 @@
 //! A part of an archive is read, which has to be an archive.
 
-ghost use Rattle.std.specs.Prelude.{◌≡◌, IfErr, IsTrue, OnErr, OnOk};
+ghost use Rattle.std.specs.Prelude.{◌≡◌, ◌≢◌, ◌⊎◌, IfErr, IsTrue, OnErr, OnOk};
 ghost use Rattle.sqlite.specs.State.{HasCleanDisk};
 ghost use Rattle.sqlite.specs.Held.{state};
 ghost use Rattle.bac_archive.specs.Archive.{IsArchive};
 ghost use Rattle.bac_check.specs.Counted.{IsEmpty};
-ghost use Rattle.bac_check.specs.Taken.{IsRefusedBy, ReadsPart, of_uncounted};
-ghost use Rattle.bac_archive.specs.Schema.{HasArchive};
+ghost use Rattle.bac_check.specs.Taken.{FailsAsOpened, IsRefusedBy, ReadsPart, of_uncounted};
+ghost use Rattle.bac_archive.specs.Schema.{HasArchive, no_schema};
 
 use crate::counts::Counts;
 use crate::tally::Uncounted;
@@ -43,7 +43,9 @@ fn accept<A: Alter>(conn: &mut Connection<A>) -> Result<(), Refused>
         → OnOk result (IsArchive (state A.Store conn.old).now
         × ((state A.Store conn.new).now ≡ (state A.Store conn.old).now)) }
     ensures refused { HasCleanDisk (state A.Store conn.new)
-        → IfErr result (IsRefusedBy (state A.Store conn.old).now) }
+        → (state A.Store conn.old).now.schema ≢ no_schema
+        → IfErr result (λ why. IsRefusedBy (state A.Store conn.old).now why
+        ⊎ FailsAsOpened A.Store conn.old conn.new why) }
     ensures committed { HasCleanDisk (state A.Store conn.new)
         → OnOk result ((state A.Store conn.new).committed ≡ (state A.Store conn.new).now) }
     ensures left { HasCleanDisk (state A.Store conn.new)

@@ -1,6 +1,6 @@
 //! The rows of an epoch, counted in the order of their numbers, and the numbers that are in none.
 
-ghost use Rattle.std.specs.Prelude.{◌≡◌, ◌<◌, ◌≤◌, ◌+◌, ◌∷◌};
+ghost use Rattle.std.specs.Prelude.{◌≡◌, ◌≢◌, ◌<◌, ◌≤◌, ◌+◌, ◌∷◌};
 ghost use Rattle.std.specs.Prelude.{◌++◌, ◌↔◌, []};
 ghost use Rattle.std.specs.Prelude.{Err, IsTrue, List, OnOk, Some, if◌then◌else◌, is_none, is_some};
 ghost use Rattle.bac_check.specs.Epochs.{last_of};
@@ -175,6 +175,7 @@ pub fn take(alloc: Global, tally: &mut Option<Tally>, span: Span) -> Result<(), 
     ensures last { OnOk result (last_of tally.new ≡ Some (end_of span)) }
     ensures over { result ≡ Err Uncounted.Overlap
         → (tally.new ≡ tally.old) × ¬ GoesOn tally.old span }
+    ensures unasked { (error : _) → result ≢ Err (Uncounted.Database error) }
 {
     if !goes_on(tally, span) {
         return Err(Uncounted::Overlap);

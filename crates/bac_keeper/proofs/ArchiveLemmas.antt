@@ -1,5 +1,5 @@
 -- What is kept in an archive, and that nothing of it is lost.
-use Rattle.std.proofs.Common.{◌≡◌, ◌∙◌, inl, inr, ℕ, List, ap, subst, sym}
+use Rattle.std.proofs.Common.{◌≡◌, ◌⊎◌, ◌∙◌, inl, inr, ℕ, List, ap, subst, sym}
 use Rattle.std.specs.List.{Contains}
 use Rattle.sqlite.specs.Effect.{Database}
 use Rattle.sqlite.specs.State.{HasCleanDisk, State, Survives}
@@ -49,3 +49,12 @@ items_stay found left it = ((λ has. all_of_items found left.trees (it.0 has)), 
 -- nor where the rows stay
 pub rows_stay : (found left : Database) → KeepsRows found left → LosesNothing found left
 rows_stay found left it = ((λ has. subst (HasAllOf found.trees) (sym (it.0 has)) (all_itself found.trees)), it.1)
+
+-- what is committed behind an archive that was found is that, or what may be left of what was done behind it
+pub gains_only : (found archive last : State) (gains : Database → Trees → Type 0) → (found.committed ≡ found.now) → (archive.committed ≡ archive.now) → (archive.now ≡ found.now)
+    → ((db : Trees) → archive.may_leave db → db ≡ archive.committed.trees) → last.may_leave last.committed.trees → HasCleanDisk last
+    → Survives archive last (gains archive.now) → (last.committed.trees ≡ found.now.trees) ⊎ gains found.now last.committed.trees
+gains_only found archive last gains was settled same only may clean survives = elim (survives.crash clean last.committed.trees may) [
+  | inl left ↦ inl (only last.committed.trees left ∙ ap (λ (d : Database). d.trees) (settled ∙ same))
+  | inr more ↦ inr (subst (λ (d : Database). gains d last.committed.trees) same more)
+]

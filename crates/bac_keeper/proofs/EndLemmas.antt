@@ -1,8 +1,7 @@
 -- How a tool ends.
-use Rattle.std.proofs.Common.{◌≡◌, ◌⊎◌, inl, inr, ℕ, Bool, true, false, List, String, Global, Option, None, Some, IsSomeAnd, unwrap_or, if◌then◌else◌, Result, Ok, Err, IfErr, IfOk, OnOk, ap, refl, subst, sym}
+use Rattle.std.proofs.Common.{◌≡◌, ◌⊎◌, ◌∙◌, inl, inr, ℕ, Bool, true, false, List, String, Global, Option, Result, Ok, Err, IfErr, IfOk, OnOk, refl, subst, subst₂, sym}
 use Rattle.std.proofs.KnownBytes.{Appends-kept}
 use Rattle.std.specs.Io.KnownBytes.{Keeps}
-use Rattle.std.specs.String.{string_bytes}
 use Rattle.bac_asked.specs.Reasons.{TellsFault}
 use Rattle.bac_asked.specs.declared.end.NotDone.{NotDone}
 use Rattle.bac_asked.specs.declared.end.NotDone.TheVariants as done
@@ -11,7 +10,7 @@ use Rattle.bac_asked.specs.declared.fault.Fault.TheVariants.{Memory}
 use Rattle.bac_asked.specs.declared.fault.FileFault.{FileFault}
 use Rattle.bac_files.specs.Parts.{blamed}
 use Rattle.bac_files.specs.declared.folder.Place.{Place}
-use Rattle.bac_keeper.specs.Places.{IsPathOf}
+use Rattle.bac_keeper.specs.Places.{told_path}
 use Rattle.bac_offline.specs.Ends.{EndsBy, IsOfFile, MayAsk, MayFail, TellsEnd}
 use Rattle.bac_print.specs.Output.{Held}
 
@@ -57,14 +56,25 @@ failed fails r why is it = subst (λ (x : Result ℕ NotDone). IfErr x (MayFail 
 pub tells_kept : (why : FileFault) (path : List ℕ) (old new after : Held) → TellsFault why path old new → Keeps new after → TellsFault why path old after
 tells_kept why path old new after (text, are, (written, rest, is, appends)) keeps = (text, are, (written, rest, is, Appends-kept old new after written appends keeps))
 
-path_in : (path path' : String Global) (before before' : Option (String Global)) (blames : Bool) → path' ≡ path → before' ≡ before
-    → ((if blames then string_bytes (unwrap_or before' path') else string_bytes path') ≡ string_bytes path)
-    ⊎ IsSomeAnd before (λ b. (if blames then string_bytes (unwrap_or before' path') else string_bytes path') ≡ string_bytes b)
-path_in path path' before before' false same alike = inl (ap string_bytes same)
-path_in path path' before None true same alike = inl (ap string_bytes same)
-path_in path path' before (Some b) true same alike = inr (subst (λ (o : Option (String Global)). IsSomeAnd o (λ x. string_bytes b ≡ string_bytes x)) alike refl)
-
--- the file that is blamed is the one at the place, or the part before it
-pub blamed_is : (old new : Place) (path : List ℕ) → new.path ≡ old.path → new.before ≡ old.before → path ≡ blamed new → IsPathOf old path
+-- the path that is told is that of a place that is as it was but for what is blamed
+pub blamed_is : (old new : Place) (path : List ℕ) → new.path ≡ old.path → new.before ≡ old.before → path ≡ blamed new → path ≡ told_path new.blames_before old
 blamed_is old new path same alike is =
-    subst (IsPathOf old) (sym is) (path_in old.path new.path old.before new.before new.blames_before same alike)
+    is ∙ subst₂ (λ (p : String Global) (b : Option (String Global)). blamed new ≡ blamed (record new { path = p; before = b })) same alike refl
+
+-- what was blamed as it was done is so once the file is closed
+pub blamed_still : (b : Bool) (P : FileFault → Type 0) (did result : Result ℕ NotDone) → (b ≡ true → IfErr did (MayFail P)) → OnOk did (b ≡ false) → IfErr did (λ fault. result ≡ Err fault)
+    → b ≡ true → IfErr result (MayFail P)
+blamed_still b P (Ok v) result blames own same so = absurd (let e : true ≡ false = sym so ∙ own in cc)
+blamed_still b P (Err e) result blames own same so = subst (λ (r : Result ℕ NotDone). IfErr r (MayFail P)) (sym same) (blames so)
+
+-- a fault of the file that is told holds with what is blamed
+pub both_so : (P Q : FileFault → Type 0) (r : Result ℕ NotDone) → IfErr r (MayFail P) → IfErr r (MayFail Q) → IfErr r (MayFail (λ why. P why × Q why))
+both_so P Q (Ok v) p q = tt
+both_so P Q (Err (done.File why)) p q = (p, q)
+both_so P Q (Err (done.Asking why)) p q = tt
+
+-- one that is blamed is so whether or not
+pub if_so : (A : Type 0) (P : FileFault → Type 0) (r : Result ℕ NotDone) → (A → IfErr r (MayFail P)) → IfErr r (MayFail (λ why. A → P why))
+if_so A P (Ok v) it = tt
+if_so A P (Err (done.File why)) it = it
+if_so A P (Err (done.Asking why)) it = tt

@@ -1,5 +1,5 @@
 -- What was kept over a connection to the files of the words.
-use Rattle.std.proofs.Common.{◌≡◌, ◌⊎◌, inl, inr, ℕ, Option, Result, Ok, Err, IfErr, IfOk, IfSome, IsSome, OnOk, subst}
+use Rattle.std.proofs.Common.{◌≡◌, ◌⊎◌, inl, inr, ℕ, Option, Result, Ok, Err, IfErr, IfOk, IfSome, IsSome, OnOk, subst, sym}
 use Rattle.sqlite_disk.specs.declared.Disk as disk
 use Rattle.sqlite_disk.specs.declared.Files.{Files}
 use Rattle.sqlite_disk.specs.declared.start.Start as start
@@ -9,8 +9,6 @@ use Rattle.sqlite.specs.Effect.{Database}
 use Rattle.sqlite.specs.Files.{file_state}
 use Rattle.sqlite.specs.Held.{Held as Connected}
 use Rattle.sqlite.specs.State.{HasCleanDisk, State}
-use Rattle.sqlite.specs.declared.error.Error.{Error}
-use Rattle.bac_asked.specs.Faults.{IsOfDatabase, of_error}
 use Rattle.bac_asked.specs.declared.end.NotDone.{NotDone}
 use Rattle.bac_asked.specs.declared.end.NotDone.TheVariants as done
 use Rattle.bac_asked.specs.declared.fault.FileFault.{FileFault}
@@ -21,7 +19,7 @@ use Rattle.bac_files.specs.declared.disk_files.DiskFiles.{DiskFiles}
 use Rattle.bac_keeper.proofs.ArchiveLemmas.{tells_weaker}
 use Rattle.bac_offline.proofs.WorkLemmas.{asking_not_file}
 use Rattle.bac_offline.specs.Archives.{IsHeld}
-use Rattle.bac_keeper.specs.Archives.{KeepsArchive, LosesNothing}
+use Rattle.bac_keeper.specs.Archives.{KeepsArchive}
 use Rattle.bac_asked.specs.AsLog.{Given}
 use Rattle.bac_keeper.specs.Done.{Chooses, EndsOver, KeepsIn, RefusesKeep, TellsThese, on_disk, unbegun}
 use Rattle.bac_offline.specs.Options.{given_of}
@@ -31,14 +29,14 @@ use Rattle.bac_fetch.specs.Points.{run_point, scene}
 use Rattle.bac_fetch.specs.Chosen.{selection}
 use Rattle.bac_ports.specs.Sockets.{SocketRules}
 use Rattle.bac_print.specs.Output.{Held}
-use Rattle.bac_offline.proofs.FileLemmas.{database_fails, database_file, file_asks, some_done}
+use Rattle.bac_offline.proofs.FileLemmas.{file_asks, some_done}
 use Rattle.bac_words.specs.declared.job.Keep.{Keep}
 
 module _ {D : Type 0} {g : disk.Ghosts D} (image : Image) (opened last : Connected (FileStore D g)) (closed : Option (Files D)) (is : IsOpenedBy image opened)
     (clean : HasCleanDisk (file_state last) → HasCleanDisk (file_state opened)) where
-  pub loses_none : (IsHeld (file_state last) → (file_state opened).committed ≡ (file_state opened).now → LosesNothing (file_state opened).now (file_state last).committed)
-      → IsClosedBy last closed → IfSome closed (IsDoneTo g image LosesNothing)
-  loses_none stays shut = some_done image opened last closed is clean LosesNothing (λ c open'. stays (c, open') (opened_settled image opened is (clean c))) shut.1
+  pub held_done : (does : Database → Database → Type 0) → (IsHeld (file_state last) → (file_state opened).committed ≡ (file_state opened).now → does (file_state opened).now (file_state last).committed)
+      → IsClosedBy last closed → IfSome closed (IsDoneTo g image does)
+  held_done does stays shut = some_done image opened last closed is clean does (λ c open'. stays (c, open') (opened_settled image opened is (clean c))) shut.1
 
 module _ {F : Type 0} {s : start.Ghosts F} {g : disk.Ghosts (FileOf s)} (image : Image) (opened last : Connected (FileStore (FileOf s) g)) (files : DiskFiles F s) (is : IsOpenedBy image opened)
     (clean : HasCleanDisk (file_state last) → HasCleanDisk (file_state opened)) where
@@ -74,11 +72,11 @@ asks_file image opened last files is clean ends over did (Err (done.Asking why))
     (it.0, inr (shut.0, some_done image opened last files.closed is clean (λ found left. over found left (done.Asking why)) (λ c open'. it.1 (c, open')) shut.1))
 
 -- what a run over an archive fails by, by options that are the same
-pub refused_by : {S P C : Type 0} (rules : SocketRules S P) (clock : AtOnce S C) (bars : FileFault → Type 0) (quiet : Type 0) (which : Chosen) (before after : S) (found : Database) (last : State) (given by : Given) (r : Result ℕ NotDone) → given ≡ by
-    → IfErr r (MayFail (λ why. ((error : Error) × (why ≡ of_error error)) ⊎ (IsHeld last → RefusesKeep (reach rules clock) (unbegun quiet bars) (selection given which) (run_point before found) (run_point after last.committed) why)))
-    → IfErr r (MayFail (λ why. ((error : Error) × (why ≡ of_error error)) ⊎ (IsHeld last → RefusesKeep (reach rules clock) (unbegun quiet bars) (selection by which) (run_point before found) (run_point after last.committed) why)))
-refused_by rules clock bars quiet which before after found last given by r is it =
-    subst (λ (x : Given). IfErr r (MayFail (λ why. ((error : Error) × (why ≡ of_error error)) ⊎ (IsHeld last → RefusesKeep (reach rules clock) (unbegun quiet bars) (selection x which) (run_point before found) (run_point after last.committed) why)))) is it
+pub refused_by : {S P C : Type 0} (answers : FileFault → Type 0) (rules : SocketRules S P) (clock : AtOnce S C) (bars : FileFault → Type 0) (quiet : Type 0) (which : Chosen) (before after : S) (found : Database) (last : State) (given by : Given) (r : Result ℕ NotDone) → given ≡ by
+    → IfErr r (MayFail (λ why. answers why ⊎ (IsHeld last → RefusesKeep (reach rules clock) (unbegun quiet bars) (selection given which) (run_point before found) (run_point after last.committed) why)))
+    → IfErr r (MayFail (λ why. answers why ⊎ (IsHeld last → RefusesKeep (reach rules clock) (unbegun quiet bars) (selection by which) (run_point before found) (run_point after last.committed) why)))
+refused_by answers rules clock bars quiet which before after found last given by r is it =
+    subst (λ (x : Given). IfErr r (MayFail (λ why. answers why ⊎ (IsHeld last → RefusesKeep (reach rules clock) (unbegun quiet bars) (selection x which) (run_point before found) (run_point after last.committed) why)))) is it
 
 -- so what it ends by, by options that are the same
 pub ended_by : {S P C : Type 0} (rules : SocketRules S P) (clock : AtOnce S C) (which : Chosen) (before after : S) (found : Database) (last : State) (given by : Given) (ends : NotDone → Type 0) (r : Result ℕ NotDone)
@@ -88,10 +86,11 @@ pub ended_by : {S P C : Type 0} (rules : SocketRules S P) (clock : AtOnce S C) (
 ended_by rules clock which before after found last given by ends r is it =
     subst (λ (x : Given). IfErr r (MayAsk (λ fault. ends fault × (IsHeld last → EndsOver (reach rules clock) (selection x which) (run_point before found) (run_point after last.committed) fault)))) is it
 
-pub all_database_fail : (P : FileFault → Type 0) (r : Result ℕ NotDone) → IfErr r IsOfDatabase → IfErr r (MayFail (λ why. ((error : Error) × (why ≡ of_error error)) ⊎ P why))
-all_database_fail P (Ok v) it = tt
-all_database_fail P (Err e) it = database_fails P e it
+-- what isn't committed fails by the file, and by nothing else
+pub unsettled_fails : (why : FileFault) (X : Type 0) (P : FileFault → Type 0) (r : Result ℕ NotDone) → (X → P why) → IfErr r (λ fault. (fault ≡ done.File why) × X) → IfErr r (MayFail P)
+unsettled_fails why X P (Ok v) f it = tt
+unsettled_fails why X P (Err e) f it = subst (MayFail P) (sym it.0) (f it.1)
 
-pub all_database_ask : (P : NotDone → Type 0) (r : Result ℕ NotDone) → IfErr r IsOfDatabase → IfErr r (MayAsk P)
-all_database_ask P (Ok v) it = tt
-all_database_ask P (Err e) it = file_asks P e (database_file e it)
+pub unsettled_asks : (why : FileFault) (X : Type 0) (P : NotDone → Type 0) (r : Result ℕ NotDone) → IfErr r (λ fault. (fault ≡ done.File why) × X) → IfErr r (MayAsk P)
+unsettled_asks why X P (Ok v) it = tt
+unsettled_asks why X P (Err e) it = file_asks P e (why, it.0)

@@ -1,7 +1,5 @@
 -- Why logs that were chosen aren't kept, if the file is at fault.
 use Rattle.std.proofs.Common.{◌≡◌, ◌⊎◌, inl, inr}
-use Rattle.sqlite.specs.declared.error.Error.{Error}
-use Rattle.bac_asked.specs.Faults.{of_error}
 use Rattle.bac_asked.specs.declared.end.NotDone.{NotDone}
 use Rattle.bac_asked.specs.declared.fault.FileFault.{FileFault}
 use Rattle.bac_asked.specs.declared.end.NotDone.TheVariants as done
@@ -32,12 +30,12 @@ keeping_so rules by N M A B f h which before after fault (inr (all, unlisted, be
     inr (all, unlisted, between, found, ends_so rules (HasNoInstance all) (HasNoInstance all) A B after fault (λ n. n) h it)
 
 -- so a run ends over what two files held, which became this archive, in which nothing waited for a commit
-pub refused_so : {S P C : Type 0} (rules : SocketRules S P) (clock : AtOnce S C) (bars : FileFault → Type 0) (quiet : Type 0) (which : Chosen) (given : Given) (found : Database) (archive last : State) (before after : S) (fault : NotDone)
+pub refused_so : {S P C : Type 0} (answers : FileFault → Type 0) (rules : SocketRules S P) (clock : AtOnce S C) (bars : FileFault → Type 0) (quiet : Type 0) (which : Chosen) (given : Given) (found : Database) (archive last : State) (before after : S) (fault : NotDone)
     → (IsHeld last → IsTakenAs found archive.now × HasArchive archive.now.schema × (archive.committed ≡ archive.now))
     → OverArchive archive last (Leaves archive last (λ left. EndsRunOver (reach rules clock) (selection given which) (run_point before archive.now) after left fault))
-    → MayFail (λ why. ((error : Error) × (why ≡ of_error error)) ⊎ (IsHeld last → RefusesKeep (reach rules clock) (unbegun quiet bars) (selection given which) (run_point before found) (run_point after last.committed) why)) fault
-refused_so rules clock bars quiet which given found archive last before after (done.Asking why) is ends = tt
-refused_so rules clock bars quiet which given found archive last before after (done.File why) is ends =
+    → MayFail (λ why. answers why ⊎ (IsHeld last → RefusesKeep (reach rules clock) (unbegun quiet bars) (selection given which) (run_point before found) (run_point after last.committed) why)) fault
+refused_so answers rules clock bars quiet which given found archive last before after (done.Asking why) is ends = tt
+refused_so answers rules clock bars quiet which given found archive last before after (done.File why) is ends =
     inr (λ held.
     let (of, has, was) = is held in
     inr (archive.now, of, leaves_committed archive last (λ left. EndsRunOver (reach rules clock) (selection given which) (run_point before archive.now) after left (done.File why)) was held.1 (ends held.0 has)))

@@ -1,5 +1,5 @@
 -- What was done of the words of `bac keep`. Read from the end.
-use Rattle.std.specs.Prelude.{◌≡◌, ◌≢◌, ◌⊎◌, ℕ, Bool, List, [], ◌∷◌, codes, None, IfSome, IsSome}
+use Rattle.std.specs.Prelude.{◌≡◌, ◌≢◌, ◌⊎◌, ℕ, Bool, List, [], ◌∷◌, codes, None, IfSome, IsSome, IsTrue}
 use Rattle.std.specs.List.{All, AllZip, Contains}
 use Rattle.clap.specs.Words.{Text}
 use Rattle.sqlite_disk.specs.declared.Disk as disk
@@ -18,16 +18,21 @@ use Rattle.bac_fetch.specs.declared.sought.Sought.{Sought}
 use Rattle.bac_fetch.specs.declared.sought.Sought.TheVariants.{Device, Named}
 use Rattle.bac_fetch.specs.declared.unlisted.Unlisted.{Unlisted}
 use Rattle.sqlite.specs.Effect.{Database}
+use Rattle.sqlite.specs.declared.error.Error.TheVariants.{SqliteFailure}
+use Rattle.sqlite.specs.declared.error.ErrorCode.TheVariants.{TransactionState}
 use Rattle.sqlite_disk.specs.declared.start.Start as start
 use Rattle.bac_asked.specs.declared.end.NotDone.{NotDone}
 use Rattle.bac_asked.specs.declared.end.NotDone.TheVariants.{File}
 use Rattle.bac_asked.specs.declared.fault.FileFault.{FileFault}
+use Rattle.bac_asked.specs.declared.fault.FileFault.TheVariants as file
 use Rattle.bac_fetch.specs.Faults.{EndsKeeping}
 use Rattle.bac_files.specs.Files.{FileOf, IsDoneTo}
 use Rattle.bac_files.specs.declared.disk_files.DiskFiles.{DiskFiles}
-use Rattle.bac_keeper.specs.Archives.{KeepsArchive}
+use Rattle.bac_keeper.specs.Archives.{GainsOnly, KeepsArchive}
 use Rattle.bac_offline.specs.Archives.{IsTakenAs}
-use Rattle.bac_offline.specs.Ends.{FailsOpened, IsNoArchive, IsNotOpened, IsUnclosedBySome}
+use Rattle.bac_offline.specs.Begun.{AnswersBegun}
+use Rattle.bac_offline.specs.Ends.{FailsOpened, IsNoArchive, IsNotOpened, IsUnclosedBySome, failing}
+use Rattle.bac_offline.specs.Passages.{Passage, left_state}
 use Rattle.bac_offline.specs.Options.{SeeksNone, given_for, given_of}
 use Rattle.bac_fetch.specs.Ahead.{Reach}
 use Rattle.bac_fetch.specs.Points.{RunPoint, Scene, run_point}
@@ -96,6 +101,11 @@ abbrev pub EndsOver : {S P C : Type 0} → Reach S P C → Selection → RunPoin
 EndsOver by which before after fault = (archive : Database) × IsTakenAs before.archive archive
     × EndsRunOver by which (run_point before.sockets archive) after.sockets after.archive.trees fault
 
+-- so it is with the logs that the words choose
+abbrev pub GainsOnlyBy : {S P C : Type 0} → (ℕ → Reach S P C) → Keep → S → Database → Database → Type 0
+GainsOnlyBy by keep before found left = (which : Chosen) × Chooses keep which
+    × GainsOnly (by keep.at_once) (selection (given_of keep.options) which) before found left
+
 -- no socket was opened, and no line printed
 abbrev pub IsQuiet : {S : Type 0} → Scene S → Scene S → Type 0
 IsQuiet before after = (after.sockets ≡ before.sockets) × (after.output ≡ before.output)
@@ -116,6 +126,15 @@ abbrev pub RefusesKeep : {S P C : Type 0} → Reach S P C → Unbegun → Select
 RefusesKeep by early which before after why = (early.quiet × (IsNoArchive before.archive why ⊎ early.bars why))
     ⊎ EndsOver by which before after (File why)
 
+-- not all that was done is committed, since a transaction is open
+abbrev pub IsUnsettled : Passage → FileFault → Type 0
+IsUnsettled over why =
+    (why ≡ file.Database (SqliteFailure TransactionState)) × IsTrue (left_state over).in_transaction
+
+-- why its database answers by an error, if the run over it didn't end so
+abbrev pub AnswersKeep : Passage → FileFault → Type 0
+AnswersKeep over why = AnswersBegun over why ⊎ IsUnsettled over why
+
 -- a file that words name: its files on a disk, its path, and whether it may be made
 pub record NamedFile {F : Type 0} (s : start.Ghosts F) : Type 1 where
   pub on : OnDisk s
@@ -132,8 +151,8 @@ abbrev pub FailsToKeep : {S P C F : Type 0} {s : start.Ghosts F} → (ℕ → Re
 FailsToKeep by early keep before after file why = (which : Chosen) × Chooses keep which
     × ((early.quiet × IsNotOpened file.path file.may_make file.on.files why)
     ⊎ FailsOpened file.on.does file.on.image file.path file.may_make
-    (λ found left. RefusesKeep (by keep.at_once) early (selection (given_of keep.options) which)
-    (run_point before found) (run_point after left)) file.on.files why)
+    (failing AnswersKeep (λ found left. RefusesKeep (by keep.at_once) early
+    (selection (given_of keep.options) which) (run_point before found) (run_point after left))) file.on.files why)
 
 -- Why words choose no logs: without ADDRESS the options are none; else those of one device name none, or memory is
 -- wanting.

@@ -1,21 +1,23 @@
 //! `bac keep`: the logs that words name are kept in a file.
 
 ghost use Rattle.std.specs.Prelude.{◌≡◌, ◌⊎◌, ◌++◌, ◌∷◌, [], IfErr, IfOk, IfSome, IsTrue, OnOk};
-ghost use Rattle.std.specs.Prelude.{◌||◌, is_some};
+ghost use Rattle.std.specs.Prelude.{◌||◌, false, is_some, true};
 ghost use Rattle.std.specs.List.{All, AllZip, Contains};
 ghost use Rattle.std.specs.String.{string_bytes};
 ghost use Rattle.sqlite.specs.Held.{state};
 ghost use Rattle.sqlite.specs.State.{HasCleanDisk};
 ghost use Rattle.sqlite_wal.specs.Files.{image_at};
 ghost use Rattle.bac_asked.specs.AsLog.{given_in};
-ghost use Rattle.bac_asked.specs.Faults.{IsOfDatabase, WantsMemory, of_error};
+ghost use Rattle.bac_asked.specs.Faults.{WantsMemory};
 ghost use Rattle.bac_fetch.specs.Chosen.{AskOneSource, AskTheirSources, selection};
 ghost use Rattle.bac_fetch.specs.Faults.{EndsKeeping};
 ghost use Rattle.bac_files.specs.Files.{IsDoneTo, IsNamed, IsUnused};
 ghost use Rattle.bac_offline.specs.Archives.{IsHeld, KeepsRows};
-ghost use Rattle.bac_keeper.specs.Archives.{KeepsArchive, LosesNothing};
-ghost use Rattle.bac_offline.specs.Begun.{BarsPart, BeginsOn};
-ghost use Rattle.bac_keeper.specs.Done.{Chooses, ChoosesNone, EndsKeep, EndsOver, FailsToKeep};
+ghost use Rattle.bac_keeper.specs.Archives.{GainsOnly, KeepsArchive, LosesNothing};
+ghost use Rattle.bac_offline.specs.Begun.{BarsBefore, BarsPart, BeginsOn};
+ghost use Rattle.bac_offline.specs.Passages.{passage};
+ghost use Rattle.bac_keeper.specs.Done.{AnswersKeep, Chooses, ChoosesNone, EndsKeep, EndsOver};
+ghost use Rattle.bac_keeper.specs.Done.{FailsToKeep, GainsOnlyBy};
 ghost use Rattle.bac_keeper.specs.Done.{IsQuiet, KeepsIn, RefusesKeep, Seeks, SeeksBy, on_disk};
 ghost use Rattle.bac_keeper.specs.Done.{TellsThese, named_file, unbegun};
 ghost use Rattle.bac_offline.specs.Ends.{MayAsk, MayFail};
@@ -142,18 +144,27 @@ where
     ensures stays { IsHeld (state A.Store conn.new)
         → (state A.Store conn.old).committed ≡ (state A.Store conn.old).now
         → LosesNothing (state A.Store conn.old).now (state A.Store conn.new).committed }
+    // And nothing comes to it but what the logs that were found brought by then.
+    ensures gains { IsHeld (state A.Store conn.new)
+        → (state A.Store conn.old).committed ≡ (state A.Store conn.old).now
+        → GainsOnly (reach (socket_rules S.opens S.closes S.Socket.sends S.Socket.receives
+        S.Socket.receives_within) (at_once S.holds C.reads clock window))
+        (selection (given_in options.now) chosen) sockets.old (state A.Store conn.old).now
+        (state A.Store conn.new).committed }
     // The part before keeps its rows, whatever comes of it.
     ensures part { IsUnused parts.old → IfSome parts.new.closed
         (IsDoneTo ⟦<FileOf<G> as Disk>⟧ (image_at G.Start) KeepsRows) }
     ensures clean { HasCleanDisk (state A.Store conn.new) → HasCleanDisk (state A.Store conn.old) }
-    ensures fault { IfErr result (MayFail (λ why. ((error : Error) × (why ≡ of_error error))
+    ensures fault { IfErr result (MayFail (λ why.
+        AnswersKeep (passage A.Store conn.old conn.new) why
         ⊎ (IsHeld (state A.Store conn.new) → RefusesKeep (reach (socket_rules S.opens S.closes
         S.Socket.sends S.Socket.receives S.Socket.receives_within)
         (at_once S.holds C.reads clock window)) (unbegun
         (IsQuiet (scene sockets.old (O.contents output.old))
         (scene sockets.new (O.contents output.new))
         × (E.contents errors.new ≡ E.contents errors.old))
-        (BarsPart ⟦<FileOf<G> as Disk>⟧ (image_at G.Start) place.old.before parts.new))
+        (BarsPart ⟦<FileOf<G> as Disk>⟧ (image_at G.Start) place.new.blames_before
+        place.old.before parts.new))
         (selection (given_in options.now) chosen)
         (run_point sockets.old (state A.Store conn.old).now)
         (run_point sockets.new (state A.Store conn.new).committed) why))) }
@@ -166,6 +177,11 @@ where
         (at_once S.holds C.reads clock window)) (selection (given_in options.now) chosen)
         (run_point sockets.old (state A.Store conn.old).now)
         (run_point sockets.new (state A.Store conn.new).committed) fault))) }
+    ensures own { OnOk result (place.new.blames_before ≡ false) }
+    // The part before is blamed only where it is no use.
+    ensures blamed { place.new.blames_before ≡ true
+        → IfErr result (MayFail (BarsBefore ⟦<FileOf<G> as Disk>⟧ (image_at G.Start)
+        place.old.before parts.new)) }
     ensures place { (place.new.path ≡ place.old.path) × (place.new.before ≡ place.old.before) }
 {
     begin_archive(alloc, conn, parts, place, errors)?;
@@ -180,7 +196,9 @@ fn settled<A: Alter>(conn: &Connection<A>, status: u8) -> Result<u8, NotDone>
     ensures settled { IfOk result (λ done. (done ≡ status)
         × (IsTrue (state A.Store conn.now).is_open
         → (state A.Store conn.now).now ≡ (state A.Store conn.now).committed)) }
-    ensures fault { IfErr result IsOfDatabase }
+    ensures fault { IfErr result (λ fault. (fault ≡ NotDone.File
+        (FileFault.Database (Error.SqliteFailure ErrorCode.TransactionState)))
+        × IsTrue (state A.Store conn.now).in_transaction) }
 {
     if conn.is_autocommit() {
         return Ok(status);
@@ -223,12 +241,17 @@ where
         (unbegun (IsQuiet (scene sockets.old (O.contents output.old))
         (scene sockets.new (O.contents output.new))
         × (E.contents errors.new ≡ E.contents errors.old))
-        (BarsPart ⟦<FileOf<G> as Disk>⟧ (image_at G.Start) place.old.before parts.new)) asked.now
+        (BarsPart ⟦<FileOf<G> as Disk>⟧ (image_at G.Start) place.new.blames_before
+        place.old.before parts.new)) asked.now
         sockets.old sockets.new
         (named_file (on_disk ⟦<FileOf<F> as Disk>⟧ (image_at F.Start) files.new)
         (string_bytes place.old.path) (are_any asked.now.groups || is_some place.old.before)))) }
     ensures stays { IsUnused files.old → IfSome files.new.closed
         (IsDoneTo ⟦<FileOf<F> as Disk>⟧ (image_at F.Start) LosesNothing) }
+    ensures gains { IsUnused files.old → IfSome files.new.closed
+        (IsDoneTo ⟦<FileOf<F> as Disk>⟧ (image_at F.Start) (GainsOnlyBy (reaching (socket_rules
+        S.opens S.closes S.Socket.sends S.Socket.receives S.Socket.receives_within)
+        (at_once S.holds C.reads clock)) asked.now sockets.old)) }
     // The part before keeps its rows, whatever comes of it.
     ensures part { IsUnused parts.old → IfSome parts.new.closed
         (IsDoneTo ⟦<FileOf<G> as Disk>⟧ (image_at G.Start) KeepsRows) }
@@ -236,8 +259,13 @@ where
         S.Socket.sends S.Socket.receives S.Socket.receives_within) (at_once S.holds C.reads clock))
         (on_disk ⟦<FileOf<F> as Disk>⟧ (image_at F.Start) files.new) asked.now sockets.old
         sockets.new)) }
+    // The part before is blamed only where it is no use.
+    ensures blamed { place.new.blames_before ≡ true
+        → IfErr result (MayFail (BarsBefore ⟦<FileOf<G> as Disk>⟧ (image_at G.Start)
+        place.old.before parts.new)) }
     ensures place { (place.new.path ≡ place.old.path) × (place.new.before ≡ place.old.before) }
 {
+    place.blames_before = false;
     let options = options_of(&asked.options);
     let chosen = choose(alloc, asked, &options)?;
     // Without a device only an archive that has logs is of use, and none is made but a part of it.

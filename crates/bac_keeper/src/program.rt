@@ -9,7 +9,7 @@ ghost use Rattle.bac_files.specs.Parts.{IsPlaced, Listing};
 ghost use Rattle.bac_offline.specs.Archives.{KeepsItems, KeepsRows};
 ghost use Rattle.bac_keeper.specs.Archives.{LosesNothing};
 ghost use Rattle.bac_offline.specs.Begun.{BeginsOn};
-ghost use Rattle.bac_keeper.specs.Done.{EndsKeep, KeepsIn, on_disk};
+ghost use Rattle.bac_keeper.specs.Done.{EndsKeep, GainsOnlyBy, KeepsIn, on_disk};
 ghost use Rattle.bac_keeper.specs.Places.{FailsAt, FailsAtPlace, KeepsAt};
 ghost use Rattle.bac_offline.specs.Ends.{EndsBy, IsNotOpened, IsOfFile, IsOfSomeFile, MayFail};
 ghost use Rattle.bac_offline.specs.Ends.{TellsEnd};
@@ -136,6 +136,10 @@ where
         (E.contents errors.old) (E.contents errors.new)) status) }
     ensures stays { IsUnused files.old → IfSome files.new.closed
         (IsDoneTo ⟦<FileOf<F> as Disk>⟧ (image_at F.Start) LosesNothing) }
+    ensures gains { IsUnused files.old → IfSome files.new.closed
+        (IsDoneTo ⟦<FileOf<F> as Disk>⟧ (image_at F.Start) (GainsOnlyBy (reaching (socket_rules
+        S.opens S.closes S.Socket.sends S.Socket.receives S.Socket.receives_within)
+        (at_once S.holds C.reads clock)) asked.now sockets.old)) }
     // The part before keeps its rows, whatever comes of it.
     ensures part { IsUnused parts.old → IfSome parts.new.closed
         (IsDoneTo ⟦<FileOf<G> as Disk>⟧ (image_at G.Start) KeepsRows) }
@@ -206,6 +210,12 @@ where
     // lost.
     ensures stays { IsUnused files.old → IfSome files.new.closed
         (IsDoneTo ⟦<FileOf<F> as Disk>⟧ (image_at F.Start) LosesNothing) }
+    // And nothing comes to it but what its logs brought by then, over sockets that were opened as
+    // they are asked for.
+    ensures gains { asked.now.stop ≡ false → IsUnused files.old → IfSome files.new.closed
+        (IsDoneTo ⟦<FileOf<F> as Disk>⟧ (image_at F.Start) (GainsOnlyBy (reaching (socket_rules
+        S.opens S.closes S.Socket.sends S.Socket.receives S.Socket.receives_within)
+        (at_once S.holds C.reads clock)) asked.now sockets.old)) }
     // The part before keeps its rows, whatever comes of it.
     ensures part { IsUnused parts.old → IfSome parts.new.closed
         (IsDoneTo ⟦<FileOf<G> as Disk>⟧ (image_at G.Start) KeepsRows) }
@@ -249,7 +259,9 @@ fn kept_file<F: Start, O: Write, E: Write>(
     ensures untold { OnErr result (E.contents errors.new ≡ E.contents errors.old) }
     ensures rows { IsUnused files.old
         → IfSome files.new.closed (IsDoneTo ⟦<FileOf<F> as Disk>⟧ (image_at F.Start) KeepsRows) }
-    ensures ends { IfErr result (λ why. EndsPrint asked.now (NotDone.Asking why)) }
+    ensures ends { IfErr result (λ why. EndsPrint asked.now
+        ((O.contents output.new ≡ O.contents output.old) × (files.new ≡ files.old))
+        (NotDone.Asking why)) }
 {
     let done = kept(files, alloc, asked, output);
     tell_done(alloc, asked.file.as_str(), done, errors)
@@ -267,7 +279,9 @@ fn kept_folder<P: Parts, O: Write, E: Write>(
     ensures printed { IfOk result (PrintsOfFolder P.holds P.bars asked.now
         (map string_bytes paths.now) parts.old parts.new (O.contents output.old)
         (O.contents output.new) (E.contents errors.old) (E.contents errors.new)) }
-    ensures ends { IfErr result (λ why. EndsPrint asked.now (NotDone.Asking why)) }
+    ensures ends { IfErr result (λ why. EndsPrint asked.now
+        ((O.contents output.new ≡ O.contents output.old) × (parts.new ≡ parts.old))
+        (NotDone.Asking why)) }
 {
     let done = kept_parts(parts, alloc, asked, paths, output, errors);
     tell_done(alloc, asked.file.as_str(), done, errors)
@@ -294,7 +308,11 @@ pub fn run_kept<F: Start, P: Parts, O: Write, E: Write>(
     // Whatever comes of it, of an archive that the files held each row stays as it is.
     ensures rows { IsUnused files.old
         → IfSome files.new.closed (IsDoneTo ⟦<FileOf<F> as Disk>⟧ (image_at F.Start) KeepsRows) }
-    ensures ends { IfErr result (λ why. EndsPrint asked.now (NotDone.Asking why)) }
+    // Where the words choose no logs, nothing is printed, no file is opened and no part read.
+    ensures ends { IfErr result (λ why. EndsPrint asked.now
+        ((O.contents output.new ≡ O.contents output.old) × (files.new ≡ files.old)
+        × (listing : Listing) × P.lists folders.old asked.now.file listing folders.new)
+        (NotDone.Asking why)) }
     // Unless parts were read, nothing is told beside such a fault.
     ensures untold { OnErr result ((listing : Listing) × (listed : P)
         × P.lists folders.old asked.now.file listing listed

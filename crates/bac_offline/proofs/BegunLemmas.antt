@@ -1,5 +1,5 @@
 -- A part that is begun, from one function to the next.
-use Rattle.std.proofs.Common.{ℕ, true, false, IfOk, ◌≡◌, ◌⊎◌, ◌∙◌, inl, inr, Option, Some, None, String, Global, IfSome, IsSome, IfErr, OnOk, OnErr, Result, Ok, Err, ap, subst, sym}
+use Rattle.std.proofs.Common.{ℕ, Bool, true, false, IfOk, ◌≡◌, ◌⊎◌, ◌∙◌, inl, inr, Option, Some, None, String, Global, IfSome, IsSome, IfErr, OnOk, OnErr, Result, Ok, Err, ap, subst, sym}
 use Rattle.sqlite_disk.specs.declared.Disk as disk
 use Rattle.sqlite_disk.specs.declared.Files.{Files}
 use Rattle.sqlite_disk.specs.declared.start.Start as start
@@ -60,10 +60,10 @@ module _ {G : Type 0} {s : start.Ghosts G} (g : disk.Ghosts (FileOf s)) (image :
       (it.0, (it.1.0, done_so g image _ _ (λ was left on. follows_opened was left mid archive is on) parts.closed it.1.1))
 
   -- a part that was made and isn't taken
-  pub bars_made : (before : Option (String Global)) (parts : DiskFiles G s) (found mid : Database) (why : FileFault) → found.schema ≡ no_schema → IsSome before
-      → (found.schema ≡ no_schema → IfSome before (FollowsPart g image parts mid)) → IsNoArchive mid why → BarsPart g image before parts why
-  bars_made None parts found mid why none there begins no' = absurd (let e : false ≡ true = there in cc)
-  bars_made (Some path) parts found mid why none there begins no' = let it = begins none in inr (mid, it.1, no')
+  pub bars_made : (blames : Bool) (before : Option (String Global)) (parts : DiskFiles G s) (found mid : Database) (why : FileFault) → found.schema ≡ no_schema → IsSome before
+      → (found.schema ≡ no_schema → IfSome before (FollowsPart g image parts mid)) → IsNoArchive mid why → BarsPart g image blames before parts why
+  bars_made blames None parts found mid why none there begins no' = absurd (let e : false ≡ true = there in cc)
+  bars_made blames (Some path) parts found mid why none there begins no' = let it = begins none in inr (mid, it.1, no')
 
 -- what was made over a connection follows on what its files held
 pub follows_in : {D : Type 0} {g : disk.Ghosts D} (image : Image) (opened last : Connected (FileStore D g)) (closed : Option (Files D)) → IsOpenedBy image opened

@@ -1,5 +1,5 @@
 -- What was done over a connection to the files of the words.
-use Rattle.std.proofs.Common.{◌≡◌, ◌⊎◌, inl, inr, ℕ, Bool, List, Option, None, Some, Result, Ok, Err, IfErr, IfOk, IfSome, OnOk, IsTrue, refl, subst, sym}
+use Rattle.std.proofs.Common.{◌≡◌, ◌⊎◌, inl, inr, ℕ, Bool, List, Option, None, Some, Result, Ok, Err, IfErr, IfOk, IfSome, OnOk, IsTrue, subst, sym}
 use Rattle.sqlite_disk.specs.declared.Disk as disk
 use Rattle.sqlite_disk.specs.declared.Files.{Files}
 use Rattle.sqlite_disk.specs.declared.start.Start as start
@@ -8,11 +8,10 @@ use Rattle.sqlite_wal.specs.Reads.{AreClean}
 use Rattle.sqlite_wal.specs.Recovery.{Image}
 use Rattle.sqlite.specs.Closing.{IsCopied}
 use Rattle.sqlite.specs.Effect.{Database}
-use Rattle.sqlite.specs.Files.{file_state}
+use Rattle.sqlite.specs.Files.{file_state, over_files}
 use Rattle.sqlite.specs.Held.{Held as Connected}
 use Rattle.sqlite.specs.State.{HasCleanDisk}
-use Rattle.sqlite.specs.declared.error.Error.{Error}
-use Rattle.bac_asked.specs.Faults.{IsOfDatabase, of_error}
+use Rattle.bac_asked.specs.Faults.{IsOfDatabase}
 use Rattle.bac_asked.specs.declared.end.NotDone.{NotDone}
 use Rattle.bac_asked.specs.declared.end.NotDone.TheVariants as done
 use Rattle.bac_asked.specs.declared.fault.FileFault.{FileFault}
@@ -20,7 +19,8 @@ use Rattle.bac_files.proofs.FilesLemmas.{done_to, opened_settled}
 use Rattle.bac_files.specs.Files.{FileOf, IsClosedBy, IsDoneTo, IsNamed, IsOpenedBy}
 use Rattle.bac_files.specs.declared.disk_files.DiskFiles.{DiskFiles}
 use Rattle.bac_offline.specs.Archives.{IsHeld, KeepsRows}
-use Rattle.bac_offline.specs.Ends.{FailsOpened, IsOfSomeFile, IsUnclosedBySome, MayAsk, MayFail}
+use Rattle.bac_offline.specs.Ends.{Failing, FailsOpened, IsOfSomeFile, IsUnclosedBySome, MayAsk, MayFail}
+use Rattle.bac_offline.specs.Passages.{passage}
 use Rattle.bac_offline.specs.Shown.{PrintsArchive, PrintsIn, Shows}
 use Rattle.bac_kept.specs.declared.printing.Shown.{Shown}
 use Rattle.bac_print.specs.Output.{Held}
@@ -91,24 +91,29 @@ all_fail P Q (Err e) f p = fails_so P Q e f p
 pub fails_clean : (C : Type 0) (P Q : FileFault → Type 0) (r : Result ℕ NotDone) → C → IfErr r (MayFail (λ why. P why ⊎ Q why)) → IfErr r (MayFail (λ why. P why ⊎ (C × Q why)))
 fails_clean C P Q r clean failed = all_fail _ _ r (λ why it. elim it [ inl p ↦ inl p | inr q ↦ inr (clean, q) ]) failed
 
+-- so what is done over a connection fails: its database answers so, or what it held is refused
+abbrev pub FailsSo : {D : Type 0} {g : disk.Ghosts D} → Failing → Connected (FileStore D g) → Connected (FileStore D g) → FileFault → Type 0
+FailsSo fails opened last why = fails.answers (passage over_files opened last) why
+    ⊎ ((HasCleanDisk (file_state last) → HasCleanDisk (file_state opened)) × (IsHeld (file_state last) → fails.refuses (file_state opened).now (file_state last).committed why))
+
 -- what was done over a connection failed, or it couldn't be closed
 pub fails_file : {F : Type 0} {s : start.Ghosts F} {g : disk.Ghosts (FileOf s)} (image : Image) (opened last : Connected (FileStore (FileOf s) g)) (files : DiskFiles F s)
-    → IsOpenedBy image opened → (path : List ℕ) (may : Bool) → IsNamed path may files → (refuses : Database → Database → FileFault → Type 0) (did result : Result ℕ NotDone)
-    → IfErr did (MayFail (λ why. ((error : Error) × (why ≡ of_error error)) ⊎ ((HasCleanDisk (file_state last) → HasCleanDisk (file_state opened)) × (IsHeld (file_state last) → refuses (file_state opened).now (file_state last).committed why))))
+    → IsOpenedBy image opened → (path : List ℕ) (may : Bool) → IsNamed path may files → (fails : Failing) (did result : Result ℕ NotDone)
+    → IfErr did (MayFail (FailsSo fails opened last))
     → IfErr result (λ fault. (did ≡ Err fault) ⊎ (IsOfSomeFile fault × IsUnclosedBySome files)) → (IsClosedBy last files.closed ⊎ IsUnclosedBySome files)
-    → IfErr result (MayFail (FailsOpened g image path may refuses files))
-fails_file image opened last files is path may named refuses did (Ok v) failed same shut = tt
-fails_file image opened last files is path may named refuses did (Err (done.Asking why)) failed same shut = tt
-fails_file image opened last files is path may named refuses did (Err (done.File why)) failed (inr (file, unclosed)) shut = (named, inl unclosed)
-fails_file image opened last files is path may named refuses did (Err (done.File why)) failed (inl same) (inr unclosed) = (named, inl unclosed)
-fails_file {s = s} {g = g} image opened last files is path may named refuses did (Err (done.File why)) failed (inl same) (inl shut) =
-    let it = subst (λ (r : Result ℕ NotDone). IfErr r (MayFail (λ why'. ((error : Error) × (why' ≡ of_error error)) ⊎ ((HasCleanDisk (file_state last) → HasCleanDisk (file_state opened)) × (IsHeld (file_state last) → refuses (file_state opened).now (file_state last).committed why'))))) same failed in (
+    → IfErr result (MayFail (FailsOpened g image path may fails files))
+fails_file image opened last files is path may named fails did (Ok v) failed same shut = tt
+fails_file image opened last files is path may named fails did (Err (done.Asking why)) failed same shut = tt
+fails_file image opened last files is path may named fails did (Err (done.File why)) failed (inr (file, unclosed)) shut = (named, inl unclosed)
+fails_file image opened last files is path may named fails did (Err (done.File why)) failed (inl same) (inr unclosed) = (named, inl unclosed)
+fails_file {s = s} {g = g} image opened last files is path may named fails did (Err (done.File why)) failed (inl same) (inl shut) =
+    let it = subst (λ (r : Result ℕ NotDone). IfErr r (MayFail (FailsSo fails opened last))) same failed in (
       named,
       inr (
         shut.0,
         elim it [
-          | inl answered ↦ inl answered
-          | inr refused ↦ inr (some_done image opened last files.closed is refused.0 (λ found left. refuses found left why) (λ c open'. refused.1 (c, open')) shut.1)
+          | inl answered ↦ inl (opened, last, is, shut, answered)
+          | inr refused ↦ inr (some_done image opened last files.closed is refused.0 (λ found left. fails.refuses found left why) (λ c open'. refused.1 (c, open')) shut.1)
         ],
       ),
     )
@@ -119,10 +124,6 @@ file_asks P fault (why, is) = subst (MayAsk P) (sym is) tt
 
 pub database_file : (fault : NotDone) → IsOfDatabase fault → IsOfSomeFile fault
 database_file fault (error, is) = (_, is)
-
--- one of the database is one of these
-pub database_fails : (P : FileFault → Type 0) (fault : NotDone) → IsOfDatabase fault → MayFail (λ why. ((error : Error) × (why ≡ of_error error)) ⊎ P why) fault
-database_fails P fault (error, is) = subst (MayFail _) (sym is) (inl (error, refl))
 
 -- a tool ends as what was done over the connection, if the file isn't at fault
 pub closed_asks : (P : NotDone → Type 0) (U : Type 0) (done result : Result ℕ NotDone) → IfErr done (MayAsk P) → IfErr result (λ fault. (done ≡ Err fault) ⊎ (IsOfSomeFile fault × U))

@@ -1,15 +1,18 @@
 -- What is printed of the parts of an archive.
-use Rattle.std.proofs.Common.{◌≡◌, ◌⊎◌, ◌∙◌, inl, inr, refl, sym, ap, subst, ℕ, max, false, IfOk, IfErr, OnOk, List, [], ◌∷◌, ◌++◌, Result, Ok, Err}
+use Rattle.std.proofs.Common.{◌≡◌, ◌≢◌, ◌⊎◌, ◌∙◌, inl, inr, refl, sym, ap, subst, ℕ, max, false, IfOk, IfErr, OnOk, List, [], ◌∷◌, ◌++◌, Result, Ok, Err}
+use Rattle.sqlite.specs.Effect.{Database}
+use Rattle.sqlite.specs.Held.{Held as Connected, state}
 use Rattle.sqlite.specs.State.{HasCleanDisk, State}
-use Rattle.sqlite.specs.declared.error.Error.{Error}
+use Rattle.sqlite_trees.specs.declared.store.Store.{Ghosts}
 use Rattle.bac_archive.specs.Schema.{HasArchive, no_schema}
-use Rattle.bac_asked.specs.Faults.{of_error}
 use Rattle.bac_asked.specs.declared.end.NotDone.{NotDone}
 use Rattle.bac_asked.specs.declared.end.NotDone.TheVariants as done
 use Rattle.bac_files.specs.Parts.{Reading, reading}
 use Rattle.bac_files.specs.declared.not_opened.NotOpened.{NotOpened}
 use Rattle.bac_offline.specs.Archives.{IsArchiveOf, IsHeld}
 use Rattle.bac_offline.specs.Ends.{EndsBy, IsNoArchive, IsOfSomeFile, MayFail, TellsEnd}
+use Rattle.bac_check.proofs.AnswerLemmas.{by_opening}
+use Rattle.bac_offline.specs.Passages.{FailsOpening, passage}
 use Rattle.bac_offline.specs.Parted.{At, FailsFolder, IsAsFound, PrintsFolder, PrintsOfFolder, PrintsPath, PrintsPaths, ReadsBy}
 use Rattle.bac_words.specs.declared.job.Kept.{Kept}
 use Rattle.bac_asked.specs.declared.fault.Fault.{Fault}
@@ -26,20 +29,23 @@ as_found found archive last some early opened settled left clean held =
     let same : archive.now ≡ found.now = elim is.fit [ inl has ↦ is.same has | inr none ↦ absurd (some none) ] in
     elim (left clean is.is.schema held).seen [ inl seen ↦ seen ∙ same | inr back ↦ back ∙ settled (early clean) ∙ same ]
 
-module _ (old new : Printer) (found last : State) (before after : Held) (stays : IsAsFound (reading found last)) where
-  -- a print that ended
-  pub ends_read : (fault : NotDone) → EndsLines fault → ReadsBy (Err fault) old (reading found last) before after new
-  ends_read fault (inl memory) = subst (λ f. ReadsBy (Err f) old (reading found last) before after new) (sym memory) (inl refl, stays)
-  ends_read fault (inr (inl line)) = subst (λ f. ReadsBy (Err f) old (reading found last) before after new) (sym line) (inr refl, stays)
-  ends_read fault (inr (inr (error, is))) = subst (λ f. ReadsBy (Err f) old (reading found last) before after new) (sym is) (inl (error, refl), stays)
+-- a print of an archive that ended
+pub ends_read : (old new : Printer) (found last : State) (before after : Held) → IsAsFound (reading found last) → (HasCleanDisk last → (archive : Database) × IsArchiveOf found.now archive)
+    → (fault : NotDone) → EndsLines fault → ReadsBy (Err fault) old (reading found last) before after new
+ends_read old new found last before after stays of fault (inl memory) = subst (λ f. ReadsBy (Err f) old (reading found last) before after new) (sym memory) (inl refl, stays)
+ends_read old new found last before after stays of fault (inr (inl line)) = subst (λ f. ReadsBy (Err f) old (reading found last) before after new) (sym line) (inr refl, stays)
+ends_read old new found last before after stays of fault (inr (inr (error, is))) =
+    subst (λ f. ReadsBy (Err f) old (reading found last) before after new) (sym is) (inr (error, refl, of), stays)
 
-  -- a part that is no archive
-  pub refused_read : (fault : NotDone) → IsOfSomeFile fault
-      → MayFail (λ why. ((error : Error) × (why ≡ of_error error)) ⊎ (IsHeld last → IsNoArchive found.now why)) fault
-      → ReadsBy (Err fault) old (reading found last) before after new
-  refused_read (done.File why) some (inl answered) = (inl answered, stays)
-  refused_read (done.File why) some (inr refused) = (inr (λ clean held. refused (clean, held)), stays)
-  refused_read (done.Asking why) (file, is) it = absurd (let e = is in cc)
+-- a part that isn't taken as an archive, though it has something
+pub refused_read : {S : Type 0} (g : Ghosts S) (found last : Connected S) (old new : Printer) (out : Held) → IsAsFound (reading (state g found) (state g last)) → (state g found).now.schema ≢ no_schema
+    → (fault : NotDone) → IsOfSomeFile fault
+    → MayFail (λ why. FailsOpening (passage g found last) why ⊎ (IsHeld (state g last) → IsNoArchive (state g found).now why)) fault
+    → ReadsBy (Err fault) old (reading (state g found) (state g last)) out out new
+refused_read g found last old new out stays some' (done.File why) some (inl (error, is, fails)) =
+    (inl (refl, inl (error, is, λ clean. by_opening g found last error some' (fails clean))), stays)
+refused_read g found last old new out stays some' (done.File why) some (inr refused) = (inl (refl, inr (λ clean held. refused (clean, held))), stays)
+refused_read g found last old new out stays some' (done.Asking why) (file, is) it = absurd (let e = is in cc)
 
 module _ {P : Type 0} (holds : P → List ℕ → Reading → P → Type 0) (bars : P → List ℕ → NotOpened → P → Type 0) where
   -- one part more

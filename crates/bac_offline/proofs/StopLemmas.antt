@@ -1,6 +1,5 @@
 -- What stopping logs comes to.
-use Rattle.std.proofs.Common.{◌≡◌, ◌∙◌, ◌∷◌, ◌++◌, [], ◌+◌, ◌<◌, ℕ, List, Option, Result, Ok, Err, IfOk, IfSome, OnOk, ap, inl, inr, refl, subst, sym, take, get_or, length, map, filter, append-nil}
-use Rattle.std.proofs.KnownBytes.{Appends-nil}
+use Rattle.std.proofs.Common.{◌≡◌, ◌∙◌, ◌∷◌, ◌++◌, [], ◌+◌, ◌<◌, ℕ, List, Option, Result, Ok, Err, IfOk, IfSome, OnOk, ap, inl, inr, subst, sym, take, get_or, length, map, filter, append-nil}
 use Rattle.std.specs.Io.KnownBytes.{Appends}
 use Rattle.std.proofs.lemmas.List.{map-append, take_more}
 use Rattle.std.proofs.lemmas.List.Elements.{filter-append}
@@ -17,6 +16,7 @@ use Rattle.sqlite.specs.State.{HasCleanDisk, State, Survives}
 use Rattle.sqlite.proofs.StateLemmas.{survives_then}
 use Rattle.bac_archive.proofs.ChangeLemmas.{changes_keep}
 use Rattle.bac_archive.specs.Changes.{HasChangedLogs}
+use Rattle.bac_archive.specs.Logs.{AreLogs}
 use Rattle.bac_archive.specs.declared.trend_logs.Log.{Log}
 use Rattle.bac_asked.specs.Lines.{stopped_line}
 use Rattle.bac_asked.specs.declared.end.NotDone.{NotDone}
@@ -25,7 +25,8 @@ use Rattle.bac_files.proofs.FilesLemmas.{opened_settled}
 use Rattle.bac_files.specs.Files.{FileOf, IsClosedBy, IsDoneTo, IsOpenedBy}
 use Rattle.bac_files.specs.declared.disk_files.DiskFiles.{DiskFiles}
 use Rattle.bac_offline.proofs.FileLemmas.{some_done}
-use Rattle.bac_offline.specs.Archives.{HasSameItems, IsHeld, KeepsItems}
+use Rattle.bac_offline.specs.Archives.{HasSameItems, IsArchiveOf, IsHeld, KeepsItems}
+use Rattle.bac_offline.specs.Passages.{Passage, left_state, opened_state}
 use Rattle.bac_offline.specs.Stops.{FailsToStop, IsQuietStop, Means, StopsArchive, StopsIn, TellsMeant, is_meant, stopped, stopped_lines, stopped_logs}
 use Rattle.bac_offline.specs.declared.stopping.Meant.{Meant}
 use Rattle.bac_print.specs.Output.{AppendsPart, Held}
@@ -42,22 +43,19 @@ one_line_more all at x lt is =
     ∙ sym (flat_map-append (λ (log : Log). stopped_line log.source) (take at all) (x ∷ []))
     ∙ ap stopped_lines (ap (λ z. take at all ++ z ∷ []) is ∙ sym (take_more all at x lt))
 
--- where nothing was printed there are no lines
-pub tells_none : (which : Meant) (out out' : Held) → out' ≡ out → TellsMeant which out out'
-tells_none which out out' is = subst (λ (h : Held). TellsMeant which out h) (sym is) ([], ([], [], refl, Appends-nil out))
+module _ (which : Meant) (over : Passage) (these known : List Log) (out out' : Held) (is : these ≡ stopped_logs which known)
+    (of : HasCleanDisk (left_state over) → (archive : Database) × IsArchiveOf (opened_state over).now archive × AreLogs archive.trees known) where
+  -- a front part of the lines of those that are meant
+  pub tells_part : AppendsPart out out' (stopped_lines these) → TellsMeant which over out out'
+  tells_part it = inr (known, of, subst (λ (l : List Log). AppendsPart out out' (stopped_lines l)) is it)
 
--- a front part of the lines of those that are meant
-pub tells_part : (which : Meant) (these known : List Log) (out out' : Held) → these ≡ stopped_logs which known → AppendsPart out out' (stopped_lines these) → TellsMeant which out out'
-tells_part which these known out out' is it = (known, subst (λ (l : List Log). AppendsPart out out' (stopped_lines l)) is it)
-
--- all of them
-pub tells_whole : (which : Meant) (these known : List Log) (out out' : Held) → these ≡ stopped_logs which known → Appends out out' (stopped_lines these) → TellsMeant which out out'
-tells_whole which these known out out' is it =
-    tells_part which these known out out' is (stopped_lines these, [], sym (append-nil (stopped_lines these)), it)
+  -- all of them
+  pub tells_whole : Appends out out' (stopped_lines these) → TellsMeant which over out out'
+  tells_whole it = tells_part (stopped_lines these, [], sym (append-nil (stopped_lines these)), it)
 
 -- a file that is no use, and what was printed
 pub quiet_stop : {F : Type 0} {s : start.Ghosts F} (g : disk.Ghosts (FileOf s)) (image : Image) (words : Keep) (path : List ℕ) (out out' : Held) (files : DiskFiles F s) (why : FileFault)
-    → FailsToStop g image words path out out' files why → IsQuietStop words out out' files
+    → FailsToStop g image words path out out' files why → IsQuietStop g image words out out' files
 quiet_stop g image words path out out' files why (which, means, inl quiet) = inl quiet.0
 quiet_stop g image words path out out' files why (which, means, inr unclosed) = inr (which, means, unclosed.1)
 

@@ -3,13 +3,11 @@ use Rattle.std.proofs.Common.{◌≡◌, ◌⊎◌, ◌∙◌, ap, inl, inr, Boo
 use Rattle.sqlite_disk.specs.declared.Disk as disk
 use Rattle.sqlite_disk.specs.declared.start.Start as start
 use Rattle.sqlite_wal.specs.Recovery.{Image}
-use Rattle.sqlite.specs.Effect.{Database}
-use Rattle.sqlite.specs.Files.{file_state}
+use Rattle.sqlite.specs.Files.{file_state, over_files}
 use Rattle.sqlite.specs.Held.{Held as Connected}
 use Rattle.sqlite.specs.State.{HasCleanDisk, State}
-use Rattle.sqlite.specs.declared.error.Error.{Error}
 use Rattle.sqlite_store.specs.declared.store.FileStore.{FileStore}
-use Rattle.bac_asked.specs.Faults.{RefusesLine, WantsMemory, of_error}
+use Rattle.bac_asked.specs.Faults.{RefusesLine, WantsMemory}
 use Rattle.bac_asked.specs.declared.end.NotDone.{NotDone}
 use Rattle.bac_asked.specs.declared.end.NotDone.TheVariants as done
 use Rattle.bac_asked.specs.declared.fault.Fault.{Fault}
@@ -17,13 +15,14 @@ use Rattle.bac_asked.specs.declared.fault.FileFault.{FileFault}
 use Rattle.bac_files.specs.Files.{FileOf, IsClosedBy, IsDoneTo, IsNamed, IsOpenedBy, IsUnused}
 use Rattle.bac_files.specs.declared.disk_files.DiskFiles.{DiskFiles}
 use Rattle.bac_offline.proofs.BegunLemmas.{file_of, follows_in}
-use Rattle.bac_offline.proofs.FileLemmas.{all_fail, both_fail, closed_asks, done_named, fails_all, fails_clean, fails_file, fails_so, file_asks, keeps_rows, none_closed, prints_in, some_done}
-use Rattle.bac_offline.proofs.StopLemmas.{items_kept, stops_in, tells_none}
-use Rattle.bac_offline.specs.Archives.{IsHeld, KeepsItems, KeepsRows}
+use Rattle.bac_offline.proofs.FileLemmas.{FailsSo, all_fail, both_fail, closed_asks, done_named, fails_all, fails_clean, fails_file, fails_so, file_asks, keeps_rows, none_closed, prints_in, some_done}
+use Rattle.bac_offline.proofs.StopLemmas.{items_kept, stops_in}
+use Rattle.bac_offline.specs.Archives.{KeepsItems, KeepsRows}
 use Rattle.bac_offline.specs.Begun.{FollowsFiles}
-use Rattle.bac_offline.specs.Ends.{FailsFile, FailsOpened, IsNotOpened, IsOfSomeFile, IsUnclosedBySome, MayAsk, MayFail}
+use Rattle.bac_offline.specs.Ends.{Failing, FailsFile, FailsOpened, failing, IsNotOpened, IsOfSomeFile, IsUnclosedBySome, MayAsk, MayFail}
 use Rattle.bac_offline.specs.Shown.{PrintsIn, Shows}
-use Rattle.bac_offline.specs.Stops.{IsUnclosedBehind, Means, RefusesStop, StopsIn, StopsUntold, TellsMeant}
+use Rattle.bac_offline.specs.Passages.{Passage, passage}
+use Rattle.bac_offline.specs.Stops.{AnswersStop, IsUnclosedBehind, Means, RefusesStop, StopsIn, StopsUntold, TellsMeantIn}
 use Rattle.bac_offline.specs.Works.{Does, Ended, EndsStopping, FollowsOver, PrintsOver, StopsOver, Works}
 use Rattle.bac_offline.specs.declared.stopping.Meant.{Meant}
 use Rattle.bac_kept.specs.declared.printing.Shown.{Shown}
@@ -36,8 +35,8 @@ none_ends : (P : ℕ → Type 0) (ended : Ended) (cause : NotDone) → ended ≡
 none_ends P ended cause is = subst (λ (r : Ended). IfOk r P) (sym is) tt
 
 -- a work fails by the file; where that isn't opened, this holds
-abbrev pub FailsStill : {F : Type 0} {s : start.Ghosts F} → disk.Ghosts (FileOf s) → Image → Type 0 → (Database → FileFault → Type 0) → DiskFiles F s → List ℕ → FileFault → Type 0
-FailsStill g image still refuses new asked why = (still × IsNotOpened asked false new why) ⊎ FailsOpened g image asked false (λ found left. refuses found) new why
+abbrev pub FailsStill : {F : Type 0} {s : start.Ghosts F} → disk.Ghosts (FileOf s) → Image → Type 0 → Failing → DiskFiles F s → List ℕ → FileFault → Type 0
+FailsStill g image still fails new asked why = (still × IsNotOpened asked false new why) ⊎ FailsOpened g image asked false fails new why
 
 -- a fault of what was done that holds of the closed files, or of a close that failed
 quiet_so : (Q U V : Type 0) (did ended : Ended) → (U → V) → IfErr did (MayFail (λ why. Q)) → IfErr ended (λ cause. (did ≡ Err cause) ⊎ (IsOfSomeFile cause × U))
@@ -85,39 +84,37 @@ module _ {F X : Type 0} {s : start.Ghosts F} {g : disk.Ghosts (FileOf s)} (image
   ]
 
   -- a work that fails by the file
-  pub work_fails : (does : Does X) (asked : List ℕ) → path ≡ asked → (refuses : Database → FileFault → Type 0)
-      → ((found last : State) (done : Ended) → does found last before after done
-      → IfErr done (MayFail (λ why. ((error : Error) × (why ≡ of_error error)) ⊎ ((HasCleanDisk last → HasCleanDisk found) × (IsHeld last → refuses found.now why)))))
-      → Works g image does path old new before after ended → IfErr ended (MayFail (FailsFile g image asked false refuses new))
-  work_fails does asked is refuses fails it =
-      subst (λ (p : List ℕ). IfErr ended (MayFail (FailsFile g image p false refuses new))) is (elim it [
-        | inl un ↦ subst (λ (r : Ended). IfErr r (MayFail (FailsFile g image path false refuses new))) (sym un.ends) (fails_so _ _ un.cause (λ why it'. inl it') un.why)
-        | inr did ↦ all_fail _ _ ended (λ why it'. inr it') (fails_file image did.opened did.last new did.is path false did.named (λ found left. refuses found) did.done ended (fails (file_state did.opened) (file_state did.last) did.done did.did) did.fault did.shut)
+  pub work_fails : (does : Does X) (asked : List ℕ) → path ≡ asked → (fails : Failing)
+      → ((found last : Connected (FileStore (FileOf s) g)) (done : Ended) → does (passage over_files found last) before after done → IfErr done (MayFail (FailsSo fails found last)))
+      → Works g image does path old new before after ended → IfErr ended (MayFail (FailsFile g image asked false fails new))
+  work_fails does asked is fails so it =
+      subst (λ (p : List ℕ). IfErr ended (MayFail (FailsFile g image p false fails new))) is (elim it [
+        | inl un ↦ subst (λ (r : Ended). IfErr r (MayFail (FailsFile g image path false fails new))) (sym un.ends) (fails_so _ _ un.cause (λ why it'. inl it') un.why)
+        | inr did ↦ all_fail _ _ ended (λ why it'. inr it') (fails_file image did.opened did.last new did.is path false did.named fails did.done ended (so did.opened did.last did.done did.did) did.fault did.shut)
       ])
 
   -- so it does where nothing is written unless the file is opened
-  pub work_still : (contents : X → Held) (does : Does X) (asked : List ℕ) → path ≡ asked → (refuses : Database → FileFault → Type 0)
-      → ((found last : State) (done : Ended) → does found last before after done
-      → IfErr done (MayFail (λ why. ((error : Error) × (why ≡ of_error error)) ⊎ ((HasCleanDisk last → HasCleanDisk found) × (IsHeld last → refuses found.now why)))))
-      → Works g image does path old new before after ended → IfErr ended (MayFail (FailsStill g image (contents after ≡ contents before) refuses new asked))
-  work_still contents does asked is refuses fails it =
+  pub work_still : (contents : X → Held) (does : Does X) (asked : List ℕ) → path ≡ asked → (fails : Failing)
+      → ((found last : Connected (FileStore (FileOf s) g)) (done : Ended) → does (passage over_files found last) before after done → IfErr done (MayFail (FailsSo fails found last)))
+      → Works g image does path old new before after ended → IfErr ended (MayFail (FailsStill g image (contents after ≡ contents before) fails new asked))
+  work_still contents does asked is fails so it =
       let still = contents after ≡ contents before in
-      subst (λ (p : List ℕ). IfErr ended (MayFail (FailsStill g image still refuses new p))) is (elim it [
-        | inl un ↦ subst (λ (r : Ended). IfErr r (MayFail (FailsStill g image still refuses new path))) (sym un.ends) (fails_so _ _ un.cause (λ why it'. inl (ap contents un.still, it')) un.why)
-        | inr did ↦ all_fail _ _ ended (λ why it'. inr it') (fails_file image did.opened did.last new did.is path false did.named (λ found left. refuses found) did.done ended (fails (file_state did.opened) (file_state did.last) did.done did.did) did.fault did.shut)
+      subst (λ (p : List ℕ). IfErr ended (MayFail (FailsStill g image still fails new p))) is (elim it [
+        | inl un ↦ subst (λ (r : Ended). IfErr r (MayFail (FailsStill g image still fails new path))) (sym un.ends) (fails_so _ _ un.cause (λ why it'. inl (ap contents un.still, it')) un.why)
+        | inr did ↦ all_fail _ _ ended (λ why it'. inr it') (fails_file image did.opened did.last new did.is path false did.named fails did.done ended (so did.opened did.last did.done did.did) did.fault did.shut)
       ])
 
   -- one that ends otherwise
-  pub work_asks : (does : Does X) (P : NotDone → Type 0) → ((found last : State) (done : Ended) → does found last before after done → IfErr done (MayAsk P))
+  pub work_asks : (does : Does X) (P : NotDone → Type 0) → ((over : Passage) (done : Ended) → does over before after done → IfErr done (MayAsk P))
       → Works g image does path old new before after ended → IfErr ended (MayAsk P)
   work_asks does P asks it = elim it [
     | inl un ↦ subst (λ (r : Ended). IfErr r (MayAsk P)) (sym un.ends) (file_asks P un.cause un.file)
-    | inr did ↦ closed_asks P _ did.done ended (asks (file_state did.opened) (file_state did.last) did.done did.did) did.fault
+    | inr did ↦ closed_asks P _ did.done ended (asks (passage over_files did.opened did.last) did.done did.did) did.fault
   ]
 
   -- what the files held was printed
   pub work_prints : (contents : X → Held) (words : Kept) (which : Shown) → Shows words which
-      → Works g image (λ old' new' before' after'. PrintsOver which words.csv old' new' (contents before') (contents after')) path old new before after ended
+      → Works g image (λ over before' after'. PrintsOver which words.csv over (contents before') (contents after')) path old new before after ended
       → IfOk ended (PrintsIn g image words (contents before) (contents after) new.closed)
   work_prints contents words which shows it = elim it [
     | inl un ↦ none_ends (PrintsIn g image words (contents before) (contents after) new.closed) ended un.cause un.ends
@@ -126,7 +123,7 @@ module _ {F X : Type 0} {s : start.Ghosts F} {g : disk.Ghosts (FileOf s)} (image
 
   -- and their rows stayed, whatever came of it
   pub work_rows : (contents : X → Held) (csv : Bool) (which : Shown)
-      → Works g image (λ old' new' before' after'. PrintsOver which csv old' new' (contents before') (contents after')) path old new before after ended
+      → Works g image (λ over before' after'. PrintsOver which csv over (contents before') (contents after')) path old new before after ended
       → IsUnused old → IfSome new.closed (IsDoneTo g image KeepsRows)
   work_rows contents csv which it unused = elim it [
     | inl un ↦ none_closed new.closed _ (un.closed ∙ unused)
@@ -137,7 +134,7 @@ module _ {F X : Type 0} {s : start.Ghosts F} {g : disk.Ghosts (FileOf s)} (image
   ]
 
   module _ (contents : X → Held) (which : Meant)
-      (it : Works g image (λ old' new' before' after'. StopsOver which old' new' (contents before') (contents after')) path old new before after ended) where
+      (it : Works g image (λ over before' after'. StopsOver which over (contents before') (contents after')) path old new before after ended) where
     -- logs were stopped in what the files held
     pub work_stops : (words : Keep) → Means words which → IfOk ended (StopsIn g image words (contents before) (contents after) new.closed)
     work_stops words means = elim it [
@@ -147,23 +144,23 @@ module _ {F X : Type 0} {s : start.Ghosts F} {g : disk.Ghosts (FileOf s)} (image
 
     -- where the file is at fault nothing was printed, unless it couldn't be closed
     pub work_refuses : (asked : List ℕ) → path ≡ asked
-        → IfErr ended (MayFail (λ why. ((contents after ≡ contents before) × FailsFile g image asked false (RefusesStop which) new why)
-        ⊎ (IsNamed asked false new × IsUnclosedBehind which (contents before) (contents after) new)))
+        → IfErr ended (MayFail (λ why. ((contents after ≡ contents before) × FailsFile g image asked false (failing (AnswersStop which) (λ found left. RefusesStop which found)) new why)
+        ⊎ (IsNamed asked false new × IsUnclosedBehind g image which (contents before) (contents after) new)))
     work_refuses asked is =
-        let quiet : IfErr ended (MayFail (λ why. (contents after ≡ contents before) ⊎ (IsNamed asked false new × IsUnclosedBehind which (contents before) (contents after) new))) = elim it [
-          | inl un ↦ subst (λ (r : Ended). IfErr r (MayFail (λ why. (contents after ≡ contents before) ⊎ (IsNamed asked false new × IsUnclosedBehind which (contents before) (contents after) new)))) (sym un.ends)
+        let quiet : IfErr ended (MayFail (λ why. (contents after ≡ contents before) ⊎ (IsNamed asked false new × IsUnclosedBehind g image which (contents before) (contents after) new))) = elim it [
+          | inl un ↦ subst (λ (r : Ended). IfErr r (MayFail (λ why. (contents after ≡ contents before) ⊎ (IsNamed asked false new × IsUnclosedBehind g image which (contents before) (contents after) new)))) (sym un.ends)
               (fails_all _ un.cause (λ why. inl (ap contents un.still)))
-          | inr did ↦ quiet_so (contents after ≡ contents before) (IsUnclosedBySome new) (IsNamed asked false new × IsUnclosedBehind which (contents before) (contents after) new) did.done ended
-              (λ unclosed. (subst (λ (p : List ℕ). IsNamed p false new) is did.named, (unclosed, did.did.told))) did.did.quiet did.fault
+          | inr did ↦ quiet_so (contents after ≡ contents before) (IsUnclosedBySome new) (IsNamed asked false new × IsUnclosedBehind g image which (contents before) (contents after) new) did.done ended
+              (λ unclosed. (subst (λ (p : List ℕ). IsNamed p false new) is did.named, (unclosed, inr (did.opened, did.last, did.is, did.did.told)))) did.did.quiet did.fault
         ] in
         both_fail _ _ _ ended (λ why fails still. elim still [ inl same ↦ inl (same, fails) | inr unclosed ↦ inr unclosed ])
-        (work_fails (λ old' new' before' after'. StopsOver which old' new' (contents before') (contents after')) asked is (RefusesStop which) (λ found last done did. fails_clean _ _ _ done did.clean did.fault) it) quiet
+        (work_fails (λ over before' after'. StopsOver which over (contents before') (contents after')) asked is (failing (AnswersStop which) (λ found left. RefusesStop which found)) (λ found last done did. fails_clean _ _ _ done did.clean did.fault) it) quiet
 
     -- it told lines of logs that are meant
-    pub work_told : TellsMeant which (contents before) (contents after)
+    pub work_told : TellsMeantIn g image which (contents before) (contents after)
     work_told = elim it [
-      | inl un ↦ tells_none which (contents before) (contents after) (ap contents un.still)
-      | inr did ↦ did.did.told
+      | inl un ↦ inl (ap contents un.still)
+      | inr did ↦ inr (did.opened, did.last, did.is, did.did.told)
     ]
 
     -- how it ends otherwise
@@ -185,7 +182,7 @@ module _ {F X : Type 0} {s : start.Ghosts F} {g : disk.Ghosts (FileOf s)} (image
     ]
 
   -- a part follows on what the files held
-  module _ (state_of : X → State) (it : Works g image (λ found last part made. FollowsOver found last (state_of part) (state_of made)) path old new before after ended) where
+  module _ (state_of : X → State) (it : Works g image (λ over part made. FollowsOver over (state_of part) (state_of made)) path old new before after ended) where
     pub work_follows : HasCleanDisk (state_of after) → OnOk ended (FollowsFiles g image new (state_of after).now)
     work_follows clean = elim it [
       | inl un ↦ none_ends (λ _. FollowsFiles g image new (state_of after).now) ended un.cause un.ends

@@ -1,4 +1,5 @@
 pub mod Archives
+pub mod Passages
 pub mod Ends
 pub mod Good
 pub mod Begun

@@ -24,6 +24,7 @@ use Rattle.bac_files.specs.Parts.{Listing, Reading}
 use Rattle.bac_files.specs.declared.disk_files.DiskFiles.{DiskFiles}
 use Rattle.bac_files.specs.declared.not_opened.NotOpened.{NotOpened}
 use Rattle.bac_files.specs.declared.not_opened.NotOpened.TheVariants.{Empty}
+use Rattle.bac_check.specs.Taken.{is_answer}
 use Rattle.bac_offline.specs.Archives.{IsArchiveOf}
 use Rattle.bac_offline.specs.Ends.{IsNoArchive, IsOfFile}
 use Rattle.bac_offline.specs.Shown.{FailsToPrint, PrintsIn, Shows}
@@ -54,14 +55,29 @@ PrintsFound old found before after new =
 abbrev pub IsAsFound : Reading → Type 0
 IsAsFound found = IsClean found → IsTrue found.is_open → found.left ≡ found.found
 
+-- Its database answers by an error when it is opened as an archive, by one that doesn't come of what it holds.
+abbrev pub IsUnansweredPart : Reading → FileFault → Type 0
+IsUnansweredPart found why =
+    (error : Error) × (why ≡ of_error error) × (IsClean found → IsTrue (is_answer error))
+
+-- it is opened as one, and answers by an error later
+abbrev pub IsUnreadPart : Reading → FileFault → Type 0
+IsUnreadPart found why = (error : Error) × (why ≡ of_error error)
+    × (IsClean found → (archive : Database) × IsArchiveOf found.found archive)
+
+-- It isn't taken as an archive, for an error or for what it held; or it is, and fails later. Only then something may
+-- have been printed.
+abbrev pub IsNoUse : Reading → Held → Held → FileFault → Type 0
+IsNoUse found before after why = ((after ≡ before) × (IsUnansweredPart found why
+    ⊎ (IsClean found → IsTrue found.is_open → IsNoArchive found.found why))) ⊎ IsUnreadPart found why
+
 -- A part was read: it has nothing, and is left so; or it is an archive, which was printed; or it is no use, as the
 -- database says or for what it held; or memory is wanting, or the output refused a line. Then it is left as it was.
 abbrev pub ReadsBy : Result Bool NotDone → Printer → Reading → Held → Held → Printer → Type 0
 ReadsBy (Ok false) old found before after new = (found.found.schema ≡ no_schema) × (after ≡ before)
     × (new.seen ≡ old.seen) × (new.has_any ≡ old.has_any) × (found.left ≡ found.found)
 ReadsBy (Ok true) old found before after new = IsClean found → PrintsFound old found before after new
-ReadsBy (Err (done.File why)) old found before after new = (((error : Error) × (why ≡ of_error error))
-    ⊎ (IsClean found → IsTrue found.is_open → IsNoArchive found.found why)) × IsAsFound found
+ReadsBy (Err (done.File why)) old found before after new = IsNoUse found before after why × IsAsFound found
 ReadsBy (Err (done.Asking why)) old found before after new =
     (WantsMemory (done.Asking why) ⊎ RefusesLine (done.Asking why)) × IsAsFound found
 
@@ -95,6 +111,14 @@ IsPartStatus last (Ok true) status = status ≡ 0
 IsPartStatus last (Ok false) status = status ≡ (if last then 0 else file_status fault.NoLogs)
 IsPartStatus last (Err (done.File why)) status = status ≡ file_status why
 IsPartStatus last (Err (done.Asking why)) status = ⊥
+
+-- What is told of a part on the errors: that it is no use, for this reason, and else nothing.
+abbrev pub TellsPart : Bool → List ℕ → Result Bool NotDone → Held → Held → Type 0
+TellsPart last path (Ok true) old new = new ≡ old
+TellsPart true path (Ok false) old new = new ≡ old
+TellsPart false path (Ok false) old new = TellsFault fault.NoLogs path old new
+TellsPart last path (Err (done.File why)) old new = TellsFault why path old new
+TellsPart last path (Err (done.Asking why)) old new = ⊥
 
 -- no parts are listed
 abbrev pub IsNoFolder : Listing → Type 0
@@ -133,7 +157,8 @@ module _ {P : Type 0} (holds : P → List ℕ → Reading → P → Type 0) (bar
   abbrev pub PrintsPath : Bool → List ℕ → At P → ℕ → At P → Type 0
   PrintsPath last path old status new = (came : Result Bool NotDone)
       × ComesTo path came old.parts new.parts old.printer new.printer old.output new.output
-      × IsPartStatus last came status × (status ≡ 0 → new.errors ≡ old.errors)
+      × (IsPartStatus last came status × TellsPart last path came old.errors new.errors)
+      × (status ≡ 0 → new.errors ≡ old.errors)
 
   -- parts that aren't the newest, one after the other; the status is the greatest
   abbrev pub PrintsPaths : List (List ℕ) → ℕ → At P → ℕ → At P → Type 0

@@ -23,7 +23,8 @@ use Rattle.bac_asked.specs.declared.fault.FileFault.TheVariants as fault
 use Rattle.bac_files.specs.Files.{FileOf, IsDoneTo}
 use Rattle.bac_files.specs.declared.disk_files.DiskFiles.{DiskFiles}
 use Rattle.bac_offline.specs.Archives.{IsArchiveOf}
-use Rattle.bac_offline.specs.Ends.{FailsOpened, IsNoArchive, IsNotOpened}
+use Rattle.bac_offline.specs.Ends.{FailsOpened, IsNoArchive, IsNotOpened, failing}
+use Rattle.bac_offline.specs.Passages.{FailsAnswering, Passage}
 use Rattle.bac_kept.specs.Faults.{HasNoneOf}
 use Rattle.bac_kept.specs.Csv.{WritesLogs, names, names_text}
 use Rattle.bac_kept.specs.Printed.{IsThere, PrintsLogs}
@@ -82,12 +83,18 @@ RefusesPrint which csv before after found why = (IsNoArchive found why × (after
     ⊎ ((why ≡ fault.NoLog) × (archive : Database) × IsArchiveOf found archive × HasNoneOf which archive.trees
     × Appends before after (names_text csv))
 
+-- Why its database answers by an error: when it is opened as an archive; or it is one, and it isn't printed, of which
+-- nothing more is said.
+abbrev pub AnswersPrint : Passage → FileFault → Type 0
+AnswersPrint = FailsAnswering (λ over error. Unit {0})
+
 -- so the file is no use to `kept`; where it isn't opened, nothing was printed
 abbrev pub FailsToPrint : {F : Type 0} {s : start.Ghosts F} → disk.Ghosts (FileOf s) → Image → Kept → Held → Held
     → DiskFiles F s → FileFault → Type 0
 FailsToPrint g image words before after files why = (which : Shown) × Shows words which
     × (((after ≡ before) × IsNotOpened words.file false files why)
-    ⊎ FailsOpened g image words.file false (λ found left. RefusesPrint which words.csv before after found) files why)
+    ⊎ FailsOpened g image words.file false
+    (failing AnswersPrint (λ found left. RefusesPrint which words.csv before after found)) files why)
 
 -- why words choose no logs: `bac log` with them asks for none
 abbrev pub ShowsNoneBy : Option Text → Option Text → NotDone → Type 0
@@ -95,7 +102,8 @@ ShowsNoneBy None instance fault = ⊥
 ShowsNoneBy (Some address) None fault = IsUnnamed (log_words address (codes "0") none_given) fault
 ShowsNoneBy (Some address) (Some instance) fault = IsUnnamed (log_words address instance none_given) fault
 
--- why `kept` isn't done, if the file isn't at fault: its words choose no logs; memory is wanting; or the output refused
--- a line
-abbrev pub EndsPrint : Kept → NotDone → Type 0
-EndsPrint words fault = ShowsNoneBy words.address words.instance fault ⊎ (WantsMemory fault ⊎ RefusesLine fault)
+-- Why `kept` isn't done, if the file isn't at fault: its words choose no logs, and then this is so; memory is wanting;
+-- or the output refused a line.
+abbrev pub EndsPrint : Kept → Type 0 → NotDone → Type 0
+EndsPrint words still fault =
+    (ShowsNoneBy words.address words.instance fault × still) ⊎ (WantsMemory fault ⊎ RefusesLine fault)

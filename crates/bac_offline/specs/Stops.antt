@@ -6,9 +6,14 @@ use Rattle.std.specs.Io.KnownBytes.{Appends}
 use Rattle.std.specs.String.{string_bytes}
 use Rattle.clap.specs.Words.{Text}
 use Rattle.sqlite.specs.Effect.{Database}
+use Rattle.sqlite.specs.Held.{Held as Connected, state}
+use Rattle.sqlite.specs.Files.{over_files}
+use Rattle.sqlite.specs.State.{HasCleanDisk, IsUnchanged}
+use Rattle.sqlite_store.specs.declared.store.FileStore.{FileStore}
 use Rattle.sqlite_disk.specs.declared.Disk as disk
 use Rattle.sqlite_disk.specs.declared.Files.{Files}
 use Rattle.sqlite_wal.specs.Recovery.{Image}
+use Rattle.bac_archive.specs.Causes.{FailsToChange, FailsToTellLogs}
 use Rattle.bac_archive.specs.Changes.{HasChangedLogs}
 use Rattle.bac_archive.specs.Logs.{AreLogs}
 use Rattle.bac_archive.specs.declared.trend_logs.Log.{Log}
@@ -26,13 +31,14 @@ use Rattle.bac_questions.specs.Silent.{is_same_device, is_same_log}
 use Rattle.sqlite_disk.specs.declared.start.Start as start
 use Rattle.bac_asked.specs.declared.fault.FileFault.{FileFault}
 use Rattle.bac_asked.specs.declared.fault.FileFault.TheVariants as fault
-use Rattle.bac_files.specs.Files.{FileOf, IsDoneTo, IsNamed}
+use Rattle.bac_files.specs.Files.{FileOf, IsDoneTo, IsNamed, IsOpenedBy}
 use Rattle.bac_files.specs.Parts.{IsPlaced}
 use Rattle.bac_files.specs.declared.folder.Place.{Place}
 use Rattle.bac_files.specs.declared.disk_files.DiskFiles.{DiskFiles}
 use Rattle.bac_offline.specs.Archives.{IsArchiveOf}
 use Rattle.bac_offline.specs.Options.{SeeksNone, given_for, given_of}
-use Rattle.bac_offline.specs.Ends.{FailsFile, IsNoArchive, IsNotOpened, IsUnclosedBySome}
+use Rattle.bac_offline.specs.Ends.{FailsFile, IsNoArchive, IsNotOpened, IsUnclosedBySome, failing}
+use Rattle.bac_offline.specs.Passages.{Cause, FailsAnswering, Passage, left_state, opened_state, passage}
 use Rattle.bac_offline.specs.declared.stopping.Meant.{Meant}
 use Rattle.bac_offline.specs.declared.stopping.Meant.TheVariants as meant
 use Rattle.bac_print.specs.Output.{AppendsPart, Held}
@@ -99,10 +105,11 @@ StopsArchive which before after found left = StopsAs (Appends before after) whic
 abbrev pub StopsUntold : Meant → Held → Held → Database → Database → Type 0
 StopsUntold which before after found left = StopsAs (AppendsPart before after) which found left
 
--- lines of logs that are meant, or a front part of them, were printed, and nothing else
-abbrev pub TellsMeant : Meant → Held → Held → Type 0
-TellsMeant which before after =
-    (known : List Log) × AppendsPart before after (stopped_lines (stopped_logs which known))
+-- Nothing was printed; or lines of the logs that are meant of the archive that was found, or a front part of them.
+abbrev pub TellsMeant : Meant → Passage → Held → Held → Type 0
+TellsMeant which over before after = (after ≡ before) ⊎ ((known : List Log)
+    × (HasCleanDisk (left_state over) → (archive : Database) × IsArchiveOf (opened_state over).now archive
+    × AreLogs archive.trees known) × AppendsPart before after (stopped_lines (stopped_logs which known)))
 
 -- The logs that the words mean were stopped in the archive that two files held, which the closed files hold now.
 abbrev pub StopsIn : {D : Type 0} → (g : disk.Ghosts D) → Image → Keep → Held → Held → Option (Files D) → ℕ → Type 0
@@ -117,6 +124,18 @@ RefusesStop which found why = IsNoArchive found why
     × AreLogs archive.trees known
     × (are_there which known ≡ false))
 
+-- Why these logs of an archive aren't stopped, as its database answers by this error: its logs aren't told; or they
+-- are, and those that are meant aren't changed.
+abbrev pub FailsStopping : Meant → Cause
+FailsStopping which over error = FailsToTellLogs (opened_state over) (left_state over) error
+    ⊎ ((asked : Connected over.Store) × IsUnchanged (opened_state over) (state over.ghosts asked)
+    × (known : List Log) × AreLogs (opened_state over).now.trees known × (are_there which known ≡ true)
+    × FailsToChange over.ghosts (stopped_logs which known) asked error)
+
+-- so it answers when it is opened as an archive, or later
+abbrev pub AnswersStop : Meant → Passage → FileFault → Type 0
+AnswersStop which = FailsAnswering (FailsStopping which)
+
 -- why words mean no logs: `bac log` with those of the one device asks for none; without it, or of more, none is stopped
 abbrev pub MeansNoneBy : List Group → Given → NotDone → Type 0
 MeansNoneBy (group ∷ []) given fault = SeeksNone given group fault
@@ -126,22 +145,28 @@ MeansNoneBy _ given fault = fault ≡ Asking (BadValue Stop)
 abbrev pub MeansNone : Keep → NotDone → Type 0
 MeansNone words = MeansNoneBy words.groups (given_of words.options)
 
-module _ {F : Type 0} {s : start.Ghosts F} where
+module _ {F : Type 0} {s : start.Ghosts F} (g : disk.Ghosts (FileOf s)) (image : Image) where
+  -- so it was of the database that two files held, if it was opened
+  abbrev pub TellsMeantIn : Meant → Held → Held → Type 0
+  TellsMeantIn which before after = (after ≡ before) ⊎ ((opened : Connected (FileStore (FileOf s) g))
+      × (last : Connected (FileStore (FileOf s) g)) × IsOpenedBy image opened
+      × TellsMeant which (passage over_files opened last) before after)
+
   -- the file couldn't be closed, behind lines of logs that are meant
   abbrev pub IsUnclosedBehind : Meant → Held → Held → DiskFiles F s → Type 0
-  IsUnclosedBehind which before after files = IsUnclosedBySome files × TellsMeant which before after
+  IsUnclosedBehind which before after files = IsUnclosedBySome files × TellsMeantIn which before after
 
   -- nothing was printed; or the file couldn't be closed, behind lines of logs that the words mean
   abbrev pub IsQuietStop : Keep → Held → Held → DiskFiles F s → Type 0
   IsQuietStop words before after files = (after ≡ before)
       ⊎ ((which : Meant) × Means words which × IsUnclosedBehind which before after files)
 
-module _ {F : Type 0} {s : start.Ghosts F} (g : disk.Ghosts (FileOf s)) (image : Image) where
   -- So the file of this name is no use to `keep --stop`, and nothing was printed; or it couldn't be closed, and then
   -- lines of logs that are meant may have been.
   abbrev pub FailsToStop : Keep → List ℕ → Held → Held → DiskFiles F s → FileFault → Type 0
   FailsToStop words path before after files why = (which : Meant) × Means words which
-      × (((after ≡ before) × FailsFile g image path false (RefusesStop which) files why)
+      × (((after ≡ before) × FailsFile g image path false
+      (failing (AnswersStop which) (λ found left. RefusesStop which found)) files why)
       ⊎ (IsNamed path false files × IsUnclosedBehind which before after files))
 
   -- the logs were stopped in the file of the words, or in the newest part of the folder
@@ -159,7 +184,7 @@ module _ {F : Type 0} {s : start.Ghosts F} (g : disk.Ghosts (FileOf s)) (image :
   -- The output refused a line, behind others of logs that the words mean; of two closed files these were stopped in the
   -- archive that they held, unless they couldn't be closed.
   abbrev pub RefusesStopped : Keep → Held → Held → DiskFiles F s → Type 0
-  RefusesStopped words before after files = (which : Meant) × Means words which × TellsMeant which before after
+  RefusesStopped words before after files = (which : Meant) × Means words which × TellsMeantIn which before after
       × (IsUnclosedBySome files
       ⊎ (IsSome files.closed × IfSome files.closed (IsDoneTo g image (StopsUntold which before after))))
 

@@ -7,12 +7,13 @@ ghost use Rattle.sqlite.specs.Held.{state};
 ghost use Rattle.sqlite.specs.State.{HasCleanDisk, IsUnchanged};
 ghost use Rattle.sqlite_wal.specs.Files.{image_at};
 ghost use Rattle.bac_archive.specs.Schema.{OverArchive, no_schema};
-ghost use Rattle.bac_asked.specs.Faults.{of_error};
 ghost use Rattle.bac_check.specs.Missing.{TellsMissing};
 ghost use Rattle.bac_files.specs.Files.{IsClosedBy, IsNamed, IsOpenedBy, IsUnclosed};
 ghost use Rattle.bac_offline.specs.Archives.{IsArchiveOf, IsHeld};
+ghost use Rattle.bac_offline.specs.Begun.{AnswersTold};
 ghost use Rattle.bac_offline.specs.Ends.{IsNoArchive, IsNotOpened, IsOfSomeFile, MayFail};
 ghost use Rattle.bac_offline.specs.Ends.{uncounted_fault};
+ghost use Rattle.bac_offline.specs.Passages.{FailsOpening, passage};
 
 use bac_asked::{FileFault, NotDone};
 use bac_check::{Uncounted, tell_missing};
@@ -50,6 +51,7 @@ pub fn close_file<F: Start, T: Copy>(
     // It ends as what was done, or the files aren't closed.
     ensures fault { IfErr result (λ fault. (done ≡ Err fault)
         ⊎ (IsOfSomeFile fault × ((error : Error) × IsUnclosed error files.new))) }
+    ensures before { IfErr done (λ fault. result ≡ Err fault) }
     ensures shut { IsClosedBy conn files.new.closed
         ⊎ ((error : Error) × IsUnclosed error files.new) }
     ensures either { (files.new.closed ≡ files.old.closed) ⊎ IsClosedBy conn files.new.closed }
@@ -77,7 +79,7 @@ pub(crate) fn open_archive<A: Alter>(conn: &mut Connection<A>) -> Result<(), Not
     // It is refused for what it held.
     ensures file { IfErr result IsOfSomeFile }
     ensures refused { IfErr result (MayFail
-        (λ why. ((error : Error) × (why ≡ of_error error))
+        (λ why. FailsOpening (passage A.Store conn.old conn.new) why
         ⊎ (IsHeld (state A.Store conn.new)
         → IsNoArchive (state A.Store conn.old).now why))) }
     ensures left { IsHeld (state A.Store conn.new)
@@ -125,7 +127,7 @@ pub(crate) fn open_told<A: Alter, E: Write>(
     // It is refused for what it held.
     ensures file { IfErr result IsOfSomeFile }
     ensures refused { IfErr result (MayFail
-        (λ why. ((error : Error) × (why ≡ of_error error))
+        (λ why. AnswersTold (passage A.Store conn.old conn.new) why
         ⊎ (IsHeld (state A.Store conn.new)
         → IsNoArchive (state A.Store conn.old).now why))) }
     ensures left { IsHeld (state A.Store conn.new)

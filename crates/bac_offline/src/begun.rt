@@ -1,19 +1,19 @@
 //! A part of an archive is begun: it follows on the one before it.
 
 ghost use Rattle.std.specs.Prelude.{◌≡◌, ◌≢◌, ◌⊎◌, IfErr, IfSome, IsSome, IsTrue, OnErr, OnOk};
-ghost use Rattle.std.specs.Prelude.{false, is_some};
+ghost use Rattle.std.specs.Prelude.{false, is_some, true};
 ghost use Rattle.std.specs.String.{string_bytes};
 ghost use Rattle.sqlite.specs.Held.{state};
 ghost use Rattle.sqlite.specs.State.{HasCleanDisk};
 ghost use Rattle.sqlite_wal.specs.Files.{image_at};
 ghost use Rattle.bac_archive.specs.Schema.{OverArchive, no_schema};
-ghost use Rattle.bac_asked.specs.Faults.{of_error};
 ghost use Rattle.bac_check.specs.Missing.{TellsMissing};
 ghost use Rattle.bac_files.specs.Files.{IsDoneTo, IsNamed, IsUnused};
 ghost use Rattle.bac_offline.specs.Archives.{IsHeld, IsTakenAs, KeepsRows};
-ghost use Rattle.bac_offline.specs.Begun.{BarsPart, BeginsOn, FollowsFiles, FollowsFound};
-ghost use Rattle.bac_offline.specs.Begun.{FollowsPart};
-ghost use Rattle.bac_offline.specs.Ends.{FailsFile, IsNoArchive, IsOfSomeFile, MayFail};
+ghost use Rattle.bac_offline.specs.Begun.{AnswersBegun, AnswersFollow, BarsBefore, BarsPart};
+ghost use Rattle.bac_offline.specs.Begun.{BeginsOn, FollowsFiles, FollowsFound, FollowsPart};
+ghost use Rattle.bac_offline.specs.Ends.{FailsFile, IsNoArchive, IsOfSomeFile, MayFail, failing};
+ghost use Rattle.bac_offline.specs.Passages.{passage};
 ghost use Rattle.bac_offline.specs.Works.{FollowsOver};
 
 use crate::archives::{open_archive, open_told};
@@ -21,7 +21,7 @@ use crate::works::{Work, work_in};
 use bac_archive::{follow_on, is_nothing};
 use bac_asked::{FileFault, NotDone};
 use bac_files::{DiskFiles, FileOf, Place};
-use sqlite::{Alter, Connection, Error, Start};
+use sqlite::{Alter, Connection, Start};
 use sqlite_disk::Disk;
 use std::alloc::Global;
 use std::io::Write;
@@ -44,7 +44,8 @@ fn follow<A: Alter, B: Alter>(
         → (state B.Store old.old).committed ≡ (state B.Store old.old).now
         → KeepsRows (state B.Store old.old).now (state B.Store old.new).committed }
     ensures file { IfErr result IsOfSomeFile }
-    ensures refused { IfErr result (MayFail (λ why. ((error : Error) × (why ≡ of_error error))
+    ensures refused { IfErr result (MayFail (λ why.
+        AnswersFollow (passage B.Store old.old old.new) why
         ⊎ (IsHeld (state B.Store old.new) → IsNoArchive (state B.Store old.old).now why))) }
 {
     open_archive(old)?;
@@ -63,7 +64,7 @@ struct Following {
 impl<A: Alter> Work<Connection<A>> for Following {
     ghost can_work = { λ it conn. (state A.Store conn).now.schema ≡ no_schema };
 
-    ghost does = { λ it found last part made. FollowsOver found last (state A.Store part)
+    ghost does = { λ it over part made. FollowsOver over (state A.Store part)
         (state A.Store made) };
 
     fn work<B: Alter>(
@@ -93,7 +94,7 @@ fn fill<A: Alter, G: Start>(
     ensures clean { HasCleanDisk (state A.Store conn.new) → HasCleanDisk (state A.Store conn.old) }
     ensures file { IfErr result IsOfSomeFile }
     ensures fault { IfErr result (MayFail (FailsFile ⟦<FileOf<G> as Disk>⟧ (image_at G.Start)
-        before.now false IsNoArchive parts.new)) }
+        before.now false (failing AnswersFollow (λ found left. IsNoArchive found)) parts.new)) }
 {
     work_in(parts, before, &Following { alloc }, conn)
 }
@@ -117,7 +118,7 @@ fn begin_part<A: Alter, G: Start>(
         (IsDoneTo ⟦<FileOf<G> as Disk>⟧ (image_at G.Start) KeepsRows) }
     ensures clean { HasCleanDisk (state A.Store conn.new) → HasCleanDisk (state A.Store conn.old) }
     ensures file { IfErr result IsOfSomeFile }
-    ensures barred { IfErr result (MayFail (BarsPart ⟦<FileOf<G> as Disk>⟧ (image_at G.Start)
+    ensures barred { IfErr result (MayFail (BarsBefore ⟦<FileOf<G> as Disk>⟧ (image_at G.Start)
         before.now parts.new)) }
 {
     let Some(before) = before else {
@@ -155,9 +156,16 @@ pub fn begin_archive<A: Alter, G: Start, E: Write>(
     ensures untold { OnErr result (E.contents errors.new ≡ E.contents errors.old) }
     ensures file { IfErr result IsOfSomeFile }
     // It is refused for what it held, or the part before is no use.
-    ensures refused { IfErr result (MayFail (λ why. ((error : Error) × (why ≡ of_error error))
+    ensures refused { IfErr result (MayFail (λ why.
+        AnswersBegun (passage A.Store conn.old conn.new) why
         ⊎ (IsHeld (state A.Store conn.new) → IsNoArchive (state A.Store conn.old).now why
-        ⊎ BarsPart ⟦<FileOf<G> as Disk>⟧ (image_at G.Start) place.old.before parts.new why))) }
+        ⊎ BarsPart ⟦<FileOf<G> as Disk>⟧ (image_at G.Start) place.new.blames_before
+        place.old.before parts.new why))) }
+    // The part before is blamed only where it is no use.
+    ensures blamed { place.new.blames_before ≡ true
+        → IfErr result (MayFail (BarsBefore ⟦<FileOf<G> as Disk>⟧ (image_at G.Start)
+        place.old.before parts.new)) }
+    ensures own { OnOk result (place.new.blames_before ≡ false) }
     ensures left { IsHeld (state A.Store conn.new)
         → (state A.Store conn.old).now.schema ≢ no_schema
         → OnErr result ((state A.Store conn.new).committed ≡ (state A.Store conn.old).committed) }

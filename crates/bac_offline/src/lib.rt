@@ -13,7 +13,7 @@ mod works;
 
 pub use archives::{close_file, open_file};
 pub use begun::begin_archive;
-pub use laws::archives_are_taken;
+pub use laws::{archives_answer, archives_are_taken};
 pub use options::{options_for, options_of};
 pub use parts::{Printer, kept_parts};
 pub use printing::kept;

@@ -1,6 +1,6 @@
 //! `bac kept` of a folder: what an archive in parts keeps is printed, part after part.
 
-ghost use Rattle.std.specs.Prelude.{◌≡◌, ◌≢◌, ◌⊎◌, IfErr, IfOk, false, max};
+ghost use Rattle.std.specs.Prelude.{◌≡◌, ◌≢◌, ◌⊎◌, IfErr, IfOk, OnOk, false, max};
 ghost use Rattle.std.specs.Prelude.{map};
 ghost use Rattle.std.specs.Io.KnownBytes.{Keeps};
 ghost use Rattle.std.specs.String.{string_bytes};
@@ -10,7 +10,7 @@ ghost use Rattle.bac_files.specs.Parts.{reading};
 ghost use Rattle.bac_offline.specs.Ends.{MayAsk, MayFail};
 ghost use Rattle.bac_offline.specs.Parted.{ComesTo, FailsFolder, HasAsked, IsFresh, IsPartStatus};
 ghost use Rattle.bac_offline.specs.Parted.{PrintsAll, PrintsFolder, PrintsPath, PrintsPaths};
-ghost use Rattle.bac_offline.specs.Parted.{ReadsBy, ReadsPart, at_part, unclosed};
+ghost use Rattle.bac_offline.specs.Parted.{ReadsBy, ReadsPart, TellsPart, at_part, unclosed};
 ghost use Rattle.bac_offline.specs.Shown.{EndsPrint};
 
 use crate::archives::open_archive;
@@ -132,6 +132,8 @@ fn tell_part<E: Write>(
     errors: &mut E,
 ) -> Result<u8, Fault>
     ensures status { IfOk result (IsPartStatus last done) }
+    ensures told { OnOk result (TellsPart last path.now done (E.contents errors.old)
+        (E.contents errors.new)) }
     ensures untold { result ≡ Ok 0 → E.contents errors.new ≡ E.contents errors.old }
     ensures fault { IfErr result
         (λ why. (done ≡ Err (NotDone.Asking why)) ⊎ (why ≡ Fault.Memory)) }
@@ -240,7 +242,9 @@ pub fn kept_parts<P: Parts, O: Write, E: Write>(
     ensures fault { IfErr result (MayFail (FailsFolder P.holds P.bars asked.now
         (map string_bytes paths.now) parts.old parts.new (O.contents output.old)
         (O.contents output.new) (E.contents errors.old) (E.contents errors.new))) }
-    ensures ends { IfErr result (MayAsk (EndsPrint asked.now)) }
+    // Where the words choose no logs, nothing is printed and no part read.
+    ensures ends { IfErr result (MayAsk (EndsPrint asked.now
+        ((O.contents output.new ≡ O.contents output.old) × (parts.new ≡ parts.old)))) }
 {
     let shown = choose(alloc, asked)?;
     print_names(alloc, asked.csv, output)?;

@@ -4,12 +4,13 @@ ghost use Rattle.std.specs.Prelude.{◌≡◌, ◌⊎◌, IfErr, IfOk, IfSome, O
 ghost use Rattle.sqlite.specs.Held.{state};
 ghost use Rattle.sqlite.specs.State.{HasCleanDisk};
 ghost use Rattle.sqlite_wal.specs.Files.{image_at};
-ghost use Rattle.bac_asked.specs.Faults.{RefusesLine, WantsMemory, of_error};
+ghost use Rattle.bac_asked.specs.Faults.{RefusesLine, WantsMemory};
 ghost use Rattle.bac_files.specs.Files.{IsDoneTo, IsNamed, IsUnused};
 ghost use Rattle.bac_offline.specs.Archives.{IsHeld, KeepsRows};
 ghost use Rattle.bac_offline.specs.Ends.{MayAsk, MayFail};
-ghost use Rattle.bac_offline.specs.Shown.{EndsPrint, FailsToPrint, PrintsArchive, PrintsIn};
-ghost use Rattle.bac_offline.specs.Shown.{RefusesPrint, Shows, ShowsNoneBy};
+ghost use Rattle.bac_offline.specs.Passages.{passage};
+ghost use Rattle.bac_offline.specs.Shown.{AnswersPrint, EndsPrint, FailsToPrint, PrintsArchive};
+ghost use Rattle.bac_offline.specs.Shown.{PrintsIn, RefusesPrint, Shows, ShowsNoneBy};
 ghost use Rattle.bac_offline.specs.Works.{PrintsOver};
 
 use crate::archives::open_archive;
@@ -19,7 +20,7 @@ use bac_asked::{NotDone, Options, named};
 use bac_files::{DiskFiles, FileOf};
 use bac_kept::{Shown, print_shown};
 use bac_words::Kept;
-use sqlite::{Alter, Connection, Error, Start};
+use sqlite::{Alter, Connection, Start};
 use sqlite_disk::Disk;
 use std::alloc::Global;
 use std::io::Write;
@@ -64,7 +65,8 @@ fn print_in<A: Alter, O: Write>(
         → (state A.Store conn.old).committed ≡ (state A.Store conn.old).now
         → KeepsRows (state A.Store conn.old).now (state A.Store conn.new).committed }
     ensures clean { HasCleanDisk (state A.Store conn.new) → HasCleanDisk (state A.Store conn.old) }
-    ensures fault { IfErr result (MayFail (λ why. ((error : Error) × (why ≡ of_error error))
+    ensures fault { IfErr result (MayFail (λ why.
+        AnswersPrint (passage A.Store conn.old conn.new) why
         ⊎ (IsHeld (state A.Store conn.new)
         → RefusesPrint shown.now csv (O.contents output.old) (O.contents output.new)
         (state A.Store conn.old).now why))) }
@@ -85,7 +87,7 @@ struct Printing {
 impl<O: Write> Work<O> for Printing {
     ghost can_work = { λ it output. Unit {0} };
 
-    ghost does = { λ it old new before after. PrintsOver it.shown it.csv old new
+    ghost does = { λ it over before after. PrintsOver it.shown it.csv over
         (O.contents before) (O.contents after) };
 
     fn work<A: Alter>(&self, conn: &mut Connection<A>, with: &mut O) -> Result<u8, NotDone> {
@@ -109,7 +111,9 @@ pub fn kept<F: Start, O: Write>(
         (O.contents output.old) (O.contents output.new) files.new)) }
     ensures stays { IsUnused files.old
         → IfSome files.new.closed (IsDoneTo ⟦<FileOf<F> as Disk>⟧ (image_at F.Start) KeepsRows) }
-    ensures ends { IfErr result (MayAsk (EndsPrint asked.now)) }
+    // Where the words choose no logs, nothing is printed and no file opened.
+    ensures ends { IfErr result (MayAsk (EndsPrint asked.now
+        ((O.contents output.new ≡ O.contents output.old) × (files.new ≡ files.old)))) }
 {
     let shown = choose(alloc, asked)?;
     let printing = Printing {

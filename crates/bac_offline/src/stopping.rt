@@ -13,13 +13,15 @@ ghost use Rattle.bac_archive.specs.Schema.{OverArchive};
 ghost use Rattle.bac_archive.specs.declared.trend_logs.Log.{Log as LogOf};
 ghost use Rattle.bac_asked.specs.AsLog.{given_in};
 ghost use Rattle.bac_asked.specs.declared.wanted.Wanted.{Wanted as WantedOf};
-ghost use Rattle.bac_asked.specs.Faults.{IsOfDatabase, RefusesLine, WantsMemory, of_error};
+ghost use Rattle.bac_asked.specs.Faults.{RefusesLine, WantsMemory, of_error};
 ghost use Rattle.bac_questions.specs.Silent.{is_same_device, is_same_log};
 ghost use Rattle.bac_files.specs.Files.{IsDoneTo, IsNamed, IsUnused};
 ghost use Rattle.bac_offline.specs.Archives.{HasSameItems, IsHeld, KeepsItems};
 ghost use Rattle.bac_offline.specs.Options.{SeeksNone, SeeksNoneBy, given_of};
 ghost use Rattle.bac_offline.specs.Ends.{MayAsk, MayFail};
-ghost use Rattle.bac_offline.specs.Stops.{EndsStop, FailsToStop, Means, MeansAt, MeansNone};
+ghost use Rattle.bac_offline.specs.Passages.{passage};
+ghost use Rattle.bac_offline.specs.Stops.{AnswersStop, EndsStop, FailsStopping, FailsToStop};
+ghost use Rattle.bac_offline.specs.Stops.{Means, MeansAt, MeansNone};
 ghost use Rattle.bac_offline.specs.Stops.{MeansOf, RefusesStop, StopsArchive, StopsIn, TellsMeant};
 ghost use Rattle.bac_offline.specs.Stops.{are_there, is_meant, stopped_lines, stopped_logs};
 ghost use Rattle.bac_offline.specs.Works.{EndsStopping, StopsOver};
@@ -224,7 +226,9 @@ fn stop_known<A: Alter>(
         these.items
         × ((state A.Store conn.new).committed ≡ (state A.Store conn.new).now))) }
     ensures meant { IfOk result
-        (λ these. (known : List LogOf) × (these.items ≡ stopped_logs meant.now known)) }
+        (λ these. (known : List LogOf) × (these.items ≡ stopped_logs meant.now known)
+        × OverArchive (state A.Store conn.old) (state A.Store conn.new)
+        (AreLogs (state A.Store conn.old).now.trees known)) }
     // Whatever comes of it, items, beginnings and the rows of others are the same, and no log
     // is lost.
     ensures stays { OverArchive (state A.Store conn.old) (state A.Store conn.new)
@@ -232,7 +236,10 @@ fn stop_known<A: Alter>(
         (HasSameItems (state A.Store conn.old).now)) }
     ensures clean { HasCleanDisk (state A.Store conn.new) → HasCleanDisk (state A.Store conn.old) }
     ensures fault { IfErr result (λ fault. WantsMemory fault
-        ⊎ (IsOfDatabase fault ⊎ ((fault ≡ NotDone.File FileFault.NoLog)
+        ⊎ (((error : Error) × (fault ≡ NotDone.File (of_error error))
+        × OverArchive (state A.Store conn.old) (state A.Store conn.new)
+        (FailsStopping meant.now (passage A.Store conn.old conn.new) error))
+        ⊎ ((fault ≡ NotDone.File FileFault.NoLog)
         × (OverArchive (state A.Store conn.old) (state A.Store conn.new)
         ((known : List LogOf) × AreLogs (state A.Store conn.old).now.trees known
         × (are_there meant.now known ≡ false)))))) }
@@ -268,10 +275,12 @@ fn stop_in<A: Alter, O: Write>(
         → (state A.Store conn.old).committed ≡ (state A.Store conn.old).now
         → KeepsItems (state A.Store conn.old).now (state A.Store conn.new).committed }
     ensures clean { HasCleanDisk (state A.Store conn.new) → HasCleanDisk (state A.Store conn.old) }
-    ensures told { TellsMeant meant.now (O.contents output.old) (O.contents output.new) }
+    ensures told { TellsMeant meant.now (passage A.Store conn.old conn.new)
+        (O.contents output.old) (O.contents output.new) }
     // Where the file is at fault nothing is printed.
     ensures quiet { IfErr result (MayFail (λ why. O.contents output.new ≡ O.contents output.old)) }
-    ensures fault { IfErr result (MayFail (λ why. ((error : Error) × (why ≡ of_error error))
+    ensures fault { IfErr result (MayFail (λ why. AnswersStop meant.now
+        (passage A.Store conn.old conn.new) why
         ⊎ (IsHeld (state A.Store conn.new)
         → RefusesStop meant.now (state A.Store conn.old).now why))) }
     ensures ends { IfErr result (MayAsk (EndsStopping meant.now (state A.Store conn.old)
@@ -293,7 +302,7 @@ struct Stopping {
 impl<O: Write> Work<O> for Stopping {
     ghost can_work = { λ it output. Unit {0} };
 
-    ghost does = { λ it old new before after. StopsOver it.meant old new
+    ghost does = { λ it over before after. StopsOver it.meant over
         (O.contents before) (O.contents after) };
 
     fn work<A: Alter>(&self, conn: &mut Connection<A>, with: &mut O) -> Result<u8, NotDone> {

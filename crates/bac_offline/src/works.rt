@@ -1,9 +1,8 @@
 //! A work is done over the database in a file.
 
-ghost use Rattle.sqlite.specs.Files.{file_state};
-ghost use Rattle.sqlite.specs.Held.{state};
-ghost use Rattle.sqlite.specs.State.{State};
+ghost use Rattle.sqlite.specs.Files.{over_files};
 ghost use Rattle.sqlite_wal.specs.Files.{image_at};
+ghost use Rattle.bac_offline.specs.Passages.{Passage, passage};
 ghost use Rattle.bac_offline.specs.Works.{Ended, Works};
 
 use crate::archives::{close_file, open_file};
@@ -19,15 +18,14 @@ pub(crate) trait Work<X> {
     /// When it can be done with this.
     ghost can_work: { Self → X → Type 0 };
 
-    /// What it is: the work, the database as it was opened and as it is left, what it is done with
-    /// before it and behind it, how it ends.
-    ghost does: { Self → State → State → X → X → Ended → Type 0 };
+    /// What it is: the work, the connection as it was opened and as it is left, what it is done
+    /// with before it and behind it, how it ends.
+    ghost does: { Self → Passage → X → X → Ended → Type 0 };
 
     /// Does it.
     fn work<A: Alter>(&self, conn: &mut Connection<A>, with: &mut X) -> Result<u8, NotDone>
         requires { can_work self.now with.old }
-        ensures { does self.now (state A.Store conn.old) (state A.Store conn.new) with.old with.new
-            result };
+        ensures { does self.now (passage A.Store conn.old conn.new) with.old with.new result };
 }
 
 /// Does the work over the database in open files. The disk is any: of a known one the prover would
@@ -38,7 +36,7 @@ fn work_over<D: Disk, X, W: Work<X>>(
     with: &mut X,
 ) -> Result<u8, NotDone>
     requires { W.can_work work.now with.old }
-    ensures { W.does work.now (file_state conn.old) (file_state conn.new) with.old with.new result }
+    ensures { W.does work.now (passage over_files conn.old conn.new) with.old with.new result }
 {
     work.work(conn, with)
 }

@@ -5,7 +5,7 @@ use Rattle.sqlite.specs.Held.{state}
 use Rattle.bac_archive.specs.Archive.{LieApart}
 use Rattle.bac_archive.specs.Rows.{kept}
 use Rattle.bac_check.specs.Epochs.{CountsCourse}
-use Rattle.bac_check.proofs.AskedLemmas.{as_was_then, still}
+use Rattle.bac_check.proofs.AskedLemmas.{as_was_then, counts_then, still}
 use Rattle.bac_check.proofs.CourseLemmas.{each_step, later_step}
 use Rattle.bac_archive.specs.Schema.{HasArchive}
 use Rattle.bac_check.proofs.course.count_each.Goals as goal
@@ -36,3 +36,11 @@ returns-in_err-count-clause-apart g c clean has apart is =
     let err : c.from_residual.result ≡ Err c.in_err-count.field-0.0 = search rules in
     c.in_err-count.ensures.apart clean (subst (λ (d : Database). HasArchive d.schema) (sym same) has)
     (subst (λ (d : Database). LieApart (kept d.trees)) (sym same) apart) (sym err ∙ is)
+
+pub returns-in_err-count-clause-cause : goal.returns-in_err-count-clause-cause
+returns-in_err-count-clause-cause g c clean has error is =
+    let (asked, early) = c.loop-course.invariant.3 (c.count.ensures.clean clean) has in
+    let same = still g.A.Store c.args.conn.now c.loop-course.conn asked in
+    let err : c.from_residual.result ≡ Err c.in_err-count.field-0.0 = search rules in
+    counts_then g.A.Store c.args.conn.now c.loop-course.conn c.count.new.conn error same
+    (c.in_err-count.ensures.cause clean (subst (λ (d : Database). HasArchive d.schema) (sym same) has) error (sym err ∙ is))

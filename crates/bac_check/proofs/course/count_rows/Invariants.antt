@@ -1,4 +1,4 @@
-use Rattle.std.proofs.Common.{◌≡◌, ◌++◌, List, map}
+use Rattle.std.proofs.Common.{length, ◌≡◌, ◌++◌, List, map}
 use Rattle.std.specs.List.{filter}
 use Rattle.sqlite_value.specs.Order.{Row as Values}
 use Rattle.sqlite.specs.State.{HasCleanDisk, IsUnchanged}
@@ -19,4 +19,4 @@ invariant-rows g l =
     × (HasCleanDisk now → HasArchive old.now.schema
     → (given : List Values) × ReadsSpans g.A.Store l.fn.log l.fn.epoch l.rows.conn.now given × IsUnchanged old now
     × ((before : List Span) → IsTallied before l.fn.tally → IsTallied (before ++ filter (is_new l.fn.behind) (map span_of given)) l.tally)
-    × EndsIn l.fn.tally given l.tally)
+    × EndsIn l.fn.tally given l.tally × (length given ≡ l.read))

@@ -2,7 +2,7 @@ use Rattle.std.proofs.Common.{refl, rules, arith}
 use Rattle.bac_check.proofs.AskedLemmas.{unasked}
 use Rattle.bac_check.proofs.EpochLemmas.{begins_spans, plain_at}
 use Rattle.sqlite.specs.Held.{state}
-use Rattle.bac_check.specs.Epochs.{spans_text}
+use Rattle.bac_check.specs.Epochs.{asked, epoch_spans_text}
 use Rattle.bac_check.proofs.rows.spans_in.Goals as goal
 use Rattle.bac_archive.proofs.CauseLemmas.{on_err_then}
 use Rattle.bac_archive.proofs.QueryLemmas.{if_ok}
@@ -12,7 +12,7 @@ returns g c = (
   (
     refl,
     c.query.follows.holds,
-    on_err_then c.query.result _ _ c.query.follows.holds-at-none (λ it. unasked g.S.Store spans_text _ c.args.conn.now c.query.follows.lender-at-none c.query.result (plain_at (state g.S.Store c.args.conn.now)) it),
+    on_err_then c.query.result _ _ c.query.follows.holds-at-none (λ it. unasked g.S.Store epoch_spans_text _ (asked c.args.log c.args.epoch) c.args.conn.now c.query.follows.lender-at-none c.query.result (search rules) (plain_at (state g.S.Store c.args.conn.now)) it),
   ),
   record {
     refused = tt;

@@ -18,4 +18,5 @@ returns-clause-printed g c =
 pub returns-clause-ends : goal.returns-clause-ends
 returns-clause-ends g c =
     let done = c.kept-done in
-    not_done (EndsPrint c.args.asked.now) done.result c.tell_done.result (λ file is. inr (inl refl)) done.ensures.ends c.tell_done.ensures.why
+    let still = (g.O.Write.contents done.new.output ≡ g.O.Write.contents c.args.output.now) × (done.new.files ≡ c.args.files.now) in
+    not_done (EndsPrint c.args.asked.now still) done.result c.tell_done.result (λ file is. inr (inl refl)) done.ensures.ends c.tell_done.ensures.why

@@ -42,3 +42,9 @@ returns-in-Err-clause-ends g c keeps =
     let over = socket_rules g.S.Sockets.opens g.S.Sockets.closes g.S.Socket.Port.sends g.S.Socket.Port.receives g.S.Socket.Port.receives_within in
     let ends = EndsKeep (reaching over (at_once g.S.Recalls.holds g.C.Clock.reads c.args.clock)) (on_disk disk (image_at g.F.Start) c.place_of.new.files) c.args.asked.now c.args.sockets.now c.args.sockets.now in
     not_done ends (Err c.in-Err.fault) c.tell_done.result (λ file is. inl refl) (file_asks ends c.in-Err.fault c.in-Err.ensures.file) c.tell_done.ensures.why
+
+pub returns-clause-gains : goal.returns-clause-gains
+returns-clause-gains g c keeps unused = c.keep_at.ensures.gains (c.place_of.ensures.kept ∙ unused)
+
+pub returns-in-Err-clause-gains : goal.returns-in-Err-clause-gains
+returns-in-Err-clause-gains g c keeps unused = none_closed c.place_of.new.files.closed _ (c.place_of.ensures.kept ∙ unused)

@@ -5,9 +5,9 @@ use Rattle.sqlite.specs.Held.{state}
 use Rattle.bac_archive.specs.Schema.{HasArchive}
 use Rattle.bac_check.specs.Missing.{TellsMissing}
 use Rattle.bac_offline.proofs.ArchiveLemmas.{still_committed, uncounted_so}
-use Rattle.bac_asked.specs.Faults.{of_error}
 use Rattle.bac_asked.specs.declared.fault.FileFault.{FileFault}
-use Rattle.sqlite.specs.declared.error.Error.{Error}
+use Rattle.bac_offline.specs.Begun.{AnswersTold}
+use Rattle.bac_offline.specs.Passages.{passage}
 use Rattle.bac_offline.specs.Archives.{IsArchiveOf, IsHeld}
 use Rattle.bac_offline.specs.Ends.{IsNoArchive}
 use Rattle.bac_offline.proofs.archives.open_told.Goals as goal
@@ -43,10 +43,12 @@ returns-in-Ok-clause-same g c clean has =
 
 pub returns-in-Err-clause-refused : goal.returns-in-Err-clause-refused
 returns-in-Err-clause-refused g c =
-    subst (λ (why : FileFault). ((error : Error) × (why ≡ of_error error)) ⊎ (IsHeld (state g.A.Store c.tell_missing.new.conn) → IsNoArchive (state g.A.Store c.args.conn.now).now why))
-    (sym c.uncounted_fault.ensures) (uncounted_so (IsHeld (state g.A.Store c.tell_missing.new.conn)) (state g.A.Store c.args.conn.now).now c.in-Err.why (λ held over.
+    subst (λ (why : FileFault). AnswersTold (passage g.A.Store c.args.conn.now c.tell_missing.new.conn) why ⊎ (IsHeld (state g.A.Store c.tell_missing.new.conn) → IsNoArchive (state g.A.Store c.args.conn.now).now why))
+    (sym c.uncounted_fault.ensures) (uncounted_so g.A.Store c.args.conn.now c.open_archive.new.conn c.tell_missing.new.conn
+    (λ clean. c.in_ok-open_archive.ensures.archive (c.tell_missing.ensures.clean clean)) c.in-Err.why (λ held over.
     let opened = c.in_ok-open_archive.ensures.archive (c.tell_missing.ensures.clean held.0) in
-    c.in-Err.ensures.apart held.0 opened.is.schema opened.is.apart (ap Err over)))
+    c.in-Err.ensures.apart held.0 opened.is.schema opened.is.apart (ap Err over))
+    (λ error is clean has. c.in-Err.ensures.cause clean has error (ap Err is)))
 
 pub returns-in-Err-clause-left : goal.returns-in-Err-clause-left
 returns-in-Err-clause-left g c held some =

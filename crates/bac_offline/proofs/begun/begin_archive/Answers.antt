@@ -1,4 +1,4 @@
-use Rattle.std.proofs.Common.{◌⊎◌, ◌≡◌, ◌≢◌, ◌∙◌, inl, inr, IsSome, subst, ap, sym}
+use Rattle.std.proofs.Common.{false, refl, ◌⊎◌, ◌≡◌, ◌≢◌, ◌∙◌, inl, inr, IsSome, subst, ap, sym}
 use Rattle.bac_files.proofs.FileGhosts.{file_ghosts}
 use Rattle.sqlite_wal.specs.Files.{image_at}
 use Rattle.sqlite.specs.Effect.{Database}
@@ -51,10 +51,10 @@ returns-clause-refused g c =
     let mid = (state g.A.Store c.begin_part.new.conn).now in
     all_fail_so _ _ c.open_told.result
     (λ why it. elim it [
-      | inl answered ↦ inl answered
+      | inl answered ↦ inl (c.begin_part.new.conn, elim c.begin_part.ensures.either [ inl same ↦ inl same | inr none ↦ inr none.0 ], answered)
       | inr refused ↦ inr (λ held. elim c.begin_part.ensures.either [
         | inl same ↦ inl (subst (λ (d : Database). IsNoArchive d why) (ap (λ (h : Held _). (state g.A.Store h).now) same) (refused held))
-        | inr none ↦ inr (bars_made disk (image_at g.G.Start) c.args.place.now.before c.begin_part.new.parts found mid why none.0 none.1
+        | inr none ↦ inr (bars_made disk (image_at g.G.Start) false c.args.place.now.before c.begin_part.new.parts found mid why none.0 none.1
             (c.in_ok-begin_part.ensures.begins (c.open_told.ensures.clean held.0)) (refused held))
       ])
     ])
@@ -63,7 +63,11 @@ returns-clause-refused g c =
 pub returns-in_err-begin_part-clause-refused : goal.returns-in_err-begin_part-clause-refused
 returns-in_err-begin_part-clause-refused g c =
     handed_on c.from_residual.result c.in_err-begin_part.field-0.0 _ c.from_residual.ensures.1
-    (fails_so _ _ c.in_err-begin_part.field-0.0 (λ why it. inr (λ held. inr it)) c.in_err-begin_part.ensures.barred)
+    (fails_so _ _ c.in_err-begin_part.field-0.0 (λ why it. inr (λ held. inr (inl (refl, it)))) c.in_err-begin_part.ensures.barred)
+
+pub returns-in_err-begin_part-clause-blamed : goal.returns-in_err-begin_part-clause-blamed
+returns-in_err-begin_part-clause-blamed g c so =
+    handed_on c.from_residual.result c.in_err-begin_part.field-0.0 _ c.from_residual.ensures.1 c.in_err-begin_part.ensures.barred
 
 pub returns-clause-left : goal.returns-clause-left
 returns-clause-left g c held some =

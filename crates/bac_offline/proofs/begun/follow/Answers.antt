@@ -1,8 +1,10 @@
-use Rattle.std.proofs.Common.{◌≡◌, ◌∙◌, ap, inr, subst, sym}
+use Rattle.std.proofs.Common.{◌≡◌, ◌∙◌, ap, inl, inr, subst, sym, rules}
 use Rattle.sqlite.specs.Effect.{Database}
 use Rattle.sqlite.specs.Held.{state}
 use Rattle.bac_offline.specs.Begun.{FollowsFound}
 use Rattle.bac_offline.proofs.ArchiveLemmas.{still_committed, taken_fits}
+use Rattle.bac_offline.proofs.EndLemmas.{handed_on}
+use Rattle.bac_offline.proofs.FileLemmas.{fails_so}
 use Rattle.bac_offline.proofs.begun.follow.Goals as goal
 
 pub returns-in-Ok-clause-followed : goal.returns-in-Ok-clause-followed
@@ -42,3 +44,12 @@ pub returns-in_err-open_archive-clause-stays : goal.returns-in_err-open_archive-
 returns-in_err-open_archive-clause-stays g c held was =
     let still : (state g.B.Store c.open_archive.new.conn).committed ≡ (state g.B.Store c.args.old.now).now = c.in_err-open_archive.ensures.left held ∙ was in
     ((λ has. ap (λ (d : Database). d.trees) still), (λ other some. still))
+
+pub returns-in_err-open_archive-clause-refused : goal.returns-in_err-open_archive-clause-refused
+returns-in_err-open_archive-clause-refused g c =
+    handed_on c.from_residual.result c.in_err-open_archive.field-0.0 _ c.from_residual.ensures.1
+    (fails_so _ _ c.in_err-open_archive.field-0.0 (λ why it. elim it [ inl answered ↦ inl (inl answered) | inr refused ↦ inr refused ]) c.in_err-open_archive.ensures.refused)
+
+pub returns-in-Err-clause-refused : goal.returns-in-Err-clause-refused
+returns-in-Err-clause-refused g c =
+    inl (inr (c.in-Err.error, search rules, λ clean. (c.open_archive.new.conn, c.in_ok-open_archive.ensures.archive (c.follow_on.ensures.read clean), tt)))

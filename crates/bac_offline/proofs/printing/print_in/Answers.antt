@@ -14,7 +14,7 @@ use Rattle.bac_offline.proofs.EndLemmas.{handed_on}
 pub returns-in_err-open_archive-clause-fault : goal.returns-in_err-open_archive-clause-fault
 returns-in_err-open_archive-clause-fault g c =
     handed_on c.from_residual.result c.in_err-open_archive.field-0.0 _ c.from_residual.ensures.1
-    (fails_so _ _ c.in_err-open_archive.field-0.0 (λ why it. elim it [ inl answered ↦ inl answered | inr refused ↦ inr (λ held. inl (refused held, refl)) ]) c.in_err-open_archive.ensures.refused)
+    (fails_so _ _ c.in_err-open_archive.field-0.0 (λ why it. elim it [ inl answered ↦ inl (inl answered) | inr refused ↦ inr (λ held. inl (refused held, refl)) ]) c.in_err-open_archive.ensures.refused)
 
 pub returns-in_err-open_archive-clause-ends : goal.returns-in_err-open_archive-clause-ends
 returns-in_err-open_archive-clause-ends g c =
@@ -23,9 +23,8 @@ returns-in_err-open_archive-clause-ends g c =
 
 pub returns-clause-fault : goal.returns-clause-fault
 returns-clause-fault g c =
-    let archive = state g.A.Store c.open_archive.new.conn in
-    all_print_fails c.args.shown.now c.args.csv (g.O.Write.contents c.args.output.now) (g.O.Write.contents c.print_shown.new.output) (state g.A.Store c.args.conn.now) archive (state g.A.Store c.print_shown.new.conn) c.in_ok-open_archive.ensures.archive
-    c.print_shown.result c.print_shown.ensures.fault
+    all_print_fails c.args.shown.now c.args.csv (g.O.Write.contents c.args.output.now) (g.O.Write.contents c.print_shown.new.output) g.A.Store c.args.conn.now c.open_archive.new.conn c.print_shown.new.conn c.in_ok-open_archive.ensures.archive
+    c.print_shown.ensures.clean c.print_shown.result c.print_shown.ensures.fault
 
 pub returns-clause-ends : goal.returns-clause-ends
 returns-clause-ends g c = all_print_ask _ c.print_shown.result c.print_shown.ensures.fault

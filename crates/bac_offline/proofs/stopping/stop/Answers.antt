@@ -13,7 +13,7 @@ use Rattle.bac_offline.proofs.EndLemmas.{handed_on}
 pub returns-clause-named : goal.returns-clause-named
 returns-clause-named g c =
     work_named (image_at g.F.Start) c.args.path.now c.args.files.now c.work_in.new.files
-    c.args.output.now c.work_in.new.with c.work_in.result (λ old new before after. StopsOver c.in_ok-meant.meant old new (g.O.Write.contents before) (g.O.Write.contents after)) c.args.path.now refl c.work_in.ensures
+    c.args.output.now c.work_in.new.with c.work_in.result (λ over before after. StopsOver c.in_ok-meant.meant over (g.O.Write.contents before) (g.O.Write.contents after)) c.args.path.now refl c.work_in.ensures
 
 pub returns-clause-fault : goal.returns-clause-fault
 returns-clause-fault g c =

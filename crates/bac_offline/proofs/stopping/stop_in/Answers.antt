@@ -10,7 +10,8 @@ use Rattle.bac_offline.specs.Archives.{HasSameItems}
 use Rattle.bac_offline.proofs.FileLemmas.{fails_all, fails_so, file_asks}
 use Rattle.bac_offline.proofs.NamesLemmas.{may_ask}
 use Rattle.bac_offline.proofs.PrintLemmas.{stop_asks, stop_fails, told_fails}
-use Rattle.bac_offline.proofs.StopLemmas.{tells_none, tells_part, tells_whole}
+use Rattle.bac_offline.proofs.StopLemmas.{tells_part, tells_whole}
+use Rattle.bac_offline.specs.Passages.{passage}
 use Rattle.bac_offline.specs.Stops.{stopped_lines}
 use Rattle.bac_offline.specs.Works.{EndsStopping}
 use Rattle.bac_print.specs.Output.{AppendsPart}
@@ -63,7 +64,7 @@ returns-clause-stays g c held was =
 pub returns-in_err-open_archive-clause-fault : goal.returns-in_err-open_archive-clause-fault
 returns-in_err-open_archive-clause-fault g c =
     handed_on c.from_residual.result c.in_err-open_archive.field-0.0 _ c.from_residual.ensures.1
-    (fails_so _ _ c.in_err-open_archive.field-0.0 (λ why it. elim it [ inl answered ↦ inl answered | inr refused ↦ inr (λ held. inl (refused held)) ]) c.in_err-open_archive.ensures.refused)
+    (fails_so _ _ c.in_err-open_archive.field-0.0 (λ why it. elim it [ inl answered ↦ inl (inl answered) | inr refused ↦ inr (λ held. inl (refused held)) ]) c.in_err-open_archive.ensures.refused)
 
 pub returns-in_err-open_archive-clause-ends : goal.returns-in_err-open_archive-clause-ends
 returns-in_err-open_archive-clause-ends g c =
@@ -78,21 +79,19 @@ returns-in_err-open_archive-clause-quiet g c =
     (fails_all (λ (why : FileFault). out ≡ out) c.in_err-open_archive.field-0.0 (λ why. refl))
 
 pub returns-in_err-open_archive-clause-told : goal.returns-in_err-open_archive-clause-told
-returns-in_err-open_archive-clause-told g c =
-    tells_none c.args.meant.now (g.O.Write.contents c.args.output.now) (g.O.Write.contents c.args.output.now) refl
+returns-in_err-open_archive-clause-told g c = inl refl
 
 pub returns-in_err-these-clause-fault : goal.returns-in_err-these-clause-fault
 returns-in_err-these-clause-fault g c =
-    let archive = state g.A.Store c.open_archive.new.conn in
     handed_on c.from_residual-in_err-these.result c.in_err-these.field-0.0 _ c.from_residual-in_err-these.ensures.1
-    (stop_fails c.args.meant.now (state g.A.Store c.args.conn.now) archive (state g.A.Store c.stop_known.new.conn) (λ held. c.in_ok-open_archive.ensures.archive (c.stop_known.ensures.clean held.0))
+    (stop_fails g.A.Store c.args.conn.now c.open_archive.new.conn c.stop_known.new.conn c.args.meant.now (λ clean. c.in_ok-open_archive.ensures.archive (c.stop_known.ensures.clean clean))
     c.in_err-these.field-0.0 c.in_err-these.ensures.fault)
 
 pub returns-in_err-these-clause-ends : goal.returns-in_err-these-clause-ends
 returns-in_err-these-clause-ends g c =
     handed_on c.from_residual-in_err-these.result c.in_err-these.field-0.0 _ c.from_residual-in_err-these.ensures.1
     (stop_asks (EndsStopping c.args.meant.now (state g.A.Store c.args.conn.now) (state g.A.Store c.stop_known.new.conn) (g.O.Write.contents c.args.output.now) (g.O.Write.contents c.args.output.now))
-    _ c.in_err-these.field-0.0 (λ memory. inl (memory, refl)) c.in_err-these.ensures.fault)
+    _ _ c.in_err-these.field-0.0 (λ memory. inl (memory, refl)) c.in_err-these.ensures.fault)
 
 pub returns-in_err-these-clause-quiet : goal.returns-in_err-these-clause-quiet
 returns-in_err-these-clause-quiet g c =
@@ -101,8 +100,7 @@ returns-in_err-these-clause-quiet g c =
     (fails_all (λ (why : FileFault). out ≡ out) c.in_err-these.field-0.0 (λ why. refl))
 
 pub returns-in_err-these-clause-told : goal.returns-in_err-these-clause-told
-returns-in_err-these-clause-told g c =
-    tells_none c.args.meant.now (g.O.Write.contents c.args.output.now) (g.O.Write.contents c.args.output.now) refl
+returns-in_err-these-clause-told g c = inl refl
 
 pub returns-in_err-print_stopped-clause-fault : goal.returns-in_err-print_stopped-clause-fault
 returns-in_err-print_stopped-clause-fault g c =
@@ -122,8 +120,9 @@ returns-in_err-print_stopped-clause-told g c =
     let out' = g.O.Write.contents c.print_stopped.new.output in
     let meant = c.in_ok-these.ensures.meant in
     elim c.in_err-print_stopped.ensures.fault [
-      | inl memory ↦ tells_none c.args.meant.now out out' memory.1
-      | inr line ↦ tells_part c.args.meant.now c.as_slice.result.now meant.0 out out' (c.as_slice.ensures.value ∙ meant.1) line.1
+      | inl memory ↦ inl memory.1
+      | inr line ↦ tells_part c.args.meant.now (passage g.A.Store c.args.conn.now c.stop_known.new.conn) c.as_slice.result.now meant.0 out out' (c.as_slice.ensures.value ∙ meant.1)
+          (λ clean. let opened = c.in_ok-open_archive.ensures.archive (c.stop_known.ensures.clean clean) in ((state g.A.Store c.open_archive.new.conn).now, opened, meant.2 clean opened.is.schema)) line.1
     ]
 
 pub returns-clause-told : goal.returns-clause-told
@@ -131,7 +130,9 @@ returns-clause-told g c =
     let out = g.O.Write.contents c.args.output.now in
     let out' = g.O.Write.contents c.print_stopped.new.output in
     let meant = c.in_ok-these.ensures.meant in
-    tells_whole c.args.meant.now c.as_slice.result.now meant.0 out out' (c.as_slice.ensures.value ∙ meant.1) c.in_ok-print_stopped.ensures.printed
+    tells_whole c.args.meant.now (passage g.A.Store c.args.conn.now c.stop_known.new.conn) c.as_slice.result.now meant.0 out out' (c.as_slice.ensures.value ∙ meant.1)
+    (λ clean. let opened = c.in_ok-open_archive.ensures.archive (c.stop_known.ensures.clean clean) in ((state g.A.Store c.open_archive.new.conn).now, opened, meant.2 clean opened.is.schema))
+    c.in_ok-print_stopped.ensures.printed
 
 pub returns-in_err-print_stopped-clause-ends : goal.returns-in_err-print_stopped-clause-ends
 returns-in_err-print_stopped-clause-ends g c =

@@ -1,4 +1,4 @@
-use Rattle.std.proofs.Common.{◌≡◌, ◌||◌, ap, sym, subst, rules}
+use Rattle.std.proofs.Common.{◌≡◌, ◌≢◌, ◌||◌, ap, sym, subst, rules}
 use Rattle.sqlite.specs.Held.{state}
 use Rattle.bac_archive.specs.Schema.{no_schema}
 use Rattle.bac_files.specs.Parts.{reading}
@@ -12,8 +12,10 @@ returns-in_err-open_archive-clause-read g c =
     let found = state g.A.Store c.args.conn.now in
     let last = state g.A.Store c.open_archive.new.conn in
     let out = g.O.Write.contents c.args.output.now in
+    let some : found.now.schema ≢ no_schema = search rules in
     subst (λ r. ReadsBy r c.args.self.now (reading found last) out out c.args.self.now) (sym (err_is c.from_residual.result c.in_err-open_archive.field-0.0 c.from_residual.ensures.1))
-    (refused_read c.args.self.now c.args.self.now found last out out (λ clean held. c.in_err-open_archive.ensures.seen (clean, held)) c.in_err-open_archive.field-0.0 c.in_err-open_archive.ensures.file c.in_err-open_archive.ensures.refused)
+    (refused_read g.A.Store c.args.conn.now c.open_archive.new.conn c.args.self.now c.args.self.now out (λ clean held. c.in_err-open_archive.ensures.seen (clean, held)) some
+    c.in_err-open_archive.field-0.0 c.in_err-open_archive.ensures.file c.in_err-open_archive.ensures.refused)
 
 pub returns-clause-read : goal.returns-clause-read
 returns-clause-read g c = λ clean.
@@ -44,4 +46,4 @@ returns-in_err-any-clause-read g c =
     let opened = c.in_ok-open_archive.ensures in
     let stays = as_found found archive last some c.print_part.ensures.clean opened.archive opened.committed c.print_part.ensures.left in
     subst (λ r. ReadsBy r c.args.self.now (reading found last) before after printer) (sym (err_is c.from_residual-in_err-any.result c.in_err-any.field-0.0 c.from_residual-in_err-any.ensures.1))
-    (ends_read c.args.self.now printer found last before after stays c.in_err-any.field-0.0 c.in_err-any.ensures.fault)
+    (ends_read c.args.self.now printer found last before after stays (λ clean. (archive.now, opened.archive (c.print_part.ensures.clean clean))) c.in_err-any.field-0.0 c.in_err-any.ensures.fault)
