@@ -6,7 +6,7 @@ use bac_desks::SteadyClock;
 use bac_heeding::Heeding;
 use bac_onward::Onward;
 use bac_recall::Recalling;
-use bac_run::{DiskFiles, FolderFiles, run};
+use bac_run::{Console, DiskFiles, FolderFiles, Machine, run};
 use bac_tools::{Fault, SystemClock, UdpSockets, UntilRefused, tell};
 use bac_trace::{Traced, Writers};
 use sqlite::Unknown;
@@ -51,13 +51,13 @@ fn started(rt: &HostRuntime) -> Result<u8, Fault> {
     let words = words_of(rt)?;
     // What the buffer holds after a refused write isn't written when it is dropped.
     let writer = UntilRefused::new(io::writer(rt));
-    let Ok(mut output) = BufWriter::new(rt.alloc(), writer) else {
+    let Ok(output) = BufWriter::new(rt.alloc(), writer) else {
         return Err(Fault::Memory);
     };
     // A count is for somebody who looks at both.
     let counts = rt.stdout().is_terminal() && rt.stderr().is_terminal();
-    Ok(run(
-        &mut Recalling::new(
+    let mut machine = Machine {
+        sockets: Recalling::new(
             rt.alloc(),
             Onward::new(Traced::new(
                 rt.alloc(),
@@ -65,17 +65,24 @@ fn started(rt: &HostRuntime) -> Result<u8, Fault> {
                 StandardErrors { rt },
             )),
         ),
-        &mut DiskFiles::new(rt, Unknown),
-        &mut DiskFiles::new(rt, Unknown),
-        &mut FolderFiles::new(rt),
+        files: DiskFiles::new(rt, Unknown),
+        parts: DiskFiles::new(rt, Unknown),
+        folders: FolderFiles::new(rt),
+        clock: SystemClock::new(rt),
+    };
+    let mut console = Console {
+        input: rt.reader(),
+        output,
+        errors: rt.stderr(),
+    };
+    let waits = SteadyClock::new(rt);
+    Ok(run(
+        &mut machine,
+        &mut console,
         rt.alloc(),
-        SteadyClock::new(rt),
+        waits,
         &words,
         counts,
-        &mut rt.reader(),
-        &mut output,
-        &mut rt.stderr(),
-        &mut SystemClock::new(rt),
     ))
 }
 

@@ -20,7 +20,7 @@ use Rattle.bac_heeding.specs.declared.notes.Passed.{Passed}
 use Rattle.bac_keeper.proofs.EndLemmas.{tells_kept}
 use Rattle.bac_keeper.specs.Done.{EndsKeep, on_disk}
 use Rattle.bac_offline.specs.Ends.{IsOfFile}
-use Rattle.bac_keeper.specs.Places.{FailsAt, KeepsAt}
+use Rattle.bac_keeper.specs.Places.{FailsAt, KeepsAt, told_path}
 use Rattle.bac_offline.specs.Parted.{IsNoFolder, PrintsListed}
 use Rattle.bac_offline.specs.Shown.{EndsPrint}
 use Rattle.bac_offline.specs.Stops.{EndsStop, FailsToStopAt, StopsAt}
@@ -87,8 +87,8 @@ module _ {F : Type 0} {s : start.Ghosts F} (g : disk.Ghosts (FileOf s)) (before 
       (sockets sockets' : S) (out out' : Held) (left : DiskFiles F s) (why : FileFault)
       → FailsAt (reaching rules waits) (on_disk g (image_at s) left) (on_disk h (image_at t) parts) asked (scene sockets out) (scene sockets' out') before said why
       → FailsAt (reaching rules waits) (on_disk g (image_at s) left) (on_disk h (image_at t) parts) asked (scene sockets out) (scene sockets' out') before errors why
-  useless_kept h parts waits rules asked sockets sockets' out out' left why (inl (place, placed, (mid, fails, path, is, told))) =
-      inl (place, placed, (mid, fails, path, is, tells_kept why path mid said errors told keeps))
+  useless_kept h parts waits rules asked sockets sockets' out out' left why (inl (place, placed, (mid, blames, bars, fails, told))) =
+      inl (place, placed, (mid, blames, bars, fails, tells_kept why (told_path blames place) mid said errors told keeps))
   useless_kept h parts waits rules asked sockets sockets' out out' left why (inr (quiet, fails, told)) =
       inr (quiet, fails, tells_kept why asked.file before said errors told keeps)
 
@@ -135,7 +135,7 @@ pub kept_ran : {F Q : Type 0} {s : start.Ghosts F} (g : disk.Ghosts (FileOf s)) 
     → IfOk done (λ n. (listing : Listing) × (listed : Q) × folders.lists p asked.file listing listed
     × PrintsListed folders.holds folders.bars g (image_at s) asked listing listed q files left out out' before said n)
     → OnErr done ((listing : Listing) × (listed : Q) × folders.lists p asked.file listing listed × (IsNoFolder listing → said ≡ before))
-    → IfErr done (λ why. EndsPrint asked (Asking why)) → Ends nothing (ending_of done) said errors status
+    → IfErr done (λ why. EndsPrint asked ((out' ≡ out) × (left ≡ files) × (listing : Listing) × folders.lists p asked.file listing q) (Asking why)) → Ends nothing (ending_of done) said errors status
     → RunsKept g folders p q asked (streams None out before (tt {0}) (tt {0})) files status (streams None out' errors (tt {0}) (tt {0})) left
 kept_ran {s = s} g folders p q asked out out' before said errors files left (Ok n) status ok untold so told =
     let it = printed_so g folders p q asked out out' before said files left n status told.0 ok in
@@ -187,11 +187,11 @@ pub groups_over : {S P C F G T : Type 0} {s : start.Ghosts F} {t : start.Ghosts 
     → RunsGroups g h parts waits rules passes reads asked (streams old.input old.output old.errors old.sockets (tt {0})) files status (streams new.input new.output new.errors new.sockets (tt {0})) left
     → RunsGroups g h parts waits rules passes reads asked old files status new left
 groups_over g h parts waits rules passes asked false old new files left status it =
-    (keep_over g h parts waits rules passes asked asked.stop old new old.input new.input status left it.0, it.1)
+    (keep_over g h parts waits rules passes asked asked.stop old new old.input new.input status left it.0, it.1, it.2)
 groups_over g h parts waits rules passes asked true old new files left status (Ok groups, list, it) = (
   Ok groups,
   list,
-  keep_over g h parts waits rules passes (with_groups asked groups) asked.stop old new old.input new.input status left it,
+  (keep_over g h parts waits rules passes (with_groups asked groups) asked.stop old new old.input new.input status left it.0, it.1),
 )
 groups_over g h parts waits rules passes asked true old new files left status (Err fault, list, it) = (Err fault, list, it)
 

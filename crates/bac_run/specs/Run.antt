@@ -13,12 +13,12 @@ use Rattle.bac_check.specs.Checked.{EndsCheck, RefusesCheck}
 use Rattle.bac_files.specs.Files.{FileOf, IsDoneTo, IsUnused}
 use Rattle.bac_files.specs.Parts.{Listing, PartRules}
 use Rattle.bac_files.specs.declared.disk_files.DiskFiles.{DiskFiles}
-use Rattle.bac_fetch.specs.Ahead.{AtOnce, reaching}
+use Rattle.bac_fetch.specs.Ahead.{AtOnce, Reach, reaching}
 use Rattle.bac_fetch.specs.Points.{scene}
 use Rattle.bac_heeding.specs.Notes.{nothing}
 use Rattle.bac_heeding.specs.declared.notes.Passed.{Passed}
 use Rattle.bac_offline.specs.Archives.{KeepsItems, KeepsRows}
-use Rattle.bac_keeper.specs.Done.{EndsKeep, on_disk}
+use Rattle.bac_keeper.specs.Done.{EndsKeep, GainsOnlyBy, on_disk}
 use Rattle.bac_offline.specs.Ends.{IsOfFile}
 use Rattle.bac_keeper.specs.Places.{FailsAt, KeepsAt}
 use Rattle.bac_offline.specs.Parted.{IsNoFolder, PrintsListed}
@@ -69,10 +69,21 @@ abbrev pub Leaves : {F : Type 0} {s : start.Ghosts F} → disk.Ghosts (FileOf s)
     → DiskFiles F s → DiskFiles F s → Type 0
 Leaves {s = s} g does files left = IsUnused files → IfSome left.closed (IsDoneTo g (image_at s) does)
 
+-- without `--stop` nothing comes to an archive that the files held but what its logs brought
+abbrev pub GainsBy : {S P C F : Type 0} {s : start.Ghosts F} → disk.Ghosts (FileOf s) → (ℕ → Reach S P C) → Keep → S
+    → DiskFiles F s → DiskFiles F s → Type 0
+GainsBy g by asked before files left = asked.stop ≡ false → Leaves g (GainsOnlyBy by asked before) files left
+
 module _ {S C F Q : Type 0} {s : start.Ghosts F} (g : disk.Ghosts (FileOf s)) (folders : PartRules Q) (p q : Q) where
+  -- nothing was printed, no file opened, and no part read
+  abbrev pub OpensNothing : Kept → Streams S C → DiskFiles F s → Streams S C → DiskFiles F s → Type 0
+  OpensNothing asked old files new left = (new.output ≡ old.output) × (left ≡ files)
+      × (listing : Listing) × folders.lists p asked.file listing q
+
   -- `kept` ends so, and its status is a fault's; unless parts were read, it alone is told on the errors
-  abbrev pub EndsKept : Kept → Streams S C → ℕ → Streams S C → Type 0
-  EndsKept asked old status new = (why : KeepFault) × EndsPrint asked (Asking why)
+  abbrev pub EndsKept : Kept → Streams S C → DiskFiles F s → ℕ → Streams S C → DiskFiles F s → Type 0
+  EndsKept asked old files status new left = (why : KeepFault)
+      × EndsPrint asked (OpensNothing asked old files new left) (Asking why)
       × ((status ≡ exit_status (fault_of why)) ⊎ (status ≡ exit_status Memory))
       × (listing : Listing) × (listed : Q) × folders.lists p asked.file listing listed
       × (IsNoFolder listing → IsToldAfter nothing (fault_of why) old.errors new.errors status)
@@ -85,7 +96,7 @@ module _ {S C F Q : Type 0} {s : start.Ghosts F} (g : disk.Ghosts (FileOf s)) (f
       × (told : Held) × Keeps told new.errors
       × PrintsListed folders.holds folders.bars g (image_at s) asked listing listed q files left old.output new.output
       old.errors told status)
-      ⊎ EndsKept asked old status new
+      ⊎ EndsKept asked old files status new left
 
 module _ {S C Q : Type 0} (folders : PartRules Q) (p q : Q) where
   -- why `check` ends before that: memory is wanting; or the output refused the text of what was counted
@@ -128,11 +139,13 @@ module _ {S C F G T : Type 0} {s : start.Ghosts F} {t : start.Ghosts G} (g : dis
       → DiskFiles F s → Type 0
   RunsKeep rules passes asked old status new left = RunsKeepBy rules passes asked.stop asked old status new left
 
-  -- `keep` of devices that were listed; without a list it is told why, and nothing else is done
+  -- `keep` of devices that were listed; without a list it is told why, and nothing else is done. However it ends,
+  -- nothing comes to the archive but what their logs brought.
   abbrev pub RunsDevices : {P : Type 0} → SocketRules S P → (S → Passed) → Keep → Result (List Group) ListFault
       → Streams S C → DiskFiles F s → ℕ → Streams S C → DiskFiles F s → Type 0
   RunsDevices rules passes asked (Ok groups) old files status new left =
       RunsKeep rules passes (with_groups asked groups) old status new left
+      × GainsBy g (reaching rules waits) (with_groups asked groups) old.sockets files left
   RunsDevices rules passes asked (Err fault) old files status new left =
       IsToldAfter nothing (ListOf fault) old.errors new.errors status
       × (new.output ≡ old.output) × (new.sockets ≡ old.sockets) × (left ≡ files)
@@ -149,6 +162,7 @@ module _ {S C F G T : Type 0} {s : start.Ghosts F} {t : start.Ghosts G} (g : dis
       → Streams S C → DiskFiles F s → Type 0
   RunsGroups rules passes false asked old files status new left =
       RunsKeep rules passes asked old status new left × IsUnread old new
+      × GainsBy g (reaching rules waits) asked old.sockets files left
   RunsGroups rules passes true asked old files status new left =
       RunsListed rules passes asked old files status new left
 

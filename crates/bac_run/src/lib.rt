@@ -6,7 +6,9 @@
 //! leaves.
 #![tactic(auto)]
 
+mod machine;
 mod program;
 
 pub use bac_keeper::{DiskFiles, FolderFiles, Parts};
+pub use machine::{Console, Machine};
 pub use program::run;

@@ -5,7 +5,7 @@ ghost use Rattle.std.specs.String.{string_bytes};
 ghost use Rattle.bac_files.specs.Parts.{part_rules};
 ghost use Rattle.bac_keeper.specs.Archives.{LosesNothing};
 ghost use Rattle.bac_offline.specs.Archives.{KeepsItems, KeepsRows};
-ghost use Rattle.bac_fetch.specs.Ahead.{at_once};
+ghost use Rattle.bac_fetch.specs.Ahead.{at_once, reaching};
 ghost use Rattle.bac_ports.specs.Sockets.{socket_rules};
 ghost use Rattle.bac_tools.specs.Run.{AnswersWords, AreWrong, AskFor, Ends, OnlyTells, wrong_fault};
 ghost use Rattle.bac_tools.specs.Streams.{streams};
@@ -14,9 +14,10 @@ ghost use Rattle.bac_words.specs.Outcome.{mistakes_of};
 ghost use Rattle.bac_words.specs.declared.job.Job.{Job as AnyJob};
 ghost use Rattle.bac_words.specs.declared.word.Word.{Word as AnyWord};
 ghost use Rattle.bac_run.specs.Faults.{ending_of, fault_of};
-ghost use Rattle.bac_run.specs.Run.{DoesAll, DoesTold, Leaves, RunsAll, RunsGroups};
+ghost use Rattle.bac_run.specs.Run.{DoesAll, DoesTold, GainsBy, Leaves, RunsAll, RunsGroups};
 ghost use Rattle.bac_run.specs.Run.{RunsCheck, RunsKeep, RunsKept, RunsListed};
 
+use crate::machine::{Console, Machine};
 use bac_check::run_check;
 use bac_desks::Clock as WaitClock;
 use bac_files::FileOf;
@@ -78,6 +79,9 @@ where
         files.new }
     ensures items { asked.now.stop ≡ true
         → Leaves ⟦<FileOf<F> as Disk>⟧ KeepsItems files.old files.new }
+    ensures gains { GainsBy ⟦<FileOf<F> as Disk>⟧ (reaching (socket_rules S.opens S.closes
+        S.Socket.sends S.Socket.receives S.Socket.receives_within) (at_once S.holds W.reads waits))
+        asked.now sockets.old files.old files.new }
     ensures stays { Leaves ⟦<FileOf<F> as Disk>⟧ LosesNothing files.old files.new }
     ensures part { Leaves ⟦<FileOf<G> as Disk>⟧ KeepsRows parts.old parts.new }
 {
@@ -214,38 +218,66 @@ fn run_job<
     C: Clock,
     W: WaitClock + Copy,
 >(
-    sockets: &mut S,
-    files: &mut DiskFiles<'_, F>,
-    parts: &mut DiskFiles<'_, G>,
-    folders: &mut Q,
+    machine: &mut Machine<'_, S, F, G, Q, C>,
+    console: &mut Console<I, O, E>,
     alloc: Global,
     waits: W,
     job: Job,
     counts: bool,
-    input: &mut I,
-    output: &mut O,
-    errors: &mut E,
-    clock: &mut C,
 ) -> u8
 where
     W: Drop,
-    ensures ran { DoesAll ⟦<FileOf<F> as Disk>⟧ ⟦<FileOf<G> as Disk>⟧ parts.new
-        (at_once S.holds W.reads waits) (part_rules Q.lists Q.holds Q.bars) folders.old folders.new
+    ensures ran { DoesAll ⟦<FileOf<F> as Disk>⟧ ⟦<FileOf<G> as Disk>⟧ machine.new.parts
+        (at_once S.holds W.reads waits) (part_rules Q.lists Q.holds Q.bars) machine.old.folders
+        machine.new.folders
         (socket_rules S.opens S.closes S.Socket.sends S.Socket.receives S.Socket.receives_within)
-        S.passes C.tells job (streams (I.remaining input.old) (O.contents output.old)
-        (E.contents errors.old) sockets.old clock.old) files.old result
-        (streams (I.remaining input.new) (O.contents output.new) (E.contents errors.new) sockets.new
-        clock.new) files.new }
-    ensures stays { Leaves ⟦<FileOf<F> as Disk>⟧ LosesNothing files.old files.new }
-    ensures part { Leaves ⟦<FileOf<G> as Disk>⟧ KeepsRows parts.old parts.new }
+        S.passes C.tells job (streams (I.remaining console.old.input)
+        (O.contents console.old.output)
+        (E.contents console.old.errors) machine.old.sockets machine.old.clock) machine.old.files
+        result
+        (streams (I.remaining console.new.input) (O.contents console.new.output)
+        (E.contents console.new.errors) machine.new.sockets
+        machine.new.clock) machine.new.files }
+    ensures stays { Leaves ⟦<FileOf<F> as Disk>⟧ LosesNothing machine.old.files machine.new.files }
+    ensures part { Leaves ⟦<FileOf<G> as Disk>⟧ KeepsRows machine.old.parts machine.new.parts }
 {
     match job {
         Job::Keep(asked) => keep_job(
-            sockets, files, parts, alloc, waits, asked, counts, input, output, errors,
+            &mut machine.sockets,
+            &mut machine.files,
+            &mut machine.parts,
+            alloc,
+            waits,
+            asked,
+            counts,
+            &mut console.input,
+            &mut console.output,
+            &mut console.errors,
         ),
-        Job::Kept(asked) => print_and_tell(files, folders, alloc, &asked, output, errors),
-        Job::Check(asked) => check_and_tell(folders, alloc, &asked, output, errors),
-        other => run_read(sockets, alloc, Ok(other), input, output, errors, clock),
+        Job::Kept(asked) => print_and_tell(
+            &mut machine.files,
+            &mut machine.folders,
+            alloc,
+            &asked,
+            &mut console.output,
+            &mut console.errors,
+        ),
+        Job::Check(asked) => check_and_tell(
+            &mut machine.folders,
+            alloc,
+            &asked,
+            &mut console.output,
+            &mut console.errors,
+        ),
+        other => run_read(
+            &mut machine.sockets,
+            alloc,
+            Ok(other),
+            &mut console.input,
+            &mut console.output,
+            &mut console.errors,
+            &mut machine.clock,
+        ),
     }
 }
 
@@ -261,44 +293,37 @@ fn run_told<
     C: Clock,
     W: WaitClock + Copy,
 >(
-    sockets: &mut S,
-    files: &mut DiskFiles<'_, F>,
-    parts: &mut DiskFiles<'_, G>,
-    folders: &mut Q,
+    machine: &mut Machine<'_, S, F, G, Q, C>,
+    console: &mut Console<I, O, E>,
     alloc: Global,
     waits: W,
     job: Job,
     counts: bool,
-    input: &mut I,
-    output: &mut O,
-    errors: &mut E,
-    clock: &mut C,
 ) -> u8
 where
     W: Drop,
-    ensures ran { DoesTold ⟦<FileOf<F> as Disk>⟧ ⟦<FileOf<G> as Disk>⟧ parts.new
-        (at_once S.holds W.reads waits) (part_rules Q.lists Q.holds Q.bars) folders.old
-        folders.new S.traces
+    ensures ran { DoesTold ⟦<FileOf<F> as Disk>⟧ ⟦<FileOf<G> as Disk>⟧ machine.new.parts
+        (at_once S.holds W.reads waits) (part_rules Q.lists Q.holds Q.bars) machine.old.folders
+        machine.new.folders S.traces
         (socket_rules S.opens S.closes S.Socket.sends S.Socket.receives S.Socket.receives_within)
-        S.passes C.tells job (streams (I.remaining input.old) (O.contents output.old)
-        (E.contents errors.old) sockets.old clock.old) files.old result
-        (streams (I.remaining input.new) (O.contents output.new) (E.contents errors.new) sockets.new
-        clock.new) files.new }
-    ensures stays { Leaves ⟦<FileOf<F> as Disk>⟧ LosesNothing files.old files.new }
-    ensures part { Leaves ⟦<FileOf<G> as Disk>⟧ KeepsRows parts.old parts.new }
+        S.passes C.tells job (streams (I.remaining console.old.input)
+        (O.contents console.old.output)
+        (E.contents console.old.errors) machine.old.sockets machine.old.clock) machine.old.files
+        result
+        (streams (I.remaining console.new.input) (O.contents console.new.output)
+        (E.contents console.new.errors) machine.new.sockets
+        machine.new.clock) machine.new.files }
+    ensures stays { Leaves ⟦<FileOf<F> as Disk>⟧ LosesNothing machine.old.files machine.new.files }
+    ensures part { Leaves ⟦<FileOf<G> as Disk>⟧ KeepsRows machine.old.parts machine.new.parts }
 {
-    sockets.trace(job.is_traced());
-    run_job(
-        sockets, files, parts, folders, alloc, waits, job, counts, input, output, errors, clock,
-    )
+    machine.sockets.trace(job.is_traced());
+    run_job(machine, console, alloc, waits, job, counts)
 }
 
 /// The program `bac`: does what its words ask for, the first of which is its name, and answers the
 /// exit status. Results and help go to the output; faults, and the line of a server that is up, go
 /// to the errors. `counts` is for a terminal: of `keep` the errors have a count of records while a
 /// log is fetched. `waits` is the clock by which `keep` waits for devices that it calls at once.
-/// `parts` are the files of the part of an archive on which another one follows, `folders` what the
-/// parts of an archive are read from.
 pub fn run<
     S: Tracing + Recalls,
     F: Start,
@@ -310,59 +335,65 @@ pub fn run<
     C: Clock,
     W: WaitClock + Copy,
 >(
-    sockets: &mut S,
-    files: &mut DiskFiles<'_, F>,
-    parts: &mut DiskFiles<'_, G>,
-    folders: &mut Q,
+    machine: &mut Machine<'_, S, F, G, Q, C>,
+    console: &mut Console<I, O, E>,
     alloc: Global,
     waits: W,
     words: &[String],
     counts: bool,
-    input: &mut I,
-    output: &mut O,
-    errors: &mut E,
-    clock: &mut C,
 ) -> u8
 where
     W: Drop,
     // The tool that the words name does what they say.
     ensures done { (job : AnyJob) → AskFor (map string_bytes words.now) job
-        → RunsAll ⟦<FileOf<F> as Disk>⟧ ⟦<FileOf<G> as Disk>⟧ parts.new
-        (at_once S.holds W.reads waits) (part_rules Q.lists Q.holds Q.bars) folders.old
-        folders.new S.traces
+        → RunsAll ⟦<FileOf<F> as Disk>⟧ ⟦<FileOf<G> as Disk>⟧ machine.new.parts
+        (at_once S.holds W.reads waits) (part_rules Q.lists Q.holds Q.bars) machine.old.folders
+        machine.new.folders S.traces
         (socket_rules S.opens S.closes S.Socket.sends S.Socket.receives
         S.Socket.receives_within) S.passes C.tells job
-        (streams (I.remaining input.old) (O.contents output.old) (E.contents errors.old)
-        sockets.old clock.old) files.old result
-        (streams (I.remaining input.new) (O.contents output.new) (E.contents errors.new)
-        sockets.new clock.new) files.new }
+        (streams (I.remaining console.old.input) (O.contents console.old.output)
+        (E.contents console.old.errors)
+        machine.old.sockets machine.old.clock) machine.old.files result
+        (streams (I.remaining console.new.input) (O.contents console.new.output)
+        (E.contents console.new.errors)
+        machine.new.sockets machine.new.clock) machine.new.files }
     // Whatever comes of it, of an archive that the files held no item, no beginning and no log is
     // lost, and a database that is none is left as it was.
-    ensures stays { Leaves ⟦<FileOf<F> as Disk>⟧ LosesNothing files.old files.new }
+    ensures stays { Leaves ⟦<FileOf<F> as Disk>⟧ LosesNothing machine.old.files machine.new.files }
     // And of the part before it, if one is begun, each row stays as it is.
-    ensures part { Leaves ⟦<FileOf<G> as Disk>⟧ KeepsRows parts.old parts.new }
+    ensures part { Leaves ⟦<FileOf<G> as Disk>⟧ KeepsRows machine.old.parts machine.new.parts }
     // Of words with a wrong value this is told, and nothing else is done.
     ensures bad_value { (word : AnyWord) → AreWrong (map string_bytes words.now) word
-        → (files.new ≡ files.old) × (folders.new ≡ folders.old)
+        → (machine.new.files ≡ machine.old.files) × (machine.new.folders ≡ machine.old.folders)
         × OnlyTells (wrong_fault (map string_bytes words.now) word)
-        (streams (I.remaining input.old) (O.contents output.old) (E.contents errors.old)
-        sockets.old clock.old) result
-        (streams (I.remaining input.new) (O.contents output.new) (E.contents errors.new)
-        sockets.new clock.new) }
+        (streams (I.remaining console.old.input) (O.contents console.old.output)
+        (E.contents console.old.errors)
+        machine.old.sockets machine.old.clock) result
+        (streams (I.remaining console.new.input) (O.contents console.new.output)
+        (E.contents console.new.errors)
+        machine.new.sockets machine.new.clock) }
     // Words that ask for help or the version have it on the output, those with a mistake on the
     // errors, and nothing else is done.
     ensures explained { (mistakes_of (map string_bytes words.now) ≡ [] → ⊥)
-        → (files.new ≡ files.old) × (folders.new ≡ folders.old)
+        → (machine.new.files ≡ machine.old.files) × (machine.new.folders ≡ machine.old.folders)
         × AnswersWords (map string_bytes words.now)
-        (streams (I.remaining input.old) (O.contents output.old) (E.contents errors.old)
-        sockets.old clock.old) result
-        (streams (I.remaining input.new) (O.contents output.new) (E.contents errors.new)
-        sockets.new clock.new) }
+        (streams (I.remaining console.old.input) (O.contents console.old.output)
+        (E.contents console.old.errors)
+        machine.old.sockets machine.old.clock) result
+        (streams (I.remaining console.new.input) (O.contents console.new.output)
+        (E.contents console.new.errors)
+        machine.new.sockets machine.new.clock) }
 {
     match read_words(alloc, words) {
-        Ok(job) => run_told(
-            sockets, files, parts, folders, alloc, waits, job, counts, input, output, errors, clock,
+        Ok(job) => run_told(machine, console, alloc, waits, job, counts),
+        Err(fault) => run_read(
+            &mut machine.sockets,
+            alloc,
+            Err(fault),
+            &mut console.input,
+            &mut console.output,
+            &mut console.errors,
+            &mut machine.clock,
         ),
-        Err(fault) => run_read(sockets, alloc, Err(fault), input, output, errors, clock),
     }
 }

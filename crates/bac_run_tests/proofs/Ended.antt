@@ -136,14 +136,14 @@ module _ {S P C F G T Q : Type 0} {s : start.Ghosts F} {t : start.Ghosts G} (tra
       → RunsGroups g h parts waits rules passes reads asked (streams old.input old.output old.errors told old.clock) files status new left → status ≡ 0
       → (which : KeepWords) × HasDevices reads asked old.input new.input which
       × IsAllKept (reaching rules waits) (on_disk g (image_at s) left) (on_disk h (image_at t) parts) which (scene told old.output) (scene new.sockets new.output)
-  groups_kept false asked told still (ran, unread) none = (
+  groups_kept false asked told still (ran, unread, gains) none = (
     asked,
     (refl, unread),
     kept_at asked told
         (subst (λ stops. RunsKeepBy g h parts waits rules passes stops asked (streams old.input old.output old.errors told old.clock) status new left)
         still ran) none,
   )
-  groups_kept true asked told still (Ok groups, list, ran) none = (
+  groups_kept true asked told still (Ok groups, list, (ran, gains)) none = (
     with_groups asked groups,
     (groups, list, refl),
     kept_at (with_groups asked groups) told

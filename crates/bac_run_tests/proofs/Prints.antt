@@ -88,15 +88,15 @@ module _ {Q : Type 0} (rules : PartRules Q) where
 
   one_printed : (path : List ℕ) (old new : At Q) (status : ℕ) → PrintsPath rules.holds rules.bars false path old status new → status ≡ 0 → IsPrinted rules path old new
   one_printed path old new status (Ok true, comes, is, quiet) none = is_printed path old new comes (quiet none)
-  one_printed path old new status (Ok false, comes, is, quiet) none = absurd (file_is_told fault.NoLogs (sym is ∙ none))
-  one_printed path old new status (Err (done.File reason), comes, is, quiet) none = absurd (file_is_told reason (sym is ∙ none))
-  one_printed path old new status (Err (done.Asking reason), comes, is, quiet) none = absurd is
+  one_printed path old new status (Ok false, comes, is, quiet) none = absurd (file_is_told fault.NoLogs (sym is.0 ∙ none))
+  one_printed path old new status (Err (done.File reason), comes, is, quiet) none = absurd (file_is_told reason (sym is.0 ∙ none))
+  one_printed path old new status (Err (done.Asking reason), comes, is, quiet) none = absurd is.0
 
   last_printed : (path : List ℕ) (old new : At Q) (status : ℕ) → PrintsPath rules.holds rules.bars true path old status new → status ≡ 0 → IsLastPrinted rules path old new
   last_printed path old new status (Ok true, comes, is, quiet) none = inl (is_printed path old new comes (quiet none))
   last_printed path old new status (Ok false, comes, is, quiet) none = let it = is_passed path old new comes in inr (it.0, quiet none, it.1, it.2)
-  last_printed path old new status (Err (done.File reason), comes, is, quiet) none = absurd (file_is_told reason (sym is ∙ none))
-  last_printed path old new status (Err (done.Asking reason), comes, is, quiet) none = absurd is
+  last_printed path old new status (Err (done.File reason), comes, is, quiet) none = absurd (file_is_told reason (sym is.0 ∙ none))
+  last_printed path old new status (Err (done.Asking reason), comes, is, quiet) none = absurd is.0
 
   -- the greatest status of parts is that of the first, or a greater one
   was_none : (paths : List (List ℕ)) (was status : ℕ) (old new : At Q) → PrintsPaths rules.holds rules.bars paths was old status new → status ≡ 0 → was ≡ 0

@@ -23,7 +23,7 @@ use bac_check::zero_is_whole;
 use bac_desks::Clock as WaitClock;
 use bac_files::FileOf;
 use bac_recall::Recalls;
-use bac_run::{DiskFiles, Parts, run};
+use bac_run::{Console, Machine, Parts, run};
 use bac_tools::Clock;
 use bac_trace::Tracing;
 use sqlite::Start;
@@ -45,34 +45,27 @@ pub fn keep_until_done<
     C: Clock,
     W: WaitClock + Copy,
 >(
-    sockets: &mut S,
-    files: &mut DiskFiles<'_, F>,
-    parts: &mut DiskFiles<'_, G>,
-    folders: &mut Q,
+    machine: &mut Machine<'_, S, F, G, Q, C>,
+    console: &mut Console<I, O, E>,
     alloc: Global,
     waits: W,
     words: &[String],
-    input: &mut I,
-    output: &mut O,
-    errors: &mut E,
-    clock: &mut C,
 ) -> u8
 where
     W: Drop,
     ensures { (asked : KeepWords) → AskFor (map string_bytes words.now) (job.Keep asked)
         → asked.stop ≡ false → result ≡ 0
-        → (told : S) × S.traces sockets.old asked.trace told
+        → (told : S) × S.traces machine.old.sockets asked.trace told
         × (which : KeepWords) × HasDevices (reads_input asked) asked
-        (I.remaining input.old) (I.remaining input.new) which
+        (I.remaining console.old.input) (I.remaining console.new.input) which
         × IsAllKept (reaching (socket_rules S.opens S.closes S.Socket.sends S.Socket.receives
         S.Socket.receives_within) (at_once S.holds W.reads waits))
-        (on_disk ⟦<FileOf<F> as Disk>⟧ (image_at F.Start) files.new)
-        (on_disk ⟦<FileOf<G> as Disk>⟧ (image_at G.Start) parts.new) which
-        (scene told (O.contents output.old)) (scene sockets.new (O.contents output.new)) }
+        (on_disk ⟦<FileOf<F> as Disk>⟧ (image_at F.Start) machine.new.files)
+        (on_disk ⟦<FileOf<G> as Disk>⟧ (image_at G.Start) machine.new.parts) which
+        (scene told (O.contents console.old.output))
+        (scene machine.new.sockets (O.contents console.new.output)) }
 {
-    run(
-        sockets, files, parts, folders, alloc, waits, words, false, input, output, errors, clock,
-    )
+    run(machine, console, alloc, waits, words, false)
 }
 
 /// The program with the words of `kept`. It opens no socket: they are as they were, or as they are
@@ -88,26 +81,19 @@ pub fn print_kept<
     C: Clock,
     W: WaitClock + Copy,
 >(
-    sockets: &mut S,
-    files: &mut DiskFiles<'_, F>,
-    parts: &mut DiskFiles<'_, G>,
-    folders: &mut Q,
+    machine: &mut Machine<'_, S, F, G, Q, C>,
+    console: &mut Console<I, O, E>,
     alloc: Global,
     waits: W,
     words: &[String],
-    input: &mut I,
-    output: &mut O,
-    errors: &mut E,
-    clock: &mut C,
 ) -> u8
 where
     W: Drop,
     ensures { (asked : KeptWords) → AskFor (map string_bytes words.now) (job.Kept asked)
-        → (sockets.new ≡ sockets.old) ⊎ S.traces sockets.old false sockets.new }
+        → (machine.new.sockets ≡ machine.old.sockets) ⊎ S.traces machine.old.sockets false
+        machine.new.sockets }
 {
-    run(
-        sockets, files, parts, folders, alloc, waits, words, false, input, output, errors, clock,
-    )
+    run(machine, console, alloc, waits, words, false)
 }
 
 /// The program with the words of `kept`. Where it ends with 0 and they name a folder, each of its
@@ -124,31 +110,24 @@ pub fn print_folder<
     C: Clock,
     W: WaitClock + Copy,
 >(
-    sockets: &mut S,
-    files: &mut DiskFiles<'_, F>,
-    parts: &mut DiskFiles<'_, G>,
-    folders: &mut Q,
+    machine: &mut Machine<'_, S, F, G, Q, C>,
+    console: &mut Console<I, O, E>,
     alloc: Global,
     waits: W,
     words: &[String],
-    input: &mut I,
-    output: &mut O,
-    errors: &mut E,
-    clock: &mut C,
 ) -> u8
 where
     W: Drop,
     ensures { (asked : KeptWords) → AskFor (map string_bytes words.now) (job.Kept asked)
         → result ≡ 0
-        → (listing : Listing) × (listed : Q) × Q.lists folders.old asked.file listing listed
+        → (listing : Listing) × (listed : Q) × Q.lists machine.old.folders asked.file listing listed
         × ((paths : List (List ℕ)) → listing ≡ Ok (Some paths)
-        → IsFolderPrinted (part_rules Q.lists Q.holds Q.bars) asked paths listed folders.new
-        (O.contents output.old) (O.contents output.new) (E.contents errors.old)
-        × Keeps (E.contents errors.old) (E.contents errors.new)) }
+        → IsFolderPrinted (part_rules Q.lists Q.holds Q.bars) asked paths listed machine.new.folders
+        (O.contents console.old.output) (O.contents console.new.output)
+        (E.contents console.old.errors)
+        × Keeps (E.contents console.old.errors) (E.contents console.new.errors)) }
 {
-    run(
-        sockets, files, parts, folders, alloc, waits, words, false, input, output, errors, clock,
-    )
+    run(machine, console, alloc, waits, words, false)
 }
 
 /// The program with the words of `kept` that have an address. Where it ends with 0 and they name no
@@ -164,29 +143,21 @@ pub fn print_log<
     C: Clock,
     W: WaitClock + Copy,
 >(
-    sockets: &mut S,
-    files: &mut DiskFiles<'_, F>,
-    parts: &mut DiskFiles<'_, G>,
-    folders: &mut Q,
+    machine: &mut Machine<'_, S, F, G, Q, C>,
+    console: &mut Console<I, O, E>,
     alloc: Global,
     waits: W,
     words: &[String],
-    input: &mut I,
-    output: &mut O,
-    errors: &mut E,
-    clock: &mut C,
 ) -> u8
 where
     W: Drop,
     ensures { (asked : KeptWords) → AskFor (map string_bytes words.now) (job.Kept asked)
         → IsSome asked.address → result ≡ 0
-        → (listing : Listing) × (listed : Q) × Q.lists folders.old asked.file listing listed
+        → (listing : Listing) × (listed : Q) × Q.lists machine.old.folders asked.file listing listed
         × (listing ≡ Ok None
-        → HasLogOf ⟦<FileOf<F> as Disk>⟧ (image_at F.Start) asked files.new.closed) }
+        → HasLogOf ⟦<FileOf<F> as Disk>⟧ (image_at F.Start) asked machine.new.files.closed) }
 {
-    run(
-        sockets, files, parts, folders, alloc, waits, words, false, input, output, errors, clock,
-    )
+    run(machine, console, alloc, waits, words, false)
 }
 
 /// The program with the words of `check`. Where it ends with 0, each part of the archive goes on
@@ -202,28 +173,21 @@ pub fn check_until_whole<
     C: Clock,
     W: WaitClock + Copy,
 >(
-    sockets: &mut S,
-    files: &mut DiskFiles<'_, F>,
-    parts: &mut DiskFiles<'_, G>,
-    folders: &mut Q,
+    machine: &mut Machine<'_, S, F, G, Q, C>,
+    console: &mut Console<I, O, E>,
     alloc: Global,
     waits: W,
     words: &[String],
-    input: &mut I,
-    output: &mut O,
-    errors: &mut E,
-    clock: &mut C,
 ) -> u8
 where
     W: Drop,
     ensures { (asked : CheckWords) → AskFor (map string_bytes words.now) (job.Check asked)
         → result ≡ 0
-        → IsFoundWhole (part_rules Q.lists Q.holds Q.bars) folders.old folders.new asked.file
-        × Keeps (E.contents errors.old) (E.contents errors.new) }
+        → IsFoundWhole (part_rules Q.lists Q.holds Q.bars) machine.old.folders machine.new.folders
+        asked.file
+        × Keeps (E.contents console.old.errors) (E.contents console.new.errors) }
 {
-    let status = run(
-        sockets, files, parts, folders, alloc, waits, words, false, input, output, errors, clock,
-    );
-    zero_is_whole(folders);
+    let status = run(machine, console, alloc, waits, words, false);
+    zero_is_whole(&machine.folders);
     status
 }

@@ -13,3 +13,6 @@ returns-clause-ran g c =
     keep_ran disk part done.new.parts (at_once g.S.Recalls.holds g.W.Clock.reads c.args.waits) rules g.S.Heeds.passes c.args.asked.now c.args.sockets.now done.new.sockets (g.O.Write.contents c.args.output.now) (g.O.Write.contents done.new.output)
     (g.E.Write.contents c.args.errors.now) (g.E.Write.contents done.new.errors) (g.E.Write.contents c.ended.new.errors) done.new.files
     done.result c.ended.result c.args.asked.now.stop done.ensures.kept done.ensures.stopped done.ensures.untold done.ensures.silent done.ensures.ends done.ensures.stop_ends (rw c.passed.ensures at c.ended.ensures)
+
+pub returns-clause-gains : goal.returns-clause-gains
+returns-clause-gains g c = c.run_keep-done.ensures.gains

@@ -21,4 +21,4 @@ returns-clause-ran g c =
     let reads : reads_input c.args.asked ≡ false = first_of (search rules, cc) in
     let old = streams (g.I.Read.remaining c.args.input.now) (g.O.Write.contents c.args.output.now) (g.E.Write.contents c.args.errors.now) c.args.sockets.now (tt {0}) in
     let new = streams (g.I.Read.remaining c.args.input.now) (g.O.Write.contents done.new.output) (g.E.Write.contents done.new.errors) done.new.sockets (tt {0}) in
-    rw reads (keep_over disk part done.new.parts (at_once g.S.Recalls.holds g.W.Clock.reads c.args.waits) rules g.S.Heeds.passes c.args.asked c.args.asked.stop old new _ _ done.result done.new.files done.ensures.ran, refl)
+    rw reads (keep_over disk part done.new.parts (at_once g.S.Recalls.holds g.W.Clock.reads c.args.waits) rules g.S.Heeds.passes c.args.asked c.args.asked.stop old new _ _ done.result done.new.files done.ensures.ran, refl, done.ensures.gains)

@@ -20,7 +20,10 @@ returns-in-Ok-clause-ran g c =
     let by = rw c.with_groups-asked.ensures at done.ensures.ran in (
       Ok c.in-Ok.groups,
       rw c.in-Ok.is at c.listed_devices.ensures,
-      keep_over disk part done.new.parts (at_once g.S.Recalls.holds g.W.Clock.reads c.args.waits) rules g.S.Heeds.passes (with_groups c.args.asked c.in-Ok.groups) c.args.asked.stop old new _ _ done.result done.new.files by,
+      (
+        keep_over disk part done.new.parts (at_once g.S.Recalls.holds g.W.Clock.reads c.args.waits) rules g.S.Heeds.passes (with_groups c.args.asked c.in-Ok.groups) c.args.asked.stop old new _ _ done.result done.new.files by,
+        rw c.with_groups-asked.ensures at done.ensures.gains,
+      ),
     )
 
 pub returns-in-Err-clause-ran : goal.returns-in-Err-clause-ran

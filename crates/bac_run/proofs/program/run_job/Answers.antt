@@ -15,9 +15,9 @@ returns-in-Keep-clause-ran g c =
     let part = file_ghosts g.row.G g.G.Start g.G.Start-dict g.G.Destruct-dict in
     let rules = socket_rules g.S.Sockets.opens g.S.Sockets.closes g.S.Socket.Port.sends g.S.Socket.Port.receives g.S.Socket.Port.receives_within in
     let done = c.keep_job in
-    let old = streams (g.I.Read.remaining c.args.input.now) (g.O.Write.contents c.args.output.now) (g.E.Write.contents c.args.errors.now) c.args.sockets.now c.args.clock.now in
-    let new = streams (g.I.Read.remaining done.new.input) (g.O.Write.contents done.new.output) (g.E.Write.contents done.new.errors) done.new.sockets c.args.clock.now in
-    rw c.in-Keep.is (groups_over disk part done.new.parts (at_once g.S.Recalls.holds g.W.Clock.reads c.args.waits) rules g.S.Heeds.passes c.in-Keep.asked (reads_input c.in-Keep.asked) old new c.args.files.now done.new.files done.result done.ensures.ran, refl, refl, λ stop. done.ensures.items stop)
+    let old = streams (g.I.Read.remaining c.args.console.now.input) (g.O.Write.contents c.args.console.now.output) (g.E.Write.contents c.args.console.now.errors) c.args.machine.now.sockets c.args.machine.now.clock in
+    let new = streams (g.I.Read.remaining done.new.input) (g.O.Write.contents done.new.output) (g.E.Write.contents done.new.errors) done.new.sockets c.args.machine.now.clock in
+    rw c.in-Keep.is (groups_over disk part done.new.parts (at_once g.S.Recalls.holds g.W.Clock.reads c.args.waits) rules g.S.Heeds.passes c.in-Keep.asked (reads_input c.in-Keep.asked) old new c.args.machine.now.files done.new.files done.result done.ensures.ran, refl, refl, λ stop. done.ensures.items stop)
 
 pub returns-in_default-clause-ran : goal.returns-in_default-clause-ran
 returns-in_default-clause-ran g c =
@@ -25,24 +25,24 @@ returns-in_default-clause-ran g c =
     let part = file_ghosts g.row.G g.G.Start g.G.Start-dict g.G.Destruct-dict in
     let rules = socket_rules g.S.Sockets.opens g.S.Sockets.closes g.S.Socket.Port.sends g.S.Socket.Port.receives g.S.Socket.Port.receives_within in
     let done = c.run_read in
-    let old = streams (g.I.Read.remaining c.args.input.now) (g.O.Write.contents c.args.output.now) (g.E.Write.contents c.args.errors.now) c.args.sockets.now c.args.clock.now in
+    let old = streams (g.I.Read.remaining c.args.console.now.input) (g.O.Write.contents c.args.console.now.output) (g.E.Write.contents c.args.console.now.errors) c.args.machine.now.sockets c.args.machine.now.clock in
     let new = streams (g.I.Read.remaining done.new.input) (g.O.Write.contents done.new.output) (g.E.Write.contents done.new.errors) done.new.sockets done.new.clock in
-    other_done rules g.S.Heeds.passes g.C.Clock.tells disk part c.args.parts.now (at_once g.S.Recalls.holds g.W.Clock.reads c.args.waits) (part_rules g.Q.Parts.lists g.Q.Parts.holds g.Q.Parts.bars) c.args.folders.now c.args.folders.now old new c.args.files.now c.args.files.now done.result c.args.job c.in_default.not-Keep c.in_default.not-Kept c.in_default.not-Check done.ensures (refl, refl)
+    other_done rules g.S.Heeds.passes g.C.Clock.tells disk part c.args.machine.now.parts (at_once g.S.Recalls.holds g.W.Clock.reads c.args.waits) (part_rules g.Q.Parts.lists g.Q.Parts.holds g.Q.Parts.bars) c.args.machine.now.folders c.args.machine.now.folders old new c.args.machine.now.files c.args.machine.now.files done.result c.args.job c.in_default.not-Keep c.in_default.not-Kept c.in_default.not-Check done.ensures (refl, refl)
 
 pub returns-in_default-clause-stays : goal.returns-in_default-clause-stays
-returns-in_default-clause-stays g c unused = none_closed c.args.files.now.closed _ unused
+returns-in_default-clause-stays g c unused = none_closed c.args.machine.now.files.closed _ unused
 
 pub returns-in-Check-clause-stays : goal.returns-in-Check-clause-stays
-returns-in-Check-clause-stays g c unused = none_closed c.args.files.now.closed _ unused
+returns-in-Check-clause-stays g c unused = none_closed c.args.machine.now.files.closed _ unused
 
 pub returns-in_default-clause-part : goal.returns-in_default-clause-part
-returns-in_default-clause-part g c unused = none_closed c.args.parts.now.closed _ unused
+returns-in_default-clause-part g c unused = none_closed c.args.machine.now.parts.closed _ unused
 
 pub returns-in-Check-clause-part : goal.returns-in-Check-clause-part
-returns-in-Check-clause-part g c unused = none_closed c.args.parts.now.closed _ unused
+returns-in-Check-clause-part g c unused = none_closed c.args.machine.now.parts.closed _ unused
 
 pub returns-in-Kept-clause-part : goal.returns-in-Kept-clause-part
-returns-in-Kept-clause-part g c unused = none_closed c.args.parts.now.closed _ unused
+returns-in-Kept-clause-part g c unused = none_closed c.args.machine.now.parts.closed _ unused
 
 pub returns-in-Kept-clause-ran : goal.returns-in-Kept-clause-ran
 returns-in-Kept-clause-ran g c =

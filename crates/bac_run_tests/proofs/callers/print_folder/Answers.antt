@@ -12,7 +12,7 @@ returns g c asked ask zero =
     let disk = file_ghosts g.row.F g.F.Start g.F.Start-dict g.F.Destruct-dict in
     let part = file_ghosts g.row.G g.G.Start g.G.Start-dict g.G.Destruct-dict in
     let rules = socket_rules g.S.Sockets.opens g.S.Sockets.closes g.S.Socket.Port.sends g.S.Socket.Port.receives g.S.Socket.Port.receives_within in
-    let old = streams (g.I.Read.remaining c.args.input.now) (g.O.Write.contents c.args.output.now) (g.E.Write.contents c.args.errors.now) c.args.sockets.now c.args.clock.now in
-    let new = streams (g.I.Read.remaining c.run.new.input) (g.O.Write.contents c.run.new.output) (g.E.Write.contents c.run.new.errors) c.run.new.sockets c.run.new.clock in
-    printed g.S.Tracing.traces rules g.S.Heeds.passes g.C.Clock.tells disk part c.run.new.parts (at_once g.S.Recalls.holds g.W.Clock.reads c.args.waits) (part_rules g.Q.Parts.lists g.Q.Parts.holds g.Q.Parts.bars) c.args.folders.now c.run.new.folders old new c.args.files.now c.run.new.files c.run.result asked
+    let old = streams (g.I.Read.remaining c.args.console.now.input) (g.O.Write.contents c.args.console.now.output) (g.E.Write.contents c.args.console.now.errors) c.args.machine.now.sockets c.args.machine.now.clock in
+    let new = streams (g.I.Read.remaining c.run.new.console.input) (g.O.Write.contents c.run.new.console.output) (g.E.Write.contents c.run.new.console.errors) c.run.new.machine.sockets c.run.new.machine.clock in
+    printed g.S.Tracing.traces rules g.S.Heeds.passes g.C.Clock.tells disk part c.run.new.machine.parts (at_once g.S.Recalls.holds g.W.Clock.reads c.args.waits) (part_rules g.Q.Parts.lists g.Q.Parts.holds g.Q.Parts.bars) c.args.machine.now.folders c.run.new.machine.folders old new c.args.machine.now.files c.run.new.machine.files c.run.result asked
     (c.run.ensures.done (job.Kept asked) ask) zero
