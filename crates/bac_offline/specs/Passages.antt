@@ -20,10 +20,11 @@ pub record Passage : Type 1 where
 abbrev pub passage : {S : Type 0} → Ghosts S → Connected S → Connected S → Passage
 passage {S} ghosts old new = record { Store = S; ghosts = ghosts; old = old; new = new }
 
--- what the connection showed, and what it shows
+-- what the connection showed as it was opened
 abbrev pub opened_state : Passage → State
 opened_state over = state over.ghosts over.old
 
+-- what it shows as it is left
 abbrev pub left_state : Passage → State
 left_state over = state over.ghosts over.new
 

@@ -231,13 +231,12 @@ where
         (at_once S.holds W.reads waits) (part_rules Q.lists Q.holds Q.bars) machine.old.folders
         machine.new.folders
         (socket_rules S.opens S.closes S.Socket.sends S.Socket.receives S.Socket.receives_within)
-        S.passes C.tells job (streams (I.remaining console.old.input)
-        (O.contents console.old.output)
+        S.passes C.tells job
+        (streams (I.remaining console.old.input) (O.contents console.old.output)
         (E.contents console.old.errors) machine.old.sockets machine.old.clock) machine.old.files
         result
         (streams (I.remaining console.new.input) (O.contents console.new.output)
-        (E.contents console.new.errors) machine.new.sockets
-        machine.new.clock) machine.new.files }
+        (E.contents console.new.errors) machine.new.sockets machine.new.clock) machine.new.files }
     ensures stays { Leaves ⟦<FileOf<F> as Disk>⟧ LosesNothing machine.old.files machine.new.files }
     ensures part { Leaves ⟦<FileOf<G> as Disk>⟧ KeepsRows machine.old.parts machine.new.parts }
 {
@@ -306,13 +305,12 @@ where
         (at_once S.holds W.reads waits) (part_rules Q.lists Q.holds Q.bars) machine.old.folders
         machine.new.folders S.traces
         (socket_rules S.opens S.closes S.Socket.sends S.Socket.receives S.Socket.receives_within)
-        S.passes C.tells job (streams (I.remaining console.old.input)
-        (O.contents console.old.output)
+        S.passes C.tells job
+        (streams (I.remaining console.old.input) (O.contents console.old.output)
         (E.contents console.old.errors) machine.old.sockets machine.old.clock) machine.old.files
         result
         (streams (I.remaining console.new.input) (O.contents console.new.output)
-        (E.contents console.new.errors) machine.new.sockets
-        machine.new.clock) machine.new.files }
+        (E.contents console.new.errors) machine.new.sockets machine.new.clock) machine.new.files }
     ensures stays { Leaves ⟦<FileOf<F> as Disk>⟧ LosesNothing machine.old.files machine.new.files }
     ensures part { Leaves ⟦<FileOf<G> as Disk>⟧ KeepsRows machine.old.parts machine.new.parts }
 {
@@ -352,11 +350,10 @@ where
         (socket_rules S.opens S.closes S.Socket.sends S.Socket.receives
         S.Socket.receives_within) S.passes C.tells job
         (streams (I.remaining console.old.input) (O.contents console.old.output)
-        (E.contents console.old.errors)
-        machine.old.sockets machine.old.clock) machine.old.files result
+        (E.contents console.old.errors) machine.old.sockets machine.old.clock) machine.old.files
+        result
         (streams (I.remaining console.new.input) (O.contents console.new.output)
-        (E.contents console.new.errors)
-        machine.new.sockets machine.new.clock) machine.new.files }
+        (E.contents console.new.errors) machine.new.sockets machine.new.clock) machine.new.files }
     // Whatever comes of it, of an archive that the files held no item, no beginning and no log is
     // lost, and a database that is none is left as it was.
     ensures stays { Leaves ⟦<FileOf<F> as Disk>⟧ LosesNothing machine.old.files machine.new.files }
@@ -367,22 +364,18 @@ where
         → (machine.new.files ≡ machine.old.files) × (machine.new.folders ≡ machine.old.folders)
         × OnlyTells (wrong_fault (map string_bytes words.now) word)
         (streams (I.remaining console.old.input) (O.contents console.old.output)
-        (E.contents console.old.errors)
-        machine.old.sockets machine.old.clock) result
+        (E.contents console.old.errors) machine.old.sockets machine.old.clock) result
         (streams (I.remaining console.new.input) (O.contents console.new.output)
-        (E.contents console.new.errors)
-        machine.new.sockets machine.new.clock) }
+        (E.contents console.new.errors) machine.new.sockets machine.new.clock) }
     // Words that ask for help or the version have it on the output, those with a mistake on the
     // errors, and nothing else is done.
     ensures explained { (mistakes_of (map string_bytes words.now) ≡ [] → ⊥)
         → (machine.new.files ≡ machine.old.files) × (machine.new.folders ≡ machine.old.folders)
         × AnswersWords (map string_bytes words.now)
         (streams (I.remaining console.old.input) (O.contents console.old.output)
-        (E.contents console.old.errors)
-        machine.old.sockets machine.old.clock) result
+        (E.contents console.old.errors) machine.old.sockets machine.old.clock) result
         (streams (I.remaining console.new.input) (O.contents console.new.output)
-        (E.contents console.new.errors)
-        machine.new.sockets machine.new.clock) }
+        (E.contents console.new.errors) machine.new.sockets machine.new.clock) }
 {
     match read_words(alloc, words) {
         Ok(job) => run_told(machine, console, alloc, waits, job, counts),
