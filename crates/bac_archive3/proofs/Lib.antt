@@ -1,0 +1,19 @@
+mod SchemaLemmas
+pub mod AroundLemmas
+pub mod AskLemmas
+pub mod ReadLemmas
+pub mod NewestLemmas
+pub mod RowsLemmas
+mod CreateLemmas
+mod EndLemmas
+pub mod ReplaceLemmas
+mod InsertLemmas
+mod ChangeLemmas
+pub mod PutLemmas
+mod LawLemmas
+pub mod SpanLemmas
+pub mod OrphanLemmas
+pub mod KeepLemmas
+pub mod ApartLemmas
+pub mod ItemsLemmas
+mod BesideLemmas

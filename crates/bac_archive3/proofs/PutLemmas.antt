@@ -1,0 +1,108 @@
+-- What puts come to, one after the other.
+use Rattle.std.proofs.Common.{◌≡◌, ◌≢◌, ℕ, Bool, true, false, if◌then◌else◌, ◌==◌, ◌<◌, ◌+◌, List, [], ◌∷◌, ◌++◌, take, get_or, length, Ok, Err, Result, OnOk, IsTrue, eq-eqb, refl, sym, ap, subst, ◌∙◌}
+use Rattle.std.specs.List.{AllByRecursion}
+use Rattle.std.proofs.lemmas.Bool.{eqb-true, both_ways}
+use Rattle.std.proofs.lemmas.List.{take_more}
+use Rattle.sqlite_value.specs.Order.{Row as Values}
+use Rattle.sqlite_schema.specs.declared.schema.Table.{Table}
+use Rattle.sqlite_schema.specs.declared.schema.Schema.{Schema}
+use Rattle.sqlite_rules.specs.Edit.{is_taken}
+use Rattle.sqlite_trees.specs.Tree.{Trees, put_row}
+use Rattle.sqlite.specs.declared.error.Error.{Error}
+use Rattle.sqlite.specs.Effect.{Database}
+use Rattle.sqlite.specs.State.{State, ExecutesInside, Executes}
+use Rattle.bac_archive3.specs.Schema.{HasArchive}
+use Rattle.bac_archive3.specs.Making.{IsFilled, IsMade}
+use Rattle.bac_archive3.specs.Put.{AreFree, IsPut, Puts, after, given, is_new, left, replaced, row_of, table_of, text_of}
+use Rattle.bac_archive3.specs.declared.row.Put.{Put}
+use Rattle.bac_archive3.specs.declared.row.Put.TheVariants.{NewDevice, Device, NewLog, Log, Beginning, Item}
+use Rattle.bac_archive3.proofs.InsertLemmas.{Sets, Adds, adds_device, adds_log, adds_item, adds_beginning}
+use Rattle.bac_archive3.proofs.ChangeLemmas.{changes_device, changes_log}
+
+same_place : (n : ℕ) → (n == n) ≡ true
+same_place n = eq-eqb n n refl
+
+-- the rows of each table, where one of them has others
+each_table : (k : ℕ) (X : List Values → List Values) (old new : Trees) → new k ≡ X (old k) → (tables : List Table) → AllByRecursion (λ t. t.tree ≢ k → new t.tree ≡ old t.tree) tables
+    → AllByRecursion (λ t. new t.tree ≡ (if k == t.tree then X (old t.tree) else old t.tree)) tables
+each_table k X old new is [] others = tt
+each_table k X old new is (t ∷ tables) others = (go (k == t.tree) refl, each_table k X old new is tables others.1)
+  where
+    go : (b : Bool) → (k == t.tree) ≡ b → new t.tree ≡ (if b then X (old t.tree) else old t.tree)
+    go true same = subst (λ n. new n ≡ X (old n)) (eqb-true k t.tree same) is
+    go false other = others.0 (λ same. both_ways _ other (subst (λ n. (k == n) ≡ true) (sym same) (same_place k)))
+
+-- what is so of every table is so of these
+of_all : (P : Table → Type 0) → ((t : Table) → P t) → (tables : List Table) → AllByRecursion P tables
+of_all P all [] = tt
+of_all P all (t ∷ tables) = (all t, of_all P all tables)
+
+-- one put, new or in place of another
+adds_put : (old new : Database) (put : Put) → is_new put ≡ true → Adds old new (table_of put).tree (row_of put) → IsPut old new (put ∷ [])
+adds_put old new put is it = record {
+  schema = it.sets.schema;
+  rows = rw is (each_table (table_of put).tree (put_row (row_of put)) old.trees new.trees it.sets.rows_are old.schema.tables it.sets.others);
+  once = of_all _ (λ t. ((λ same _. subst (λ n. is_taken (old.trees n) (row_of put) ≡ false) same it.free), tt)) old.schema.tables;
+}
+
+changes_put : (old new : Database) (put : Put) → is_new put ≡ false → Sets old new (table_of put).tree (replaced (row_of put) (old.trees (table_of put).tree)) → IsPut old new (put ∷ [])
+changes_put old new put is it = record {
+  schema = it.schema;
+  rows = rw is (each_table (table_of put).tree (replaced (row_of put)) old.trees new.trees it.rows_are old.schema.tables it.others);
+  once = of_all _ (λ t. ((λ same new. absurd (both_ways _ is new)), tt)) old.schema.tables;
+}
+
+is_put : (put : Put) (old new : State) (count : ℕ) → HasArchive old.now.schema → Executes (text_of put) (given put) old new (Ok count) → IsPut old.now new.now (put ∷ [])
+is_put (NewDevice d) old new count has ran = adds_put old.now new.now (NewDevice d) refl (adds_device _ _ _ _ _ _ _ _ _ _ _ _ old new count has ran)
+is_put (Device d) old new count has ran = changes_put old.now new.now (Device d) refl (changes_device _ _ _ _ _ _ _ _ _ _ _ _ old new count has ran)
+is_put (NewLog l) old new count has ran = adds_put old.now new.now (NewLog l) refl (adds_log _ _ _ _ _ _ _ _ old new count has ran)
+is_put (Log l) old new count has ran = changes_put old.now new.now (Log l) refl (changes_log _ _ _ _ _ _ _ _ old new count has ran)
+is_put (Beginning b) old new count has ran = adds_put old.now new.now (Beginning b) refl (adds_beginning _ _ _ old new count has ran)
+is_put (Item i) old new count has ran = adds_put old.now new.now (Item i) refl (adds_item _ _ _ _ _ _ old new count has ran)
+
+pub puts_one : (put : Put) (old new : State) (count : ℕ) → HasArchive old.now.schema → ExecutesInside 0 (text_of put) (given put) old new (Ok count) → Puts old new (put ∷ [])
+puts_one put old new count has ran = record { put = is_put put old new count has ran.0; mode = ran.1.mode; committed = ran.1.committed_is }
+
+-- ---- one after the other
+
+left_both : (tree : ℕ) (xs ys : List Put) (rows : List Values) → left tree rows (xs ++ ys) ≡ left tree (left tree rows xs) ys
+left_both tree [] ys rows = refl
+left_both tree (x ∷ xs) ys rows = left_both tree xs ys (after tree rows x)
+
+free_both : (tree : ℕ) (xs ys : List Put) (rows : List Values) → AreFree tree rows xs → AreFree tree (left tree rows xs) ys → AreFree tree rows (xs ++ ys)
+free_both tree [] ys rows p q = q
+free_both tree (x ∷ xs) ys rows p q = (p.0, free_both tree xs ys (after tree rows x) p.1 q)
+
+rows_both : (a b c : Trees) (xs ys : List Put) (tables : List Table) → AllByRecursion (λ t. b t.tree ≡ left t.tree (a t.tree) xs) tables
+    → AllByRecursion (λ t. c t.tree ≡ left t.tree (b t.tree) ys) tables → AllByRecursion (λ t. c t.tree ≡ left t.tree (a t.tree) (xs ++ ys)) tables
+rows_both a b c xs ys [] p q = tt
+rows_both a b c xs ys (t ∷ tables) p q = (q.0 ∙ ap (λ rows. left t.tree rows ys) p.0 ∙ sym (left_both t.tree xs ys (a t.tree)), rows_both a b c xs ys tables p.1 q.1)
+
+once_both : (a b : Trees) (xs ys : List Put) (tables : List Table) → AllByRecursion (λ t. b t.tree ≡ left t.tree (a t.tree) xs) tables
+    → AllByRecursion (λ t. AreFree t.tree (a t.tree) xs) tables → AllByRecursion (λ t. AreFree t.tree (b t.tree) ys) tables → AllByRecursion (λ t. AreFree t.tree (a t.tree) (xs ++ ys)) tables
+once_both a b xs ys [] rows p q = tt
+once_both a b xs ys (t ∷ tables) rows p q = (free_both t.tree xs ys (a t.tree) p.0 (subst (λ l. AreFree t.tree l ys) rows.0 q.0), once_both a b xs ys tables rows.1 p.1 q.1)
+
+pub put_then : (a b c : Database) (xs ys : List Put) → IsPut a b xs → IsPut b c ys → IsPut a c (xs ++ ys)
+put_then a b c xs ys p q = record {
+  schema = q.schema ∙ p.schema;
+  rows = rows_both a.trees b.trees c.trees xs ys a.schema.tables p.rows (subst (λ (s : Schema). AllByRecursion (λ t. c.trees t.tree ≡ left t.tree (b.trees t.tree) ys) s.tables) p.schema q.rows);
+  once = once_both a.trees b.trees xs ys a.schema.tables p.rows p.once (subst (λ (s : Schema). AllByRecursion (λ t. AreFree t.tree (b.trees t.tree) ys) s.tables) p.schema q.once);
+}
+
+pub put_nothing : (db : Database) → IsPut db db []
+put_nothing db = record { schema = refl; rows = of_all _ (λ t. refl) db.schema.tables; once = of_all _ (λ t. tt) db.schema.tables }
+
+pub puts_nothing : (old : State) → IsTrue old.in_transaction → Puts old old []
+puts_nothing old inside = record { put = put_nothing old.now; mode = inside; committed = refl }
+
+pub puts_then : (a b c : State) (xs ys : List Put) → Puts a b xs → Puts b c ys → Puts a c (xs ++ ys)
+puts_then a b c xs ys p q = record { put = put_then a.now b.now c.now xs ys p.put q.put; mode = q.mode; committed = q.committed ∙ p.committed }
+
+pub one_more : (all : List Put) (at : ℕ) (x : Put) → at < length all → x ≡ get_or all at x → take at all ++ x ∷ [] ≡ take (at + 1) all
+one_more all at x lt is = sym (take_more all at x lt ∙ ap (λ z. take at all ++ z ∷ []) (sym is))
+
+-- rows that are put into a new archive
+pub filled : {A : Type 0} (moment : List ℕ) (old made new : State) (puts : List Put) (r : Result A Error) → IsMade moment old made → OnOk r (Puts made new puts) → OnOk r (IsFilled moment old new puts)
+filled moment old made new puts (Ok a) is p = record { of_puts = (made.now, is.made, p.put); mode = p.mode; committed = p.committed ∙ is.committed }
+filled moment old made new puts (Err e) is p = tt

@@ -1,0 +1,11 @@
+pub mod Schema
+pub mod Put
+pub mod Making
+pub mod Ask
+pub mod Read
+pub mod Stands
+pub mod Archive
+pub mod Keep
+pub mod Items
+pub mod Follow
+pub mod Beside

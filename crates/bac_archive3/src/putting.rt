@@ -1,0 +1,118 @@
+//! Rows are put: all of a batch, or none.
+
+ghost use Rattle.std.specs.Prelude.{◌≡◌, ◌∷◌, [], OnOk, OnErr, IfErr, IsTrue};
+ghost use Rattle.sqlite.specs.State.{HasCleanDisk, Survives, KeepsCommit, ExecutesInside};
+ghost use Rattle.sqlite.specs.Held.{state};
+ghost use Rattle.bac_archive3.specs.Schema.{HasArchive, OverArchive};
+ghost use Rattle.bac_archive3.specs.Put.{FailsToPut, GivesUp, IsPut, Puts};
+ghost use Rattle.bac_archive3.specs.Put.{given, text_of, PutsJoin, PutsKeepVersion, PutsLoseNothing};
+
+use crate::ending::finish;
+use crate::row::{Put, beginning_bound, device_bound, item_bound, log_bound};
+use sqlite::{Alter, Connection, Error, ErrorCode, Transaction};
+
+/// Puts one row.
+fn put_one<S: Alter>(tx: &mut Transaction<'_, S>, put: &Put) -> Result<usize, Error>
+    ensures same_reference { tx.new.conn.ghost_name ≡ tx.old.conn.ghost_name }
+    ensures runs { HasCleanDisk (state S.Store tx.new.conn.now)
+        → IsTrue (state S.Store tx.old.conn.now).in_transaction
+        → ExecutesInside 0 (text_of put.now) (given put.now) (state S.Store tx.old.conn.now)
+        (state S.Store tx.new.conn.now) result }
+    ensures crash { Survives (state S.Store tx.old.conn.now) (state S.Store tx.new.conn.now)
+        (λ _. ⊥) }
+{
+    match put {
+        Put::NewDevice(row) => tx.execute(
+            "INSERT INTO devices (id, address, dnet, dadr, instance, name, restart, revision, \
+             whole, stopped, answered, offset) VALUES (?1, ?2, ?3, ?4, ?5, ?6, ?7, ?8, ?9, ?10, \
+             ?11, ?12)",
+            &device_bound(row),
+        ),
+        Put::Device(row) => tx.execute(
+            "UPDATE devices SET address = ?2, dnet = ?3, dadr = ?4, instance = ?5, name = ?6, \
+             restart = ?7, revision = ?8, whole = ?9, stopped = ?10, answered = ?11, offset = \
+             ?12 WHERE id = ?1",
+            &device_bound(row),
+        ),
+        Put::NewLog(row) => tx.execute(
+            "INSERT INTO logs (id, device, instance, name, source, units, description, stopped) \
+             VALUES (?1, ?2, ?3, ?4, ?5, ?6, ?7, ?8)",
+            &log_bound(row),
+        ),
+        Put::Log(row) => tx.execute(
+            "UPDATE logs SET device = ?2, instance = ?3, name = ?4, source = ?5, units = ?6, \
+             description = ?7, stopped = ?8 WHERE id = ?1",
+            &log_bound(row),
+        ),
+        Put::Beginning(row) => tx.execute(
+            "INSERT INTO beginnings (id, number, why) VALUES (?1, ?2, ?3)",
+            &beginning_bound(row),
+        ),
+        Put::Item(row) => tx.execute(
+            "INSERT INTO items (id, last, stamp, value, datum, flags) VALUES (?1, ?2, ?3, ?4, \
+             ?5, ?6)",
+            &item_bound(row),
+        ),
+    }
+}
+
+/// Puts each row in turn.
+pub(crate) fn put_each<S: Alter>(tx: &mut Transaction<'_, S>, puts: &[Put]) -> Result<(), Error>
+    ensures same_reference { tx.new.conn.ghost_name ≡ tx.old.conn.ghost_name }
+    ensures put { HasCleanDisk (state S.Store tx.new.conn.now)
+        → IsTrue (state S.Store tx.old.conn.now).in_transaction
+        → HasArchive (state S.Store tx.old.conn.now).now.schema
+        → OnOk result
+        (Puts (state S.Store tx.old.conn.now) (state S.Store tx.new.conn.now) puts.now) }
+    ensures cause { HasCleanDisk (state S.Store tx.new.conn.now)
+        → IsTrue (state S.Store tx.old.conn.now).in_transaction
+        → HasArchive (state S.Store tx.old.conn.now).now.schema
+        → IfErr result (GivesUp S.Store tx.old.conn.now tx.new.conn.now puts.now) }
+    ensures crash { Survives (state S.Store tx.old.conn.now) (state S.Store tx.new.conn.now)
+        (λ _. ⊥) }
+    ensures kept { HasCleanDisk (state S.Store tx.new.conn.now)
+        → IsTrue (state S.Store tx.old.conn.now).in_transaction
+        → HasArchive (state S.Store tx.old.conn.now).now.schema
+        → KeepsCommit (state S.Store tx.old.conn.now) (state S.Store tx.new.conn.now) }
+{
+    for put in puts {
+        put_one(tx, put)?;
+    }
+    Ok(())
+}
+
+/// Puts these rows in one transaction, one after the other: all of them or none, also over a crash.
+/// A new one whose id a row has is refused; one in place of a row that isn't there changes nothing.
+/// A transaction that is open already is refused.
+pub fn put<S: Alter>(conn: &mut Connection<S>, puts: &[Put]) -> Result<(), Error>
+    ensures all { OverArchive (state S.Store conn.old) (state S.Store conn.new)
+        (OnOk result (IsPut (state S.Store conn.old).now (state S.Store conn.new).now puts.now
+        × ((state S.Store conn.new).committed ≡ (state S.Store conn.new).now))) }
+    ensures neither { HasCleanDisk (state S.Store conn.new)
+        → IsTrue (state S.Store conn.new).is_open
+        → HasArchive (state S.Store conn.old).now.schema
+        → OnErr result (((state S.Store conn.new).now ≡ (state S.Store conn.old).now)
+        × ((state S.Store conn.new).committed ≡ (state S.Store conn.old).committed)) }
+    ensures crash { Survives (state S.Store conn.old) (state S.Store conn.new)
+        (λ trees. HasArchive (state S.Store conn.old).now.schema
+        → (db : _) × IsPut (state S.Store conn.old).now db puts.now × (trees ≡ db.trees)) }
+    // A transaction was open; or the database gave up on one of the rows, or on the commit.
+    ensures cause { OverArchive (state S.Store conn.old) (state S.Store conn.new)
+        (IfErr result (FailsToPut S.Store conn.old puts.now)) }
+    ensures clean { HasCleanDisk (state S.Store conn.new) → HasCleanDisk (state S.Store conn.old) }
+{
+    if !conn.is_autocommit() {
+        return Err(Error::SqliteFailure(ErrorCode::TransactionState));
+    }
+    let mut tx = conn.transaction();
+    let done = put_each(&mut tx, puts);
+    finish(tx, done.err())
+}
+
+/// Two batches, one after the other, are one. Whatever is put, each item and each beginning of
+/// before is there as it was, and the version stays.
+pub fn puts_are_one()
+    ensures join { PutsJoin }
+    ensures lose_nothing { PutsLoseNothing }
+    ensures keep_version { PutsKeepVersion }
+{}

@@ -1,0 +1,34 @@
+-- What a run leaves of an archive, whatever machine is driven, in the words of the events.
+use Rattle.std.specs.Prelude.{List, [], ◌∷◌, ◌++◌}
+use Rattle.std.specs.List.{Contains}
+use Rattle.sqlite_trees.specs.Tree.{Trees}
+use Rattle.sqlite_value.specs.Order.{Row as Values}
+use Rattle.bac_archive3.specs.Put.{IsPut}
+use Rattle.bac_archive3.specs.Schema.{HasArchive}
+use Rattle.bac_archive3.specs.declared.row.Put.{Put}
+use Rattle.bac_desks.specs.Chain.{Chain}
+use Rattle.bac_drive.specs.Event.{Event, Kept, Printed, Read, Sent, Waited, Warned}
+use Rattle.bac_drive.specs.Happens.{Acts, Happens, Leaves, Scene}
+
+-- the rows that these events put, in turn
+abbrev pub puts_of : List Event → List Put
+puts_of [] = []
+puts_of (Sent octets to answer ∷ es) = puts_of es
+puts_of (Waited within heard ∷ es) = puts_of es
+puts_of (Read ms ∷ es) = puts_of es
+puts_of (Kept puts ∷ es) = puts ++ puts_of es
+puts_of (Printed text ∷ es) = puts_of es
+puts_of (Warned text ∷ es) = puts_of es
+
+-- What a database has behind events is what it had, with the rows of their batches put in turn, and nothing else.
+abbrev pub RunsPut : {M P C : Type 0} → Acts M P C → Type 0
+RunsPut {M = M} {P = P} {C = C} acts =
+    (old new : Scene M P C) (es : List Event) → Chain (Happens acts) old es new →
+    IsPut old.database new.database (puts_of es)
+
+-- Whatever ends a run, a kill too, each item and each beginning that an archive had is there as it was.
+abbrev pub LosesNothing : {M P C : Type 0} → Acts M P C → Type 0
+LosesNothing {M = M} {P = P} {C = C} acts =
+    (old : Scene M P C) (trees : Trees) → HasArchive old.database.schema → Leaves acts old trees →
+    ((row : Values) → Contains (old.database.trees 5) row → Contains (trees 5) row)
+    × ((row : Values) → Contains (old.database.trees 6) row → Contains (trees 6) row)

@@ -1,0 +1,9 @@
+pub mod Asked
+pub mod Walked
+pub mod Over
+pub mod Tools
+pub mod Sent
+pub mod Quiet
+pub mod Losses
+pub mod Came
+pub mod Logged

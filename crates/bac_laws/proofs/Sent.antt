@@ -1,0 +1,179 @@
+-- What the whole program leaves whole.
+use Rattle.std.proofs.Common.{◌≡◌, ◌⊎◌, ℕ, Bool, true, false, List, [], ◌∷◌, ◌++◌, map, Option, None, Some, Result, Ok, Err, inl, inr, refl, sym, subst, ap, ◌∙◌}
+use Rattle.std.specs.List.{Contains}
+use Rattle.std.proofs.lemmas.List.Elements.{Contains-append_left, Contains-append_right, Contains-push}
+use Rattle.clap.specs.Words.{Text}
+use Rattle.sqlite_disk.specs.declared.Disk as disk
+use Rattle.sqlite_disk.specs.declared.start.Start as start
+use Rattle.bac_fetch.specs.Ahead.{AtOnce}
+use Rattle.bac_files.specs.Files.{FileOf}
+use Rattle.bac_files.specs.Parts.{PartRules}
+use Rattle.bac_files.specs.declared.disk_files.DiskFiles.{DiskFiles}
+use Rattle.bac_heeding.specs.declared.notes.Passed.{Passed}
+use Rattle.bac_laws.proofs.Over.{StaysWhole, still, used}
+use Rattle.bac_laws.proofs.Tools.{done_over, fetches, lists, reads, writes}
+use Rattle.bac_laws.specs.Sends.{AsksWho, Beside, IsBound, IsStation, MaySend, Seal, SendsOnly}
+use Rattle.bac_ports.specs.Port.{Receiving}
+use Rattle.bac_ports.specs.Sockets.{SocketRules, own_address}
+use Rattle.bac_print.specs.Output.{Held}
+use Rattle.bac_query.specs.Ahead.{errand}
+use Rattle.bac_query.specs.Finding.{Console, Finds as FindsDevices, console, unasked}
+use Rattle.bac_query.specs.Hearing.{Left, ReceivesBy, Standing, port_rules}
+use Rattle.bac_query.specs.Requests.{who_is_octets}
+use Rattle.bac_query.specs.Turns.{Along, ComesTo, Received, Sent, Turn, asked_in}
+use Rattle.bac_query.specs.declared.search.Search.{Search}
+use Rattle.bac_recall.specs.declared.conversations.Conversation.{Conversation}
+use Rattle.bac_run.specs.Run.{DoesAll, RunsAll, RunsGroups, RunsKeep, RunsKeepBy}
+use Rattle.bac_tools.specs.Ending.{Ending}
+use Rattle.bac_tools.specs.Finding.{Finds, Inquiry, Searches, inquiry, search_of}
+use Rattle.bac_tools.specs.Run.{Runs, Works, layout_of, question, reals_of, trend_log, walk_from}
+use Rattle.bac_tools.specs.Sockets.{Outside, Pipes, binding, outside}
+use Rattle.bac_tools.specs.Streams.{Streams, outlets_of, outside_of, pipes_of, streams, with_errors}
+use Rattle.bac_wire.specs.Stamp.{CivilTime}
+use Rattle.bac_words.specs.Jobs.{is_traced, reads_input, with_groups}
+use Rattle.bac_words.specs.declared.job.Job.{Job}
+use Rattle.bac_words.specs.declared.job.Job.TheVariants as job
+use Rattle.bac_words.specs.declared.job.Keep.{Keep as KeepWords}
+use Rattle.bac_words.specs.declared.job.Stations.{Stations}
+use Rattle.bac_words.specs.declared.job.Stations.TheVariants.{Listed, Input}
+
+first_of : (x : List ℕ) (xs : List (List ℕ)) → Contains (x ∷ xs) x
+first_of x xs = Contains-append_left (x ∷ []) xs x (Contains-push [] x)
+
+-- a front part of addresses is among all
+among : (limit : ℕ) (addresses : List (List ℕ)) (turns : List Turn) (old : Standing) (result : Left) (new : Standing)
+    → ComesTo limit addresses turns old result new → (a : List ℕ) → Contains (asked_in turns) a → Contains addresses a
+among limit addresses turns old (Ok left) new is a has = subst (λ (xs : List (List ℕ)). Contains xs a) is.0 has
+among limit addresses turns old (Err fault) new ((rest, is), few, fails) a has =
+    subst (λ (xs : List (List ℕ)). Contains xs a) (sym is) (Contains-append_left (asked_in turns) rest a has)
+
+-- ---- bac wi
+
+module _ {S P : Type 0} {rules : SocketRules S P} {changes : S → S → Type 0} {may : List ℕ → List ℕ → Type 0}
+    (seal : Seal rules changes may) where
+  received : (wait : Option ℕ) (old : P) (heard : Receiving) (new : P)
+      → ReceivesBy (port_rules rules.sends rules.receives rules.receives_within) wait old heard new → StaysWhole seal old new
+  received None old heard new is whole = seal.receives old new heard whole is
+  received (Some ms) old heard new is whole = seal.waits old new ms heard whole is
+
+  along : (octets : List ℕ) (turns : List Turn) (old new : P) → ((a : List ℕ) → Contains (asked_in turns) a → may octets a)
+      → Along (port_rules rules.sends rules.receives rules.receives_within) octets turns old new → StaysWhole seal old new
+  along octets [] old new ok is = still seal old new is
+  along octets (Sent address sent ∷ turns) old new ok (mid, sends, rest) =
+      λ whole. along octets turns mid new (λ a has. ok a (Contains-append_right (address ∷ []) (asked_in turns) a has)) rest
+          (seal.sends old mid octets address sent (ok address (first_of address (asked_in turns))) whole sends)
+  along octets (Received wait heard ∷ turns) old new ok (mid, receives, rest) =
+      λ whole. along octets turns mid new ok rest (received wait old heard mid receives whole)
+
+  searches : (wanted : Inquiry) (addresses : List (List ℕ)) (old : Outside S) (result : Ending) (new : Outside S)
+      → ((a : List ℕ) → Contains addresses a → may (who_is_octets wanted.search) a)
+      → Searches rules wanted addresses old result new → seal.sockets old.sockets ≡ true → seal.sockets new.sockets ≡ true
+  searches wanted addresses old result new ok is whole =
+      done_over seal (binding (own_address wanted.local) wanted.timeout) old.sockets new.sockets result _ _
+          (λ port last did. let tells = did.1.3 in
+          along (who_is_octets wanted.search) tells.0 port last
+          (λ a has. ok a (among 4096 addresses tells.0 (unasked old.output) did.1.0 did.1.1 tells.2 a has)) tells.1) is whole
+
+  finds : (wanted : Inquiry) (stations : Stations) (old : Pipes S) (result : Ending) (new : Pipes S)
+      → ((a : List ℕ) → IsStation stations a → may (who_is_octets wanted.search) a)
+      → Finds rules wanted stations old result new → seal.sockets old.sockets ≡ true → seal.sockets new.sockets ≡ true
+  finds wanted (Listed addresses) old result new ok (input, is) whole =
+      searches wanted addresses (outside old.sockets old.output) result (outside new.sockets new.output) ok is whole
+  finds wanted Input old result new ok (Ok addresses, list, is) whole =
+      searches wanted addresses (outside old.sockets old.output) result (outside new.sockets new.output) (λ a has. ok a tt) is whole
+  finds wanted Input old result new ok (Err fault, list, is) whole =
+      subst (λ (o : Outside S). seal.sockets o.sockets ≡ true) (sym is.1) whole
+
+-- ---- any tool
+
+module _ {S P : Type 0} {rules : SocketRules S P} {changes : S → S → Type 0} where
+  pub same_sockets : {may : List ℕ → List ℕ → Type 0} (seal : Seal rules changes may) (old new : S) → new ≡ old
+      → seal.sockets old ≡ true → seal.sockets new ≡ true
+  same_sockets seal old new is whole = subst (λ (s : S). seal.sockets s ≡ true) (sym is) whole
+
+  works : {C : Type 0} (tells : C → Option CivilTime → C → Type 0) (asked : Job) → IsBound asked
+      → (seal : Seal rules changes (MaySend asked)) (old : Streams S C) (result : Ending) (new : Streams S C)
+      → Works rules tells asked old result new → seal.sockets old.sockets ≡ true → seal.sockets new.sockets ≡ true
+  works tells job.Replay bound seal old result new is whole = same_sockets seal old.sockets new.sockets is.1.1 whole
+  works tells (job.Rp said) bound seal old result new (inl (none, (why, keeps, same)), quiet) whole =
+      same_sockets seal old.sockets new.sockets same whole
+  works tells (job.Rp said) bound seal old result new (inr is, quiet) whole =
+      reads seal said.asked (question said) (reals_of said.numbers) (outside_of old) result (outside_of new) (λ octets r. (r, refl)) is whole
+  works tells (job.Wp said) bound seal old result new (inl (none, (why, keeps, same)), quiet) whole =
+      same_sockets seal old.sockets new.sockets same whole
+  works tells (job.Wp said) bound seal old result new (inr (w, same, is), quiet) whole =
+      writes seal said.asked w (outside_of old) result (outside_of new) (λ octets r. (r, refl)) is whole
+  works tells (job.Log said) bound seal old result new (inl (fault, none, keeps, same), quiet) whole =
+      same_sockets seal old.sockets new.sockets same whole
+  works tells (job.Log said) bound seal old result new (inr is, quiet) whole =
+      fetches seal said.asked (errand (layout_of said.csv) (walk_from said.instance said.from said.count) said.steps)
+          (outlets_of old) result (outlets_of new) (λ octets r. (r, refl)) is whole
+  works tells (job.Logs said) bound seal old result new (inl (fault, none, keeps, same), quiet) whole =
+      same_sockets seal old.sockets new.sockets same whole
+  works tells (job.Logs said) bound seal old result new (inr is, quiet) whole =
+      lists seal said.asked (map trend_log said.instances) (outside_of old) result (outside_of new) (λ octets r. (r, refl)) is whole
+  works tells (job.Serve said) bound seal old result new is whole = absurd bound
+  works tells (job.Wi said) bound seal old result new (is, quiet) whole =
+      finds seal (inquiry (search_of said) said.local said.timeout) said.stations (pipes_of old) result (pipes_of new)
+          (λ a has. ((search_of said, refl), has)) is whole
+  works tells (job.Keep asked) bound seal old result new is whole = same_sockets seal old.sockets new.sockets is.3.1 whole
+  works tells (job.Kept asked) bound seal old result new is whole = same_sockets seal old.sockets new.sockets is.3.1 whole
+  works tells (job.Check asked) bound seal old result new is whole = same_sockets seal old.sockets new.sockets is.3.1 whole
+
+  runs : {C : Type 0} (passes : S → Passed) (tells : C → Option CivilTime → C → Type 0) (asked : Job) → IsBound asked
+      → (seal : Seal rules changes (MaySend asked)) (old : Streams S C) (status : ℕ) (new : Streams S C)
+      → Runs rules passes tells asked old status new → seal.sockets old.sockets ≡ true → seal.sockets new.sockets ≡ true
+  runs passes tells asked bound seal old status new (inl (told, keeps, (input, same, clock))) whole =
+      same_sockets seal old.sockets new.sockets same whole
+  runs passes tells asked bound seal old status new (inr (result, said, is, ends)) whole =
+      works tells asked bound seal old result (with_errors said new) is whole
+
+module _ {S C P F G T Q : Type 0} {s : start.Ghosts F} {t : start.Ghosts G} (g : disk.Ghosts (FileOf s))
+    (h : disk.Ghosts (FileOf t)) (parts : DiskFiles G t) (waits : ℕ → AtOnce S T) (folders : PartRules Q) (p q : Q)
+    (switches : S → Bool → S → Type 0) (holds : S → List Conversation → S → Type 0) (rules : SocketRules S P)
+    (passes : S → Passed) (tells : C → Option CivilTime → C → Type 0) where
+  pub stopped : (asked : KeepWords) (stop : Bool) (old : Streams S C) (status : ℕ) (new : Streams S C) (left : DiskFiles F s)
+      → stop ≡ true → RunsKeepBy g h parts waits rules passes stop asked old status new left → new.sockets ≡ old.sockets
+  stopped asked true old status new left is ran = ran.1
+  stopped asked false old status new left is ran = absurd (let e : false ≡ true = is in cc)
+
+  groups : (reading : Bool) (asked : KeepWords) (old : Streams S C) (files : DiskFiles F s) (status : ℕ) (new : Streams S C)
+      (left : DiskFiles F s) → asked.stop ≡ true
+      → RunsGroups g h parts waits rules passes reading asked old files status new left → new.sockets ≡ old.sockets
+  groups false asked old files status new left stop (ran, unread, gains) = stopped asked asked.stop old status new left stop ran
+  groups true asked old files status new left stop (Ok devices, list, (ran, gains)) = stopped (with_groups asked devices) asked.stop old status new left stop ran
+  groups true asked old files status new left stop (Err fault, list, (told, output, same, files')) = same
+
+  does_all : (asked : Job) → IsBound asked → (seal : Seal rules (Beside switches holds) (MaySend asked)) (old : Streams S C)
+      (files : DiskFiles F s) (status : ℕ) (new : Streams S C) (left : DiskFiles F s)
+      → DoesAll g h parts waits folders p q rules passes tells asked old files status new left
+      → seal.sockets old.sockets ≡ true → seal.sockets new.sockets ≡ true
+  does_all (job.Keep asked) bound seal old files status new left (ran, clock, apart, items) whole =
+      same_sockets seal old.sockets new.sockets (groups (reads_input asked) asked old files status new left bound ran) whole
+  does_all (job.Kept asked) bound seal old files status new left (ran, stays, same, rows) whole =
+      same_sockets seal old.sockets new.sockets same whole
+  does_all (job.Check asked) bound seal old files status new left (ran, files', stays, same) whole =
+      same_sockets seal old.sockets new.sockets same whole
+  does_all job.Replay bound seal old files status new left (ran, files', apart) whole =
+      runs passes tells job.Replay bound seal old status new ran whole
+  does_all (job.Rp said) bound seal old files status new left (ran, files', apart) whole =
+      runs passes tells (job.Rp said) bound seal old status new ran whole
+  does_all (job.Wp said) bound seal old files status new left (ran, files', apart) whole =
+      runs passes tells (job.Wp said) bound seal old status new ran whole
+  does_all (job.Log said) bound seal old files status new left (ran, files', apart) whole =
+      runs passes tells (job.Log said) bound seal old status new ran whole
+  does_all (job.Logs said) bound seal old files status new left (ran, files', apart) whole =
+      runs passes tells (job.Logs said) bound seal old status new ran whole
+  does_all (job.Wi said) bound seal old files status new left (ran, files', apart) whole =
+      runs passes tells (job.Wi said) bound seal old status new ran whole
+  does_all (job.Serve said) bound seal old files status new left is whole = absurd bound
+
+  pub sends_only : (asked : Job) → IsBound asked → (old : Streams S C) (files : DiskFiles F s) (status : ℕ)
+      (new : Streams S C) (left : DiskFiles F s)
+      → RunsAll g h parts waits folders p q switches rules passes tells asked old files status new left
+      → SendsOnly rules (Beside switches holds) (MaySend asked) old.sockets new.sockets
+  sends_only asked bound old files status new left (inl ((told, keeps, (input, same, clock)), files', apart)) =
+      λ seal whole. same_sockets seal old.sockets new.sockets same whole
+  sends_only asked bound old files status new left (inr (sockets, switches', is)) =
+      λ seal whole. does_all asked bound seal (streams old.input old.output old.errors sockets old.clock) files status new left is
+          (seal.changed old.sockets sockets whole (inl (is_traced asked, switches')))

@@ -1,0 +1,78 @@
+-- What `bac log` prints of a log is what came, each number once. Read `PrintsLog`.
+use Rattle.std.specs.Prelude.{◌≡◌, ◌⊎◌, ℕ, Bool, true, List, [], ◌∷◌, ◌++◌, Option, None, Some, Ok}
+use Rattle.std.specs.Io.KnownBytes.{Appends, Keeps}
+use Rattle.std.specs.List.{Contains}
+use Rattle.bac_link.specs.Heard.{AckParameters, heard_in}
+use Rattle.bac_link.specs.Laws.{CoversEach}
+use Rattle.bac_link.specs.declared.item.Item.{Item}
+use Rattle.bac_link.specs.declared.item.Item.TheVariants.{Gap, Logged}
+use Rattle.bac_log.specs.TrendLog.{sequence_number}
+use Rattle.bac_log.specs.declared.entry.Entry.{Entry}
+use Rattle.bac_ports.specs.Port.{Opening, Receiving, Sending}
+use Rattle.bac_ports.specs.Sockets.{SocketRules}
+use Rattle.bac_ports.specs.declared.port.Heard.{Heard}
+use Rattle.bac_print.specs.Output.{AppendsPart, Held}
+use Rattle.bac_query.specs.Ends.{end_line}
+use Rattle.bac_query.specs.Items.{items_text}
+use Rattle.bac_walk.specs.Walks.{shown_from}
+use Rattle.bac_walk.specs.declared.outcome.Why.{Why}
+use Rattle.bac_wire.specs.Primitive.{Id}
+use Rattle.bac_words.specs.declared.job.LogReading.{LogReading}
+
+-- ---- what came
+
+-- A ledger of sockets and of each port that they open, in which a datagram stands with its sender, or doesn't. What a
+-- port receives stands in its ledger from then on, and what stands there when it is closed in that of the sockets.
+pub record Ledger {S P : Type 0} (rules : SocketRules S P) (changes : S → S → Type 0) : Type 0 where
+  pub sockets : S → List ℕ → List ℕ → Bool
+  pub port : P → List ℕ → List ℕ → Bool
+  pub hears : (old new : P) (heard : Heard) (datagram : List ℕ) → heard.datagram ≡ Some datagram
+      → rules.receives old (Ok heard) new → port new heard.from datagram ≡ true
+  pub sends : (old new : P) (octets to : List ℕ) (answer : Sending) (from datagram : List ℕ)
+      → port old from datagram ≡ true → rules.sends old octets to answer new → port new from datagram ≡ true
+  pub receives : (old new : P) (answer : Receiving) (from datagram : List ℕ) → port old from datagram ≡ true
+      → rules.receives old answer new → port new from datagram ≡ true
+  pub closes : (old new : S) (last : P) (from datagram : List ℕ)
+      → (sockets old from datagram ≡ true) ⊎ (port last from datagram ≡ true) → rules.closes old last new
+      → sockets new from datagram ≡ true
+  pub opens : (old new : S) (address : List ℕ) (wait : ℕ) (answer : Opening P) (from datagram : List ℕ)
+      → sockets old from datagram ≡ true → rules.opens old address wait answer new → sockets new from datagram ≡ true
+  pub changed : (old new : S) (from datagram : List ℕ) → sockets old from datagram ≡ true → changes old new
+      → sockets new from datagram ≡ true
+
+-- a datagram came from this sender: whatever the ledger, it stands there
+abbrev pub CameFrom : {S P : Type 0} → SocketRules S P → (S → S → Type 0) → S → List ℕ → List ℕ → Type 0
+CameFrom rules changes sockets from datagram =
+    (ledger : Ledger rules changes) → ledger.sockets sockets from datagram ≡ true
+
+-- a datagram is an ACK of ReadRange for the records of this log, and has this record under this number
+abbrev pub HasRecord : Id → List ℕ → ℕ → Entry → Type 0
+HasRecord log datagram number entry = (said : AckParameters) × (heard_in log datagram ≡ Some said)
+    × (first : ℕ) × (said.first ≡ Some first) × Contains (shown_from first said.entries) (Logged number entry)
+
+-- ---- what is printed
+
+-- items begin at this ordinal: at the number of the words, or if they have none, at that of the first item
+abbrev pub BeginAt : Option ℕ → List Item → ℕ → Type 0
+BeginAt (Some number) items s = number ≡ sequence_number s
+BeginAt None [] s = 1 ≡ sequence_number s
+BeginAt None (Gap first before ∷ items) s = first ≡ sequence_number s
+BeginAt None (Logged number entry ∷ items) s = number ≡ sequence_number s
+
+-- from where they begin each number is in one of them, up to the next one
+abbrev pub HaveEachOnce : Option ℕ → List Item → ℕ → Type 0
+HaveEachOnce from items next =
+    (s : ℕ) → BeginAt from items s → (t : ℕ) × (next ≡ sequence_number t) × CoversEach s items t
+
+-- Nothing is printed; or a line for each of these items, and the line of the end, or a front part of that text, and
+-- all of it where the status is 0. Each number from where they begin is in one item, a record or a gap; and each record
+-- came in this run from the device of the words.
+abbrev pub PrintsLog : {S P : Type 0} → SocketRules S P → (S → S → Type 0) → S → LogReading → Held → Held → ℕ → Type 0
+PrintsLog rules changes sockets said before after status = Keeps before after
+    ⊎ ((items : List Item) × (why : Why) × (next : ℕ)
+    × AppendsPart before after (items_text items ++ end_line why next)
+    × (status ≡ 0 → Appends before after (items_text items ++ end_line why next))
+    × HaveEachOnce said.from items next
+    × ((number : ℕ) (entry : Entry) → Contains items (Logged number entry) → (datagram : List ℕ)
+    × CameFrom rules changes sockets said.asked.address datagram
+    × HasRecord (record { kind = 20; instance = said.instance }) datagram number entry))

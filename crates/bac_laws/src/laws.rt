@@ -1,0 +1,112 @@
+//! What whatever words never do.
+
+ghost use Rattle.std.specs.Prelude.{◌≡◌, false, map};
+ghost use Rattle.std.specs.String.{string_bytes};
+ghost use Rattle.bac_ports.specs.Sockets.{socket_rules};
+ghost use Rattle.bac_tools.specs.Run.{AskFor};
+ghost use Rattle.bac_words.specs.declared.job.Job.{Job as AnyJob};
+ghost use Rattle.bac_words.specs.declared.job.Job.TheVariants as job;
+ghost use Rattle.bac_words.specs.declared.job.LogReading.{LogReading as LogWords};
+ghost use Rattle.bac_run.specs.Run.{Leaves};
+ghost use Rattle.bac_laws.specs.Lost.{LosesNone};
+ghost use Rattle.bac_laws.specs.Printed.{PrintsLog};
+ghost use Rattle.bac_laws.specs.Sends.{Beside, IsBound, MaySend, SendsOnly};
+
+use bac_desks::Clock as WaitClock;
+use bac_files::FileOf;
+use bac_recall::Recalls;
+use bac_run::{Console, Machine, Parts, run};
+use bac_tools::Clock;
+use bac_trace::Tracing;
+use sqlite::Start;
+use sqlite_disk::Disk;
+use std::alloc::Global;
+use std::io::{Read, Write};
+
+/// Whatever the words, and whatever comes of it: of an archive that the files held nothing is lost.
+pub fn loses_none<
+    S: Tracing + Recalls,
+    F: Start,
+    G: Start,
+    Q: Parts,
+    I: Read,
+    O: Write,
+    E: Write,
+    C: Clock,
+    W: WaitClock + Copy,
+>(
+    machine: &mut Machine<'_, S, F, G, Q, C>,
+    console: &mut Console<I, O, E>,
+    alloc: Global,
+    waits: W,
+    words: &[String],
+    counts: bool,
+) -> u8
+where
+    W: Drop,
+    ensures { Leaves ⟦<FileOf<F> as Disk>⟧ LosesNone machine.old.files machine.new.files }
+{
+    run(machine, console, alloc, waits, words, counts)
+}
+
+/// Each tool sends only what it may, and only to whom it may. Words that ask for no tool send
+/// nothing.
+pub fn sends_only<
+    S: Tracing + Recalls,
+    F: Start,
+    G: Start,
+    Q: Parts,
+    I: Read,
+    O: Write,
+    E: Write,
+    C: Clock,
+    W: WaitClock + Copy,
+>(
+    machine: &mut Machine<'_, S, F, G, Q, C>,
+    console: &mut Console<I, O, E>,
+    alloc: Global,
+    waits: W,
+    words: &[String],
+    counts: bool,
+) -> u8
+where
+    W: Drop,
+    ensures sends { (asked : AnyJob) → AskFor (map string_bytes words.now) asked → IsBound asked
+        → SendsOnly (socket_rules S.opens S.closes S.Socket.sends S.Socket.receives
+        S.Socket.receives_within) (Beside S.traces S.holds) (MaySend asked) machine.old.sockets
+        machine.new.sockets }
+    ensures silent { ((asked : AnyJob) → AskFor (map string_bytes words.now) asked → ⊥)
+        → machine.new.sockets ≡ machine.old.sockets }
+{
+    run(machine, console, alloc, waits, words, counts)
+}
+
+/// `log` prints in lines what came in this run from the device of its words, each number once.
+pub fn log_prints_what_came<
+    S: Tracing + Recalls,
+    F: Start,
+    G: Start,
+    Q: Parts,
+    I: Read,
+    O: Write,
+    E: Write,
+    C: Clock,
+    W: WaitClock + Copy,
+>(
+    machine: &mut Machine<'_, S, F, G, Q, C>,
+    console: &mut Console<I, O, E>,
+    alloc: Global,
+    waits: W,
+    words: &[String],
+    counts: bool,
+) -> u8
+where
+    W: Drop,
+    ensures { (said : LogWords) → AskFor (map string_bytes words.now) (job.Log said)
+        → said.csv ≡ false
+        → PrintsLog (socket_rules S.opens S.closes S.Socket.sends S.Socket.receives
+        S.Socket.receives_within) (Beside S.traces S.holds) machine.new.sockets said
+        (O.contents console.old.output) (O.contents console.new.output) result }
+{
+    run(machine, console, alloc, waits, words, counts)
+}

@@ -1,0 +1,6 @@
+mod Fits
+mod Heard
+mod Wholes
+mod Rules
+mod Once
+mod Saids

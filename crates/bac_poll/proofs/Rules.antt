@@ -1,0 +1,432 @@
+-- What turns bring: the rule, section by section.
+use Rattle.std.proofs.Common.{is_some, ◌≡◌, ℕ, ◌==◌, ◌&&◌, not, Bool, true, false, if◌then◌else◌, nat_lt, Option, None, Some, List, [], ◌∷◌, ◌++◌, length, map, refl, sym, ap, subst, ◌∙◌}
+use Rattle.std.proofs.lemmas.Bool.{eq-eqb, eqb-true, and_parts}
+use Rattle.bac_link.specs.Ordinals.{is_ahead, number_after}
+use Rattle.bac_link.specs.declared.item.Item.TheVariants.{Gap}
+use Rattle.bac_walk.specs.Walks.{item_of}
+use Rattle.bac_walk.specs.declared.batch.Numbered.{Numbered}
+use Rattle.bac_poll.specs.Back.{back, back_alone, back_by, back_done, back_lost, back_more, back_shown, is_front, shown_last}
+use Rattle.bac_poll.specs.Epochs.{another, another_by, another_of, asks_back, asks_oldest, brings_behind, renews, renews_none}
+use Rattle.bac_poll.specs.Gone.{asks_restart, asks_revision, asks_word, by_gone, by_word, doubt, retold}
+use Rattle.bac_poll.specs.Joins.{again, again_by, again_equal, again_from, ahead, asks_again, asks_each, at_hour, brings_ahead, each, each_all, each_by, each_means, each_next, goes_nowhere, joined, joins, joins_by, joins_from, lost, lost_ahead, prior}
+use Rattle.bac_poll.specs.Known.{means_in, number_in, record_at, records_behind, shown_in, word_of}
+use Rattle.bac_poll.specs.Laws.{EndAt, Goes, TellsFront, IsAimed, IsAt, IsBefore, IsEach, IsFront, IsFrontOf, IsRun, IsTold}
+use Rattle.bac_poll.specs.Oldest.{counted, drops, is_first, logged, sees, sees_by, sees_newest, sees_none, sees_same}
+use Rattle.bac_poll.specs.Starts.{beginning, is_doubted, starts, starts_at, starts_behind, starts_by, starts_from, starts_here}
+use Rattle.bac_poll.specs.State.{KeptAs, PollState, Reply, kept_of}
+use Rattle.bac_poll.specs.Turns.{Turned, anew, asks, brings, confirmed, end_of, first_in, first_number, gap_up_to, last_in, number_before, renewed, standing_at, standing_on}
+use Rattle.bac_poll.specs.declared.gone.Gone.{Gone}
+use Rattle.bac_poll.specs.declared.gone.Gone.TheVariants.{Dropped, Doubtful, Both}
+use Rattle.bac_poll.specs.declared.known.Means.{Means}
+use Rattle.bac_poll.specs.declared.known.Means.TheVariants.{Shifted, Partly, Same, Unshown, Another}
+use Rattle.bac_poll.specs.declared.known.Shown.{Shown}
+use Rattle.bac_poll.specs.declared.known.Shown.TheVariants as shown
+use Rattle.bac_poll.specs.declared.stage.Aim.{Aim}
+use Rattle.bac_poll.specs.declared.stage.Aim.TheVariants.{Finds, Renews, Starts}
+use Rattle.bac_poll.specs.declared.stage.Stage.TheVariants.{Oldest, Back}
+use Rattle.bac_poll.specs.declared.stage.Stage.TheVariants as stage
+use Rattle.bac_poll.specs.declared.turn.Line.TheVariants as line
+use Rattle.bac_poll.specs.declared.turn.PollEnd.TheVariants.{CaughtUp, Contradicts, ShowsNone}
+use Rattle.bac_poll.proofs.Wholes.{gap_ends, brings_by, brings_goes, ends_goes, found_number, gap_alone, gap_front, run_behind, run_ends, run_or, split}
+
+module _ (P : Numbered → Type 0) (F : ℕ → Type 0) where
+  -- records are a run, in front of which a gap may end
+  abbrev FrontRun : PollState → List Numbered → Type 0
+  FrontRun p rs = IsRun P (first_number rs) rs × IsFrontOf F p rs
+
+  -- ---- 6. new epochs
+
+  pub oldest_goes : (p : PollState) (aim : Aim) → IsBefore p.newest p.next → IsAimed p aim × IsTold F p aim → Goes P F p.next (asks_oldest p aim)
+  oldest_goes p aim known aimed = (record { mid = p.next; before = refl; behind = refl; fronts = λ sure. (tt, tt) }, λ none. (known, aimed))
+
+  pub back_goes : (p : PollState) (aim : Aim) (rs : List Numbered) → IsBefore p.newest p.next → IsAimed p aim → FrontRun p rs →
+      Goes P F p.next (asks_back p aim rs)
+  back_goes p aim rs known aimed run = (record { mid = p.next; before = refl; behind = refl; fronts = λ sure. (tt, tt) }, λ none. (known, (aimed_of aim aimed, run.0, run.1)))
+    where
+      aimed_of : (aim : Aim) → IsAimed p aim → IsAimed (record p { stage = Back aim; reference = first_number rs; held = rs }) aim
+      aimed_of Finds aimed = tt
+      aimed_of Renews aimed = aimed
+      aimed_of Starts aimed = aimed
+
+  pub another_goes : (p : PollState) → Goes P F p.next (another p)
+  another_goes p =
+      split P F (Goes P F p.next) (p.lives == 2) _ _ (λ third. ends_goes P F p Contradicts)
+      (λ more. (record { mid = p.next; before = refl; behind = refl; fronts = λ sure. (tt, tt) }, λ none. (tt, (refl, tt))))
+
+  -- an epoch has begun, and these are the oldest that are held
+  pub renews_goes : (p : PollState) (rs : List Numbered) → IsBefore p.newest p.next → p.next ≡ 1 → FrontRun p rs → Goes P F p.next (renews p rs)
+  renews_goes p rs known one run =
+      split P F (Goes P F p.next) (first_number rs == 1) _ _
+      (λ first. brings_goes P F p rs (subst (λ k. IsRun P k rs) (eqb-true (first_number rs) 1 first ∙ sym one) run.0))
+      (λ later. back_goes p Renews rs known one run)
+
+  pub another_by_goes : (p : PollState) (rs : List Numbered) → FrontRun p rs → Goes P F p.next (another_by p rs)
+  another_by_goes p rs run =
+      let q = renewed p p.told in
+      split P F (Goes P F p.next) (p.lives == 2) _ _ (λ third. ends_goes P F p Contradicts)
+      (λ more. split P F (λ t. Goes P F p.next (anew t line.BeganAnew)) (first_number rs == 1) _ _
+      (λ first. brings_by P F (λ t. Goes P F p.next (anew t line.BeganAnew)) q 1 rs (subst (λ k. IsRun P k rs) (eqb-true (first_number rs) 1 first) run.0)
+      (λ empty. (record { mid = p.next; before = refl; behind = refl; fronts = λ sure. (tt, tt) }, λ none. absurd (cc)))
+      (λ l cov. (record { mid = p.next; before = refl; behind = cov; fronts = λ sure. (tt, tt) }, λ none. (refl, tt))))
+      (λ later. (record { mid = p.next; before = refl; behind = refl; fronts = λ sure. (tt, tt) }, λ none. (tt, (refl, run.0, run.1)))))
+
+  pub renews_none_goes : (p : PollState) (total : ℕ) → F (number_after total 1) → Goes P F p.next (renews_none p total)
+  renews_none_goes p total front =
+      (record { mid = number_after total 1; before = gap_alone P F p.next (number_after total 1); behind = refl; fronts = λ sure. (gap_ends P F p.next (number_after total 1) front, tt) }, λ none. absurd (cc))
+
+  pub another_of_goes : (p : PollState) (total : ℕ) → F (number_after total 1) → Goes P F p.next (another_of p total)
+  another_of_goes p total front = (
+    record {
+      mid = p.next;
+      before = refl;
+      behind = gap_front P F 1 (number_after total 1) [] (number_after total 1) refl;
+      fronts = λ sure. (tt, gap_ends P F 1 (number_after total 1) front);
+    },
+    λ none. absurd (cc),
+  )
+
+  -- records behind a gap from where the log stands
+  pub gap_brings : (n : ℕ) (q : PollState) (rs : List Numbered) → IsRun P q.next rs → F q.next → Goes P F n (record (brings q rs) { missing = gap_up_to n q.next })
+  gap_brings n q rs run front =
+      brings_by P F (λ t. Goes P F n (record t { missing = gap_up_to n q.next })) q q.next rs run
+      (λ empty. (record { mid = q.next; before = gap_alone P F n q.next; behind = refl; fronts = λ sure. (gap_ends P F n q.next front, tt) }, λ none. absurd (cc)))
+      (λ l cov. (record { mid = q.next; before = gap_alone P F n q.next; behind = cov; fronts = λ sure. (gap_ends P F n q.next front, tt) }, λ none. (refl, tt)))
+
+  same_ends : (a : ℕ) → EndAt F (gap_up_to a a)
+  same_ends a = subst (λ (c : Bool). EndAt F (if c then [] else Gap a a ∷ [])) (sym (eq-eqb a a refl)) tt
+
+  pub behind_goes : (p : PollState) (rs : List Numbered) → FrontRun p rs → Goes P F p.next (brings_behind p rs)
+  behind_goes p [] run = (record { mid = p.next; before = gap_alone P F p.next p.next; behind = refl; fronts = λ sure. (same_ends p.next, tt) }, λ none. absurd (cc))
+  behind_goes p (r ∷ rs) run =
+      brings_by P F (λ t. Goes P F p.next (record t { missing = gap_up_to p.next r.number })) p r.number (r ∷ rs) run.0
+      (λ empty. absurd (cc))
+      (λ l cov. (record { mid = r.number; before = gap_alone P F p.next r.number; behind = cov; fronts = λ sure. (gap_ends P F p.next r.number run.1, tt) }, λ none. (refl, tt)))
+
+  -- ---- 4. dropped, or another life
+
+  by_gone_goes : (p : PollState) (first : ℕ) (held : List Numbered) (gone : Gone) → IsRun P first held → F first → Goes P F p.next (by_gone p first held gone)
+  by_gone_goes p first held Dropped run front = gap_brings p.next (standing_at (confirmed (retold p)) first) held run front
+  by_gone_goes p first held Doubtful run front =
+      let q = confirmed (retold p) in
+      brings_by P F (λ t. Goes P F p.next (record t { missing = gap_up_to p.next first; doubtful = true; line = doubt q first })) (standing_at q first) first held run
+      (λ empty. (record { mid = first; before = gap_alone P F p.next first; behind = refl; fronts = λ sure. absurd (cc) }, λ none. absurd (cc)))
+      (λ l cov. (record { mid = first; before = gap_alone P F p.next first; behind = cov; fronts = λ sure. absurd (cc) }, λ none. (refl, tt)))
+  by_gone_goes p first held Both run front =
+      let q = standing_at (renewed (retold p) p.told) first in
+      brings_by P F (λ t. Goes P F p.next (record (anew t line.BeganOrDropped) { missing = gap_up_to p.next first; gap = gap_up_to 1 first })) q first held run
+      (λ empty. (record { mid = first; before = gap_alone P F p.next first; behind = gap_front P F 1 first [] first refl; fronts = λ sure. (gap_ends P F p.next first front, gap_ends P F 1 first front) }, λ none. absurd (cc)))
+      (λ l cov. (record { mid = first; before = gap_alone P F p.next first; behind = gap_front P F 1 first (map item_of held) _ cov; fronts = λ sure. (gap_ends P F p.next first front, gap_ends P F 1 first front) }, λ none. (refl, tt)))
+
+  pub by_word_goes : (p : PollState) (held : List Numbered) → FrontRun p held → Goes P F p.next (by_word p held)
+  by_word_goes p held run = by_gone_goes p _ held _ (run_or P F (number_after p.total 1) held run.0) run.1
+
+  pub restart_goes : (p : PollState) (held : List Numbered) (restart : List ℕ) → IsBefore p.newest p.next → FrontRun p held →
+      Goes P F p.next (asks_restart p held restart)
+  restart_goes p held [] known run = by_word_goes p held run
+  restart_goes p held (octet ∷ octets) known run = (record { mid = p.next; before = refl; behind = refl; fronts = λ sure. (tt, tt) }, λ none. (known, run))
+
+  revision_goes : (p : PollState) (held : List Numbered) (revision : Option ℕ) → IsBefore p.newest p.next → FrontRun p held →
+      Goes P F p.next (asks_revision p held revision)
+  revision_goes p held None known run = restart_goes p held p.word.restart known run
+  revision_goes p held (Some was) known run = (record { mid = p.next; before = refl; behind = refl; fronts = λ sure. (tt, tt) }, λ none. (known, run))
+
+  pub word_goes : (p : PollState) (held : List Numbered) → IsBefore p.newest p.next → FrontRun p held → Goes P F p.next (asks_word p held)
+  word_goes p held known run = revision_goes (record p { again = p.told }) held p.word.revision known run
+
+  -- ---- 1. each question shows the record before it
+
+  each_asks : (p : PollState) (held : List Numbered) (number : Option ℕ) → IsBefore p.newest p.next →
+      ((n : ℕ) → number ≡ Some n → IsAt P F (record p { reference = n; held = held }) stage.Each) → Goes P F p.next (asks_each p held number)
+  each_asks p held None known at = another_goes p
+  each_asks p held (Some n) known at = (record { mid = p.next; before = refl; behind = refl; fronts = λ sure. (tt, tt) }, λ none. (known, at n refl))
+
+  pub each_begins : (p : PollState) (newest : Option KeptAs) → p.newest ≡ newest → IsBefore newest p.next → IsBefore p.newest p.next →
+      Goes P F p.next (asks_each p [] (number_in newest))
+  each_begins p None is here known = another_goes p
+  each_begins p (Some kept) is here known = (record { mid = p.next; before = refl; behind = refl; fronts = λ sure. (tt, tt) }, λ none. (known, here))
+
+  nowhere_goes : (p : PollState) (done alone : Bool) (held : Numbered) → p.next ≡ number_after held.number 1 → IsBefore p.newest p.next →
+      Goes P F p.next (goes_nowhere p done alone held)
+  nowhere_goes p done alone held here known =
+      split P F (Goes P F p.next) done _ _ (λ last. ends_goes P F p CaughtUp)
+      (λ more. split P F (Goes P F p.next) alone _ _
+      (λ one. (record { mid = p.next; before = refl; behind = refl; fronts = λ sure. (tt, tt) }, λ none. (here, tt)))
+      (λ some. (record { mid = p.next; before = refl; behind = refl; fronts = λ sure. (tt, tt) }, λ none. (here, tt))))
+
+  joined_goes : (p : PollState) (kept : KeptAs) (reply : Reply) (n : ℕ) (found : Option Numbered) → record_at kept.number reply.records ≡ found →
+      IsRun P n reply.records → p.next ≡ number_after kept.number 1 → IsBefore p.newest p.next → Goes P F p.next (joined p kept reply found)
+  joined_goes p kept reply n None is run here known = (record { mid = p.next; before = refl; behind = refl; fronts = λ sure. (tt, tt) }, λ none. (known, tt))
+  joined_goes p kept reply n (Some held) is run here known =
+      let same : held.number ≡ kept.number = found_number P F kept.number reply.records held is in
+      let behind : IsRun P p.next (records_behind kept.number reply.records) =
+      subst (λ k. IsRun P k (records_behind kept.number reply.records)) (sym here) (run_behind P F kept.number n reply.records run) in
+      split P F (Goes P F p.next) (length (records_behind kept.number reply.records) == 0) _ _
+      (λ none. nowhere_goes (confirmed p) _ _ held (here ∙ ap (λ (k : ℕ). number_after k 1) (sym same)) known)
+      (λ some. brings_goes P F (confirmed p) (records_behind kept.number reply.records) behind)
+
+  from_goes : (p : PollState) (reply : Reply) (n : ℕ) (newest : Option KeptAs) → p.newest ≡ newest → IsBefore newest p.next → IsBefore p.newest p.next →
+      IsRun P n reply.records → Goes P F p.next (joins_from p reply newest)
+  from_goes p reply n None is here known run = oldest_goes p Finds known (tt, tt)
+  from_goes p reply n (Some kept) is here known run = joined_goes p kept reply n _ refl run here known
+
+  pub hour_goes : (n by : ℕ) (t : Turned) → Goes P F n t → Goes P F n (at_hour by t)
+  hour_goes n by t goes = split P F (Goes P F n) (by == 100) _ _ (λ same. goes) (λ moved. (record { mid = goes.0.mid; before = goes.0.before; behind = goes.0.behind; fronts = goes.0.fronts }, goes.1))
+
+  joins_by_goes : (p : PollState) (reply : Reply) (n : ℕ) (means : Means) → IsBefore p.newest p.next → IsRun P n reply.records → Goes P F p.next (joins_by p reply means)
+  joins_by_goes p reply n Unshown known run = oldest_goes p Finds known (tt, tt)
+  joins_by_goes p reply n Same known run = from_goes p reply n p.newest refl known known run
+  joins_by_goes p reply n (Shifted by) known run = hour_goes p.next by _ (from_goes p reply n p.newest refl known known run)
+  joins_by_goes p reply n Partly known run = each_begins p p.newest refl known known
+  joins_by_goes p reply n Another known run = another_goes p
+
+  pub joins_goes : (p : PollState) (reply : Reply) (n : ℕ) → IsBefore p.newest p.next → IsRun P n reply.records → Goes P F p.next (joins p reply)
+  joins_goes p reply n known run = joins_by_goes p reply n (means_in p reply.records) known run
+
+  pub prior_goes : (p : PollState) (records : List Numbered) → IsBefore p.newest p.next → Goes P F p.next (prior p records)
+  prior_goes p records known =
+      split P F (Goes P F p.next) (first_number records == p.reference) _ _ (λ there. another_goes p) (λ gone. oldest_goes p Finds known (tt, tt))
+
+  again_asks : (p : PollState) (held : List Numbered) (number : Option ℕ) → IsBefore p.newest p.next → IsRun P p.next held → Goes P F p.next (asks_again p held number)
+  again_asks p held None known run = oldest_goes p Finds known (tt, tt)
+  again_asks p held (Some n) known run = (record { mid = p.next; before = refl; behind = refl; fronts = λ sure. (tt, tt) }, λ none. (known, run))
+
+  pub ahead_goes : (p : PollState) (records : List Numbered) → IsBefore p.newest p.next → IsRun P (first_number records) records → Goes P F p.next (ahead p records)
+  ahead_goes p records known run =
+      split P F (Goes P F p.next) (length records == 0) _ _
+      (λ none. split P F (Goes P F p.next) p.more _ _ (λ more. again_asks p [] (number_in p.newest) known tt) (λ done. ends_goes P F p CaughtUp))
+      (λ some. split P F (Goes P F p.next) (first_number records == p.next) _ _
+      (λ here. again_asks p records (number_in p.newest) known (subst (λ k. IsRun P k records) (eqb-true (first_number records) p.next here) run))
+      (λ other. oldest_goes p Finds known (tt, tt)))
+
+  lost_goes : (p : PollState) (seen : Shown) → IsBefore p.newest p.next → Goes P F p.next (lost p seen)
+  lost_goes p shown.Unshown known = oldest_goes p Finds known (tt, tt)
+  lost_goes p shown.Equal known = oldest_goes p Finds known (tt, tt)
+  lost_goes p (shown.Moved by) known = another_goes p
+  lost_goes p shown.Another known = another_goes p
+
+  -- the same in a turn with a gap, from which it goes on
+  gap_another : (n : ℕ) (q : PollState) → Goes P F n (record (another q) { missing = gap_up_to n q.next; doubtful = true })
+  gap_another n q =
+      split P F (λ t. Goes P F n (record t { missing = gap_up_to n q.next; doubtful = true })) (q.lives == 2) _ _
+      (λ third. (record { mid = q.next; before = gap_alone P F n q.next; behind = refl; fronts = λ sure. absurd (cc) }, λ none. absurd (cc)))
+      (λ more. (record { mid = q.next; before = gap_alone P F n q.next; behind = refl; fronts = λ sure. absurd (cc) }, λ none. (tt, (refl, tt))))
+
+  gap_lost : (n : ℕ) (q : PollState) (seen : Shown) → IsBefore q.newest q.next → Goes P F n (record (lost q seen) { missing = gap_up_to n q.next; doubtful = true })
+  gap_lost n q shown.Unshown known = (record { mid = q.next; before = gap_alone P F n q.next; behind = refl; fronts = λ sure. absurd (cc) }, λ none. (known, (tt, tt)))
+  gap_lost n q shown.Equal known = (record { mid = q.next; before = gap_alone P F n q.next; behind = refl; fronts = λ sure. absurd (cc) }, λ none. (known, (tt, tt)))
+  gap_lost n q (shown.Moved by) known = gap_another n q
+  gap_lost n q shown.Another known = gap_another n q
+
+  lost_ahead_goes : (p : PollState) (seen : Shown) (last : Option Numbered) → IsBefore p.newest p.next → Goes P F p.next (lost_ahead p seen last)
+  lost_ahead_goes p seen None known = lost_goes p seen known
+  lost_ahead_goes p seen (Some last) known = gap_lost p.next (standing_at p (number_after last.number 1)) seen tt
+
+  ahead_brings : (p : PollState) (held : List Numbered) → IsRun P p.next held → Goes P F p.next (brings_ahead p held (last_in held))
+  ahead_brings p [] run = ends_goes P F p (end_of p)
+  ahead_brings p (r ∷ rs) run =
+      let e = run_ends P F p.next r rs run in
+      let Q : Option Numbered → Type 0 = λ last. Goes P F p.next (brings_ahead p (r ∷ rs) last) in
+      subst Q (sym e.1) (record { mid = p.next; before = refl; behind = e.2; fronts = λ sure. (tt, tt) }, λ none. (refl, tt))
+
+  equal_goes : (p : PollState) (held : List Numbered) (kept : KeptAs) (n : ℕ) (records : List Numbered) → p.next ≡ number_after kept.number 1 →
+      IsRun P p.next held → IsRun P n records → Goes P F p.next (again_equal p held kept records)
+  equal_goes p held kept n records here ahead run =
+      let behind : IsRun P p.next (records_behind kept.number records) =
+      subst (λ k. IsRun P k (records_behind kept.number records)) (sym here) (run_behind P F kept.number n records run) in
+      split P F (Goes P F p.next) (length held == 0) _ _ (λ none. brings_goes P F p (records_behind kept.number records) behind)
+      (λ some. split P F (Goes P F p.next) (length records == 1) _ _ (λ alone. ahead_brings p held ahead) (λ more. brings_goes P F p held ahead))
+
+  again_by_goes : (p : PollState) (held : List Numbered) (kept : KeptAs) (n : ℕ) (records : List Numbered) (seen : Shown) →
+      p.next ≡ number_after kept.number 1 → IsBefore p.newest p.next → IsRun P p.next held → IsRun P n records → Goes P F p.next (again_by p held kept records seen)
+  again_by_goes p held kept n records shown.Equal here known ahead run = equal_goes p held kept n records here ahead run
+  again_by_goes p held kept n records shown.Unshown here known ahead run = lost_ahead_goes p shown.Unshown (last_in held) known
+  again_by_goes p held kept n records (shown.Moved by) here known ahead run = lost_ahead_goes p (shown.Moved by) (last_in held) known
+  again_by_goes p held kept n records shown.Another here known ahead run = lost_ahead_goes p shown.Another (last_in held) known
+
+  again_from_goes : (p : PollState) (held : List Numbered) (n : ℕ) (records : List Numbered) (newest : Option KeptAs) → IsBefore newest p.next →
+      IsBefore p.newest p.next → IsRun P p.next held → IsRun P n records → Goes P F p.next (again_from p held records newest)
+  again_from_goes p held n records None here known ahead run = oldest_goes p Finds known (tt, tt)
+  again_from_goes p held n records (Some kept) here known ahead run =
+      again_by_goes p held kept n records (shown_in (Some kept) records) here known ahead run
+
+  pub again_goes : (p : PollState) (held : List Numbered) (n : ℕ) (records : List Numbered) → IsBefore p.newest p.next → IsRun P p.next held →
+      IsRun P n records → Goes P F p.next (again p held records)
+  again_goes p held n records known ahead run = again_from_goes p held n records p.newest known known ahead run
+
+  each_means_goes : (p : PollState) (held : Numbered) (means : Means) → p.next ≡ number_after held.number 1 → Goes P F p.next (each_means p held means)
+  each_means_goes p held Same here = (record { mid = p.next; before = refl; behind = refl; fronts = λ sure. (tt, tt) }, λ none. (here, tt))
+  each_means_goes p held (Shifted by) here =
+      hour_goes p.next by (asks (standing_on p (kept_of held))) (record { mid = p.next; before = refl; behind = refl; fronts = λ sure. (tt, tt) }, λ none. (here, tt))
+  each_means_goes p held Unshown here = another_goes p
+  each_means_goes p held Partly here = another_goes p
+  each_means_goes p held Another here = another_goes p
+
+  each_all_goes : (p : PollState) (held : List Numbered) (first : Option Numbered) → first_in held ≡ first →
+      ((a : Numbered) → first ≡ Some a → p.next ≡ number_after a.number 1) → Goes P F p.next (each_all p held first)
+  each_all_goes p held None is here = another_goes p
+  each_all_goes p held (Some a) is here = each_means_goes p a (means_in p held) (here a refl)
+
+  -- at least one was shown
+  each_next_goes : (p : PollState) (a : Numbered) (others : List Numbered) → IsBefore p.newest p.next → p.next ≡ number_after a.number 1 →
+      Goes P F p.next (each_next p (a ∷ others))
+  each_next_goes p a others known here =
+      split P F (Goes P F p.next) (length (a ∷ others) == 1) _ _ (λ one. each_asks p (a ∷ others) (number_in p.earlier) known (λ n is. here))
+      (λ more. split P F (Goes P F p.next) (length (a ∷ others) == 2) _ _
+      (λ two. each_asks p (a ∷ others) (number_in p.earliest) known (λ n is. here))
+      (λ three. each_means_goes p a (means_in p (a ∷ others)) here))
+
+  each_shown : (p : PollState) (held : List Numbered) (shown : Numbered) → IsBefore p.newest p.next → IsEach p.reference p.next held →
+      shown.number ≡ p.reference → Goes P F p.next (each_next p (held ++ shown ∷ []))
+  each_shown p [] shown known at same = each_next_goes p shown [] known (at ∙ ap (λ (k : ℕ). number_after k 1) (sym same))
+  each_shown p (a ∷ others) shown known at same = each_next_goes p a (others ++ shown ∷ []) known at
+
+  each_by_goes : (p : PollState) (held : List Numbered) (first : Option Numbered) → IsBefore p.newest p.next → IsEach p.reference p.next held →
+      Goes P F p.next (each_by p held first)
+  each_by_goes p held None known at = another_goes p
+  each_by_goes p held (Some shown) known at =
+      split P F (Goes P F p.next) ((shown.number == p.reference) && nat_lt (length held) 3) _ _
+      (λ asked. each_shown p held shown known at (eqb-true shown.number p.reference (and_parts _ _ asked).0)) (λ other. another_goes p)
+
+  pub each_goes : (p : PollState) (held records : List Numbered) → IsBefore p.newest p.next → IsEach p.reference p.next held → Goes P F p.next (each p held records)
+  each_goes p held records known at = each_by_goes p held (first_in records) known at
+
+  -- ---- 2. the oldest records
+
+  drops_goes : (p : PollState) (back : Bool) (records : List Numbered) → IsBefore p.newest p.next → FrontRun p records →
+      Goes P F p.next (drops p back records)
+  drops_goes p back records known run =
+      split P F (Goes P F p.next) (back && not (is_first p (first_number records))) _ _ (λ look. back_goes p Finds records known tt run)
+      (λ front. word_goes p records known run)
+
+  sees_none_goes : (p : PollState) (back : Bool) (records : List Numbered) → IsBefore p.newest p.next → FrontRun p records →
+      Goes P F p.next (sees_none p back records)
+  sees_none_goes p back records known run =
+      split P F (Goes P F p.next) (is_ahead p.next (first_number records)) _ _ (λ behind. drops_goes p back records known run)
+      (λ before. another_by_goes p records run)
+
+  sees_newest_goes : (p : PollState) (kept : KeptAs) (records : List Numbered) (found : Option Numbered) → p.next ≡ number_after kept.number 1 → IsBefore p.newest p.next →
+      FrontRun p records → Goes P F p.next (sees_newest p kept records found)
+  sees_newest_goes p kept records None here known run =
+      (record { mid = p.next; before = refl; behind = refl; fronts = λ sure. (tt, tt) }, λ none. (known, tt))
+  sees_newest_goes p kept records (Some held) here known run =
+      let behind : IsRun P p.next (records_behind kept.number records) =
+      subst (λ k. IsRun P k (records_behind kept.number records)) (sym here) (run_behind P F kept.number (first_number records) records run.0) in
+      split P F (Goes P F p.next) ((length (records_behind kept.number records) == 0) && is_some p.earlier) _ _
+      (λ none. (record { mid = p.next; before = refl; behind = refl; fronts = λ sure. (tt, tt) }, λ none. (known, tt)))
+      (λ some. brings_goes P F (confirmed p) (records_behind kept.number records) behind)
+
+  sees_same_goes : (p : PollState) (records : List Numbered) (newest : Option KeptAs) → IsBefore newest p.next → IsBefore p.newest p.next → FrontRun p records →
+      Goes P F p.next (sees_same p records newest)
+  sees_same_goes p records None here known run = another_by_goes p records run
+  sees_same_goes p records (Some kept) here known run = sees_newest_goes p kept records (record_at kept.number records) here known run
+
+  sees_by_goes : (p : PollState) (back : Bool) (records : List Numbered) (means : Means) → IsBefore p.newest p.next → FrontRun p records →
+      Goes P F p.next (sees_by p back records means)
+  sees_by_goes p back records Unshown known run = sees_none_goes p back records known run
+  sees_by_goes p back records Same known run = sees_same_goes p records p.newest known known run
+  sees_by_goes p back records (Shifted by) known run = hour_goes p.next by _ (sees_same_goes p records p.newest known known run)
+  sees_by_goes p back records Partly known run = each_begins p p.newest refl known known
+  sees_by_goes p back records Another known run = another_by_goes p records run
+
+  pub sees_goes : (p : PollState) (back : Bool) (records : List Numbered) → IsBefore p.newest p.next → FrontRun p records →
+      Goes P F p.next (sees p back records)
+  sees_goes p back records known run = sees_by_goes p back records (means_in p records) known run
+
+  -- ---- 3. the count
+
+  pub counted_goes : (p : PollState) (count : Option ℕ) → IsBefore p.newest p.next → TellsFront F count → Goes P F p.next (counted p count)
+  counted_goes p None known front = ends_goes P F p ShowsNone
+  counted_goes p (Some total) known front =
+      split P F (Goes P F p.next) (total == logged p) _ _ (λ same. ends_goes P F (confirmed p) CaughtUp)
+      (λ other. split P F (Goes P F p.next) (nat_lt 0 total && is_ahead p.next total) _ _
+      (λ behind. (record { mid = p.next; before = refl; behind = refl; fronts = λ sure. (tt, tt) }, λ none. (known, (tt, front)))) (λ before. another_of_goes p total front))
+
+  -- ---- 5. a first run
+
+  starts_here_goes : (p : PollState) (first : ℕ) (held : List Numbered) → IsRun P first held → Goes P F p.next (starts_here p first held)
+  starts_here_goes p first held run =
+      brings_by P F (λ t. Goes P F p.next (record t { begins = beginning first false })) (standing_at (confirmed p) first) first held run
+      (λ empty. (record { mid = first; before = refl; behind = refl; fronts = λ sure. (tt, tt) }, λ none. absurd (cc)))
+      (λ l cov. (record { mid = first; before = refl; behind = cov; fronts = λ sure. (tt, tt) }, λ none. (refl, tt)))
+
+  starts_behind_goes : (p : PollState) (begins first : ℕ) (held : List Numbered) → IsRun P first held → F first → Goes P F p.next (starts_behind p begins first held)
+  starts_behind_goes p begins first held run front =
+      brings_by P F (λ t. Goes P F p.next (record t { begins = beginning begins false; missing = gap_up_to begins first; doubtful = is_doubted p (word_of p.word p.told) }))
+      (standing_at (confirmed p) first) first held run
+      (λ empty. (record { mid = first; before = gap_alone P F begins first; behind = refl; fronts = λ sure. (gap_ends P F begins first front, tt) }, λ none. absurd (cc)))
+      (λ l cov. (record { mid = first; before = gap_alone P F begins first; behind = cov; fronts = λ sure. (gap_ends P F begins first front, tt) }, λ none. (refl, tt)))
+
+  starts_at_goes : (p : PollState) (first : ℕ) (held : List Numbered) (begins : Option ℕ) → IsRun P first held → F first → Goes P F p.next (starts_at p first held begins)
+  starts_at_goes p first held None run front = starts_here_goes p first held run
+  starts_at_goes p first held (Some begins) run front =
+      split P F (Goes P F p.next) (is_ahead begins first) _ _ (λ behind. starts_behind_goes p begins first held run front) (λ before. starts_here_goes p first held run)
+
+  pub starts_goes : (p : PollState) (held : List Numbered) → FrontRun p held → Goes P F p.next (starts p held)
+  starts_goes p held run = starts_at_goes p _ held p.counted (run_or P F (number_after p.total 1) held run.0) run.1
+
+  -- a poll that goes on with another number
+  moved_goes : (n m : ℕ) (t : Turned) → n ≡ m → Goes P F m t → Goes P F n t
+  moved_goes n m t same goes = subst (λ (k : ℕ). Goes P F k t) (sym same) goes
+
+  pub starts_by_goes : (p : PollState) (records : List Numbered) → p.next ≡ 1 → FrontRun p records → Goes P F p.next (starts_by p records)
+  starts_by_goes p records one run =
+      moved_goes p.next 1 (starts_by p records) one
+      (split P F (Goes P F 1) (first_number records == 1) _ _ (λ first. starts_goes (standing_at p 1) records run)
+      (λ later. back_goes (standing_at p 1) Starts records tt refl run))
+
+  pub starts_from_goes : (p : PollState) (begins count : Option ℕ) → IsBefore p.newest p.next → IsAimed p Starts → TellsFront F count → Goes P F p.next (starts_from p begins count)
+  starts_from_goes p None count known aimed front = (record { mid = p.next; before = refl; behind = refl; fronts = λ sure. (tt, tt) }, λ none. (known, (aimed, front)))
+  starts_from_goes p (Some begins) count known aimed front = (record { mid = p.next; before = refl; behind = refl; fronts = λ sure. (tt, tt) }, λ none. (known, (aimed, front)))
+
+  -- ---- before the first of the records that are held back
+
+  done_goes : (p : PollState) (aim : Aim) (records : List Numbered) → IsBefore p.newest p.next → FrontRun p records →
+      Goes P F p.next (back_done p aim records)
+  done_goes p Finds records known run = sees_goes p false records known run
+  done_goes p Renews records known run = behind_goes p records run
+  done_goes p Starts records known run = starts_goes p records run
+
+  lost_back : (p : PollState) (aim : Aim) → IsBefore p.newest p.next → IsAimed p aim → Goes P F p.next (back_lost p aim)
+  lost_back p Finds known aimed = oldest_goes p Finds known (tt, tt)
+  lost_back p Renews known aimed = oldest_goes p Renews known (aimed, tt)
+  lost_back p Starts known aimed = (record { mid = p.next; before = refl; behind = refl; fronts = λ sure. (tt, tt) }, λ none. (known, aimed))
+
+  more_goes : (p : PollState) (aim : Aim) (records : List Numbered) → IsBefore p.newest p.next → IsAimed p aim → FrontRun p records →
+      Goes P F p.next (back_more p aim records)
+  more_goes p aim records known aimed run =
+      split P F (Goes P F p.next) (is_front p records (means_in p records)) _ _ (λ front. done_goes p aim records known run)
+      (λ back. back_goes p aim records known aimed run)
+
+  alone_goes : (p : PollState) (aim : Aim) (held : List Numbered) → IsBefore p.newest p.next → IsAimed p aim → FrontRun p held →
+      Goes P F p.next (back_alone p aim held)
+  alone_goes p aim held known aimed kept =
+      split P F (Goes P F p.next) p.more _ _
+      (λ more. (record { mid = p.next; before = refl; behind = refl; fronts = λ sure. (tt, tt) }, λ none. (known, (aimed_at aim aimed, kept.0, kept.1))))
+      (λ none. done_goes p aim held known kept)
+    where
+      aimed_at : (aim : Aim) → IsAimed p aim → IsAimed (record p { stage = Back aim; reference = number_before (first_number held); held = held }) aim
+      aimed_at Finds aimed = tt
+      aimed_at Renews aimed = aimed
+      aimed_at Starts aimed = aimed
+
+  shown_goes : (p : PollState) (aim : Aim) (held records : List Numbered) (seen : Shown) → IsBefore p.newest p.next → IsAimed p aim →
+      FrontRun p held → FrontRun p records → Goes P F p.next (back_shown p aim held records seen)
+  shown_goes p aim held records shown.Equal known aimed kept run =
+      split P F (Goes P F p.next) (length records == 1) _ _ (λ alone. alone_goes p aim held known aimed kept) (λ more. more_goes p aim records known aimed run)
+  shown_goes p aim held records shown.Unshown known aimed kept run = lost_back p aim known aimed
+  shown_goes p aim held records (shown.Moved by) known aimed kept run = lost_back p aim known aimed
+  shown_goes p aim held records shown.Another known aimed kept run = lost_back p aim known aimed
+
+  back_by_goes : (p : PollState) (aim : Aim) (held records : List Numbered) (last : Option Numbered) → IsBefore p.newest p.next → IsAimed p aim →
+      FrontRun p held → FrontRun p records → Goes P F p.next (back_by p aim held records last)
+  back_by_goes p aim held records None known aimed kept run = done_goes p aim held known kept
+  back_by_goes p aim held records (Some last) known aimed kept run =
+      split P F (Goes P F p.next) (last.number == first_number held) _ _
+      (λ ended. shown_goes p aim held records (shown_last (first_in held) last) known aimed kept run)
+      (λ short. more_goes p aim records known aimed run)
+
+  pub back_takes : (p : PollState) (aim : Aim) (held records : List Numbered) → IsBefore p.newest p.next → IsAimed p aim →
+      FrontRun p held → IsRun P (first_number records) records → IsFront F records → Goes P F p.next (back p aim held records)
+  back_takes p aim held [] known aimed kept run front = done_goes p aim held known kept
+  back_takes p aim held (r ∷ rs) known aimed kept run front =
+      back_by_goes p aim held (r ∷ rs) (last_in (r ∷ rs)) known aimed kept (run, front)

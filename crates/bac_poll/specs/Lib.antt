@@ -1,0 +1,12 @@
+pub mod State
+pub mod Known
+pub mod Turns
+pub mod Epochs
+pub mod Gone
+pub mod Joins
+pub mod Oldest
+pub mod Starts
+pub mod Back
+pub mod Poll
+pub mod Laws
+pub mod Logged

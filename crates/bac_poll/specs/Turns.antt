@@ -1,0 +1,161 @@
+-- What an answer makes of a poll, and the steps of which the rule is made.
+use Rattle.std.specs.Prelude.{ℕ, ◌+◌, ◌-◌, ◌==◌, nat_lt, Bool, true, false, if◌then◌else◌, List, [], ◌∷◌, length}
+use Rattle.std.specs.Prelude.{Option, None, Some, slice_get}
+use Rattle.bac_link.specs.Ordinals.{number_after}
+use Rattle.bac_link.specs.declared.item.Item.{Item}
+use Rattle.bac_link.specs.declared.item.Item.TheVariants.{Gap}
+use Rattle.bac_walk.specs.Walks.{gap_items}
+use Rattle.bac_walk.specs.declared.batch.Numbered.{Numbered}
+use Rattle.bac_poll.specs.State.{KeptAs, PollState, ToldAs, kept_of}
+use Rattle.bac_poll.specs.declared.stage.Stage.{Stage}
+use Rattle.bac_poll.specs.declared.stage.Stage.TheVariants.{Joins}
+use Rattle.bac_poll.specs.declared.turn.Beginning.{Beginning}
+use Rattle.bac_poll.specs.declared.turn.Line.{Line}
+use Rattle.bac_poll.specs.declared.turn.PollEnd.{PollEnd}
+use Rattle.bac_poll.specs.declared.turn.PollEnd.TheVariants.{CaughtUp, SaysMore}
+use Rattle.bac_poll.specs.declared.turn.Turn.{Turn}
+
+-- What an answer makes of a poll, to be committed in one transaction, in this order.
+pub record Turned : Type 0 where
+  pub poll : PollState  -- what is known of the log then
+  pub begins : Option Beginning  -- where its first epoch begins
+  pub missing : List Item  -- a gap where it stands
+  pub doubtful : Bool  -- which may be none: the log may have begun anew
+  pub anew : Bool  -- whether an epoch begins, from 1 on
+  pub gap : List Item  -- a gap in front of that
+  pub records : List Numbered  -- the records that are kept
+  pub line : Option Line  -- what is told
+  pub end : Option PollEnd  -- why nothing more is asked, if nothing is
+
+-- a turn of the code
+abbrev pub turned : PollState → Turn → Turned
+turned p t = record {
+  poll = p;
+  begins = t.begins;
+  missing = gap_items t.missing;
+  doubtful = t.doubtful;
+  anew = t.anew;
+  gap = gap_items t.gap;
+  records = t.entries.items;
+  line = t.line;
+  end = t.end;
+}
+
+-- the next question is asked
+abbrev pub asks : PollState → Turned
+asks p = record {
+  poll = p;
+  begins = None;
+  missing = [];
+  doubtful = false;
+  anew = false;
+  gap = [];
+  records = [];
+  line = None;
+  end = None;
+}
+
+-- for this, from a number or up to it
+abbrev pub asks_at : PollState → Stage → ℕ → Turned
+asks_at p stage reference = asks (record p { stage = stage; reference = reference })
+
+-- nothing more is asked
+abbrev pub ends : PollState → PollEnd → Turned
+ends p why = record (asks p) { end = Some why }
+
+-- nothing is newer; if the last reply with records said that more is there, it contradicts itself
+abbrev pub end_of : PollState → PollEnd
+end_of p = if p.more then SaysMore else CaughtUp
+
+-- the numbers from one up to another, if there are any
+abbrev pub gap_up_to : ℕ → ℕ → List Item
+gap_up_to first before = if first == before then [] else Gap first before ∷ []
+
+-- the number before this one: the last that there is before 1
+abbrev pub number_before : ℕ → ℕ
+number_before number = if number == 1 then 4294967295 else number - 1
+
+-- the first of these records, if there is one
+abbrev pub first_in : List Numbered → Option Numbered
+first_in records = slice_get records 0
+
+-- the last of them
+abbrev pub last_in : List Numbered → Option Numbered
+last_in records = slice_get records (length records - 1)
+
+-- the number of a record, or that one if there is none
+abbrev pub number_or : ℕ → Option Numbered → ℕ
+number_or number None = number
+number_or number (Some held) = held.number
+
+-- the number of the first of them; 0, which is none, if there is none
+abbrev pub first_number : List Numbered → ℕ
+first_number records = number_or 0 (first_in records)
+
+-- ---- where the log stands
+
+-- a record is the newest that is known: what follows is asked for from it on
+abbrev pub standing_on : PollState → KeptAs → PollState
+standing_on p kept = record p {
+  newest = Some kept;
+  earlier = None;
+  earliest = None;
+  stage = Joins;
+  reference = kept.number;
+}
+
+-- records are kept up to this one
+abbrev pub behind : PollState → KeptAs → PollState
+behind p kept = record (standing_on p kept) { next = number_after kept.number 1; stamp = kept.stamp }
+
+-- records are kept, the last of which is this; there are none: nothing is newer
+abbrev pub brings_to : PollState → List Numbered → Option Numbered → Turned
+brings_to p records None = ends p (end_of p)
+brings_to p records (Some last) = record (asks (behind p (kept_of last))) { records = records }
+
+-- records are kept
+abbrev pub brings : PollState → List Numbered → Turned
+brings p records = brings_to p records (last_in records)
+
+-- no record right before this number is known
+abbrev pub standing_at : PollState → ℕ → PollState
+standing_at p next = record p { next = next; newest = None; earlier = None; earliest = None }
+
+-- ---- the word
+
+-- a restart that is told, else the one on record
+abbrev pub restart_or : List ℕ → List ℕ → List ℕ
+restart_or was [] = was
+restart_or was (octet ∷ octets) = octet ∷ octets
+
+-- a revision that is told, else the one on record
+abbrev pub revision_or : Option ℕ → Option ℕ → Option ℕ
+revision_or was None = was
+revision_or was (Some now) = Some now
+
+-- the word on record, with each part that is told
+abbrev pub word_with : ToldAs → ToldAs → ToldAs
+word_with was now = record {
+  restart = restart_or was.restart now.restart;
+  moment = restart_or was.moment now.moment;
+  revision = revision_or was.revision now.revision;
+}
+
+-- the log was found at its place: the word that is told is on record
+abbrev pub confirmed : PollState → PollState
+confirmed p = record p { word = word_with p.word p.told }
+
+-- ---- epochs
+
+-- one more epoch
+abbrev pub next_life : ℕ → ℕ
+next_life lives = if nat_lt lives 2 then lives + 1 else 2
+
+-- an epoch begins, with this word on record
+abbrev pub renewed : PollState → ToldAs → PollState
+renewed p word =
+    record (standing_at p 1) { stamp = []; word = word; more = false; lives = next_life p.lives }
+
+-- a turn with which it begins
+abbrev pub anew : Turned → Line → Turned
+anew t why = record t { anew = true; line = Some why }

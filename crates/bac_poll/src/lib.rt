@@ -1,0 +1,36 @@
+//! What is asked of one trend log, and what each answer brings: a function of what is known of the
+//! log. There is no socket here, no file and no clock.
+//!
+//! A [`LogPoll`] asks first for the records that were kept last, with those behind them
+//! ([`LogPoll::question`]). What the device shows of these tells how the log goes on: behind them,
+//! behind a gap, or in a new epoch; and where that doesn't tell, the device's word, its count and
+//! the oldest records that it holds do ([`LogPoll::take`], [`LogPoll::weigh`],
+//! [`LogPoll::hear_restart`]). The records of the answer that tells are kept. From there it walks
+//! to the newest.
+#![tactic(auto)]
+
+mod ack;
+mod back;
+mod epochs;
+mod gone;
+mod joins;
+mod kept;
+mod known;
+mod laws;
+mod oldest;
+mod poll;
+mod stage;
+mod starts;
+mod turn;
+mod turns;
+mod word;
+
+pub use ack::Reply;
+pub use gone::Gone;
+pub use kept::Kept;
+pub use known::{Means, Shown};
+pub use laws::{begins_standing, each_shown_once, epochs_are_whole, kept_is_logged, said_is_shown};
+pub use poll::{LogPoll, Standing};
+pub use stage::{Aim, Stage};
+pub use turn::{Beginning, Line, PollEnd, Turn};
+pub use word::{Told, Word};

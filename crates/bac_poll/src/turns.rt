@@ -1,0 +1,250 @@
+//! The steps of which the rule is made.
+
+ghost use Rattle.std.specs.Prelude.{◌≡◌, ◌+◌, ◌<◌, ◌==◌, IfOk, length};
+ghost use Rattle.std.specs.Option.{is_some};
+ghost use Rattle.bac_link.specs.Ordinals.{is_ahead, number_after};
+ghost use Rattle.bac_walk.specs.Walks.{gap_items};
+ghost use Rattle.bac_poll.specs.State.{kept_as, kept_of, maybe_kept, told_as};
+ghost use Rattle.bac_poll.specs.Turns.{asks, asks_at, ends, anew, brings, brings_to, confirmed, end_of, first_in};
+ghost use Rattle.bac_poll.specs.Turns.{first_number, last_in, next_life, number_before, number_or};
+ghost use Rattle.bac_poll.specs.Turns.{renewed, standing_at, standing_on, turned, behind};
+ghost use Rattle.bac_poll.specs.Known.{heeding, is_steady, means_in};
+
+use crate::kept::{Kept, stamp_of};
+use crate::known::{Means, is_steady_with, means_of, shown_in};
+use crate::poll::LogPoll;
+use crate::stage::Stage;
+use crate::turn::{PollEnd, Turn};
+use crate::word::{Told, is_other_word};
+use arrayvec::ArrayVec;
+use bac_walk::Numbered;
+use std::alloc::{AllocError, Global};
+
+impl LogPoll {
+    /// The next question is asked for this, from a number or up to it.
+    pub(crate) fn ask_at(&mut self, stage: Stage, reference: u32) -> Turn
+        ensures { turned self.new result ≡ asks_at self.old stage reference }
+    {
+        self.stage = stage;
+        self.reference = reference;
+        self.asks()
+    }
+
+    /// The next question is asked.
+    pub(crate) fn asks(&self) -> Turn
+        ensures { turned self.now result ≡ asks self.now }
+    {
+        Turn::asks()
+    }
+
+    /// Nothing more is asked.
+    pub(crate) fn ends(&self, why: PollEnd) -> Turn
+        ensures { turned self.now result ≡ ends self.now why }
+    {
+        Turn::ends(why)
+    }
+
+    /// Nothing is newer.
+    pub(crate) fn end(&self) -> PollEnd
+        ensures { result ≡ end_of self.now }
+    {
+        if self.more {
+            PollEnd::SaysMore
+        } else {
+            PollEnd::CaughtUp
+        }
+    }
+
+    /// This record is the newest that is known.
+    pub(crate) fn stand_on(&mut self, kept: Kept)
+        ensures { self.new ≡ standing_on self.old (kept_as kept) }
+    {
+        self.stage = Stage::Joins;
+        self.reference = kept.number;
+        self.newest = Some(kept);
+        self.earlier = None;
+        self.earliest = None;
+    }
+
+    /// No record right before this number is known.
+    pub(crate) fn stand_at(&mut self, next: u32)
+        ensures { self.new ≡ standing_at self.old next }
+    {
+        self.next = next;
+        self.newest = None;
+        self.earlier = None;
+        self.earliest = None;
+    }
+
+    /// Records are kept up to this one.
+    pub(crate) fn stand_behind(&mut self, alloc: Global, last: Numbered) -> Result<(), AllocError>
+        ensures { IfOk result (λ _. self.new ≡ behind self.old (kept_of last)) }
+    {
+        let kept = Kept::of(alloc, last)?;
+        self.stamp = stamp_of(alloc, last.entry)?;
+        self.next = number_behind(last.number);
+        self.stand_on(kept);
+        Ok(())
+    }
+
+    /// Records are kept.
+    pub(crate) fn bring(
+        &mut self,
+        alloc: Global,
+        records: ArrayVec<Numbered, 100>,
+    ) -> Result<Turn, AllocError>
+        ensures { IfOk result (λ turn. turned self.new turn ≡ brings self.old records.items) }
+    {
+        match last_in(&records) {
+            Some(last) => {
+                self.stand_behind(alloc, last)?;
+                let mut turn = self.asks();
+                turn.entries = records;
+                Ok(turn)
+            }
+            None => Ok(self.ends(self.end())),
+        }
+    }
+
+    /// The log was found at its place.
+    pub(crate) fn confirm(&mut self, alloc: Global) -> Result<(), AllocError>
+        ensures { IfOk result (λ _. self.new ≡ confirmed self.old) }
+    {
+        self.word = self.word.with(alloc, &self.told)?;
+        Ok(())
+    }
+
+    /// An epoch begins, with this word on record.
+    pub(crate) fn stand_anew(&mut self, alloc: Global, word: Told)
+        ensures { self.new ≡ renewed self.old (told_as word) }
+    {
+        self.stand_at(1);
+        self.stamp = Vec::new(alloc);
+        self.word = word;
+        self.more = false;
+        self.lives = next_life(self.lives);
+    }
+
+    // Whether the known records have one value.
+    fn is_steady(&self) -> bool
+        ensures { result ≡ is_steady self.now }
+    {
+        is_steady_with(&self.newest, &self.earlier) && is_steady_with(&self.newest, &self.earliest)
+    }
+
+    // A shift counts only where the word isn't another one.
+    fn heed(&self, means: Means) -> Means
+        ensures { result ≡ heeding self.now means }
+    {
+        match means {
+            Means::Shifted(by) => {
+                if self.is_steady() && is_other_word(&self.word, &self.told) {
+                    Means::Another
+                } else {
+                    Means::Shifted(by)
+                }
+            }
+            Means::Unshown => Means::Unshown,
+            Means::Same => Means::Same,
+            Means::Partly => Means::Partly,
+            Means::Another => Means::Another,
+        }
+    }
+
+    /// What records say of the known ones.
+    pub(crate) fn means_in(&self, alloc: Global, records: &[Numbered]) -> Result<Means, AllocError>
+        ensures { IfOk result (λ means. means ≡ means_in self.now records.now) }
+    {
+        let newest = shown_in(alloc, &self.newest, records)?;
+        let earlier = shown_in(alloc, &self.earlier, records)?;
+        let earliest = shown_in(alloc, &self.earliest, records)?;
+        Ok(self.heed(means_of(is_known(&self.earliest), newest, earlier, earliest)))
+    }
+}
+
+/// Whether a record is known.
+pub(crate) fn is_known(kept: &Option<Kept>) -> bool
+    ensures { result ≡ is_some (maybe_kept kept.now) }
+{
+    match kept {
+        Some(_) => true,
+        None => false,
+    }
+}
+
+/// Whether there are no records.
+pub(crate) fn is_none(records: &ArrayVec<Numbered, 100>) -> bool
+    ensures { result ≡ (length records.now.items == 0) }
+{
+    records.len() == 0
+}
+
+/// Whether there is one.
+pub(crate) fn is_one(records: &ArrayVec<Numbered, 100>) -> bool
+    ensures { result ≡ (length records.now.items == 1) }
+{
+    records.len() == 1
+}
+
+/// The first of these records, if there is one.
+pub(crate) fn first_in(records: &ArrayVec<Numbered, 100>) -> Option<Numbered>
+    ensures { result ≡ first_in records.now.items }
+{
+    records.as_slice().first().copied()
+}
+
+/// The last of them.
+pub(crate) fn last_in(records: &ArrayVec<Numbered, 100>) -> Option<Numbered>
+    ensures { result ≡ last_in records.now.items }
+{
+    records.as_slice().last().copied()
+}
+
+/// The number of a record, or that one if there is none.
+pub(crate) fn number_or(number: u32, held: Option<Numbered>) -> u32
+    ensures { result ≡ number_or number held }
+{
+    match held {
+        Some(held) => held.number,
+        None => number,
+    }
+}
+
+/// The number of the first of them; 0 if there is none.
+pub(crate) fn first_number(records: &ArrayVec<Numbered, 100>) -> u32
+    ensures { result ≡ first_number records.now.items }
+{
+    number_or(0, first_in(records))
+}
+
+/// The number behind this one: 1 behind the last that there is.
+pub(crate) fn number_behind(number: u32) -> u32
+    ensures { result ≡ number_after number 1 }
+{
+    if number == 4294967295 { 1 } else { number + 1 }
+}
+
+/// The number before this one: the last that there is before 1.
+pub(crate) fn number_before(number: u32) -> u32
+    ensures { result ≡ number_before number }
+{
+    if number == 1 {
+        4294967295
+    } else {
+        number.saturating_sub(1)
+    }
+}
+
+/// Whether a number is another one or lies behind it: half of the numbers do.
+pub(crate) fn is_ahead(number: u32, held: u32) -> bool
+    ensures { result ≡ is_ahead number held }
+{
+    (u64::from(held) + 4294967295 - u64::from(number)) % 4294967295 < 2147483648
+}
+
+// One more epoch.
+fn next_life(lives: u32) -> u32
+    ensures { result ≡ next_life lives }
+{
+    if lives < 2 { lives + 1 } else { 2 }
+}

@@ -1,0 +1,16 @@
+pub mod Driven
+pub mod PutLemmas
+pub mod Asked
+pub mod Came
+pub mod Places
+pub mod Within
+pub mod WithinRun
+pub mod WithinEvents
+pub mod SameLog
+pub mod Sound
+pub mod Seated
+pub mod SeatedRun
+pub mod Told
+pub mod Alone
+pub mod InTurn
+pub mod Open

@@ -1,0 +1,101 @@
+-- What is heard, and what time makes of it, keep the limits.
+use Rattle.std.proofs.Common.{◌≡◌, ◌≤◌, ℕ, Bool, true, false, not, cond, if◌then◌else◌, List, [], ◌∷◌, map, max, take, length, Option, Some, None, Ok, Err, nat_le, refl, ap, arith}
+use Rattle.std.proofs.lemmas.List.{length-map}
+use Rattle.std.proofs.lemmas.List.Sums.{sum_by-cons}
+use Rattle.std.specs.List.{count_by}
+use Rattle.std.specs.Str.{bytes_eq}
+use Rattle.bac_link.specs.declared.transactions.Pending.{Pending}
+use Rattle.bac_ports.specs.Port.{Receiving}
+use Rattle.bac_poller.specs.Poller.{is_answer}
+use Rattle.bac_poller.specs.Seat.{given_up, is_at, is_due, is_first, seat_heard, seat_read, without_answer}
+use Rattle.bac_poller.specs.Site.{IsWithin, SiteState, given, site_heard}
+use Rattle.bac_poller.specs.SiteLaws.{OthersNotHeeded, StaysWithin}
+use Rattle.bac_poller.specs.declared.log_poller.LogPoller.{LogPoller}
+use Rattle.bac_poller.specs.declared.seat.Seat.{Seat}
+
+-- ---- the address stays
+
+of_both : (peer : List ℕ) (b : Bool) (p q : LogPoller) → p.peer ≡ peer → q.peer ≡ peer → (if b then p else q).peer ≡ peer
+of_both peer true p q is also = is
+of_both peer false p q is also = also
+
+of_both_seats : (peer : List ℕ) (b : Bool) (s t : Seat) → s.poller.peer ≡ peer → t.poller.peer ≡ peer → (if b then s else t).poller.peer ≡ peer
+of_both_seats peer true s t is also = is
+of_both_seats peer false s t is also = also
+
+pub peer_heard : (from datagram : List ℕ) (s : Seat) → (seat_heard from datagram s).poller.peer ≡ s.poller.peer
+peer_heard from datagram s = of_both s.poller.peer (is_answer s.poller from datagram) _ s.poller refl refl
+
+pub peer_without : (p : LogPoller) (o : Option Pending) → (without_answer p o).peer ≡ p.peer
+peer_without p None = refl
+peer_without p (Some request) = of_both p.peer (nat_le p.transactions.retries request.repeats) (given_up p) _ refl refl
+
+pub peer_read : (now : ℕ) (s : Seat) → (seat_read now s).poller.peer ≡ s.poller.peer
+peer_read now s = of_both_seats s.poller.peer (is_due now s) _ s (peer_without s.poller s.poller.transactions.pending) refl
+
+-- ---- so do the counts, or they fall
+
+abbrev pub tally : Bool → ℕ
+tally b = cond b 1 0
+
+-- what a step makes of a seat passes no test more
+abbrev pub NoMore : (Seat → Bool) → (Seat → Seat) → Type 0
+NoMore test f = (s : Seat) → tally (test (f s)) ≤ tally (test s)
+
+counted : (test : Seat → Bool) (f : Seat → Seat) → NoMore test f → (seats : List Seat) → count_by test (map f seats) ≤ count_by test seats
+counted test f none [] = omega arith
+counted test f none (s ∷ seats) =
+    let first : tally (test (f s)) ≤ tally (test s) = none s in
+    let rest = counted test f none seats in
+    omega (arith, first, rest, sum_by-cons (λ (x : Seat). tally (test x)) s seats, sum_by-cons (λ (x : Seat). tally (test x)) (f s) (map f seats))
+
+none_at : (f : Seat → Seat) → ((s : Seat) → (f s).poller.peer ≡ s.poller.peer) → (peer : List ℕ) → NoMore (is_at peer) f
+none_at f same peer s =
+    let e : tally (is_at peer (f s)) ≡ tally (is_at peer s) = ap (λ (q : List ℕ). tally (bytes_eq (take 4 q) (take 4 peer))) (same s) in omega (arith, e)
+
+pub none_heard : (from datagram : List ℕ) → NoMore is_first (seat_heard from datagram)
+none_heard from datagram s = omega arith
+
+pub none_read : (now : ℕ) → NoMore is_first (seat_read now)
+none_read now s = by (is_due now s)
+  where
+    by : (b : Bool) → tally (is_first (if b then record s { poller = without_answer s.poller s.poller.transactions.pending; is_repeated = true } else s)) ≤ tally (is_first s)
+    by true = omega arith
+    by false = omega arith
+
+mapped : (f : Seat → Seat) → ((s : Seat) → (f s).poller.peer ≡ s.poller.peer) → NoMore is_first f → (first_most each most : ℕ) (seats : List Seat) →
+    count_by is_first seats ≤ first_most → length seats ≤ most → ((peer : List ℕ) → count_by (is_at peer) seats ≤ each) →
+    (count_by is_first (map f seats) ≤ first_most) × (length (map f seats) ≤ most) × ((peer : List ℕ) → count_by (is_at peer) (map f seats) ≤ each)
+mapped f same none first_most each most seats first few at = (
+  let c = counted is_first f none seats in omega (arith, c, first),
+  omega (arith, few, length-map seats f),
+  λ peer. let c = counted (is_at peer) f (none_at f same peer) seats in let before = at peer in omega (arith, c, before),
+)
+
+-- ---- what nobody asked for
+
+other : (b : Bool) (heard : LogPoller) (s : Seat) → b ≡ false → record s { poller = if b then heard else s.poller } ≡ s
+other true heard s not = absurd (let e : true ≡ false = not in cc)
+other false heard s not = refl
+
+pub others_not_heeded : OthersNotHeeded
+others_not_heeded = λ from datagram s not. other (is_answer s.poller from datagram) _ s not
+
+-- ---- the limits
+
+heard_within : (s : SiteState) → IsWithin s → (heard : Receiving) → IsWithin (site_heard heard s)
+heard_within s within (Err fault) = within
+heard_within s within (Ok heard) = by heard.datagram
+  where
+    by : (o : Option (List ℕ)) → IsWithin (record s { is_stale = true; active = given heard.from o s.active })
+    by None = within
+    by (Some datagram) =
+        mapped (seat_heard heard.from datagram) (peer_heard heard.from datagram) (none_heard heard.from datagram) s.limits.at_once s.limits.at_host s.limits.most s.active within.0 within.1 within.2
+
+pub stays_within : StaysWithin
+stays_within = λ s within. (
+  heard_within s within,
+  λ ms.
+      let now = max s.time ms in
+      mapped (seat_read now) (peer_read now) (none_read now) s.limits.at_once s.limits.at_host s.limits.most s.active within.0 within.1 within.2,
+)

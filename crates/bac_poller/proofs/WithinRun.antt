@@ -1,0 +1,161 @@
+-- What a site wants keeps the limits, and so does a whole run.
+use Rattle.std.proofs.Common.{◌≡◌, ◌<◌, ◌≤◌, ◌+◌, inl, inr, ℕ, Bool, true, false, not, cond, List, [], ◌∷◌, ◌++◌, take, length, get_or, Some, refl, sym, ap, subst, arith, ◌∙◌}
+use Rattle.std.proofs.lemmas.List.{length-append}
+use Rattle.std.proofs.lemmas.List.Edits.{length-remove}
+use Rattle.std.proofs.lemmas.List.Sums.{sum_by-append, sum_by-cons, sum_by-remove}
+use Rattle.std.proofs.lemmas.Option.{get_or_from_slice_get, same_Some, slice_get_within}
+use Rattle.std.proofs.lemmas.Slice.Eq.{bytes_eq-Decides}
+use Rattle.std.specs.List.{count_by, remove, slice_get}
+use Rattle.std.specs.Str.{bytes_eq}
+use Rattle.bac_drive.specs.declared.machine.Next.{Next}
+use Rattle.bac_drive.specs.declared.machine.Next.TheVariants as next
+use Rattle.bac_poller.specs.Poller.{GivesBy}
+use Rattle.bac_poller.specs.Seat.{is_at, is_first}
+use Rattle.bac_poller.specs.Site.{Acts, GivesFrom, GivesWaiting, GoesOn, HasRoom, IsAsked, IsWithin, SiteState, put_by}
+use Rattle.bac_poller.specs.SiteLaws.{WantsWithin}
+use Rattle.bac_poller.specs.declared.log_poller.Doing.{Doing}
+use Rattle.bac_poller.specs.declared.log_poller.Doing.TheVariants as doing
+use Rattle.bac_poller.specs.declared.log_poller.LogPoller.{LogPoller}
+use Rattle.bac_poller.specs.declared.seat.Seat.{Seat}
+
+abbrev tally : Bool → ℕ
+tally b = cond b 1 0
+
+pub peer_given : (what : Doing) (old new : LogPoller) (wanted : Next) → GivesBy what old wanted new → new.peer ≡ old.peer
+peer_given doing.Asks old new (next.Send octets to) g = ap (λ (p : LogPoller). p.peer) g.2
+peer_given doing.Asks old new wanted g = absurd g
+peer_given (doing.Resends datagram) old new (next.Send octets to) g = ap (λ (p : LogPoller). p.peer) g.2
+peer_given (doing.Resends datagram) old new wanted g = absurd g
+peer_given (doing.Waits left) old new (next.Wait most) g = ap (λ (p : LogPoller). p.peer) g.1
+peer_given (doing.Waits left) old new wanted g = absurd g
+peer_given (doing.Hears datagram) old new (next.Keep puts) g = g.5
+peer_given (doing.Hears datagram) old new wanted g = absurd g
+peer_given (doing.Tells line end) old new (next.Warn text) g = ap (λ (p : LogPoller). p.peer) g.1
+peer_given (doing.Tells line end) old new wanted g = absurd g
+peer_given (doing.Ended why) old new next.End g = ap (λ (p : LogPoller). p.peer) g
+peer_given (doing.Ended why) old new wanted g = absurd g
+
+-- ---- one more
+
+-- there is a place for this one
+record HasPlaceFor (old : SiteState) (s : Seat) : Type 0 where
+  pub first : count_by is_first old.active + tally (is_first s) ≤ old.limits.at_once
+  pub few : length old.active < old.limits.most
+  pub each : (peer : List ℕ) → count_by (is_at peer) old.active + tally (is_at peer s) ≤ old.limits.at_host
+
+one_more : (old : SiteState) (s : Seat) → HasPlaceFor old s → IsWithin (record old { active = old.active ++ s ∷ [] })
+one_more old s place = (
+  let f : Seat → ℕ = λ x. tally (is_first x) in omega (arith, place.first, sum_by-append f old.active (s ∷ []), sum_by-cons f s []),
+  omega (arith, place.few, length-append old.active (s ∷ [])),
+  λ peer.
+      let f : Seat → ℕ = λ x. tally (is_at peer x) in
+      let e = place.each peer in
+      omega (arith, e, sum_by-append f old.active (s ∷ []), sum_by-cons f s []),
+)
+
+none_more : (old : SiteState) (s : Seat) → HasPlaceFor old s → IsWithin old
+none_more old s place = (omega (arith, place.first), omega (arith, place.few), λ peer. let e = place.each peer in omega arith)
+
+put_within : (what : Doing) (old : SiteState) (s : Seat) → HasPlaceFor old s → IsWithin (put_by what old s)
+put_within doing.Asks old s place = none_more old s place
+put_within (doing.Waits left) old s place = one_more old (record s { due = _ }) (record { first = place.first; few = place.few; each = place.each })
+put_within (doing.Resends datagram) old s place = one_more old s place
+put_within (doing.Hears datagram) old s place = one_more old s place
+put_within (doing.Tells line end) old s place = one_more old s place
+put_within (doing.Ended why) old s place = one_more old s place
+
+-- one with the same address, which was sent as often
+same_place : (old : SiteState) (s t : Seat) → t.poller.peer ≡ s.poller.peer → t.is_repeated ≡ s.is_repeated → HasPlaceFor old s → HasPlaceFor old t
+same_place old s t same sent place = record {
+  first = let e : tally (is_first t) ≡ tally (is_first s) = ap (λ (b : Bool). tally (not b)) sent in let f = place.first in omega (arith, e, f);
+  few = place.few;
+  each = λ peer. let e = place.each peer in
+      let at : tally (is_at peer t) ≡ tally (is_at peer s) = ap (λ (p : List ℕ). tally (bytes_eq (take 4 p) (take 4 peer))) same in omega (arith, e, at);
+}
+
+from_within : (old : SiteState) (s : Seat) (wanted : Next) (new : SiteState) → HasPlaceFor old s → GivesFrom old s wanted new → IsWithin new
+from_within old s wanted new place (p, gives, is) =
+    let P : SiteState → Type 0 = λ x. IsWithin x in
+    subst P (sym is) (put_within p.doing old (record s { poller = p }) (same_place old s (record s { poller = p }) (peer_given s.poller.doing s.poller p wanted gives) refl place))
+
+-- ---- one that was asked
+
+left_place : (old : SiteState) (place : ℕ) (s : Seat) → IsWithin old → slice_get old.active place ≡ Some s → HasPlaceFor (record old { active = remove old.active place }) s
+left_place old place s (first, few, each) there =
+    let below = slice_get_within old.active place s there in record {
+      first =
+          let f : Seat → ℕ = λ x. tally (is_first x) in
+          let is : f (get_or old.active place s) ≡ f s = ap f (get_or_from_slice_get old.active place s s there) in
+          omega (arith, first, is, sum_by-remove f old.active place s below);
+      few = omega (arith, few, length-remove old.active place below);
+      each = λ peer.
+          let f : Seat → ℕ = λ x. tally (is_at peer x) in
+          let e = each peer in
+          let is : f (get_or old.active place s) ≡ f s = ap f (get_or_from_slice_get old.active place s s there) in
+          omega (arith, e, is, sum_by-remove f old.active place s below);
+    }
+
+on_within : (old : SiteState) (s : Seat) (new : SiteState) → HasPlaceFor old s → GoesOn old s new → IsWithin new
+on_within old s new place (inl (t, (task, logs, next_is), is)) =
+    let P : SiteState → Type 0 = λ x. IsWithin x in
+    let same : HasPlaceFor old t = same_place old s t (ap (λ (x : Seat). x.poller.peer) next_is) (ap (λ (x : Seat). x.is_repeated) next_is) place in
+    subst P (sym is) (put_within t.poller.doing old t same)
+on_within old s new place (inr (none, is)) =
+    let P : SiteState → Type 0 = λ x. IsWithin x in subst P (sym is) (none_more old s place)
+
+act_within : (what : Doing) (old : SiteState) (s : Seat) (wanted : Next) (new : SiteState) → HasPlaceFor old s → Acts what old s wanted new → IsWithin new
+act_within doing.Asks old s wanted new place acts = from_within old s wanted new place acts
+act_within (doing.Resends datagram) old s wanted new place acts = from_within old s wanted new place acts
+act_within (doing.Waits left) old s wanted new place acts = from_within old s wanted new place acts
+act_within (doing.Hears datagram) old s wanted new place acts = from_within old s wanted new place acts
+act_within (doing.Tells line end) old s wanted new place acts = from_within old s wanted new place acts
+act_within (doing.Ended why) old s (next.Print line) new place acts = on_within old s new place acts.1
+act_within (doing.Ended why) old s wanted new place acts = absurd acts
+
+-- ---- one that is asked
+
+room_place : (old : SiteState) (s : Seat) → IsWithin old → HasRoom old s → HasPlaceFor old s
+room_place old s within (place, room) = record {
+  first = first (is_first s);
+  few = place.1;
+  each = λ peer. by peer (is_at peer s) refl;
+}
+  where
+    first : (b : Bool) → count_by is_first old.active + tally b ≤ old.limits.at_once
+    first true = let less = place.0 in omega (arith, less)
+    first false = let less = place.0 in omega (arith, less)
+
+    by : (peer : List ℕ) (b : Bool) → is_at peer s ≡ b → count_by (is_at peer) old.active + tally (is_at peer s) ≤ old.limits.at_host
+    by peer true here =
+        let e : take 4 s.poller.peer ≡ take 4 peer = (bytes_eq-Decides (take 4 s.poller.peer) (take 4 peer)).0 here in
+        let P : List ℕ → Type 0 = λ h. count_by (λ x. bytes_eq (take 4 x.poller.peer) h) old.active < old.limits.at_host in
+        let less : count_by (is_at peer) old.active < old.limits.at_host = subst P e room in
+        let one : tally (is_at peer s) ≡ 1 = ap tally here in
+        omega (arith, less, one)
+    by peer false here =
+        let before = within.2 peer in
+        let none : tally (is_at peer s) ≡ 0 = ap tally here in
+        omega (arith, before, none)
+
+-- the one at a place that may be asked is this one
+room_of : (old : SiteState) (place : ℕ) (s t : Seat) → slice_get old.waiting place ≡ Some s → slice_get old.waiting place ≡ Some t → HasRoom old t → HasRoom old s
+room_of old place s t there also room =
+    let P : Seat → Type 0 = λ x. HasRoom old x in
+    let e : Some t ≡ Some s = sym also ∙ there in
+    subst P (same_Some t s e) room
+
+asked_within : (old new : SiteState) (wanted : Next) → IsWithin old → IsAsked old wanted new → IsWithin new
+asked_within old new wanted within (place, s, there, ((t, also, room), before), gives) =
+    from_within (record old { waiting = remove old.waiting place }) s wanted new (record { first = p.first; few = p.few; each = p.each }) gives
+  where
+    p : HasPlaceFor old s
+    p = room_place old s within (room_of old place s t there also room)
+
+waiting_within : (stale : Bool) (old new : SiteState) (wanted : Next) → IsWithin old → GivesWaiting stale old wanted new → IsWithin new
+waiting_within true old new wanted within (is_read, same) = let P : SiteState → Type 0 = λ x. IsWithin x in subst P (sym same) within
+waiting_within false old new wanted within (inl asked) = asked_within old new wanted within asked
+waiting_within false old new wanted within (inr (none, rests, same)) = let P : SiteState → Type 0 = λ x. IsWithin x in subst P (sym same) within
+
+pub wants_within : WantsWithin
+wants_within old new wanted within (inl (place, s, there, not, acts)) = act_within s.poller.doing _ s wanted new (left_place old place s within there) acts
+wants_within old new wanted within (inr (none, gives)) = waiting_within old.is_stale old new wanted within gives

@@ -1,0 +1,33 @@
+use Rattle.std.proofs.Common.{◌≡◌, ◌∙◌, List, get_or, ap, subst}
+use Rattle.std.proofs.lemmas.Option.{get_or_from_slice_get}
+use Rattle.std.proofs.lemmas.Result.{IfOk-weaker}
+use Rattle.std.specs.List.{remove}
+use Rattle.bac_poller.specs.Site.{Acts, IsActed, SiteState}
+use Rattle.bac_poller.specs.declared.seat.Seat.{Seat}
+use Rattle.bac_poller.proofs.site.SitePoll.act_at.Goals as goal
+
+pub returns : goal.returns
+returns c =
+    let old = c.args.self.now in
+    let (s, there, not) = c.requires in
+    let seat = c.remove-seat.result in
+    let same_list : c.self.inside.active.items ≡ old.active = ap (λ (x : SiteState). x.active) c.self.view_is in
+    let P : List Seat → Type 0 = λ l. seat ≡ get_or l c.args.place seat in
+    let is : seat ≡ s = subst P same_list c.remove-seat.ensures.value ∙ get_or_from_slice_get old.active c.args.place s seat there in
+    let less : SiteState → SiteState = λ o. record o { active = remove o.active c.args.place } in
+    let view : SiteState = record {
+      limits = c.self.inside.limits;
+      time = c.self.inside.time;
+      is_stale = c.self.inside.is_stale;
+      active = c.self.inside.active.items;
+      waiting = c.self.inside.waiting.items;
+      ended = c.self.inside.ended.items;
+    } in
+    let mid : SiteState = record view { active = c.remove-seat.new.self.items } in
+    let mid_is : mid ≡ less old = ap (λ (l : List Seat). record view { active = l }) c.remove-seat.ensures.items ∙ ap less c.self.view_is in
+    IfOk-weaker c.act.result (λ next. Acts seat.poller.doing mid seat next c.act.new.self) (λ next. IsActed old next c.act.new.self)
+    (λ next acts.
+    let P2 : Seat → Type 0 = λ t. Acts t.poller.doing mid t next c.act.new.self in
+    let P3 : SiteState → Type 0 = λ o. Acts s.poller.doing o s next c.act.new.self in
+    (c.args.place, s, there, not, subst P3 mid_is (subst P2 is acts)))
+    c.act.ensures

@@ -1,0 +1,83 @@
+-- One device of a site, with the poll of one of its logs, and what waits behind it.
+use Rattle.std.specs.Prelude.{◌≡◌, ℕ, ◌+◌, ◌&&◌, nat_le, not, take, Bool, true, false, if◌then◌else◌}
+use Rattle.std.specs.Prelude.{List, ◌∷◌, Option, None, Some}
+use Rattle.std.specs.Str.{bytes_eq}
+use Rattle.bac_link.specs.Transactions.{closed}
+use Rattle.bac_link.specs.declared.transactions.Pending.{Pending}
+use Rattle.bac_link.specs.declared.transactions.Timeout.TheVariants.{GaveUp}
+use Rattle.bac_poller.specs.Poller.{doing_after, is_answer}
+use Rattle.bac_poller.specs.declared.log_poller.Doing.{Doing}
+use Rattle.bac_poller.specs.declared.log_poller.Doing.TheVariants as doing
+use Rattle.bac_poller.specs.declared.log_poller.LogPoller.{LogPoller}
+use Rattle.bac_poller.specs.declared.seat.LogTask.{LogTask}
+use Rattle.bac_poller.specs.declared.seat.Seat.{Seat}
+
+-- whether a send is waited for
+abbrev pub is_waiting : Doing → Bool
+is_waiting (doing.Waits left) = true
+is_waiting doing.Asks = false
+is_waiting (doing.Resends datagram) = false
+is_waiting (doing.Hears datagram) = false
+is_waiting (doing.Tells line end) = false
+is_waiting (doing.Ended why) = false
+
+-- whether its question was sent no more than once
+abbrev pub is_first : Seat → Bool
+is_first s = not s.is_repeated
+
+-- whether its device is at the host of an address
+abbrev pub is_at : List ℕ → Seat → Bool
+is_at peer s = bytes_eq (take 4 s.poller.peer) (take 4 peer)
+
+-- ---- what is heard
+
+-- a datagram came from an address: the poll whose open question it answers has it; another is as it was
+abbrev pub heard_by : List ℕ → List ℕ → LogPoller → LogPoller
+heard_by from datagram p =
+    if is_answer p from datagram
+    then record p { transactions = closed p.transactions; doing = doing.Hears datagram }
+    else p
+
+-- a seat that heard a datagram
+abbrev pub seat_heard : List ℕ → List ℕ → Seat → Seat
+seat_heard from datagram s = record s { poller = heard_by from datagram s.poller }
+
+-- ---- what time makes of it
+
+-- its question is lost
+abbrev pub given_up : LogPoller → LogPoller
+given_up p = record p { transactions = closed p.transactions; doing = doing_after GaveUp }
+
+-- no answer came in time: the open question is sent again, or is lost
+abbrev pub without_answer : LogPoller → Option Pending → LogPoller
+without_answer p None = given_up p
+without_answer p (Some request) =
+    if nat_le p.transactions.retries request.repeats
+    then given_up p
+    else record p {
+      transactions = record p.transactions { pending = Some (record request { repeats = request.repeats + 1 }) };
+      doing = doing.Resends request.request;
+    }
+
+-- whether the send of one was waited for
+abbrev pub is_due : ℕ → Seat → Bool
+is_due now s = is_waiting s.poller.doing && nat_le s.due now
+
+-- a seat, at a time
+abbrev pub seat_read : ℕ → Seat → Seat
+seat_read now s =
+    if is_due now s
+    then record s { poller = without_answer s.poller s.poller.transactions.pending; is_repeated = true }
+    else s
+
+-- ---- one log behind the other
+
+-- the same device, as another of its logs is polled
+abbrev pub begun : LogTask → LogPoller → LogPoller
+begun task p = record p { poll = task.poll; place = task.place; name = task.name; doing = doing.Asks }
+
+-- a seat as its next log begins, and as it was before
+abbrev pub IsNext : Seat → Seat → Type 0
+IsNext s t =
+    (task : LogTask) × (s.logs.items ≡ task ∷ t.logs.items)
+    × (t ≡ record s { poller = begun task s.poller; logs = t.logs })

@@ -1,0 +1,170 @@
+-- The polls of many devices over one port, as a machine. Read `GivesSite`, `site_heard` and `site_read`.
+use Rattle.std.specs.Prelude.{◌≡◌, ◌⊎◌, ℕ, ◌+◌, ◌-◌, ◌<◌, ◌≤◌, min, max, Bool, true, false}
+use Rattle.std.specs.Prelude.{List, [], ◌∷◌, ◌++◌, All, length, map, remove, slice_get, count_by, Option, None, Some, Ok, Err}
+use Rattle.bac_ports.specs.Port.{Receiving}
+use Rattle.bac_drive.specs.declared.machine.Next.{Next}
+use Rattle.bac_drive.specs.declared.machine.Next.TheVariants as next
+use Rattle.bac_poller.specs.Poller.{GivesBy}
+use Rattle.bac_poller.specs.Ending.{ended_line}
+use Rattle.bac_poller.specs.Seat.{IsNext, is_at, is_first, is_waiting, seat_heard, seat_read}
+use Rattle.bac_poller.specs.declared.limits.Limits.{Limits}
+use Rattle.bac_poller.specs.declared.log_poller.Doing.{Doing}
+use Rattle.bac_poller.specs.declared.log_poller.Doing.TheVariants as doing
+use Rattle.bac_poller.specs.declared.log_poller.Ending.{Ending}
+use Rattle.bac_poller.specs.declared.log_poller.LogPoller.{LogPoller}
+use Rattle.bac_poller.specs.declared.seat.Seat.{Seat}
+
+-- how many are asked at once; the time, and whether it may have passed since; the devices whose question is open or was
+-- answered just now, those that wait for their turn, and those of which all is told
+pub record SiteState : Type 0 where
+  pub limits : Limits
+  pub time : ℕ
+  pub is_stale : Bool
+  pub active : List Seat
+  pub waiting : List Seat
+  pub ended : List Seat
+
+-- no devices
+abbrev pub fresh_site : Limits → SiteState
+fresh_site limits =
+    record { limits = limits; time = 0; is_stale = true; active = []; waiting = []; ended = [] }
+
+-- ---- what comes
+
+-- A datagram came, if it fits one: each poll whose open question it answers has it, and every other one is as it was.
+abbrev pub given : List ℕ → Option (List ℕ) → List Seat → List Seat
+given from None seats = seats
+given from (Some datagram) seats = map (seat_heard from datagram) seats
+
+-- the same of what came while it waited
+abbrev pub site_heard : Receiving → SiteState → SiteState
+site_heard (Err fault) s = record s { is_stale = true }
+site_heard (Ok heard) s = record s { is_stale = true; active = given heard.from heard.datagram s.active }
+
+-- The clock tells a time, which doesn't go back: each send that was waited for has no answer.
+abbrev pub site_read : ℕ → SiteState → SiteState
+site_read ms s = record s {
+  time = max s.time ms;
+  is_stale = false;
+  active = map (seat_read (max s.time ms)) s.active;
+}
+
+-- ---- limits
+
+-- one more may be asked: too few have an open question that was sent once, and too few have one at all
+abbrev pub HasPlace : SiteState → Type 0
+HasPlace s = (count_by is_first s.active < s.limits.at_once) × (length s.active < s.limits.most)
+
+-- one more may be asked at the host of an address
+abbrev pub HasPlaceAt : SiteState → List ℕ → Type 0
+HasPlaceAt s peer = count_by (is_at peer) s.active < s.limits.at_host
+
+-- the device of a seat may be asked
+abbrev pub HasRoom : SiteState → Seat → Type 0
+HasRoom s seat = HasPlace s × HasPlaceAt s seat.poller.peer
+
+-- never more are open than may be: of those that were sent once, in all, and at one host
+abbrev pub IsWithin : SiteState → Type 0
+IsWithin s =
+    (count_by is_first s.active ≤ s.limits.at_once) × (length s.active ≤ s.limits.most)
+    × ((peer : List ℕ) → count_by (is_at peer) s.active ≤ s.limits.at_host)
+
+-- ---- where a seat goes
+
+-- until when a send now is waited for
+abbrev pub due_from : SiteState → ℕ
+due_from s = min (s.time + s.limits.wait_ms) 18446744073709551615
+
+-- a seat goes where it belongs, by what its poller is at
+abbrev pub put_by : Doing → SiteState → Seat → SiteState
+put_by doing.Asks s seat = record s { waiting = s.waiting ++ record seat { is_repeated = false } ∷ [] }
+put_by (doing.Waits left) s seat = record s { active = s.active ++ record seat { due = due_from s } ∷ [] }
+put_by (doing.Resends datagram) s seat = record s { active = s.active ++ seat ∷ [] }
+put_by (doing.Hears datagram) s seat = record s { active = s.active ++ seat ∷ [] }
+put_by (doing.Tells line end) s seat = record s { active = s.active ++ seat ∷ [] }
+put_by (doing.Ended why) s seat = record s { active = s.active ++ seat ∷ [] }
+
+abbrev pub put : SiteState → Seat → SiteState
+put s seat = put_by seat.poller.doing s seat
+
+-- its poll says what is wanted, and it goes where it belongs
+abbrev pub GivesFrom : SiteState → Seat → Next → SiteState → Type 0
+GivesFrom old s wanted new =
+    (p : LogPoller) × GivesBy s.poller.doing s.poller wanted p × (new ≡ put old (record s { poller = p }))
+
+-- the next log of its device waits for its turn; or there is none, and all of it is told
+abbrev pub GoesOn : SiteState → Seat → SiteState → Type 0
+GoesOn old s new =
+    ((t : Seat) × IsNext s t × (new ≡ put old t))
+    ⊎ ((s.logs.items ≡ []) × (new ≡ record old { ended = old.ended ++ s ∷ [] }))
+
+-- the poll of its log has ended so: its line is printed, and its device goes on
+abbrev pub Tells : Ending → SiteState → Seat → Next → SiteState → Type 0
+Tells why old s (next.Print line) new = (line.items ≡ ended_line s.poller.name.items why) × GoesOn old s new
+Tells why old s other new = ⊥
+
+-- by what it is at
+abbrev pub Acts : Doing → SiteState → Seat → Next → SiteState → Type 0
+Acts doing.Asks old s wanted new = GivesFrom old s wanted new
+Acts (doing.Resends datagram) old s wanted new = GivesFrom old s wanted new
+Acts (doing.Waits left) old s wanted new = GivesFrom old s wanted new
+Acts (doing.Hears datagram) old s wanted new = GivesFrom old s wanted new
+Acts (doing.Tells line end) old s wanted new = GivesFrom old s wanted new
+Acts (doing.Ended why) old s wanted new = Tells why old s wanted new
+
+-- ---- whose turn it is
+
+-- the one at a place isn't waiting
+abbrev pub MayAct : List Seat → ℕ → Type 0
+MayAct seats place = (s : Seat) × (slice_get seats place ≡ Some s) × (is_waiting s.poller.doing ≡ false)
+
+-- all are waiting
+abbrev pub NoneActs : List Seat → Type 0
+NoneActs seats = (place : ℕ) → MayAct seats place → ⊥
+
+-- the one at a place waits for its turn, and has room
+abbrev pub MayAsk : SiteState → ℕ → Type 0
+MayAsk s place = (seat : Seat) × (slice_get s.waiting place ≡ Some seat) × HasRoom s seat
+
+-- and none before it has
+abbrev pub IsNextAsked : SiteState → ℕ → Type 0
+IsNextAsked s place = MayAsk s place × ((k : ℕ) → k < place → MayAsk s k → ⊥)
+
+-- none of those that wait for their turn has room
+abbrev pub NoneAsked : SiteState → Type 0
+NoneAsked s = (place : ℕ) → MayAsk s place → ⊥
+
+-- a time is the first at which one of them is due
+abbrev pub IsNearest : List Seat → ℕ → Type 0
+IsNearest seats due =
+    All (λ s. due ≤ s.due) seats × ((place : ℕ) × (s : Seat) × (slice_get seats place ≡ Some s) × (due ≡ s.due))
+
+-- ---- what it wants
+
+-- one that was asked, and isn't waiting any more, does what it is at
+abbrev pub IsActed : SiteState → Next → SiteState → Type 0
+IsActed old wanted new =
+    (place : ℕ) × (s : Seat) × (slice_get old.active place ≡ Some s) × (is_waiting s.poller.doing ≡ false)
+    × Acts s.poller.doing (record old { active = remove old.active place }) s wanted new
+
+-- the first that waits for its turn and has room is asked
+abbrev pub IsAsked : SiteState → Next → SiteState → Type 0
+IsAsked old wanted new =
+    (place : ℕ) × (s : Seat) × (slice_get old.waiting place ≡ Some s) × IsNextAsked old place
+    × GivesFrom (record old { waiting = remove old.waiting place }) s wanted new
+
+-- nothing is to be done before the next of those that are asked is due; or all have ended
+abbrev pub Rests : SiteState → Next → Type 0
+Rests s (next.Wait within) = (due : ℕ) × IsNearest s.active due × (within ≡ min (due - s.time) 4294967295)
+Rests s next.End = (s.active ≡ []) × (s.waiting ≡ [])
+Rests s other = ⊥
+
+-- what it wants while all that are asked are waited for: first the clock, if time may have passed
+abbrev pub GivesWaiting : Bool → SiteState → Next → SiteState → Type 0
+GivesWaiting true old wanted new = (wanted ≡ next.Read) × (new ≡ old)
+GivesWaiting false old wanted new = IsAsked old wanted new ⊎ (NoneAsked old × Rests old wanted × (new ≡ old))
+
+-- What a site wants.
+abbrev pub GivesSite : SiteState → Next → SiteState → Type 0
+GivesSite old wanted new =
+    IsActed old wanted new ⊎ (NoneActs old.active × GivesWaiting old.is_stale old wanted new)

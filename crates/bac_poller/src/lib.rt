@@ -1,0 +1,25 @@
+//! The poll of one log of one device as a machine: what is sent to the device, what is waited for,
+//! and which rows are kept.
+#![tactic(auto)]
+
+mod datum;
+mod ending;
+mod laws;
+mod limits;
+mod log_poller;
+mod polling;
+mod putting;
+mod seat;
+mod site;
+mod word;
+
+pub use laws::{
+    all_are_told, ask_in_turn, begins_unasked, go_alone, open_within, others_not_heeded,
+    repeats_are_marked, rows_came, sends_ask, site_rows_came, site_sends_ask, stays_within,
+    wants_within, within_limits,
+};
+pub use limits::Limits;
+pub use log_poller::{Doing, Ending, LogPoller, Wanted};
+pub use polling::poll_site;
+pub use seat::{LogTask, Seat};
+pub use site::SitePoll;

@@ -1,0 +1,281 @@
+//! The polls of many devices over one port.
+
+ghost use Rattle.std.specs.Prelude.{◌≡◌, ◌↔◌, ◌++◌, ◌∷◌, [], IfNone, IfOk, IfSome, IsTrue, OnOk};
+ghost use Rattle.std.specs.Bool.{OnFalse, OnTrue};
+ghost use Rattle.bac_poller.specs.Site.{Acts, GivesFrom, GivesSite, GivesWaiting, GoesOn, HasPlace, HasPlaceAt};
+ghost use Rattle.bac_poller.specs.Site.{IsActed, IsAsked, IsNextAsked, MayAct, MayAsk, NoneAsked};
+ghost use Rattle.bac_poller.specs.Site.{Rests, Tells, fresh_site, put, site_heard, site_read};
+
+use crate::ending::ended_line;
+use crate::limits::Limits;
+use crate::log_poller::{Doing, Ending};
+use crate::seat::{Seat, acting, count_at, count_first, hear_all, nearest, read_all};
+use bac_drive::{Machine, Next};
+use bac_ports::{Heard, SocketFault};
+use std::alloc::{AllocError, Global};
+use std::collections::VecDeque;
+use std::marker::Model;
+
+/// The devices: those whose question is open, or was answered just now; those that wait for their
+/// turn, the next one first; and those of which all is told.
+#[derive(Drop)]
+pub struct SitePoll {
+    limits: Limits,
+    time: u64,
+    is_stale: bool,
+    active: Vec<Seat>,
+    waiting: VecDeque<Seat>,
+    ended: Vec<Seat>,
+}
+
+impl Model for SitePoll {
+    ghost use Rattle.bac_poller.specs.Site.{SiteState};
+
+    ghost Value = { SiteState };
+
+    ghost view = { λ site. record {
+      limits = site.limits;
+      time = site.time;
+      is_stale = site.is_stale;
+      active = site.active.items;
+      waiting = site.waiting.items;
+      ended = site.ended.items;
+    } };
+}
+
+impl SitePoll {
+    /// No devices.
+    pub fn new(alloc: Global, limits: Limits) -> SitePoll
+        ensures { result ≡ fresh_site limits }
+    {
+        SitePoll {
+            limits,
+            time: 0,
+            is_stale: true,
+            active: Vec::new(alloc),
+            waiting: VecDeque::new(alloc),
+            ended: Vec::new(alloc),
+        }
+    }
+
+    /// One more, which is asked behind the others.
+    pub fn add(&mut self, seat: Seat) -> Result<(), AllocError>
+        ensures ok { OnOk result
+            (self.new ≡ record self.old { waiting = self.old.waiting ++ seat ∷ [] }) }
+    {
+        self.waiting.push_back(seat)?;
+        Ok(())
+    }
+
+    /// A datagram came, or none in time.
+    fn hear_any(&mut self, heard: Result<Heard, SocketFault>)
+        ensures { self.new ≡ site_heard heard self.old }
+    {
+        self.is_stale = true;
+        if let Ok(heard) = heard {
+            let Heard { from, datagram } = heard;
+            if let Some(datagram) = datagram {
+                hear_all(self.active.as_mut_slice(), from, &datagram);
+            }
+        }
+    }
+
+    /// The clock tells so many milliseconds. It never goes back.
+    fn read_to(&mut self, ms: u64)
+        ensures { self.new ≡ site_read ms self.old }
+    {
+        let now = self.time.max(ms);
+        self.time = now;
+        self.is_stale = false;
+        read_all(self.active.as_mut_slice(), now);
+    }
+
+    /// Whether one more may be asked.
+    fn has_place(&self) -> bool
+        ensures { IsTrue result ↔ HasPlace self.now }
+    {
+        count_first(self.active.as_slice()) < self.limits.at_once
+            && self.active.len() < self.limits.most
+    }
+
+    /// Whether one more may be asked at the host of an address.
+    fn has_place_at(&self, peer: [u8; 6]) -> bool
+        ensures { IsTrue result ↔ HasPlaceAt self.now peer }
+    {
+        count_at(self.active.as_slice(), peer) < self.limits.at_host
+    }
+
+    /// Whether the one at a place waits for its turn, and its host has room.
+    fn is_free(&self, place: usize) -> bool
+        requires { HasPlace self.now }
+        ensures free { OnTrue result (MayAsk self.now place) }
+        ensures full { OnFalse result (MayAsk self.now place → ⊥) }
+    {
+        match self.waiting.get(place) {
+            Some(seat) => self.has_place_at(seat.poller.peer),
+            None => false,
+        }
+    }
+
+    /// The place of the first that waits for its turn and has room.
+    fn free(&self) -> Option<usize>
+        ensures some { IfSome result (λ place. IsNextAsked self.now place) }
+        ensures none { IfNone result (NoneAsked self.now) }
+    {
+        if !self.has_place() {
+            return None;
+        }
+        for place in 0..self.waiting.len() {
+            if self.is_free(place) {
+                return Some(place);
+            }
+        }
+        None
+    }
+
+    /// A seat goes where it belongs, by what its poller is at.
+    fn put(&mut self, seat: Seat) -> Result<(), AllocError>
+        ensures { OnOk result (self.new ≡ put self.old seat) }
+    {
+        let mut seat = seat;
+        match &seat.poller.doing {
+            Doing::Asks => {
+                seat.is_repeated = false;
+                self.waiting.push_back(seat)?;
+            }
+            Doing::Waits(_) => {
+                seat.due = self.time.saturating_add(u64::from(self.limits.wait_ms));
+                self.active.push(seat)?;
+            }
+            Doing::Resends(_) => self.active.push(seat)?,
+            Doing::Hears(_) => self.active.push(seat)?,
+            Doing::Tells(_, _) => self.active.push(seat)?,
+            Doing::Ended(_) => self.active.push(seat)?,
+        }
+        Ok(())
+    }
+
+    /// A seat's poll says what it wants, and the seat goes where it belongs.
+    fn give(&mut self, alloc: Global, seat: Seat) -> Result<Next, AllocError>
+        ensures { IfOk result (λ next. GivesFrom self.old seat next self.new) }
+    {
+        let mut seat = seat;
+        let next = seat.poller.next(alloc)?;
+        self.put(seat)?;
+        Ok(next)
+    }
+
+    /// The next log of a device waits for its turn; or there is none, and all of it is told.
+    fn go_on(&mut self, seat: Seat) -> Result<(), AllocError>
+        ensures { OnOk result (GoesOn self.old seat self.new) }
+    {
+        let mut seat = seat;
+        if seat.logs.is_empty() {
+            self.ended.push(seat)?;
+        } else {
+            seat.go_on();
+            self.put(seat)?;
+        }
+        Ok(())
+    }
+
+    /// The poll of a log has ended, and its line is printed.
+    fn tell(&mut self, alloc: Global, seat: Seat, why: Ending) -> Result<Next, AllocError>
+        ensures { IfOk result (λ next. Tells why self.old seat next self.new) }
+    {
+        let line = ended_line(alloc, seat.poller.name.as_slice(), why)?;
+        self.go_on(seat)?;
+        Ok(Next::Print(line))
+    }
+
+    /// One that isn't waiting any more does what it is at.
+    fn act(&mut self, alloc: Global, seat: Seat) -> Result<Next, AllocError>
+        ensures { IfOk result (λ next. Acts seat.poller.doing self.old seat next self.new) }
+    {
+        match &seat.poller.doing {
+            Doing::Asks => self.give(alloc, seat),
+            Doing::Resends(_) => self.give(alloc, seat),
+            Doing::Waits(_) => self.give(alloc, seat),
+            Doing::Hears(_) => self.give(alloc, seat),
+            Doing::Tells(_, _) => self.give(alloc, seat),
+            Doing::Ended(why) => {
+                let why = *why;
+                self.tell(alloc, seat, why)
+            }
+        }
+    }
+
+    /// The same of the active one at a place.
+    fn act_at(&mut self, alloc: Global, place: usize) -> Result<Next, AllocError>
+        requires { MayAct self.old.active place }
+        ensures { IfOk result (λ next. IsActed self.old next self.new) }
+    {
+        let seat = self.active.remove(place);
+        self.act(alloc, seat)
+    }
+
+    /// The one at a place is asked.
+    fn ask_at(&mut self, alloc: Global, place: usize) -> Result<Next, AllocError>
+        requires { IsNextAsked self.old place }
+        ensures { IfOk result (λ next. IsAsked self.old next self.new) }
+    {
+        match self.waiting.remove(place) {
+            Some(seat) => self.give(alloc, seat),
+            None => unreachable!(),
+        }
+    }
+
+    /// Nothing is to be done now: those that are asked are waited for, or all have ended.
+    fn rest(&self) -> Next
+        requires { NoneAsked self.now }
+        ensures { Rests self.now result }
+    {
+        match nearest(self.active.as_slice()) {
+            Some(due) => Next::Wait(due.saturating_sub(self.time).min(u64::from(u32::MAX)) as u32),
+            None => Next::End,
+        }
+    }
+
+    /// What is to be done while all that are asked are waited for.
+    fn wait(&mut self, alloc: Global) -> Result<Next, AllocError>
+        ensures { IfOk result (λ next. GivesWaiting self.old.is_stale self.old next self.new) }
+    {
+        if self.is_stale {
+            return Ok(Next::Read);
+        }
+        match self.free() {
+            Some(place) => self.ask_at(alloc, place),
+            None => Ok(self.rest()),
+        }
+    }
+
+    /// What is to be done.
+    fn want(&mut self, alloc: Global) -> Result<Next, AllocError>
+        ensures { IfOk result (λ next. GivesSite self.old next self.new) }
+    {
+        match acting(self.active.as_slice()) {
+            Some(place) => self.act_at(alloc, place),
+            None => self.wait(alloc),
+        }
+    }
+}
+
+impl Machine for SitePoll {
+    ghost gives = { λ old wanted new. GivesSite old wanted new };
+
+    ghost hears = { λ old heard new. new ≡ site_heard heard old };
+
+    ghost reads = { λ old ms new. new ≡ site_read ms old };
+
+    fn next(&mut self, alloc: Global) -> Result<Next, AllocError> {
+        self.want(alloc)
+    }
+
+    fn hear(&mut self, heard: Result<Heard, SocketFault>) {
+        self.hear_any(heard);
+    }
+
+    fn read(&mut self, ms: u64) {
+        self.read_to(ms);
+    }
+}

@@ -1,0 +1,193 @@
+//! A site of three devices, one of them silent.
+
+use bac_drive::{Machine, Next};
+use bac_keep::Place;
+use bac_link::Transactions;
+use bac_poll::{LogPoll, Told};
+use bac_poller::{Doing, Limits, LogPoller, LogTask, Seat, SitePoll};
+use bac_ports::{Heard, SocketFault};
+use bac_walk::Count;
+use bac_wire::{Datagram, ObjectId};
+use std::alloc::{AllocError, Global};
+use std::collections::VecDeque;
+use std::test::Fail;
+
+/// Where the invoke ID stands in a request without a route.
+const INVOKE: usize = 8;
+
+/// The lines, in the order in which the logs end.
+const PRINTED: &[u8] = b"first: refused: abort 4\nthird: refused: abort 4\n\
+    first, 11: refused: abort 4\nsilent: lost\n";
+
+pub(crate) fn peer(number: u8) -> [u8; 6] {
+    [10, 0, 0, number, 0xba, 0xc0]
+}
+
+/// The invoke ID of a request.
+pub(crate) fn invoke_in(octets: &[u8]) -> u8 {
+    if octets.len() > INVOKE {
+        octets[INVOKE]
+    } else {
+        0
+    }
+}
+
+/// An Abort by the server that answers the request with this invoke ID.
+fn abort(invoke: u8) -> Option<Datagram> {
+    Datagram::of(&[0x81, 0x0a, 0x00, 0x09, 0x01, 0x00, 0x71, invoke, 0x04])
+}
+
+/// The first run of the log with an instance.
+fn log(alloc: Global, instance: u32) -> Result<LogPoll, Fail> {
+    let object = ObjectId::new(20, instance).ok_or("no object")?;
+    let device = ObjectId::new(8, 1).ok_or("no device")?;
+    let many = Count::new(100).ok_or("no count")?;
+    let word = Told::nothing(alloc);
+    let told = Told::nothing(alloc);
+    match LogPoll::starting(alloc, object, device, many, None, word, told) {
+        Some(poll) => Ok(poll),
+        None => Err(Fail::from("no trend log")),
+    }
+}
+
+fn named(alloc: Global, name: &[u8]) -> Result<Vec<u8>, Fail> {
+    let mut text = Vec::new(alloc);
+    text.extend_from_slice(name)?;
+    Ok(text)
+}
+
+/// A device with one log.
+fn seat(alloc: Global, number: u8, name: &[u8]) -> Result<Seat, Fail> {
+    Ok(Seat {
+        poller: LogPoller {
+            poll: log(alloc, u32::from(number))?,
+            transactions: Transactions::new(1),
+            peer: peer(number),
+            wait_ms: 3000,
+            place: Place::new(u16::from(number), 0).ok_or("no place")?,
+            name: named(alloc, name)?,
+            doing: Doing::Asks,
+        },
+        due: 0,
+        is_repeated: false,
+        logs: VecDeque::new(alloc),
+    })
+}
+
+/// Three devices, the first with two logs, of which one is asked at once.
+fn site(alloc: Global) -> Result<SitePoll, Fail> {
+    let mut site = SitePoll::new(alloc, Limits::new(1, 1, 8, 3000));
+    let mut first = seat(alloc, 1, b"first")?;
+    first.logs.push_back(LogTask {
+        poll: log(alloc, 11)?,
+        place: Place::new(11, 0).ok_or("no place")?,
+        name: named(alloc, b"first, 11")?,
+    })?;
+    site.add(first)?;
+    site.add(seat(alloc, 2, b"silent")?)?;
+    site.add(seat(alloc, 3, b"third")?)?;
+    Ok(site)
+}
+
+/// A site, and what was done of it.
+#[derive(Drop)]
+struct Rig {
+    site: SitePoll,
+    /// Whether a device answers, which, and to which invoke ID.
+    is_answered: bool,
+    from: [u8; 6],
+    invoke: u8,
+    /// To which devices was sent.
+    sends: Vec<u8>,
+    printed: Vec<u8>,
+    rows: usize,
+    ms: u64,
+}
+
+impl Rig {
+    fn new(alloc: Global, site: SitePoll) -> Rig {
+        Rig {
+            site,
+            is_answered: false,
+            from: [0; 6],
+            invoke: 0,
+            sends: Vec::new(alloc),
+            printed: Vec::new(alloc),
+            rows: 0,
+            ms: 0,
+        }
+    }
+
+    /// A datagram is sent. The second device is silent, each other one answers.
+    fn send(&mut self, octets: &[u8], to: [u8; 6]) -> Result<(), AllocError> {
+        self.sends.push(to[3])?;
+        if to[3] != 2 {
+            self.is_answered = true;
+            self.from = to;
+            self.invoke = invoke_in(octets);
+        }
+        Ok(())
+    }
+
+    /// A datagram is waited for. What was answered comes at once.
+    fn wait(&mut self, within: u32) {
+        if self.is_answered {
+            self.is_answered = false;
+            let from = self.from;
+            let datagram = abort(self.invoke);
+            self.site.hear(Ok(Heard { from, datagram }));
+        } else {
+            self.ms = self.ms.saturating_add(u64::from(within));
+            self.site.hear(Err(SocketFault::Timeout));
+        }
+    }
+
+    /// Prints a line.
+    fn print(&mut self, line: &[u8]) -> Result<(), AllocError> {
+        self.printed.extend_from_slice(line)
+    }
+
+    /// Does one thing: whether the site has ended.
+    fn take(&mut self, next: Next) -> Result<bool, AllocError> {
+        match next {
+            Next::Send(datagram, to) => self.send(datagram.octets(), to)?,
+            Next::Wait(within) => self.wait(within),
+            Next::Read => self.site.read(self.ms),
+            Next::Keep(puts) => self.rows = self.rows.saturating_add(puts.len()),
+            Next::Print(line) => self.print(line.as_slice())?,
+            Next::Warn(line) => self.print(line.as_slice())?,
+            Next::End => return Ok(true),
+        }
+        Ok(false)
+    }
+
+    /// Does one thing that the site wants: whether it has ended.
+    fn step(&mut self, alloc: Global) -> Result<bool, AllocError> {
+        match self.site.next(alloc) {
+            Ok(next) => self.take(next),
+            Err(error) => Err(error),
+        }
+    }
+
+    /// Drives the site: whether it has ended.
+    fn drive(&mut self, alloc: Global) -> Result<bool, AllocError> {
+        for _ in 0..100 {
+            if self.step(alloc)? {
+                return Ok(true);
+            }
+        }
+        Ok(false)
+    }
+}
+
+#[test]
+fn a_silent_device_holds_none_up(rt: HostRuntime) -> Result<(), Fail> {
+    let mut rig = Rig::new(rt.alloc(), site(rt.alloc())?);
+    let ended = rig.drive(rt.alloc())?;
+    assert!(rt; ended);
+    assert!(rt; rig.sends.as_slice() == [1, 2, 2, 3, 1, 3, 1, 1].as_slice());
+    assert!(rt; rig.printed.as_slice() == PRINTED);
+    assert!(rt; rig.rows == 0);
+    assert!(rt; rig.ms == 6000);
+    Ok(())
+}
