@@ -8,7 +8,7 @@ use Rattle.bac_walk.specs.declared.batch.Numbered.{Numbered}
 use Rattle.bac_poll.specs.Back.{back, back_alone, back_by, back_done, back_lost, back_more, back_shown, is_front, shown_last, went_back}
 use Rattle.bac_poll.specs.Epochs.{another, another_by, another_of, asks_back, asks_oldest, brings_behind, renews, renews_none, renews_of}
 use Rattle.bac_poll.specs.Gone.{asks_restart, asks_revision, asks_word, by_gone, by_word, doubt, retold}
-use Rattle.bac_poll.specs.Joins.{again, again_by, again_equal, again_from, ahead, asks_again, asks_each, asks_newest, at_hour, brings_ahead, each, each_all, each_by, each_means, each_next, goes_nowhere, hour, joined, joins, joins_by, joins_from, lost, lost_ahead, moved_ahead, prior}
+use Rattle.bac_poll.specs.Joins.{again, again_by, again_equal, again_from, ahead, asks_again, asks_each, asks_newest, at_hour, brings_ahead, each, each_all, each_by, each_means, each_next, found, goes_nowhere, hour, joined, joins, joins_by, joins_from, lost, lost_ahead, moved_ahead, prior}
 use Rattle.bac_poll.specs.Known.{means_in, number_in, record_at, records_behind, shown_in, word_of}
 use Rattle.bac_poll.specs.Laws.{EndAt, Goes, TellsFront, IsAimed, IsAt, IsBefore, IsEach, IsFront, IsFrontOf, IsRun, IsTold}
 use Rattle.bac_poll.specs.Oldest.{by_count, by_number, drops, is_first, logged, sees, sees_before, sees_by, sees_newest, sees_none, sees_same}
@@ -147,13 +147,12 @@ module _ (P : Numbered → Type 0) (F : ℕ → Type 0) where
   each_begins p None is here known = another_goes p
   each_begins p (Some kept) is here known = (record { mid = p.next; before = refl; behind = refl; fronts = λ sure. (tt, tt) }, λ none. (known, here))
 
-  nowhere_goes : (p : PollState) (done alone : Bool) (held : Numbered) → p.next ≡ number_after held.number 1 → IsBefore p.newest p.next →
-      Goes P F p.next (goes_nowhere p done alone held)
-  nowhere_goes p done alone held here known =
+  nowhere_goes : (p : PollState) (done alone : Bool) → IsBefore p.newest p.next → IsAt P F p p.stage → Goes P F p.next (goes_nowhere p done alone)
+  nowhere_goes p done alone known at =
       split P F (Goes P F p.next) done _ _ (λ last. ends_goes P F p CaughtUp)
       (λ more. split P F (Goes P F p.next) alone _ _
-      (λ one. (record { mid = p.next; before = refl; behind = refl; fronts = λ sure. (tt, tt) }, λ none. (here, tt)))
-      (λ some. (record { mid = p.next; before = refl; behind = refl; fronts = λ sure. (tt, tt) }, λ none. (here, tt))))
+      (λ one. (record { mid = p.next; before = refl; behind = refl; fronts = λ sure. (tt, tt) }, λ none. (known, tt)))
+      (λ some. (record { mid = p.next; before = refl; behind = refl; fronts = λ sure. (tt, tt) }, λ none. (known, at))))
 
   joined_goes : (p : PollState) (kept : KeptAs) (reply : Reply) (n : ℕ) (found : Option Numbered) → record_at kept.number reply.records ≡ found →
       IsRun P n reply.records → p.next ≡ number_after kept.number 1 → IsBefore p.newest p.next → Goes P F p.next (joined p kept reply found)
@@ -163,8 +162,8 @@ module _ (P : Numbered → Type 0) (F : ℕ → Type 0) where
       let behind : IsRun P p.next (records_behind kept.number reply.records) =
       subst (λ k. IsRun P k (records_behind kept.number reply.records)) (sym here) (run_behind P F kept.number n reply.records run) in
       split P F (Goes P F p.next) (length (records_behind kept.number reply.records) == 0) _ _
-      (λ none. nowhere_goes (confirmed p) _ _ held (here ∙ ap (λ (k : ℕ). number_after k 1) (sym same)) known)
-      (λ some. brings_goes P F (confirmed p) (records_behind kept.number reply.records) behind)
+      (λ none. nowhere_goes (found p held) _ _ (here ∙ ap (λ (k : ℕ). number_after k 1) (sym same)) tt)
+      (λ some. brings_goes P F (found p held) (records_behind kept.number reply.records) behind)
 
   from_goes : (p : PollState) (reply : Reply) (n : ℕ) (newest : Option KeptAs) → p.newest ≡ newest → IsBefore newest p.next → IsBefore p.newest p.next →
       IsRun P n reply.records → Goes P F p.next (joins_from p reply newest)
@@ -335,7 +334,7 @@ module _ (P : Numbered → Type 0) (F : ℕ → Type 0) where
       subst (λ k. IsRun P k (records_behind kept.number records)) (sym here) (run_behind P F kept.number (first_number records) records run.0) in
       split P F (Goes P F p.next) ((length (records_behind kept.number records) == 0) && not p.alone) _ _
       (λ none. (record { mid = p.next; before = refl; behind = refl; fronts = λ sure. (tt, tt) }, λ none. (shown_here, tt)))
-      (λ some. brings_goes P F (confirmed p) (records_behind kept.number records) behind)
+      (λ some. brings_goes P F (found p held) (records_behind kept.number records) behind)
 
   sees_same_goes : (p : PollState) (cut : Bool) (records : List Numbered) (newest : Option KeptAs) → IsBefore newest p.next → IsBefore p.newest p.next → FrontRun p records →
       Goes P F p.next (sees_same p cut records newest)
@@ -464,10 +463,10 @@ module _ (P : Numbered → Type 0) (F : ℕ → Type 0) where
       FrontRun p held → IsRun P (first_number records) records → IsFront F records → Goes P F p.next (back p aim held records)
   back_takes p aim held records known aimed kept run front =
       split P F (Goes P F p.next) (nat_lt p.back 2147483648) _ _
-      (λ near. takes (record p { back = p.back + went_back p records }) aim records known (aimed_so aim aimed) kept run front)
+      (λ near. takes (went_back p records) aim records known (aimed_so aim aimed) kept run front)
       (λ far. ends_goes P F p Contradicts)
     where
-      aimed_so : (aim : Aim) → IsAimed p aim → IsAimed (record p { back = p.back + went_back p records }) aim
+      aimed_so : (aim : Aim) → IsAimed p aim → IsAimed (went_back p records) aim
       aimed_so Finds aimed = tt
       aimed_so Renews aimed = aimed
       aimed_so Starts aimed = aimed

@@ -70,13 +70,13 @@ back_by p aim held records (Some last) =
     if last.number == first_number held then back_shown p aim held records (shown_last (first_in held) last)
     else back_more p aim records
 
--- how many numbers these go back from the one that was asked for, with that one
-abbrev pub went_back : PollState → List Numbered → ℕ
-went_back p records = distance (number_or p.reference (first_in records)) p.reference + 1
+-- the poll went back to the first of these, from the number that was asked for on, and with that
+abbrev pub went_back : PollState → List Numbered → PollState
+went_back p records =
+    record p { back = p.back + distance (number_or p.reference (first_in records)) p.reference + 1 }
 
 -- A reply to that. Half of all numbers lie before one: who went back behind them contradicts itself.
 abbrev pub back : PollState → Aim → List Numbered → List Numbered → Turned
 back p aim held records =
-    if nat_lt p.back 2147483648
-    then back_by (record p { back = p.back + went_back p records }) aim held records (last_in records)
+    if nat_lt p.back 2147483648 then back_by (went_back p records) aim held records (last_in records)
     else ends p Contradicts

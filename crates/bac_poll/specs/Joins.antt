@@ -28,17 +28,19 @@ asks_each p held (Some number) = asks (record p { stage = Each; reference = numb
 
 -- Nothing follows the newest known one: the log is done, if it says so; else, if that came alone, what follows it by
 -- number is asked for, and else it is asked for alone.
-abbrev pub goes_nowhere : PollState → (done : Bool) → (alone : Bool) → Numbered → Turned
-goes_nowhere p done alone held =
-    if done then ends p CaughtUp
-    else (if alone then asks_at (standing_on p (kept_of held)) Ahead p.next
-    else asks (standing_on p (kept_of held)))
+abbrev pub goes_nowhere : PollState → (done : Bool) → (alone : Bool) → Turned
+goes_nowhere p done alone =
+    if done then ends p CaughtUp else (if alone then asks_at p Ahead p.next else asks p)
 
--- the log is found at its place by this record, the newest known one; what follows that is kept
-abbrev pub goes_on : PollState → Reply → Numbered → List Numbered → Turned
-goes_on p reply held news =
-    if length news == 0 then goes_nowhere p (reply.last && not reply.more) (length reply.records == 1) held
+-- the log is found at its place by the newest known record; what follows that is kept
+abbrev pub goes_on : PollState → Reply → List Numbered → Turned
+goes_on p reply news =
+    if length news == 0 then goes_nowhere p (reply.last && not reply.more) (length reply.records == 1)
     else brings p news
+
+-- the log is found at its place by this record, the newest known one, which is known as it is shown from then on
+abbrev pub found : PollState → Numbered → PollState
+found p held = standing_on (confirmed p) (kept_of held)
 
 -- the newest known one is asked for by its number
 abbrev pub asks_newest : PollState → (number : ℕ) → Turned
@@ -47,7 +49,7 @@ asks_newest p number = asks (asking_from p number)
 -- known records are shown as they are known, with the newest or, as a short reply does, without it
 abbrev pub joined : PollState → KeptAs → Reply → Option Numbered → Turned
 joined p kept reply None = asks_newest p kept.number
-joined p kept reply (Some held) = goes_on (confirmed p) reply held (records_behind kept.number reply.records)
+joined p kept reply (Some held) = goes_on (found p held) reply (records_behind kept.number reply.records)
 
 -- the same where the newest is known
 abbrev pub joins_from : PollState → Reply → Option KeptAs → Turned

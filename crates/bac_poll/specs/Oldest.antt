@@ -5,11 +5,11 @@ use Rattle.bac_link.specs.Ordinals.{is_ahead}
 use Rattle.bac_walk.specs.declared.batch.Numbered.{Numbered}
 use Rattle.bac_poll.specs.Epochs.{another_by, another_of, asks_back}
 use Rattle.bac_poll.specs.Gone.{asks_word, has_logged}
-use Rattle.bac_poll.specs.Joins.{asks_each, asks_newest, at_hour, hour}
+use Rattle.bac_poll.specs.Joins.{asks_each, asks_newest, at_hour, found, hour}
 use Rattle.bac_poll.specs.Known.{means_in, number_in, record_at, records_behind}
-use Rattle.bac_poll.specs.State.{KeptAs, PollState, Reply, kept_of}
+use Rattle.bac_poll.specs.State.{KeptAs, PollState, Reply}
 use Rattle.bac_poll.specs.Turns.{Turned, asks, asks_at, brings, confirmed, ends, first_number, last_in}
-use Rattle.bac_poll.specs.Turns.{number_before, number_or, standing_on}
+use Rattle.bac_poll.specs.Turns.{number_before, number_or}
 use Rattle.bac_poll.specs.declared.known.Means.{Means}
 use Rattle.bac_poll.specs.declared.known.Means.TheVariants.{Shifted, Partly, Same, Unshown, Another}
 use Rattle.bac_poll.specs.declared.stage.Aim.TheVariants.{Finds}
@@ -30,14 +30,12 @@ abbrev pub drops : PollState → (back : Bool) → List Numbered → Turned
 drops p back records =
     if back && not (is_first p (first_number records)) then asks_back p Finds records else asks_word p records
 
--- The last of them is asked for by number: a device that shows it so would show the newest known one, too.
-abbrev pub asks_number : PollState → List Numbered → Turned
-asks_number p records =
-    asks (record p { stage = ByNumber; reference = number_or 0 (last_in records); held = records })
-
--- They begin before the newest known one, and don't show it: another life, unless they may be cut off.
+-- They begin before the newest known one, and don't show it: another life. Where they may be cut off the last of them is
+-- asked for by number before: a device that shows it so would show the newest known one, too.
 abbrev pub sees_before : PollState → (cut : Bool) → List Numbered → Turned
-sees_before p cut records = if cut then asks_number p records else another_by p records
+sees_before p cut records =
+    if cut then asks (record p { stage = ByNumber; reference = number_or 0 (last_in records); held = records })
+    else another_by p records
 
 -- none is shown by number either: such a log can't be walked
 abbrev pub by_number : PollState → (held : List Numbered) → List Numbered → Turned
@@ -49,15 +47,14 @@ sees_none p back cut records =
     if is_ahead p.next (first_number records) then drops p back records else sees_before p cut records
 
 -- What follows the newest is kept. Nothing follows, and it wasn't asked for by number yet, but an earlier one was: it is.
-abbrev pub sees_news : PollState → (newest : Numbered) → List Numbered → Turned
-sees_news p newest news =
-    if (length news == 0) && not p.alone then asks (standing_on p (kept_of newest)) else brings p news
+abbrev pub sees_news : PollState → (asked : Bool) → List Numbered → Turned
+sees_news p asked news = if (length news == 0) && not asked then asks p else brings p news
 
 -- They show known ones as they are known: what follows the newest is kept, if that is among them. A short reply may not
 -- come to it: it is asked for, if it wasn't yet.
 abbrev pub sees_newest : PollState → KeptAs → (cut : Bool) → List Numbered → Option Numbered → Turned
 sees_newest p kept cut records None = if p.alone then sees_before p cut records else asks_newest p kept.number
-sees_newest p kept cut records (Some held) = sees_news (confirmed p) held (records_behind kept.number records)
+sees_newest p kept cut records (Some held) = sees_news (found p held) p.alone (records_behind kept.number records)
 
 -- the same where the newest is known
 abbrev pub sees_same : PollState → (cut : Bool) → List Numbered → Option KeptAs → Turned

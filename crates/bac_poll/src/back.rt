@@ -1,9 +1,9 @@
 //! What stands before the first of the records that are held back.
 
-ghost use Rattle.std.specs.Prelude.{◌≡◌, ◌≤◌, IfOk};
+ghost use Rattle.std.specs.Prelude.{◌≡◌, IfOk};
 ghost use Rattle.bac_poll.specs.Turns.{last_in, turned};
 ghost use Rattle.bac_poll.specs.Back.{back, back_alone, back_by, back_done, back_lost, back_more, back_shown};
-ghost use Rattle.bac_poll.specs.Back.{is_front, shown_last, went_back};
+ghost use Rattle.bac_poll.specs.Back.{is_front, shown_last};
 
 use crate::kept::Kept;
 use crate::known::{Means, Shown, shown_as};
@@ -141,14 +141,6 @@ impl LogPoll {
         }
     }
 
-    // How many numbers these go back from the one that was asked for.
-    fn went_back(&self, records: &ArrayVec<Numbered, 100>) -> u64
-        ensures value { result ≡ went_back self.now records.now.items }
-        ensures bound { result ≤ 4294967296 }
-    {
-        distance(number_or(self.reference, first_in(records)), self.reference) + 1
-    }
-
     /// A reply to that: half of all numbers lie before one.
     pub(crate) fn take_back(
         &mut self,
@@ -161,7 +153,8 @@ impl LogPoll {
             ≡ back self.old aim held.items records.items) }
     {
         if self.back < 2147483648 {
-            self.back = self.back + self.went_back(&records);
+            let first = number_or(self.reference, first_in(&records));
+            self.back = self.back + distance(first, self.reference) + 1;
             self.take_back_by(alloc, aim, held, records)
         } else {
             Ok(self.ends(PollEnd::Contradicts))

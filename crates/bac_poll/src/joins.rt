@@ -7,7 +7,7 @@ ghost use Rattle.bac_poll.specs.Turns.{first_in, last_in};
 ghost use Rattle.bac_poll.specs.Turns.{turned};
 ghost use Rattle.bac_poll.specs.Joins.{again, again_by, again_equal, ahead, ahead_none, asks_again};
 ghost use Rattle.bac_poll.specs.Joins.{asks_each, asks_newest, at_hour, brings_ahead, each, each_all};
-ghost use Rattle.bac_poll.specs.Joins.{each_by, each_means, each_next, goes_nowhere, goes_on, hour};
+ghost use Rattle.bac_poll.specs.Joins.{each_by, each_means, each_next, found, goes_nowhere, goes_on, hour};
 ghost use Rattle.bac_poll.specs.Joins.{joined, joins, joins_by, joins_from, lost, lost_ahead};
 ghost use Rattle.bac_poll.specs.Joins.{moved_ahead, prior};
 
@@ -43,35 +43,21 @@ impl LogPoll {
     }
 
     // Nothing follows the newest known one.
-    fn go_nowhere(
-        &mut self,
-        alloc: Global,
-        done: bool,
-        alone: bool,
-        held: Numbered,
-    ) -> Result<Turn, AllocError>
-        ensures { IfOk result (λ turn. turned self.new turn ≡ goes_nowhere self.old done alone held) }
+    fn go_nowhere(&mut self, done: bool, alone: bool) -> Turn
+        ensures { turned self.new result ≡ goes_nowhere self.old done alone }
     {
         if done {
-            return Ok(self.ends(PollEnd::CaughtUp));
+            return self.ends(PollEnd::CaughtUp);
         }
-        let kept = Kept::of(alloc, held)?;
-        self.stand_on(kept);
         if alone {
-            return Ok(self.ask_at(Stage::Ahead, self.next));
+            return self.ask_at(Stage::Ahead, self.next);
         }
-        Ok(self.asks())
+        self.asks()
     }
 
     // The log is found at its place by the newest known record.
-    fn go_on(
-        &mut self,
-        alloc: Global,
-        reply: Reply,
-        held: Numbered,
-        number: u32,
-    ) -> Result<Turn, AllocError>
-        ensures { IfOk result (λ turn. turned self.new turn ≡ goes_on self.old (reply_as reply) held
+    fn go_on(&mut self, alloc: Global, reply: Reply, number: u32) -> Result<Turn, AllocError>
+        ensures { IfOk result (λ turn. turned self.new turn ≡ goes_on self.old (reply_as reply)
             (records_behind number reply.records.items)) }
     {
         let Reply {
@@ -82,9 +68,19 @@ impl LogPoll {
         let alone = is_one(&records);
         let news = records_behind(number, records);
         if is_none(&news) {
-            return self.go_nowhere(alloc, last && !more, alone, held);
+            return Ok(self.go_nowhere(last && !more, alone));
         }
         self.bring(alloc, news)
+    }
+
+    /// The log is found at its place by this record, the newest known one.
+    pub(crate) fn find(&mut self, alloc: Global, held: Numbered) -> Result<(), AllocError>
+        ensures { IfOk result (λ _. self.new ≡ found self.old held) }
+    {
+        self.confirm(alloc)?;
+        let kept = Kept::of(alloc, held)?;
+        self.stand_on(kept);
+        Ok(())
     }
 
     /// The newest known one is asked for by its number.
@@ -103,8 +99,8 @@ impl LogPoll {
     {
         match record_at(number, reply.records.as_slice()) {
             Some(held) => {
-                self.confirm(alloc)?;
-                self.go_on(alloc, reply, held, number)
+                self.find(alloc, held)?;
+                self.go_on(alloc, reply, number)
             }
             None => Ok(self.ask_newest(number)),
         }

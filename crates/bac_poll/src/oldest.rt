@@ -4,12 +4,11 @@ ghost use Rattle.std.specs.Prelude.{◌≡◌, IfOk};
 ghost use Rattle.bac_poll.specs.Known.{record_at};
 ghost use Rattle.bac_poll.specs.State.{KeptAs, reply_as};
 ghost use Rattle.bac_poll.specs.Turns.{turned};
-ghost use Rattle.bac_poll.specs.Oldest.{asks_number, by_count, by_number, drops, is_cut, is_first, is_since};
+ghost use Rattle.bac_poll.specs.Oldest.{by_count, by_number, drops, is_cut, is_first, is_since};
 ghost use Rattle.bac_poll.specs.Oldest.{logged, sees, sees_before, sees_by, sees_newest, sees_news, sees_none, sees_same};
 ghost use Rattle.bac_poll.specs.Oldest.{weighed};
 
 use crate::ack::Reply;
-use crate::kept::Kept;
 use crate::known::{Means, number_in, record_at, records_behind};
 use crate::poll::LogPoll;
 use crate::stage::{Aim, Stage};
@@ -53,15 +52,6 @@ impl LogPoll {
         }
     }
 
-    // The last of them is asked for by number.
-    fn ask_number(&mut self, records: ArrayVec<Numbered, 100>) -> Turn
-        ensures { turned self.new result ≡ asks_number self.old records.items }
-    {
-        let reference = number_or(0, last_in(&records));
-        self.held = records;
-        self.ask_at(Stage::ByNumber, reference)
-    }
-
     // They begin before the newest known one, and don't show it.
     fn see_before(
         &mut self,
@@ -72,7 +62,9 @@ impl LogPoll {
         ensures { IfOk result (λ turn. turned self.new turn ≡ sees_before self.old cut records.items) }
     {
         if cut {
-            Ok(self.ask_number(records))
+            let reference = number_or(0, last_in(&records));
+            self.held = records;
+            Ok(self.ask_at(Stage::ByNumber, reference))
         } else {
             self.tell_another_by(alloc, records)
         }
@@ -117,14 +109,12 @@ impl LogPoll {
     fn see_news(
         &mut self,
         alloc: Global,
-        newest: Numbered,
+        asked: bool,
         news: ArrayVec<Numbered, 100>,
     ) -> Result<Turn, AllocError>
-        ensures { IfOk result (λ turn. turned self.new turn ≡ sees_news self.old newest news.items) }
+        ensures { IfOk result (λ turn. turned self.new turn ≡ sees_news self.old asked news.items) }
     {
-        if is_none(&news) && !self.alone {
-            let kept = Kept::of(alloc, newest)?;
-            self.stand_on(kept);
+        if is_none(&news) && !asked {
             Ok(self.asks())
         } else {
             self.bring(alloc, news)
@@ -145,8 +135,9 @@ impl LogPoll {
     {
         match record_at(number, records.as_slice()) {
             Some(held) => {
-                self.confirm(alloc)?;
-                self.see_news(alloc, held, records_behind(number, records))
+                let asked = self.alone;
+                self.find(alloc, held)?;
+                self.see_news(alloc, asked, records_behind(number, records))
             }
             None => {
                 if self.alone {

@@ -7,7 +7,7 @@ use Rattle.bac_walk.specs.declared.batch.Numbered.{Numbered}
 use Rattle.bac_poll.specs.Back.{back, back_alone, back_by, back_done, back_lost, back_more, back_shown, shown_last, went_back}
 use Rattle.bac_poll.specs.Epochs.{another, another_by, another_of, renews, renews_of}
 use Rattle.bac_poll.specs.Gone.{asks_restart, asks_revision, asks_word, by_gone, by_word, gone_of, retold}
-use Rattle.bac_poll.specs.Joins.{again_by, again_equal, again_from, ahead, ahead_none, asks_again, asks_each, at_hour, brings_ahead, each_all, each_by, each_means, each_next, goes_nowhere, goes_on, hour, joined, joins_by, joins_from, lost, lost_ahead, moved_ahead, prior}
+use Rattle.bac_poll.specs.Joins.{again_by, again_equal, again_from, ahead, ahead_none, asks_again, asks_each, at_hour, brings_ahead, each_all, each_by, each_means, each_next, found, goes_nowhere, goes_on, hour, joined, joins_by, joins_from, lost, lost_ahead, moved_ahead, prior}
 use Rattle.bac_poll.specs.Known.{means_in, number_in, record_at, records_behind, shown_in, word_of}
 use Rattle.bac_poll.specs.Oldest.{by_count, by_number, drops, logged, sees, sees_before, sees_by, sees_newest, sees_news, sees_none, sees_same, weighed}
 use Rattle.bac_poll.specs.Poll.{after, after_count, after_heard, after_restart, after_revision, at_stage, came, count_at, more_of, oldest_none, renews_by, reply_in, up_to_none}
@@ -96,12 +96,12 @@ by_number_same p held rs = either p _ _ _ refl (another_by_same p held)
 none_same : (p : PollState) (go cut : Bool) (rs : List Numbered) → IsSame p (sees_none p go cut rs)
 none_same p go cut rs = either p _ _ _ (drops_same p go rs) (before_same p cut rs)
 
-news_same : (p : PollState) (newest : Numbered) (rs : List Numbered) → IsSame p (sees_news p newest rs)
-news_same p newest rs = either p _ _ _ refl (brings_same p rs (last_in rs))
+news_same : (p : PollState) (asked : Bool) (rs : List Numbered) → IsSame p (sees_news p asked rs)
+news_same p asked rs = either p _ _ _ refl (brings_same p rs (last_in rs))
 
 newest_same : (p : PollState) (kept : KeptAs) (cut : Bool) (rs : List Numbered) (o : Option Numbered) → IsSame p (sees_newest p kept cut rs o)
 newest_same p kept cut rs None = either p p.alone _ _ (before_same p cut rs) refl
-newest_same p kept cut rs (Some held) = news_same (confirmed p) held (records_behind kept.number rs)
+newest_same p kept cut rs (Some held) = news_same (found p held) p.alone (records_behind kept.number rs)
 
 same_same : (p : PollState) (cut : Bool) (rs : List Numbered) (o : Option KeptAs) → IsSame p (sees_same p cut rs o)
 same_same p cut rs None = another_by_same p rs
@@ -190,19 +190,19 @@ back_by_same p aim held rs (Some last) =
     either p _ _ _ (shown_same p aim held rs (shown_last (first_in held) last)) (more_same p aim rs)
 
 back_same : (p : PollState) (aim : Aim) (held rs : List Numbered) → IsSame p (back p aim held rs)
-back_same p aim held rs = either p _ _ _ (back_by_same (record p { back = p.back + went_back p rs }) aim held rs (last_in rs)) refl
+back_same p aim held rs = either p _ _ _ (back_by_same (went_back p rs) aim held rs (last_in rs)) refl
 
 -- ---- the known records
 
-nowhere_same : (p : PollState) (done alone : Bool) (held : Numbered) → IsSame p (goes_nowhere p done alone held)
-nowhere_same p done alone held = either p done _ _ refl (either p alone _ _ refl refl)
+nowhere_same : (p : PollState) (done alone : Bool) → IsSame p (goes_nowhere p done alone)
+nowhere_same p done alone = either p done _ _ refl (either p alone _ _ refl refl)
 
-goes_on_same : (p : PollState) (reply : Reply) (held : Numbered) (news : List Numbered) → IsSame p (goes_on p reply held news)
-goes_on_same p reply held news = either p _ _ _ (nowhere_same p _ _ held) (brings_same p news (last_in news))
+goes_on_same : (p : PollState) (reply : Reply) (news : List Numbered) → IsSame p (goes_on p reply news)
+goes_on_same p reply news = either p _ _ _ (nowhere_same p _ _) (brings_same p news (last_in news))
 
 joined_same : (p : PollState) (kept : KeptAs) (reply : Reply) (o : Option Numbered) → IsSame p (joined p kept reply o)
 joined_same p kept reply None = refl
-joined_same p kept reply (Some held) = goes_on_same (confirmed p) reply held (records_behind kept.number reply.records)
+joined_same p kept reply (Some held) = goes_on_same (found p held) reply (records_behind kept.number reply.records)
 
 joins_from_same : (p : PollState) (reply : Reply) (o : Option KeptAs) → IsSame p (joins_from p reply o)
 joins_from_same p reply None = refl
