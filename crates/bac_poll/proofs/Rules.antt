@@ -23,7 +23,7 @@ use Rattle.bac_poll.specs.declared.known.Shown.{Shown}
 use Rattle.bac_poll.specs.declared.known.Shown.TheVariants as shown
 use Rattle.bac_poll.specs.declared.stage.Aim.{Aim}
 use Rattle.bac_poll.specs.declared.stage.Aim.TheVariants.{Finds, Renews, Starts}
-use Rattle.bac_poll.specs.declared.stage.Stage.TheVariants.{Oldest, Back}
+use Rattle.bac_poll.specs.declared.stage.Stage.TheVariants.{Back}
 use Rattle.bac_poll.specs.declared.stage.Stage.TheVariants as stage
 use Rattle.bac_poll.specs.declared.turn.Line.{Line}
 use Rattle.bac_poll.specs.declared.turn.Line.TheVariants as line
