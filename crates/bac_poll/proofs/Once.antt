@@ -7,15 +7,16 @@ use Rattle.bac_walk.specs.declared.batch.Numbered.{Numbered}
 use Rattle.bac_walk.specs.declared.outcome.WalkFault.TheVariants.{BadReply}
 use Rattle.bac_poll.specs.Laws.{Answer, Answers, AreAnswers, Counted, Covers, Epoch, Goes, IsAimed, IsAt, IsBefore, IsRun, IsStanding, IsWhole, Replied, Restarted, Revised, ShowsOnly, ShowsFront, TellsFront, IsFront, IsFrontAt, IsFrontOf, IsTold, Whichever, after_all, after_answer, epoch_after, epoch_after_all, epoch_from, items_of, start_of}
 use Rattle.bac_poll.specs.Poll.{ack_in, first_stage, joining, starting, after, after_count, after_heard, after_restart, after_revision, are_asked, at_stage, came, count_at, has_last, has_more, more_of, oldest, oldest_none, renews_by, reply_from, reply_in, reply_of, up_to, up_to_none}
+use Rattle.bac_poll.specs.Oldest.{is_cut}
 use Rattle.bac_poll.specs.State.{KeptAs, PollState, Reply, StandingAs, ToldAs}
 use Rattle.bac_poll.specs.Turns.{Turned, end_of, first_number}
 use Rattle.bac_poll.specs.declared.stage.Aim.{Aim}
 use Rattle.bac_poll.specs.declared.stage.Aim.TheVariants.{Finds, Renews, Starts}
 use Rattle.bac_poll.specs.declared.stage.Stage.{Stage}
-use Rattle.bac_poll.specs.declared.stage.Stage.TheVariants.{Joins, Prior, Ahead, Again, Each, Oldest, Counts, UpTo, Back}
-use Rattle.bac_poll.specs.declared.stage.Stage.TheVariants.{Revision, Restart}
+use Rattle.bac_poll.specs.declared.stage.Stage.TheVariants.{Joins, Prior, Ahead, Again, Each, Oldest, ByNumber, Counts}
+use Rattle.bac_poll.specs.declared.stage.Stage.TheVariants.{UpTo, Back, Revision, Restart}
 use Rattle.bac_poll.specs.declared.turn.PollEnd.TheVariants.{Fault}
-use Rattle.bac_poll.proofs.Rules.{again_goes, ahead_goes, back_takes, by_word_goes, counted_goes, each_goes, joins_goes, prior_goes, renews_goes, renews_none_goes, restart_goes, sees_goes, starts_by_goes, starts_from_goes, starts_goes, word_goes}
+use Rattle.bac_poll.proofs.Rules.{again_goes, ahead_goes, back_takes, by_number_goes, by_word_goes, counted_goes, each_goes, joins_goes, prior_goes, renews_goes, renews_none_goes, renews_of_goes, restart_goes, sees_goes, starts_by_goes, starts_from_goes, starts_goes, starts_none_goes, word_goes}
 use Rattle.bac_poll.proofs.Wholes.{ends_goes, numbered_run, run_first, split}
 use Rattle.bac_wire.specs.Primitive.{Id}
 use Rattle.bac_link.specs.Ordinals.{number_after}
@@ -54,17 +55,17 @@ module _ (P : Numbered → Type 0) (F : ℕ → Type 0) where
 
   -- ---- by what it is for
 
-  came_goes : (p : PollState) (aim : Aim) (records : List Numbered) → IsBefore p.newest p.next → IsAimed p aim →
-      IsRun P (first_number records) records × IsFrontOf F p records → Goes P F p.next (came p aim records)
-  came_goes p Finds records known aimed run = sees_goes P F p true records known run
-  came_goes p Renews records known aimed run = renews_goes P F p records known aimed run
-  came_goes p Starts records known aimed run = starts_by_goes P F p records aimed run
+  came_goes : (p : PollState) (aim : Aim) (cut : Bool) (records : List Numbered) → IsBefore p.newest p.next → IsAimed p aim →
+      IsRun P (first_number records) records × IsFrontOf F p records → Goes P F p.next (came p aim cut records)
+  came_goes p Finds cut records known aimed run = sees_goes P F p true cut records known run
+  came_goes p Renews cut records known aimed run = renews_goes P F p records known aimed run
+  came_goes p Starts cut records known aimed run = starts_by_goes P F p records aimed run
 
   oldest_none_goes : (p : PollState) (aim : Aim) → IsBefore p.newest p.next → IsAimed p aim → IsTold F p aim → Goes P F p.next (oldest_none p aim)
   oldest_none_goes p Finds known aimed told = (record { mid = p.next; before = refl; behind = refl; fronts = λ sure. (tt, tt) }, λ none. (known, tt))
   oldest_none_goes p Renews known aimed told = (record { mid = p.next; before = refl; behind = refl; fronts = λ sure. (tt, tt) }, λ none. (known, aimed))
   oldest_none_goes p Starts known aimed told =
-      split P F (Goes P F p.next) (p.total == 0) _ _ (λ empty. starts_goes P F p [] (tt, told))
+      split P F (Goes P F p.next) (p.total == 0) _ _ (λ empty. starts_none_goes P F p told)
       (λ some. (record { mid = p.next; before = refl; behind = refl; fronts = λ sure. (tt, tt) }, λ none. (known, (aimed, told))))
 
   up_to_none_goes : (p : PollState) (aim : Aim) → IsBefore p.newest p.next → F (number_after p.total 1) → Goes P F p.next (up_to_none p aim)
@@ -72,19 +73,22 @@ module _ (P : Numbered → Type 0) (F : ℕ → Type 0) where
   up_to_none_goes p Renews known told = renews_none_goes P F p p.total told
   up_to_none_goes p Starts known told = starts_goes P F p [] (tt, told)
 
-  oldest_takes : (p : PollState) (aim : Aim) (records : List Numbered) → IsBefore p.newest p.next → IsAimed p aim → IsTold F p aim →
-      IsRun P (first_number records) records → IsFront F records → Goes P F p.next (oldest p aim records)
-  oldest_takes p aim [] known aimed told run front = oldest_none_goes p aim known aimed told
-  oldest_takes p aim (r ∷ rs) known aimed told run front =
-      split P F (Goes P F p.next) (length (r ∷ rs) == 0) _ _ (λ none. oldest_none_goes p aim known aimed told)
-      (λ some. came_goes p aim (r ∷ rs) known aimed (run, front))
+  front_of : (p : PollState) (records : List Numbered) → (length records == 0) ≡ false → IsFront F records → IsFrontOf F p records
+  front_of p [] some front = absurd (cc)
+  front_of p (r ∷ rs) some front = front
+
+  oldest_takes : (p : PollState) (aim : Aim) (reply : Reply) → IsBefore p.newest p.next → IsAimed p aim → IsTold F p aim →
+      IsRun P (first_number reply.records) reply.records → IsFront F reply.records → Goes P F p.next (oldest p aim reply)
+  oldest_takes p aim reply known aimed told run front =
+      split P F (Goes P F p.next) (length reply.records == 0) _ _ (λ none. oldest_none_goes p aim known aimed told)
+      (λ some. came_goes p aim (is_cut p reply) reply.records known aimed (run, front_of p reply.records some front))
 
   up_to_takes : (p : PollState) (aim : Aim) (records : List Numbered) → IsBefore p.newest p.next → IsAimed p aim → F (number_after p.total 1) →
       IsRun P (first_number records) records → IsFront F records → Goes P F p.next (up_to p aim records)
   up_to_takes p aim [] known aimed told run front = up_to_none_goes p aim known told
   up_to_takes p aim (r ∷ rs) known aimed told run front =
       split P F (Goes P F p.next) (length (r ∷ rs) == 0) _ _ (λ none. up_to_none_goes p aim known told)
-      (λ some. came_goes p aim (r ∷ rs) known aimed (run, front))
+      (λ some. came_goes p aim false (r ∷ rs) known aimed (run, front))
 
   told_so : (p : PollState) (more : Bool) (aim : Aim) → IsTold F p aim → IsTold F (record p { more = more; held = [] }) aim
   told_so p more Finds told = tt
@@ -104,8 +108,9 @@ module _ (P : Numbered → Type 0) (F : ℕ → Type 0) where
   stage_goes p more Ahead reply known at run front = ahead_goes P F (record p { more = more; held = [] }) reply.records known run
   stage_goes p more Again reply known at run front = again_goes P F (record p { more = more; held = [] }) p.held (first_number reply.records) reply.records known at run
   stage_goes p more Each reply known at run front = each_goes P F (record p { more = more; held = [] }) p.held reply.records known at
+  stage_goes p more ByNumber reply known at run front = by_number_goes P F (record p { more = more; held = [] }) p.held reply.records at
   stage_goes p more (Oldest aim) reply known at run front =
-      oldest_takes (record p { more = more; held = [] }) aim reply.records known (aimed_so p more aim at.0) (told_so p more aim at.1) run front
+      oldest_takes (record p { more = more; held = [] }) aim reply known (aimed_so p more aim at.0) (told_so p more aim at.1) run front
   stage_goes p more (UpTo aim) reply known at run front =
       up_to_takes (record p { more = more; held = [] }) aim reply.records known (aimed_so p more aim at.0) at.1 run front
   stage_goes p more (Back aim) reply known at run front =
@@ -123,19 +128,18 @@ module _ (P : Numbered → Type 0) (F : ℕ → Type 0) where
 
   renews_by_goes : (p : PollState) (count : Option ℕ) → IsBefore p.newest p.next → p.next ≡ 1 → TellsFront F count → Goes P F p.next (renews_by p count)
   renews_by_goes p None known one front = ends_goes P F p (end_of p)
-  renews_by_goes p (Some total) known one front =
-      split P F (Goes P F p.next) (total == 0) _ _ (λ none. ends_goes P F p (end_of p))
-      (λ some. (record { mid = p.next; before = refl; behind = refl; fronts = λ sure. (tt, tt) }, λ none. (known, (one, front))))
+  renews_by_goes p (Some total) known one front = renews_of_goes P F p total known one front
 
   count_goes : (p : PollState) (stage : Stage) (count : Option ℕ) → IsBefore p.newest p.next → IsAt P F p stage → TellsFront F count → Goes P F p.next (count_at p stage count)
   count_goes p (Counts Finds) count known at front = counted_goes P F (record p { more = false }) count known front
   count_goes p (Counts Renews) count known at front = renews_by_goes p count known at front
-  count_goes p (Counts Starts) count known at front = starts_from_goes P F p p.begins count known at front
+  count_goes p (Counts Starts) count known at front = starts_from_goes P F p count known at front
   count_goes p Joins count known at front = ends_goes P F p (Fault BadReply)
   count_goes p Prior count known at front = ends_goes P F p (Fault BadReply)
   count_goes p Ahead count known at front = ends_goes P F p (Fault BadReply)
   count_goes p Again count known at front = ends_goes P F p (Fault BadReply)
   count_goes p Each count known at front = ends_goes P F p (Fault BadReply)
+  count_goes p ByNumber count known at front = ends_goes P F p (Fault BadReply)
   count_goes p (Oldest aim) count known at front = ends_goes P F p (Fault BadReply)
   count_goes p (UpTo aim) count known at front = ends_goes P F p (Fault BadReply)
   count_goes p (Back aim) count known at front = ends_goes P F p (Fault BadReply)
@@ -253,6 +257,7 @@ any_at Prior records = tt
 any_at Ahead records = tt
 any_at Again records = tt
 any_at Each records = tt
+any_at ByNumber records = tt
 any_at (Oldest aim) records = any_front records
 any_at (Counts aim) records = tt
 any_at (UpTo aim) records = any_front records

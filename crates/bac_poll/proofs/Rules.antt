@@ -1,18 +1,18 @@
 -- What turns bring: the rule, section by section.
-use Rattle.std.proofs.Common.{is_some, ◌≡◌, ℕ, ◌==◌, ◌&&◌, not, Bool, true, false, if◌then◌else◌, nat_lt, Option, None, Some, List, [], ◌∷◌, ◌++◌, length, map, refl, sym, ap, subst, ◌∙◌}
+use Rattle.std.proofs.Common.{is_some, ◌≡◌, ℕ, ◌+◌, ◌==◌, ◌&&◌, ◌||◌, not, Bool, true, false, if◌then◌else◌, nat_lt, Option, None, Some, List, [], ◌∷◌, ◌++◌, length, map, refl, sym, ap, subst, ◌∙◌}
 use Rattle.std.proofs.lemmas.Bool.{eq-eqb, eqb-true, and_parts}
 use Rattle.bac_link.specs.Ordinals.{is_ahead, number_after}
 use Rattle.bac_link.specs.declared.item.Item.TheVariants.{Gap}
 use Rattle.bac_walk.specs.Walks.{item_of}
 use Rattle.bac_walk.specs.declared.batch.Numbered.{Numbered}
-use Rattle.bac_poll.specs.Back.{back, back_alone, back_by, back_done, back_lost, back_more, back_shown, is_front, shown_last}
-use Rattle.bac_poll.specs.Epochs.{another, another_by, another_of, asks_back, asks_oldest, brings_behind, renews, renews_none}
+use Rattle.bac_poll.specs.Back.{back, back_alone, back_by, back_done, back_lost, back_more, back_shown, is_front, shown_last, went_back}
+use Rattle.bac_poll.specs.Epochs.{another, another_by, another_of, asks_back, asks_oldest, brings_behind, renews, renews_none, renews_of}
 use Rattle.bac_poll.specs.Gone.{asks_restart, asks_revision, asks_word, by_gone, by_word, doubt, retold}
-use Rattle.bac_poll.specs.Joins.{again, again_by, again_equal, again_from, ahead, asks_again, asks_each, at_hour, brings_ahead, each, each_all, each_by, each_means, each_next, goes_nowhere, joined, joins, joins_by, joins_from, lost, lost_ahead, prior}
+use Rattle.bac_poll.specs.Joins.{again, again_by, again_equal, again_from, ahead, asks_again, asks_each, asks_newest, at_hour, brings_ahead, each, each_all, each_by, each_means, each_next, found, goes_nowhere, hour, joined, joins, joins_by, joins_from, lost, lost_ahead, moved_ahead, prior}
 use Rattle.bac_poll.specs.Known.{means_in, number_in, record_at, records_behind, shown_in, word_of}
 use Rattle.bac_poll.specs.Laws.{EndAt, Goes, TellsFront, IsAimed, IsAt, IsBefore, IsEach, IsFront, IsFrontOf, IsRun, IsTold}
-use Rattle.bac_poll.specs.Oldest.{counted, drops, is_first, logged, sees, sees_by, sees_newest, sees_none, sees_same}
-use Rattle.bac_poll.specs.Starts.{beginning, is_doubted, starts, starts_at, starts_behind, starts_by, starts_from, starts_here}
+use Rattle.bac_poll.specs.Oldest.{by_count, by_number, drops, is_first, logged, sees, sees_before, sees_by, sees_newest, sees_none, sees_same}
+use Rattle.bac_poll.specs.Starts.{beginning, is_doubted, starts, starts_at, starts_behind, starts_by, starts_from, starts_here, starts_none, starts_refused, starts_told}
 use Rattle.bac_poll.specs.State.{KeptAs, PollState, Reply, kept_of}
 use Rattle.bac_poll.specs.Turns.{Turned, anew, asks, brings, confirmed, end_of, first_in, first_number, gap_up_to, last_in, number_before, renewed, standing_at, standing_on}
 use Rattle.bac_poll.specs.declared.gone.Gone.{Gone}
@@ -25,8 +25,9 @@ use Rattle.bac_poll.specs.declared.stage.Aim.{Aim}
 use Rattle.bac_poll.specs.declared.stage.Aim.TheVariants.{Finds, Renews, Starts}
 use Rattle.bac_poll.specs.declared.stage.Stage.TheVariants.{Oldest, Back}
 use Rattle.bac_poll.specs.declared.stage.Stage.TheVariants as stage
+use Rattle.bac_poll.specs.declared.turn.Line.{Line}
 use Rattle.bac_poll.specs.declared.turn.Line.TheVariants as line
-use Rattle.bac_poll.specs.declared.turn.PollEnd.TheVariants.{CaughtUp, Contradicts, ShowsNone}
+use Rattle.bac_poll.specs.declared.turn.PollEnd.TheVariants.{CaughtUp, Contradicts, NoneByNumber, ShowsNone}
 use Rattle.bac_poll.proofs.Wholes.{gap_ends, brings_by, brings_goes, ends_goes, found_number, gap_alone, gap_front, run_behind, run_ends, run_or, split}
 
 module _ (P : Numbered → Type 0) (F : ℕ → Type 0) where
@@ -74,16 +75,17 @@ module _ (P : Numbered → Type 0) (F : ℕ → Type 0) where
   renews_none_goes p total front =
       (record { mid = number_after total 1; before = gap_alone P F p.next (number_after total 1); behind = refl; fronts = λ sure. (gap_ends P F p.next (number_after total 1) front, tt) }, λ none. absurd (cc))
 
+  pub renews_of_goes : (p : PollState) (total : ℕ) → IsBefore p.newest p.next → p.next ≡ 1 → F (number_after total 1) → Goes P F p.next (renews_of p total)
+  renews_of_goes p total known one front =
+      split P F (Goes P F p.next) (total == 0) _ _ (λ none. ends_goes P F p (end_of p))
+      (λ some. (record { mid = p.next; before = refl; behind = refl; fronts = λ sure. (tt, tt) }, λ none. (known, (one, front))))
+
   pub another_of_goes : (p : PollState) (total : ℕ) → F (number_after total 1) → Goes P F p.next (another_of p total)
-  another_of_goes p total front = (
-    record {
-      mid = p.next;
-      before = refl;
-      behind = gap_front P F 1 (number_after total 1) [] (number_after total 1) refl;
-      fronts = λ sure. (tt, gap_ends P F 1 (number_after total 1) front);
-    },
-    λ none. absurd (cc),
-  )
+  another_of_goes p total front =
+      split P F (Goes P F p.next) (p.lives == 2) _ _ (λ third. ends_goes P F p Contradicts)
+      (λ more. split P F (λ t. Goes P F p.next (anew t line.BeganAnew)) (total == 0) _ _
+      (λ empty. (record { mid = p.next; before = refl; behind = refl; fronts = λ sure. (tt, tt) }, λ none. absurd (cc)))
+      (λ some. (record { mid = p.next; before = refl; behind = refl; fronts = λ sure. (tt, tt) }, λ none. (tt, (refl, front)))))
 
   -- records behind a gap from where the log stands
   pub gap_brings : (n : ℕ) (q : PollState) (rs : List Numbered) → IsRun P q.next rs → F q.next → Goes P F n (record (brings q rs) { missing = gap_up_to n q.next })
@@ -145,13 +147,12 @@ module _ (P : Numbered → Type 0) (F : ℕ → Type 0) where
   each_begins p None is here known = another_goes p
   each_begins p (Some kept) is here known = (record { mid = p.next; before = refl; behind = refl; fronts = λ sure. (tt, tt) }, λ none. (known, here))
 
-  nowhere_goes : (p : PollState) (done alone : Bool) (held : Numbered) → p.next ≡ number_after held.number 1 → IsBefore p.newest p.next →
-      Goes P F p.next (goes_nowhere p done alone held)
-  nowhere_goes p done alone held here known =
+  nowhere_goes : (p : PollState) (done alone : Bool) → IsBefore p.newest p.next → IsAt P F p p.stage → Goes P F p.next (goes_nowhere p done alone)
+  nowhere_goes p done alone known at =
       split P F (Goes P F p.next) done _ _ (λ last. ends_goes P F p CaughtUp)
       (λ more. split P F (Goes P F p.next) alone _ _
-      (λ one. (record { mid = p.next; before = refl; behind = refl; fronts = λ sure. (tt, tt) }, λ none. (here, tt)))
-      (λ some. (record { mid = p.next; before = refl; behind = refl; fronts = λ sure. (tt, tt) }, λ none. (here, tt))))
+      (λ one. (record { mid = p.next; before = refl; behind = refl; fronts = λ sure. (tt, tt) }, λ none. (known, tt)))
+      (λ some. (record { mid = p.next; before = refl; behind = refl; fronts = λ sure. (tt, tt) }, λ none. (known, at))))
 
   joined_goes : (p : PollState) (kept : KeptAs) (reply : Reply) (n : ℕ) (found : Option Numbered) → record_at kept.number reply.records ≡ found →
       IsRun P n reply.records → p.next ≡ number_after kept.number 1 → IsBefore p.newest p.next → Goes P F p.next (joined p kept reply found)
@@ -161,21 +162,21 @@ module _ (P : Numbered → Type 0) (F : ℕ → Type 0) where
       let behind : IsRun P p.next (records_behind kept.number reply.records) =
       subst (λ k. IsRun P k (records_behind kept.number reply.records)) (sym here) (run_behind P F kept.number n reply.records run) in
       split P F (Goes P F p.next) (length (records_behind kept.number reply.records) == 0) _ _
-      (λ none. nowhere_goes (confirmed p) _ _ held (here ∙ ap (λ (k : ℕ). number_after k 1) (sym same)) known)
-      (λ some. brings_goes P F (confirmed p) (records_behind kept.number reply.records) behind)
+      (λ none. nowhere_goes (found p held) _ _ (here ∙ ap (λ (k : ℕ). number_after k 1) (sym same)) tt)
+      (λ some. brings_goes P F (found p held) (records_behind kept.number reply.records) behind)
 
   from_goes : (p : PollState) (reply : Reply) (n : ℕ) (newest : Option KeptAs) → p.newest ≡ newest → IsBefore newest p.next → IsBefore p.newest p.next →
       IsRun P n reply.records → Goes P F p.next (joins_from p reply newest)
   from_goes p reply n None is here known run = oldest_goes p Finds known (tt, tt)
   from_goes p reply n (Some kept) is here known run = joined_goes p kept reply n _ refl run here known
 
-  pub hour_goes : (n by : ℕ) (t : Turned) → Goes P F n t → Goes P F n (at_hour by t)
-  hour_goes n by t goes = split P F (Goes P F n) (by == 100) _ _ (λ same. goes) (λ moved. (record { mid = goes.0.mid; before = goes.0.before; behind = goes.0.behind; fronts = goes.0.fronts }, goes.1))
+  pub hour_goes : (n by : ℕ) (told : Line) (t : Turned) → Goes P F n t → Goes P F n (at_hour by told t)
+  hour_goes n by told t goes = split P F (Goes P F n) (by == 100) _ _ (λ same. goes) (λ moved. (record { mid = goes.0.mid; before = goes.0.before; behind = goes.0.behind; fronts = goes.0.fronts }, goes.1))
 
   joins_by_goes : (p : PollState) (reply : Reply) (n : ℕ) (means : Means) → IsBefore p.newest p.next → IsRun P n reply.records → Goes P F p.next (joins_by p reply means)
   joins_by_goes p reply n Unshown known run = oldest_goes p Finds known (tt, tt)
   joins_by_goes p reply n Same known run = from_goes p reply n p.newest refl known known run
-  joins_by_goes p reply n (Shifted by) known run = hour_goes p.next by _ (from_goes p reply n p.newest refl known known run)
+  joins_by_goes p reply n (Shifted by) known run = hour_goes p.next by _ _ (from_goes p reply n p.newest refl known known run)
   joins_by_goes p reply n Partly known run = each_begins p p.newest refl known known
   joins_by_goes p reply n Another known run = another_goes p
 
@@ -221,6 +222,11 @@ module _ (P : Numbered → Type 0) (F : ℕ → Type 0) where
   lost_ahead_goes p seen None known = lost_goes p seen known
   lost_ahead_goes p seen (Some last) known = gap_lost p.next (standing_at p (number_after last.number 1)) seen tt
 
+  moved_goes_ahead : (p : PollState) (held : List Numbered) (seen : Shown) → IsBefore p.newest p.next → Goes P F p.next (moved_ahead p held seen)
+  moved_goes_ahead p held seen known =
+      split P F (Goes P F p.next) (is_some p.earliest) _ _ (λ three. each_begins p p.newest refl known known)
+      (λ fewer. lost_ahead_goes p seen (last_in held) known)
+
   ahead_brings : (p : PollState) (held : List Numbered) → IsRun P p.next held → Goes P F p.next (brings_ahead p held (last_in held))
   ahead_brings p [] run = ends_goes P F p (end_of p)
   ahead_brings p (r ∷ rs) run =
@@ -240,7 +246,7 @@ module _ (P : Numbered → Type 0) (F : ℕ → Type 0) where
       p.next ≡ number_after kept.number 1 → IsBefore p.newest p.next → IsRun P p.next held → IsRun P n records → Goes P F p.next (again_by p held kept records seen)
   again_by_goes p held kept n records shown.Equal here known ahead run = equal_goes p held kept n records here ahead run
   again_by_goes p held kept n records shown.Unshown here known ahead run = lost_ahead_goes p shown.Unshown (last_in held) known
-  again_by_goes p held kept n records (shown.Moved by) here known ahead run = lost_ahead_goes p (shown.Moved by) (last_in held) known
+  again_by_goes p held kept n records (shown.Moved by) here known ahead run = moved_goes_ahead p held (shown.Moved by) known
   again_by_goes p held kept n records shown.Another here known ahead run = lost_ahead_goes p shown.Another (last_in held) known
 
   again_from_goes : (p : PollState) (held : List Numbered) (n : ℕ) (records : List Numbered) (newest : Option KeptAs) → IsBefore newest p.next →
@@ -256,7 +262,7 @@ module _ (P : Numbered → Type 0) (F : ℕ → Type 0) where
   each_means_goes : (p : PollState) (held : Numbered) (means : Means) → p.next ≡ number_after held.number 1 → Goes P F p.next (each_means p held means)
   each_means_goes p held Same here = (record { mid = p.next; before = refl; behind = refl; fronts = λ sure. (tt, tt) }, λ none. (here, tt))
   each_means_goes p held (Shifted by) here =
-      hour_goes p.next by (asks (standing_on p (kept_of held))) (record { mid = p.next; before = refl; behind = refl; fronts = λ sure. (tt, tt) }, λ none. (here, tt))
+      hour_goes p.next by (hour p by) (asks (standing_on p (kept_of held))) (record { mid = p.next; before = refl; behind = refl; fronts = λ sure. (tt, tt) }, λ none. (here, tt))
   each_means_goes p held Unshown here = another_goes p
   each_means_goes p held Partly here = another_goes p
   each_means_goes p held Another here = another_goes p
@@ -298,43 +304,58 @@ module _ (P : Numbered → Type 0) (F : ℕ → Type 0) where
       split P F (Goes P F p.next) (back && not (is_first p (first_number records))) _ _ (λ look. back_goes p Finds records known tt run)
       (λ front. word_goes p records known run)
 
-  sees_none_goes : (p : PollState) (back : Bool) (records : List Numbered) → IsBefore p.newest p.next → FrontRun p records →
-      Goes P F p.next (sees_none p back records)
-  sees_none_goes p back records known run =
-      split P F (Goes P F p.next) (is_ahead p.next (first_number records)) _ _ (λ behind. drops_goes p back records known run)
-      (λ before. another_by_goes p records run)
+  sees_before_goes : (p : PollState) (cut : Bool) (records : List Numbered) → IsBefore p.newest p.next → FrontRun p records →
+      Goes P F p.next (sees_before p cut records)
+  sees_before_goes p cut records known run =
+      split P F (Goes P F p.next) cut _ _
+      (λ short. (record { mid = p.next; before = refl; behind = refl; fronts = λ sure. (tt, tt) }, λ none. (known, run)))
+      (λ whole. another_by_goes p records run)
 
-  sees_newest_goes : (p : PollState) (kept : KeptAs) (records : List Numbered) (found : Option Numbered) → p.next ≡ number_after kept.number 1 → IsBefore p.newest p.next →
-      FrontRun p records → Goes P F p.next (sees_newest p kept records found)
-  sees_newest_goes p kept records None here known run =
-      (record { mid = p.next; before = refl; behind = refl; fronts = λ sure. (tt, tt) }, λ none. (known, tt))
-  sees_newest_goes p kept records (Some held) here known run =
+  pub by_number_goes : (p : PollState) (held records : List Numbered) → FrontRun p held → Goes P F p.next (by_number p held records)
+  by_number_goes p held records run =
+      split P F (Goes P F p.next) (length records == 0) _ _ (λ none. ends_goes P F p NoneByNumber) (λ some. another_by_goes p held run)
+
+  sees_none_goes : (p : PollState) (back cut : Bool) (records : List Numbered) → IsBefore p.newest p.next → FrontRun p records →
+      Goes P F p.next (sees_none p back cut records)
+  sees_none_goes p back cut records known run =
+      split P F (Goes P F p.next) (is_ahead p.next (first_number records)) _ _ (λ behind. drops_goes p back records known run)
+      (λ before. sees_before_goes p cut records known run)
+
+  newest_goes : (p : PollState) (number : ℕ) → IsBefore p.newest p.next → Goes P F p.next (asks_newest p number)
+  newest_goes p number known = (record { mid = p.next; before = refl; behind = refl; fronts = λ sure. (tt, tt) }, λ none. (known, tt))
+
+  sees_newest_goes : (p : PollState) (kept : KeptAs) (cut : Bool) (records : List Numbered) (found : Option Numbered) → record_at kept.number records ≡ found →
+      p.next ≡ number_after kept.number 1 → IsBefore p.newest p.next → FrontRun p records → Goes P F p.next (sees_newest p kept cut records found)
+  sees_newest_goes p kept cut records None is here known run =
+      split P F (Goes P F p.next) p.alone _ _ (λ asked. sees_before_goes p cut records known run) (λ other. newest_goes p kept.number known)
+  sees_newest_goes p kept cut records (Some held) is here known run =
+      let shown_here : p.next ≡ number_after held.number 1 = here ∙ ap (λ (k : ℕ). number_after k 1) (sym (found_number P F kept.number records held is)) in
       let behind : IsRun P p.next (records_behind kept.number records) =
       subst (λ k. IsRun P k (records_behind kept.number records)) (sym here) (run_behind P F kept.number (first_number records) records run.0) in
-      split P F (Goes P F p.next) ((length (records_behind kept.number records) == 0) && is_some p.earlier) _ _
-      (λ none. (record { mid = p.next; before = refl; behind = refl; fronts = λ sure. (tt, tt) }, λ none. (known, tt)))
-      (λ some. brings_goes P F (confirmed p) (records_behind kept.number records) behind)
+      split P F (Goes P F p.next) ((length (records_behind kept.number records) == 0) && not p.alone) _ _
+      (λ none. (record { mid = p.next; before = refl; behind = refl; fronts = λ sure. (tt, tt) }, λ none. (shown_here, tt)))
+      (λ some. brings_goes P F (found p held) (records_behind kept.number records) behind)
 
-  sees_same_goes : (p : PollState) (records : List Numbered) (newest : Option KeptAs) → IsBefore newest p.next → IsBefore p.newest p.next → FrontRun p records →
-      Goes P F p.next (sees_same p records newest)
-  sees_same_goes p records None here known run = another_by_goes p records run
-  sees_same_goes p records (Some kept) here known run = sees_newest_goes p kept records (record_at kept.number records) here known run
+  sees_same_goes : (p : PollState) (cut : Bool) (records : List Numbered) (newest : Option KeptAs) → IsBefore newest p.next → IsBefore p.newest p.next → FrontRun p records →
+      Goes P F p.next (sees_same p cut records newest)
+  sees_same_goes p cut records None here known run = another_by_goes p records run
+  sees_same_goes p cut records (Some kept) here known run = sees_newest_goes p kept cut records (record_at kept.number records) refl here known run
 
-  sees_by_goes : (p : PollState) (back : Bool) (records : List Numbered) (means : Means) → IsBefore p.newest p.next → FrontRun p records →
-      Goes P F p.next (sees_by p back records means)
-  sees_by_goes p back records Unshown known run = sees_none_goes p back records known run
-  sees_by_goes p back records Same known run = sees_same_goes p records p.newest known known run
-  sees_by_goes p back records (Shifted by) known run = hour_goes p.next by _ (sees_same_goes p records p.newest known known run)
-  sees_by_goes p back records Partly known run = each_begins p p.newest refl known known
-  sees_by_goes p back records Another known run = another_by_goes p records run
+  sees_by_goes : (p : PollState) (back cut : Bool) (records : List Numbered) (means : Means) → IsBefore p.newest p.next → FrontRun p records →
+      Goes P F p.next (sees_by p back cut records means)
+  sees_by_goes p back cut records Unshown known run = sees_none_goes p back cut records known run
+  sees_by_goes p back cut records Same known run = sees_same_goes p cut records p.newest known known run
+  sees_by_goes p back cut records (Shifted by) known run = hour_goes p.next by _ _ (sees_same_goes p cut records p.newest known known run)
+  sees_by_goes p back cut records Partly known run = each_begins p p.newest refl known known
+  sees_by_goes p back cut records Another known run = another_by_goes p records run
 
-  pub sees_goes : (p : PollState) (back : Bool) (records : List Numbered) → IsBefore p.newest p.next → FrontRun p records →
-      Goes P F p.next (sees p back records)
-  sees_goes p back records known run = sees_by_goes p back records (means_in p records) known run
+  pub sees_goes : (p : PollState) (back cut : Bool) (records : List Numbered) → IsBefore p.newest p.next → FrontRun p records →
+      Goes P F p.next (sees p back cut records)
+  sees_goes p back cut records known run = sees_by_goes p back cut records (means_in p records) known run
 
   -- ---- 3. the count
 
-  pub counted_goes : (p : PollState) (count : Option ℕ) → IsBefore p.newest p.next → TellsFront F count → Goes P F p.next (counted p count)
+  pub counted_goes : (p : PollState) (count : Option ℕ) → IsBefore p.newest p.next → TellsFront F count → Goes P F p.next (by_count p count)
   counted_goes p None known front = ends_goes P F p ShowsNone
   counted_goes p (Some total) known front =
       split P F (Goes P F p.next) (total == logged p) _ _ (λ same. ends_goes P F (confirmed p) CaughtUp)
@@ -371,18 +392,31 @@ module _ (P : Numbered → Type 0) (F : ℕ → Type 0) where
   pub starts_by_goes : (p : PollState) (records : List Numbered) → p.next ≡ 1 → FrontRun p records → Goes P F p.next (starts_by p records)
   starts_by_goes p records one run =
       moved_goes p.next 1 (starts_by p records) one
-      (split P F (Goes P F 1) (first_number records == 1) _ _ (λ first. starts_goes (standing_at p 1) records run)
+      (split P F (Goes P F 1) (is_first (standing_at p 1) (first_number records)) _ _ (λ first. starts_goes (standing_at p 1) records run)
       (λ later. back_goes (standing_at p 1) Starts records tt refl run))
 
-  pub starts_from_goes : (p : PollState) (begins count : Option ℕ) → IsBefore p.newest p.next → IsAimed p Starts → TellsFront F count → Goes P F p.next (starts_from p begins count)
-  starts_from_goes p None count known aimed front = (record { mid = p.next; before = refl; behind = refl; fronts = λ sure. (tt, tt) }, λ none. (known, (aimed, front)))
-  starts_from_goes p (Some begins) count known aimed front = (record { mid = p.next; before = refl; behind = refl; fronts = λ sure. (tt, tt) }, λ none. (known, (aimed, front)))
+  pub starts_none_goes : (p : PollState) → F (number_after p.total 1) → Goes P F p.next (starts_none p)
+  starts_none_goes p front =
+      split P F (Goes P F p.next) (p.refused && is_some p.counted) _ _ (λ stays. ends_goes P F p ShowsNone) (λ told. starts_goes p [] (tt, front))
+
+  told_goes : (p : PollState) (begins : Option ℕ) (next : ℕ) → IsBefore p.newest p.next → IsAimed p Starts × IsTold F p Starts → Goes P F p.next (starts_told p begins next)
+  told_goes p None next known aimed = (record { mid = p.next; before = refl; behind = refl; fronts = λ sure. (tt, tt) }, λ none. (known, aimed))
+  told_goes p (Some begins) next known aimed = oldest_goes p Starts known aimed
+
+  refused_goes : (p : PollState) (counted : Option ℕ) → IsBefore p.newest p.next → IsAimed p Starts × IsTold F p Starts → Goes P F p.next (starts_refused p counted)
+  refused_goes p None known aimed = (record { mid = p.next; before = refl; behind = refl; fronts = λ sure. (tt, tt) }, λ none. (known, aimed))
+  refused_goes p (Some counted) known aimed = oldest_goes p Starts known aimed
+
+  pub starts_from_goes : (p : PollState) (count : Option ℕ) → IsBefore p.newest p.next → IsAimed p Starts → TellsFront F count → Goes P F p.next (starts_from p count)
+  starts_from_goes p None known aimed front = refused_goes (record p { total = 0; refused = true }) p.counted known (aimed, front)
+  starts_from_goes p (Some total) known aimed front =
+      told_goes (record p { total = total; refused = false }) p.begins (number_after total 1) known (aimed, front)
 
   -- ---- before the first of the records that are held back
 
   done_goes : (p : PollState) (aim : Aim) (records : List Numbered) → IsBefore p.newest p.next → FrontRun p records →
       Goes P F p.next (back_done p aim records)
-  done_goes p Finds records known run = sees_goes p false records known run
+  done_goes p Finds records known run = sees_goes p false false records known run
   done_goes p Renews records known run = behind_goes p records run
   done_goes p Starts records known run = starts_goes p records run
 
@@ -400,7 +434,7 @@ module _ (P : Numbered → Type 0) (F : ℕ → Type 0) where
   alone_goes : (p : PollState) (aim : Aim) (held : List Numbered) → IsBefore p.newest p.next → IsAimed p aim → FrontRun p held →
       Goes P F p.next (back_alone p aim held)
   alone_goes p aim held known aimed kept =
-      split P F (Goes P F p.next) p.more _ _
+      split P F (Goes P F p.next) (p.more || (p.walk.count == 1)) _ _
       (λ more. (record { mid = p.next; before = refl; behind = refl; fronts = λ sure. (tt, tt) }, λ none. (known, (aimed_at aim aimed, kept.0, kept.1))))
       (λ none. done_goes p aim held known kept)
     where
@@ -427,6 +461,17 @@ module _ (P : Numbered → Type 0) (F : ℕ → Type 0) where
 
   pub back_takes : (p : PollState) (aim : Aim) (held records : List Numbered) → IsBefore p.newest p.next → IsAimed p aim →
       FrontRun p held → IsRun P (first_number records) records → IsFront F records → Goes P F p.next (back p aim held records)
-  back_takes p aim held [] known aimed kept run front = done_goes p aim held known kept
-  back_takes p aim held (r ∷ rs) known aimed kept run front =
-      back_by_goes p aim held (r ∷ rs) (last_in (r ∷ rs)) known aimed kept (run, front)
+  back_takes p aim held records known aimed kept run front =
+      split P F (Goes P F p.next) (nat_lt p.back 2147483648) _ _
+      (λ near. takes (went_back p records) aim records known (aimed_so aim aimed) kept run front)
+      (λ far. ends_goes P F p Contradicts)
+    where
+      aimed_so : (aim : Aim) → IsAimed p aim → IsAimed (went_back p records) aim
+      aimed_so Finds aimed = tt
+      aimed_so Renews aimed = aimed
+      aimed_so Starts aimed = aimed
+
+      takes : (q : PollState) (aim : Aim) (records : List Numbered) → IsBefore q.newest q.next → IsAimed q aim → FrontRun q held →
+          IsRun P (first_number records) records → IsFront F records → Goes P F q.next (back_by q aim held records (last_in records))
+      takes q aim [] known aimed kept run front = done_goes q aim held known kept
+      takes q aim (r ∷ rs) known aimed kept run front = back_by_goes q aim held (r ∷ rs) (last_in (r ∷ rs)) known aimed kept (run, front)

@@ -94,7 +94,7 @@ module _ (P : Numbered → Type 0) (F : ℕ → Type 0) where
   -- what is kept of a run, in any turn
   pub brings_by : (T : Turned → Type 0) (p : PollState) (n : ℕ) (rs : List Numbered) → IsRun P n rs → (rs ≡ [] → T (ends p (end_of p))) →
       ((l : Numbered) → Covers P n (map item_of rs) (number_after l.number 1) →
-      T (record (asks (behind p (kept_of l))) { records = rs })) → T (brings p rs)
+      T (record (asks (behind p rs l)) { records = rs })) → T (brings p rs)
   brings_by T p n [] run none some = none refl
   brings_by T p n (r ∷ rs) run none some =
       let e = run_ends n r rs run in

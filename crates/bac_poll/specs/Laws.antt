@@ -14,8 +14,8 @@ use Rattle.bac_poll.specs.Turns.{Turned, first_in, first_number, number_or}
 use Rattle.bac_poll.specs.declared.stage.Aim.{Aim}
 use Rattle.bac_poll.specs.declared.stage.Aim.TheVariants.{Finds, Renews, Starts}
 use Rattle.bac_poll.specs.declared.stage.Stage.{Stage}
-use Rattle.bac_poll.specs.declared.stage.Stage.TheVariants.{Joins, Prior, Ahead, Again, Each, Oldest, Counts, UpTo, Back}
-use Rattle.bac_poll.specs.declared.stage.Stage.TheVariants.{Revision, Restart}
+use Rattle.bac_poll.specs.declared.stage.Stage.TheVariants.{Joins, Prior, Ahead, Again, Each, Oldest, ByNumber, Counts}
+use Rattle.bac_poll.specs.declared.stage.Stage.TheVariants.{UpTo, Back, Revision, Restart}
 use Rattle.bac_poll.specs.declared.turn.Beginning.{Beginning}
 
 -- Read in order, items cover the numbers from this one up to that: a gap those up to its end, a record its own; and
@@ -66,6 +66,7 @@ IsAt P F p Prior = Unit {0}
 IsAt P F p Ahead = Unit {0}
 IsAt P F p Again = IsRun P p.next p.held
 IsAt P F p Each = IsEach p.reference p.next p.held
+IsAt P F p ByNumber = IsRun P (first_number p.held) p.held × IsFrontOf F p p.held
 IsAt P F p (Oldest aim) = IsAimed p aim × IsTold F p aim
 IsAt P F p (Counts aim) = IsAimed p aim
 IsAt P F p (UpTo aim) = IsAimed p aim × F (number_after p.total 1)
@@ -135,6 +136,7 @@ IsFrontAt F Prior records = Unit {0}
 IsFrontAt F Ahead records = Unit {0}
 IsFrontAt F Again records = Unit {0}
 IsFrontAt F Each records = Unit {0}
+IsFrontAt F ByNumber records = Unit {0}
 IsFrontAt F (Oldest aim) records = IsFront F records
 IsFrontAt F (Counts aim) records = Unit {0}
 IsFrontAt F (UpTo aim) records = IsFront F records

@@ -19,6 +19,8 @@ mod known;
 mod laws;
 mod oldest;
 mod poll;
+mod question;
+mod reading;
 mod stage;
 mod starts;
 mod turn;

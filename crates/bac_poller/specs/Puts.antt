@@ -15,7 +15,8 @@ use Rattle.bac_poll.specs.State.{kept_of}
 use Rattle.bac_poll.specs.Turns.{Turned}
 use Rattle.bac_poll.specs.declared.turn.Beginning.{Beginning}
 use Rattle.bac_poll.specs.declared.turn.Line.{Line}
-use Rattle.bac_poll.specs.declared.turn.Line.TheVariants.{AtHour, BeganAnew, BeganOrDropped, DroppedOrBegan}
+use Rattle.bac_poll.specs.declared.turn.Line.TheVariants.{AtHour, AtHourOrBegan, BeganAnew, BeganOrDropped}
+use Rattle.bac_poll.specs.declared.turn.Line.TheVariants.{DroppedOrBegan}
 
 -- ---- a put
 
@@ -121,6 +122,7 @@ abbrev pub why_anew : Option Line → List ℕ
 why_anew (Some BeganOrDropped) = codes "began anew, or dropped records"
 why_anew (Some BeganAnew) = codes "began anew"
 why_anew (Some (AtHour by)) = codes "began anew"
+why_anew (Some (AtHourOrBegan by)) = codes "began anew"
 why_anew (Some (DroppedOrBegan first before)) = codes "began anew"
 why_anew None = codes "began anew"
 

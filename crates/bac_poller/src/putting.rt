@@ -112,6 +112,7 @@ fn why_anew(line: Option<Line>) -> &'static str
         Some(Line::BeganOrDropped) => "began anew, or dropped records",
         Some(Line::BeganAnew) => "began anew",
         Some(Line::AtHour(_)) => "began anew",
+        Some(Line::AtHourOrBegan(_)) => "began anew",
         Some(Line::DroppedOrBegan(_, _)) => "began anew",
         None => "began anew",
     }
