@@ -9,7 +9,7 @@ use Rattle.bac_walk.specs.Walks.{item_of, with_numbers}
 use Rattle.bac_walk.specs.declared.batch.Numbered.{Numbered}
 use Rattle.bac_poll.specs.Known.{record_at, records_behind}
 use Rattle.bac_poll.specs.Laws.{Covers, EndAt, Goes, HoldsOfEach, IsRun, IsStanding}
-use Rattle.bac_poll.specs.State.{PollState, kept_of}
+use Rattle.bac_poll.specs.State.{PollState}
 use Rattle.bac_poll.specs.Turns.{Turned, asks, behind, brings, brings_to, end_of, ends, first_in, first_number, gap_up_to, last_in, number_or}
 use Rattle.bac_poll.specs.declared.turn.PollEnd.{PollEnd}
 

@@ -8,8 +8,8 @@ use bac_wire::Datagram;
 use std::alloc::Global;
 use std::str::SplitWhitespace;
 
-/// The answer to a question: `reply OCTETS`, `count N`, `revision N` or `restart STAMP`; or `fewer`:
-/// it can't be given, since the device can't send so many records.
+/// The answer to a question: `reply OCTETS`, `count N`, `revision N` or `restart STAMP`; or
+/// `fewer`: it can't be given, since the device can't send so many records.
 pub(crate) fn after(
     alloc: Global,
     call: &str,

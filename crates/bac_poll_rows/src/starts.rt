@@ -33,8 +33,8 @@ pub(crate) fn behind(alloc: Global, words: &mut SplitWhitespace) -> Result<LogPo
     }
 }
 
-/// A first run: BEGINS by the count of a run before, RESTART REVISION on record and RESTART REVISION
-/// now.
+/// A first run: BEGINS by the count of a run before, RESTART REVISION on record and RESTART
+/// REVISION now.
 pub(crate) fn starting(alloc: Global, words: &mut SplitWhitespace) -> Result<LogPoll, Fault> {
     let begins = maybe_number(words)?;
     let on_record = told(alloc, words)?;

@@ -50,7 +50,11 @@ fn rows(alloc: Global, turn: &Turn) -> Result<String, Fault> {
     }
     if let Some(gap) = turn.missing {
         let kind = if turn.doubtful { "doubtful " } else { "" };
-        text.push_str(format!(in alloc; "{kind}gap {} to {}; ", gap.first, until(gap.before))?.as_str())?;
+        text.push_str(format!(in alloc;
+            "{kind}gap {} to {}; ",
+            gap.first,
+            until(gap.before)
+        )?.as_str())?;
     }
     if turn.anew {
         text.push_str("epoch; ")?;
