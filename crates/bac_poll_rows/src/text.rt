@@ -3,7 +3,7 @@
 use crate::fault::Fault;
 use bac_apdu::Extent;
 use bac_link::Request;
-use bac_poll::{Line, LogPoll, PollEnd, Turn};
+use bac_poll::{Line, LogPoll, PollEnd, Told, Turn};
 use bac_print::push_datum;
 use bac_walk::Numbered;
 use std::alloc::Global;
@@ -34,7 +34,10 @@ pub(crate) fn turned(alloc: Global, poll: &LogPoll, turn: Turn) -> Result<String
         text.push_str(told(alloc, line)?.as_str())?;
     }
     match turn.end {
-        Some(end) => text.push_str(ended(end))?,
+        Some(end) => {
+            text.push_str(ended(end))?;
+            text.push_str(word(alloc, poll.word())?.as_str())?;
+        }
         None => text.push_str(asked(alloc, poll)?.as_str())?,
     }
     Ok(text)
@@ -111,6 +114,19 @@ fn dropped(alloc: Global, first: u32, before: u32) -> Result<String, Fault> {
     }
     let last = until(before);
     Ok(format!(in alloc; "line dropped {first} to {last}, or began anew; ")?)
+}
+
+/// The word that is on record then.
+fn word(alloc: Global, told: &Told) -> Result<String, Fault> {
+    let restart = match str::from_utf8(told.restart.as_slice()) {
+        Ok("") => "-",
+        Ok(restart) => restart,
+        Err(_) => return Err(Fault::BadLine),
+    };
+    Ok(match told.revision {
+        Some(revision) => format!(in alloc; "; word {restart} {revision}")?,
+        None => format!(in alloc; "; word {restart} -")?,
+    })
 }
 
 fn ended(end: PollEnd) -> &'static str {
