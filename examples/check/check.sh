@@ -333,6 +333,8 @@ counted ./replay.sh
 
 # The rows of ../vectors, by a program of their own.
 counted ./vectors.sh ../../crates/bac_vectors/out/bac_vectors
+# How a log is polled, by a second program of the rule.
+counted ./polls.py ../../crates/bac_poll_rows/out/bac_poll_rows
 
 echo "$passed passed, $failed failed"
 [ "$failed" -eq 0 ]
