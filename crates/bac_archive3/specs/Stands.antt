@@ -70,13 +70,13 @@ abbrev pub behind : List ℕ → ℕ
 behind = fold (λ n id. max n (id + 1)) 1
 
 -- What is told of an archive: when it was made; each device and each log; of each log its last beginning, and the newest
--- items of the epoch that began there, up to ten; and the next ids that no device and no log has or had.
+-- items of the epoch that began there, up to three; and the next ids that no device and no log has or had.
 pub record StandsAs (trees : Trees) (s : Standing) : Type 0 where
   pub made : (row : Values) × Contains (trees 0) row × (column row 2 ≡ Text (string_bytes s.made))
-  pub devices : IsPermutation (map (shown 11) (trees 1)) (map device_columns s.devices.items)
-  pub logs : IsPermutation (map (shown 7) (trees 3)) (map log_columns s.logs.items)
+  pub devices : IsPermutation (map (shown 10) (trees 1)) (map device_columns s.devices.items)
+  pub logs : IsPermutation (map (shown 9) (trees 3)) (map log_columns s.logs.items)
   pub last : TellsNewest epochs 1 (λ _. true) (map (shown 2) (trees 6)) (map beginning_columns s.last.items)
-  pub newest : TellsNewest numbers 10 (is_last s.last.items) (map (shown 5) (trees 5)) (map item_columns s.newest.items)
+  pub newest : TellsNewest numbers 3 (is_last s.last.items) (map (shown 5) (trees 5)) (map item_columns s.newest.items)
   pub next_device : s.next_device ≡ behind (map (λ d. d.id) s.devices.items)
   pub next_log : s.next_log ≡ behind (map (λ l. l.id) s.logs.items ++ map (λ b. b.id / epochs) s.last.items)
 

@@ -85,7 +85,7 @@ fn id_at(row: &Row) -> Result<i64, Error>
 
 /// A device.
 fn device_of(row: &Row) -> Result<DeviceRow, Error>
-    ensures read { IfOk result (λ d. device_columns d ≡ first 12 row.now) }
+    ensures read { IfOk result (λ d. device_columns d ≡ first 11 row.now) }
     ensures cause { IfErr result (FailsToRead device_kinds row.now) }
 {
     let id = short_at(row, 0)?;
@@ -94,12 +94,11 @@ fn device_of(row: &Row) -> Result<DeviceRow, Error>
     let dadr = row.get::<String>(3)?;
     let instance = row.get::<Option<u32>>(4)?;
     let name = row.get::<Option<String>>(5)?;
-    let restart = row.get::<Option<String>>(6)?;
-    let revision = row.get::<Option<u32>>(7)?;
-    let whole = flag_at(row, 8)?;
-    let stopped = flag_at(row, 9)?;
-    let answered = row.get::<Option<String>>(10)?;
-    let offset = row.get::<Option<i64>>(11)?;
+    let revision = row.get::<Option<u32>>(6)?;
+    let whole = flag_at(row, 7)?;
+    let stopped = flag_at(row, 8)?;
+    let answered = row.get::<Option<String>>(9)?;
+    let offset = row.get::<Option<i64>>(10)?;
     Ok(DeviceRow {
         id,
         address,
@@ -107,7 +106,6 @@ fn device_of(row: &Row) -> Result<DeviceRow, Error>
         dadr,
         instance,
         name,
-        restart,
         revision,
         whole,
         stopped,
@@ -118,7 +116,7 @@ fn device_of(row: &Row) -> Result<DeviceRow, Error>
 
 /// A log.
 fn log_of(row: &Row) -> Result<LogRow, Error>
-    ensures read { IfOk result (λ l. log_columns l ≡ first 8 row.now) }
+    ensures read { IfOk result (λ l. log_columns l ≡ first 10 row.now) }
     ensures cause { IfErr result (FailsToRead log_kinds row.now) }
 {
     let id = short_at(row, 0)?;
@@ -128,7 +126,9 @@ fn log_of(row: &Row) -> Result<LogRow, Error>
     let source = row.get::<Option<String>>(4)?;
     let units = row.get::<Option<String>>(5)?;
     let description = row.get::<Option<String>>(6)?;
-    let stopped = flag_at(row, 7)?;
+    let restart = row.get::<Option<String>>(7)?;
+    let revision = row.get::<Option<u32>>(8)?;
+    let stopped = flag_at(row, 9)?;
     Ok(LogRow {
         id,
         device,
@@ -137,6 +137,8 @@ fn log_of(row: &Row) -> Result<LogRow, Error>
         source,
         units,
         description,
+        restart,
+        revision,
         stopped,
     })
 }
@@ -176,7 +178,7 @@ pub(crate) fn item_of(alloc: Global, row: &Row) -> Result<ItemRow, Error>
 
 /// Devices, in the order of their rows.
 pub(crate) fn devices_of(alloc: Global, rows: &[Row]) -> Result<Vec<DeviceRow>, Error>
-    ensures read { IfOk result (λ all. map device_columns all.items ≡ map (first 12) rows.now) }
+    ensures read { IfOk result (λ all. map device_columns all.items ≡ map (first 11) rows.now) }
     ensures cause { IfErr result (FailsToReadOne device_kinds rows.now) }
 {
     let mut all = Vec::new(alloc);
@@ -188,7 +190,7 @@ pub(crate) fn devices_of(alloc: Global, rows: &[Row]) -> Result<Vec<DeviceRow>, 
 
 /// Logs, in the order of their rows.
 pub(crate) fn logs_of(alloc: Global, rows: &[Row]) -> Result<Vec<LogRow>, Error>
-    ensures read { IfOk result (λ all. map log_columns all.items ≡ map (first 8) rows.now) }
+    ensures read { IfOk result (λ all. map log_columns all.items ≡ map (first 10) rows.now) }
     ensures cause { IfErr result (FailsToReadOne log_kinds rows.now) }
 {
     let mut all = Vec::new(alloc);

@@ -33,7 +33,7 @@ pub struct Standing {
     pub logs: Vec<LogRow>,
     /// Of each log that has begun, its last beginning, by falling ids.
     pub last: Vec<BeginningRow>,
-    /// Of the epochs that began there the newest items, up to ten each, by falling ids.
+    /// Of the epochs that began there the newest items, up to three each, by falling ids.
     pub newest: Vec<ItemRow>,
     /// The next ids: 65536 where none is left.
     pub next_device: u32,
@@ -56,7 +56,7 @@ const NUMBERS: u64 = 4_294_967_296;
 const EPOCHS: u32 = 32_768;
 
 /// How many items of an epoch are told.
-const NEWEST: u64 = 10;
+const NEWEST: u64 = 3;
 
 /// How many rows of this group were met.
 fn met<T: Drop>(found: &Found<T>, place: u64) -> u64
@@ -126,8 +126,8 @@ fn with_item(
     last: &[BeginningRow],
 ) -> Result<Found<ItemRow>, Error>
     ensures meets { (n : ℕ) → item.id ≡ pos n → IfOk result (λ new. (wanted : _)
-        × (met found (n / numbers) < 10 → wanted ≡ is_last last.now (n / numbers))
-        × Meets 10 (n / numbers) wanted found item new) }
+        × (met found (n / numbers) < 3 → wanted ≡ is_last last.now (n / numbers))
+        × Meets 3 (n / numbers) wanted found item new) }
     ensures cause { IfErr result (λ e. e ≡ Error.SqliteFailure ErrorCode.OutOfMemory) }
 {
     let epoch = item.id.unsigned_abs() / NUMBERS;
@@ -163,7 +163,7 @@ fn newest_of<S: Alter>(
     requires { HasCleanDisk (state S.Store conn.old)
         → HasArchive (state S.Store conn.old).now.schema }
     ensures told { HasCleanDisk (state S.Store conn.new)
-        → IfOk result (λ items. TellsNewest numbers 10 (is_last last.now)
+        → IfOk result (λ items. TellsNewest numbers 3 (is_last last.now)
         (map (shown 5) ((state S.Store conn.old).now.trees 5)) (map item_columns items.items)) }
     ensures left { HasCleanDisk (state S.Store conn.new)
         → IsLeft (state S.Store conn.old) (state S.Store conn.new) }
@@ -249,9 +249,9 @@ fn told_of(
     ensures made { IfOk result (λ s. (row : List Value) × Contains tables.now.archive.items row
         × (column row 1 ≡ Text (string_bytes s.made))) }
     ensures devices { IfOk result (λ s. map device_columns s.devices.items
-        ≡ map (first 12) tables.now.devices.items) }
+        ≡ map (first 11) tables.now.devices.items) }
     ensures logs { IfOk result (λ s. map log_columns s.logs.items
-        ≡ map (first 8) tables.now.logs.items) }
+        ≡ map (first 10) tables.now.logs.items) }
     ensures last { IfOk result (λ s. (s.last ≡ last) × (s.newest ≡ newest)) }
     ensures next { IfOk result (λ s. (s.next_device ≡ behind (map (λ d. d.id) s.devices.items))
         × (s.next_log

@@ -54,7 +54,7 @@ rows-init g c =
       λ clean.
           let early : HasCleanDisk old = omega (arith, clean, made.survives.clean) in
           let begun = begun_plain g.S.Store (asked Items) [] c.args.conn.now c.in_ok-rows.rows.conn.now (plain Items old (c.requires early)) (made.begun clean) in
-          (([], begun.0, told_nothing numbers 10 (is_last c.args.last.now) item_columns (first 6) _ (search rules) refl (omega arith), refl), begun.1),
+          (([], begun.0, told_nothing numbers 3 (is_last c.args.last.now) item_columns (first 6) _ (search rules) refl (omega arith), refl), begun.1),
     )
 
 one_longer : {X : Type 0} (xs : List X) (x : X) (n : ℕ) → length xs ≡ n → length (xs ++ x ∷ []) ≡ n + 1
@@ -80,7 +80,7 @@ rows-preserved g c =
           let id = c.in_ok-item.ensures.id in
           let read = c.in_ok-item.ensures.read in
           let meets = c.in_ok-found.ensures.meets id.0 id.1 in
-          let told = told_more_row numbers 10 (is_last c.args.last.now) item_columns (first 6) (λ x y le. omega (arith, le)) (λ r. refl) (omega arith) was.0.0 all.0 row id.0 c.in_ok-item.item meets.0 c.rows.found c.in_ok-found.found
+          let told = told_more_row numbers 3 (is_last c.args.last.now) item_columns (first 6) (λ x y le. omega (arith, le)) (λ r. refl) (omega arith) was.0.0 all.0 row id.0 c.in_ok-item.item meets.0 c.rows.found c.in_ok-found.found
           sorted (sym (ap (λ r. column r 0) read) ∙ ap Int id.1) read meets.1 meets.2 was.0.2 in
           ((was.0.0 ++ row ∷ [], given, told, one_longer was.0.0 row c.rows.read was.0.3), step),
     )
@@ -97,8 +97,8 @@ returns-in_default-clause-told g c clean =
     let shown_all = (rw (c.in_ok-row.was, c.in_default.is) at (moved.ok late)) (asked Items) [] was.0.0 was.0.1 in
     let has = subst (λ (d : Database). HasArchive d.schema) (sym was.1.0.now_is) (c.requires (omega (arith, clean_mid, c.rows.invariant.1.clean))) in
     let all = answers Items mid (state g.S.Store now) was.0.0 has shown_all in
-    subst (λ (d : Database). TellsNewest numbers 10 (is_last c.args.last.now) (map (shown 5) (d.trees 5)) (map item_columns c.rows.found.rows.items)) was.1.0.now_is
-    (tells_newest numbers 10 (is_last c.args.last.now) (first 6) (shown 5) (λ r. refl) (λ r. refl) (mid.now.trees 5) was.0.0 (map item_columns c.rows.found.rows.items) all.each (all.falling (inr refl)) was.0.2.0.kept was.0.2.0.there)
+    subst (λ (d : Database). TellsNewest numbers 3 (is_last c.args.last.now) (map (shown 5) (d.trees 5)) (map item_columns c.rows.found.rows.items)) was.1.0.now_is
+    (tells_newest numbers 3 (is_last c.args.last.now) (first 6) (shown 5) (λ r. refl) (λ r. refl) (mid.now.trees 5) was.0.0 (map item_columns c.rows.found.rows.items) all.each (all.falling (inr refl)) was.0.2.0.kept was.0.2.0.there)
 
 pub returns-in_default-clause-same : goal.returns-in_default-clause-same
 returns-in_default-clause-same g c clean =
