@@ -71,8 +71,7 @@ rise_falls : (free : ℕ) (rows : List Values) → RiseFrom free rows
 rise_falls free [] rise = (free, tt, omega arith, tt)
 rise_falls free (row ∷ rows) (next, (id, end, is, ends, from, behind), rise) =
     let it = rise_falls next rows rise in
-    let high = ends_behind (column row 1) id end ends in
-    (
+    let high = ends_behind (column row 1) id end ends in (
       it.0,
       subst (FallFrom it.0) (sym (turn_cons row rows)) (fall_behind it.0 next (reverse rows) row id end is ends (omega (arith, behind)) it.2 it.3 it.1),
       omega (arith, it.2, behind, high, from),

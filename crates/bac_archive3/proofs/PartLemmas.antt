@@ -62,7 +62,7 @@ module _ {X : Type 0} (tree : ℕ) (f : X → Put) (id : X → ℕ) (puts : (x :
   come (y ∷ xs) rows free x (zero, lt, is) =
       let there : HasInt (put_row (row_of (f y)) rows) (pos (id y)) = (row_of (f y), put_is (row_of (f y)) rows (is_free y rows free.0), id_is y) in
       subst (λ z. HasInt (left tree (after tree rows (f y)) (map f xs)) (pos (id z))) is
-          (on_stay xs (after tree rows (f y)) free.1 (pos (id y)) (subst (λ r. HasInt r (pos (id y))) (sym (puts y rows)) there))
+      (on_stay xs (after tree rows (f y)) free.1 (pos (id y)) (subst (λ r. HasInt r (pos (id y))) (sym (puts y rows)) there))
   come (y ∷ xs) rows free x (suc i, lt, is) = come xs (after tree rows (f y)) free.1 x (i, omega (arith, lt), is)
 
 -- ---- ids in range
@@ -190,10 +190,10 @@ fit_items (item ∷ items) trees free ((id, id_is, begun, known), all) on = (goe
                 let high : id ≤ end = ends_behind (or_null (λ n. Int (pos n)) item.last) id end ends in
                 omega (arith, below, from, high, rise.1.5)
         go false other = (
-              (on p).0,
-              λ row n e there at of stops. one row n e (from_put (row_of (Item item)) (trees 5) is_free row there) at of stops,
-              subst (RiseFrom (on p).0) (left_out (is_in numbers p (item_columns item)) (item_columns item) (rest p) (in_place item id p id_is ∙ other)) (on p).2,
-            )
+          (on p).0,
+          λ row n e there at of stops. one row n e (from_put (row_of (Item item)) (trees 5) is_free row there) at of stops,
+          subst (RiseFrom (on p).0) (left_out (is_in numbers p (item_columns item)) (item_columns item) (rest p) (in_place item id p id_is ∙ other)) (on p).2,
+        )
           where
             one : (row : Values) (n e : ℕ) → (row_of (Item item) ≡ row) ⊎ Contains (trees 5) row → column row 0 ≡ Int (pos n) → n / numbers ≡ p → EndsAt (column row 2) n e → e < (on p).0
             one row n e (inl same) at of stops =
@@ -263,7 +263,7 @@ module _ (old : Database) (is : IsArchive old) (s : Standing) (told : StandsAs o
       let down : FallFrom fall.0 (filter (is_in numbers place) (map item_columns s.newest.items)) = subst (FallFrom fall.0) (sym (told.newest.first place)) (chosen _ (is_last s.last.items place) fall.0 few) in
       let up = fall_rises fall.0 _ down in
       let turned : filter (is_in numbers place) (map item_columns (reverse s.newest.items)) ≡ reverse (filter (is_in numbers place) (map item_columns s.newest.items)) =
-          ap (filter (is_in numbers place)) (map_turned item_columns s.newest.items) ∙ filter_turned (is_in numbers place) (map item_columns s.newest.items) in
+      ap (filter (is_in numbers place)) (map_turned item_columns s.newest.items) ∙ filter_turned (is_in numbers place) (map item_columns s.newest.items) in
       subst (RiseFrom 0) (sym turned) (they_rise 0 up.0 _ up.1)
     where
       chosen : (rows : List Values) (b : Bool) (top : ℕ) → FallFrom top rows → FallFrom top (if b then rows else [])
@@ -302,7 +302,7 @@ module _ (old : Database) (is : IsArchive old) (s : Standing) (told : StandsAs o
     has_log l there =
         let free = (free_apart 3 L (B ++ I) (after_devices 3) (free_apart 3 D (L ++ (B ++ I)) (made.trees 3) free_logs).1).0 in
         subst (λ r. HasId r l.id) (sym (untouched 3 Beginning (λ x rows. refl) s.last.items (after_logs 3)))
-            (come 3 NewLog (λ l. l.id) (λ x rows. refl) (λ x. refl) (λ x rows free. free refl refl) s.logs.items (after_devices 3) free l there)
+        (come 3 NewLog (λ l. l.id) (λ x rows. refl) (λ x. refl) (λ x rows free. free refl refl) s.logs.items (after_devices 3) free l there)
 
     has_beginning : (b : BeginningRow) → Contains s.last.items b → HasId (after_last 6) b.id
     has_beginning b there =
@@ -312,8 +312,7 @@ module _ (old : Database) (is : IsArchive old) (s : Standing) (told : StandsAs o
     grounded : (items : List ItemRow) → ((item : ItemRow) → Contains items item → Contains s.newest.items item) → AllByRecursion (IsGrounded after_last) items
     grounded [] there = tt
     grounded (item ∷ items) there =
-        let it = of_told item (there item (0, omega arith, refl)) in
-        (
+        let it = of_told item (there item (0, omega arith, refl)) in (
           (it.id, it.id_is, subst (HasId (after_last 6)) it.epoch (has_beginning it.beginning it.begun), subst (HasId (after_last 3)) it.log_is (has_log it.log it.known)),
           grounded items (λ x has. there x (suc has.0, omega (arith, has.1), has.2)),
         )
@@ -325,8 +324,8 @@ module _ (old : Database) (is : IsArchive old) (s : Standing) (told : StandsAs o
         (fit_both L (B ++ I) after_devices (fit_logs s.logs.items after_devices logs_below)
         (fit_both B I after_logs (fit_beginnings s.last.items after_logs last_below)
         (fit_items (reverse s.newest.items) after_last free
-            (grounded (reverse s.newest.items) (λ item has. Contains-permutation _ _ item (IsPermutation-sym _ _ (IsPermutation-reverse s.newest.items)) has))
-            (λ place. (0, (λ row n end there. absurd (nothing row there)), rise_at place)))))
+        (grounded (reverse s.newest.items) (λ item has. Contains-permutation _ _ item (IsPermutation-sym _ _ (IsPermutation-reverse s.newest.items)) has))
+        (λ place. (0, (λ row n end there. absurd (nothing row there)), rise_at place)))))
       where
         nothing : (row : Values) → Contains (after_last 5) row → ⊥
         nothing row there = let no = subst (λ l. Contains l row) no_items_yet there in omega (arith, no.1)

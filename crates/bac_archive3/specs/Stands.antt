@@ -58,12 +58,14 @@ is_last last epoch = list_any (λ b. b.id == epoch) last
 abbrev pub met : {X : Type 0} → Found X → ℕ → ℕ
 met found place = if found.place == place then found.count else 0
 
--- one row more is met, which is told if it is wanted and not too many of its group were met before
-pub record Meets {X : Type 0} (most place : ℕ) (wanted : Bool) (old : Found X) (row : X) (new : Found X) : Type 0 where
+-- one row more is met, which is told by its columns if it is wanted and not too many of its group were met before
+pub record Meets {X : Type 0} (columns : X → Values) (most place : ℕ) (wanted : Bool) (old : Found X) (row : Values)
+    (new : Found X) : Type 0 where
   pub at : new.place ≡ place
-  pub more : met old place < most → (new.count ≡ met old place + 1)
-      × (new.rows.items ≡ (if wanted then old.rows.items ++ row ∷ [] else old.rows.items))
-  pub full : most ≤ met old place → (new.count ≡ met old place) × (new.rows.items ≡ old.rows.items)
+  pub more : met old place < most → (new.count ≡ met old place + 1) × (map columns new.rows.items
+      ≡ (if wanted then map columns old.rows.items ++ row ∷ [] else map columns old.rows.items))
+  pub full : most ≤ met old place → (new.count ≡ met old place)
+      × (map columns new.rows.items ≡ map columns old.rows.items)
 
 -- the id behind all of these, from 1 on
 abbrev pub behind : List ℕ → ℕ

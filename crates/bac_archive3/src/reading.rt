@@ -1,6 +1,6 @@
 //! The rows of an answer are read.
 
-ghost use Rattle.std.specs.Prelude.{◌≡◌, ◌⊎◌, ℕ, pos, map, IfErr, IfOk};
+ghost use Rattle.std.specs.Prelude.{◌≡◌, ◌⊎◌, ℕ, pos, ◌/◌, map, IfErr, IfOk};
 ghost use Rattle.sqlite_value.specs.Order.{column};
 ghost use Rattle.sqlite_value.specs.declared.value.Value.TheVariants.{Int, Real, Text};
 ghost use Rattle.sqlite.specs.Values.{or_null};
@@ -8,7 +8,7 @@ ghost use Rattle.bac_archive3.specs.Ask.{first};
 ghost use Rattle.bac_archive3.specs.Put.{beginning_columns, device_columns, flag, item_columns};
 ghost use Rattle.bac_archive3.specs.Put.{log_columns};
 ghost use Rattle.bac_archive3.specs.Read.{FailsToRead, FailsToReadOne, IsUnread, below, octets};
-ghost use Rattle.bac_archive3.specs.Read.{or_none, real};
+ghost use Rattle.bac_archive3.specs.Read.{numbers, or_none, real};
 ghost use Rattle.bac_archive3.specs.Read.{beginning_kinds, device_kinds, item_kinds, log_kinds};
 
 use crate::row::{BeginningRow, DeviceRow, ItemRow, LogRow};
@@ -16,6 +16,9 @@ use sqlite::types::Type;
 use sqlite::{Error, ErrorCode, Row};
 use sqlite_value::value::ValueRef;
 use std::alloc::Global;
+
+/// How many numbers an epoch has.
+const NUMBERS: u64 = 4_294_967_296;
 
 /// A number of 16 bits.
 fn short_at(row: &Row, at: usize) -> Result<u16, Error>
@@ -81,6 +84,19 @@ fn id_at(row: &Row) -> Result<i64, Error>
         return Err(Error::IntegralValueOutOfRange(0));
     }
     Ok(id)
+}
+
+/// The epoch that an item is of.
+pub(crate) fn epoch_at(row: &Row) -> Result<u64, Error>
+    ensures read { IfOk result (λ epoch. (n : ℕ) × (column row.now 0 ≡ Int (pos n))
+        × (epoch ≡ n / numbers)) }
+    ensures cause { IfErr result (FailsToRead item_kinds row.now) }
+{
+    let id = id_at(row)?;
+    match u64::try_from(id) {
+        Ok(id) => Ok(id / NUMBERS),
+        Err(_) => Err(Error::IntegralValueOutOfRange(0)),
+    }
 }
 
 /// A device.
