@@ -320,6 +320,8 @@ counted ./router.sh
 counted ./edges.sh
 # Logs kept in a file, and runs that are killed.
 counted ./kept.sh
+# An archive of format 2 becomes one of format 3.
+counted ./convert.py
 counted ./helpers.sh
 # A device among strangers.
 counted ./hostile.sh
