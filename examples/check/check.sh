@@ -321,6 +321,8 @@ counted ./edges.sh
 # Logs kept in a file, and runs that are killed.
 counted ./kept.sh
 counted ./helpers.sh
+# A site on a page, in a browser.
+counted ./page.py
 # A device among strangers.
 counted ./hostile.sh
 # Memory, streams and sockets that are refused.
