@@ -18,6 +18,8 @@ import sqlite3
 import sys
 import tempfile
 
+# Nothing is left beside this script.
+sys.dont_write_bytecode = True
 from archive import Axis, Wrong, gathered, read
 
 HOUR, DAY = 3600, 86400
