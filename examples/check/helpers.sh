@@ -193,13 +193,14 @@ unserved
 eval "$(started bac-site@.service ExecStart)" > "$room/out" 2> "$room/err"
 is 'a dead device is no failure' "$?" "$(sed -n 's/^SuccessExitStatus=//p' ../use/systemd/bac-site@.service)"
 if has sqlite3; then
+    before=$(cksum "$room"/state/plant/site.db "$room"/state/plant/site.db-wal)
     for again in 1 2; do
         eval "$(started copy.conf ExecStopPost)" > "$room/out" 2> "$room/err"
         is "a copy, $again" "$? $(cat "$room/err") $(ls "$room/read") $(stat -c %a "$room/read/plant.db")" '0  plant.db 644'
     done
     is 'what is in it' "$(sqlite3 -readonly "$room/read/plant.db" 'PRAGMA journal_mode; SELECT count(*) FROM logs; SELECT count(*) > 0 FROM items')" \
         $'delete\n2\n1'
-    is 'the archive of before' "$(cd "$room/state/plant" && ls)" $'site.db\nsite.db-wal'
+    is 'the archive is as before' "$(cksum "$room"/state/plant/site.db "$room"/state/plant/site.db-wal)" "$before"
     bac check "$room/state/plant/site.db"
     is 'and whole' "$status" 0
 fi

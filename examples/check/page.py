@@ -18,6 +18,10 @@ import tempfile
 import threading
 import time
 
+# Nothing is left beside the scripts.
+sys.dont_write_bytecode = True
+sys.path.append(os.path.join(os.path.dirname(os.path.abspath(__file__)), "../use"))
+import archive
 import page_archives
 from page_browser import Browser, Page, installed
 
@@ -153,8 +157,8 @@ def pictures(judge):
         columns, lines = picture.places(curve)
         hole = max(zip(columns, columns[1:]), key=lambda pair: pair[1] - pair[0], default=(0, 0))
         wide = columns[-1] - columns[0] if columns else 1
-        judge.same(f"{name}: a curve that is open for a third", (len(columns) > 100, len(lines) > 30, round(3 * (hole[1] - hole[0]) / wide, 1)),
-                   (True, True, 1.0))
+        judge.same(f"{name}: a curve that is open for a third",
+                   (len(columns) > 100, len(lines) > 30, round(3 * (hole[1] - hole[0]) / wide, 1)), (True, True, 1.0))
         middle = picture.at((hole[0] + hole[1]) // 2, (lines[0] + lines[-1]) // 2 if lines else 0)
         judge.same(f"{name}: where the gap is marked", middle, gap)
         judge.same(f"{name}: it lies in the window", (columns[:1] or [0])[0] > 5 and (columns[-1:] or [9999])[0] < size[0] - 5, True)
@@ -163,9 +167,10 @@ def pictures(judge):
 
 def hostile(judge):
     """Names with markup and control characters are texts; stamps that nobody can place are told and not drawn."""
-    file, name = os.path.join(judge.room, "hostile.db"), "</bdi><script>alert(1)</script>&amp;\x07\u202e\"'"
+    file, name = os.path.join(judge.room, "hostile.db"), "</bdi><script>document.title=1</script>&amp;\x07\u202e\"'"
     rows = [(1, None, "2024-05-06T07:08:09.10", 1.0, "1"), (2, None, "2024-*-06T07:08:09.10", 2.0, "2"),
-            (3, None, "2154-05-06T07:08:09.10", 3.0, "3"), (4, None, "2024-05-07T07:08:09.10", 9e99, "<i>"), (5, None, "2024-05-08T00:00:00.00", 5.0, "5")]
+            (3, None, "2154-05-06T07:08:09.10", 3.0, "3"), (4, None, "2024-05-07T07:08:09.10", 9e99, "<i>"),
+            (5, None, "2024-05-08T00:00:00.00", 5.0, "5")]
     one_log(file, rows, name)
     text = judge.drawn(file, f"--title={name}")
     page = Page(judge.browser.dom(judge.at))
@@ -199,9 +204,18 @@ def large(judge):
     judge.same("a million records: rows", (len(page.rows), page.text.count("2,000 curves had more records")), (2000, 1))
     os.remove(file)
     one_log(file, [(at + 1, None, stamped(at % 2900), 7777.0 if at == 1717 else -7.0 if at == 2222 else 1.0, "1") for at in range(2900)])
-    judge.drawn(file)
+    heights = heights_of(judge.drawn(file))
     page = Page(judge.browser.dom(judge.at))
-    judge.same("no peak is lost", page.rows[0].ends, ["7,777", "-7"])
+    judge.same("no peak is lost", (page.rows[0].ends, min(heights), max(heights)), (["7,777", "-7"], 6, 114))
+
+
+def heights_of(text):
+    """Where the path of the only curve goes, from the upper end of its drawing on."""
+    y, heights = 0, []
+    for step, first, second in re.findall(r"([Mlhv])(-?[0-9]+)(?: (-?[0-9]+))?", re.search(r'class="curve" d="([^"]*)"', text)[1]):
+        y = int(second) if step == "M" else y + int({"l": second, "h": 0, "v": first}[step])
+        heights.append(y)
+    return heights
 
 
 def in_parts(judge):
@@ -214,6 +228,8 @@ def in_parts(judge):
     for part, statement in (("000001.db", f"{cut} > 800"), ("000002.db", f"{cut} < 750")):
         base = sqlite3.connect(os.path.join(folder, part))
         base.execute(f"DELETE FROM items WHERE id IN (SELECT id FROM items i WHERE {statement})")
+        if part == "000001.db":
+            base.execute("UPDATE logs SET name = 'as it was called before' WHERE id = 1")
         base.commit()
         base.close()
     open(os.path.join(folder, "000003.db"), "w").close()
@@ -247,6 +263,59 @@ def beside_others(judge):
     base.close()
     with open(file, "rb") as it:
         judge.same("the file is as it was", it.read() == octets, True)
+    left_by_a_kill(judge, file)
+    without_leave(judge)
+
+
+def left_by_a_kill(judge, file):
+    """What stands in the log beside a file alone is on the page, and both are as they were."""
+    base, killed = sqlite3.connect(file), os.path.join(judge.room, "killed.db")
+    base.execute("PRAGMA journal_mode = WAL")
+    base.execute("UPDATE logs SET name = 'left in the log'")
+    base.commit()
+    for end in ("", "-wal"):
+        shutil.copy(file + end, killed + end)
+    base.close()
+
+    def octets():
+        return [os.path.exists(killed + end) and open(killed + end, "rb").read() for end in ("", "-wal")]
+
+    before = octets()
+    judge.same("what a killed run left", ("left in the log" in judge.drawn(killed), octets() == before), (True, True))
+
+
+def without_leave(judge):
+    """Who may not write beside the file reads it, too, behind a run that ended, and is told of one that was killed."""
+    if os.geteuid() != 0:
+        return
+    folder = os.path.join(judge.room, "closed")
+    os.mkdir(folder)
+    for at in (judge.room, folder):
+        os.chmod(at, 0o755)
+    for name, log, wanted in (("ended.db", 41, True), ("killed.db", 4152, False)):
+        file = os.path.join(folder, name)
+        page_archives.made(file, 2)
+        base = sqlite3.connect(file)
+        base.execute("PRAGMA journal_mode = WAL")
+        base.close()
+        with open(file + "-wal", "wb") as it:
+            it.write(bytes(log))
+        judge.same(f"without leave to write: {name}", is_opened_by_nobody(file), wanted)
+
+
+def is_opened_by_nobody(file):
+    """Whether page.py opens a file in a process that has given up its rights."""
+    process = os.fork()
+    if process:
+        return os.waitpid(process, 0)[1] == 0
+    os.setgroups([])
+    os.setgid(65534)
+    os.setuid(65534)
+    try:
+        archive.opened(file).close()
+    except sqlite3.OperationalError:
+        os._exit(1)
+    os._exit(0)
 
 
 def kept(judge):

@@ -9,6 +9,8 @@ import urllib.parse
 
 # For how long a run of `bac keep` that has the file open is waited for, in seconds.
 WAIT = 600
+# The least log that has a page of the database, with its header and the page's: a run that ends leaves less than that.
+LEAST_LOG = 32 + 24 + 512
 GREATEST = 4294967295
 # How many changes are listed of a log without numbers.
 CHANGES = 4
@@ -48,7 +50,7 @@ def opened(file):
             return base
         except sqlite3.OperationalError as error:
             base.close()
-            left = os.path.exists(file + "-wal") and os.path.getsize(file + "-wal") > 40
+            left = os.path.exists(file + "-wal") and os.path.getsize(file + "-wal") >= LEAST_LOG
             if mode == "immutable=1" or left or "open" not in str(error) and "readonly" not in str(error):
                 raise
     raise AssertionError

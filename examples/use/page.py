@@ -172,14 +172,15 @@ def drawing_of(curve, ticks, title):
     marks = "".join(f"M{place * columns:.0f} 0v{HEIGHT}" for place, _ in ticks)
     parts = [f'<path class="tick" d="{marks}"/>']
     for left, right, is_doubtful in curve.bands:
-        wide = max(right - left, columns / 200)
-        parts.append(f'<rect class="{"doubt" if is_doubtful else "gap"}" x="{min(left, columns - wide):g}" width="{wide:g}" height="{HEIGHT}"/>')
+        wide, kind = max(right - left, columns / 200), "doubt" if is_doubtful else "gap"
+        parts.append(f'<rect class="{kind}" x="{min(left, columns - wide):g}" width="{wide:g}" height="{HEIGHT}"/>')
     for _epoch, record in curve.marks:
         if record.at is not None and curve.axis.first <= record.at <= curve.axis.last:
             parts.append(f'<path class="epoch" d="M{curve.column_of(record.at)} 0v{HEIGHT}"/>')
     parts.append('<path class="curve" d="' + "".join(path_of(line, height_of, curve.is_step) for line in lines) + '"/>')
-    svg = (f'<svg viewBox="0 0 {columns} {HEIGHT}" preserveAspectRatio="none" role="img" aria-label="{title}">' + "".join(parts) + "</svg>")
-    svg += "".join(f'<i style="left:{(left + right) / 2 / columns:.2%}">?</i>' for left, right, is_doubtful in curve.bands if is_doubtful)
+    svg = f'<svg viewBox="0 0 {columns} {HEIGHT}" preserveAspectRatio="none" role="img" aria-label="{title}">{"".join(parts)}</svg>'
+    doubts = [(left + right) / 2 / columns for left, right, is_doubtful in curve.bands if is_doubtful]
+    svg += "".join(f'<i style="left:{place:.2%}">?</i>' for place in doubts)
     return svg, "".join(f"<span>{end}</span>" for end in ends_of(least, greatest))
 
 
@@ -203,7 +204,7 @@ def silence_of(log, curve, site):
 
 
 def seconds(text):
-    return (datetime.datetime.fromisoformat(text.strip()[:19].replace("T", " ")) - datetime.datetime(1970, 1, 1)).total_seconds()
+    return (datetime.datetime.fromisoformat(text[:19].replace("T", " ")) - datetime.datetime(1970, 1, 1)).total_seconds()
 
 
 def now_of(log, curve, site):
@@ -214,7 +215,8 @@ def now_of(log, curve, site):
         text = f'<b>{value_of(newest)}</b> {html.escape(unit)}<small>{moment(newest.stamp)}</small>'
     flags = [word for word, bit in zip(FLAGS, newest and newest.flags or "") if bit == "1"] + ["stopped"] * log["stopped"]
     silence = "" if log["stopped"] else silence_of(log, curve, site)
-    return text + "".join(f'<em class="flag">{flag}</em>' for flag in flags) + (f'<em class="silent">{silence}</em>' if silence else "")
+    text += "".join(f'<em class="flag">{flag}</em>' for flag in flags)
+    return text + (f'<em class="silent">{silence}</em>' if silence else "")
 
 
 def row_of(log, curve, site):
@@ -226,8 +228,8 @@ def row_of(log, curve, site):
         picture, ends = drawing_of(curve, site.ticks, html.escape(f"trend log {log['instance']} of {place_of(log)}", True))
     elif curve.records:
         picture = changes_of(curve)
-    return (f'<article><div class="what"><b>{name_of(log)}</b><small>{about}</small><small>{count}</small></div><div class="now">{now_of(log, curve, site)}</div>'
-            f'<div class="picture">{picture}</div><div class="ends">{ends}</div></article>\n')
+    return (f'<article><div class="what"><b>{name_of(log)}</b><small>{about}</small><small>{count}</small></div>'
+            f'<div class="now">{now_of(log, curve, site)}</div><div class="picture">{picture}</div><div class="ends">{ends}</div></article>\n')
 
 
 def device_of(log, site):
@@ -244,16 +246,21 @@ def device_of(log, site):
     return [heading] + [f'<div class="axis"><div class="ticks">{ticks}</div></div>\n'] * (log["log"] is not None)
 
 
+def cells(log, *texts, kind=""):
+    """A row of a table about a log."""
+    texts = (f'{name_of(log)}<small>{place_of(log)} {log["instance"]}</small>', *texts)
+    return f'<tr class="{kind}">' + "".join(f"<td>{text}</td>" for text in texts) + "</tr>\n"
+
+
 def gap_rows(log, curve):
     """The gaps of a log in the table."""
     for gap in curve.gaps:
         means = "dropped, or the log began anew" if gap.is_doubtful else "overwritten or purged before it was fetched"
         between = [moment(stamp) if stamp else "…" for stamp in (gap.before, gap.behind)]
         numbers = f"{gap.first}" if gap.first == gap.last else f"{gap.first}–{gap.last}"
-        yield (f'<tr class="{"doubt" if gap.is_doubtful else "gap"}"><td>{name_of(log)}<small>{place_of(log)} {log["instance"]}</small></td>'
-               f"<td>{numbers}</td><td>{gap.last - gap.first + 1:,}</td><td>{between[0]}</td><td>{between[1]}</td><td>{means}</td></tr>\n")
+        yield cells(log, numbers, f"{gap.last - gap.first + 1:,}", *between, means, kind="doubt" if gap.is_doubtful else "gap")
     if curve.gap_count > len(curve.gaps):
-        yield f'<tr><td colspan="6">{name_of(log)}: {counted(curve.gap_count - len(curve.gaps), "older gap")}, not listed</td></tr>\n'
+        yield cells(log, f"{counted(curve.gap_count - len(curve.gaps), 'older gap')}, not listed", "", "", "", "")
 
 
 def epoch_rows(log, curve, beginnings):
@@ -261,8 +268,8 @@ def epoch_rows(log, curve, beginnings):
     first = dict(curve.marks)
     for at, number, why in beginnings.get(log["log"], ())[1:]:
         record = first.get(at & 32767)
-        yield (f'<tr><td>{name_of(log)}<small>{place_of(log)} {log["instance"]}</small></td><td>{at & 32767}</td><td>{number}</td>'
-               f'<td>{moment(record.stamp) if record else "…"}</td><td>{html.escape(why or "began anew, or its numbers came round")}</td></tr>\n')
+        yield cells(log, at & 32767, number, moment(record.stamp) if record else "…",
+                    html.escape(why or "began anew, or its numbers came round"))
 
 
 class Site:
@@ -284,7 +291,7 @@ class Site:
         self.axis = Axis(max(first, last - days * DAY) if days else first, last, columns)
         self.ticks = ticks_of(self.axis)
         self.rows, self.gaps, self.epochs = [], [], []
-        self.records = self.drawn = self.thinned = self.undrawn = self.gap_count = self.doubtful = 0
+        self.records = self.thinned = self.undrawn = self.gap_count = self.doubtful = 0
         self.silent = set()
         base.row_factory, base.text_factory = None, str
 
@@ -305,8 +312,8 @@ class Site:
         self.rows.append(row_of(log, curve, self))
         self.gaps += gap_rows(log, curve)
         self.epochs += epoch_rows(log, curve, self.beginnings)
-        self.records, self.drawn, self.undrawn = self.records + curve.records, self.drawn + curve.drawn, self.undrawn + curve.undrawn
-        self.gap_count, self.doubtful = self.gap_count + curve.gap_count, self.doubtful + curve.doubtful
+        for count in ("records", "undrawn", "gap_count", "doubtful"):
+            setattr(self, count, getattr(self, count) + getattr(curve, count))
         self.thinned += curve.drawn > sum(map(len, curve.points()))
         if not log["stopped"] and silence_of(log, curve, self):
             self.silent.add(place_of(log) if self.version == 3 else log["log"])
@@ -324,8 +331,8 @@ def facts_of(site):
     yield "", f"{devices:,}", "device" if devices == 1 else "devices"
     yield "", f"{site.kept:,}", "trend log" if site.kept == 1 else "trend logs"
     yield "", f"{site.records:,}", "record" if site.records == 1 else "records"
-    silent = len(site.silent)
-    yield "bad" if silent else "", f"{silent:,}", "silent " + ("devices" if site.version == 3 else "logs")[: None if silent != 1 else -1]
+    silent, what = len(site.silent), "device" if site.version == 3 else "log"
+    yield "bad" if silent else "", f"{silent:,}", f"silent {what}" + ("" if silent == 1 else "s")
     yield "bad" if site.gap_count else "", f"{site.gap_count:,}", "gap" if site.gap_count == 1 else "gaps"
     if site.doubtful:
         yield "bad", f"{site.doubtful:,}", "doubtful"
@@ -342,15 +349,11 @@ def notes_of(site):
                "was written, can't be drawn.")
 
 
-def tables_of(site):
-    """The gaps and the epochs."""
-    if site.gaps:
-        yield ('<h2 id="gaps">Gaps</h2>\n<div class="wide"><table><tr><th>Log<th>Numbers missing<th>Records<th>After<th>Before<th>Means</tr>\n')
-        yield from site.gaps
-        yield "</table></div>\n"
-    if site.epochs:
-        yield '<h2 id="epochs">Epochs</h2>\n<div class="wide"><table><tr><th>Log<th>Epoch<th>From number<th>First record<th>Why</tr>\n'
-        yield from site.epochs
+def table_of(title, heads, rows):
+    """A table with its title; nothing where it has no rows."""
+    if rows:
+        yield f'<h2>{title}</h2>\n<div class="wide"><table><tr>' + "".join(f"<th>{head}</th>" for head in heads) + "</tr>\n"
+        yield from rows
         yield "</table></div>\n"
 
 
@@ -366,14 +369,16 @@ def page_of(site, title):
     """The page, piece by piece."""
     first, last = (date_of(it).strftime("%Y-%m-%d %H:%M") for it in site.axis[:2])
     now = datetime.datetime.now(datetime.timezone.utc).strftime("%Y-%m-%d %H:%M")
-    yield ('<!DOCTYPE html>\n<html lang="en"><head><meta charset="utf-8"><meta name="viewport" content="width=device-width, initial-scale=1">\n'
+    yield ('<!DOCTYPE html>\n<html lang="en"><head><meta charset="utf-8">'
+           '<meta name="viewport" content="width=device-width, initial-scale=1">\n'
            f"<title>{html.escape(title)}</title>\n<style>\n{style()}</style></head>\n<body>\n<header><h1>{shown(title)}</h1>\n"
            f'<p class="about">{first} to {last} · page made {now} UTC</p>\n<dl class="facts">')
     for kind, number, word in facts_of(site):
         yield f'<div class="{kind}"><dt>{word}</dt><dd>{number}</dd></div>'
     yield f'</dl>\n<p class="legend">{legend_of(site)}</p></header>\n<main>\n'
     yield from site.rows
-    yield from tables_of(site)
+    yield from table_of("Gaps", ("Log", "Numbers missing", "Records", "After", "Before", "Means"), site.gaps)
+    yield from table_of("Epochs", ("Log", "Epoch", "From number", "First record", "Why"), site.epochs)
     yield "</main>\n<footer>" + "".join(f"<p>{note}</p>" for note in notes_of(site)) + "</footer>\n</body></html>\n"
 
 
