@@ -30,10 +30,10 @@ LISTED = 2000
 
 LOGS = {
     2: "SELECT id AS log, address, dnet, dadr, device AS device_instance, NULL AS device_name, NULL AS answered, NULL AS offset,"
-       " instance, name, NULL AS source, NULL AS units, NULL AS description, stopped FROM logs ORDER BY address, dnet, dadr, instance",
+       " instance, name, NULL AS source, NULL AS units, NULL AS description, stopped FROM logs",
     3: "SELECT l.id AS log, d.address, d.dnet, d.dadr, d.instance AS device_instance, d.name AS device_name, d.answered, d.offset,"
        " l.instance, l.name, l.source, l.units, l.description, d.stopped OR ifnull(l.stopped, 0) AS stopped"
-       " FROM devices d LEFT JOIN logs l ON l.device = d.id ORDER BY d.address, d.dnet, d.dadr, l.instance",
+       " FROM devices d LEFT JOIN logs l ON l.device = d.id",
 }
 BEGINNINGS = {2: "SELECT id, number, NULL FROM beginnings ORDER BY id", 3: "SELECT id, number, why FROM beginnings ORDER BY id"}
 SPAN = ("SELECT strftime('%s', substr(min(stamp), 1, 19)), strftime('%s', substr(max(stamp), 1, 19)) FROM items"
@@ -106,6 +106,11 @@ def source_of(text):
 
 def place_of(log):
     return log["address"] + (f"/{log['dnet']}/{log['dadr']}" if log["dnet"] else "")
+
+
+def order_of(log):
+    """Logs stand in the order of their devices' addresses, as numbers, and of their instances."""
+    return [int(it) for it in re.findall("[0-9]+", log["address"])], log["dnet"], log["dadr"], log["instance"] or 0
 
 
 def name_of(log):
@@ -278,7 +283,7 @@ class Site:
     def __init__(self, base, version, file, days):
         base.row_factory, base.text_factory = sqlite3.Row, lambda octets: octets.decode("utf-8", "replace")
         self.version, self.base = version, base
-        self.logs = base.execute(LOGS[version]).fetchall()
+        self.logs = sorted(base.execute(LOGS[version]), key=order_of)
         self.kept = sum(log["log"] is not None for log in self.logs)
         self.answered = max((seconds(log["answered"]) for log in self.logs if log["answered"]), default=0)
         self.beginnings = {}
