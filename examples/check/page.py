@@ -6,6 +6,7 @@ its text is read there, and the picture that it draws is looked at.
 
 PROGRAM is crates/bac/out/bac where none is given; it keeps a device that it serves. Chromium is installed by apt-get where it
 isn't there, which only root may do: without it this check fails. The last line is `N passed, M failed`."""
+import datetime
 import os
 import re
 import resource
@@ -186,6 +187,18 @@ def hostile(judge):
     judge.same("a log without records", [row.now for row in page.rows], ["no record yet"])
 
 
+def marks(judge):
+    """The axis of time has marks of seconds, minutes, days and months, by how long it is."""
+    file, begin = os.path.join(judge.room, "marks.db"), datetime.datetime(2024, 5, 6, 7, 8, 9)
+    for hours, wanted in ((0.0084, "07:08:10 07:08:20 07:08:30"), (0.5, "07:10 07:15 07:20 07:25 07:30 07:35"),
+                          (90, "12:00 05-07 12:00 05-08 12:00 05-09 12:00 05-10"),
+                          (450 * 24, "2024-07 2024-09 2024-11 2025-01 2025-03 2025-05 2025-07")):
+        stamps = [begin + datetime.timedelta(hours=it) for it in (0, hours)]
+        one_log(file, [(it + 1, None, at.strftime("%Y-%m-%dT%H:%M:%S.00"), 1.0, "1") for it, at in enumerate(stamps)])
+        found = re.findall(r'<span style="left:[0-9.]+%">([^<]*)</span>', judge.drawn(file))
+        judge.same(f"marks of {hours} hours", " ".join(found), wanted)
+
+
 def large(judge):
     """2,000 logs with a million records: the page is thinned, and a browser opens it; of one log of many no peak is lost."""
     file = os.path.join(judge.room, "large.db")
@@ -349,7 +362,7 @@ def main():
         judge = Judge(room)
         for version in (2, 3):
             site(judge, version)
-        for row in (pictures, hostile, in_parts, refused, beside_others, large):
+        for row in (pictures, hostile, marks, in_parts, refused, beside_others, large):
             row(judge)
         try:
             kept(judge)

@@ -23,6 +23,8 @@ sys.dont_write_bytecode = True
 from archive import Axis, Wrong, gathered, read
 
 HOUR, DAY = 3600, 86400
+# How far the marks of the axis of time lie apart, in seconds; those of years lie months apart.
+TICKS = (1, 10, 60, 300, 900, HOUR, 2 * HOUR, 3 * HOUR, 6 * HOUR, 12 * HOUR, DAY, 2 * DAY, 5 * DAY, 10 * DAY)
 # A curve is so high, in units of its own, and has so many columns; those of all curves are so many.
 HEIGHT, MOST_COLUMNS, LEAST_COLUMNS, ALL_COLUMNS = 120, 600, 60, 360_000
 # How many gaps the table has, at least one of each log.
@@ -131,11 +133,13 @@ def ticks_of(axis):
             marks.append((mark, mark.strftime("%Y-%m")))
             month += months
     else:
-        hours = next((it for it in (1, 2, 3, 6, 12, 24, 48, 120, 240) if span / HOUR / it <= 10), 240)
-        mark = datetime.datetime(begin.year, begin.month, begin.day)
+        step = next(it for it in TICKS if span / it <= 10)
+        midnight = datetime.datetime(begin.year, begin.month, begin.day)
+        mark = midnight + (begin - midnight) // datetime.timedelta(seconds=step) * datetime.timedelta(seconds=step)
         while mark <= date_of(axis.last):
-            marks.append((mark, mark.strftime("%m-%d" if hours >= 24 or not mark.hour else "%H:%M")))
-            mark += datetime.timedelta(hours=hours)
+            is_day = step >= DAY or mark.time() == datetime.time()
+            marks.append((mark, mark.strftime("%m-%d" if is_day else "%H:%M" if step >= 60 else "%H:%M:%S")))
+            mark += datetime.timedelta(seconds=step)
     places = [(((mark - begin).total_seconds() / span), text) for mark, text in marks]
     return [(place, text) for place, text in places if 0 <= place <= 1]
 
