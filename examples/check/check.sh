@@ -323,6 +323,8 @@ counted ./kept.sh
 # An archive of format 2 becomes one of format 3.
 counted ./convert.py
 counted ./helpers.sh
+# A site on a page, in a browser.
+counted ./page.py
 # A device among strangers.
 counted ./hostile.sh
 # Memory, streams and sockets that are refused.
