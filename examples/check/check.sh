@@ -320,6 +320,7 @@ counted ./router.sh
 counted ./edges.sh
 # Logs kept in a file, and runs that are killed.
 counted ./kept.sh
+counted ./warehouse.py
 counted ./helpers.sh
 # A device among strangers.
 counted ./hostile.sh
