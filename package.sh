@@ -30,9 +30,11 @@ tree() {
     install -D -m 644 examples/use/bac.bash "$at/share/bash-completion/completions/bac"
     mkdir -p "$units"
     install -m 644 examples/use/systemd/*.service examples/use/systemd/*.timer "$units"
-    install -D -m 644 -t "$doc" CHANGELOG.md LICENSE-MIT LICENSE-APACHE docs/TOOLS.md docs/ARCHIVE.md docs/SECURITY.md
+    install -D -m 644 -t "$doc" CHANGELOG.md LICENSE-MIT LICENSE-APACHE docs/TOOLS.md docs/ARCHIVE.md docs/WAREHOUSE.md docs/SECURITY.md
     install -D -m 644 -t "$doc/examples" examples/use/plant.conf examples/use/records.* examples/use/page.css \
         examples/use/systemd/copy.conf
+    install -D -m 644 -t "$doc/examples/warehouse" examples/use/warehouse/*.sql examples/use/warehouse/*.py
+    install -m 755 examples/use/warehouse/load "$doc/examples/warehouse"
     for file in examples/use/*.sh examples/use/*.py examples/use/trace2script.awk; do install -m 755 "$file" "$doc/examples"; done
 }
 # One time for all, and no folder's own rights: what mktemp made is for its owner alone.

@@ -322,6 +322,7 @@ counted ./edges.sh
 counted ./kept.sh
 # An archive of format 2 becomes one of format 3.
 counted ./convert.py
+counted ./warehouse.py
 counted ./helpers.sh
 # A site on a page, in a browser.
 counted ./page.py
