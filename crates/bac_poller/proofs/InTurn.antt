@@ -3,6 +3,7 @@ use Rattle.std.proofs.Common.{◌≡◌, ◌⊎◌, inl, inr, Bool, true, false,
 use Rattle.bac_drive.specs.declared.machine.Next.{Next}
 use Rattle.bac_drive.specs.declared.machine.Next.TheVariants as next
 use Rattle.bac_poller.specs.Poller.{GivesBy}
+use Rattle.bac_poller.specs.Seat.{seat_ended}
 use Rattle.bac_poller.specs.Site.{Acts, GivesFrom, GivesWaiting, GoesOn, SiteState, put_by}
 use Rattle.bac_poller.specs.SiteLaws.{AskInTurn, IsInTurn}
 use Rattle.bac_poller.specs.declared.log_poller.Doing.{Doing}
@@ -38,7 +39,7 @@ act_behind (doing.Resends datagram) old s wanted new acts = from_behind old s wa
 act_behind (doing.Waits left) old s wanted new acts = from_behind old s wanted new acts
 act_behind (doing.Hears datagram) old s wanted new acts = from_behind old s wanted new acts
 act_behind (doing.Tells line end) old s wanted new acts = from_behind old s wanted new acts
-act_behind (doing.Ended why) old s (next.Print line) new acts = on_behind old s new acts.1
+act_behind (doing.Ended why) old s (next.Print line) new acts = on_behind old (seat_ended why s) new acts.1
 act_behind (doing.Ended why) old s wanted new acts = absurd acts
 
 -- one that asks isn't among those that wait any more

@@ -11,7 +11,7 @@ use Rattle.bac_drive.specs.Event.{Event, Kept, Printed, Read, Sent, Waited, Warn
 use Rattle.bac_drive.specs.Happens.{Happens, Scene}
 use Rattle.bac_drive.specs.declared.machine.Next.{Next}
 use Rattle.bac_drive.specs.declared.machine.Next.TheVariants as next
-use Rattle.bac_poller.specs.Seat.{is_at, is_first}
+use Rattle.bac_poller.specs.Seat.{is_at, is_first, seat_ended}
 use Rattle.bac_poller.specs.Site.{Acts, GivesFrom, GivesSite, GivesWaiting, GoesOn, IsWithin, SiteState, put_by, site_heard}
 use Rattle.bac_poller.specs.SiteLaws.{IsMarked, IsUnasked, OpenWithin, is_open, is_open_at, is_open_once, was_sent_once, site_acts}
 use Rattle.bac_poller.specs.declared.limits.Limits.{Limits}
@@ -47,7 +47,7 @@ act_same (doing.Resends datagram) old s wanted new acts = from_same old s wanted
 act_same (doing.Waits left) old s wanted new acts = from_same old s wanted new acts
 act_same (doing.Hears datagram) old s wanted new acts = from_same old s wanted new acts
 act_same (doing.Tells line end) old s wanted new acts = from_same old s wanted new acts
-act_same (doing.Ended why) old s (next.Print line) new acts = on_same old s new acts.1
+act_same (doing.Ended why) old s (next.Print line) new acts = on_same old (seat_ended why s) new acts.1
 act_same (doing.Ended why) old s wanted new acts = absurd acts
 
 waiting_same : (stale : Bool) (old : SiteState) (wanted : Next) (new : SiteState) → GivesWaiting stale old wanted new → new.limits ≡ old.limits

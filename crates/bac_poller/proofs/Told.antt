@@ -12,7 +12,7 @@ use Rattle.bac_drive.specs.Happens.{Happens, Scene}
 use Rattle.bac_drive.specs.declared.machine.Next.{Next}
 use Rattle.bac_drive.specs.declared.machine.Next.TheVariants as next
 use Rattle.bac_poller.specs.Poller.{GivesBy}
-use Rattle.bac_poller.specs.Seat.{seat_heard, seat_read}
+use Rattle.bac_poller.specs.Seat.{seat_ended, seat_heard, seat_read}
 use Rattle.bac_poller.specs.Site.{Acts, GivesFrom, GivesSite, GivesWaiting, GoesOn, SiteState, given, put_by, site_heard, site_read}
 use Rattle.bac_poller.specs.SiteLaws.{AllAreTold, BeginsUnasked, IsNew, IsUnasked, is_of, site_acts}
 use Rattle.bac_poller.specs.declared.log_poller.Doing.{Doing}
@@ -103,7 +103,8 @@ act_holds start (doing.Resends datagram) old s wanted new lacks acts = from_hold
 act_holds start (doing.Waits left) old s wanted new lacks acts = from_holds start old s wanted new lacks acts
 act_holds start (doing.Hears datagram) old s wanted new lacks acts = from_holds start old s wanted new lacks acts
 act_holds start (doing.Tells line end) old s wanted new lacks acts = from_holds start old s wanted new lacks acts
-act_holds start (doing.Ended why) old s (next.Print line) new lacks acts = on_holds start old s new lacks acts.1
+act_holds start (doing.Ended why) old s (next.Print line) new lacks acts =
+    on_holds start old (seat_ended why s) new (record { turns = lacks.turns; but = lacks.but }) acts.1
 act_holds start (doing.Ended why) old s wanted new lacks acts = absurd acts
 
 -- how many are left without the one at a place

@@ -10,7 +10,7 @@ use Rattle.std.specs.Str.{bytes_eq}
 use Rattle.bac_drive.specs.declared.machine.Next.{Next}
 use Rattle.bac_drive.specs.declared.machine.Next.TheVariants as next
 use Rattle.bac_poller.specs.Poller.{GivesBy}
-use Rattle.bac_poller.specs.Seat.{is_at, is_first}
+use Rattle.bac_poller.specs.Seat.{is_at, is_first, seat_ended}
 use Rattle.bac_poller.specs.Site.{Acts, GivesFrom, GivesWaiting, GoesOn, HasRoom, IsAsked, IsWithin, SiteState, put_by}
 use Rattle.bac_poller.specs.SiteLaws.{WantsWithin}
 use Rattle.bac_poller.specs.declared.log_poller.Doing.{Doing}
@@ -109,7 +109,8 @@ act_within (doing.Resends datagram) old s wanted new place acts = from_within ol
 act_within (doing.Waits left) old s wanted new place acts = from_within old s wanted new place acts
 act_within (doing.Hears datagram) old s wanted new place acts = from_within old s wanted new place acts
 act_within (doing.Tells line end) old s wanted new place acts = from_within old s wanted new place acts
-act_within (doing.Ended why) old s (next.Print line) new place acts = on_within old s new place acts.1
+act_within (doing.Ended why) old s (next.Print line) new place acts =
+    on_within old (seat_ended why s) new (record { first = place.first; few = place.few; each = place.each }) acts.1
 act_within (doing.Ended why) old s wanted new place acts = absurd acts
 
 -- ---- one that is asked

@@ -7,7 +7,7 @@ use Rattle.bac_poll.specs.declared.turn.Line.{Line}
 use Rattle.bac_poll.specs.declared.turn.Line.TheVariants.{AtHour, BeganAnew, BeganOrDropped, DroppedOrBegan}
 use Rattle.bac_poll.specs.declared.turn.PollEnd.TheVariants.{CaughtUp, Contradicts, Fault, SaysMore, ShowsNone}
 use Rattle.bac_poller.specs.declared.log_poller.Ending.{Ending}
-use Rattle.bac_poller.specs.declared.log_poller.Ending.TheVariants.{Poll, Epochs}
+use Rattle.bac_poller.specs.declared.log_poller.Ending.TheVariants.{Poll, Epochs, NotAsked}
 
 -- so many quarter hours from those on record
 abbrev pub earlier_text : ℕ → List ℕ
@@ -50,6 +50,7 @@ ending_text (Poll (Fault Lost)) = codes "lost"
 ending_text (Poll (Fault (Refused refusal))) = refusal_text refusal
 ending_text (Poll (Fault BadReply)) = codes "bad reply"
 ending_text Epochs = codes "began anew once too often"
+ending_text NotAsked = codes "not asked"
 
 -- the lines of a log with this name
 abbrev pub told_line : List ℕ → Line → List ℕ

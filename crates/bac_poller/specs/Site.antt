@@ -6,7 +6,7 @@ use Rattle.bac_drive.specs.declared.machine.Next.{Next}
 use Rattle.bac_drive.specs.declared.machine.Next.TheVariants as next
 use Rattle.bac_poller.specs.Poller.{GivesBy}
 use Rattle.bac_poller.specs.Ending.{ended_line}
-use Rattle.bac_poller.specs.Seat.{IsNext, is_at, is_first, is_waiting, seat_heard, seat_read}
+use Rattle.bac_poller.specs.Seat.{IsNext, is_at, is_first, is_waiting, seat_ended, seat_heard, seat_read}
 use Rattle.bac_poller.specs.declared.limits.Limits.{Limits}
 use Rattle.bac_poller.specs.declared.log_poller.Doing.{Doing}
 use Rattle.bac_poller.specs.declared.log_poller.Doing.TheVariants as doing
@@ -100,7 +100,8 @@ GoesOn old s new =
 
 -- the poll of its log has ended so: its line is printed, and its device goes on
 abbrev pub Tells : Ending → SiteState → Seat → Next → SiteState → Type 0
-Tells why old s (next.Print line) new = (line.items ≡ ended_line s.poller.name.items why) × GoesOn old s new
+Tells why old s (next.Print line) new =
+    (line.items ≡ ended_line s.poller.name.items why) × GoesOn old (seat_ended why s) new
 Tells why old s other new = ⊥
 
 -- by what it is at

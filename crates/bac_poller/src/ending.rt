@@ -111,6 +111,7 @@ fn push_ending(text: &mut Vec<u8>, why: Ending) -> Result<(), AllocError>
         Ending::Poll(PollEnd::Fault(WalkFault::Refused(refusal))) => push_refusal(text, refusal),
         Ending::Poll(PollEnd::Fault(WalkFault::BadReply)) => text.extend_from_slice(b"bad reply"),
         Ending::Epochs => text.extend_from_slice(b"began anew once too often"),
+        Ending::NotAsked => text.extend_from_slice(b"not asked"),
     }
 }
 

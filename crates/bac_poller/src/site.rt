@@ -184,6 +184,8 @@ impl SitePoll {
         ensures { IfOk result (λ next. Tells why self.old seat next self.new) }
     {
         let line = ended_line(alloc, seat.poller.name.as_slice(), why)?;
+        let mut seat = seat;
+        seat.end(why);
         self.go_on(seat)?;
         Ok(Next::Print(line))
     }

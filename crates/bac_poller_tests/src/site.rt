@@ -4,7 +4,7 @@ use bac_drive::{Machine, Next};
 use bac_keep::Place;
 use bac_link::Transactions;
 use bac_poll::{LogPoll, Told};
-use bac_poller::{Doing, Limits, LogPoller, LogTask, Seat, SitePoll};
+use bac_poller::{Doing, Limits, LogPoller, LogTask, Presence, Seat, SitePoll};
 use bac_ports::{Heard, SocketFault};
 use bac_walk::Count;
 use bac_wire::{Datagram, ObjectId};
@@ -70,6 +70,7 @@ fn seat(alloc: Global, number: u8, name: &[u8]) -> Result<Seat, Fail> {
         },
         due: 0,
         is_repeated: false,
+        presence: Presence::Present,
         logs: VecDeque::new(alloc),
     })
 }
