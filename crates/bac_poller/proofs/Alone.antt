@@ -8,6 +8,7 @@ use Rattle.bac_drive.specs.Event.{Event, Kept, Printed, Read, Sent, Waited, Warn
 use Rattle.bac_drive.specs.Happens.{Happens, Scene}
 use Rattle.bac_drive.specs.declared.machine.Next.{Next}
 use Rattle.bac_drive.specs.declared.machine.Next.TheVariants as next
+use Rattle.bac_poller.specs.Counts.{counts_with}
 use Rattle.bac_poller.specs.Poller.{is_answer}
 use Rattle.bac_poller.specs.Seat.{heard_by, is_due, missed, seat_ended, seat_heard, seat_read}
 use Rattle.bac_poller.specs.Site.{Acts, GivesFrom, GivesSite, GivesWaiting, GoesOn, SiteState, due_from, given, put_by, site_heard, site_read}
@@ -62,7 +63,7 @@ put_gone start (doing.Ended why) s seat gone on = active_more start s seat gone 
 from_gone : (start : List Seat) (old : SiteState) (s : Seat) (wanted : Next) (new : SiteState) → Gone start old → IsGoneOn start s → GivesFrom old s wanted new → Gone start new
 from_gone start old s wanted new gone on (p, gives, is) =
     let P : SiteState → Type 0 = λ x. Gone start x in
-    subst P (sym is) (put_gone start p.doing old (record s { poller = p }) gone (goes_on start s (record s { poller = p }) (Wanted wanted) (gives, refl) on))
+    subst P (sym is) (put_gone start p.doing old (record s { poller = p; kept = counts_with wanted s.kept }) gone (goes_on start s (record s { poller = p; kept = counts_with wanted s.kept }) (Wanted wanted) (gives, refl) on))
 
 on_gone : (start : List Seat) (old : SiteState) (s : Seat) (new : SiteState) → Gone start old → IsGoneOn start s → GoesOn old s new → Gone start new
 on_gone start old s new gone on (inl (t, (task, logs, next_is), is)) =
@@ -78,9 +79,8 @@ act_gone start (doing.Resends datagram) old s wanted new was gone on acts = from
 act_gone start (doing.Waits left) old s wanted new was gone on acts = from_gone start old s wanted new gone on acts
 act_gone start (doing.Hears datagram) old s wanted new was gone on acts = from_gone start old s wanted new gone on acts
 act_gone start (doing.Tells line end) old s wanted new was gone on acts = from_gone start old s wanted new gone on acts
-act_gone start (doing.Ended why) old s (next.Print line) new was gone on acts =
+act_gone start (doing.Ended why) old s wanted new was gone on acts =
     on_gone start old (seat_ended why s) new gone (goes_on start s (seat_ended why s) (Told why) (was, refl) on) acts.1
-act_gone start (doing.Ended why) old s wanted new was gone on acts = absurd acts
 
 waiting_gone : (start : List Seat) (stale : Bool) (old : SiteState) (wanted : Next) (new : SiteState) → Gone start old → GivesWaiting stale old wanted new → Gone start new
 waiting_gone start true old wanted new gone (is_read, same) = let P : SiteState → Type 0 = λ x. Gone start x in subst P (sym same) gone

@@ -20,7 +20,9 @@ use Rattle.bac_drive.specs.Event.{Event, Kept, Printed, Read, Sent, Waited, Warn
 use Rattle.bac_drive.specs.Happens.{Does, Happens, Scene}
 use Rattle.bac_drive.specs.declared.machine.Next.{Next}
 use Rattle.bac_drive.specs.declared.machine.Next.TheVariants as next
+use Rattle.bac_poller.specs.Ending.{is_caught_up}
 use Rattle.bac_poller.specs.Laws.{Came}
+use Rattle.bac_poller.specs.Counts.{counts_with}
 use Rattle.bac_poller.specs.Poller.{GivesBy, IsPlaced, doing_behind, doing_told, is_answer}
 use Rattle.bac_poller.specs.Seat.{begun, doing_begun, given_up, is_due, is_lost, is_waiting, lost_one, missed, seat_ended, seat_heard, seat_read, without_answer}
 use Rattle.bac_poller.specs.Site.{Acts, GivesFrom, GivesSite, GivesWaiting, GoesOn, Rests, SiteState, Tells, due_from, given, put_by, site_heard, site_read}
@@ -34,7 +36,7 @@ use Rattle.bac_poller.specs.declared.seat.LogTask.{LogTask}
 use Rattle.bac_poller.specs.declared.seat.Presence.{Presence}
 use Rattle.bac_poller.specs.declared.seat.Presence.TheVariants.{Doubted, Present, Silent}
 use Rattle.bac_poller.specs.declared.seat.Seat.{Seat}
-use Rattle.bac_poller.proofs.Seated.{ToldSite}
+use Rattle.bac_poller.proofs.Seated.{IsText, ToldSite, told_text}
 use Rattle.bac_poller.proofs.SeatedRun.{told_site}
 use Rattle.bac_poller.proofs.Sound.{asking}
 use Rattle.bac_poller.proofs.Told.{tally}
@@ -208,13 +210,13 @@ at_address true less more sends sent fewer at = omega (arith, fewer, at)
 at_address false less more sends sent fewer at = omega (arith, at)
 
 given_weight : (peer : List ℕ) (s : Seat) (p : LogPoller) (wanted : Next) (e : Event) → GivesBy s.poller.doing s.poller wanted p → Does wanted e →
-    weight peer (record s { poller = p }) + tally (is_sent_to peer e) ≤ weight peer s
+    weight peer (record s { poller = p; kept = counts_with wanted s.kept }) + tally (is_sent_to peer e) ≤ weight peer s
 given_weight peer s p wanted e gives does =
     let at : bytes_eq p.peer peer ≡ bytes_eq s.poller.peer peer = ap (λ (x : List ℕ). bytes_eq x peer) (peer_given s.poller.doing s.poller p wanted gives) in
     let same : cond (bytes_eq p.peer peer) (left p s.presence) 0 ≡ cond (bytes_eq s.poller.peer peer) (left p s.presence) 0 = ap (λ (b : Bool). cond b (left p s.presence) 0) at in
     let less = at_address (bytes_eq s.poller.peer peer) (left p s.presence) (left s.poller s.presence) (is_send e) (tally (is_sent_to peer e))
-        (gives_left s.presence s.poller.doing s.poller p wanted e refl gives does)
-        (sent_where peer s.poller.doing s.poller p wanted e gives does) in
+    (gives_left s.presence s.poller.doing s.poller p wanted e refl gives does)
+    (sent_where peer s.poller.doing s.poller p wanted e gives does) in
     omega (arith, same, less)
 
 -- its next log begins
@@ -249,8 +251,8 @@ put_total peer (doing.Ended why) s seat = omega (arith, one_more peer s.active s
 from_total : (peer : List ℕ) (e : Event) (old : SiteState) (s : Seat) (wanted : Next) (new : SiteState) → GivesFrom old s wanted new → Does wanted e →
     total peer new + tally (is_sent_to peer e) ≤ total peer old + weight peer s
 from_total peer e old s wanted new (p, gives, is) does =
-    let e1 : total peer new ≡ total peer (put_by p.doing old (record s { poller = p })) = ap (total peer) is in
-    let e2 = put_total peer p.doing old (record s { poller = p }) in
+    let e1 : total peer new ≡ total peer (put_by p.doing old (record s { poller = p; kept = counts_with wanted s.kept })) = ap (total peer) is in
+    let e2 = put_total peer p.doing old (record s { poller = p; kept = counts_with wanted s.kept }) in
     let less = given_weight peer s p wanted e gives does in
     omega (arith, e1, e2, less)
 
@@ -265,9 +267,10 @@ on_total peer why old s new was (inl (t, (task, logs, next_is), is)) =
 on_total peer why old s new was (inr (none, is)) =
     let e1 : total peer new ≡ total peer old = ap (total peer) is in omega (arith, e1)
 
-print_sent : (peer : List ℕ) (line : _) (e : Event) → Does (next.Print line) e → tally (is_sent_to peer e) ≡ 0
-print_sent peer line (Printed text) does = refl
-print_sent peer line e does = absurd does
+text_sent : (peer : List ℕ) (e : Event) → IsText e → tally (is_sent_to peer e) ≡ 0
+text_sent peer (Printed text) is = refl
+text_sent peer (Warned text) is = refl
+text_sent peer e is = absurd is
 
 act_total : (peer : List ℕ) (e : Event) (what : Doing) (old : SiteState) (s : Seat) (wanted : Next) (new : SiteState) → s.poller.doing ≡ what → Acts what old s wanted new → Does wanted e →
     total peer new + tally (is_sent_to peer e) ≤ total peer old + weight peer s
@@ -276,9 +279,8 @@ act_total peer e (doing.Resends datagram) old s wanted new was acts does = from_
 act_total peer e (doing.Waits more) old s wanted new was acts does = from_total peer e old s wanted new acts does
 act_total peer e (doing.Hears datagram) old s wanted new was acts does = from_total peer e old s wanted new acts does
 act_total peer e (doing.Tells line end) old s wanted new was acts does = from_total peer e old s wanted new acts does
-act_total peer e (doing.Ended why) old s (next.Print line) new was acts does =
-    let none = print_sent peer line e does in let less = on_total peer why old s new was acts.1 in omega (arith, none, less)
-act_total peer e (doing.Ended why) old s wanted new was acts does = absurd acts
+act_total peer e (doing.Ended why) old s wanted new was acts does =
+    let none = text_sent peer e (told_text (is_caught_up why) _ wanted e acts.0 does) in let less = on_total peer why old s new was acts.1 in omega (arith, none, less)
 
 but_one : (peer : List ℕ) (seats : List Seat) (place : ℕ) (s : Seat) → slice_get seats place ≡ Some s → sum_by (weight peer) (remove seats place) + weight peer s ≡ sum_by (weight peer) seats
 but_one peer seats place s there =
@@ -385,9 +387,9 @@ read_weight peer now s = by (is_due now s) refl
         let m : ℕ = left (missed s.presence s.poller) s.presence in
         let at : bytes_eq (seat_read now s).poller.peer peer ≡ bytes_eq s.poller.peer peer = ap (λ (x : List ℕ). bytes_eq x peer) (peer_read now s) in
         let e1 : left (seat_read now s).poller (seat_read now s).presence ≡ m =
-            ap (λ (b : Bool). left (if b then record s { poller = missed s.presence s.poller; is_repeated = true } else s).poller (if b then record s { poller = missed s.presence s.poller; is_repeated = true } else s).presence) due in
+        ap (λ (b : Bool). left (if b then record s { poller = missed s.presence s.poller; is_repeated = true } else s).poller (if b then record s { poller = missed s.presence s.poller; is_repeated = true } else s).presence) due in
         let e2 : weight peer (seat_read now s) ≡ cond (bytes_eq s.poller.peer peer) m 0 =
-            ap (λ (b : Bool). cond b (left (seat_read now s).poller (seat_read now s).presence) 0) at ∙ ap (λ (n : ℕ). cond (bytes_eq s.poller.peer peer) n 0) e1 in
+        ap (λ (b : Bool). cond b (left (seat_read now s).poller (seat_read now s).presence) 0) at ∙ ap (λ (n : ℕ). cond (bytes_eq s.poller.peer peer) n 0) e1 in
         let e3 = at_same (bytes_eq s.poller.peer peer) m (left s.poller s.presence) (omega (arith, waits, less)) in
         omega (arith, e2, e3)
 
@@ -398,11 +400,11 @@ told_total peer (Waited within (Ok heard)) mid new none is = by heard.datagram r
     by : (o : Option (List ℕ)) → heard.datagram ≡ o → total peer new ≤ total peer mid
     by None at =
         let e : total peer new ≡ total peer (record mid { is_stale = true; active = given heard.from None mid.active }) =
-            ap (total peer) is ∙ ap (λ (o : Option (List ℕ)). total peer (record mid { is_stale = true; active = given heard.from o mid.active })) at in
+        ap (total peer) is ∙ ap (λ (o : Option (List ℕ)). total peer (record mid { is_stale = true; active = given heard.from o mid.active })) at in
         omega (arith, e)
     by (Some datagram) at =
         let e : total peer new ≡ total peer (record mid { is_stale = true; active = given heard.from (Some datagram) mid.active }) =
-            ap (total peer) is ∙ ap (λ (o : Option (List ℕ)). total peer (record mid { is_stale = true; active = given heard.from o mid.active })) at in
+        ap (total peer) is ∙ ap (λ (o : Option (List ℕ)). total peer (record mid { is_stale = true; active = given heard.from o mid.active })) at in
         let away : heard.from ≡ peer → ⊥ = λ from. none datagram (within, heard, Contains-push [] (Waited within (Ok heard)), from, at) in
         let less = mapped_less (weight peer) (seat_heard heard.from datagram) (heard_weight peer heard.from datagram away) mid.active in
         omega (arith, e, less)
@@ -425,10 +427,10 @@ run {P = P} {C = C} sends receives tells peer [] old new none same =
 run sends receives tells peer (e ∷ es) old new none (mid, (wanted, half, gives, does, is, changes), more) =
     let wants = wants_total peer e old.machine wanted half gives does in
     let told = told_total peer e half mid.machine
-        (λ datagram (within, heard, there, from, same). none datagram (within, heard, Contains-append_left (e ∷ []) es (Waited within (Ok heard)) there, from, same))
-        (told_site sends receives tells half mid.machine e is) in
+    (λ datagram (within, heard, there, from, same). none datagram (within, heard, Contains-append_left (e ∷ []) es (Waited within (Ok heard)) there, from, same))
+    (told_site sends receives tells half mid.machine e is) in
     let rest = run sends receives tells peer es mid new
-        (λ datagram (within, heard, there, from, same). none datagram (within, heard, Contains-append_right (e ∷ []) es (Waited within (Ok heard)) there, from, same)) more in
+    (λ datagram (within, heard, there, from, same). none datagram (within, heard, Contains-append_right (e ∷ []) es (Waited within (Ok heard)) there, from, same)) more in
     omega (arith, wants, told, rest, sum_by-cons (λ (x : Event). tally (is_sent_to peer x)) e es)
 
 in_vain : (peer : List ℕ) (s : Seat) → weight peer s ≤ sends_in_vain peer s
@@ -464,8 +466,7 @@ on_waits why old new s task more present logs (inl (t, (first, are, next_is), is
     let asks : t.poller.doing ≡ doing.Asks = ap (λ (x : Seat). x.poller.doing) next_is ∙ next_asks (is_lost why) s.presence present in
     let both : first ∷ t.logs.items ≡ task ∷ more = sym are ∙ logs in
     let same : first ≡ task = cc in
-    let put_is : new.waiting ≡ old.waiting ++ record t { is_repeated = false } ∷ [] = ap (λ (x : SiteState). x.waiting) is ∙ ap (λ (d : Doing). (put_by d old t).waiting) asks in
-    (
+    let put_is : new.waiting ≡ old.waiting ++ record t { is_repeated = false } ∷ [] = ap (λ (x : SiteState). x.waiting) is ∙ ap (λ (d : Doing). (put_by d old t).waiting) asks in (
       record t { is_repeated = false },
       put_is,
       ap (λ (x : Seat). x.poller.peer) next_is,
@@ -476,5 +477,4 @@ on_waits why old new s task more present logs (inl (t, (first, are, next_is), is
 on_waits why old new s task more present logs (inr (none, is)) = absurd (let e : task ∷ more ≡ [] = sym logs ∙ none in cc)
 
 pub lost_stops_none : LostStopsNone
-lost_stops_none why old new s (next.Print line) task more present logs tells = on_waits why old new s task more present logs tells.1
-lost_stops_none why old new s wanted task more present logs tells = absurd tells
+lost_stops_none why old new s wanted task more present logs tells = on_waits why old new s task more present logs tells.1

@@ -7,6 +7,7 @@ use Rattle.bac_link.specs.declared.transactions.Pending.{Pending}
 use Rattle.bac_link.specs.declared.transactions.Timeout.TheVariants.{GaveUp}
 use Rattle.bac_poll.specs.declared.turn.PollEnd.TheVariants.{CaughtUp, Contradicts, Fault, SaysMore, ShowsNone}
 use Rattle.bac_walk.specs.declared.outcome.WalkFault.TheVariants as walk
+use Rattle.bac_poller.specs.Counts.{no_counts}
 use Rattle.bac_poller.specs.Poller.{doing_after, is_answer}
 use Rattle.bac_poller.specs.declared.log_poller.Doing.{Doing}
 use Rattle.bac_poller.specs.declared.log_poller.Doing.TheVariants as doing
@@ -123,4 +124,4 @@ begun what task p = record p { poll = task.poll; place = task.place; name = task
 abbrev pub IsNext : Seat → Seat → Type 0
 IsNext s t =
     (task : LogTask) × (s.logs.items ≡ task ∷ t.logs.items)
-    × (t ≡ record s { poller = begun (doing_begun s.presence) task s.poller; logs = t.logs })
+    × (t ≡ record s { poller = begun (doing_begun s.presence) task s.poller; logs = t.logs; kept = no_counts })

@@ -1,5 +1,6 @@
 -- What a site makes of what comes and of time, whoever answers.
-use Rattle.std.specs.Prelude.{true, false, ◌≡◌, ◌⊎◌, ◌≤◌, ◌&&◌, ◌==◌, nat_lt, is_some, if◌then◌else◌, ℕ, ◌+◌, Bool, List, remove, [], ◌∷◌, ◌++◌, map, count_by, sum_by, Option, None, Some}
+use Rattle.std.specs.Prelude.{true, false, ◌≡◌, ◌⊎◌, ◌≤◌, ◌&&◌, ◌==◌, nat_lt, is_some, if◌then◌else◌, ℕ, ◌+◌, Bool}
+use Rattle.std.specs.Prelude.{List, remove, [], ◌∷◌, ◌++◌, map, count_by, sum_by, Option, None, Some}
 use Rattle.std.specs.List.{All, Contains}
 use Rattle.std.specs.Str.{bytes_eq}
 use Rattle.bac_archive3.specs.declared.row.Put.{Put}

@@ -2,6 +2,7 @@
 //! and which rows are kept.
 #![tactic(auto)]
 
+mod counts;
 mod datum;
 mod ending;
 mod laws;
@@ -13,6 +14,7 @@ mod seat;
 mod site;
 mod word;
 
+pub use counts::Counts;
 pub use laws::{
     all_are_told, ask_in_turn, begins_unasked, go_alone, lost_stops_none, open_within,
     others_not_heeded, repeats_are_marked, rows_came, sends_ask, site_rows_came, site_sends_ask,

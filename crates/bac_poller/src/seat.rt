@@ -1,17 +1,24 @@
 //! One device of a site, with the poll of one of its logs, and what waits behind it.
 
-ghost use Rattle.std.specs.Prelude.{◌≡◌, ◌<◌, [], IfNone, IfSome, count_by, length, map};
+ghost use Rattle.std.specs.Prelude.{◌≡◌, ◌<◌, [], IfNone, IfOk, IfSome, count_by, length, map};
 ghost use Rattle.bac_link.specs.Transactions.{closed};
-ghost use Rattle.bac_poller.specs.Seat.{IsNext, begun, doing_begun, given_up, is_at, is_first, is_lost};
-ghost use Rattle.bac_poller.specs.Seat.{is_waiting, lost_one, missed, seat_ended, seat_heard, seat_read};
+ghost use Rattle.bac_poller.specs.Counts.{no_counts};
+ghost use Rattle.bac_poller.specs.Ending.{ended_line};
+ghost use Rattle.bac_poller.specs.Seat.{IsNext, begun, doing_begun, given_up, is_at, is_first};
+ghost use Rattle.bac_poller.specs.Seat.{is_lost};
+ghost use Rattle.bac_poller.specs.Seat.{is_waiting, lost_one, missed, seat_ended, seat_heard};
+ghost use Rattle.bac_poller.specs.Seat.{seat_read};
 ghost use Rattle.bac_poller.specs.Site.{IsNearest, MayAct, NoneActs};
 
+use crate::counts::Counts;
+use crate::ending::ended_line;
 use crate::log_poller::{Doing, Ending, LogPoller};
 use bac_keep::Place;
 use bac_link::{Timeout, Transactions};
 use bac_poll::{LogPoll, PollEnd};
 use bac_walk::WalkFault;
 use bac_wire::Datagram;
+use std::alloc::{AllocError, Global};
 use std::collections::VecDeque;
 
 /// A log that is polled behind another of its device: its poll, where its rows stand, and how its
@@ -91,6 +98,8 @@ pub struct Seat {
     /// Whether its question was sent more than once.
     pub is_repeated: bool,
     pub presence: Presence,
+    /// What was kept of the log that is polled.
+    pub kept: Counts,
     /// The logs behind this one, the next one first.
     pub logs: VecDeque<LogTask>,
 }
@@ -149,6 +158,15 @@ impl Seat {
         }
     }
 
+    /// The line of its log, whose poll has ended so.
+    pub fn line(&self, alloc: Global, why: Ending) -> Result<Vec<u8>, AllocError>
+        ensures { IfOk result (λ line. line.items
+            ≡ ended_line self.now.poller.name.items self.now.kept why self.now.poller.poll.next) }
+    {
+        let next = self.poller.poll.next();
+        ended_line(alloc, self.poller.name.as_slice(), self.kept, why, next)
+    }
+
     /// The poll of its log has ended so.
     pub fn end(&mut self, why: Ending)
         ensures { self.new ≡ seat_ended why self.old }
@@ -160,13 +178,17 @@ impl Seat {
 
     /// Another of its logs is polled, or isn't asked.
     pub fn begin(&mut self, task: LogTask)
-        ensures { self.new ≡ record self.old { poller = begun (doing_begun self.old.presence) task self.old.poller } }
+        ensures { self.new ≡ record self.old {
+          poller = begun (doing_begun self.old.presence) task self.old.poller;
+          kept = no_counts;
+        } }
     {
         let LogTask { poll, place, name } = task;
         self.poller.poll = poll;
         self.poller.place = place;
         self.poller.name = name;
         self.poller.doing = self.presence.doing_begun();
+        self.kept = Counts::none();
     }
 
     /// Its next log is polled.
