@@ -189,6 +189,13 @@ impl LogPoll {
         self.stage
     }
 
+    /// The sequence number that comes next.
+    pub fn next(&self) -> u32
+        ensures { result ≡ self.now.next }
+    {
+        self.next
+    }
+
     /// The word of its device that is on record for this log from now on.
     pub fn word(&self) -> &Told
         ensures { told_as result.now ≡ self.now.word }

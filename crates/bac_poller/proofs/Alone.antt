@@ -8,13 +8,14 @@ use Rattle.bac_drive.specs.Event.{Event, Kept, Printed, Read, Sent, Waited, Warn
 use Rattle.bac_drive.specs.Happens.{Happens, Scene}
 use Rattle.bac_drive.specs.declared.machine.Next.{Next}
 use Rattle.bac_drive.specs.declared.machine.Next.TheVariants as next
+use Rattle.bac_poller.specs.Counts.{counts_with}
 use Rattle.bac_poller.specs.Poller.{is_answer}
-use Rattle.bac_poller.specs.Seat.{is_due, seat_heard, seat_read, without_answer}
+use Rattle.bac_poller.specs.Seat.{heard_by, is_due, missed, seat_ended, seat_heard, seat_read}
 use Rattle.bac_poller.specs.Site.{Acts, GivesFrom, GivesSite, GivesWaiting, GoesOn, SiteState, due_from, given, put_by, site_heard, site_read}
-use Rattle.bac_poller.specs.SiteLaws.{Answered, Began, GoAlone, IsGoneOn, Missed, Own, OwnStep, Wanted, seats_of, site_acts}
+use Rattle.bac_poller.specs.SiteLaws.{Answered, Began, Device, GoAlone, IsGoneOn, Missed, Own, OwnStep, Told, Wanted, device_of, seats_of, site_acts}
 use Rattle.bac_poller.specs.declared.log_poller.Doing.{Doing}
 use Rattle.bac_poller.specs.declared.log_poller.Doing.TheVariants as doing
-use Rattle.bac_poller.specs.declared.log_poller.LogPoller.{LogPoller}
+use Rattle.bac_poller.specs.declared.seat.Presence.TheVariants.{Present}
 use Rattle.bac_poller.specs.declared.seat.Seat.{Seat}
 use Rattle.bac_poller.proofs.Seated.{ToldSite, at_place, but_one}
 use Rattle.bac_poller.proofs.SeatedRun.{told_site}
@@ -28,18 +29,19 @@ record Gone (start : List Seat) (s : SiteState) : Type 0 where
 
 -- ---- one poll
 
-one_more : (a : LogPoller) (own : List Own) (b c : LogPoller) (step : Own) → Chain OwnStep a own b → OwnStep b step c → Chain OwnStep a (own ++ step ∷ []) c
+one_more : (a : Device) (own : List Own) (b c : Device) (step : Own) → Chain OwnStep a own b → OwnStep b step c → Chain OwnStep a (own ++ step ∷ []) c
 one_more a [] b c step same is =
-    let P : LogPoller → Type 0 = λ x. OwnStep x step c in (c, subst P same is, refl)
+    let P : Device → Type 0 = λ x. OwnStep x step c in (c, subst P same is, refl)
 one_more a (e ∷ own) b c step (mid, first, chain) is = (mid, first, one_more mid own b c step chain is)
 
-goes_on : (start : List Seat) (s t : Seat) (step : Own) → OwnStep s.poller step t.poller → IsGoneOn start s → IsGoneOn start t
-goes_on start s t step is (h, within, own, chain) = (h, within, own ++ step ∷ [], one_more h.poller own s.poller t.poller step chain is)
+goes_on : (start : List Seat) (s t : Seat) (step : Own) → OwnStep (device_of s) step (device_of t) → IsGoneOn start s → IsGoneOn start t
+goes_on start s t step is (h, within, own, chain) =
+    (h, within, own ++ step ∷ [], one_more (device_of h) own (device_of s) (device_of t) step chain is)
 
--- the same poll at another seat
-stays : (start : List Seat) (s t : Seat) → t.poller ≡ s.poller → IsGoneOn start s → IsGoneOn start t
+-- the same device at another seat
+stays : (start : List Seat) (s t : Seat) → device_of t ≡ device_of s → IsGoneOn start s → IsGoneOn start t
 stays start s t same (h, within, own, chain) =
-    let P : LogPoller → Type 0 = λ p. Chain OwnStep h.poller own p in (h, within, own, subst P (sym same) chain)
+    let P : Device → Type 0 = λ d. Chain OwnStep (device_of h) own d in (h, within, own, subst P (sym same) chain)
 
 -- ---- what it wants
 
@@ -61,24 +63,24 @@ put_gone start (doing.Ended why) s seat gone on = active_more start s seat gone 
 from_gone : (start : List Seat) (old : SiteState) (s : Seat) (wanted : Next) (new : SiteState) → Gone start old → IsGoneOn start s → GivesFrom old s wanted new → Gone start new
 from_gone start old s wanted new gone on (p, gives, is) =
     let P : SiteState → Type 0 = λ x. Gone start x in
-    subst P (sym is) (put_gone start p.doing old (record s { poller = p }) gone (goes_on start s (record s { poller = p }) (Wanted wanted) gives on))
+    subst P (sym is) (put_gone start p.doing old (record s { poller = p; kept = counts_with wanted s.kept }) gone (goes_on start s (record s { poller = p; kept = counts_with wanted s.kept }) (Wanted wanted) (gives, refl) on))
 
 on_gone : (start : List Seat) (old : SiteState) (s : Seat) (new : SiteState) → Gone start old → IsGoneOn start s → GoesOn old s new → Gone start new
 on_gone start old s new gone on (inl (t, (task, logs, next_is), is)) =
     let P : SiteState → Type 0 = λ x. Gone start x in
-    subst P (sym is) (put_gone start t.poller.doing old t gone (goes_on start s t (Began task) (ap (λ (x : Seat). x.poller) next_is) on))
+    subst P (sym is) (put_gone start t.poller.doing old t gone (goes_on start s t (Began task) (logs, ap device_of next_is) on))
 on_gone start old s new gone on (inr (none, is)) =
     let P : SiteState → Type 0 = λ x. Gone start x in
     subst P (sym is) (record { active = gone.active; waiting = gone.waiting; ended = All-push (IsGoneOn start) old.ended s gone.ended on })
 
-act_gone : (start : List Seat) (what : Doing) (old : SiteState) (s : Seat) (wanted : Next) (new : SiteState) → Gone start old → IsGoneOn start s → Acts what old s wanted new → Gone start new
-act_gone start doing.Asks old s wanted new gone on acts = from_gone start old s wanted new gone on acts
-act_gone start (doing.Resends datagram) old s wanted new gone on acts = from_gone start old s wanted new gone on acts
-act_gone start (doing.Waits left) old s wanted new gone on acts = from_gone start old s wanted new gone on acts
-act_gone start (doing.Hears datagram) old s wanted new gone on acts = from_gone start old s wanted new gone on acts
-act_gone start (doing.Tells line end) old s wanted new gone on acts = from_gone start old s wanted new gone on acts
-act_gone start (doing.Ended why) old s (next.Print line) new gone on acts = on_gone start old s new gone on acts.1
-act_gone start (doing.Ended why) old s wanted new gone on acts = absurd acts
+act_gone : (start : List Seat) (what : Doing) (old : SiteState) (s : Seat) (wanted : Next) (new : SiteState) → s.poller.doing ≡ what → Gone start old → IsGoneOn start s → Acts what old s wanted new → Gone start new
+act_gone start doing.Asks old s wanted new was gone on acts = from_gone start old s wanted new gone on acts
+act_gone start (doing.Resends datagram) old s wanted new was gone on acts = from_gone start old s wanted new gone on acts
+act_gone start (doing.Waits left) old s wanted new was gone on acts = from_gone start old s wanted new gone on acts
+act_gone start (doing.Hears datagram) old s wanted new was gone on acts = from_gone start old s wanted new gone on acts
+act_gone start (doing.Tells line end) old s wanted new was gone on acts = from_gone start old s wanted new gone on acts
+act_gone start (doing.Ended why) old s wanted new was gone on acts =
+    on_gone start old (seat_ended why s) new gone (goes_on start s (seat_ended why s) (Told why) (was, refl) on) acts.1
 
 waiting_gone : (start : List Seat) (stale : Bool) (old : SiteState) (wanted : Next) (new : SiteState) → Gone start old → GivesWaiting stale old wanted new → Gone start new
 waiting_gone start true old wanted new gone (is_read, same) = let P : SiteState → Type 0 = λ x. Gone start x in subst P (sym same) gone
@@ -90,26 +92,32 @@ waiting_gone start false old wanted new gone (inr (none, rests, same)) = let P :
 
 wants_gone : (start : List Seat) (old : SiteState) (wanted : Next) (new : SiteState) → Gone start old → GivesSite old wanted new → Gone start new
 wants_gone start old wanted new gone (inl (place, s, there, not, acts)) =
-    act_gone start s.poller.doing (record old { active = remove old.active place }) s wanted new
+    act_gone start s.poller.doing (record old { active = remove old.active place }) s wanted new refl
     (record { active = but_one (IsGoneOn start) old.active place gone.active; waiting = gone.waiting; ended = gone.ended })
     (at_place (IsGoneOn start) old.active place s gone.active there) acts
 wants_gone start old wanted new gone (inr (none, gives)) = waiting_gone start old.is_stale old wanted new gone gives
 
 -- ---- what it makes of events
 
+-- an answer came from it
+answered : (s : Seat) (from datagram : List ℕ) → is_answer s.poller from datagram ≡ true →
+    device_of (seat_heard from datagram s) ≡ record (device_of s) { poller = heard_by from datagram s.poller; presence = Present }
+answered s from datagram fits =
+    ap (λ (b : Bool). record (device_of s) { poller = heard_by from datagram s.poller; presence = if b then Present else s.presence }) fits
+
 seat_heard_gone : (start : List Seat) (from datagram : List ℕ) (s : Seat) → IsGoneOn start s → IsGoneOn start (seat_heard from datagram s)
 seat_heard_gone start from datagram s on = by (is_answer s.poller from datagram) refl
   where
     by : (b : Bool) → is_answer s.poller from datagram ≡ b → IsGoneOn start (seat_heard from datagram s)
-    by true fits = goes_on start s (seat_heard from datagram s) (Answered from datagram) (fits, refl) on
+    by true fits = goes_on start s (seat_heard from datagram s) (Answered from datagram) (fits, answered s from datagram fits) on
     by false fits =
         let P : Seat → Type 0 = λ x. IsGoneOn start x in subst P (sym (others_not_heeded from datagram s fits)) on
 
 seat_read_gone : (start : List Seat) (now : ℕ) (s : Seat) → IsGoneOn start s → IsGoneOn start (seat_read now s)
 seat_read_gone start now s on = by (is_due now s)
   where
-    by : (b : Bool) → IsGoneOn start (if b then record s { poller = without_answer s.poller s.poller.transactions.pending; is_repeated = true } else s)
-    by true = goes_on start s (record s { poller = without_answer s.poller s.poller.transactions.pending; is_repeated = true }) Missed refl on
+    by : (b : Bool) → IsGoneOn start (if b then record s { poller = missed s.presence s.poller; is_repeated = true } else s)
+    by true = goes_on start s (record s { poller = missed s.presence s.poller; is_repeated = true }) Missed refl on
     by false = on
 
 heard_gone : (start : List Seat) (heard : Receiving) (s : SiteState) → Gone start s → Gone start (site_heard heard s)

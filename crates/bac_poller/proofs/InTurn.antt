@@ -2,7 +2,9 @@
 use Rattle.std.proofs.Common.{◌≡◌, ◌⊎◌, inl, inr, Bool, true, false, [], ◌∷◌, ◌++◌, All, remove, refl, sym, ap, subst, ◌∙◌}
 use Rattle.bac_drive.specs.declared.machine.Next.{Next}
 use Rattle.bac_drive.specs.declared.machine.Next.TheVariants as next
+use Rattle.bac_poller.specs.Counts.{counts_with}
 use Rattle.bac_poller.specs.Poller.{GivesBy}
+use Rattle.bac_poller.specs.Seat.{seat_ended}
 use Rattle.bac_poller.specs.Site.{Acts, GivesFrom, GivesWaiting, GoesOn, SiteState, put_by}
 use Rattle.bac_poller.specs.SiteLaws.{AskInTurn, IsInTurn}
 use Rattle.bac_poller.specs.declared.log_poller.Doing.{Doing}
@@ -25,7 +27,7 @@ put_behind (doing.Ended why) s seat = inr refl
 
 from_behind : (old : SiteState) (s : Seat) (wanted : Next) (new : SiteState) → GivesFrom old s wanted new → IsBehind old new
 from_behind old s wanted new (p, gives, is) =
-    let P : SiteState → Type 0 = λ x. IsBehind old x in subst P (sym is) (put_behind p.doing old (record s { poller = p }))
+    let P : SiteState → Type 0 = λ x. IsBehind old x in subst P (sym is) (put_behind p.doing old (record s { poller = p; kept = counts_with wanted s.kept }))
 
 on_behind : (old : SiteState) (s : Seat) (new : SiteState) → GoesOn old s new → IsBehind old new
 on_behind old s new (inl (t, next_is, is)) =
@@ -38,13 +40,12 @@ act_behind (doing.Resends datagram) old s wanted new acts = from_behind old s wa
 act_behind (doing.Waits left) old s wanted new acts = from_behind old s wanted new acts
 act_behind (doing.Hears datagram) old s wanted new acts = from_behind old s wanted new acts
 act_behind (doing.Tells line end) old s wanted new acts = from_behind old s wanted new acts
-act_behind (doing.Ended why) old s (next.Print line) new acts = on_behind old s new acts.1
-act_behind (doing.Ended why) old s wanted new acts = absurd acts
+act_behind (doing.Ended why) old s wanted new acts = on_behind old (seat_ended why s) new acts.1
 
 -- one that asks isn't among those that wait any more
-asked_waits : (old : SiteState) (s : Seat) (wanted : Next) (new : SiteState) (p : LogPoller) → GivesBy doing.Asks s.poller wanted p → new ≡ put_by p.doing old (record s { poller = p }) → new.waiting ≡ old.waiting
+asked_waits : (old : SiteState) (s : Seat) (wanted : Next) (new : SiteState) (p : LogPoller) → GivesBy doing.Asks s.poller wanted p → new ≡ put_by p.doing old (record s { poller = p; kept = counts_with wanted s.kept }) → new.waiting ≡ old.waiting
 asked_waits old s (next.Send octets to) new p gives is =
-    let P : Doing → Type 0 = λ d. (put_by d old (record s { poller = p })).waiting ≡ old.waiting in
+    let P : Doing → Type 0 = λ d. (put_by d old (record s { poller = p; kept = counts_with wanted s.kept })).waiting ≡ old.waiting in
     let e : p.doing ≡ doing.Waits 16 = ap (λ (x : LogPoller). x.doing) gives.2 in
     ap (λ (x : SiteState). x.waiting) is ∙ subst P (sym e) refl
 asked_waits old s wanted new p gives is = absurd gives

@@ -14,3 +14,4 @@ pub mod Told
 pub mod Alone
 pub mod InTurn
 pub mod Open
+pub mod Silence

@@ -11,7 +11,8 @@ use Rattle.bac_drive.specs.Event.{Event, Kept, Printed, Read, Sent, Waited, Warn
 use Rattle.bac_drive.specs.Happens.{Happens, Scene}
 use Rattle.bac_drive.specs.declared.machine.Next.{Next}
 use Rattle.bac_drive.specs.declared.machine.Next.TheVariants as next
-use Rattle.bac_poller.specs.Seat.{is_at, is_first}
+use Rattle.bac_poller.specs.Counts.{counts_with}
+use Rattle.bac_poller.specs.Seat.{is_at, is_first, seat_ended}
 use Rattle.bac_poller.specs.Site.{Acts, GivesFrom, GivesSite, GivesWaiting, GoesOn, IsWithin, SiteState, put_by, site_heard}
 use Rattle.bac_poller.specs.SiteLaws.{IsMarked, IsUnasked, OpenWithin, is_open, is_open_at, is_open_once, was_sent_once, site_acts}
 use Rattle.bac_poller.specs.declared.limits.Limits.{Limits}
@@ -35,7 +36,7 @@ put_same (doing.Tells line end) s seat = refl
 put_same (doing.Ended why) s seat = refl
 
 from_same : (old : SiteState) (s : Seat) (wanted : Next) (new : SiteState) → GivesFrom old s wanted new → new.limits ≡ old.limits
-from_same old s wanted new (p, gives, is) = ap (λ (x : SiteState). x.limits) is ∙ put_same p.doing old (record s { poller = p })
+from_same old s wanted new (p, gives, is) = ap (λ (x : SiteState). x.limits) is ∙ put_same p.doing old (record s { poller = p; kept = counts_with wanted s.kept })
 
 on_same : (old : SiteState) (s : Seat) (new : SiteState) → GoesOn old s new → new.limits ≡ old.limits
 on_same old s new (inl (t, next_is, is)) = ap (λ (x : SiteState). x.limits) is ∙ put_same t.poller.doing old t
@@ -47,8 +48,7 @@ act_same (doing.Resends datagram) old s wanted new acts = from_same old s wanted
 act_same (doing.Waits left) old s wanted new acts = from_same old s wanted new acts
 act_same (doing.Hears datagram) old s wanted new acts = from_same old s wanted new acts
 act_same (doing.Tells line end) old s wanted new acts = from_same old s wanted new acts
-act_same (doing.Ended why) old s (next.Print line) new acts = on_same old s new acts.1
-act_same (doing.Ended why) old s wanted new acts = absurd acts
+act_same (doing.Ended why) old s wanted new acts = on_same old (seat_ended why s) new acts.1
 
 waiting_same : (stale : Bool) (old : SiteState) (wanted : Next) (new : SiteState) → GivesWaiting stale old wanted new → new.limits ≡ old.limits
 waiting_same true old wanted new (is_read, same) = ap (λ (x : SiteState). x.limits) same

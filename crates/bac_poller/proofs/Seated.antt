@@ -10,8 +10,10 @@ use Rattle.bac_drive.specs.Event.{Event, Kept, Printed, Read, Sent, Waited, Warn
 use Rattle.bac_drive.specs.Happens.{Does}
 use Rattle.bac_drive.specs.declared.machine.Next.{Next}
 use Rattle.bac_drive.specs.declared.machine.Next.TheVariants as next
-use Rattle.bac_poller.specs.Seat.{IsNext, begun, heard_by, is_due, is_waiting, seat_heard, seat_read, without_answer}
-use Rattle.bac_poller.specs.Site.{Acts, GivesFrom, GivesSite, GivesWaiting, GoesOn, Rests, SiteState, Tells, due_from, given, put_by, site_heard, site_read}
+use Rattle.bac_poller.specs.Counts.{counts_with}
+use Rattle.bac_poller.specs.Ending.{is_caught_up}
+use Rattle.bac_poller.specs.Seat.{IsNext, begun, doing_begun, heard_by, is_due, is_waiting, missed, seat_ended, seat_heard, seat_read}
+use Rattle.bac_poller.specs.Site.{Acts, GivesFrom, GivesSite, GivesWaiting, GoesOn, IsToldBy, Rests, SiteState, Tells, due_from, given, put_by, site_heard, site_read}
 use Rattle.bac_poller.specs.SiteLaws.{AreCome, IsOf, IsUnasked, LogRow, log_of, logs_of, question_of}
 use Rattle.bac_poller.specs.declared.log_poller.Doing.{Doing}
 use Rattle.bac_poller.specs.declared.log_poller.Doing.TheVariants as doing
@@ -19,7 +21,7 @@ use Rattle.bac_poller.specs.declared.log_poller.Ending.{Ending}
 use Rattle.bac_poller.specs.declared.log_poller.LogPoller.{LogPoller}
 use Rattle.bac_poller.specs.declared.seat.LogTask.{LogTask}
 use Rattle.bac_poller.specs.declared.seat.Seat.{Seat}
-use Rattle.bac_poller.proofs.Sound.{IsClosed, IsSamePoll, IsSound, IsFreshAt, IsMarkedAt, IsMarkedWell, behind_send, gives_marked, gives_same, gives_sound, heard_marked, heard_same, heard_sound, kept_by, later, sent_by, waiting_opened, without_marked, without_same, without_sound}
+use Rattle.bac_poller.proofs.Sound.{IsClosed, IsSamePoll, IsSound, IsFreshAt, IsMarkedAt, IsMarkedWell, begun_marked, begun_sound, behind_send, gives_marked, gives_same, gives_sound, heard_marked, heard_same, heard_sound, kept_by, later, missed_marked, missed_same, missed_sound, sent_by, waiting_opened}
 
 -- its logs are among those of one of these devices, at the same address by the same route
 abbrev pub IsAtHome : List Seat → Seat → Type 0
@@ -113,12 +115,12 @@ from_seated : (start : List Seat) (events : List Event) (e : Event) (old : SiteS
     GivesFrom old s wanted new → Does wanted e → Seated start (behind_send events e) new
 from_seated start events e old s wanted new seated sits (p, gives, is) does =
     let P : SiteState → Type 0 = λ x. Seated start (behind_send events e) x in
-    let on : Comes start (behind_send events e) (record s { poller = p }) = record {
+    let on : Comes start (behind_send events e) (record s { poller = p; kept = counts_with wanted s.kept }) = record {
       sound = gives_sound events s.poller.doing s.poller p wanted e refl sits.sound gives does;
       marked = gives_marked s.is_repeated s.poller.doing s.poller p wanted refl sits.marked.1 sits.marked.0 gives;
       home = home_as start s p (gives_same s.poller.doing s.poller p wanted gives) sits.home;
     } in
-    subst P (sym is) (put_seated start (behind_send events e) p.doing old (record s { poller = p }) refl (seated_send start events e old seated) on)
+    subst P (sym is) (put_seated start (behind_send events e) p.doing old (record s { poller = p; kept = counts_with wanted s.kept }) refl (seated_send start events e old seated) on)
 
 -- the next log of a device is one of its logs
 next_home : (start : List Seat) (s t : Seat) → IsNext s t → IsAtHome start s → IsAtHome start t
@@ -135,11 +137,11 @@ next_home start s t (task, logs_is, is) (h, within, at, way, logs) =
 next_comes : (start : List Seat) (events : List Event) (s t : Seat) → IsNext s t → IsClosed s.poller → IsAtHome start s → Comes start events t
 next_comes start events s t (task, logs_is, is) closed home =
     let P : LogPoller → Type 0 = λ p. IsSound events p p.doing in
-    let same : t.poller ≡ begun task s.poller = ap (λ (x : Seat). x.poller) is in
+    let same : t.poller ≡ begun (doing_begun s.presence) task s.poller = ap (λ (x : Seat). x.poller) is in
     let Q : LogPoller → Type 0 = λ p. IsMarkedAt t.is_repeated p p.doing in
     record {
-      sound = subst P (sym same) closed;
-      marked = subst Q (sym same) tt;
+      sound = subst P (sym same) (begun_sound s.presence events task s.poller closed);
+      marked = subst Q (sym same) (begun_marked t.is_repeated s.presence (begun (doing_begun s.presence) task s.poller));
       home = next_home start s t (task, logs_is, is) home;
     }
 
@@ -153,9 +155,8 @@ on_seated start events old s new seated closed home (inr (none, is)) =
 
 tells_seated : (start : List Seat) (events : List Event) (e : Event) (why : Ending) (old : SiteState) (s : Seat) (wanted : Next) (new : SiteState) → Seated start events old → IsClosed s.poller → IsAtHome start s →
     Tells why old s wanted new → Seated start (behind_send events e) new
-tells_seated start events e why old s (next.Print line) new seated closed home tells =
-    seated_send start events e new (on_seated start events old s new seated closed home tells.1)
-tells_seated start events e why old s wanted new seated closed home tells = absurd tells
+tells_seated start events e why old s wanted new seated closed home tells =
+    seated_send start events e new (on_seated start events old (seat_ended why s) new seated closed home tells.1)
 
 act_seated : (start : List Seat) (events : List Event) (e : Event) (what : Doing) (old : SiteState) (s : Seat) (wanted : Next) (new : SiteState) → s.poller.doing ≡ what → Seated start events old → Sits start events s →
     Acts what old s wanted new → Does wanted e → Seated start (behind_send events e) new
@@ -200,13 +201,14 @@ sits_heard start events within heard datagram s is sits = record {
 sits_read : (start : List Seat) (events : List Event) (now : ℕ) (s : Seat) → Sits start events s → Sits start events (seat_read now s)
 sits_read start events now s sits = by (is_due now s) refl
   where
-    by : (b : Bool) → is_due now s ≡ b → Sits start events (if b then record s { poller = without_answer s.poller s.poller.transactions.pending; is_repeated = true } else s)
+    by : (b : Bool) → is_due now s ≡ b → Sits start events (if b then record s { poller = missed s.presence s.poller; is_repeated = true } else s)
     by true due =
         let both = and_parts (is_waiting s.poller.doing) _ due in
-        let home = home_as start s (without_answer s.poller s.poller.transactions.pending) (without_same s.poller s.poller.transactions.pending) sits.home in
+        let opened = waiting_opened events s.poller s.poller.doing sits.sound both.0 in
+        let home = home_as start s (missed s.presence s.poller) (missed_same s.presence s.poller) sits.home in
         record {
-          sound = without_sound events s.poller (waiting_opened events s.poller s.poller.doing sits.sound both.0);
-          marked = without_marked events s.poller (waiting_opened events s.poller s.poller.doing sits.sound both.0);
+          sound = missed_sound s.presence events s.poller opened;
+          marked = missed_marked s.presence events s.poller opened;
           home = (home.0, home.1, home.2, home.3, home.4);
         }
     by false due = sits
@@ -319,16 +321,31 @@ from_says start events (Read ms) old s wanted new sits gives does = tt
 from_says start events (Printed text) old s wanted new sits gives does = tt
 from_says start events (Warned text) old s wanted new sits gives does = tt
 
+-- an event is a text
+abbrev pub IsText : Event → Type 0
+IsText (Printed text) = Unit {0}
+IsText (Warned text) = Unit {0}
+IsText (Sent octets to answer) = ⊥
+IsText (Waited within heard) = ⊥
+IsText (Read ms) = ⊥
+IsText (Kept puts) = ⊥
+
+pub told_text : (b : Bool) (text : List ℕ) (wanted : Next) (e : Event) → IsToldBy b text wanted → Does wanted e → IsText e
+told_text true text (next.Print line) (Printed all) told does = tt
+told_text true text (next.Print line) e told does = absurd does
+told_text true text wanted e told does = absurd told
+told_text false text (next.Warn line) (Warned all) told does = tt
+told_text false text (next.Warn line) e told does = absurd does
+told_text false text wanted e told does = absurd told
+
+text_says : (start : List Seat) (events : List Event) (e : Event) → IsText e → SaysOf start events e
+text_says start events (Printed text) is = tt
+text_says start events (Warned text) is = tt
+text_says start events e is = absurd is
+
 -- what is only printed, read or waited for
 tells_says : (start : List Seat) (events : List Event) (e : Event) (why : Ending) (old : SiteState) (s : Seat) (wanted : Next) (new : SiteState) → Tells why old s wanted new → Does wanted e → SaysOf start events e
-tells_says start events (Printed text) why old s wanted new tells does = tt
-tells_says start events (Warned text) why old s wanted new tells does = tt
-tells_says start events (Waited within heard) why old s wanted new tells does = tt
-tells_says start events (Read ms) why old s wanted new tells does = tt
-tells_says start events (Kept puts) why old s (next.Print line) new tells does = absurd does
-tells_says start events (Kept puts) why old s wanted new tells does = absurd tells
-tells_says start events (Sent octets to answer) why old s (next.Print line) new tells does = absurd does
-tells_says start events (Sent octets to answer) why old s wanted new tells does = absurd tells
+tells_says start events e why old s wanted new tells does = text_says start events e (told_text (is_caught_up why) _ wanted e tells.0 does)
 
 rests_says : (start : List Seat) (events : List Event) (e : Event) (old : SiteState) (wanted : Next) → Rests old wanted → Does wanted e → SaysOf start events e
 rests_says start events (Printed text) old wanted rests does = tt

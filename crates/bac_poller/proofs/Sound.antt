@@ -24,11 +24,14 @@ use Rattle.bac_drive.specs.Happens.{Does}
 use Rattle.bac_drive.specs.declared.machine.Next.{Next}
 use Rattle.bac_drive.specs.declared.machine.Next.TheVariants as next
 use Rattle.bac_poller.specs.Poller.{GivesBy, IsPlaced, Keeps, doing_behind, doing_told, is_answer, wanted_at}
-use Rattle.bac_poller.specs.Seat.{given_up, heard_by, is_waiting, without_answer}
+use Rattle.bac_poller.specs.Seat.{begun, doing_begun, given_up, heard_by, is_waiting, missed, without_answer}
 use Rattle.bac_poller.specs.SiteLaws.{LogRow, WasAnswered, WasAsked, log_of, question_of}
 use Rattle.bac_poller.specs.declared.log_poller.Doing.{Doing}
 use Rattle.bac_poller.specs.declared.log_poller.Doing.TheVariants as doing
 use Rattle.bac_poller.specs.declared.log_poller.LogPoller.{LogPoller}
+use Rattle.bac_poller.specs.declared.seat.LogTask.{LogTask}
+use Rattle.bac_poller.specs.declared.seat.Presence.{Presence}
+use Rattle.bac_poller.specs.declared.seat.Presence.TheVariants.{Doubted, Present, Silent}
 use Rattle.bac_poller.proofs.SameLog.{answers_same}
 
 -- its question is open, and was sent to its device
@@ -212,6 +215,18 @@ without_sound events p (pending, opened, is, asked) =
     by true = refl
     by false = ((record pending { repeats = pending.repeats + 1 }, refl, is, asked), is)
 
+-- the same by whether its device answers
+pub missed_sound : (presence : Presence) (events : List Event) (p : LogPoller) → IsOpen events p → IsSound events (missed presence p) (missed presence p).doing
+missed_sound Present events p opened = without_sound events p opened
+missed_sound Doubted events p opened = refl
+missed_sound Silent events p opened = refl
+
+-- another log of a device of which nothing is open
+pub begun_sound : (presence : Presence) (events : List Event) (task : LogTask) (p : LogPoller) → IsClosed p → IsSound events (begun (doing_begun presence) task p) (doing_begun presence)
+begun_sound Present events task p closed = closed
+begun_sound Doubted events task p closed = closed
+begun_sound Silent events task p closed = closed
+
 -- ---- whether it was sent once
 
 -- a mark tells whether its open request was sent more than once
@@ -318,6 +333,16 @@ without_marked events p (pending, opened, is, asked) =
       tt,
     )
 
+pub missed_marked : (presence : Presence) (events : List Event) (p : LogPoller) → IsOpen events p → IsMarkedWell true (missed presence p)
+missed_marked Present events p opened = without_marked events p opened
+missed_marked Doubted events p opened = (tt, tt)
+missed_marked Silent events p opened = (tt, tt)
+
+pub begun_marked : (repeated : Bool) (presence : Presence) (p : LogPoller) → IsMarkedAt repeated p (doing_begun presence)
+begun_marked repeated Present p = tt
+begun_marked repeated Doubted p = tt
+begun_marked repeated Silent p = tt
+
 -- ---- whose it is
 
 -- two polls are of one log of one device
@@ -380,6 +405,11 @@ without_same p (Some pending) = by (nat_le p.transactions.retries pending.repeat
     })
     by true = record { at = refl; way = refl; log = refl }
     by false = record { at = refl; way = refl; log = refl }
+
+pub missed_same : (presence : Presence) (p : LogPoller) → IsSamePoll p (missed presence p)
+missed_same Present p = without_same p p.transactions.pending
+missed_same Doubted p = record { at = refl; way = refl; log = refl }
+missed_same Silent p = record { at = refl; way = refl; log = refl }
 
 -- ---- what a law says of an event
 

@@ -11,9 +11,11 @@ use Rattle.bac_drive.specs.Event.{Event, Kept, Printed, Read, Sent, Waited, Warn
 use Rattle.bac_drive.specs.Happens.{Happens, Scene}
 use Rattle.bac_drive.specs.declared.machine.Next.{Next}
 use Rattle.bac_drive.specs.declared.machine.Next.TheVariants as next
+use Rattle.bac_poller.specs.Counts.{counts_with}
 use Rattle.bac_poller.specs.Poller.{GivesBy}
-use Rattle.bac_poller.specs.Seat.{seat_heard, seat_read}
-use Rattle.bac_poller.specs.Site.{Acts, GivesFrom, GivesSite, GivesWaiting, GoesOn, SiteState, given, put_by, site_heard, site_read}
+use Rattle.bac_poller.specs.Seat.{seat_ended, seat_heard, seat_read}
+use Rattle.bac_poller.specs.Ending.{is_caught_up}
+use Rattle.bac_poller.specs.Site.{Acts, GivesFrom, GivesSite, GivesWaiting, GoesOn, IsToldBy, SiteState, given, put_by, site_heard, site_read}
 use Rattle.bac_poller.specs.SiteLaws.{AllAreTold, BeginsUnasked, IsNew, IsUnasked, is_of, site_acts}
 use Rattle.bac_poller.specs.declared.log_poller.Doing.{Doing}
 use Rattle.bac_poller.specs.declared.log_poller.Doing.TheVariants as doing
@@ -84,7 +86,7 @@ put_holds start (doing.Ended why) s seat was lacks = active_more start s seat la
 from_holds : (start old : SiteState) (s : Seat) (wanted : Next) (new : SiteState) → Lacks start old s → GivesFrom old s wanted new → Holds start new
 from_holds start old s wanted new lacks (p, gives, is) =
     let P : SiteState → Type 0 = λ x. Holds start x in
-    subst P (sym is) (put_holds start p.doing old (record s { poller = p }) refl (lacks_as start old s (record s { poller = p }) (peer_given s.poller.doing s.poller p wanted gives) lacks))
+    subst P (sym is) (put_holds start p.doing old (record s { poller = p; kept = counts_with wanted s.kept }) refl (lacks_as start old s (record s { poller = p; kept = counts_with wanted s.kept }) (peer_given s.poller.doing s.poller p wanted gives) lacks))
 
 on_holds : (start old : SiteState) (s : Seat) (new : SiteState) → Lacks start old s → GoesOn old s new → Holds start new
 on_holds start old s new lacks (inl (t, (task, logs, next_is), is)) =
@@ -103,8 +105,8 @@ act_holds start (doing.Resends datagram) old s wanted new lacks acts = from_hold
 act_holds start (doing.Waits left) old s wanted new lacks acts = from_holds start old s wanted new lacks acts
 act_holds start (doing.Hears datagram) old s wanted new lacks acts = from_holds start old s wanted new lacks acts
 act_holds start (doing.Tells line end) old s wanted new lacks acts = from_holds start old s wanted new lacks acts
-act_holds start (doing.Ended why) old s (next.Print line) new lacks acts = on_holds start old s new lacks acts.1
-act_holds start (doing.Ended why) old s wanted new lacks acts = absurd acts
+act_holds start (doing.Ended why) old s wanted new lacks acts =
+    on_holds start old (seat_ended why s) new (record { turns = lacks.turns; but = lacks.but }) acts.1
 
 -- how many are left without the one at a place
 but_count : (peer : List ℕ) (seats : List Seat) (place : ℕ) (s : Seat) → slice_get seats place ≡ Some s → count_by (is_of peer) (remove seats place) + tally (is_of peer s) ≡ count_by (is_of peer) seats
@@ -179,6 +181,11 @@ run sends receives tells start (e ∷ es) old new holds (mid, (wanted, half, giv
 
 -- ---- the end
 
+-- a line isn't the end
+told_goes_on : (b : Bool) (text : List ℕ) → IsToldBy b text next.End → ⊥
+told_goes_on true text told = told
+told_goes_on false text told = told
+
 -- no poll that acts says that all has ended
 act_ends : (what : Doing) (old : SiteState) (s : Seat) (new : SiteState) → s.poller.doing ≡ what → Acts what old s next.End new → ⊥
 act_ends doing.Asks old s new was (p, gives, is) = let P : Doing → Type 0 = λ d. GivesBy d s.poller next.End p in subst P was gives
@@ -186,7 +193,7 @@ act_ends (doing.Resends datagram) old s new was (p, gives, is) = let P : Doing �
 act_ends (doing.Waits left) old s new was (p, gives, is) = let P : Doing → Type 0 = λ d. GivesBy d s.poller next.End p in subst P was gives
 act_ends (doing.Hears datagram) old s new was (p, gives, is) = let P : Doing → Type 0 = λ d. GivesBy d s.poller next.End p in subst P was gives
 act_ends (doing.Tells line end) old s new was (p, gives, is) = let P : Doing → Type 0 = λ d. GivesBy d s.poller next.End p in subst P was gives
-act_ends (doing.Ended why) old s new was acts = acts
+act_ends (doing.Ended why) old s new was acts = told_goes_on (is_caught_up why) _ acts.0
 
 -- what holds of a site that says that it has ended
 abbrev HasEnded : SiteState → SiteState → Type 0

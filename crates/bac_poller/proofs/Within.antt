@@ -7,10 +7,12 @@ use Rattle.std.specs.Str.{bytes_eq}
 use Rattle.bac_link.specs.declared.transactions.Pending.{Pending}
 use Rattle.bac_ports.specs.Port.{Receiving}
 use Rattle.bac_poller.specs.Poller.{is_answer}
-use Rattle.bac_poller.specs.Seat.{given_up, is_at, is_due, is_first, seat_heard, seat_read, without_answer}
+use Rattle.bac_poller.specs.Seat.{given_up, is_at, is_due, is_first, missed, seat_heard, seat_read, without_answer}
 use Rattle.bac_poller.specs.Site.{IsWithin, SiteState, given, site_heard}
 use Rattle.bac_poller.specs.SiteLaws.{OthersNotHeeded, StaysWithin}
 use Rattle.bac_poller.specs.declared.log_poller.LogPoller.{LogPoller}
+use Rattle.bac_poller.specs.declared.seat.Presence.{Presence}
+use Rattle.bac_poller.specs.declared.seat.Presence.TheVariants.{Doubted, Present, Silent}
 use Rattle.bac_poller.specs.declared.seat.Seat.{Seat}
 
 -- ---- the address stays
@@ -30,8 +32,13 @@ pub peer_without : (p : LogPoller) (o : Option Pending) → (without_answer p o)
 peer_without p None = refl
 peer_without p (Some request) = of_both p.peer (nat_le p.transactions.retries request.repeats) (given_up p) _ refl refl
 
+pub peer_missed : (presence : Presence) (p : LogPoller) → (missed presence p).peer ≡ p.peer
+peer_missed Present p = peer_without p p.transactions.pending
+peer_missed Doubted p = refl
+peer_missed Silent p = refl
+
 pub peer_read : (now : ℕ) (s : Seat) → (seat_read now s).poller.peer ≡ s.poller.peer
-peer_read now s = of_both_seats s.poller.peer (is_due now s) _ s (peer_without s.poller s.poller.transactions.pending) refl
+peer_read now s = of_both_seats s.poller.peer (is_due now s) _ s (peer_missed s.presence s.poller) refl
 
 -- ---- so do the counts, or they fall
 
@@ -59,7 +66,7 @@ none_heard from datagram s = omega arith
 pub none_read : (now : ℕ) → NoMore is_first (seat_read now)
 none_read now s = by (is_due now s)
   where
-    by : (b : Bool) → tally (is_first (if b then record s { poller = without_answer s.poller s.poller.transactions.pending; is_repeated = true } else s)) ≤ tally (is_first s)
+    by : (b : Bool) → tally (is_first (if b then record s { poller = missed s.presence s.poller; is_repeated = true } else s)) ≤ tally (is_first s)
     by true = omega arith
     by false = omega arith
 
@@ -74,7 +81,7 @@ mapped f same none first_most each most seats first few at = (
 
 -- ---- what nobody asked for
 
-other : (b : Bool) (heard : LogPoller) (s : Seat) → b ≡ false → record s { poller = if b then heard else s.poller } ≡ s
+other : (b : Bool) (heard : LogPoller) (s : Seat) → b ≡ false → record s { poller = if b then heard else s.poller; presence = if b then Present else s.presence } ≡ s
 other true heard s not = absurd (let e : true ≡ false = not in cc)
 other false heard s not = refl
 

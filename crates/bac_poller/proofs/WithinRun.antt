@@ -9,8 +9,9 @@ use Rattle.std.specs.List.{count_by, remove, slice_get}
 use Rattle.std.specs.Str.{bytes_eq}
 use Rattle.bac_drive.specs.declared.machine.Next.{Next}
 use Rattle.bac_drive.specs.declared.machine.Next.TheVariants as next
+use Rattle.bac_poller.specs.Counts.{counts_with}
 use Rattle.bac_poller.specs.Poller.{GivesBy}
-use Rattle.bac_poller.specs.Seat.{is_at, is_first}
+use Rattle.bac_poller.specs.Seat.{is_at, is_first, seat_ended}
 use Rattle.bac_poller.specs.Site.{Acts, GivesFrom, GivesWaiting, GoesOn, HasRoom, IsAsked, IsWithin, SiteState, put_by}
 use Rattle.bac_poller.specs.SiteLaws.{WantsWithin}
 use Rattle.bac_poller.specs.declared.log_poller.Doing.{Doing}
@@ -76,7 +77,7 @@ same_place old s t same sent place = record {
 from_within : (old : SiteState) (s : Seat) (wanted : Next) (new : SiteState) → HasPlaceFor old s → GivesFrom old s wanted new → IsWithin new
 from_within old s wanted new place (p, gives, is) =
     let P : SiteState → Type 0 = λ x. IsWithin x in
-    subst P (sym is) (put_within p.doing old (record s { poller = p }) (same_place old s (record s { poller = p }) (peer_given s.poller.doing s.poller p wanted gives) refl place))
+    subst P (sym is) (put_within p.doing old (record s { poller = p; kept = counts_with wanted s.kept }) (same_place old s (record s { poller = p; kept = counts_with wanted s.kept }) (peer_given s.poller.doing s.poller p wanted gives) refl place))
 
 -- ---- one that was asked
 
@@ -109,8 +110,8 @@ act_within (doing.Resends datagram) old s wanted new place acts = from_within ol
 act_within (doing.Waits left) old s wanted new place acts = from_within old s wanted new place acts
 act_within (doing.Hears datagram) old s wanted new place acts = from_within old s wanted new place acts
 act_within (doing.Tells line end) old s wanted new place acts = from_within old s wanted new place acts
-act_within (doing.Ended why) old s (next.Print line) new place acts = on_within old s new place acts.1
-act_within (doing.Ended why) old s wanted new place acts = absurd acts
+act_within (doing.Ended why) old s wanted new place acts =
+    on_within old (seat_ended why s) new (record { first = place.first; few = place.few; each = place.each }) acts.1
 
 -- ---- one that is asked
 

@@ -1,5 +1,6 @@
 -- What is told of a log: while it is polled, and how that ended.
-use Rattle.std.specs.Prelude.{ℕ, ◌-◌, ◌==◌, nat_lt, if◌then◌else◌, codes, decimal, List, [], ◌∷◌, ◌++◌}
+use Rattle.std.specs.Prelude.{ℕ, ◌-◌, ◌==◌, nat_lt, Bool, true, false, if◌then◌else◌, codes, decimal, List, [], ◌∷◌}
+use Rattle.std.specs.Prelude.{◌++◌}
 use Rattle.bac_query.specs.Ends.{refusal_text}
 use Rattle.bac_walk.specs.declared.outcome.WalkFault.TheVariants.{BadReply, Lost, Refused}
 use Rattle.bac_poll.specs.Turns.{number_before}
@@ -8,8 +9,9 @@ use Rattle.bac_poll.specs.declared.turn.Line.TheVariants.{AtHour, AtHourOrBegan,
 use Rattle.bac_poll.specs.declared.turn.Line.TheVariants.{DroppedOrBegan}
 use Rattle.bac_poll.specs.declared.turn.PollEnd.TheVariants.{CaughtUp, Contradicts, Fault, NoneByNumber}
 use Rattle.bac_poll.specs.declared.turn.PollEnd.TheVariants.{SaysMore, ShowsNone}
+use Rattle.bac_poller.specs.declared.counts.Counts.{Counts}
 use Rattle.bac_poller.specs.declared.log_poller.Ending.{Ending}
-use Rattle.bac_poller.specs.declared.log_poller.Ending.TheVariants.{Poll, Epochs}
+use Rattle.bac_poller.specs.declared.log_poller.Ending.TheVariants.{Poll, Epochs, NotAsked}
 
 -- so many quarter hours from those on record
 abbrev pub earlier_text : ℕ → List ℕ
@@ -54,10 +56,33 @@ ending_text (Poll (Fault Lost)) = codes "lost"
 ending_text (Poll (Fault (Refused refusal))) = refusal_text refusal
 ending_text (Poll (Fault BadReply)) = codes "bad reply"
 ending_text Epochs = codes "began anew once too often"
+ending_text NotAsked = codes "not asked"
 
 -- the lines of a log with this name
 abbrev pub told_line : List ℕ → Line → List ℕ
 told_line name line = name ++ (codes ": " ++ (line_text line ++ 10 ∷ []))
 
-abbrev pub ended_line : List ℕ → Ending → List ℕ
-ended_line name why = name ++ (codes ": " ++ (ending_text why ++ 10 ∷ []))
+-- a number, and what is counted
+abbrev pub counted_text : ℕ → (one : List ℕ) → (many : List ℕ) → List ℕ
+counted_text n one many = decimal n ++ (if n == 1 then one else many)
+
+-- how much was kept of a log, how its poll ended, and the number that comes next
+abbrev pub summary_text : Counts → Ending → (next : ℕ) → List ℕ
+summary_text kept why next =
+    counted_text kept.records (codes " record ") (codes " records ")
+    ++ (counted_text kept.gaps (codes " gap ") (codes " gaps ")
+    ++ (ending_text why ++ (codes ", next " ++ decimal next)))
+
+abbrev pub ended_line : List ℕ → Counts → Ending → (next : ℕ) → List ℕ
+ended_line name kept why next = name ++ (32 ∷ (summary_text kept why next ++ 10 ∷ []))
+
+-- whether a log is caught up
+abbrev pub is_caught_up : Ending → Bool
+is_caught_up (Poll CaughtUp) = true
+is_caught_up (Poll SaysMore) = false
+is_caught_up (Poll ShowsNone) = false
+is_caught_up (Poll NoneByNumber) = false
+is_caught_up (Poll Contradicts) = false
+is_caught_up (Poll (Fault fault)) = false
+is_caught_up Epochs = false
+is_caught_up NotAsked = false

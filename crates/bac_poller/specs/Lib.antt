@@ -1,5 +1,6 @@
 pub mod Puts
 pub mod Word
+pub mod Counts
 pub mod Ending
 pub mod Poller
 pub mod Seat

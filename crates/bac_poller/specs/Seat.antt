@@ -5,11 +5,18 @@ use Rattle.std.specs.Str.{bytes_eq}
 use Rattle.bac_link.specs.Transactions.{closed}
 use Rattle.bac_link.specs.declared.transactions.Pending.{Pending}
 use Rattle.bac_link.specs.declared.transactions.Timeout.TheVariants.{GaveUp}
+use Rattle.bac_poll.specs.declared.turn.PollEnd.TheVariants.{CaughtUp, Contradicts, Fault, SaysMore, ShowsNone}
+use Rattle.bac_walk.specs.declared.outcome.WalkFault.TheVariants as walk
+use Rattle.bac_poller.specs.Counts.{no_counts}
 use Rattle.bac_poller.specs.Poller.{doing_after, is_answer}
 use Rattle.bac_poller.specs.declared.log_poller.Doing.{Doing}
 use Rattle.bac_poller.specs.declared.log_poller.Doing.TheVariants as doing
 use Rattle.bac_poller.specs.declared.log_poller.LogPoller.{LogPoller}
+use Rattle.bac_poller.specs.declared.log_poller.Ending.{Ending}
+use Rattle.bac_poller.specs.declared.log_poller.Ending.TheVariants.{Epochs, NotAsked, Poll}
 use Rattle.bac_poller.specs.declared.seat.LogTask.{LogTask}
+use Rattle.bac_poller.specs.declared.seat.Presence.{Presence}
+use Rattle.bac_poller.specs.declared.seat.Presence.TheVariants.{Doubted, Present, Silent}
 use Rattle.bac_poller.specs.declared.seat.Seat.{Seat}
 
 -- whether a send is waited for
@@ -38,9 +45,12 @@ heard_by from datagram p =
     then record p { transactions = closed p.transactions; doing = doing.Hears datagram }
     else p
 
--- a seat that heard a datagram
+-- a seat that heard a datagram; a device that answers is present
 abbrev pub seat_heard : List ℕ → List ℕ → Seat → Seat
-seat_heard from datagram s = record s { poller = heard_by from datagram s.poller }
+seat_heard from datagram s = record s {
+  poller = heard_by from datagram s.poller;
+  presence = if is_answer s.poller from datagram then Present else s.presence;
+}
 
 -- ---- what time makes of it
 
@@ -59,6 +69,12 @@ without_answer p (Some request) =
       doing = doing.Resends request.request;
     }
 
+-- the same by whether its device answers: of one that is doubted a question is sent once
+abbrev pub missed : Presence → LogPoller → LogPoller
+missed Present p = without_answer p p.transactions.pending
+missed Doubted p = given_up p
+missed Silent p = given_up p
+
 -- whether the send of one was waited for
 abbrev pub is_due : ℕ → Seat → Bool
 is_due now s = is_waiting s.poller.doing && nat_le s.due now
@@ -67,17 +83,45 @@ is_due now s = is_waiting s.poller.doing && nat_le s.due now
 abbrev pub seat_read : ℕ → Seat → Seat
 seat_read now s =
     if is_due now s
-    then record s { poller = without_answer s.poller s.poller.transactions.pending; is_repeated = true }
+    then record s { poller = missed s.presence s.poller; is_repeated = true }
     else s
 
 -- ---- one log behind the other
 
+-- whether the poll of a log ended since its question was lost
+abbrev pub is_lost : Ending → Bool
+is_lost (Poll CaughtUp) = false
+is_lost (Poll SaysMore) = false
+is_lost (Poll ShowsNone) = false
+is_lost (Poll Contradicts) = false
+is_lost (Poll (Fault walk.Lost)) = true
+is_lost (Poll (Fault (walk.Refused refusal))) = false
+is_lost (Poll (Fault walk.BadReply)) = false
+is_lost Epochs = false
+is_lost NotAsked = false
+
+-- Behind a log that is lost its device is doubted, and behind the next one that is lost, too, it is silent.
+abbrev pub lost_one : Presence → Presence
+lost_one Present = Doubted
+lost_one Doubted = Silent
+lost_one Silent = Silent
+
+-- the poll of a log of it has ended so
+abbrev pub seat_ended : Ending → Seat → Seat
+seat_ended why s = record s { presence = if is_lost why then lost_one s.presence else s.presence }
+
+-- what the poll of its next log is at: its question is to be sent, and of a silent device it isn't asked
+abbrev pub doing_begun : Presence → Doing
+doing_begun Present = doing.Asks
+doing_begun Doubted = doing.Asks
+doing_begun Silent = doing.Ended NotAsked
+
 -- the same device, as another of its logs is polled
-abbrev pub begun : LogTask → LogPoller → LogPoller
-begun task p = record p { poll = task.poll; place = task.place; name = task.name; doing = doing.Asks }
+abbrev pub begun : Doing → LogTask → LogPoller → LogPoller
+begun what task p = record p { poll = task.poll; place = task.place; name = task.name; doing = what }
 
 -- a seat as its next log begins, and as it was before
 abbrev pub IsNext : Seat → Seat → Type 0
 IsNext s t =
     (task : LogTask) × (s.logs.items ≡ task ∷ t.logs.items)
-    × (t ≡ record s { poller = begun task s.poller; logs = t.logs })
+    × (t ≡ record s { poller = begun (doing_begun s.presence) task s.poller; logs = t.logs; kept = no_counts })

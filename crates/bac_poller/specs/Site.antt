@@ -1,12 +1,14 @@
 -- The polls of many devices over one port, as a machine. Read `GivesSite`, `site_heard` and `site_read`.
 use Rattle.std.specs.Prelude.{◌≡◌, ◌⊎◌, ℕ, ◌+◌, ◌-◌, ◌<◌, ◌≤◌, min, max, Bool, true, false}
-use Rattle.std.specs.Prelude.{List, [], ◌∷◌, ◌++◌, All, length, map, remove, slice_get, count_by, Option, None, Some, Ok, Err}
+use Rattle.std.specs.Prelude.{List, [], ◌∷◌, ◌++◌, All, length, map, remove, slice_get, count_by, Option, None, Some}
+use Rattle.std.specs.Prelude.{Ok, Err}
 use Rattle.bac_ports.specs.Port.{Receiving}
 use Rattle.bac_drive.specs.declared.machine.Next.{Next}
 use Rattle.bac_drive.specs.declared.machine.Next.TheVariants as next
 use Rattle.bac_poller.specs.Poller.{GivesBy}
-use Rattle.bac_poller.specs.Ending.{ended_line}
-use Rattle.bac_poller.specs.Seat.{IsNext, is_at, is_first, is_waiting, seat_heard, seat_read}
+use Rattle.bac_poller.specs.Counts.{counts_with}
+use Rattle.bac_poller.specs.Ending.{ended_line, is_caught_up}
+use Rattle.bac_poller.specs.Seat.{IsNext, is_at, is_first, is_waiting, seat_ended, seat_heard, seat_read}
 use Rattle.bac_poller.specs.declared.limits.Limits.{Limits}
 use Rattle.bac_poller.specs.declared.log_poller.Doing.{Doing}
 use Rattle.bac_poller.specs.declared.log_poller.Doing.TheVariants as doing
@@ -90,7 +92,8 @@ put s seat = put_by seat.poller.doing s seat
 -- its poll says what is wanted, and it goes where it belongs
 abbrev pub GivesFrom : SiteState → Seat → Next → SiteState → Type 0
 GivesFrom old s wanted new =
-    (p : LogPoller) × GivesBy s.poller.doing s.poller wanted p × (new ≡ put old (record s { poller = p }))
+    (p : LogPoller) × GivesBy s.poller.doing s.poller wanted p
+    × (new ≡ put old (record s { poller = p; kept = counts_with wanted s.kept }))
 
 -- the next log of its device waits for its turn; or there is none, and all of it is told
 abbrev pub GoesOn : SiteState → Seat → SiteState → Type 0
@@ -98,10 +101,17 @@ GoesOn old s new =
     ((t : Seat) × IsNext s t × (new ≡ put old t))
     ⊎ ((s.logs.items ≡ []) × (new ≡ record old { ended = old.ended ++ s ∷ [] }))
 
--- the poll of its log has ended so: its line is printed, and its device goes on
+-- a line is told: of a log that is caught up it is printed, of any other it goes to the errors
+abbrev pub IsToldBy : Bool → List ℕ → Next → Type 0
+IsToldBy true text (next.Print line) = line.items ≡ text
+IsToldBy false text (next.Warn line) = line.items ≡ text
+IsToldBy caught_up text other = ⊥
+
+-- the poll of its log has ended so: its line is told, and its device goes on
 abbrev pub Tells : Ending → SiteState → Seat → Next → SiteState → Type 0
-Tells why old s (next.Print line) new = (line.items ≡ ended_line s.poller.name.items why) × GoesOn old s new
-Tells why old s other new = ⊥
+Tells why old s wanted new =
+    IsToldBy (is_caught_up why) (ended_line s.poller.name.items s.kept why s.poller.poll.next) wanted
+    × GoesOn old (seat_ended why s) new
 
 -- by what it is at
 abbrev pub Acts : Doing → SiteState → Seat → Next → SiteState → Type 0

@@ -1,12 +1,13 @@
 -- What a site makes of what comes and of time, whoever answers.
-use Rattle.std.specs.Prelude.{true, false, ◌≡◌, ◌⊎◌, ◌≤◌, ◌&&◌, ◌==◌, nat_lt, is_some, ℕ, Bool, List, remove, [], ◌∷◌, ◌++◌, map, count_by, Option, None, Some}
+use Rattle.std.specs.Prelude.{true, false, ◌≡◌, ◌⊎◌, ◌≤◌, ◌&&◌, ◌==◌, nat_lt, is_some, if◌then◌else◌, ℕ, ◌+◌, Bool}
+use Rattle.std.specs.Prelude.{List, remove, [], ◌∷◌, ◌++◌, map, count_by, sum_by, Option, None, Some}
 use Rattle.std.specs.List.{All, Contains}
 use Rattle.std.specs.Str.{bytes_eq}
 use Rattle.bac_archive3.specs.declared.row.Put.{Put}
 use Rattle.sqlite_trees.specs.Tree.{Trees}
 use Rattle.bac_wire.specs.Primitive.{Id}
 use Rattle.bac_desks.specs.Chain.{Chain}
-use Rattle.bac_drive.specs.Event.{Event, Kept, Sent}
+use Rattle.bac_drive.specs.Event.{Event, Kept, Printed, Read, Sent, Waited, Warned}
 use Rattle.bac_drive.specs.Happens.{Acts, Happens, Runs, Scene, acting}
 use Rattle.bac_drive.specs.declared.machine.Next.{Next}
 use Rattle.bac_link.specs.Datagrams.{answers_to}
@@ -18,12 +19,15 @@ use Rattle.bac_poll.specs.State.{PollState}
 use Rattle.bac_ports.specs.Port.{Receiving, Sending}
 use Rattle.bac_poller.specs.Laws.{Came}
 use Rattle.bac_poller.specs.Poller.{GivesBy, Keeps, is_answer}
-use Rattle.bac_poller.specs.Seat.{begun, heard_by, is_at, seat_heard, without_answer}
-use Rattle.bac_poller.specs.Site.{GivesSite, IsNextAsked, IsWithin, SiteState, fresh_site, site_heard, site_read}
+use Rattle.bac_poller.specs.Seat.{begun, doing_begun, heard_by, is_at, is_lost, lost_one, missed, seat_heard}
+use Rattle.bac_poller.specs.Site.{GivesSite, IsNextAsked, IsWithin, SiteState, Tells, fresh_site, site_heard, site_read}
 use Rattle.bac_poller.specs.declared.limits.Limits.{Limits}
 use Rattle.bac_poller.specs.declared.log_poller.Doing.TheVariants as doing
+use Rattle.bac_poller.specs.declared.log_poller.Ending.{Ending}
 use Rattle.bac_poller.specs.declared.log_poller.LogPoller.{LogPoller}
 use Rattle.bac_poller.specs.declared.seat.LogTask.{LogTask}
+use Rattle.bac_poller.specs.declared.seat.Presence.{Presence}
+use Rattle.bac_poller.specs.declared.seat.Presence.TheVariants.{Doubted, Present, Silent}
 use Rattle.bac_poller.specs.declared.seat.Seat.{Seat}
 
 -- what a site says and makes of what it is told, over such a port and clock
@@ -163,7 +167,7 @@ abbrev pub SiteSendsAsk : {P C : Type 0} → Acts SiteState P C → Type 0
 SiteSendsAsk {P = P} {C = C} acts =
     (old new : Scene SiteState P C) (front behind : List Event) (octets to : List ℕ) (answer : Sending) →
     IsUnasked old.machine → Chain (Happens acts) old (front ++ Sent octets to answer ∷ behind) new →
-    (then : LogPoller) × IsOf old.machine.waiting then × (to ≡ then.peer) × (octets ≡ question_of then)
+    (one : LogPoller) × IsOf old.machine.waiting one × (to ≡ one.peer) × (octets ≡ question_of one)
 
 -- Each open request that was sent again is marked so, and no other: it has given up its place among those that were sent
 -- once.
@@ -199,28 +203,80 @@ abbrev pub AllAreTold : {P C : Type 0} → Acts SiteState P C → Type 0
 AllAreTold {P = P} {C = C} acts =
     (old new : Scene SiteState P C) → IsUnasked old.machine → Runs acts old new → AreTold old.machine new.machine
 
+-- ---- silence
+
+-- whether an event is a datagram that is sent to an address
+abbrev pub is_sent_to : List ℕ → Event → Bool
+is_sent_to peer (Sent octets to answer) = bytes_eq to peer
+is_sent_to peer (Waited within heard) = false
+is_sent_to peer (Read ms) = false
+is_sent_to peer (Kept puts) = false
+is_sent_to peer (Printed text) = false
+is_sent_to peer (Warned text) = false
+
+-- what one device at an address is sent in vain: a question, its repeats, and one question more
+abbrev pub sends_in_vain : List ℕ → Seat → ℕ
+sends_in_vain peer s = if is_of peer s then s.poller.transactions.retries + 2 else 0
+
+-- A device that is silent, or falls silent at any moment of a run, is waited for once, however many logs it has: while
+-- nothing comes from an address, each device there is sent a question and its repeats, and one of the next log, and then
+-- no more.
+abbrev pub WaitsOnce : {P C : Type 0} → Acts SiteState P C → Type 0
+WaitsOnce {P = P} {C = C} acts =
+    (old new : Scene SiteState P C) (es : List Event) (peer : List ℕ) → Chain (Happens acts) old es new →
+    ((datagram : List ℕ) → Came es peer datagram → ⊥) →
+    count_by (is_sent_to peer) es ≤ sum_by (sends_in_vain peer) (seats_of old.machine)
+
+-- A log that is lost stops no other: behind it, as behind any that ended, the next log of a device waits for its turn,
+-- unless the log before it was lost, too, with no answer since.
+abbrev pub LostStopsNone : Type 0
+LostStopsNone =
+    (why : Ending) (old new : SiteState) (s : Seat) (wanted : Next) (task : LogTask) (behind : List LogTask) →
+    s.presence ≡ Present → s.logs.items ≡ task ∷ behind → Tells why old s wanted new →
+    (t : Seat) × (new.waiting ≡ old.waiting ++ t ∷ []) × (t.poller.peer ≡ s.poller.peer)
+    × (t.poller.poll ≡ task.poll) × (t.poller.doing ≡ doing.Asks) × (t.logs.items ≡ behind)
+
 -- ---- each for itself
 
--- what happens to a poll: it says what it wants, an answer comes from its device, none came in time, or another log of
--- its device is polled
+-- a device: the poll of one of its logs, whether it answers, and the logs behind
+pub record Device : Type 0 where
+  pub poller : LogPoller
+  pub presence : Presence
+  pub logs : List LogTask
+
+abbrev pub device_of : Seat → Device
+device_of s = record { poller = s.poller; presence = s.presence; logs = s.logs.items }
+
+-- what happens to a device: its poll says what it wants, an answer comes from it, none came in time, the poll of a log
+-- has ended and is told, or its next log is polled
 pub data Own : Type 0 where
   Wanted : Next → Own
   Answered : List ℕ → List ℕ → Own
   Missed : Own
+  Told : Ending → Own
   Began : LogTask → Own
 
--- what that makes of it: nothing but the poll itself is looked at
-abbrev pub OwnStep : LogPoller → Own → LogPoller → Type 0
-OwnStep p (Wanted wanted) q = GivesBy p.doing p wanted q
-OwnStep p (Answered from datagram) q = (is_answer p from datagram ≡ true) × (q ≡ heard_by from datagram p)
-OwnStep p Missed q = q ≡ without_answer p p.transactions.pending
-OwnStep p (Began task) q = q ≡ begun task p
+-- what that makes of it: nothing but the device itself is looked at
+abbrev pub OwnStep : Device → Own → Device → Type 0
+OwnStep d (Wanted wanted) e =
+    GivesBy d.poller.doing d.poller wanted e.poller × (e ≡ record d { poller = e.poller })
+OwnStep d (Answered from datagram) e =
+    (is_answer d.poller from datagram ≡ true)
+    × (e ≡ record d { poller = heard_by from datagram d.poller; presence = Present })
+OwnStep d Missed e = e ≡ record d { poller = missed d.presence d.poller }
+OwnStep d (Told why) e =
+    (d.poller.doing ≡ doing.Ended why)
+    × (e ≡ record d { presence = if is_lost why then lost_one d.presence else d.presence })
+OwnStep d (Began task) e =
+    (d.logs ≡ task ∷ e.logs)
+    × (e ≡ record d { poller = begun (doing_begun d.presence) task d.poller; logs = e.logs })
 
--- the poll of a device is what such steps made of the poll of one of these
+-- a device is what such steps made of one of these
 abbrev pub IsGoneOn : List Seat → Seat → Type 0
-IsGoneOn seats s = (h : Seat) × Contains seats h × (own : List Own) × Chain OwnStep h.poller own s.poller
+IsGoneOn seats s =
+    (h : Seat) × Contains seats h × (own : List Own) × Chain OwnStep (device_of h) own (device_of s)
 
--- Each poll is what its own steps made of it, whatever other devices answer or don't.
+-- Each device is what its own steps made of it, whatever other devices answer or don't.
 abbrev pub GoAlone : {P C : Type 0} → Acts SiteState P C → Type 0
 GoAlone {P = P} {C = C} acts =
     (old new : Scene SiteState P C) (es : List Event) → Chain (Happens acts) old es new →

@@ -1,10 +1,13 @@
 //! The lines of a log: what is told while it is polled, and how that ended.
 
 ghost use Rattle.std.specs.Prelude.{◌≡◌, ◌++◌, IfOk, OnOk};
-ghost use Rattle.bac_poller.specs.Ending.{doubt_line, earlier_text, ended_line, ending_text, gone_text};
-ghost use Rattle.bac_poller.specs.Ending.{hour_text, later_text, line_text, on_text, told_line};
+ghost use Rattle.bac_poller.specs.Ending.{counted_text, doubt_line, earlier_text, ended_line};
+ghost use Rattle.bac_poller.specs.Ending.{ending_text, gone_text, hour_text, is_caught_up};
+ghost use Rattle.bac_poller.specs.Ending.{later_text};
+ghost use Rattle.bac_poller.specs.Ending.{line_text, on_text, summary_text, told_line};
 ghost use Rattle.bac_poll.specs.Turns.{number_before};
 
+use crate::counts::Counts;
 use crate::log_poller::Ending;
 use bac_poll::{Line, PollEnd};
 use bac_print::push_number;
@@ -118,6 +121,7 @@ fn push_ending(text: &mut Vec<u8>, why: Ending) -> Result<(), AllocError>
         Ending::Poll(PollEnd::Fault(WalkFault::Refused(refusal))) => push_refusal(text, refusal),
         Ending::Poll(PollEnd::Fault(WalkFault::BadReply)) => text.extend_from_slice(b"bad reply"),
         Ending::Epochs => text.extend_from_slice(b"began anew once too often"),
+        Ending::NotAsked => text.extend_from_slice(b"not asked"),
     }
 }
 
@@ -133,14 +137,55 @@ pub fn told_line(alloc: Global, name: &[u8], line: Line) -> Result<Vec<u8>, Allo
     Ok(text)
 }
 
-/// The same when its poll has ended.
-pub fn ended_line(alloc: Global, name: &[u8], why: Ending) -> Result<Vec<u8>, AllocError>
-    ensures { IfOk result (λ line. line.items ≡ ended_line name.now why) }
+/// Appends a number and what is counted.
+fn push_count(text: &mut Vec<u8>, count: u64, one: &[u8], many: &[u8]) -> Result<(), AllocError>
+    ensures { OnOk result (text.new.items ≡ text.old.items ++ counted_text count one.now many.now) }
+{
+    push_number(text, count)?;
+    text.extend_from_slice(if count == 1 { one } else { many })
+}
+
+/// Appends how much was kept of a log, how its poll ended, and the number that comes next.
+fn push_summary(text: &mut Vec<u8>, kept: Counts, why: Ending, next: u32) -> Result<(), AllocError>
+    ensures { OnOk result (text.new.items ≡ text.old.items ++ summary_text kept why next) }
+{
+    push_count(text, kept.records, b" record ", b" records ")?;
+    push_count(text, kept.gaps, b" gap ", b" gaps ")?;
+    push_ending(text, why)?;
+    text.extend_from_slice(b", next ")?;
+    push_number(text, u64::from(next))
+}
+
+/// The line of a log whose poll has ended.
+pub fn ended_line(
+    alloc: Global,
+    name: &[u8],
+    kept: Counts,
+    why: Ending,
+    next: u32,
+) -> Result<Vec<u8>, AllocError>
+    ensures { IfOk result (λ line. line.items ≡ ended_line name.now kept why next) }
 {
     let mut line = Vec::new(alloc);
     line.extend_from_slice(name)?;
-    line.extend_from_slice(b": ")?;
-    push_ending(&mut line, why)?;
+    line.extend_from_slice(b" ")?;
+    push_summary(&mut line, kept, why, next)?;
     line.extend_from_slice(b"\n")?;
     Ok(line)
+}
+
+/// Whether a log is caught up.
+pub fn is_caught_up(why: Ending) -> bool
+    ensures { result ≡ is_caught_up why }
+{
+    match why {
+        Ending::Poll(PollEnd::CaughtUp) => true,
+        Ending::Poll(PollEnd::SaysMore) => false,
+        Ending::Poll(PollEnd::ShowsNone) => false,
+        Ending::Poll(PollEnd::NoneByNumber) => false,
+        Ending::Poll(PollEnd::Contradicts) => false,
+        Ending::Poll(PollEnd::Fault(_)) => false,
+        Ending::Epochs => false,
+        Ending::NotAsked => false,
+    }
 }

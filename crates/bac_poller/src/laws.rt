@@ -7,7 +7,7 @@ ghost use Rattle.bac_poller.specs.Poller.{GivesBy, Hears};
 ghost use Rattle.bac_poller.specs.SiteLaws.{AllAreTold, AskInTurn, BeginsUnasked, GoAlone};
 ghost use Rattle.bac_poller.specs.SiteLaws.{OpenWithin, OthersNotHeeded, RepeatsAreMarked};
 ghost use Rattle.bac_poller.specs.SiteLaws.{SiteRowsCame, SiteSendsAsk, StaysWithin, WantsWithin};
-ghost use Rattle.bac_poller.specs.SiteLaws.{WithinLimits, site_acts};
+ghost use Rattle.bac_poller.specs.SiteLaws.{LostStopsNone, WaitsOnce, WithinLimits, site_acts};
 
 use bac_desks::Clock;
 use bac_ports::Port;
@@ -78,6 +78,17 @@ pub fn all_are_told<P: Port, C: Clock>()
 /// Each poll of a site is what its own steps made of it, whatever other devices answer or don't.
 pub fn go_alone<P: Port, C: Clock>()
     ensures { GoAlone (site_acts P.sends P.receives_within C.reads) }
+{}
+
+/// A device that is silent, or falls silent, is waited for once, however many logs it has: while
+/// nothing comes from it, it is sent one question and its repeats, and one of the next log.
+pub fn waits_once<P: Port, C: Clock>()
+    ensures { WaitsOnce (site_acts P.sends P.receives_within C.reads) }
+{}
+
+/// A log that is lost stops no other of its device, if that answered since the one before.
+pub fn lost_stops_none()
+    ensures { LostStopsNone }
 {}
 
 /// Those that wait for their turn keep their order, and the first of them that has room is asked.

@@ -2,6 +2,7 @@
 //! and which rows are kept.
 #![tactic(auto)]
 
+mod counts;
 mod datum;
 mod ending;
 mod laws;
@@ -13,13 +14,14 @@ mod seat;
 mod site;
 mod word;
 
+pub use counts::Counts;
 pub use laws::{
-    all_are_told, ask_in_turn, begins_unasked, go_alone, open_within, others_not_heeded,
-    repeats_are_marked, rows_came, sends_ask, site_rows_came, site_sends_ask, stays_within,
-    wants_within, within_limits,
+    all_are_told, ask_in_turn, begins_unasked, go_alone, lost_stops_none, open_within,
+    others_not_heeded, repeats_are_marked, rows_came, sends_ask, site_rows_came, site_sends_ask,
+    stays_within, waits_once, wants_within, within_limits,
 };
 pub use limits::Limits;
 pub use log_poller::{Doing, Ending, LogPoller, Wanted};
 pub use polling::poll_site;
-pub use seat::{LogTask, Seat};
+pub use seat::{LogTask, Presence, Seat};
 pub use site::SitePoll;

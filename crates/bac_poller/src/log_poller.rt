@@ -8,7 +8,8 @@ ghost use Rattle.bac_poll.specs.Poll.{asked_by_poll};
 ghost use Rattle.bac_poll.specs.State.{PollState};
 ghost use Rattle.bac_poll.specs.Turns.{turned};
 ghost use Rattle.bac_poller.specs.Poller.{Answers, AsksNext, GivesBy, Hears, IsCount, IsHeard, IsPlaced};
-ghost use Rattle.bac_poller.specs.Poller.{IsTimedOut, Passes, doing_behind, doing_told, wanted_at};
+ghost use Rattle.bac_poller.specs.Poller.{IsTimedOut, Passes, doing_behind, doing_told, is_answer};
+ghost use Rattle.bac_poller.specs.Poller.{wanted_at};
 ghost use Rattle.bac_poller.specs.Seat.{heard_by};
 
 use crate::ending::told_line;
@@ -34,6 +35,8 @@ pub enum Ending {
     Poll(PollEnd),
     /// It began anew, or its numbers came round, once more than a log can have epochs.
     Epochs,
+    /// Its device is silent.
+    NotAsked,
 }
 
 /// What an answer is read as.
@@ -243,16 +246,19 @@ impl LogPoller {
     }
 
     /// A datagram came from an address. It is taken if it answers the question that is open, and
-    /// else isn't heeded.
-    pub(crate) fn hear_answer(&mut self, from: [u8; 6], datagram: &Datagram)
-        ensures { self.new ≡ heard_by from datagram.now self.old }
+    /// else isn't heeded: whether it is.
+    pub(crate) fn hear_answer(&mut self, from: [u8; 6], datagram: &Datagram) -> bool
+        ensures is { result ≡ is_answer self.old from datagram.now }
+        ensures heard { self.new ≡ heard_by from datagram.now self.old }
     {
         if from != self.peer {
-            return;
+            return false;
         }
-        if self.receives(datagram.octets()) {
+        let is_taken = self.receives(datagram.octets());
+        if is_taken {
             self.doing = Doing::Hears(datagram.copy());
         }
+        is_taken
     }
 
     /// No answer came in time.

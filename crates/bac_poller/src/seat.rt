@@ -1,14 +1,24 @@
 //! One device of a site, with the poll of one of its logs, and what waits behind it.
 
-ghost use Rattle.std.specs.Prelude.{◌≡◌, ◌<◌, [], IfNone, IfSome, count_by, length, map};
-ghost use Rattle.bac_poller.specs.Seat.{IsNext, begun, is_at, is_first, is_waiting};
-ghost use Rattle.bac_poller.specs.Seat.{seat_heard, seat_read};
+ghost use Rattle.std.specs.Prelude.{◌≡◌, ◌<◌, [], IfNone, IfOk, IfSome, count_by, length, map};
+ghost use Rattle.bac_link.specs.Transactions.{closed};
+ghost use Rattle.bac_poller.specs.Counts.{no_counts};
+ghost use Rattle.bac_poller.specs.Ending.{ended_line};
+ghost use Rattle.bac_poller.specs.Seat.{IsNext, begun, doing_begun, given_up, is_at, is_first};
+ghost use Rattle.bac_poller.specs.Seat.{is_lost};
+ghost use Rattle.bac_poller.specs.Seat.{is_waiting, lost_one, missed, seat_ended, seat_heard};
+ghost use Rattle.bac_poller.specs.Seat.{seat_read};
 ghost use Rattle.bac_poller.specs.Site.{IsNearest, MayAct, NoneActs};
 
-use crate::log_poller::{Doing, LogPoller};
+use crate::counts::Counts;
+use crate::ending::ended_line;
+use crate::log_poller::{Doing, Ending, LogPoller};
 use bac_keep::Place;
-use bac_poll::LogPoll;
+use bac_link::{Timeout, Transactions};
+use bac_poll::{LogPoll, PollEnd};
+use bac_walk::WalkFault;
 use bac_wire::Datagram;
+use std::alloc::{AllocError, Global};
 use std::collections::VecDeque;
 
 /// A log that is polled behind another of its device: its poll, where its rows stand, and how its
@@ -20,6 +30,65 @@ pub struct LogTask {
     pub name: Vec<u8>,
 }
 
+/// Whether a device answers.
+#[derive(Clone, Copy, Debug, PartialEq, Eq)]
+pub enum Presence {
+    /// Nothing says that it doesn't.
+    Present,
+    /// A log of it was lost. The first request of the next one is sent once.
+    Doubted,
+    /// That was lost, too: it isn't asked any more.
+    Silent,
+}
+
+impl Presence {
+    /// The same behind a log that was lost.
+    fn behind_lost(self) -> Presence
+        ensures { result ≡ lost_one self }
+    {
+        match self {
+            Presence::Present => Presence::Doubted,
+            Presence::Doubted => Presence::Silent,
+            Presence::Silent => Presence::Silent,
+        }
+    }
+
+    /// What the poll of a log is at as it begins.
+    fn doing_begun(self) -> Doing
+        ensures { result ≡ doing_begun self }
+    {
+        match self {
+            Presence::Present => Doing::Asks,
+            Presence::Doubted => Doing::Asks,
+            Presence::Silent => Doing::Ended(Ending::NotAsked),
+        }
+    }
+}
+
+/// Whether the poll of a log ended since its question was lost.
+fn is_lost(why: Ending) -> bool
+    ensures { result ≡ is_lost why }
+{
+    match why {
+        Ending::Poll(PollEnd::CaughtUp) => false,
+        Ending::Poll(PollEnd::SaysMore) => false,
+        Ending::Poll(PollEnd::ShowsNone) => false,
+        Ending::Poll(PollEnd::Contradicts) => false,
+        Ending::Poll(PollEnd::Fault(WalkFault::Lost)) => true,
+        Ending::Poll(PollEnd::Fault(WalkFault::Refused(_))) => false,
+        Ending::Poll(PollEnd::Fault(WalkFault::BadReply)) => false,
+        Ending::Epochs => false,
+        Ending::NotAsked => false,
+    }
+}
+
+/// Closes what is open, whatever repeats are left: none of them is sent.
+fn close(transactions: &mut Transactions)
+    ensures { transactions.new ≡ closed transactions.old }
+{
+    while let Timeout::Resend(_) = transactions.timeout() {}
+}
+
 /// A device, and the poll of one of its logs.
 #[derive(Drop)]
 pub struct Seat {
@@ -28,6 +97,9 @@ pub struct Seat {
     pub due: u64,
     /// Whether its question was sent more than once.
     pub is_repeated: bool,
+    pub presence: Presence,
+    /// What was kept of the log that is polled.
+    pub kept: Counts,
     /// The logs behind this one, the next one first.
     pub logs: VecDeque<LogTask>,
 }
@@ -51,7 +123,29 @@ impl Seat {
     pub fn hear(&mut self, from: [u8; 6], datagram: &Datagram)
         ensures { self.new ≡ seat_heard from datagram.now self.old }
     {
-        self.poller.hear_answer(from, datagram);
+        if self.poller.hear_answer(from, datagram) {
+            self.presence = Presence::Present;
+        }
+    }
+
+    /// Its question is lost.
+    fn give_up(&mut self)
+        ensures { self.new ≡ record self.old { poller = given_up self.old.poller } }
+    {
+        close(&mut self.poller.transactions);
+        self.poller.doing = Doing::Ended(Ending::Poll(PollEnd::Fault(WalkFault::Lost)));
+    }
+
+    /// No answer came in time: its question is sent again, if its device isn't doubted, or is lost.
+    fn miss(&mut self)
+        ensures { self.new
+            ≡ record self.old { poller = missed self.old.presence self.old.poller } }
+    {
+        match self.presence {
+            Presence::Present => self.poller.time_out(),
+            Presence::Doubted => self.give_up(),
+            Presence::Silent => self.give_up(),
+        }
     }
 
     /// The clock tells so many milliseconds.
@@ -59,20 +153,42 @@ impl Seat {
         ensures { self.new ≡ seat_read now self.old }
     {
         if self.is_waiting() && self.due <= now {
-            self.poller.time_out();
+            self.miss();
             self.is_repeated = true;
         }
     }
 
-    /// Another of its logs is polled.
+    /// The line of its log, whose poll has ended so.
+    pub fn line(&self, alloc: Global, why: Ending) -> Result<Vec<u8>, AllocError>
+        ensures { IfOk result (λ line. line.items
+            ≡ ended_line self.now.poller.name.items self.now.kept why self.now.poller.poll.next) }
+    {
+        let next = self.poller.poll.next();
+        ended_line(alloc, self.poller.name.as_slice(), self.kept, why, next)
+    }
+
+    /// The poll of its log has ended so.
+    pub fn end(&mut self, why: Ending)
+        ensures { self.new ≡ seat_ended why self.old }
+    {
+        if is_lost(why) {
+            self.presence = self.presence.behind_lost();
+        }
+    }
+
+    /// Another of its logs is polled, or isn't asked.
     pub fn begin(&mut self, task: LogTask)
-        ensures { self.new ≡ record self.old { poller = begun task self.old.poller } }
+        ensures { self.new ≡ record self.old {
+          poller = begun (doing_begun self.old.presence) task self.old.poller;
+          kept = no_counts;
+        } }
     {
         let LogTask { poll, place, name } = task;
         self.poller.poll = poll;
         self.poller.place = place;
         self.poller.name = name;
-        self.poller.doing = Doing::Asks;
+        self.poller.doing = self.presence.doing_begun();
+        self.kept = Counts::none();
     }
 
     /// Its next log is polled.

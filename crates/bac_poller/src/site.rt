@@ -2,11 +2,13 @@
 
 ghost use Rattle.std.specs.Prelude.{◌≡◌, ◌↔◌, ◌++◌, ◌∷◌, [], IfNone, IfOk, IfSome, IsTrue, OnOk};
 ghost use Rattle.std.specs.Bool.{OnFalse, OnTrue};
-ghost use Rattle.bac_poller.specs.Site.{Acts, GivesFrom, GivesSite, GivesWaiting, GoesOn, HasPlace, HasPlaceAt};
-ghost use Rattle.bac_poller.specs.Site.{IsActed, IsAsked, IsNextAsked, MayAct, MayAsk, NoneAsked};
+ghost use Rattle.bac_poller.specs.Site.{Acts, GivesFrom, GivesSite, GivesWaiting, GoesOn, HasPlace};
+ghost use Rattle.bac_poller.specs.Site.{HasPlaceAt};
+ghost use Rattle.bac_poller.specs.Site.{IsActed, IsAsked, IsNextAsked, IsToldBy, MayAct, MayAsk};
+ghost use Rattle.bac_poller.specs.Site.{NoneAsked};
 ghost use Rattle.bac_poller.specs.Site.{Rests, Tells, fresh_site, put, site_heard, site_read};
 
-use crate::ending::ended_line;
+use crate::ending::is_caught_up;
 use crate::limits::Limits;
 use crate::log_poller::{Doing, Ending};
 use crate::seat::{Seat, acting, count_at, count_first, hear_all, nearest, read_all};
@@ -41,6 +43,17 @@ impl Model for SitePoll {
       waiting = site.waiting.items;
       ended = site.ended.items;
     } };
+}
+
+/// A line is told: of a log that is caught up it is printed, of any other it goes to the errors.
+fn told_by(is_caught_up: bool, line: Vec<u8>) -> Next
+    ensures { IsToldBy is_caught_up line.items result }
+{
+    if is_caught_up {
+        Next::Print(line)
+    } else {
+        Next::Warn(line)
+    }
 }
 
 impl SitePoll {
@@ -161,6 +174,7 @@ impl SitePoll {
     {
         let mut seat = seat;
         let next = seat.poller.next(alloc)?;
+        seat.kept = seat.kept.with(&next);
         self.put(seat)?;
         Ok(next)
     }
@@ -179,13 +193,15 @@ impl SitePoll {
         Ok(())
     }
 
-    /// The poll of a log has ended, and its line is printed.
+    /// The poll of a log has ended, and its line is told.
     fn tell(&mut self, alloc: Global, seat: Seat, why: Ending) -> Result<Next, AllocError>
         ensures { IfOk result (λ next. Tells why self.old seat next self.new) }
     {
-        let line = ended_line(alloc, seat.poller.name.as_slice(), why)?;
+        let line = seat.line(alloc, why)?;
+        let mut seat = seat;
+        seat.end(why);
         self.go_on(seat)?;
-        Ok(Next::Print(line))
+        Ok(told_by(is_caught_up(why), line))
     }
 
     /// One that isn't waiting any more does what it is at.

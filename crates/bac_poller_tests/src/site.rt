@@ -1,10 +1,10 @@
-//! A site of three devices, one of them silent.
+//! Sites whose devices answer, don't, or don't answer for one of their logs.
 
 use bac_drive::{Machine, Next};
 use bac_keep::Place;
 use bac_link::Transactions;
 use bac_poll::{LogPoll, Told};
-use bac_poller::{Doing, Limits, LogPoller, LogTask, Seat, SitePoll};
+use bac_poller::{Counts, Doing, Limits, LogPoller, LogTask, Presence, Seat, SitePoll};
 use bac_ports::{Heard, SocketFault};
 use bac_walk::Count;
 use bac_wire::{Datagram, ObjectId};
@@ -15,9 +15,23 @@ use std::test::Fail;
 /// Where the invoke ID stands in a request without a route.
 const INVOKE: usize = 8;
 
-/// The lines, in the order in which the logs end.
-const PRINTED: &[u8] = b"first: refused: abort 4\nthird: refused: abort 4\n\
-    first, 11: refused: abort 4\nsilent: lost\n";
+/// Where the last octet of the instance stands in one of a log.
+const INSTANCE: usize = 14;
+
+/// The lines of a site with a silent device, in the order in which the logs end.
+const SILENT: &[u8] = b"first 1 0 records 0 gaps refused: abort 4, next 1\n\
+    third 3 0 records 0 gaps refused: abort 4, next 1\n\
+    first 11 0 records 0 gaps refused: abort 4, next 1\n\
+    silent 2 0 records 0 gaps lost, next 1\n\
+    silent 12 0 records 0 gaps lost, next 1\n\
+    silent 22 0 records 0 gaps not asked, next 1\n";
+
+/// Those of a device that doesn't answer for some of its logs.
+const LOST: &[u8] = b"third 100 0 records 0 gaps lost, next 1\n\
+    third 3 0 records 0 gaps refused: abort 4, next 1\n\
+    third 101 0 records 0 gaps lost, next 1\n\
+    third 33 0 records 0 gaps refused: abort 4, next 1\n\
+    third 102 0 records 0 gaps lost, next 1\n";
 
 pub(crate) fn peer(number: u8) -> [u8; 6] {
     [10, 0, 0, number, 0xba, 0xc0]
@@ -27,6 +41,15 @@ pub(crate) fn peer(number: u8) -> [u8; 6] {
 pub(crate) fn invoke_in(octets: &[u8]) -> u8 {
     if octets.len() > INVOKE {
         octets[INVOKE]
+    } else {
+        0
+    }
+}
+
+/// The last octet of the instance of the log that a request is of.
+fn instance_in(octets: &[u8]) -> u8 {
+    if octets.len() > INSTANCE {
+        octets[INSTANCE]
     } else {
         0
     }
@@ -56,36 +79,59 @@ fn named(alloc: Global, name: &[u8]) -> Result<Vec<u8>, Fail> {
     Ok(text)
 }
 
+/// A log that is polled behind another.
+fn task(alloc: Global, instance: u16, name: &[u8]) -> Result<LogTask, Fail> {
+    Ok(LogTask {
+        poll: log(alloc, u32::from(instance))?,
+        place: Place::new(instance, 0).ok_or("no place")?,
+        name: named(alloc, name)?,
+    })
+}
+
 /// A device with one log.
-fn seat(alloc: Global, number: u8, name: &[u8]) -> Result<Seat, Fail> {
+fn seat(alloc: Global, number: u8, instance: u16, name: &[u8]) -> Result<Seat, Fail> {
     Ok(Seat {
         poller: LogPoller {
-            poll: log(alloc, u32::from(number))?,
+            poll: log(alloc, u32::from(instance))?,
             transactions: Transactions::new(1),
             peer: peer(number),
             wait_ms: 3000,
-            place: Place::new(u16::from(number), 0).ok_or("no place")?,
+            place: Place::new(instance, 0).ok_or("no place")?,
             name: named(alloc, name)?,
             doing: Doing::Asks,
         },
         due: 0,
         is_repeated: false,
+        presence: Presence::Present,
+        kept: Counts::none(),
         logs: VecDeque::new(alloc),
     })
 }
 
-/// Three devices, the first with two logs, of which one is asked at once.
+/// Three devices, the first with two logs and the second, which is silent, with three, of which one
+/// is asked at once.
 fn site(alloc: Global) -> Result<SitePoll, Fail> {
     let mut site = SitePoll::new(alloc, Limits::new(1, 1, 8, 3000));
-    let mut first = seat(alloc, 1, b"first")?;
-    first.logs.push_back(LogTask {
-        poll: log(alloc, 11)?,
-        place: Place::new(11, 0).ok_or("no place")?,
-        name: named(alloc, b"first, 11")?,
-    })?;
+    let mut first = seat(alloc, 1, 1, b"first 1")?;
+    first.logs.push_back(task(alloc, 11, b"first 11")?)?;
     site.add(first)?;
-    site.add(seat(alloc, 2, b"silent")?)?;
-    site.add(seat(alloc, 3, b"third")?)?;
+    let mut silent = seat(alloc, 2, 2, b"silent 2")?;
+    silent.logs.push_back(task(alloc, 12, b"silent 12")?)?;
+    silent.logs.push_back(task(alloc, 22, b"silent 22")?)?;
+    site.add(silent)?;
+    site.add(seat(alloc, 3, 3, b"third 3")?)?;
+    Ok(site)
+}
+
+/// A device that answers for its second and its fourth log alone.
+fn part(alloc: Global) -> Result<SitePoll, Fail> {
+    let mut site = SitePoll::new(alloc, Limits::new(1, 1, 8, 3000));
+    let mut third = seat(alloc, 3, 100, b"third 100")?;
+    third.logs.push_back(task(alloc, 3, b"third 3")?)?;
+    third.logs.push_back(task(alloc, 101, b"third 101")?)?;
+    third.logs.push_back(task(alloc, 33, b"third 33")?)?;
+    third.logs.push_back(task(alloc, 102, b"third 102")?)?;
+    site.add(third)?;
     Ok(site)
 }
 
@@ -118,10 +164,11 @@ impl Rig {
         }
     }
 
-    /// A datagram is sent. The second device is silent, each other one answers.
+    /// A datagram is sent. The second device is silent, each other one answers, but for a log from
+    /// 100 on.
     fn send(&mut self, octets: &[u8], to: [u8; 6]) -> Result<(), AllocError> {
         self.sends.push(to[3])?;
-        if to[3] != 2 {
+        if to[3] != 2 && instance_in(octets) < 100 {
             self.is_answered = true;
             self.from = to;
             self.invoke = invoke_in(octets);
@@ -181,13 +228,24 @@ impl Rig {
 }
 
 #[test]
-fn a_silent_device_holds_none_up(rt: HostRuntime) -> Result<(), Fail> {
+fn a_silent_device_is_waited_for_once(rt: HostRuntime) -> Result<(), Fail> {
     let mut rig = Rig::new(rt.alloc(), site(rt.alloc())?);
     let ended = rig.drive(rt.alloc())?;
     assert!(rt; ended);
-    assert!(rt; rig.sends.as_slice() == [1, 2, 2, 3, 1, 3, 1, 1].as_slice());
-    assert!(rt; rig.printed.as_slice() == PRINTED);
+    assert!(rt; rig.sends.as_slice() == [1, 2, 2, 3, 1, 3, 1, 1, 2].as_slice());
+    assert!(rt; rig.printed.as_slice() == SILENT);
     assert!(rt; rig.rows == 0);
-    assert!(rt; rig.ms == 6000);
+    assert!(rt; rig.ms == 9000);
+    Ok(())
+}
+
+#[test]
+fn a_log_that_is_lost_stops_no_other(rt: HostRuntime) -> Result<(), Fail> {
+    let mut rig = Rig::new(rt.alloc(), part(rt.alloc())?);
+    let ended = rig.drive(rt.alloc())?;
+    assert!(rt; ended);
+    assert!(rt; rig.sends.as_slice() == [3; 10].as_slice());
+    assert!(rt; rig.printed.as_slice() == LOST);
+    assert!(rt; rig.ms == 18000);
     Ok(())
 }
