@@ -142,6 +142,7 @@ def restored(judge, server):
         run(50)
         shutil.copyfile(file, f"{file}.backup")
         run(50)
+        shutil.copyfile(file, f"{file}.more")
         load(f"restored, {version}: before", 100)
         shutil.copyfile(f"{file}.backup", file)
         load(f"restored, {version}: as it was", 0)
@@ -152,6 +153,9 @@ def restored(judge, server):
         load(f"restored, {version}: a gap of what was loaded", 1)
         missing = f"SELECT first, last FROM bac.missing WHERE site = '{site}' ORDER BY 1"
         judge.same(f"restored, {version}: no number is without a record", server.rows(missing), [])
+        judge.same(f"restored, {version}: under a name of its own", server.load(f"copy {version}", file, ZONE), (0, "61 items\n", ""))
+        judge.same("a copy with records in that gap", server.load(f"copy {version}", f"{file}.more"), (0, "40 items\n", ""))
+        judge.same("which is none any more", server.rows(f"SELECT * FROM bac.missing WHERE site = 'copy {version}'"), [])
         run(100)
         load(f"restored, {version}: and it goes on", 61)
         judge.same(f"restored, {version}: what no record has", server.rows(missing), [("101", "140")])
