@@ -14,7 +14,7 @@ use Rattle.bac_poll.specs.declared.known.Means.TheVariants.{Shifted, Partly, Sam
 use Rattle.bac_poll.specs.declared.known.Shown.{Shown}
 use Rattle.bac_poll.specs.declared.known.Shown.TheVariants as shown
 use Rattle.bac_poll.specs.declared.stage.Aim.TheVariants.{Finds}
-use Rattle.bac_poll.specs.declared.stage.Stage.TheVariants.{Joins, Ahead, Again, Each}
+use Rattle.bac_poll.specs.declared.stage.Stage.TheVariants.{Ahead, Again, Each}
 use Rattle.bac_poll.specs.declared.turn.Line.{Line}
 use Rattle.bac_poll.specs.declared.turn.Line.TheVariants.{AtHour, AtHourOrBegan}
 use Rattle.bac_poll.specs.declared.turn.PollEnd.TheVariants.{CaughtUp}

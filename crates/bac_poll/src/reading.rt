@@ -1,6 +1,6 @@
 //! What is heard of a trend log, as a reply.
 
-ghost use Rattle.std.specs.Prelude.{◌≡◌, ◌≤◌, [], length};
+ghost use Rattle.std.specs.Prelude.{◌≡◌, ◌≤◌, []};
 ghost use Rattle.bac_link.specs.Heard.{heard_in};
 ghost use Rattle.bac_walk.specs.Place.{WalkPlace};
 ghost use Rattle.bac_walk.specs.Walks.{IsTakenFrom};
