@@ -1,0 +1,4 @@
+mod Fits
+mod Foreign
+mod Objects
+mod OnlyAsked
