@@ -27,7 +27,7 @@ mod who;
 mod word;
 
 pub use entry::{Entry, Naming, Offset, Others, Reference};
-pub use laws::{asks_readings, keeps_no_other};
+pub use laws::{asks_readings, keeps_no_other, none_left_out};
 pub use logs::Wanted;
 pub use poll::{DevicePoll, Known};
 pub use question::Question;
