@@ -19,6 +19,7 @@ log_reads p log.Prior = tt
 log_reads p log.Ahead = tt
 log_reads p log.Again = tt
 log_reads p log.Each = tt
+log_reads p log.ByNumber = tt
 log_reads p (log.Oldest aim) = tt
 log_reads p (log.Counts aim) = tt
 log_reads p (log.UpTo aim) = tt

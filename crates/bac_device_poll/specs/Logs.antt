@@ -73,6 +73,7 @@ wanted_at log.Prior = Records
 wanted_at log.Ahead = Records
 wanted_at log.Again = Records
 wanted_at log.Each = Records
+wanted_at log.ByNumber = Records
 wanted_at (log.Oldest aim) = Records
 wanted_at (log.Counts aim) = Count
 wanted_at (log.UpTo aim) = Records

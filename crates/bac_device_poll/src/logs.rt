@@ -80,6 +80,7 @@ fn wanted_at(stage: LogStage) -> Wanted
         LogStage::Ahead => Wanted::Records,
         LogStage::Again => Wanted::Records,
         LogStage::Each => Wanted::Records,
+        LogStage::ByNumber => Wanted::Records,
         LogStage::Oldest(_) => Wanted::Records,
         LogStage::Counts(_) => Wanted::Count,
         LogStage::UpTo(_) => Wanted::Records,
