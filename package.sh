@@ -29,9 +29,12 @@ tree() {
     install -D -m 644 docs/bac.1 "$at/share/man/man1/bac.1"
     install -D -m 644 examples/use/bac.bash "$at/share/bash-completion/completions/bac"
     mkdir -p "$units"
-    install -m 644 examples/use/systemd/* "$units"
-    install -D -m 644 -t "$doc" CHANGELOG.md LICENSE-MIT LICENSE-APACHE docs/TOOLS.md docs/ARCHIVE.md docs/SECURITY.md
-    install -D -m 644 -t "$doc/examples" examples/use/plant.conf examples/use/records.*
+    install -m 644 examples/use/systemd/*.service examples/use/systemd/*.timer "$units"
+    install -D -m 644 -t "$doc" CHANGELOG.md LICENSE-MIT LICENSE-APACHE docs/TOOLS.md docs/ARCHIVE.md docs/WAREHOUSE.md docs/SECURITY.md
+    install -D -m 644 -t "$doc/examples" examples/use/plant.conf examples/use/records.* examples/use/page.css \
+        examples/use/systemd/copy.conf
+    install -D -m 644 -t "$doc/examples/warehouse" examples/use/warehouse/*.sql examples/use/warehouse/*.py
+    install -m 755 examples/use/warehouse/load "$doc/examples/warehouse"
     for file in examples/use/*.sh examples/use/*.py examples/use/trace2script.awk; do install -m 755 "$file" "$doc/examples"; done
 }
 # One time for all, and no folder's own rights: what mktemp made is for its owner alone.
@@ -73,7 +76,7 @@ Section: net
 Priority: optional
 Installed-Size: $(find "$at/usr" -type f -printf '%s\n' | awk '{ kib += int(($1 + 1023) / 1024) } END { print kib }')
 Depends: libc6${libc:+ (>= ${libc#GLIBC_})}
-Suggests: bash-completion, man-db, sqlite3
+Suggests: bash-completion, man-db, python3, sqlite3, postgresql-client
 Description: keeps trend logs of BACnet/IP devices, and reads and writes them
  The program bac keeps the records of trend logs in a database of SQLite, each
  once, with each gap by its numbers. It also prints them, finds devices, reads

@@ -320,7 +320,12 @@ counted ./router.sh
 counted ./edges.sh
 # Logs kept in a file, and runs that are killed.
 counted ./kept.sh
+# An archive of format 2 becomes one of format 3.
+counted ./convert.py
+counted ./warehouse.py
 counted ./helpers.sh
+# A site on a page, in a browser.
+counted ./page.py
 # A device among strangers.
 counted ./hostile.sh
 # Memory, streams and sockets that are refused.
@@ -333,6 +338,8 @@ counted ./replay.sh
 
 # The rows of ../vectors, by a program of their own.
 counted ./vectors.sh ../../crates/bac_vectors/out/bac_vectors
+# How a log is polled, by a second program of the rule.
+counted ./polls.py ../../crates/bac_poll_rows/out/bac_poll_rows
 
 echo "$passed passed, $failed failed"
 [ "$failed" -eq 0 ]

@@ -1,11 +1,11 @@
 #!/usr/bin/env bash
 # Checks what people take from ../use: object.sh and logs.sh over a served device, records.awk and records.gp on
-# records of each kind, the completion of bac.bash in a bash on a terminal, and the units of systemd/.
+# records of each kind, the completion of bac.bash in a bash on a terminal, and the units of systemd/, with what they start.
 #
 #     examples/check/helpers.sh [PROGRAM]
 #
-# PROGRAM is crates/bac/out/bac where none is given. gnuplot and systemd-analyze are used if they are there. The last
-# line is `N passed, M failed`.
+# PROGRAM is crates/bac/out/bac where none is given. gnuplot, systemd-analyze and sqlite3 are used if they are there. The
+# last line is `N passed, M failed`.
 set -u
 cd "$(dirname "$0")"
 program=$(realpath -- "${1:-../../crates/bac/out/bac}")
@@ -161,13 +161,48 @@ fi
 # ---- units of systemd: the programs that they name are put where they are taken from
 
 if has systemd-analyze; then
-    mkdir "$room/units"
-    for unit in ../use/systemd/*; do
+    mkdir -p "$room/units/bac-site@.service.d"
+    for unit in ../use/systemd/*.service ../use/systemd/*.timer; do
         sed "s|/usr/local/bin/bac|$program|" "$unit" > "$room/units/$(basename "$unit")"
     done
+    # analyzed VERB UNIT [OPTION..]: what is told of a unit, and the status.
+    analyzed() { SYSTEMD_UNIT_PATH="$room/units:" systemd-analyze "$@" 2>&1; echo "status $?"; }
     for unit in bac-serve@plant.service bac-site@plant.service bac-site@plant.timer; do
-        is "$unit" "$(SYSTEMD_UNIT_PATH="$room/units:" systemd-analyze verify "$unit" 2>&1; echo $?)" 0
+        is "$unit" "$(analyzed verify "$unit")" 'status 0'
     done
+    for unit in bac-serve@plant.service bac-site@plant.service; do
+        is "$unit: an exposure of less than 2" "$(analyzed security --offline=yes --threshold=20 "$unit" | tail -n 1)" 'status 0'
+    done
+    cp ../use/systemd/copy.conf "$room/units/bac-site@.service.d/"
+    is 'bac-site@plant.service with a copy' "$(analyzed verify bac-site@plant.service)" 'status 0'
+fi
+
+# What they start, run here: as of the instance `plant`, in folders of this check.
+started() {
+    sed -nE "s/^$2=//p" "../use/systemd/$1" \
+        | sed "s|/usr/local/bin/bac|$program|; s|/var/lib/bac/|$room/state/|g; s|/srv/bac/|$room/read/|g; s|%i|plant|g"
+}
+mkdir -p "$room/state/plant" "$room/read"
+served ../use/plant.conf
+bac keep "$room/state/plant/site.db" "$at"
+is 'a first run' "$status" 0
+OPTIONS='--timeout=60 --retries=0'
+eval "$(started bac-site@.service ExecStart)" > "$room/out" 2> "$room/err"
+is 'the run of a unit' "$? $(cut -d ' ' -f 1,2 "$room/out" | tr '\n' ';')$(cat "$room/err")" "0 $at 1;$at 2;"
+unserved
+eval "$(started bac-site@.service ExecStart)" > "$room/out" 2> "$room/err"
+is 'a dead device is no failure' "$?" "$(sed -n 's/^SuccessExitStatus=//p' ../use/systemd/bac-site@.service)"
+if has sqlite3; then
+    before=$(cksum "$room"/state/plant/site.db "$room"/state/plant/site.db-wal)
+    for again in 1 2; do
+        eval "$(started copy.conf ExecStopPost)" > "$room/out" 2> "$room/err"
+        is "a copy, $again" "$? $(cat "$room/err") $(ls "$room/read") $(stat -c %a "$room/read/plant.db")" '0  plant.db 644'
+    done
+    is 'what is in it' "$(sqlite3 -readonly "$room/read/plant.db" 'PRAGMA journal_mode; SELECT count(*) FROM logs; SELECT count(*) > 0 FROM items')" \
+        $'delete\n2\n1'
+    is 'the archive is as before' "$(cksum "$room"/state/plant/site.db "$room"/state/plant/site.db-wal)" "$before"
+    bac check "$room/state/plant/site.db"
+    is 'and whole' "$status" 0
 fi
 
 counted

@@ -34,7 +34,6 @@ from kept_terminal import terminals
 from kept_folders import folders, folders_damaged
 from kept_parts import parts, parts_ended, parts_refused
 from kept_told import told_among_others, told_beside
-from kept_warehouse import warehouses
 from kept_whose import asked_at_once, other_devices
 from kept_window import window
 from kept_words import first_answers, own_lives, own_rule, own_words, renewed
@@ -688,6 +687,6 @@ def judgements(judge, _runs):
 
 
 CASES = [judgements, run_after_run, beginnings, options, losses, line_by_line, step_limits, last_epoch, dead_devices, dead_at_once, at_once, own_address, own_address_echoes, ids_go_on, ids_go_on_behind_the_longest, each_option, window, lists_at_once, whole_lists, silent_lists, other_devices, asked_at_once, words_and_names, no_archive, barred, far_away, rounds, restarts, clocks, questions, cut_files, foreign_files, objects_beside, a_large_file, printed, taken_over, served,
-         stopped, terminals, warehouses, names, own_words, own_rule, own_lives, first_answers, renewed, moved, moved_ways, two_of_one, told_later,
+         stopped, terminals, names, own_words, own_rule, own_lives, first_answers, renewed, moved, moved_ways, two_of_one, told_later,
          moved_at_each_call, moved_at_random, emptied, never_begun, told_at_once, said_more, several, unlisted, listed, listed_twice, told_beside, told_among_others, parts, parts_refused, parts_ended,
          file_limits, part_limits, folders, folders_damaged, checked, checked_parts, groups, holes, holes_in_parts]

@@ -5,8 +5,8 @@
 #
 #     examples/check/package.sh [PROGRAM]
 #
-# PROGRAM is crates/bac/out/bac where none is given. It needs dpkg, man, and leave to change the root: as root, or in a
-# namespace of its own. The last line is `N passed, M failed`.
+# PROGRAM is crates/bac/out/bac where none is given. It needs dpkg, man, python3, and leave to change the root: as root, or
+# in a namespace of its own. The last line is `N passed, M failed`.
 set -u
 cd "$(dirname "$0")" || exit 1
 program=$(realpath -- "${1:-../../crates/bac/out/bac}")
@@ -15,7 +15,7 @@ program=$(realpath -- "${1:-../../crates/bac/out/bac}")
 # What is missing is a failure: nothing here is checked then.
 as_root=()
 [ "$(id -u)" -eq 0 ] || as_root=(unshare --map-root-user)
-for word in dpkg dpkg-deb man; do
+for word in dpkg dpkg-deb man python3; do
     command -v "$word" > /dev/null || { echo "$word isn't there: no package is checked"; failed=1; }
 done
 "${as_root[@]}" true || { echo 'no leave to change the root: no package is checked'; failed=1; }
@@ -78,6 +78,8 @@ records=$(sed -E 's/.* ([0-9]+) records? .*/\1/' "$room/out")
 bac kept /tmp/site.db "$at" 1
 is 'what is kept' "$(grep -c . "$room/out") $status" "$records 0"
 unserved
+is 'a page of it' "$("$root/usr/share/doc/mantelanise/examples/page.py" "$root/tmp/site.db" | grep -o '<article>\|>Trend Log 1<' | tr '\n' ' ')" \
+    '<article> >Trend Log 1< '
 
 is 'man bac' "$(man -M "$root/usr/share/man" -P cat bac 2>&1 | head -n 1 | tr -s ' ')" \
     "$(man -P cat -l ../../docs/bac.1 2>&1 | head -n 1 | tr -s ' ')"

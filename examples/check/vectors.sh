@@ -1,6 +1,7 @@
 #!/usr/bin/env bash
 # Gives each row of ../vectors/*.vectors, `CALL INPUT -> ANSWER`, to a built `bac_vectors`, which sees
-# the call and its input alone, and compares. Lines that begin with # are comments.
+# the call and its input alone, and compares. Lines that begin with # are comments. Those of
+# polls.vectors are for another program: polls.py gives them to it.
 #
 #     examples/check/vectors.sh [PROGRAM]
 #
@@ -22,6 +23,8 @@ if [ ! -x "$program" ]; then
 fi
 
 for file in ../vectors/*.vectors; do
+    # Rows of bac_poll_rows, which polls.py reads.
+    [ "$file" = ../vectors/polls.vectors ] && continue
     row "$file"
     grep -v -e '^#' -e '^$' "$file" > "$room/rows"
     sed 's/ -> .*//' "$room/rows" > "$room/calls"

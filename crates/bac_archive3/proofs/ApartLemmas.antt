@@ -26,13 +26,13 @@ use Rattle.bac_archive3.proofs.OrphanLemmas.{from_map}
 by_id_total : IsTotalOrder by_id
 by_id_total = on_total rowid value_cmp_total
 
-lower : (a b : Values) (m n : ℕ) → rowid a ≡ Int (pos m) → rowid b ≡ Int (pos n) → m < n → by_id a b ≡ Less
+pub lower : (a b : Values) (m n : ℕ) → rowid a ≡ Int (pos m) → rowid b ≡ Int (pos n) → m < n → by_id a b ≡ Less
 lower a b m n one two lt = rw (one, two) (value_cmp-Int (pos m) (pos n) ∙ less m n lt)
   where
     less : (m n : ℕ) → m < n → int_cmp (pos m) (pos n) ≡ Less
     less m n lt = grind (arith, nat_tests)
 
-ends_behind : (v : Value) (id last : ℕ) → EndsAt v id last → id ≤ last
+pub ends_behind : (v : Value) (id last : ℕ) → EndsAt v id last → id ≤ last
 ends_behind Null id last is = omega (arith, is)
 ends_behind (Int (pos to)) id last (from, below, is) = omega (arith, from, below, is)
 ends_behind _ id last is = absurd is

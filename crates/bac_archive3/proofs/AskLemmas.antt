@@ -57,8 +57,8 @@ falling = (col 1 0, record { collation = Binary; descending = true }) ∷ []
 -- the terms of a question, and its order
 abbrev terms : Question → List Term
 terms Archive = col 1 0 ∷ col 1 2 ∷ []
-terms Devices = col 1 0 ∷ col 1 2 ∷ col 1 3 ∷ col 1 4 ∷ col 1 5 ∷ col 1 6 ∷ col 1 7 ∷ col 1 8 ∷ col 1 9 ∷ col 1 10 ∷ col 1 11 ∷ col 1 12 ∷ []
-terms Logs = col 1 0 ∷ col 1 2 ∷ col 1 3 ∷ col 1 4 ∷ col 1 5 ∷ col 1 6 ∷ col 1 7 ∷ col 1 8 ∷ []
+terms Devices = col 1 0 ∷ col 1 2 ∷ col 1 3 ∷ col 1 4 ∷ col 1 5 ∷ col 1 6 ∷ col 1 7 ∷ col 1 8 ∷ col 1 9 ∷ col 1 10 ∷ col 1 11 ∷ []
+terms Logs = col 1 0 ∷ col 1 2 ∷ col 1 3 ∷ col 1 4 ∷ col 1 5 ∷ col 1 6 ∷ col 1 7 ∷ col 1 8 ∷ col 1 9 ∷ col 1 10 ∷ []
 terms Beginnings = col 1 0 ∷ col 1 2 ∷ col 1 3 ∷ []
 terms Items = col 1 0 ∷ col 1 2 ∷ col 1 3 ∷ col 1 4 ∷ col 1 5 ∷ col 1 6 ∷ []
 terms Spans = col 1 0 ∷ col 1 2 ∷ []
@@ -73,8 +73,8 @@ order_of Spans = rising
 
 abbrev names : Question → List (List ℕ)
 names Archive = codes "version" ∷ codes "made" ∷ []
-names Devices = codes "id" ∷ codes "address" ∷ codes "dnet" ∷ codes "dadr" ∷ codes "instance" ∷ codes "name" ∷ codes "restart" ∷ codes "revision" ∷ codes "whole" ∷ codes "stopped" ∷ codes "answered" ∷ codes "offset" ∷ []
-names Logs = codes "id" ∷ codes "device" ∷ codes "instance" ∷ codes "name" ∷ codes "source" ∷ codes "units" ∷ codes "description" ∷ codes "stopped" ∷ []
+names Devices = codes "id" ∷ codes "address" ∷ codes "dnet" ∷ codes "dadr" ∷ codes "instance" ∷ codes "name" ∷ codes "revision" ∷ codes "whole" ∷ codes "stopped" ∷ codes "answered" ∷ codes "offset" ∷ []
+names Logs = codes "id" ∷ codes "device" ∷ codes "instance" ∷ codes "name" ∷ codes "source" ∷ codes "units" ∷ codes "description" ∷ codes "restart" ∷ codes "revision" ∷ codes "stopped" ∷ []
 names Beginnings = codes "id" ∷ codes "number" ∷ codes "why" ∷ []
 names Items = codes "id" ∷ codes "last" ∷ codes "stamp" ∷ codes "value" ∷ codes "datum" ∷ codes "flags" ∷ []
 names Spans = codes "id" ∷ codes "last" ∷ []

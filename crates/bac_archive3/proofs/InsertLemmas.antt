@@ -50,9 +50,9 @@ pub record Adds (old new : Database) (tree : ℕ) (row : Row) : Type 0 where
 -- ---- devices
 
 abbrev device_terms : List Term
-device_terms = col 0 0 ∷ lit Null ∷ col 0 1 ∷ col 0 2 ∷ col 0 3 ∷ col 0 4 ∷ col 0 5 ∷ col 0 6 ∷ col 0 7 ∷ col 0 8 ∷ col 0 9 ∷ col 0 10 ∷ col 0 11 ∷ []
+device_terms = col 0 0 ∷ lit Null ∷ col 0 1 ∷ col 0 2 ∷ col 0 3 ∷ col 0 4 ∷ col 0 5 ∷ col 0 6 ∷ col 0 7 ∷ col 0 8 ∷ col 0 9 ∷ col 0 10 ∷ []
 
-device_is : (s : Schema) (has : HasArchive s) → command_of (understood (around s has) device_text) ≡ Insert 1 (Values device_terms 13)
+device_is : (s : Schema) (has : HasArchive s) → command_of (understood (around s has) device_text) ≡ Insert 1 (Values device_terms 12)
 unfolding understood everything
 device_is s has = refl
 
@@ -60,17 +60,17 @@ device_plain : (s : Schema) (has : HasArchive s) → IsPlain (understood (around
 unfolding understood everything
 device_plain s has = (refl, refl)
 
-module _ (id : ℤ) (v1 v2 v3 v4 v5 v6 v7 v8 v9 v10 v11 : Value) where
+module _ (id : ℤ) (v1 v2 v3 v4 v5 v6 v7 v8 v9 v10 : Value) where
   abbrev device_given : Row
-  device_given = Int id ∷ v1 ∷ v2 ∷ v3 ∷ v4 ∷ v5 ∷ v6 ∷ v7 ∷ v8 ∷ v9 ∷ v10 ∷ v11 ∷ []
+  device_given = Int id ∷ v1 ∷ v2 ∷ v3 ∷ v4 ∷ v5 ∷ v6 ∷ v7 ∷ v8 ∷ v9 ∷ v10 ∷ []
 
   abbrev device_made : Row
-  device_made = Int id ∷ Null ∷ cast_all (drop 1 devices.columns) (v1 ∷ v2 ∷ v3 ∷ v4 ∷ v5 ∷ v6 ∷ v7 ∷ v8 ∷ v9 ∷ v10 ∷ v11 ∷ [])
+  device_made = Int id ∷ Null ∷ cast_all (drop 1 devices.columns) (v1 ∷ v2 ∷ v3 ∷ v4 ∷ v5 ∷ v6 ∷ v7 ∷ v8 ∷ v9 ∷ v10 ∷ [])
 
   pub adds_device : (old new : State) (count : ℕ) → HasArchive old.now.schema → Executes device_text device_given old new (Ok count) → Adds old.now new.now 1 device_made
   adds_device old new count has ran =
       let db = old.now.trees in
-      let command = Insert 1 (Values device_terms 13) in
+      let command = Insert 1 (Values device_terms 12) in
       let schema = around old.now.schema has in
       let at = is_around old.now.schema has in
       let w = runs_as device_text device_given old new schema at command (device_is old.now.schema has) (device_plain old.now.schema has) count ran in
@@ -93,9 +93,9 @@ module _ (id : ℤ) (v1 v2 v3 v4 v5 v6 v7 v8 v9 v10 v11 : Value) where
 -- ---- logs
 
 abbrev log_terms : List Term
-log_terms = col 0 0 ∷ lit Null ∷ col 0 1 ∷ col 0 2 ∷ col 0 3 ∷ col 0 4 ∷ col 0 5 ∷ col 0 6 ∷ col 0 7 ∷ []
+log_terms = col 0 0 ∷ lit Null ∷ col 0 1 ∷ col 0 2 ∷ col 0 3 ∷ col 0 4 ∷ col 0 5 ∷ col 0 6 ∷ col 0 7 ∷ col 0 8 ∷ col 0 9 ∷ []
 
-log_is : (s : Schema) (has : HasArchive s) → command_of (understood (around s has) log_text) ≡ Insert 2 (Values log_terms 9)
+log_is : (s : Schema) (has : HasArchive s) → command_of (understood (around s has) log_text) ≡ Insert 2 (Values log_terms 11)
 unfolding understood everything
 log_is s has = refl
 
@@ -103,17 +103,17 @@ log_plain : (s : Schema) (has : HasArchive s) → IsPlain (understood (around s 
 unfolding understood everything
 log_plain s has = (refl, refl)
 
-module _ (id : ℤ) (v1 v2 v3 v4 v5 v6 v7 : Value) where
+module _ (id : ℤ) (v1 v2 v3 v4 v5 v6 v7 v8 v9 : Value) where
   abbrev log_given : Row
-  log_given = Int id ∷ v1 ∷ v2 ∷ v3 ∷ v4 ∷ v5 ∷ v6 ∷ v7 ∷ []
+  log_given = Int id ∷ v1 ∷ v2 ∷ v3 ∷ v4 ∷ v5 ∷ v6 ∷ v7 ∷ v8 ∷ v9 ∷ []
 
   abbrev log_made : Row
-  log_made = Int id ∷ Null ∷ cast_all (drop 1 logs.columns) (v1 ∷ v2 ∷ v3 ∷ v4 ∷ v5 ∷ v6 ∷ v7 ∷ [])
+  log_made = Int id ∷ Null ∷ cast_all (drop 1 logs.columns) (v1 ∷ v2 ∷ v3 ∷ v4 ∷ v5 ∷ v6 ∷ v7 ∷ v8 ∷ v9 ∷ [])
 
   pub adds_log : (old new : State) (count : ℕ) → HasArchive old.now.schema → Executes log_text log_given old new (Ok count) → Adds old.now new.now 3 log_made
   adds_log old new count has ran =
       let db = old.now.trees in
-      let command = Insert 2 (Values log_terms 9) in
+      let command = Insert 2 (Values log_terms 11) in
       let schema = around old.now.schema has in
       let at = is_around old.now.schema has in
       let w = runs_as log_text log_given old new schema at command (log_is old.now.schema has) (log_plain old.now.schema has) count ran in

@@ -16,87 +16,18 @@ use Rattle.sqlite.specs.Values.{bound_value, or_null}
 use Rattle.bac_archive3.specs.Ask.{shown}
 use Rattle.bac_archive3.specs.Archive.{AreBegun, EndsAt, HasId, HasIdBelow, HaveIdsBelow, IsBegunBy, IsOfVersion, LieApart, RiseFrom}
 use Rattle.bac_archive3.specs.Keep.{AllLieBefore, AreFit, GoesOn, IsFit, PutsKeepArchive, with_put}
-use Rattle.bac_archive3.specs.Put.{AreFree, IsFree, left, replaced, row_of, table_of}
+use Rattle.bac_archive3.specs.Put.{AreFree, IsFree, left, lowered, replaced, row_of, table_of}
 use Rattle.bac_archive3.specs.Read.{numbers}
 use Rattle.bac_archive3.specs.Schema.{HasArchive}
 use Rattle.bac_archive3.specs.Stands.{epochs}
 use Rattle.bac_archive3.specs.declared.row.ItemRow.{ItemRow}
 use Rattle.bac_archive3.specs.declared.row.Put.{Put}
-use Rattle.bac_archive3.specs.declared.row.Put.TheVariants.{NewDevice, Device, NewLog, Log, Beginning, Item}
+use Rattle.bac_archive3.specs.declared.row.Put.TheVariants.{NewDevice, Device, NewLog, Log, Beginning, Lowered, Item}
 use Rattle.bac_archive3.proofs.LawLemmas.{keep_version}
 use Rattle.bac_archive3.proofs.OrphanLemmas.{from_map}
-use Rattle.bac_archive3.proofs.ReplaceLemmas.{from_eq, from_filter, in_filter, put_permutes, tied_int}
+use Rattle.bac_archive3.proofs.ReplaceLemmas.{put_permutes}
+use Rattle.bac_archive3.proofs.LeftLemmas.{TakesPlace, from_left, from_put, has_left, has_put, later, lowered_takes, replaced_takes}
 use Rattle.bac_archive3.proofs.RowsLemmas.{cast_int, cast_null}
-
--- ---- rows that are put or replaced
-
-later : (new row : Values) (rows : List Values) → Contains rows row → Contains (new ∷ rows) row
-later new row rows (i, lt, is) = (suc i, omega (arith, lt), is)
-
--- what is there after a new row
-put_has : (new : Values) (rows : List Values) → is_taken rows new ≡ false → (row : Values) → Contains rows row → Contains (put_row new rows) row
-put_has new rows free row there = Contains-permutation _ _ row (put_permutes new rows free) (later new row rows there)
-
-put_is : (new : Values) (rows : List Values) → is_taken rows new ≡ false → Contains (put_row new rows) new
-put_is new rows free = Contains-permutation _ _ new (put_permutes new rows free) (0, omega arith, refl)
-
-from_put : (new : Values) (rows : List Values) → is_taken rows new ≡ false → (row : Values) → Contains (put_row new rows) row → (new ≡ row) ⊎ Contains rows row
-from_put new rows free row there = go (Contains-permutation _ _ row (IsPermutation-sym _ _ (put_permutes new rows free)) there)
-  where
-    go : Contains (new ∷ rows) row → (new ≡ row) ⊎ Contains rows row
-    go (zero, lt, is) = inl is
-    go (suc i, lt, is) = inr (i, omega (arith, lt), is)
-
--- the rows without an id have no row with it
-none_taken : (id : ℕ) (new : Values) → rowid new ≡ Int (pos id) → (rows : List Values) → is_taken (without_rowid (pos id) rows) new ≡ false
-none_taken id new is rows = subst (λ v. list_any (λ r. is_eq (value_cmp (rowid r) v)) (without_rowid (pos id) rows) ≡ false) (sym is) (none rows)
-  where
-    none : (rows : List Values) → list_any (λ r. is_eq (value_cmp (rowid r) (Int (pos id)))) (filter (λ r. not (has_rowid (pos id) r)) rows) ≡ false
-    none [] = refl
-    none (r ∷ rows) = go (has_rowid (pos id) r) refl (none rows)
-      where
-        go : (b : Bool) → has_rowid (pos id) r ≡ b → list_any (λ r. is_eq (value_cmp (rowid r) (Int (pos id)))) (filter (λ r. not (has_rowid (pos id) r)) rows) ≡ false
-            → list_any (λ r. is_eq (value_cmp (rowid r) (Int (pos id)))) (filter (λ r. not (has_rowid (pos id) r)) (r ∷ rows)) ≡ false
-        go true same rest = rw same rest
-        go false same rest = rw (same, same) rest
-
-module _ (id : ℕ) (new : Values) (is : rowid new ≡ Int (pos id)) (rows : List Values) where
-  others : List Values
-  others = without_rowid (pos id) rows
-
-  -- what is there after a replaced row
-  replaced_is : (b : Bool) → is_taken rows new ≡ b → replaced new rows ≡ (if b then put_row new (without_rowid (pos id) rows) else rows)
-  replaced_is b same = rw (same, is) refl
-
-  from_replaced : (row : Values) → Contains (replaced new rows) row → (new ≡ row) ⊎ Contains rows row
-  from_replaced row there = go (is_taken rows new) refl
-    where
-      back : (new ≡ row) ⊎ Contains (without_rowid (pos id) rows) row → (new ≡ row) ⊎ Contains rows row
-      back (inl same) = inl same
-      back (inr other) = inr (from_filter (λ r. not (has_rowid (pos id) r)) rows row other).0
-
-      go : (b : Bool) → is_taken rows new ≡ b → (new ≡ row) ⊎ Contains rows row
-      go true same = back (from_put new (without_rowid (pos id) rows) (none_taken id new is rows) row (subst (λ l. Contains l row) (replaced_is true same) there))
-      go false same = inr (subst (λ l. Contains l row) (replaced_is false same) there)
-
-  has_replaced : (n : ℕ) → HasId rows n → HasId (replaced new rows) n
-  has_replaced n (row, there, at) = go (is_taken rows new) refl
-    where
-      free : is_taken (without_rowid (pos id) rows) new ≡ false
-      free = none_taken id new is rows
-
-      tied : (b : Bool) → has_rowid (pos id) row ≡ b → HasId (put_row new (without_rowid (pos id) rows)) n
-      tied true same =
-          let one : value_cmp (Int (pos n)) (Int (pos id)) ≡ Equal = subst (λ v. value_cmp v (Int (pos id)) ≡ Equal) at (from_eq _ same) in
-          (new, put_is new (without_rowid (pos id) rows) free, is ∙ ap Int (sym (tied_int (pos n) (pos id) one)))
-      tied false same = (row, put_has new (without_rowid (pos id) rows) free row (in_filter (λ r. not (has_rowid (pos id) r)) rows row there (ap not same)), at)
-
-      go : (b : Bool) → is_taken rows new ≡ b → HasId (replaced new rows) n
-      go true same = subst (λ l. HasId l n) (sym (replaced_is true same)) (tied (has_rowid (pos id) row) refl)
-      go false same = subst (λ l. HasId l n) (sym (replaced_is false same)) (row, there, at)
-
-has_put : (new : Values) (rows : List Values) → is_taken rows new ≡ false → (n : ℕ) → HasId rows n → HasId (put_row new rows) n
-has_put new rows free n (row, there, at) = (row, put_has new rows free row there, at)
 
 -- ids stay in range
 below_all : (most : ℕ) (rows : List Values) → ((row : Values) → Contains rows row → HasIdBelow most row) → HaveIdsBelow most rows
@@ -106,7 +37,7 @@ below_all most rows each = record { each = All-from_recursion (HasIdBelow most) 
     go [] each = tt
     go (x ∷ xs) each = (each x (0, omega arith, refl), go xs (λ row there. each row (later x row xs there)))
 
-below_one : (most : ℕ) (rows : List Values) → HaveIdsBelow most rows → (row : Values) → Contains rows row → HasIdBelow most row
+pub below_one : (most : ℕ) (rows : List Values) → HaveIdsBelow most rows → (row : Values) → Contains rows row → HasIdBelow most row
 below_one most rows all row there = go rows (recursion_from_All (HasIdBelow most) rows all.each) there
   where
     go : (xs : List Values) → AllByRecursion (HasIdBelow most) xs → Contains xs row → HasIdBelow most row
@@ -121,8 +52,8 @@ below_put most id new rows is less free all = below_all most (put_row new rows) 
     go row (inl same) = subst (HasIdBelow most) same (id, is, less)
     go row (inr there) = below_one most rows all row there
 
-below_replaced : (most id : ℕ) (new : Values) (rows : List Values) → rowid new ≡ Int (pos id) → id < most → HaveIdsBelow most rows → HaveIdsBelow most (replaced new rows)
-below_replaced most id new rows is less all = below_all most (replaced new rows) (λ row there. go row (from_replaced id new is rows row there))
+below_left : (most id : ℕ) (new : Values) (rows left : List Values) → rowid new ≡ Int (pos id) → id < most → TakesPlace (pos id) new rows left → HaveIdsBelow most rows → HaveIdsBelow most left
+below_left most id new rows left is less took all = below_all most left (λ row there. go row (from_left (pos id) new is rows left took row there))
   where
     go : (row : Values) → (new ≡ row) ⊎ Contains rows row → HasIdBelow most row
     go row (inl same) = subst (HasIdBelow most) same (id, is, less)
@@ -184,7 +115,7 @@ apart_from rows id end v ends before row there n e at stops = go (epochs_compare
     go (inr (inr more)) = inr (omega (arith, more, in_epoch v id end ends))
 
 -- the last number of an item is kept as it is
-last_is : (last : Option ℕ) → cast Integer (bound_value (or_null (λ n. Int (pos n)) last)) ≡ or_null (λ n. Int (pos n)) last
+pub last_is : (last : Option ℕ) → cast Integer (bound_value (or_null (λ n. Int (pos n)) last)) ≡ or_null (λ n. Int (pos n)) last
 last_is None = cast_null
 last_is (Some n) = cast_int (pos n)
 
@@ -225,7 +156,7 @@ module _ (trees : Trees) (sound : Sound trees) where
     begun = sound.begun;
   }
   keeps_one (Device d) free fit = record {
-    devices = below_replaced 65536 d.id (row_of (Device d)) (trees 1) refl fit sound.devices;
+    devices = below_left 65536 d.id (row_of (Device d)) (trees 1) (replaced (row_of (Device d)) (trees 1)) refl fit (replaced_takes (pos d.id) (row_of (Device d)) refl (trees 1)) sound.devices;
     logs = sound.logs;
     beginnings = sound.beginnings;
     apart = sound.apart;
@@ -236,22 +167,32 @@ module _ (trees : Trees) (sound : Sound trees) where
     logs = below_put 65536 l.id (row_of (NewLog l)) (trees 3) refl fit (free refl refl) sound.logs;
     beginnings = sound.beginnings;
     apart = sound.apart;
-    begun = still_begun (trees 6) (put_row (row_of (NewLog l)) (trees 3)) (λ n has. has) (has_put (row_of (NewLog l)) (trees 3) (free refl refl));
+    begun = still_begun (trees 6) (put_row (row_of (NewLog l)) (trees 3)) (λ n has. has) (λ n. has_put (row_of (NewLog l)) (trees 3) (free refl refl) (pos n));
   }
   keeps_one (Log l) free fit = record {
     devices = sound.devices;
-    logs = below_replaced 65536 l.id (row_of (Log l)) (trees 3) refl fit sound.logs;
+    logs = below_left 65536 l.id (row_of (Log l)) (trees 3) (replaced (row_of (Log l)) (trees 3)) refl fit (replaced_takes (pos l.id) (row_of (Log l)) refl (trees 3)) sound.logs;
     beginnings = sound.beginnings;
     apart = sound.apart;
-    begun = still_begun (trees 6) (replaced (row_of (Log l)) (trees 3)) (λ n has. has) (has_replaced l.id (row_of (Log l)) refl (trees 3));
+    begun = still_begun (trees 6) (replaced (row_of (Log l)) (trees 3)) (λ n has. has) (λ n. has_left (pos l.id) (row_of (Log l)) refl (trees 3) (replaced (row_of (Log l)) (trees 3)) (replaced_takes (pos l.id) (row_of (Log l)) refl (trees 3)) (pos n));
   }
   keeps_one (Beginning b) free fit = record {
     devices = sound.devices;
     logs = sound.logs;
     beginnings = below_put 2147483648 b.id (row_of (Beginning b)) (trees 6) refl fit (free refl refl) sound.beginnings;
     apart = sound.apart;
-    begun = still_begun (put_row (row_of (Beginning b)) (trees 6)) (trees 3) (has_put (row_of (Beginning b)) (trees 6) (free refl refl)) (λ n has. has);
+    begun = still_begun (put_row (row_of (Beginning b)) (trees 6)) (trees 3) (λ n. has_put (row_of (Beginning b)) (trees 6) (free refl refl) (pos n)) (λ n has. has);
   }
+  keeps_one (Lowered b) free fit =
+      let left = lowered (row_of (Lowered b)) (trees 6) in
+      let took = lowered_takes (pos b.id) (row_of (Lowered b)) refl (trees 6) in
+      record {
+        devices = sound.devices;
+        logs = sound.logs;
+        beginnings = below_left 2147483648 b.id (row_of (Lowered b)) (trees 6) left refl fit took sound.beginnings;
+        apart = sound.apart;
+        begun = still_begun left (trees 3) (λ n. has_left (pos b.id) (row_of (Lowered b)) refl (trees 6) left took (pos n)) (λ n has. has);
+      }
   keeps_one (Item i) free fit = record {
     devices = sound.devices;
     logs = sound.logs;
@@ -279,6 +220,7 @@ first_free trees (Device d) puts free = free.devices.0
 first_free trees (NewLog l) puts free = free.logs.0
 first_free trees (Log l) puts free = free.logs.0
 first_free trees (Beginning b) puts free = free.beginnings.0
+first_free trees (Lowered b) puts free = free.beginnings.0
 first_free trees (Item i) puts free = free.items.0
 
 keeps_all : (puts : List Put) (trees : Trees) → Sound trees → AreFreeAt trees puts → AreFit trees puts → Sound (λ tree. left tree (trees tree) puts)

@@ -7,6 +7,7 @@ pub mod RowsLemmas
 mod CreateLemmas
 mod EndLemmas
 pub mod ReplaceLemmas
+pub mod LeftLemmas
 mod InsertLemmas
 mod ChangeLemmas
 pub mod PutLemmas
@@ -15,5 +16,7 @@ pub mod SpanLemmas
 pub mod OrphanLemmas
 pub mod KeepLemmas
 pub mod ApartLemmas
+mod FallLemmas
+mod PartLemmas
 pub mod ItemsLemmas
 mod BesideLemmas

@@ -68,7 +68,7 @@ met_is size most wanted f rows found at some was order = go (found.place == at) 
         let none = empty (λ same. both_ways _ differs (eq-eqb found.place at same)) order in
         inl (some, sym (ap length none))
 
-module _ {X : Type 0} (size most : ℕ) (wanted : ℕ → Bool) (f : X → Values) (rows : List Values) (row : Values) (id : ℕ) (x : X) (old new : Found X) (is : column row 0 ≡ Int (pos id)) (shows : f x ≡ row) where
+module _ {X : Type 0} (size most : ℕ) (wanted : ℕ → Bool) (f : X → Values) (rows : List Values) (row : Values) (id : ℕ) (old new : Found X) (is : column row 0 ≡ Int (pos id)) where
   abbrev at : ℕ
   at = id / size
 
@@ -139,7 +139,7 @@ module _ {X : Type 0} (size most : ℕ) (wanted : ℕ → Bool) (f : X → Value
   there_more false are was r has = Contains-append_left rows (row ∷ []) r (was r (subst (λ l. Contains l r) are has))
 
   -- one row more
-  pub counts_more : (b : Bool) → (met old at < most → b ≡ wanted at) → 0 < most → Counts size most wanted f rows old → (rows ≡ []) ⊎ (at ≤ old.place) → Meets most at b old x new
+  pub counts_more : (b : Bool) → (met old at < most → b ≡ wanted at) → 0 < most → Counts size most wanted f rows old → (rows ≡ []) ⊎ (at ≤ old.place) → Meets f most at b old row new
       → Counts size most wanted f (rows ++ row ∷ []) new
   counts_more b says some was order meets = go (met_is size most wanted f rows old at some was order)
     where
@@ -148,10 +148,6 @@ module _ {X : Type 0} (size most : ℕ) (wanted : ℕ → Bool) (f : X → Value
 
       place_is : (p : ℕ) → p < new.place → p < at
       place_is p less = omega (arith, less, meets.at)
-
-      pushed : (c : Bool) → map f (if c then old.rows.items ++ x ∷ [] else old.rows.items) ≡ (if c then told ++ row ∷ [] else told)
-      pushed true = map-append f old.rows.items (x ∷ []) ∙ ap (λ y. told ++ y ∷ []) shows
-      pushed false = refl
 
       count_at : (n : ℕ) → IsCount most n (length (filter (is_in size at) (rows ++ row ∷ []))) → new.count ≡ n → IsCount most new.count (length (filter (is_in size new.place) (rows ++ row ∷ [])))
       count_at n h same = subst₂ (λ c p. IsCount most c (length (filter (is_in size p) (rows ++ row ∷ [])))) (sym same) (sym meets.at) h
@@ -166,16 +162,16 @@ module _ {X : Type 0} (size most : ℕ) (wanted : ℕ → Bool) (f : X → Value
       go (inl room) =
           let more = meets.more room.0 in
           record {
-            kept = told_more (ap (map f) more.1 ∙ pushed b ∙ ap (λ c. if c then told ++ row ∷ [] else told) (says room.0)) was.kept (omega (arith, room.0, room.1));
-            there = there_more (wanted at) (ap (map f) more.1 ∙ pushed b ∙ ap (λ c. if c then told ++ row ∷ [] else told) (says room.0)) was.there;
+            kept = told_more (more.1 ∙ ap (λ c. if c then told ++ row ∷ [] else told) (says room.0)) was.kept (omega (arith, room.0, room.1));
+            there = there_more (wanted at) (more.1 ∙ ap (λ c. if c then told ++ row ∷ [] else told) (says room.0)) was.there;
             count = count_at (met old at + 1) (subst (IsCount most (met old at + 1)) (sym longer) (cap (met old at) _ room.0 room.1)) more.0;
             below = λ p less. below_more was order p (place_is p less);
           }
       go (inr full) =
           let less = meets.full (omega (arith, full.0)) in
           record {
-            kept = told_full (ap (map f) less.1) was.kept full.1;
-            there = there_more false (ap (map f) less.1) was.there;
+            kept = told_full less.1 was.kept full.1;
+            there = there_more false less.1 was.there;
             count = count_at (met old at) (inr (full.0, omega (arith, longer, full.1))) less.0;
             below = λ p less. below_more was order p (place_is p less);
           }
@@ -228,11 +224,11 @@ module _ {X : Type 0} (size most : ℕ) (wanted : ℕ → Bool) (f : X → Value
       nothing false = refl
 
   pub told_more_row : ((a b : ℕ) → a ≤ b → a / size ≤ b / size) → ((r : Values) → column (h r) 0 ≡ column r 0) → 0 < most
-      → (given more : List Values) (row : Values) (id : ℕ) (x : X) (b : Bool) (old new : Found X) → IsSorted falls (given ++ row ∷ more) → column row 0 ≡ Int (pos id) → f x ≡ h row
-      → (met old (id / size) < most → b ≡ wanted (id / size)) → Meets most (id / size) b old x new → Told given old → Told (given ++ row ∷ []) new
-  told_more_row mono keeps some given more row id x b old new sorted is shows says meets was = (
+      → (given more : List Values) (row : Values) (id : ℕ) (b : Bool) (old new : Found X) → IsSorted falls (given ++ row ∷ more) → column row 0 ≡ Int (pos id)
+      → (met old (id / size) < most → b ≡ wanted (id / size)) → Meets f most (id / size) b old (h row) new → Told given old → Told (given ++ row ∷ []) new
+  told_more_row mono keeps some given more row id b old new sorted is says meets was = (
     subst (λ l. Counts size most wanted f l new) (sym (map-append h given (row ∷ [])))
-        (counts_more size most wanted f (map h given) (h row) id x old new (keeps row ∙ is) shows b says some was.0 (order (ordered size mono given more row id old.place was.1 is sorted)) meets),
+        (counts_more size most wanted f (map h given) (h row) id old new (keeps row ∙ is) b says some was.0 (order (ordered size mono given more row id old.place was.1 is sorted)) meets),
     inr (given, row, id, refl, is, sym meets.at),
   )
     where

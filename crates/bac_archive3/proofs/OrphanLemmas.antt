@@ -48,13 +48,13 @@ module _ (f : Values → Values) (first : (row : Values) → column (f row) 0 �
       (back.0, back.1, sym (first back.0) ∙ ap (λ r. column r 0) back.2 ∙ it.2)
 
 module _ (trees : Trees) (beginnings logs : List Values) (begun_same : IsPermutation (map (shown 2) (trees 6)) beginnings)
-    (logs_same : IsPermutation (map (shown 7) (trees 3)) logs) (item : Values) where
+    (logs_same : IsPermutation (map (shown 9) (trees 3)) logs) (item : Values) where
   pub by_rows : IsBegunBy (trees 6) (trees 3) item → IsBegunBy beginnings logs item
   by_rows it = (
     it.0,
     it.1,
     is_shown (shown 2) (λ _. refl) (trees 6) beginnings begun_same _ it.2,
-    is_shown (shown 7) (λ _. refl) (trees 3) logs logs_same _ it.3,
+    is_shown (shown 9) (λ _. refl) (trees 3) logs logs_same _ it.3,
   )
 
   pub by_trees : IsBegunBy beginnings logs item → IsBegunBy (trees 6) (trees 3) item
@@ -62,7 +62,7 @@ module _ (trees : Trees) (beginnings logs : List Values) (begun_same : IsPermuta
     it.0,
     it.1,
     is_held (shown 2) (λ _. refl) (trees 6) beginnings begun_same _ it.2,
-    is_held (shown 7) (λ _. refl) (trees 3) logs logs_same _ it.3,
+    is_held (shown 9) (λ _. refl) (trees 3) logs logs_same _ it.3,
   )
 
 -- the items are so if their spans are

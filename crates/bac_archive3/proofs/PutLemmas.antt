@@ -13,11 +13,11 @@ use Rattle.sqlite.specs.Effect.{Database}
 use Rattle.sqlite.specs.State.{State, ExecutesInside, Executes}
 use Rattle.bac_archive3.specs.Schema.{HasArchive}
 use Rattle.bac_archive3.specs.Making.{IsFilled, IsMade}
-use Rattle.bac_archive3.specs.Put.{AreFree, IsPut, Puts, after, given, is_new, left, replaced, row_of, table_of, text_of}
+use Rattle.bac_archive3.specs.Put.{AreFree, IsPut, Puts, after, given, is_new, left, row_of, table_of, text_of, with_row}
 use Rattle.bac_archive3.specs.declared.row.Put.{Put}
-use Rattle.bac_archive3.specs.declared.row.Put.TheVariants.{NewDevice, Device, NewLog, Log, Beginning, Item}
+use Rattle.bac_archive3.specs.declared.row.Put.TheVariants.{NewDevice, Device, NewLog, Log, Beginning, Lowered, Item}
 use Rattle.bac_archive3.proofs.InsertLemmas.{Sets, Adds, adds_device, adds_log, adds_item, adds_beginning}
-use Rattle.bac_archive3.proofs.ChangeLemmas.{changes_device, changes_log}
+use Rattle.bac_archive3.proofs.ChangeLemmas.{changes_device, changes_log, lowers}
 
 same_place : (n : ℕ) → (n == n) ≡ true
 same_place n = eq-eqb n n refl
@@ -37,28 +37,26 @@ of_all : (P : Table → Type 0) → ((t : Table) → P t) → (tables : List Tab
 of_all P all [] = tt
 of_all P all (t ∷ tables) = (all t, of_all P all tables)
 
--- one put, new or in place of another
-adds_put : (old new : Database) (put : Put) → is_new put ≡ true → Adds old new (table_of put).tree (row_of put) → IsPut old new (put ∷ [])
-adds_put old new put is it = record {
-  schema = it.sets.schema;
-  rows = rw is (each_table (table_of put).tree (put_row (row_of put)) old.trees new.trees it.sets.rows_are old.schema.tables it.sets.others);
-  once = of_all _ (λ t. ((λ same _. subst (λ n. is_taken (old.trees n) (row_of put) ≡ false) same it.free), tt)) old.schema.tables;
+-- one put, which is free if it is new
+sets_put : (old new : Database) (put : Put) → (is_new put ≡ true → is_taken (old.trees (table_of put).tree) (row_of put) ≡ false)
+    → Sets old new (table_of put).tree (with_row put (old.trees (table_of put).tree)) → IsPut old new (put ∷ [])
+sets_put old new put free it = record {
+  schema = it.schema;
+  rows = each_table (table_of put).tree (with_row put) old.trees new.trees it.rows_are old.schema.tables it.others;
+  once = of_all _ (λ t. ((λ same new. subst (λ n. is_taken (old.trees n) (row_of put) ≡ false) same (free new)), tt)) old.schema.tables;
 }
 
-changes_put : (old new : Database) (put : Put) → is_new put ≡ false → Sets old new (table_of put).tree (replaced (row_of put) (old.trees (table_of put).tree)) → IsPut old new (put ∷ [])
-changes_put old new put is it = record {
-  schema = it.schema;
-  rows = rw is (each_table (table_of put).tree (replaced (row_of put)) old.trees new.trees it.rows_are old.schema.tables it.others);
-  once = of_all _ (λ t. ((λ same new. absurd (both_ways _ is new)), tt)) old.schema.tables;
-}
+adds_put : (old new : Database) (put : Put) → Adds old new (table_of put).tree (row_of put) → with_row put (old.trees (table_of put).tree) ≡ put_row (row_of put) (old.trees (table_of put).tree) → IsPut old new (put ∷ [])
+adds_put old new put it is = sets_put old new put (λ _. it.free) (subst (Sets old new (table_of put).tree) (sym is) it.sets)
 
 is_put : (put : Put) (old new : State) (count : ℕ) → HasArchive old.now.schema → Executes (text_of put) (given put) old new (Ok count) → IsPut old.now new.now (put ∷ [])
-is_put (NewDevice d) old new count has ran = adds_put old.now new.now (NewDevice d) refl (adds_device _ _ _ _ _ _ _ _ _ _ _ _ old new count has ran)
-is_put (Device d) old new count has ran = changes_put old.now new.now (Device d) refl (changes_device _ _ _ _ _ _ _ _ _ _ _ _ old new count has ran)
-is_put (NewLog l) old new count has ran = adds_put old.now new.now (NewLog l) refl (adds_log _ _ _ _ _ _ _ _ old new count has ran)
-is_put (Log l) old new count has ran = changes_put old.now new.now (Log l) refl (changes_log _ _ _ _ _ _ _ _ old new count has ran)
-is_put (Beginning b) old new count has ran = adds_put old.now new.now (Beginning b) refl (adds_beginning _ _ _ old new count has ran)
-is_put (Item i) old new count has ran = adds_put old.now new.now (Item i) refl (adds_item _ _ _ _ _ _ old new count has ran)
+is_put (NewDevice d) old new count has ran = adds_put old.now new.now (NewDevice d) (adds_device _ _ _ _ _ _ _ _ _ _ _ old new count has ran) refl
+is_put (Device d) old new count has ran = sets_put old.now new.now (Device d) (λ e. absurd cc) (changes_device _ _ _ _ _ _ _ _ _ _ _ old new count has ran)
+is_put (NewLog l) old new count has ran = adds_put old.now new.now (NewLog l) (adds_log _ _ _ _ _ _ _ _ _ _ old new count has ran) refl
+is_put (Log l) old new count has ran = sets_put old.now new.now (Log l) (λ e. absurd cc) (changes_log _ _ _ _ _ _ _ _ _ _ old new count has ran)
+is_put (Beginning b) old new count has ran = adds_put old.now new.now (Beginning b) (adds_beginning _ _ _ old new count has ran) refl
+is_put (Lowered b) old new count has ran = sets_put old.now new.now (Lowered b) (λ e. absurd cc) (lowers _ _ _ old new count has ran)
+is_put (Item i) old new count has ran = adds_put old.now new.now (Item i) (adds_item _ _ _ _ _ _ old new count has ran) refl
 
 pub puts_one : (put : Put) (old new : State) (count : ℕ) → HasArchive old.now.schema → ExecutesInside 0 (text_of put) (given put) old new (Ok count) → Puts old new (put ∷ [])
 puts_one put old new count has ran = record { put = is_put put old new count has ran.0; mode = ran.1.mode; committed = ran.1.committed_is }

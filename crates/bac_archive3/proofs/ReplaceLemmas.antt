@@ -27,7 +27,7 @@ use Rattle.sqlite_rules.specs.Edit.{id_in, is_taken, put_all, are_fresh, have_ro
 use Rattle.sqlite_rules.specs.Calls.{ids_of}
 use Rattle.sqlite_rules.specs.declared.error.Rowids.TheVariants.{Given}
 use Rattle.sqlite.proofs.Callers.{one_permutation}
-use Rattle.bac_archive3.specs.Put.{replaced}
+use Rattle.bac_archive3.specs.Put.{is_counted, lowered, replaced}
 use Rattle.bac_archive3.proofs.RowsLemmas.{cast_int, from_not}
 
 -- a row at a free rowid comes to the others
@@ -63,6 +63,15 @@ equals (Int z) n = bool_is (is_eq (value_cmp (Int z) (Int n)))
 equals (Real x) n = bool_is (is_eq (value_cmp (Real x) (Int n)))
 equals (Text t) n = bool_is (is_eq (value_cmp (Text t) (Int n)))
 equals (Blob b) n = bool_is (is_eq (value_cmp (Blob b) (Int n)))
+
+-- and one with a text
+pub equals_text : (v : Value) (t : List ℕ) → is_true (binary (Compare Eq Binary) v (Text t)) ≡ is_eq (value_cmp v (Text t))
+unfolding binary value_cmp
+equals_text Null t = refl
+equals_text (Int z) t = bool_is (is_eq (value_cmp (Int z) (Text t)))
+equals_text (Real x) t = bool_is (is_eq (value_cmp (Real x) (Text t)))
+equals_text (Text u) t = bool_is (is_eq (value_cmp (Text u) (Text t)))
+equals_text (Blob b) t = bool_is (is_eq (value_cmp (Blob b) (Text t)))
 
 -- an id that is one number as a comparison finds, and another as a column has it, is both
 pub tied_int : (n id : ℤ) → value_cmp (Int n) (Int id) ≡ Equal → n ≡ id
@@ -137,7 +146,7 @@ in_filter p (y ∷ ys) x h passes = go (p y) refl h (λ there. in_filter p ys x 
     go false is (zero, lt, same) rest = absurd (both_ways _ is (ap p same ∙ passes))
     go false is (suc i, lt, same) rest = rest (i, omega (arith, lt), same)
 
-any_of : {X : Type 0} (q : X → Bool) (xs : List X) (x : X) → Contains xs x → q x ≡ true → list_any q xs ≡ true
+pub any_of : {X : Type 0} (q : X → Bool) (xs : List X) (x : X) → Contains xs x → q x ≡ true → list_any q xs ≡ true
 any_of q [] x h passes = absurd (omega (arith, h.1))
 any_of q (y ∷ ys) x (zero, lt, same) passes = ap (λ b. b || list_any q ys) (ap q same ∙ passes)
 any_of q (y ∷ ys) x (suc i, lt, same) passes = or_right (q y) (list_any q ys) (any_of q ys x (i, omega (arith, lt), same) passes)
@@ -169,16 +178,10 @@ replaced_else : (b : Bool) (x y : List Values) → b ≡ false → (if b then x 
 replaced_else false x y h = refl
 replaced_else true x y h = absurd (let e = h in cc)
 
--- A statement picks the rows under an id, and puts this one in place of each.
-module _ (id : ℤ) (made : Values) (made_id : rowid made ≡ Int id) (source_of cast_to : Values → Values) (source_id : (row : Values) → rowid (source_of row) ≡ rowid row)
+-- A statement picks rows under an id, and puts this one in place of each.
+module _ (id : ℤ) (here : Values → Bool) (within : (row : Values) → here row ≡ true → has_rowid id row ≡ true) (made : Values) (made_id : rowid made ≡ Int id) (source_of cast_to : Values → Values) (source_id : (row : Values) → rowid (source_of row) ≡ rowid row)
     (cast_is : (row : Values) → has_rowid id row ≡ true → is_int (rowid (cast_to (source_of row))) ≡ true → cast_to (source_of row) ≡ made) (rows : List Values) where
-  abbrev here : Values → Bool
-  here = has_rowid id
-
-  taken_is : is_taken rows made ≡ list_any here rows
-  taken_is = rw made_id refl
-
-  -- what the statement read is of a row under the id
+  -- what the statement read is of such a row
   record IsOfRow (source : Values) : Type 0 where
     pub row : Values
     pub there : Contains rows row
@@ -192,7 +195,7 @@ module _ (id : ℤ) (made : Values) (made_id : rowid made ≡ Int id) (source_of
       record { row = it.0; there = back.0; id_is = back.1; is = it.2 }
 
   cast_made : (source : Values) (it : IsOfRow source) → is_int (rowid (cast_to source)) ≡ true → cast_to source ≡ made
-  cast_made source it whole = ap cast_to (sym it.is) ∙ cast_is it.row it.id_is (subst (λ s. is_int (rowid (cast_to s)) ≡ true) (sym it.is) whole)
+  cast_made source it whole = ap cast_to (sym it.is) ∙ cast_is it.row (within it.row it.id_is) (subst (λ s. is_int (rowid (cast_to s)) ≡ true) (sym it.is) whole)
 
   abbrev left : List Values → List Values
   left picked = without_all rows (ids_of picked)
@@ -208,17 +211,17 @@ module _ (id : ℤ) (made : Values) (made_id : rowid made ≡ Int id) (source_of
       other = id_in (rowid source)
 
       go : (b : Bool) → has_rowid other it.row ≡ b → other ≡ id
-      go true is = tied_both (rowid it.row) other id (from_eq _ is) (from_eq _ it.id_is)
+      go true is = tied_both (rowid it.row) other id (from_eq _ is) (from_eq _ (within it.row it.id_is))
       go false is =
           let stays = in_filter (λ r. not (has_rowid other r)) rows it.row it.there (ap not is) in
-          let tied : is_eq (value_cmp (rowid it.row) (rowid made)) ≡ true = rw made_id it.id_is in
+          let tied : is_eq (value_cmp (rowid it.row) (rowid made)) ≡ true = rw made_id (within it.row it.id_is) in
           absurd (both_ways _ free (any_of (λ r. is_eq (value_cmp (rowid r) (rowid made))) (left (source ∷ [])) it.row stays tied))
 
   pub puts_replaced : (picked : List Values) → IsPermutation (map source_of (filter here rows)) picked → have_rowids (put picked) ≡ true → are_fresh (left picked) (put picked) ≡ true
-      → put_all (left picked) (put picked) ≡ replaced made rows
+      → put_all (left picked) (put picked) ≡ (if list_any here rows then put_row made (without_rowid id rows) else rows)
   puts_replaced [] same keyed fresh =
       let none : filter here rows ≡ [] = nil_from_length _ (omega (arith, length_permutation _ _ same, length-map (filter here rows) source_of)) in
-      sym (replaced_else _ _ rows (taken_is ∙ none_any here rows none))
+      sym (replaced_else _ _ rows (none_any here rows none))
   puts_replaced (one ∷ []) same keyed fresh =
       let found = single source_of (filter here rows) one (one_permutation one _ (IsPermutation-sym _ _ same)) in
       let row = found.0 in
@@ -227,9 +230,8 @@ module _ (id : ℤ) (made : Values) (made_id : rowid made ≡ Int id) (source_of
       let cast = cast_made one it (and_parts _ _ keyed).0 in
       let free : is_taken (left (one ∷ [])) made ≡ false = subst (λ r. is_taken (left (one ∷ [])) r ≡ false) cast (from_not _ fresh) in
       let same_id = id_of_one one it free in
-      let there = taken_is ∙ any_of here rows row back.0 back.1 in
-      ap (λ n. put_row n (without_rowid (id_in (rowid one)) rows)) cast ∙ ap (λ k. put_row made (without_rowid k rows)) same_id
-      ∙ ap (λ v. put_row made (without_rowid (id_in v) rows)) (sym made_id) ∙ sym (replaced_if _ _ rows there)
+      let there = any_of here rows row back.0 back.1 in
+      ap (λ n. put_row n (without_rowid (id_in (rowid one)) rows)) cast ∙ ap (λ k. put_row made (without_rowid k rows)) same_id ∙ sym (replaced_if _ _ rows there)
   puts_replaced (one ∷ two ∷ more) same keyed fresh =
       let first = of_row _ same one (0, omega arith, refl) in
       let second = of_row _ same two (1, omega arith, refl) in
@@ -240,3 +242,12 @@ module _ (id : ℤ) (made : Values) (made_id : rowid made ≡ Int id) (source_of
       let free = not-true _ apart.0 in
       let again = not-true (is_taken (put_row (cast_to one) (left (one ∷ two ∷ more))) (cast_to two)) (and_parts _ _ apart.1).0 in
       absurd (both_ways _ again (taken_again (cast_to one) (cast_to two) (left (one ∷ two ∷ more)) free (ap rowid a ∙ sym (ap rowid b))))
+
+-- in place of the row under the id
+pub as_replaced : (id : ℤ) (made : Values) (rows : List Values) → rowid made ≡ Int id → (if list_any (has_rowid id) rows then put_row made (without_rowid id rows) else rows) ≡ replaced made rows
+as_replaced id made rows is = rw is refl
+
+-- or of the one that was counted
+pub as_lowered : (id : ℤ) (made : Values) (rows : List Values) → rowid made ≡ Int id
+    → (if list_any (λ r. has_rowid id r && is_counted r) rows then put_row made (without_rowid id rows) else rows) ≡ lowered made rows
+as_lowered id made rows is = rw is refl

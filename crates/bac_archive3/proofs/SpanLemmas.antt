@@ -18,7 +18,7 @@ pub they_rise : (free to : ℕ) (rows : List Values) → RiseTo free rows to →
 they_rise free to [] rise = tt
 they_rise free to (r ∷ rows) rise = (rise.0, rise.1, they_rise rise.0 to rows rise.2)
 
-same_end : (v : Value) (id a b : ℕ) → EndsAt v id a → EndsAt v id b → a ≡ b
+pub same_end : (v : Value) (id a b : ℕ) → EndsAt v id a → EndsAt v id b → a ≡ b
 same_end Null id a b p q = p ∙ sym q
 same_end (Int (pos last)) id a b p q = p.2 ∙ sym q.2
 same_end _ id a b p q = absurd p

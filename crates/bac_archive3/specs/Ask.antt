@@ -16,10 +16,11 @@ use Rattle.bac_archive3.specs.declared.asking.Tables.{Tables}
 abbrev pub asked : Question → List ℕ
 asked Archive = codes "SELECT version, made FROM archive"
 asked Devices =
-    codes "SELECT id, address, dnet, dadr, instance, name, restart, revision, whole, stopped, answered, offset "
+    codes "SELECT id, address, dnet, dadr, instance, name, revision, whole, stopped, answered, offset "
     ++ codes "FROM devices ORDER BY id"
 asked Logs =
-    codes "SELECT id, device, instance, name, source, units, description, stopped FROM logs ORDER BY id DESC"
+    codes "SELECT id, device, instance, name, source, units, description, restart, revision, stopped "
+    ++ codes "FROM logs ORDER BY id DESC"
 asked Beginnings = codes "SELECT id, number, why FROM beginnings ORDER BY id DESC"
 asked Items = codes "SELECT id, last, stamp, value, datum, flags FROM items ORDER BY id DESC"
 asked Spans = codes "SELECT id, last FROM items ORDER BY id"
@@ -49,8 +50,8 @@ shown n row = rowid row ∷ map (column row) (places 2 n)
 -- how many columns are shown behind the id
 abbrev pub width : Question → ℕ
 width Archive = 1
-width Devices = 11
-width Logs = 7
+width Devices = 10
+width Logs = 9
 width Beginnings = 2
 width Items = 5
 width Spans = 1

@@ -8,6 +8,7 @@ use Rattle.sqlite.specs.declared.error.Error.TheVariants.{SqliteFailure}
 use Rattle.sqlite.specs.declared.error.ErrorCode.TheVariants.{OutOfMemory}
 use Rattle.sqlite.specs.Effect.{Database}
 use Rattle.sqlite.specs.Held.{Held, state}
+use Rattle.bac_archive3.specs.Archive.{IsArchive}
 use Rattle.bac_archive3.specs.Making.{FailsToMake, IsMadeOf}
 use Rattle.bac_archive3.specs.Stands.{FailsToTell, StandsAs}
 use Rattle.bac_archive3.specs.declared.row.Put.{Put}
@@ -22,6 +23,10 @@ puts_of s = map NewDevice s.devices.items ++ (map NewLog s.logs.items ++ (map Be
 -- a new archive is of the moment of an old one, and has what is told of that
 abbrev pub FollowsOn : Trees → Database → Type 0
 FollowsOn old new = (s : Standing) × StandsAs old s × IsMadeOf (string_bytes s.made) new (puts_of s)
+
+-- the part that follows on an archive is one, which can be opened
+abbrev pub PartIsArchive : Type 0
+PartIsArchive = (old new : Database) → IsArchive old → FollowsOn old.trees new → IsArchive new
 
 -- Why a part isn't made: the archive isn't told; there is no memory; or what it tells isn't put.
 abbrev pub FailsToFollow : {A B : Type 0} → Ghosts A → Ghosts B → Held A → Held B → Held B → Error → Type 0

@@ -12,7 +12,7 @@ use Rattle.bac_archive3.specs.Read.{numbers}
 use Rattle.bac_archive3.specs.Stands.{epochs}
 use Rattle.bac_archive3.specs.declared.row.ItemRow.{ItemRow}
 use Rattle.bac_archive3.specs.declared.row.Put.{Put}
-use Rattle.bac_archive3.specs.declared.row.Put.TheVariants.{NewDevice, Device, NewLog, Log, Beginning, Item}
+use Rattle.bac_archive3.specs.declared.row.Put.TheVariants.{NewDevice, Device, NewLog, Log, Beginning, Lowered, Item}
 
 -- each item of the epoch of this id lies before it
 abbrev pub AllLieBefore : List Values → ℕ → Type 0
@@ -37,6 +37,7 @@ IsFit trees (Device d) = d.id < 65536
 IsFit trees (NewLog l) = l.id < 65536
 IsFit trees (Log l) = l.id < 65536
 IsFit trees (Beginning b) = b.id < 2147483648
+IsFit trees (Lowered b) = b.id < 2147483648
 IsFit trees (Item i) = GoesOn trees i
 
 -- the tables once it is put

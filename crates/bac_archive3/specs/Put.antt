@@ -1,15 +1,16 @@
 -- Rows are put: all of a batch, or none.
-use Rattle.std.specs.Prelude.{◌≡◌, ◌⊎◌, ⊤, ℕ, ℤ, pos, Bool, true, false, if◌then◌else◌, ◌==◌}
+use Rattle.std.specs.Prelude.{◌≡◌, ◌⊎◌, ⊤, ℕ, ℤ, pos, Bool, true, false, if◌then◌else◌, ◌==◌, ◌&&◌}
 use Rattle.std.specs.Prelude.{List, [], ◌∷◌, ◌++◌, map, fold, drop, take}
 use Rattle.std.specs.Prelude.{codes, Some, Err, IsTrue, slice_get}
-use Rattle.std.specs.List.{AllByRecursion, Contains}
+use Rattle.std.specs.List.{AllByRecursion, Contains, list_any}
+use Rattle.std.specs.Ordering.{is_eq}
 use Rattle.std.specs.String.{string_bytes}
 use Rattle.sqlite_value.specs.declared.value.Value.TheVariants.{Null, Int, Real, Text}
-use Rattle.sqlite_value.specs.Order.{Row as Values}
+use Rattle.sqlite_value.specs.Order.{Row as Values, column, value_cmp}
 use Rattle.sqlite_schema.specs.declared.schema.Table.{Table}
 use Rattle.sqlite_rules.specs.Edit.{id_in, is_taken}
 use Rattle.sqlite_rules.specs.Cast.{cast_all}
-use Rattle.sqlite_trees.specs.Tree.{rowid, put_row, without_rowid}
+use Rattle.sqlite_trees.specs.Tree.{Trees, rowid, put_row, without_rowid}
 use Rattle.sqlite_trees.specs.declared.store.Store.{Ghosts}
 use Rattle.sqlite.specs.Values.{or_null, bound_value}
 use Rattle.sqlite.specs.declared.error.Error.{Error}
@@ -21,7 +22,7 @@ use Rattle.sqlite.specs.Held.{Held, state}
 use Rattle.sqlite.specs.Steps.{FailsToCommit}
 use Rattle.bac_archive3.specs.Schema.{HasArchive, devices, logs, items, beginnings}
 use Rattle.bac_archive3.specs.declared.row.Put.{Put}
-use Rattle.bac_archive3.specs.declared.row.Put.TheVariants.{NewDevice, Device, NewLog, Log, Beginning, Item}
+use Rattle.bac_archive3.specs.declared.row.Put.TheVariants.{NewDevice, Device, NewLog, Log, Beginning, Lowered, Item}
 use Rattle.bac_archive3.specs.declared.row.DeviceRow.{DeviceRow}
 use Rattle.bac_archive3.specs.declared.row.LogRow.{LogRow}
 use Rattle.bac_archive3.specs.declared.row.BeginningRow.{BeginningRow}
@@ -37,16 +38,15 @@ flag is = pos (if is then 1 else 0)
 abbrev pub device_columns : DeviceRow → Values
 device_columns d = Int (pos d.id) ∷ Text (string_bytes d.address) ∷ Int (pos d.dnet) ∷ Text (string_bytes d.dadr)
     ∷ or_null (λ n. Int (pos n)) d.instance ∷ or_null (λ t. Text (string_bytes t)) d.name
-    ∷ or_null (λ t. Text (string_bytes t)) d.restart ∷ or_null (λ n. Int (pos n)) d.revision
-    ∷ Int (flag d.whole) ∷ Int (flag d.stopped) ∷ or_null (λ t. Text (string_bytes t)) d.answered
-    ∷ or_null Int d.offset ∷ []
+    ∷ or_null (λ n. Int (pos n)) d.revision ∷ Int (flag d.whole) ∷ Int (flag d.stopped)
+    ∷ or_null (λ t. Text (string_bytes t)) d.answered ∷ or_null Int d.offset ∷ []
 
 -- of a log
 abbrev pub log_columns : LogRow → Values
 log_columns l = Int (pos l.id) ∷ Int (pos l.device) ∷ Int (pos l.instance)
     ∷ or_null (λ t. Text (string_bytes t)) l.name ∷ or_null (λ t. Text (string_bytes t)) l.source
     ∷ or_null (λ t. Text (string_bytes t)) l.units ∷ or_null (λ t. Text (string_bytes t)) l.description
-    ∷ Int (flag l.stopped) ∷ []
+    ∷ or_null (λ t. Text (string_bytes t)) l.restart ∷ or_null (λ n. Int (pos n)) l.revision ∷ Int (flag l.stopped) ∷ []
 
 -- of a record or a gap
 abbrev pub item_columns : ItemRow → Values
@@ -70,6 +70,7 @@ columns_of (Device d) = device_columns d
 columns_of (NewLog l) = log_columns l
 columns_of (Log l) = log_columns l
 columns_of (Beginning b) = beginning_columns b
+columns_of (Lowered b) = beginning_columns b
 columns_of (Item i) = item_columns i
 
 -- what is bound for it
@@ -84,6 +85,7 @@ table_of (NewLog l) = record logs { tree = 3 }
 table_of (Log l) = record logs { tree = 3 }
 table_of (Item i) = record items { tree = 5 }
 table_of (Beginning b) = record beginnings { tree = 6 }
+table_of (Lowered b) = record beginnings { tree = 6 }
 
 -- its row as it is kept, where the key stands in the place of the rowid alone
 abbrev pub row_of : Put → Values
@@ -93,17 +95,37 @@ row_of put = rowid (given put) ∷ Null ∷ cast_all (drop 1 (table_of put).colu
 abbrev pub is_new : Put → Bool
 is_new (Device d) = false
 is_new (Log l) = false
+is_new (Lowered b) = false
 is_new _ = true
 
 -- the rows of a table with this one in place of the one with its id; where there is none, as they were
 abbrev pub replaced : Values → List Values → List Values
 replaced row rows = if is_taken rows row then put_row row (without_rowid (id_in (rowid row)) rows) else rows
 
+-- a beginning is known by the count alone
+abbrev pub is_counted : Values → Bool
+is_counted beginning = is_eq (value_cmp (column beginning 3) (Text (codes "counted")))
+
+-- the rows of beginnings with this one in place of the one with its id, if that was counted; if it wasn't, or there is
+-- none, as they were
+abbrev pub lowered : Values → List Values → List Values
+lowered row rows =
+    if list_any (λ r. is_eq (value_cmp (rowid r) (rowid row)) && is_counted r) rows
+    then put_row row (without_rowid (id_in (rowid row)) rows) else rows
+
+-- the rows of its table, once it is put
+abbrev pub with_row : Put → List Values → List Values
+with_row (NewDevice d) rows = put_row (row_of (NewDevice d)) rows
+with_row (Device d) rows = replaced (row_of (Device d)) rows
+with_row (NewLog l) rows = put_row (row_of (NewLog l)) rows
+with_row (Log l) rows = replaced (row_of (Log l)) rows
+with_row (Beginning b) rows = put_row (row_of (Beginning b)) rows
+with_row (Lowered b) rows = lowered (row_of (Lowered b)) rows
+with_row (Item i) rows = put_row (row_of (Item i)) rows
+
 -- the rows of the table at this place, once it is put
 abbrev pub after : ℕ → List Values → Put → List Values
-after tree rows put =
-    if (table_of put).tree == tree then (if is_new put then put_row (row_of put) rows else replaced (row_of put) rows)
-    else rows
+after tree rows put = if (table_of put).tree == tree then with_row put rows else rows
 
 -- and once all of these are, one after the other
 abbrev pub left : ℕ → List Values → List Put → List Values
@@ -135,14 +157,14 @@ pub record Puts (old new : State) (puts : List Put) : Type 0 where
 -- the one that puts a new device
 abbrev pub device_text : List ℕ
 device_text =
-    codes "INSERT INTO devices (id, address, dnet, dadr, instance, name, restart, revision, whole, "
-    ++ codes "stopped, answered, offset) VALUES (?1, ?2, ?3, ?4, ?5, ?6, ?7, ?8, ?9, ?10, ?11, ?12)"
+    codes "INSERT INTO devices (id, address, dnet, dadr, instance, name, revision, whole, stopped, "
+    ++ codes "answered, offset) VALUES (?1, ?2, ?3, ?4, ?5, ?6, ?7, ?8, ?9, ?10, ?11)"
 
 -- the one that puts a new log
 abbrev pub log_text : List ℕ
 log_text =
-    codes "INSERT INTO logs (id, device, instance, name, source, units, description, stopped) VALUES (?1, "
-    ++ codes "?2, ?3, ?4, ?5, ?6, ?7, ?8)"
+    codes "INSERT INTO logs (id, device, instance, name, source, units, description, restart, revision, "
+    ++ codes "stopped) VALUES (?1, ?2, ?3, ?4, ?5, ?6, ?7, ?8, ?9, ?10)"
 
 -- the one that puts an item
 abbrev pub item_text : List ℕ
@@ -155,14 +177,18 @@ beginning_text = codes "INSERT INTO beginnings (id, number, why) VALUES (?1, ?2,
 -- the one that puts a device in place of the one with its id
 abbrev pub change_device_text : List ℕ
 change_device_text =
-    codes "UPDATE devices SET address = ?2, dnet = ?3, dadr = ?4, instance = ?5, name = ?6, restart = ?7, "
-    ++ codes "revision = ?8, whole = ?9, stopped = ?10, answered = ?11, offset = ?12 WHERE id = ?1"
+    codes "UPDATE devices SET address = ?2, dnet = ?3, dadr = ?4, instance = ?5, name = ?6, revision = ?7, "
+    ++ codes "whole = ?8, stopped = ?9, answered = ?10, offset = ?11 WHERE id = ?1"
 
 -- the one that puts a log so
 abbrev pub change_log_text : List ℕ
 change_log_text =
     codes "UPDATE logs SET device = ?2, instance = ?3, name = ?4, source = ?5, units = ?6, description = "
-    ++ codes "?7, stopped = ?8 WHERE id = ?1"
+    ++ codes "?7, restart = ?8, revision = ?9, stopped = ?10 WHERE id = ?1"
+
+-- the one that puts a beginning in place of the one with its id, if that was counted
+abbrev pub lower_text : List ℕ
+lower_text = codes "UPDATE beginnings SET number = ?2, why = ?3 WHERE id = ?1 AND why = 'counted'"
 
 -- the statement of a put
 abbrev pub text_of : Put → List ℕ
@@ -171,6 +197,7 @@ text_of (Device d) = change_device_text
 text_of (NewLog l) = log_text
 text_of (Log l) = change_log_text
 text_of (Beginning b) = beginning_text
+text_of (Lowered b) = lower_text
 text_of (Item i) = item_text
 
 -- ---- why it is not done
@@ -198,11 +225,24 @@ FailsToPut {S = S} g old puts e =
 abbrev pub PutsJoin : Type 0
 PutsJoin = (a b c : Database) (xs ys : List Put) → IsPut a b xs → IsPut b c ys → IsPut a c (xs ++ ys)
 
--- each item and each beginning of before is there as it was, whatever was put
+-- no two of these rows have one id
+abbrev pub HaveOwnIds : List Values → Type 0
+HaveOwnIds rows = (one two : Values) → Contains rows one → Contains rows two
+    → is_eq (value_cmp (rowid one) (rowid two)) ≡ true → one ≡ two
+
+-- What these trees had is there in those: each item as it was; of each beginning the id, and but of one that was counted
+-- the whole row, where no two beginnings had one id.
+pub record LoseNothing (old new : Trees) : Type 0 where
+  pub items : (row : Values) → Contains (old 5) row → Contains (new 5) row
+  pub ids : (row : Values) (id : ℤ) → Contains (old 6) row → rowid row ≡ Int id
+      → (later : Values) × Contains (new 6) later × (rowid later ≡ Int id)
+  pub beginnings : HaveOwnIds (old 6) → (row : Values) → Contains (old 6) row → is_counted row ≡ false
+      → Contains (new 6) row
+
+-- so it is whatever was put: no beginning is replaced that wasn't counted
 abbrev pub PutsLoseNothing : Type 0
 PutsLoseNothing = (old new : Database) (puts : List Put) → HasArchive old.schema → IsPut old new puts
-    → ((row : Values) → Contains (old.trees 5) row → Contains (new.trees 5) row)
-    × ((row : Values) → Contains (old.trees 6) row → Contains (new.trees 6) row)
+    → LoseNothing old.trees new.trees
 
 -- the version stays, whatever was put
 abbrev pub PutsKeepVersion : Type 0

@@ -39,12 +39,12 @@ IsOf (or_none kind) value = (value ≡ Null) ⊎ IsOf kind value
 -- the columns of a device, in their order
 abbrev pub device_kinds : List Kind
 device_kinds = below 65536 ∷ characters ∷ below 65536 ∷ characters ∷ or_none (below numbers) ∷ or_none characters
-    ∷ or_none characters ∷ or_none (below numbers) ∷ below 2 ∷ below 2 ∷ or_none characters ∷ or_none whole ∷ []
+    ∷ or_none (below numbers) ∷ below 2 ∷ below 2 ∷ or_none characters ∷ or_none whole ∷ []
 
 -- those of a log
 abbrev pub log_kinds : List Kind
 log_kinds = below 65536 ∷ below 65536 ∷ below numbers ∷ or_none characters ∷ or_none characters ∷ or_none characters
-    ∷ or_none characters ∷ below 2 ∷ []
+    ∷ or_none characters ∷ or_none characters ∷ or_none (below numbers) ∷ below 2 ∷ []
 
 -- those of a beginning
 abbrev pub beginning_kinds : List Kind

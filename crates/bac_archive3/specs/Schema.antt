@@ -26,16 +26,16 @@ archive_text = codes "CREATE TABLE archive (version INTEGER PRIMARY KEY, made TE
 abbrev pub devices_text : List ℕ
 devices_text =
     codes "CREATE TABLE devices (id INTEGER PRIMARY KEY, address TEXT NOT NULL, dnet INTEGER NOT NULL, "
-    ++ (codes "dadr TEXT NOT NULL, instance INTEGER, name TEXT, restart TEXT, revision INTEGER, "
-    ++ (codes "whole INTEGER NOT NULL, stopped INTEGER NOT NULL, answered TEXT, offset INTEGER, "
+    ++ (codes "dadr TEXT NOT NULL, instance INTEGER, name TEXT, revision INTEGER, whole INTEGER NOT NULL, "
+    ++ (codes "stopped INTEGER NOT NULL, answered TEXT, offset INTEGER, "
     ++ codes "UNIQUE (address, dnet, dadr)) STRICT"))
 
 -- the table of trend logs
 abbrev pub logs_text : List ℕ
 logs_text =
     codes "CREATE TABLE logs (id INTEGER PRIMARY KEY, device INTEGER NOT NULL, instance INTEGER NOT NULL, "
-    ++ (codes "name TEXT, source TEXT, units TEXT, description TEXT, stopped INTEGER NOT NULL, "
-    ++ codes "UNIQUE (device, instance)) STRICT")
+    ++ (codes "name TEXT, source TEXT, units TEXT, description TEXT, restart TEXT, revision INTEGER, "
+    ++ codes "stopped INTEGER NOT NULL, UNIQUE (device, instance)) STRICT")
 
 -- the table of records and gaps
 abbrev pub items_text : List ℕ
@@ -117,25 +117,27 @@ abbrev pub archive : Table
 archive = table (codes "archive") (column (codes "version") Integer false ∷ column (codes "made") Text true ∷ []) [] []
 
 -- a device: where it is (the address of it or of the router to it, the network and address behind the router, 0 and
--- empty if there is none); what it told, which is the instance of its Device object, Object_Name,
--- Time_Of_Device_Restart and Database_Revision (clause 12.11); whether all its trend logs are kept, and whether it isn't
--- asked any more; when it answered last, and its clock minus this machine's
+-- empty if there is none); what it told, which is the instance of its Device object, its Object_Name, and its
+-- Database_Revision when its Object_List was read (clause 12.11); whether all its trend logs are kept, and whether it
+-- isn't asked any more; when it answered last, and its clock minus this machine's
 abbrev pub devices : Table
 devices = table (codes "devices")
     (column (codes "id") Integer false ∷ column (codes "address") Text true ∷ column (codes "dnet") Integer true
     ∷ column (codes "dadr") Text true ∷ column (codes "instance") Integer false ∷ column (codes "name") Text false
-    ∷ column (codes "restart") Text false ∷ column (codes "revision") Integer false
-    ∷ column (codes "whole") Integer true ∷ column (codes "stopped") Integer true
-    ∷ column (codes "answered") Text false ∷ column (codes "offset") Integer false ∷ [])
+    ∷ column (codes "revision") Integer false ∷ column (codes "whole") Integer true
+    ∷ column (codes "stopped") Integer true ∷ column (codes "answered") Text false
+    ∷ column (codes "offset") Integer false ∷ [])
     ((2 ∷ 3 ∷ 4 ∷ []) ∷ []) (plain ∷ [])
 
 -- a trend log: its device and its instance there, what it told (its name, what it logs, the units and the description of
--- that), and whether it isn't asked any more
+-- that), its device's word before the reply that last showed this log at its place, which is Time_Of_Device_Restart and
+-- Database_Revision (clause 12.11), and whether it isn't asked any more
 abbrev pub logs : Table
 logs = table (codes "logs")
     (column (codes "id") Integer false ∷ column (codes "device") Integer true ∷ column (codes "instance") Integer true
     ∷ column (codes "name") Text false ∷ column (codes "source") Text false ∷ column (codes "units") Text false
-    ∷ column (codes "description") Text false ∷ column (codes "stopped") Integer true ∷ [])
+    ∷ column (codes "description") Text false ∷ column (codes "restart") Text false
+    ∷ column (codes "revision") Integer false ∷ column (codes "stopped") Integer true ∷ [])
     ((2 ∷ 3 ∷ []) ∷ []) (plain ∷ [])
 
 -- a record, or a gap up to last; its id tells the log, the epoch and the number
@@ -145,7 +147,8 @@ items = table (codes "items")
     ∷ column (codes "value") Number false ∷ column (codes "datum") Text false ∷ column (codes "flags") Text false ∷ [])
     [] []
 
--- an epoch of a log, by its id, the number from which its items cover each one, and why it began
+-- an epoch of a log, by its id, the number from which its items cover each one, and why it began: NULL of the first one,
+-- or 'counted' as long as only the count told where that begins
 abbrev pub beginnings : Table
 beginnings = table (codes "beginnings")
     (column (codes "id") Integer false ∷ column (codes "number") Integer true ∷ column (codes "why") Text false ∷ [])

@@ -58,25 +58,27 @@ is_last last epoch = list_any (λ b. b.id == epoch) last
 abbrev pub met : {X : Type 0} → Found X → ℕ → ℕ
 met found place = if found.place == place then found.count else 0
 
--- one row more is met, which is told if it is wanted and not too many of its group were met before
-pub record Meets {X : Type 0} (most place : ℕ) (wanted : Bool) (old : Found X) (row : X) (new : Found X) : Type 0 where
+-- one row more is met, which is told by its columns if it is wanted and not too many of its group were met before
+pub record Meets {X : Type 0} (columns : X → Values) (most place : ℕ) (wanted : Bool) (old : Found X) (row : Values)
+    (new : Found X) : Type 0 where
   pub at : new.place ≡ place
-  pub more : met old place < most → (new.count ≡ met old place + 1)
-      × (new.rows.items ≡ (if wanted then old.rows.items ++ row ∷ [] else old.rows.items))
-  pub full : most ≤ met old place → (new.count ≡ met old place) × (new.rows.items ≡ old.rows.items)
+  pub more : met old place < most → (new.count ≡ met old place + 1) × (map columns new.rows.items
+      ≡ (if wanted then map columns old.rows.items ++ row ∷ [] else map columns old.rows.items))
+  pub full : most ≤ met old place → (new.count ≡ met old place)
+      × (map columns new.rows.items ≡ map columns old.rows.items)
 
 -- the id behind all of these, from 1 on
 abbrev pub behind : List ℕ → ℕ
 behind = fold (λ n id. max n (id + 1)) 1
 
 -- What is told of an archive: when it was made; each device and each log; of each log its last beginning, and the newest
--- items of the epoch that began there, up to ten; and the next ids that no device and no log has or had.
+-- items of the epoch that began there, up to three; and the next ids that no device and no log has or had.
 pub record StandsAs (trees : Trees) (s : Standing) : Type 0 where
   pub made : (row : Values) × Contains (trees 0) row × (column row 2 ≡ Text (string_bytes s.made))
-  pub devices : IsPermutation (map (shown 11) (trees 1)) (map device_columns s.devices.items)
-  pub logs : IsPermutation (map (shown 7) (trees 3)) (map log_columns s.logs.items)
+  pub devices : IsPermutation (map (shown 10) (trees 1)) (map device_columns s.devices.items)
+  pub logs : IsPermutation (map (shown 9) (trees 3)) (map log_columns s.logs.items)
   pub last : TellsNewest epochs 1 (λ _. true) (map (shown 2) (trees 6)) (map beginning_columns s.last.items)
-  pub newest : TellsNewest numbers 10 (is_last s.last.items) (map (shown 5) (trees 5)) (map item_columns s.newest.items)
+  pub newest : TellsNewest numbers 3 (is_last s.last.items) (map (shown 5) (trees 5)) (map item_columns s.newest.items)
   pub next_device : s.next_device ≡ behind (map (λ d. d.id) s.devices.items)
   pub next_log : s.next_log ≡ behind (map (λ l. l.id) s.logs.items ++ map (λ b. b.id / epochs) s.last.items)
 

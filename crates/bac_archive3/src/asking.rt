@@ -35,12 +35,12 @@ pub(crate) fn asked(question: Question) -> &'static str
     match question {
         Question::Archive => "SELECT version, made FROM archive",
         Question::Devices => {
-            "SELECT id, address, dnet, dadr, instance, name, restart, revision, whole, stopped, \
-             answered, offset FROM devices ORDER BY id"
+            "SELECT id, address, dnet, dadr, instance, name, revision, whole, stopped, answered, \
+             offset FROM devices ORDER BY id"
         }
         Question::Logs => {
-            "SELECT id, device, instance, name, source, units, description, stopped FROM logs \
-             ORDER BY id DESC"
+            "SELECT id, device, instance, name, source, units, description, restart, revision, \
+             stopped FROM logs ORDER BY id DESC"
         }
         Question::Beginnings => "SELECT id, number, why FROM beginnings ORDER BY id DESC",
         Question::Items => {

@@ -47,12 +47,11 @@ pub(crate) const NEWEST: &str =
 const STATEMENTS: [&str; 9] = [
     "CREATE TABLE archive (version INTEGER PRIMARY KEY, made TEXT NOT NULL) STRICT",
     "CREATE TABLE devices (id INTEGER PRIMARY KEY, address TEXT NOT NULL, dnet INTEGER NOT NULL, \
-     dadr TEXT NOT NULL, instance INTEGER, name TEXT, restart TEXT, revision INTEGER, whole \
-     INTEGER NOT NULL, stopped INTEGER NOT NULL, answered TEXT, offset INTEGER, UNIQUE (address, \
-     dnet, dadr)) STRICT",
+     dadr TEXT NOT NULL, instance INTEGER, name TEXT, revision INTEGER, whole INTEGER NOT NULL, \
+     stopped INTEGER NOT NULL, answered TEXT, offset INTEGER, UNIQUE (address, dnet, dadr)) STRICT",
     "CREATE TABLE logs (id INTEGER PRIMARY KEY, device INTEGER NOT NULL, instance INTEGER NOT \
-     NULL, name TEXT, source TEXT, units TEXT, description TEXT, stopped INTEGER NOT NULL, UNIQUE \
-     (device, instance)) STRICT",
+     NULL, name TEXT, source TEXT, units TEXT, description TEXT, restart TEXT, revision INTEGER, \
+     stopped INTEGER NOT NULL, UNIQUE (device, instance)) STRICT",
     "CREATE TABLE items (id INTEGER PRIMARY KEY, last INTEGER, stamp TEXT, value REAL, datum TEXT, \
      flags TEXT) STRICT",
     "CREATE TABLE beginnings (id INTEGER PRIMARY KEY, number INTEGER NOT NULL, why TEXT) STRICT",

@@ -5,7 +5,7 @@ ghost use Rattle.std.specs.String.{string_bytes};
 ghost use Rattle.sqlite.specs.State.{HasCleanDisk, Survives};
 ghost use Rattle.sqlite.specs.Held.{state};
 ghost use Rattle.bac_archive3.specs.Ask.{IsLeft};
-ghost use Rattle.bac_archive3.specs.Follow.{FailsToFollow, FollowsOn, puts_of};
+ghost use Rattle.bac_archive3.specs.Follow.{FailsToFollow, FollowsOn, PartIsArchive, puts_of};
 ghost use Rattle.bac_archive3.specs.Schema.{HasArchive, no_schema};
 
 use crate::making::make;
@@ -81,3 +81,8 @@ pub fn follow_on<A: Alter, B: Alter>(
     let puts = puts_of(alloc, told)?;
     make(part, made.as_str(), puts.as_slice())
 }
+
+/// The part that follows on an archive is one: so it can be opened.
+pub fn part_is_archive()
+    ensures { PartIsArchive }
+{}

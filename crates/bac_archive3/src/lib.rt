@@ -24,7 +24,7 @@ mod row;
 mod shape;
 mod standing;
 
-pub use following::follow_on;
+pub use following::{follow_on, part_is_archive};
 pub use items::{Item, given_are_items, items_of, read_item};
 pub use making::make;
 pub use opening::{Refused, open, puts_keep_archive};

@@ -23,29 +23,31 @@ fn put_one<S: Alter>(tx: &mut Transaction<'_, S>, put: &Put) -> Result<usize, Er
 {
     match put {
         Put::NewDevice(row) => tx.execute(
-            "INSERT INTO devices (id, address, dnet, dadr, instance, name, restart, revision, \
-             whole, stopped, answered, offset) VALUES (?1, ?2, ?3, ?4, ?5, ?6, ?7, ?8, ?9, ?10, \
-             ?11, ?12)",
+            "INSERT INTO devices (id, address, dnet, dadr, instance, name, revision, whole, \
+             stopped, answered, offset) VALUES (?1, ?2, ?3, ?4, ?5, ?6, ?7, ?8, ?9, ?10, ?11)",
             &device_bound(row),
         ),
         Put::Device(row) => tx.execute(
             "UPDATE devices SET address = ?2, dnet = ?3, dadr = ?4, instance = ?5, name = ?6, \
-             restart = ?7, revision = ?8, whole = ?9, stopped = ?10, answered = ?11, offset = \
-             ?12 WHERE id = ?1",
+             revision = ?7, whole = ?8, stopped = ?9, answered = ?10, offset = ?11 WHERE id = ?1",
             &device_bound(row),
         ),
         Put::NewLog(row) => tx.execute(
-            "INSERT INTO logs (id, device, instance, name, source, units, description, stopped) \
-             VALUES (?1, ?2, ?3, ?4, ?5, ?6, ?7, ?8)",
+            "INSERT INTO logs (id, device, instance, name, source, units, description, restart, \
+             revision, stopped) VALUES (?1, ?2, ?3, ?4, ?5, ?6, ?7, ?8, ?9, ?10)",
             &log_bound(row),
         ),
         Put::Log(row) => tx.execute(
             "UPDATE logs SET device = ?2, instance = ?3, name = ?4, source = ?5, units = ?6, \
-             description = ?7, stopped = ?8 WHERE id = ?1",
+             description = ?7, restart = ?8, revision = ?9, stopped = ?10 WHERE id = ?1",
             &log_bound(row),
         ),
         Put::Beginning(row) => tx.execute(
             "INSERT INTO beginnings (id, number, why) VALUES (?1, ?2, ?3)",
+            &beginning_bound(row),
+        ),
+        Put::Lowered(row) => tx.execute(
+            "UPDATE beginnings SET number = ?2, why = ?3 WHERE id = ?1 AND why = 'counted'",
             &beginning_bound(row),
         ),
         Put::Item(row) => tx.execute(
@@ -82,8 +84,9 @@ pub(crate) fn put_each<S: Alter>(tx: &mut Transaction<'_, S>, puts: &[Put]) -> R
 }
 
 /// Puts these rows in one transaction, one after the other: all of them or none, also over a crash.
-/// A new one whose id a row has is refused; one in place of a row that isn't there changes nothing.
-/// A transaction that is open already is refused.
+/// A new one whose id a row has is refused; one in place of a row that isn't there changes nothing,
+/// nor does a beginning in place of one that wasn't counted. A transaction that is open already is
+/// refused.
 pub fn put<S: Alter>(conn: &mut Connection<S>, puts: &[Put]) -> Result<(), Error>
     ensures all { OverArchive (state S.Store conn.old) (state S.Store conn.new)
         (OnOk result (IsPut (state S.Store conn.old).now (state S.Store conn.new).now puts.now
@@ -109,8 +112,8 @@ pub fn put<S: Alter>(conn: &mut Connection<S>, puts: &[Put]) -> Result<(), Error
     finish(tx, done.err())
 }
 
-/// Two batches, one after the other, are one. Whatever is put, each item and each beginning of
-/// before is there as it was, and the version stays.
+/// Two batches, one after the other, are one. Whatever is put, each item of before is there as it
+/// was, and so is each beginning that wasn't counted; each beginning's id stays, and the version.
 pub fn puts_are_one()
     ensures join { PutsJoin }
     ensures lose_nothing { PutsLoseNothing }

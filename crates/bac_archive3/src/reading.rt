@@ -1,6 +1,6 @@
 //! The rows of an answer are read.
 
-ghost use Rattle.std.specs.Prelude.{◌≡◌, ◌⊎◌, ℕ, pos, map, IfErr, IfOk};
+ghost use Rattle.std.specs.Prelude.{◌≡◌, ◌⊎◌, ℕ, pos, ◌/◌, map, IfErr, IfOk};
 ghost use Rattle.sqlite_value.specs.Order.{column};
 ghost use Rattle.sqlite_value.specs.declared.value.Value.TheVariants.{Int, Real, Text};
 ghost use Rattle.sqlite.specs.Values.{or_null};
@@ -8,7 +8,7 @@ ghost use Rattle.bac_archive3.specs.Ask.{first};
 ghost use Rattle.bac_archive3.specs.Put.{beginning_columns, device_columns, flag, item_columns};
 ghost use Rattle.bac_archive3.specs.Put.{log_columns};
 ghost use Rattle.bac_archive3.specs.Read.{FailsToRead, FailsToReadOne, IsUnread, below, octets};
-ghost use Rattle.bac_archive3.specs.Read.{or_none, real};
+ghost use Rattle.bac_archive3.specs.Read.{numbers, or_none, real};
 ghost use Rattle.bac_archive3.specs.Read.{beginning_kinds, device_kinds, item_kinds, log_kinds};
 
 use crate::row::{BeginningRow, DeviceRow, ItemRow, LogRow};
@@ -16,6 +16,9 @@ use sqlite::types::Type;
 use sqlite::{Error, ErrorCode, Row};
 use sqlite_value::value::ValueRef;
 use std::alloc::Global;
+
+/// How many numbers an epoch has.
+const NUMBERS: u64 = 4_294_967_296;
 
 /// A number of 16 bits.
 fn short_at(row: &Row, at: usize) -> Result<u16, Error>
@@ -83,9 +86,22 @@ fn id_at(row: &Row) -> Result<i64, Error>
     Ok(id)
 }
 
+/// The epoch that an item is of.
+pub(crate) fn epoch_at(row: &Row) -> Result<u64, Error>
+    ensures read { IfOk result (λ epoch. (n : ℕ) × (column row.now 0 ≡ Int (pos n))
+        × (epoch ≡ n / numbers)) }
+    ensures cause { IfErr result (FailsToRead item_kinds row.now) }
+{
+    let id = id_at(row)?;
+    match u64::try_from(id) {
+        Ok(id) => Ok(id / NUMBERS),
+        Err(_) => Err(Error::IntegralValueOutOfRange(0)),
+    }
+}
+
 /// A device.
 fn device_of(row: &Row) -> Result<DeviceRow, Error>
-    ensures read { IfOk result (λ d. device_columns d ≡ first 12 row.now) }
+    ensures read { IfOk result (λ d. device_columns d ≡ first 11 row.now) }
     ensures cause { IfErr result (FailsToRead device_kinds row.now) }
 {
     let id = short_at(row, 0)?;
@@ -94,12 +110,11 @@ fn device_of(row: &Row) -> Result<DeviceRow, Error>
     let dadr = row.get::<String>(3)?;
     let instance = row.get::<Option<u32>>(4)?;
     let name = row.get::<Option<String>>(5)?;
-    let restart = row.get::<Option<String>>(6)?;
-    let revision = row.get::<Option<u32>>(7)?;
-    let whole = flag_at(row, 8)?;
-    let stopped = flag_at(row, 9)?;
-    let answered = row.get::<Option<String>>(10)?;
-    let offset = row.get::<Option<i64>>(11)?;
+    let revision = row.get::<Option<u32>>(6)?;
+    let whole = flag_at(row, 7)?;
+    let stopped = flag_at(row, 8)?;
+    let answered = row.get::<Option<String>>(9)?;
+    let offset = row.get::<Option<i64>>(10)?;
     Ok(DeviceRow {
         id,
         address,
@@ -107,7 +122,6 @@ fn device_of(row: &Row) -> Result<DeviceRow, Error>
         dadr,
         instance,
         name,
-        restart,
         revision,
         whole,
         stopped,
@@ -118,7 +132,7 @@ fn device_of(row: &Row) -> Result<DeviceRow, Error>
 
 /// A log.
 fn log_of(row: &Row) -> Result<LogRow, Error>
-    ensures read { IfOk result (λ l. log_columns l ≡ first 8 row.now) }
+    ensures read { IfOk result (λ l. log_columns l ≡ first 10 row.now) }
     ensures cause { IfErr result (FailsToRead log_kinds row.now) }
 {
     let id = short_at(row, 0)?;
@@ -128,7 +142,9 @@ fn log_of(row: &Row) -> Result<LogRow, Error>
     let source = row.get::<Option<String>>(4)?;
     let units = row.get::<Option<String>>(5)?;
     let description = row.get::<Option<String>>(6)?;
-    let stopped = flag_at(row, 7)?;
+    let restart = row.get::<Option<String>>(7)?;
+    let revision = row.get::<Option<u32>>(8)?;
+    let stopped = flag_at(row, 9)?;
     Ok(LogRow {
         id,
         device,
@@ -137,6 +153,8 @@ fn log_of(row: &Row) -> Result<LogRow, Error>
         source,
         units,
         description,
+        restart,
+        revision,
         stopped,
     })
 }
@@ -176,7 +194,7 @@ pub(crate) fn item_of(alloc: Global, row: &Row) -> Result<ItemRow, Error>
 
 /// Devices, in the order of their rows.
 pub(crate) fn devices_of(alloc: Global, rows: &[Row]) -> Result<Vec<DeviceRow>, Error>
-    ensures read { IfOk result (λ all. map device_columns all.items ≡ map (first 12) rows.now) }
+    ensures read { IfOk result (λ all. map device_columns all.items ≡ map (first 11) rows.now) }
     ensures cause { IfErr result (FailsToReadOne device_kinds rows.now) }
 {
     let mut all = Vec::new(alloc);
@@ -188,7 +206,7 @@ pub(crate) fn devices_of(alloc: Global, rows: &[Row]) -> Result<Vec<DeviceRow>, 
 
 /// Logs, in the order of their rows.
 pub(crate) fn logs_of(alloc: Global, rows: &[Row]) -> Result<Vec<LogRow>, Error>
-    ensures read { IfOk result (λ all. map log_columns all.items ≡ map (first 8) rows.now) }
+    ensures read { IfOk result (λ all. map log_columns all.items ≡ map (first 10) rows.now) }
     ensures cause { IfErr result (FailsToReadOne log_kinds rows.now) }
 {
     let mut all = Vec::new(alloc);

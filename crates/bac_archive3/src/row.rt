@@ -23,8 +23,7 @@ pub struct DeviceRow {
     /// The instance of its Device object.
     pub instance: Option<u32>,
     pub name: Option<String>,
-    /// Its Time_Of_Device_Restart and its Database_Revision, as it told them last.
-    pub restart: Option<String>,
+    /// Its Database_Revision when its Object_List was read.
     pub revision: Option<u32>,
     /// All trend logs of its Object_List are kept.
     pub whole: bool,
@@ -48,6 +47,10 @@ pub struct LogRow {
     pub source: Option<String>,
     pub units: Option<String>,
     pub description: Option<String>,
+    /// Its device's Time_Of_Device_Restart and Database_Revision before the reply that last showed
+    /// this log at its place.
+    pub restart: Option<String>,
+    pub revision: Option<u32>,
     /// It isn't asked any more.
     pub stopped: bool,
 }
@@ -70,6 +73,7 @@ pub struct BeginningRow {
     /// The log and the epoch.
     pub id: u32,
     pub number: u32,
+    /// Nothing of a first one, or `counted` as long as only the count told it.
     pub why: Option<String>,
 }
 
@@ -84,6 +88,8 @@ pub enum Put {
     Log(LogRow),
     /// A new one.
     Beginning(BeginningRow),
+    /// In place of the one with its id, if that was counted.
+    Lowered(BeginningRow),
     /// A new one.
     Item(ItemRow),
 }
@@ -160,7 +166,7 @@ fn long_value(n: u32) -> ValueRef<'static>
 }
 
 /// What is bound for a device.
-pub(crate) fn device_bound(row: &DeviceRow) -> [ValueRef<'_>; 12]
+pub(crate) fn device_bound(row: &DeviceRow) -> [ValueRef<'_>; 11]
     ensures { bound result ≡ bound_columns (device_columns row.now) }
 {
     [
@@ -170,7 +176,6 @@ pub(crate) fn device_bound(row: &DeviceRow) -> [ValueRef<'_>; 12]
         ValueRef::Text(row.dadr.as_bytes()),
         number_or_null(row.instance),
         text_or_null(&row.name),
-        text_or_null(&row.restart),
         number_or_null(row.revision),
         flag_value(row.whole),
         flag_value(row.stopped),
@@ -180,7 +185,7 @@ pub(crate) fn device_bound(row: &DeviceRow) -> [ValueRef<'_>; 12]
 }
 
 /// What is bound for a log.
-pub(crate) fn log_bound(row: &LogRow) -> [ValueRef<'_>; 8]
+pub(crate) fn log_bound(row: &LogRow) -> [ValueRef<'_>; 10]
     ensures { bound result ≡ bound_columns (log_columns row.now) }
 {
     [
@@ -191,6 +196,8 @@ pub(crate) fn log_bound(row: &LogRow) -> [ValueRef<'_>; 8]
         text_or_null(&row.source),
         text_or_null(&row.units),
         text_or_null(&row.description),
+        text_or_null(&row.restart),
+        number_or_null(row.revision),
         flag_value(row.stopped),
     ]
 }

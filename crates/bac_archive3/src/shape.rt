@@ -77,14 +77,13 @@ const VERSIONS: [(&str, Kind, bool); 2] = [
 ];
 
 /// Those of the table of devices.
-const DEVICES: [(&str, Kind, bool); 12] = [
+const DEVICES: [(&str, Kind, bool); 11] = [
     ("id", Kind::Integer, false),
     ("address", Kind::Text, true),
     ("dnet", Kind::Integer, true),
     ("dadr", Kind::Text, true),
     ("instance", Kind::Integer, false),
     ("name", Kind::Text, false),
-    ("restart", Kind::Text, false),
     ("revision", Kind::Integer, false),
     ("whole", Kind::Integer, true),
     ("stopped", Kind::Integer, true),
@@ -93,7 +92,7 @@ const DEVICES: [(&str, Kind, bool); 12] = [
 ];
 
 /// Those of the table of logs.
-const LOGS: [(&str, Kind, bool); 8] = [
+const LOGS: [(&str, Kind, bool); 10] = [
     ("id", Kind::Integer, false),
     ("device", Kind::Integer, true),
     ("instance", Kind::Integer, true),
@@ -101,6 +100,8 @@ const LOGS: [(&str, Kind, bool); 8] = [
     ("source", Kind::Text, false),
     ("units", Kind::Text, false),
     ("description", Kind::Text, false),
+    ("restart", Kind::Text, false),
+    ("revision", Kind::Integer, false),
     ("stopped", Kind::Integer, true),
 ];
 

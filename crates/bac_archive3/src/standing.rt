@@ -1,25 +1,27 @@
 //! What an archive holds as a run begins.
 
-ghost use Rattle.std.specs.Prelude.{◌≡◌, ◌⊎◌, ℕ, pos, ◌+◌, ◌/◌, ◌<◌, ◌++◌, [], true};
-ghost use Rattle.std.specs.Prelude.{List, max, map, OnOk, IfErr, IfOk};
+ghost use Rattle.std.specs.Prelude.{◌≡◌, ◌⊎◌, ℕ, pos, ◌+◌, ◌/◌, ◌<◌, ◌++◌, ◌∷◌, [], true};
+ghost use Rattle.std.specs.Prelude.{if◌then◌else◌};
+ghost use Rattle.std.specs.Prelude.{List, max, map, OnOk, IfErr, IfOk, IfSome};
 ghost use Rattle.std.specs.List.Sorted.{IsSorted};
 ghost use Rattle.std.specs.List.{Contains};
 ghost use Rattle.std.specs.String.{string_bytes};
 ghost use Rattle.sqlite_value.specs.Order.{column};
 ghost use Rattle.sqlite_value.specs.declared.value.Value.{Value};
-ghost use Rattle.sqlite_value.specs.declared.value.Value.TheVariants.{Text};
+ghost use Rattle.sqlite_value.specs.declared.value.Value.TheVariants.{Int, Text};
 ghost use Rattle.sqlite.specs.State.{HasCleanDisk, Survives, IsUnchanged};
 ghost use Rattle.sqlite.specs.Held.{state};
 ghost use Rattle.bac_archive3.specs.Schema.{HasArchive};
 ghost use Rattle.bac_archive3.specs.Ask.{IsLeft, falls, first, shown};
 ghost use Rattle.bac_archive3.specs.Put.{beginning_columns, device_columns, item_columns};
 ghost use Rattle.bac_archive3.specs.Put.{log_columns};
-ghost use Rattle.bac_archive3.specs.Read.{FailsToReadOne, archive_kinds, beginning_kinds, numbers};
+ghost use Rattle.bac_archive3.specs.Read.{FailsToRead, FailsToReadOne, archive_kinds, beginning_kinds};
+ghost use Rattle.bac_archive3.specs.Read.{item_kinds, numbers};
 ghost use Rattle.bac_archive3.specs.Stands.{FailsToTell, IsNotTold, Meets, StandsAs, TellsFirst};
 ghost use Rattle.bac_archive3.specs.Stands.{TellsNewest, behind, epochs, is_last, met};
 
 use crate::asking::{Tables, tables_of};
-use crate::reading::{beginning_of, devices_of, item_of, logs_of};
+use crate::reading::{beginning_of, devices_of, epoch_at, item_of, logs_of};
 use crate::row::{BeginningRow, DeviceRow, ItemRow, LogRow};
 use sqlite::{Alter, Connection, Error, ErrorCode, Row};
 use std::alloc::Global;
@@ -33,7 +35,7 @@ pub struct Standing {
     pub logs: Vec<LogRow>,
     /// Of each log that has begun, its last beginning, by falling ids.
     pub last: Vec<BeginningRow>,
-    /// Of the epochs that began there the newest items, up to ten each, by falling ids.
+    /// Of the epochs that began there the newest items, up to three each, by falling ids.
     pub newest: Vec<ItemRow>,
     /// The next ids: 65536 where none is left.
     pub next_device: u32,
@@ -49,50 +51,17 @@ struct Found<T: Drop> {
     count: u64,
 }
 
-/// How many numbers an epoch has.
-const NUMBERS: u64 = 4_294_967_296;
-
 /// How many epochs a log has.
 const EPOCHS: u32 = 32_768;
 
 /// How many items of an epoch are told.
-const NEWEST: u64 = 10;
+const NEWEST: u64 = 3;
 
 /// How many rows of this group were met.
 fn met<T: Drop>(found: &Found<T>, place: u64) -> u64
     ensures { result ≡ met found.now place }
 {
     if found.place == place { found.count } else { 0 }
-}
-
-/// Meets a row of this group.
-fn with_row<T: Drop>(
-    found: Found<T>,
-    row: T,
-    place: u64,
-    most: u64,
-    wanted: bool,
-) -> Result<Found<T>, Error>
-    ensures meets { IfOk result (Meets most place wanted found row) }
-    ensures cause { IfErr result (λ e. e ≡ Error.SqliteFailure ErrorCode.OutOfMemory) }
-{
-    let before = met(&found, place);
-    let Found { mut rows, .. } = found;
-    if before >= most {
-        return Ok(Found {
-            rows,
-            place,
-            count: before,
-        });
-    }
-    if wanted {
-        rows.push(row)?;
-    }
-    Ok(Found {
-        rows,
-        place,
-        count: before + 1,
-    })
 }
 
 /// Whether an epoch is the last of its log.
@@ -107,32 +76,114 @@ fn is_last(last: &[BeginningRow], epoch: u64) -> bool
     false
 }
 
+/// The place of an epoch from this one on, among beginnings by falling ids; none where one before it
+/// comes first.
+fn place_from(last: &[BeginningRow], epoch: u64, from: usize) -> Option<usize>
+    ensures { IfSome result (λ _. is_last last.now epoch ≡ true) }
+{
+    for place in from..last.len() {
+        let id = u64::from(last[place].id);
+        if id == epoch {
+            return Some(place);
+        }
+        if id < epoch {
+            return None;
+        }
+    }
+    None
+}
+
+/// Whether an epoch is the last of its log: mostly it is found at `place` or behind, since epochs
+/// come by falling ids, as beginnings do.
+fn is_last_from(last: &[BeginningRow], epoch: u64, place: &mut usize) -> bool
+    ensures { result ≡ is_last last.now epoch }
+{
+    match place_from(last, epoch, *place) {
+        Some(found) => {
+            *place = found;
+            true
+        }
+        None => is_last(last, epoch),
+    }
+}
+
 /// Meets a beginning.
 fn with_beginning(
     found: Found<BeginningRow>,
     beginning: BeginningRow,
 ) -> Result<Found<BeginningRow>, Error>
-    ensures meets { IfOk result (Meets 1 (beginning.id / epochs) true found beginning) }
+    ensures meets { IfOk result (Meets beginning_columns 1 (beginning.id / epochs) true found
+        (beginning_columns beginning)) }
     ensures cause { IfErr result (λ e. e ≡ Error.SqliteFailure ErrorCode.OutOfMemory) }
 {
-    let log = u64::from(beginning.id / EPOCHS);
-    with_row(found, beginning, log, 1, true)
+    let place = u64::from(beginning.id / EPOCHS);
+    let before = met(&found, place);
+    let Found { mut rows, .. } = found;
+    if before >= 1 {
+        return Ok(Found {
+            rows,
+            place,
+            count: before,
+        });
+    }
+    rows.push(beginning)?;
+    Ok(Found {
+        rows,
+        place,
+        count: before + 1,
+    })
 }
 
-/// Meets an item.
-fn with_item(
-    found: Found<ItemRow>,
-    item: ItemRow,
-    last: &[BeginningRow],
-) -> Result<Found<ItemRow>, Error>
-    ensures meets { (n : ℕ) → item.id ≡ pos n → IfOk result (λ new. (wanted : _)
-        × (met found (n / numbers) < 10 → wanted ≡ is_last last.now (n / numbers))
-        × Meets 10 (n / numbers) wanted found item new) }
-    ensures cause { IfErr result (λ e. e ≡ Error.SqliteFailure ErrorCode.OutOfMemory) }
+/// These items, and behind them that of a row, if it is told.
+fn with_told(
+    alloc: Global,
+    items: Vec<ItemRow>,
+    row: &Row,
+    told: bool,
+) -> Result<Vec<ItemRow>, Error>
+    ensures rows { IfOk result (λ new. map item_columns new.items
+        ≡ (if told then map item_columns items.items ++ first 6 row.now ∷ []
+        else map item_columns items.items)) }
+    ensures cause { IfErr result (FailsToRead item_kinds row.now) }
 {
-    let epoch = item.id.unsigned_abs() / NUMBERS;
-    let wanted = met(&found, epoch) < NEWEST && is_last(last, epoch);
-    with_row(found, item, epoch, NEWEST, wanted)
+    if !told {
+        return Ok(items);
+    }
+    let item = item_of(alloc, row)?;
+    let mut items = items;
+    items.push(item)?;
+    Ok(items)
+}
+
+/// Meets the row of an item of this epoch, which is read where it is told.
+fn with_item(
+    alloc: Global,
+    found: Found<ItemRow>,
+    row: &Row,
+    place: u64,
+    last: &[BeginningRow],
+    at: &mut usize,
+) -> Result<Found<ItemRow>, Error>
+    ensures meets { IfOk result
+        (Meets item_columns 3 place (is_last last.now place) found (first 6 row.now)) }
+    ensures cause { IfErr result (FailsToRead item_kinds row.now) }
+{
+    let before = met(&found, place);
+    let Found { rows, .. } = found;
+    if before >= NEWEST {
+        return Ok(Found {
+            rows,
+            place,
+            count: before,
+        });
+    }
+    let told = is_last_from(last, place, at);
+    let rows = with_told(alloc, rows, row, told)?;
+    Ok(Found {
+        rows,
+        place,
+        count: before + 1,
+    })
 }
 
 /// The last beginning of each log, of rows by falling ids.
@@ -163,7 +214,7 @@ fn newest_of<S: Alter>(
     requires { HasCleanDisk (state S.Store conn.old)
         → HasArchive (state S.Store conn.old).now.schema }
     ensures told { HasCleanDisk (state S.Store conn.new)
-        → IfOk result (λ items. TellsNewest numbers 10 (is_last last.now)
+        → IfOk result (λ items. TellsNewest numbers 3 (is_last last.now)
         (map (shown 5) ((state S.Store conn.old).now.trees 5)) (map item_columns items.items)) }
     ensures left { HasCleanDisk (state S.Store conn.new)
         → IsLeft (state S.Store conn.old) (state S.Store conn.new) }
@@ -178,6 +229,7 @@ fn newest_of<S: Alter>(
         place: 0,
         count: 0,
     };
+    let mut at = 0;
     let mut rows = conn.query(
         "SELECT id, last, stamp, value, datum, flags FROM items ORDER BY id DESC",
         &[],
@@ -186,8 +238,8 @@ fn newest_of<S: Alter>(
         let Some(row) = rows.next()? else {
             return Ok(found.rows);
         };
-        let item = item_of(alloc, row)?;
-        found = with_item(found, item, last)?;
+        let epoch = epoch_at(row)?;
+        found = with_item(alloc, found, row, epoch, last, &mut at)?;
     }
     Err(Error::SqliteFailure(ErrorCode::OperationInterrupted))
 }
@@ -249,9 +301,9 @@ fn told_of(
     ensures made { IfOk result (λ s. (row : List Value) × Contains tables.now.archive.items row
         × (column row 1 ≡ Text (string_bytes s.made))) }
     ensures devices { IfOk result (λ s. map device_columns s.devices.items
-        ≡ map (first 12) tables.now.devices.items) }
+        ≡ map (first 11) tables.now.devices.items) }
     ensures logs { IfOk result (λ s. map log_columns s.logs.items
-        ≡ map (first 8) tables.now.logs.items) }
+        ≡ map (first 10) tables.now.logs.items) }
     ensures last { IfOk result (λ s. (s.last ≡ last) × (s.newest ≡ newest)) }
     ensures next { IfOk result (λ s. (s.next_device ≡ behind (map (λ d. d.id) s.devices.items))
         × (s.next_log

@@ -1,8 +1,6 @@
 -- What the batches of a run come to.
 use Rattle.std.proofs.Common.{List, [], ◌∷◌, sym, subst}
-use Rattle.sqlite_trees.specs.Tree.{Trees}
-use Rattle.std.specs.List.{Contains}
-use Rattle.bac_archive3.specs.Put.{IsPut, PutsJoin, PutsLoseNothing}
+use Rattle.bac_archive3.specs.Put.{IsPut, LoseNothing, PutsJoin, PutsLoseNothing}
 use Rattle.bac_archive3.proofs.PutLemmas.{put_nothing}
 use Rattle.bac_desks.specs.Chain.{Chain}
 use Rattle.bac_drive.specs.Event.{Event, Kept, Printed, Read, Sent, Waited, Warned}
@@ -28,7 +26,5 @@ runs_put {M = M} {P = P} {C = C} acts join = go
 
 pub loses_nothing : {M P C : Type 0} (acts : Acts M P C) → PutsJoin → PutsLoseNothing → LosesNothing acts
 loses_nothing acts join none_lost = λ old trees has leaves.
-    let it = none_lost old.database leaves.1.database (puts_of leaves.0) has (runs_put acts join old leaves.1 leaves.0 leaves.2) in (
-      λ row there. subst (λ (t : Trees). Contains (t 5) row) (sym leaves.3) (it.0 row there),
-      λ row there. subst (λ (t : Trees). Contains (t 6) row) (sym leaves.3) (it.1 row there),
-    )
+    subst (LoseNothing old.database.trees) (sym leaves.3)
+    (none_lost old.database leaves.1.database (puts_of leaves.0) has (runs_put acts join old leaves.1 leaves.0 leaves.2))

@@ -1,9 +1,7 @@
 -- What a run leaves of an archive, whatever machine is driven, in the words of the events.
 use Rattle.std.specs.Prelude.{List, [], ◌∷◌, ◌++◌}
-use Rattle.std.specs.List.{Contains}
 use Rattle.sqlite_trees.specs.Tree.{Trees}
-use Rattle.sqlite_value.specs.Order.{Row as Values}
-use Rattle.bac_archive3.specs.Put.{IsPut}
+use Rattle.bac_archive3.specs.Put.{IsPut, LoseNothing}
 use Rattle.bac_archive3.specs.Schema.{HasArchive}
 use Rattle.bac_archive3.specs.declared.row.Put.{Put}
 use Rattle.bac_desks.specs.Chain.{Chain}
@@ -26,9 +24,8 @@ RunsPut {M = M} {P = P} {C = C} acts =
     (old new : Scene M P C) (es : List Event) → Chain (Happens acts) old es new →
     IsPut old.database new.database (puts_of es)
 
--- Whatever ends a run, a kill too, each item and each beginning that an archive had is there as it was.
+-- Whatever ends a run, a kill too, nothing is lost that an archive had.
 abbrev pub LosesNothing : {M P C : Type 0} → Acts M P C → Type 0
 LosesNothing {M = M} {P = P} {C = C} acts =
     (old : Scene M P C) (trees : Trees) → HasArchive old.database.schema → Leaves acts old trees →
-    ((row : Values) → Contains (old.database.trees 5) row → Contains (trees 5) row)
-    × ((row : Values) → Contains (old.database.trees 6) row → Contains (trees 6) row)
+    LoseNothing old.database.trees trees

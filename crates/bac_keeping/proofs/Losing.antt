@@ -1,10 +1,9 @@
 -- A run loses nothing.
 use Rattle.std.proofs.Common.{◌≡◌, inl, inr, List, [], ◌++◌, sym, ap, subst, ◌∙◌}
-use Rattle.std.specs.List.{Contains}
 use Rattle.sqlite.specs.Effect.{Database}
 use Rattle.sqlite_schema.specs.declared.schema.Schema.{Schema}
 use Rattle.sqlite_trees.specs.Tree.{Trees}
-use Rattle.sqlite_value.specs.Order.{Row as Values}
+use Rattle.bac_archive3.specs.Put.{LoseNothing}
 use Rattle.bac_archive3.specs.Schema.{HasArchive, archive_tables, no_schema}
 use Rattle.bac_drive.specs.Happens.{Acts, scene}
 use Rattle.bac_drive.specs.Laws.{LosesNothing}
@@ -16,13 +15,10 @@ never : (s : Schema) → HasArchive s → s ≡ no_schema → ⊥
 never s has is =
     let e : [] ≡ archive_tables ++ has.tables.others = ap (λ (x : Schema). x.tables) (sym is) ∙ has.tables.are in cc
 
--- rows that two trees have
-abbrev Stay : Trees → Trees → Type 0
-Stay old new = ((row : Values) → Contains (old 5) row → Contains (new 5) row) × ((row : Values) → Contains (old 6) row → Contains (new 6) row)
-
-as_was : (old new : Trees) → new ≡ old → Stay old new
+as_was : (old new : Trees) → new ≡ old → LoseNothing old new
 as_was old new is =
-    let P : Trees → Type 0 = λ t. Stay old t in subst P (sym is) ((λ row there. there), (λ row there. there))
+    let same : LoseNothing old old = record { items = λ row there. there; ids = λ row id there is. (row, there, is); beginnings = λ own row there uncounted. there } in
+    subst (LoseNothing old) (sym is) same
 
 pub keep_loses_nothing : {A P C : Type 0} (made_at : A → List _) (makes : A → _ → SiteState → Type 0) (acts : Acts SiteState P C) → LosesNothing acts → KeepLosesNothing made_at makes acts
 keep_loses_nothing made_at makes acts loses = λ plan port clock output errors old trees has remains. elim remains.1 [
@@ -31,7 +27,7 @@ keep_loses_nothing made_at makes acts loses = λ plan port clock output errors o
     | inl is ↦ as_was old.trees trees (is ∙ ap (λ (d : Database). d.trees) here.1)
     | inr at ↦
         let first = remains.0 in
-        let D : Database → Type 0 = λ d. Stay d.trees trees in
+        let D : Database → Type 0 = λ d. LoseNothing d.trees trees in
         let there : HasArchive first.schema = subst (λ (d : Database). HasArchive d.schema) (sym here.1) has in
         subst D here.1 (loses (scene at.0 port clock first output errors) trees there at.2)
   ]

@@ -1,21 +1,19 @@
 -- What a run of keep leaves of an archive, whatever ends it.
 use Rattle.std.specs.Prelude.{ℕ, List, Option}
-use Rattle.std.specs.List.{Contains}
 use Rattle.sqlite.specs.Effect.{Database}
 use Rattle.sqlite_trees.specs.Tree.{Trees}
-use Rattle.sqlite_value.specs.Order.{Row as Values}
+use Rattle.bac_archive3.specs.Put.{LoseNothing}
 use Rattle.bac_archive3.specs.Schema.{HasArchive}
 use Rattle.bac_archive3.specs.declared.standing.Standing.{Standing}
 use Rattle.bac_drive.specs.Happens.{Acts, scene}
 use Rattle.bac_poller.specs.Site.{SiteState}
 use Rattle.bac_keeping.specs.Keeping.{Remains, running}
 
--- A kill at any moment leaves each item and each beginning that an archive had as it was.
+-- A kill at any moment leaves all that an archive had.
 abbrev pub KeepLosesNothing : {A P C : Type 0} → (A → List ℕ) → (A → Standing → SiteState → Type 0) →
     Acts SiteState P C → Type 0
 KeepLosesNothing {A = A} {P = P} {C = C} made_at makes acts =
     (plan : A) (port : P) (clock : C) (output errors : Option (List ℕ)) (old : Database) (trees : Trees) →
     HasArchive old.schema →
     Remains (running (made_at plan) (makes plan) acts (λ site db. scene site port clock db output errors)) old trees →
-    ((row : Values) → Contains (old.trees 5) row → Contains (trees 5) row)
-    × ((row : Values) → Contains (old.trees 6) row → Contains (trees 6) row)
+    LoseNothing old.trees trees

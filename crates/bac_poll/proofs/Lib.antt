@@ -4,3 +4,5 @@ mod Wholes
 mod Rules
 mod Once
 mod Saids
+mod Gaps
+mod Asks

@@ -5,17 +5,18 @@ use Rattle.bac_log.specs.declared.entry.Entry.{Entry}
 use Rattle.bac_walk.specs.Walks.{Ask, Bring, End, NextAct, Refuse, verdict, with_numbers}
 use Rattle.bac_walk.specs.declared.batch.Numbered.{Numbered}
 use Rattle.bac_walk.specs.declared.outcome.WalkFault.TheVariants.{BadReply}
-use Rattle.bac_poll.specs.Laws.{Answer, Answers, AreAnswers, Counted, Covers, Epoch, Goes, IsAimed, IsAt, IsBefore, IsRun, IsStanding, IsWhole, Replied, Restarted, Revised, ShowsOnly, ShowsFront, TellsFront, IsFront, IsFrontAt, IsFrontOf, IsTold, Whichever, after_all, after_answer, epoch_after, epoch_after_all, epoch_from, items_of, start_of}
+use Rattle.bac_poll.specs.Laws.{Answer, Answers, AreAnswers, Counted, Covers, Epoch, Goes, IsAimed, IsAt, IsBefore, IsRun, IsStanding, IsWhole, Replied, Restarted, Revised, ShowsOnly, Clears, HasSome, IsBegun, IsClearAt, TellsFront, IsTold, Whichever, after_all, after_answer, epoch_after, epoch_after_all, epoch_from, items_of, start_of}
 use Rattle.bac_poll.specs.Poll.{ack_in, first_stage, joining, starting, after, after_count, after_heard, after_restart, after_revision, are_asked, at_stage, came, count_at, has_last, has_more, more_of, oldest, oldest_none, renews_by, reply_from, reply_in, reply_of, up_to, up_to_none}
+use Rattle.bac_poll.specs.Oldest.{is_cut}
 use Rattle.bac_poll.specs.State.{KeptAs, PollState, Reply, StandingAs, ToldAs}
 use Rattle.bac_poll.specs.Turns.{Turned, end_of, first_number}
 use Rattle.bac_poll.specs.declared.stage.Aim.{Aim}
 use Rattle.bac_poll.specs.declared.stage.Aim.TheVariants.{Finds, Renews, Starts}
 use Rattle.bac_poll.specs.declared.stage.Stage.{Stage}
-use Rattle.bac_poll.specs.declared.stage.Stage.TheVariants.{Joins, Prior, Ahead, Again, Each, Oldest, Counts, UpTo, Back}
-use Rattle.bac_poll.specs.declared.stage.Stage.TheVariants.{Revision, Restart}
+use Rattle.bac_poll.specs.declared.stage.Stage.TheVariants.{Joins, Prior, Ahead, Again, Each, Oldest, ByNumber, Counts}
+use Rattle.bac_poll.specs.declared.stage.Stage.TheVariants.{UpTo, Back, Revision, Restart}
 use Rattle.bac_poll.specs.declared.turn.PollEnd.TheVariants.{Fault}
-use Rattle.bac_poll.proofs.Rules.{again_goes, ahead_goes, back_takes, by_word_goes, counted_goes, each_goes, joins_goes, prior_goes, renews_goes, renews_none_goes, restart_goes, sees_goes, starts_by_goes, starts_from_goes, starts_goes, word_goes}
+use Rattle.bac_poll.proofs.Rules.{again_goes, ahead_goes, back_takes, by_number_goes, by_word_goes, counted_goes, each_goes, joins_goes, prior_goes, renews_goes, renews_none_goes, renews_of_goes, restart_goes, came_sees, starts_by_goes, starts_from_goes, starts_goes, starts_none_goes, word_goes}
 use Rattle.bac_poll.proofs.Wholes.{ends_goes, numbered_run, run_first, split}
 use Rattle.bac_wire.specs.Primitive.{Id}
 use Rattle.bac_link.specs.Ordinals.{number_after}
@@ -54,17 +55,17 @@ module _ (P : Numbered → Type 0) (F : ℕ → Type 0) where
 
   -- ---- by what it is for
 
-  came_goes : (p : PollState) (aim : Aim) (records : List Numbered) → IsBefore p.newest p.next → IsAimed p aim →
-      IsRun P (first_number records) records × IsFrontOf F p records → Goes P F p.next (came p aim records)
-  came_goes p Finds records known aimed run = sees_goes P F p true records known run
-  came_goes p Renews records known aimed run = renews_goes P F p records known aimed run
-  came_goes p Starts records known aimed run = starts_by_goes P F p records aimed run
+  came_goes : (p : PollState) (aim : Aim) (cut : Bool) (records : List Numbered) → IsBefore p.newest p.next → IsAimed p aim →
+      IsRun P (first_number records) records × HasSome records → F 1 → Goes P F p.next (came p aim cut records)
+  came_goes p Finds cut records known aimed run one = came_sees P F p cut records known run one
+  came_goes p Renews cut records known aimed run one = renews_goes P F p records known aimed run
+  came_goes p Starts cut records known aimed run one = starts_by_goes P F p records aimed run one
 
   oldest_none_goes : (p : PollState) (aim : Aim) → IsBefore p.newest p.next → IsAimed p aim → IsTold F p aim → Goes P F p.next (oldest_none p aim)
   oldest_none_goes p Finds known aimed told = (record { mid = p.next; before = refl; behind = refl; fronts = λ sure. (tt, tt) }, λ none. (known, tt))
   oldest_none_goes p Renews known aimed told = (record { mid = p.next; before = refl; behind = refl; fronts = λ sure. (tt, tt) }, λ none. (known, aimed))
   oldest_none_goes p Starts known aimed told =
-      split P F (Goes P F p.next) (p.total == 0) _ _ (λ empty. starts_goes P F p [] (tt, told))
+      split P F (Goes P F p.next) (p.total == 0) _ _ (λ empty. starts_none_goes P F p told)
       (λ some. (record { mid = p.next; before = refl; behind = refl; fronts = λ sure. (tt, tt) }, λ none. (known, (aimed, told))))
 
   up_to_none_goes : (p : PollState) (aim : Aim) → IsBefore p.newest p.next → F (number_after p.total 1) → Goes P F p.next (up_to_none p aim)
@@ -72,19 +73,22 @@ module _ (P : Numbered → Type 0) (F : ℕ → Type 0) where
   up_to_none_goes p Renews known told = renews_none_goes P F p p.total told
   up_to_none_goes p Starts known told = starts_goes P F p [] (tt, told)
 
-  oldest_takes : (p : PollState) (aim : Aim) (records : List Numbered) → IsBefore p.newest p.next → IsAimed p aim → IsTold F p aim →
-      IsRun P (first_number records) records → IsFront F records → Goes P F p.next (oldest p aim records)
-  oldest_takes p aim [] known aimed told run front = oldest_none_goes p aim known aimed told
-  oldest_takes p aim (r ∷ rs) known aimed told run front =
-      split P F (Goes P F p.next) (length (r ∷ rs) == 0) _ _ (λ none. oldest_none_goes p aim known aimed told)
-      (λ some. came_goes p aim (r ∷ rs) known aimed (run, front))
+  some_of : (records : List Numbered) → (length records == 0) ≡ false → HasSome records
+  some_of [] some = absurd (cc)
+  some_of (r ∷ rs) some = tt
+
+  oldest_takes : (p : PollState) (aim : Aim) (reply : Reply) → IsBefore p.newest p.next → IsAimed p aim → IsTold F p aim →
+      IsRun P (first_number reply.records) reply.records → F 1 → Goes P F p.next (oldest p aim reply)
+  oldest_takes p aim reply known aimed told run one =
+      split P F (Goes P F p.next) (length reply.records == 0) _ _ (λ none. oldest_none_goes p aim known aimed told)
+      (λ some. came_goes p aim (is_cut p reply) reply.records known aimed (run, some_of reply.records some) one)
 
   up_to_takes : (p : PollState) (aim : Aim) (records : List Numbered) → IsBefore p.newest p.next → IsAimed p aim → F (number_after p.total 1) →
-      IsRun P (first_number records) records → IsFront F records → Goes P F p.next (up_to p aim records)
-  up_to_takes p aim [] known aimed told run front = up_to_none_goes p aim known told
-  up_to_takes p aim (r ∷ rs) known aimed told run front =
+      IsRun P (first_number records) records → F 1 → Goes P F p.next (up_to p aim records)
+  up_to_takes p aim [] known aimed told run one = up_to_none_goes p aim known told
+  up_to_takes p aim (r ∷ rs) known aimed told run one =
       split P F (Goes P F p.next) (length (r ∷ rs) == 0) _ _ (λ none. up_to_none_goes p aim known told)
-      (λ some. came_goes p aim (r ∷ rs) known aimed (run, front))
+      (λ some. came_goes p aim false (r ∷ rs) known aimed (run, tt) one)
 
   told_so : (p : PollState) (more : Bool) (aim : Aim) → IsTold F p aim → IsTold F (record p { more = more; held = [] }) aim
   told_so p more Finds told = tt
@@ -98,58 +102,58 @@ module _ (P : Numbered → Type 0) (F : ℕ → Type 0) where
   aimed_so p more Starts aimed = aimed
 
   stage_goes : (p : PollState) (more : Bool) (stage : Stage) (reply : Reply) → IsBefore p.newest p.next → IsAt P F p stage →
-      IsRun P (first_number reply.records) reply.records → IsFrontAt F stage reply.records → Goes P F p.next (at_stage (record p { more = more; held = [] }) stage p.held reply)
-  stage_goes p more Joins reply known at run front = joins_goes P F (record p { more = more; held = [] }) reply (first_number reply.records) known run
-  stage_goes p more Prior reply known at run front = prior_goes P F (record p { more = more; held = [] }) reply.records known
-  stage_goes p more Ahead reply known at run front = ahead_goes P F (record p { more = more; held = [] }) reply.records known run
-  stage_goes p more Again reply known at run front = again_goes P F (record p { more = more; held = [] }) p.held (first_number reply.records) reply.records known at run
-  stage_goes p more Each reply known at run front = each_goes P F (record p { more = more; held = [] }) p.held reply.records known at
-  stage_goes p more (Oldest aim) reply known at run front =
-      oldest_takes (record p { more = more; held = [] }) aim reply.records known (aimed_so p more aim at.0) (told_so p more aim at.1) run front
-  stage_goes p more (UpTo aim) reply known at run front =
-      up_to_takes (record p { more = more; held = [] }) aim reply.records known (aimed_so p more aim at.0) at.1 run front
-  stage_goes p more (Back aim) reply known at run front =
-      back_takes P F (record p { more = more; held = [] }) aim p.held reply.records known (aimed_so p more aim at.0) (at.1, at.2) run front
-  stage_goes p more (Counts aim) reply known at run front = ends_goes P F (record p { more = more; held = [] }) (Fault BadReply)
-  stage_goes p more Revision reply known at run front = ends_goes P F (record p { more = more; held = [] }) (Fault BadReply)
-  stage_goes p more Restart reply known at run front = ends_goes P F (record p { more = more; held = [] }) (Fault BadReply)
+      IsRun P (first_number reply.records) reply.records → F 1 → IsClearAt F p more stage reply → Goes P F p.next (at_stage (record p { more = more; held = [] }) stage p.held reply)
+  stage_goes p more Joins reply known at run one clear = joins_goes P F (record p { more = more; held = [] }) reply (first_number reply.records) known run
+  stage_goes p more Prior reply known at run one clear = prior_goes P F (record p { more = more; held = [] }) reply.records known
+  stage_goes p more Ahead reply known at run one clear = ahead_goes P F (record p { more = more; held = [] }) reply.records known run
+  stage_goes p more Again reply known at run one clear = again_goes P F (record p { more = more; held = [] }) p.held (first_number reply.records) reply.records known at run
+  stage_goes p more Each reply known at run one clear = each_goes P F (record p { more = more; held = [] }) p.held reply.records known at
+  stage_goes p more ByNumber reply known at run one clear = by_number_goes P F (record p { more = more; held = [] }) p.held reply.records at
+  stage_goes p more (Oldest aim) reply known at run one clear =
+      oldest_takes (record p { more = more; held = [] }) aim reply known (aimed_so p more aim at.0) (told_so p more aim at.1) run one
+  stage_goes p more (UpTo aim) reply known at run one clear =
+      up_to_takes (record p { more = more; held = [] }) aim reply.records known (aimed_so p more aim at.0) at.1 run one
+  stage_goes p more (Back aim) reply known at run one clear =
+      back_takes P F (record p { more = more; held = [] }) aim p.held reply.records known (aimed_so p more aim at.0) (at.1, at.2) run one clear
+  stage_goes p more (Counts aim) reply known at run one clear = ends_goes P F (record p { more = more; held = [] }) (Fault BadReply)
+  stage_goes p more Revision reply known at run one clear = ends_goes P F (record p { more = more; held = [] }) (Fault BadReply)
+  stage_goes p more Restart reply known at run one clear = ends_goes P F (record p { more = more; held = [] }) (Fault BadReply)
 
-  heard_goes : (p : PollState) (reply : Option Reply) → IsStanding P F p → IsRunReply reply → ShowsFront F p.stage reply → Goes P F p.next (after_heard p reply)
+  heard_goes : (p : PollState) (reply : Option Reply) → IsStanding P F p → IsRunReply reply → F 1 → Clears F p reply → Goes P F p.next (after_heard p reply)
   unfolding IsRunReply
-  heard_goes p None is run front = ends_goes P F p (Fault BadReply)
-  heard_goes p (Some reply) is run front = stage_goes p (more_of p reply) p.stage reply is.0 is.1 run front
+  heard_goes p None is run one clear = ends_goes P F p (Fault BadReply)
+  heard_goes p (Some reply) is run one clear = stage_goes p (more_of p reply) p.stage reply is.0 is.1 run one clear
 
   -- ---- the count
 
-  renews_by_goes : (p : PollState) (count : Option ℕ) → IsBefore p.newest p.next → p.next ≡ 1 → TellsFront F count → Goes P F p.next (renews_by p count)
+  renews_by_goes : (p : PollState) (count : Option ℕ) → IsBefore p.newest p.next → IsBegun p → TellsFront F count → Goes P F p.next (renews_by p count)
   renews_by_goes p None known one front = ends_goes P F p (end_of p)
-  renews_by_goes p (Some total) known one front =
-      split P F (Goes P F p.next) (total == 0) _ _ (λ none. ends_goes P F p (end_of p))
-      (λ some. (record { mid = p.next; before = refl; behind = refl; fronts = λ sure. (tt, tt) }, λ none. (known, (one, front))))
+  renews_by_goes p (Some total) known one front = renews_of_goes P F p total known one front
 
   count_goes : (p : PollState) (stage : Stage) (count : Option ℕ) → IsBefore p.newest p.next → IsAt P F p stage → TellsFront F count → Goes P F p.next (count_at p stage count)
   count_goes p (Counts Finds) count known at front = counted_goes P F (record p { more = false }) count known front
   count_goes p (Counts Renews) count known at front = renews_by_goes p count known at front
-  count_goes p (Counts Starts) count known at front = starts_from_goes P F p p.begins count known at front
+  count_goes p (Counts Starts) count known at front = starts_from_goes P F p count known at front
   count_goes p Joins count known at front = ends_goes P F p (Fault BadReply)
   count_goes p Prior count known at front = ends_goes P F p (Fault BadReply)
   count_goes p Ahead count known at front = ends_goes P F p (Fault BadReply)
   count_goes p Again count known at front = ends_goes P F p (Fault BadReply)
   count_goes p Each count known at front = ends_goes P F p (Fault BadReply)
+  count_goes p ByNumber count known at front = ends_goes P F p (Fault BadReply)
   count_goes p (Oldest aim) count known at front = ends_goes P F p (Fault BadReply)
   count_goes p (UpTo aim) count known at front = ends_goes P F p (Fault BadReply)
   count_goes p (Back aim) count known at front = ends_goes P F p (Fault BadReply)
   count_goes p Revision count known at front = ends_goes P F p (Fault BadReply)
   count_goes p Restart count known at front = ends_goes P F p (Fault BadReply)
 
-  pub answers : (p : PollState) → IsStanding P F p →
-      ((datagram : List ℕ) → ShowsOnly P (reply_in p datagram) → ShowsFront F p.stage (reply_in p datagram) → Goes P F p.next (after p datagram))
+  pub answers : F 1 → (p : PollState) → IsStanding P F p →
+      ((datagram : List ℕ) → ShowsOnly P (reply_in p datagram) → Clears F p (reply_in p datagram) → Goes P F p.next (after p datagram))
       × ((count : Option ℕ) → TellsFront F count → Goes P F p.next (after_count p count))
       × ((p.stage ≡ Revision) → (revision : Option ℕ) → Goes P F p.next (after_revision p revision))
       × ((p.stage ≡ Restart) → (restart moment : List ℕ) → Goes P F p.next (after_restart p restart moment))
-  answers p is = (
-    λ datagram shows front. heard_goes p (reply_in p datagram) is
-        (heard_run p (heard_in p.walk.log datagram) (has_last (ack_in datagram)) (has_more (ack_in datagram)) shows) front,
+  answers one p is = (
+    λ datagram shows clear. heard_goes p (reply_in p datagram) is
+        (heard_run p (heard_in p.walk.log datagram) (has_last (ack_in datagram)) (has_more (ack_in datagram)) shows) one clear,
     λ count front. count_goes p p.stage count is.0 is.1 front,
     λ at revision. restart_goes P F (record p { again = record p.again { revision = revision }; held = [] }) p.held p.word.restart is.0
         (subst (IsAt P F p) at is.1),
@@ -159,17 +163,17 @@ module _ (P : Numbered → Type 0) (F : ℕ → Type 0) where
 
   -- an answer's fronts
   pub AnswersFront : PollState → Answer → Type 0
-  AnswersFront p (Replied datagram) = ShowsFront F p.stage (reply_in p datagram)
+  AnswersFront p (Replied datagram) = Clears F p (reply_in p datagram)
   AnswersFront p (Counted count) = TellsFront F count
   AnswersFront p (Revised revision) = Unit {0}
   AnswersFront p (Restarted restart moment) = Unit {0}
 
-  one_answer : (p : PollState) (answer : Answer) → IsStanding P F p → Answers P p answer → AnswersFront p answer → Goes P F p.next (after_answer p answer)
+  pub one_answer : F 1 → (p : PollState) (answer : Answer) → IsStanding P F p → Answers P p answer → AnswersFront p answer → Goes P F p.next (after_answer p answer)
   unfolding AnswersFront
-  one_answer p (Replied datagram) is shows front = (answers p is).0 datagram shows front
-  one_answer p (Counted count) is asked front = (answers p is).1 count front
-  one_answer p (Revised revision) is at front = (answers p is).2 at revision
-  one_answer p (Restarted restart moment) is at front = (answers p is).3 at restart moment
+  one_answer one p (Replied datagram) is shows front = (answers one p is).0 datagram shows front
+  one_answer one p (Counted count) is asked front = (answers one p is).1 count front
+  one_answer one p (Revised revision) is at front = (answers one p is).2 at revision
+  one_answer one p (Restarted restart moment) is at front = (answers one p is).3 at restart moment
 
   -- ---- one answer after the other
 
@@ -215,14 +219,14 @@ module _ (P : Numbered → Type 0) (F : ℕ → Type 0) where
       (covers_append (start_of t.begins next) whole.mid t.poll.next t.missing (items_of t) whole.before
       (same_covers t.anew whole.mid t.poll.next (items_of t) same whole.behind)))
 
-  pub all_answers : (p : PollState) (e : Epoch) (answers : List Answer) → IsStanding P F p → Covers P e.first e.items p.next → AreAnswers P p answers →
+  pub all_answers : F 1 → (p : PollState) (e : Epoch) (answers : List Answer) → IsStanding P F p → Covers P e.first e.items p.next → AreAnswers P p answers →
       ((q : PollState) (answer : Answer) → AnswersFront q answer) →
       Covers P (epoch_after_all e p answers).first (epoch_after_all e p answers).items (after_all p answers).next
   unfolding IsCovered
-  all_answers p e [] is covers are fronts = covers
-  all_answers p e (answer ∷ answers) is covers are fronts =
-      let one = one_answer p answer is are.0 (fronts p answer) in
-      all_answers (after_answer p answer).poll (epoch_after e (after_answer p answer)) answers (one.1 are.1)
+  all_answers front p e [] is covers are fronts = covers
+  all_answers front p e (answer ∷ answers) is covers are fronts =
+      let one = one_answer front p answer is are.0 (fronts p answer) in
+      all_answers front (after_answer p answer).poll (epoch_after e (after_answer p answer)) answers (one.1 are.1)
       (after_covers e p.next (after_answer p answer) covers one.0) are.2 fronts
 
   -- ---- beginnings
@@ -239,34 +243,31 @@ module _ (P : Numbered → Type 0) (F : ℕ → Type 0) where
       ((at : StandingAs) → IsBefore at.newest at.next → IsStanding P F (joining log device many at told))
       × ((begins : Option ℕ) (word : ToldAs) → IsStanding P F (starting log device many begins word told))
   begins_standing log device many told =
-      (λ at known. (known, first_at at.newest (joining log device many at told)), λ begins word. (tt, refl))
+      (λ at known. (known, first_at at.newest (joining log device many at told)), λ begins word. (tt, (refl, refl, refl, refl)))
 
 -- ---- whichever number a gap ends at
 
-any_front : (records : List Numbered) → IsFront Whichever records
-any_front [] = tt
-any_front (r ∷ rs) = tt
+any_at : (p : PollState) (more : Bool) (stage : Stage) (reply : Reply) → IsClearAt Whichever p more stage reply
+any_at p more Joins reply = tt
+any_at p more Prior reply = tt
+any_at p more Ahead reply = tt
+any_at p more Again reply = tt
+any_at p more Each reply = tt
+any_at p more ByNumber reply = tt
+any_at p more (Oldest aim) reply = tt
+any_at p more (Counts aim) reply = tt
+any_at p more (UpTo aim) reply = tt
+any_at p more (Back aim) reply = λ bare. tt
+any_at p more Revision reply = tt
+any_at p more Restart reply = tt
 
-any_at : (stage : Stage) (records : List Numbered) → IsFrontAt Whichever stage records
-any_at Joins records = tt
-any_at Prior records = tt
-any_at Ahead records = tt
-any_at Again records = tt
-any_at Each records = tt
-any_at (Oldest aim) records = any_front records
-any_at (Counts aim) records = tt
-any_at (UpTo aim) records = any_front records
-any_at (Back aim) records = any_front records
-any_at Revision records = tt
-any_at Restart records = tt
-
-any_reply : (stage : Stage) (reply : Option Reply) → ShowsFront Whichever stage reply
-any_reply stage None = tt
-any_reply stage (Some reply) = any_at stage reply.records
+any_reply : (p : PollState) (reply : Option Reply) → Clears Whichever p reply
+any_reply p None = tt
+any_reply p (Some reply) = any_at p (more_of p reply) p.stage reply
 
 any_answer : (P : Numbered → Type 0) (p : PollState) (answer : Answer) → AnswersFront P Whichever p answer
 unfolding AnswersFront
-any_answer P p (Replied datagram) = any_reply p.stage (reply_in p datagram)
+any_answer P p (Replied datagram) = any_reply p (reply_in p datagram)
 any_answer P p (Counted count) = tt
 any_answer P p (Revised revision) = tt
 any_answer P p (Restarted restart moment) = tt
@@ -274,4 +275,4 @@ any_answer P p (Restarted restart moment) = tt
 pub whole_epochs : (P : Numbered → Type 0) (p : PollState) (e : Epoch) (answers : List Answer) → IsStanding P Whichever p →
     Covers P e.first e.items p.next → AreAnswers P p answers →
     Covers P (epoch_after_all e p answers).first (epoch_after_all e p answers).items (after_all p answers).next
-whole_epochs P p e answers is covers are = all_answers P Whichever p e answers is covers are (any_answer P)
+whole_epochs P p e answers is covers are = all_answers P Whichever tt p e answers is covers are (any_answer P)

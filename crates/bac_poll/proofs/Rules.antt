@@ -1,18 +1,18 @@
 -- What turns bring: the rule, section by section.
-use Rattle.std.proofs.Common.{is_some, ◌≡◌, ℕ, ◌==◌, ◌&&◌, not, Bool, true, false, if◌then◌else◌, nat_lt, Option, None, Some, List, [], ◌∷◌, ◌++◌, length, map, refl, sym, ap, subst, ◌∙◌}
+use Rattle.std.proofs.Common.{arith, is_some, ◌≡◌, ℕ, ◌+◌, ◌==◌, ◌&&◌, ◌||◌, not, Bool, true, false, if◌then◌else◌, nat_lt, Option, None, Some, List, [], ◌∷◌, ◌++◌, length, map, refl, sym, ap, subst, ◌∙◌}
 use Rattle.std.proofs.lemmas.Bool.{eq-eqb, eqb-true, and_parts}
 use Rattle.bac_link.specs.Ordinals.{is_ahead, number_after}
 use Rattle.bac_link.specs.declared.item.Item.TheVariants.{Gap}
 use Rattle.bac_walk.specs.Walks.{item_of}
 use Rattle.bac_walk.specs.declared.batch.Numbered.{Numbered}
-use Rattle.bac_poll.specs.Back.{back, back_alone, back_by, back_done, back_lost, back_more, back_shown, is_front, shown_last}
-use Rattle.bac_poll.specs.Epochs.{another, another_by, another_of, asks_back, asks_oldest, brings_behind, renews, renews_none}
+use Rattle.bac_poll.specs.Back.{back, back_alone, back_by, back_done, back_lost, back_more, back_shown, is_front, shown_last, went_back}
+use Rattle.bac_poll.specs.Epochs.{another, another_by, another_of, asks_back, asks_oldest, brings_behind, renews, renews_none, renews_of}
 use Rattle.bac_poll.specs.Gone.{asks_restart, asks_revision, asks_word, by_gone, by_word, doubt, retold}
-use Rattle.bac_poll.specs.Joins.{again, again_by, again_equal, again_from, ahead, asks_again, asks_each, at_hour, brings_ahead, each, each_all, each_by, each_means, each_next, goes_nowhere, joined, joins, joins_by, joins_from, lost, lost_ahead, prior}
-use Rattle.bac_poll.specs.Known.{means_in, number_in, record_at, records_behind, shown_in, word_of}
-use Rattle.bac_poll.specs.Laws.{EndAt, Goes, TellsFront, IsAimed, IsAt, IsBefore, IsEach, IsFront, IsFrontOf, IsRun, IsTold}
-use Rattle.bac_poll.specs.Oldest.{counted, drops, is_first, logged, sees, sees_by, sees_newest, sees_none, sees_same}
-use Rattle.bac_poll.specs.Starts.{beginning, is_doubted, starts, starts_at, starts_behind, starts_by, starts_from, starts_here}
+use Rattle.bac_poll.specs.Joins.{again, again_by, again_equal, again_from, ahead, asks_again, asks_each, asks_newest, at_hour, brings_ahead, each, each_all, each_by, each_means, each_next, found, goes_nowhere, hour, joined, joins, joins_by, joins_from, lost, lost_ahead, moved_ahead, prior}
+use Rattle.bac_poll.specs.Known.{heeding, means_in, means_of, number_in, record_at, records_behind, shown_in, word_of}
+use Rattle.bac_poll.specs.Laws.{EndAt, Goes, TellsFront, IsAimed, IsAt, IsBefore, IsEach, HasSome, IsBegun, IsFrontOf, IsRun, IsTold}
+use Rattle.bac_poll.specs.Oldest.{by_count, by_number, drops, is_first, logged, sees, sees_before, sees_by, sees_newest, sees_none, sees_same}
+use Rattle.bac_poll.specs.Starts.{beginning, is_doubted, starts, starts_at, starts_behind, starts_by, starts_from, starts_here, starts_none, starts_refused, starts_told}
 use Rattle.bac_poll.specs.State.{KeptAs, PollState, Reply, kept_of}
 use Rattle.bac_poll.specs.Turns.{Turned, anew, asks, brings, confirmed, end_of, first_in, first_number, gap_up_to, last_in, number_before, renewed, standing_at, standing_on}
 use Rattle.bac_poll.specs.declared.gone.Gone.{Gone}
@@ -23,10 +23,11 @@ use Rattle.bac_poll.specs.declared.known.Shown.{Shown}
 use Rattle.bac_poll.specs.declared.known.Shown.TheVariants as shown
 use Rattle.bac_poll.specs.declared.stage.Aim.{Aim}
 use Rattle.bac_poll.specs.declared.stage.Aim.TheVariants.{Finds, Renews, Starts}
-use Rattle.bac_poll.specs.declared.stage.Stage.TheVariants.{Oldest, Back}
+use Rattle.bac_poll.specs.declared.stage.Stage.TheVariants.{Back}
 use Rattle.bac_poll.specs.declared.stage.Stage.TheVariants as stage
+use Rattle.bac_poll.specs.declared.turn.Line.{Line}
 use Rattle.bac_poll.specs.declared.turn.Line.TheVariants as line
-use Rattle.bac_poll.specs.declared.turn.PollEnd.TheVariants.{CaughtUp, Contradicts, ShowsNone}
+use Rattle.bac_poll.specs.declared.turn.PollEnd.TheVariants.{CaughtUp, Contradicts, NoneByNumber, ShowsNone}
 use Rattle.bac_poll.proofs.Wholes.{gap_ends, brings_by, brings_goes, ends_goes, found_number, gap_alone, gap_front, run_behind, run_ends, run_or, split}
 
 module _ (P : Numbered → Type 0) (F : ℕ → Type 0) where
@@ -34,12 +35,25 @@ module _ (P : Numbered → Type 0) (F : ℕ → Type 0) where
   abbrev FrontRun : PollState → List Numbered → Type 0
   FrontRun p rs = IsRun P (first_number rs) rs × IsFrontOf F p rs
 
+  -- they are a run of one at least
+  abbrev FullRun : List Numbered → Type 0
+  FullRun rs = IsRun P (first_number rs) rs × HasSome rs
+
+  -- of one at least the first is there
+  pub front_of : (p : PollState) (rs : List Numbered) → HasSome rs → F (first_number rs) → IsFrontOf F p rs
+  front_of p [] some front = absurd some
+  front_of p (r ∷ rs) some front = front
+
+  -- nothing stands before 1, where that comes next
+  pub first_is : (p : PollState) (n : ℕ) → is_first p n ≡ true → F 1 → F n
+  first_is p n is one = subst F (sym (eqb-true n 1 (and_parts _ _ is).0)) one
+
   -- ---- 6. new epochs
 
   pub oldest_goes : (p : PollState) (aim : Aim) → IsBefore p.newest p.next → IsAimed p aim × IsTold F p aim → Goes P F p.next (asks_oldest p aim)
   oldest_goes p aim known aimed = (record { mid = p.next; before = refl; behind = refl; fronts = λ sure. (tt, tt) }, λ none. (known, aimed))
 
-  pub back_goes : (p : PollState) (aim : Aim) (rs : List Numbered) → IsBefore p.newest p.next → IsAimed p aim → FrontRun p rs →
+  pub back_goes : (p : PollState) (aim : Aim) (rs : List Numbered) → IsBefore p.newest p.next → IsAimed p aim → FullRun rs →
       Goes P F p.next (asks_back p aim rs)
   back_goes p aim rs known aimed run = (record { mid = p.next; before = refl; behind = refl; fronts = λ sure. (tt, tt) }, λ none. (known, (aimed_of aim aimed, run.0, run.1)))
     where
@@ -51,16 +65,16 @@ module _ (P : Numbered → Type 0) (F : ℕ → Type 0) where
   pub another_goes : (p : PollState) → Goes P F p.next (another p)
   another_goes p =
       split P F (Goes P F p.next) (p.lives == 2) _ _ (λ third. ends_goes P F p Contradicts)
-      (λ more. (record { mid = p.next; before = refl; behind = refl; fronts = λ sure. (tt, tt) }, λ none. (tt, (refl, tt))))
+      (λ more. (record { mid = p.next; before = refl; behind = refl; fronts = λ sure. (tt, tt) }, λ none. (tt, ((refl, refl, refl, refl), tt))))
 
   -- an epoch has begun, and these are the oldest that are held
-  pub renews_goes : (p : PollState) (rs : List Numbered) → IsBefore p.newest p.next → p.next ≡ 1 → FrontRun p rs → Goes P F p.next (renews p rs)
+  pub renews_goes : (p : PollState) (rs : List Numbered) → IsBefore p.newest p.next → IsBegun p → FullRun rs → Goes P F p.next (renews p rs)
   renews_goes p rs known one run =
       split P F (Goes P F p.next) (first_number rs == 1) _ _
-      (λ first. brings_goes P F p rs (subst (λ k. IsRun P k rs) (eqb-true (first_number rs) 1 first ∙ sym one) run.0))
+      (λ first. brings_goes P F p rs (subst (λ k. IsRun P k rs) (eqb-true (first_number rs) 1 first ∙ sym one.0) run.0))
       (λ later. back_goes p Renews rs known one run)
 
-  pub another_by_goes : (p : PollState) (rs : List Numbered) → FrontRun p rs → Goes P F p.next (another_by p rs)
+  pub another_by_goes : (p : PollState) (rs : List Numbered) → FullRun rs → Goes P F p.next (another_by p rs)
   another_by_goes p rs run =
       let q = renewed p p.told in
       split P F (Goes P F p.next) (p.lives == 2) _ _ (λ third. ends_goes P F p Contradicts)
@@ -68,22 +82,23 @@ module _ (P : Numbered → Type 0) (F : ℕ → Type 0) where
       (λ first. brings_by P F (λ t. Goes P F p.next (anew t line.BeganAnew)) q 1 rs (subst (λ k. IsRun P k rs) (eqb-true (first_number rs) 1 first) run.0)
       (λ empty. (record { mid = p.next; before = refl; behind = refl; fronts = λ sure. (tt, tt) }, λ none. absurd (cc)))
       (λ l cov. (record { mid = p.next; before = refl; behind = cov; fronts = λ sure. (tt, tt) }, λ none. (refl, tt))))
-      (λ later. (record { mid = p.next; before = refl; behind = refl; fronts = λ sure. (tt, tt) }, λ none. (tt, (refl, run.0, run.1)))))
+      (λ later. (record { mid = p.next; before = refl; behind = refl; fronts = λ sure. (tt, tt) }, λ none. (tt, ((refl, refl, refl, refl), run.0, run.1)))))
 
   pub renews_none_goes : (p : PollState) (total : ℕ) → F (number_after total 1) → Goes P F p.next (renews_none p total)
   renews_none_goes p total front =
       (record { mid = number_after total 1; before = gap_alone P F p.next (number_after total 1); behind = refl; fronts = λ sure. (gap_ends P F p.next (number_after total 1) front, tt) }, λ none. absurd (cc))
 
+  pub renews_of_goes : (p : PollState) (total : ℕ) → IsBefore p.newest p.next → IsBegun p → F (number_after total 1) → Goes P F p.next (renews_of p total)
+  renews_of_goes p total known one front =
+      split P F (Goes P F p.next) (total == 0) _ _ (λ none. ends_goes P F p (end_of p))
+      (λ some. (record { mid = p.next; before = refl; behind = refl; fronts = λ sure. (tt, tt) }, λ none. (known, (one, front))))
+
   pub another_of_goes : (p : PollState) (total : ℕ) → F (number_after total 1) → Goes P F p.next (another_of p total)
-  another_of_goes p total front = (
-    record {
-      mid = p.next;
-      before = refl;
-      behind = gap_front P F 1 (number_after total 1) [] (number_after total 1) refl;
-      fronts = λ sure. (tt, gap_ends P F 1 (number_after total 1) front);
-    },
-    λ none. absurd (cc),
-  )
+  another_of_goes p total front =
+      split P F (Goes P F p.next) (p.lives == 2) _ _ (λ third. ends_goes P F p Contradicts)
+      (λ more. split P F (λ t. Goes P F p.next (anew t line.BeganAnew)) (total == 0) _ _
+      (λ empty. (record { mid = p.next; before = refl; behind = refl; fronts = λ sure. (tt, tt) }, λ none. absurd (cc)))
+      (λ some. (record { mid = p.next; before = refl; behind = refl; fronts = λ sure. (tt, tt) }, λ none. (tt, ((refl, refl, refl, refl), front)))))
 
   -- records behind a gap from where the log stands
   pub gap_brings : (n : ℕ) (q : PollState) (rs : List Numbered) → IsRun P q.next rs → F q.next → Goes P F n (record (brings q rs) { missing = gap_up_to n q.next })
@@ -145,13 +160,12 @@ module _ (P : Numbered → Type 0) (F : ℕ → Type 0) where
   each_begins p None is here known = another_goes p
   each_begins p (Some kept) is here known = (record { mid = p.next; before = refl; behind = refl; fronts = λ sure. (tt, tt) }, λ none. (known, here))
 
-  nowhere_goes : (p : PollState) (done alone : Bool) (held : Numbered) → p.next ≡ number_after held.number 1 → IsBefore p.newest p.next →
-      Goes P F p.next (goes_nowhere p done alone held)
-  nowhere_goes p done alone held here known =
+  nowhere_goes : (p : PollState) (done alone : Bool) → IsBefore p.newest p.next → IsAt P F p p.stage → Goes P F p.next (goes_nowhere p done alone)
+  nowhere_goes p done alone known at =
       split P F (Goes P F p.next) done _ _ (λ last. ends_goes P F p CaughtUp)
       (λ more. split P F (Goes P F p.next) alone _ _
-      (λ one. (record { mid = p.next; before = refl; behind = refl; fronts = λ sure. (tt, tt) }, λ none. (here, tt)))
-      (λ some. (record { mid = p.next; before = refl; behind = refl; fronts = λ sure. (tt, tt) }, λ none. (here, tt))))
+      (λ one. (record { mid = p.next; before = refl; behind = refl; fronts = λ sure. (tt, tt) }, λ none. (known, tt)))
+      (λ some. (record { mid = p.next; before = refl; behind = refl; fronts = λ sure. (tt, tt) }, λ none. (known, at))))
 
   joined_goes : (p : PollState) (kept : KeptAs) (reply : Reply) (n : ℕ) (found : Option Numbered) → record_at kept.number reply.records ≡ found →
       IsRun P n reply.records → p.next ≡ number_after kept.number 1 → IsBefore p.newest p.next → Goes P F p.next (joined p kept reply found)
@@ -161,21 +175,21 @@ module _ (P : Numbered → Type 0) (F : ℕ → Type 0) where
       let behind : IsRun P p.next (records_behind kept.number reply.records) =
       subst (λ k. IsRun P k (records_behind kept.number reply.records)) (sym here) (run_behind P F kept.number n reply.records run) in
       split P F (Goes P F p.next) (length (records_behind kept.number reply.records) == 0) _ _
-      (λ none. nowhere_goes (confirmed p) _ _ held (here ∙ ap (λ (k : ℕ). number_after k 1) (sym same)) known)
-      (λ some. brings_goes P F (confirmed p) (records_behind kept.number reply.records) behind)
+      (λ none. nowhere_goes (found p held) _ _ (here ∙ ap (λ (k : ℕ). number_after k 1) (sym same)) tt)
+      (λ some. brings_goes P F (found p held) (records_behind kept.number reply.records) behind)
 
   from_goes : (p : PollState) (reply : Reply) (n : ℕ) (newest : Option KeptAs) → p.newest ≡ newest → IsBefore newest p.next → IsBefore p.newest p.next →
       IsRun P n reply.records → Goes P F p.next (joins_from p reply newest)
   from_goes p reply n None is here known run = oldest_goes p Finds known (tt, tt)
   from_goes p reply n (Some kept) is here known run = joined_goes p kept reply n _ refl run here known
 
-  pub hour_goes : (n by : ℕ) (t : Turned) → Goes P F n t → Goes P F n (at_hour by t)
-  hour_goes n by t goes = split P F (Goes P F n) (by == 100) _ _ (λ same. goes) (λ moved. (record { mid = goes.0.mid; before = goes.0.before; behind = goes.0.behind; fronts = goes.0.fronts }, goes.1))
+  pub hour_goes : (n by : ℕ) (told : Line) (t : Turned) → Goes P F n t → Goes P F n (at_hour by told t)
+  hour_goes n by told t goes = split P F (Goes P F n) (by == 100) _ _ (λ same. goes) (λ moved. (record { mid = goes.0.mid; before = goes.0.before; behind = goes.0.behind; fronts = goes.0.fronts }, goes.1))
 
   joins_by_goes : (p : PollState) (reply : Reply) (n : ℕ) (means : Means) → IsBefore p.newest p.next → IsRun P n reply.records → Goes P F p.next (joins_by p reply means)
   joins_by_goes p reply n Unshown known run = oldest_goes p Finds known (tt, tt)
   joins_by_goes p reply n Same known run = from_goes p reply n p.newest refl known known run
-  joins_by_goes p reply n (Shifted by) known run = hour_goes p.next by _ (from_goes p reply n p.newest refl known known run)
+  joins_by_goes p reply n (Shifted by) known run = hour_goes p.next by _ _ (from_goes p reply n p.newest refl known known run)
   joins_by_goes p reply n Partly known run = each_begins p p.newest refl known known
   joins_by_goes p reply n Another known run = another_goes p
 
@@ -209,7 +223,7 @@ module _ (P : Numbered → Type 0) (F : ℕ → Type 0) where
   gap_another n q =
       split P F (λ t. Goes P F n (record t { missing = gap_up_to n q.next; doubtful = true })) (q.lives == 2) _ _
       (λ third. (record { mid = q.next; before = gap_alone P F n q.next; behind = refl; fronts = λ sure. absurd (cc) }, λ none. absurd (cc)))
-      (λ more. (record { mid = q.next; before = gap_alone P F n q.next; behind = refl; fronts = λ sure. absurd (cc) }, λ none. (tt, (refl, tt))))
+      (λ more. (record { mid = q.next; before = gap_alone P F n q.next; behind = refl; fronts = λ sure. absurd (cc) }, λ none. (tt, ((refl, refl, refl, refl), tt))))
 
   gap_lost : (n : ℕ) (q : PollState) (seen : Shown) → IsBefore q.newest q.next → Goes P F n (record (lost q seen) { missing = gap_up_to n q.next; doubtful = true })
   gap_lost n q shown.Unshown known = (record { mid = q.next; before = gap_alone P F n q.next; behind = refl; fronts = λ sure. absurd (cc) }, λ none. (known, (tt, tt)))
@@ -220,6 +234,11 @@ module _ (P : Numbered → Type 0) (F : ℕ → Type 0) where
   lost_ahead_goes : (p : PollState) (seen : Shown) (last : Option Numbered) → IsBefore p.newest p.next → Goes P F p.next (lost_ahead p seen last)
   lost_ahead_goes p seen None known = lost_goes p seen known
   lost_ahead_goes p seen (Some last) known = gap_lost p.next (standing_at p (number_after last.number 1)) seen tt
+
+  moved_goes_ahead : (p : PollState) (held : List Numbered) (seen : Shown) → IsBefore p.newest p.next → Goes P F p.next (moved_ahead p held seen)
+  moved_goes_ahead p held seen known =
+      split P F (Goes P F p.next) (is_some p.earliest) _ _ (λ three. each_begins p p.newest refl known known)
+      (λ fewer. lost_ahead_goes p seen (last_in held) known)
 
   ahead_brings : (p : PollState) (held : List Numbered) → IsRun P p.next held → Goes P F p.next (brings_ahead p held (last_in held))
   ahead_brings p [] run = ends_goes P F p (end_of p)
@@ -240,7 +259,7 @@ module _ (P : Numbered → Type 0) (F : ℕ → Type 0) where
       p.next ≡ number_after kept.number 1 → IsBefore p.newest p.next → IsRun P p.next held → IsRun P n records → Goes P F p.next (again_by p held kept records seen)
   again_by_goes p held kept n records shown.Equal here known ahead run = equal_goes p held kept n records here ahead run
   again_by_goes p held kept n records shown.Unshown here known ahead run = lost_ahead_goes p shown.Unshown (last_in held) known
-  again_by_goes p held kept n records (shown.Moved by) here known ahead run = lost_ahead_goes p (shown.Moved by) (last_in held) known
+  again_by_goes p held kept n records (shown.Moved by) here known ahead run = moved_goes_ahead p held (shown.Moved by) known
   again_by_goes p held kept n records shown.Another here known ahead run = lost_ahead_goes p shown.Another (last_in held) known
 
   again_from_goes : (p : PollState) (held : List Numbered) (n : ℕ) (records : List Numbered) (newest : Option KeptAs) → IsBefore newest p.next →
@@ -256,7 +275,7 @@ module _ (P : Numbered → Type 0) (F : ℕ → Type 0) where
   each_means_goes : (p : PollState) (held : Numbered) (means : Means) → p.next ≡ number_after held.number 1 → Goes P F p.next (each_means p held means)
   each_means_goes p held Same here = (record { mid = p.next; before = refl; behind = refl; fronts = λ sure. (tt, tt) }, λ none. (here, tt))
   each_means_goes p held (Shifted by) here =
-      hour_goes p.next by (asks (standing_on p (kept_of held))) (record { mid = p.next; before = refl; behind = refl; fronts = λ sure. (tt, tt) }, λ none. (here, tt))
+      hour_goes p.next by (hour p by) (asks (standing_on p (kept_of held))) (record { mid = p.next; before = refl; behind = refl; fronts = λ sure. (tt, tt) }, λ none. (here, tt))
   each_means_goes p held Unshown here = another_goes p
   each_means_goes p held Partly here = another_goes p
   each_means_goes p held Another here = another_goes p
@@ -292,49 +311,78 @@ module _ (P : Numbered → Type 0) (F : ℕ → Type 0) where
 
   -- ---- 2. the oldest records
 
-  drops_goes : (p : PollState) (back : Bool) (records : List Numbered) → IsBefore p.newest p.next → FrontRun p records →
+  -- a gap may end in front of these, where no others are looked for
+  abbrev IsDone : PollState → Bool → List Numbered → Type 0
+  IsDone p back records = (back && not (is_first p (first_number records))) ≡ false → F (first_number records)
+
+  drops_goes : (p : PollState) (back : Bool) (records : List Numbered) → IsBefore p.newest p.next → FullRun records → IsDone p back records →
       Goes P F p.next (drops p back records)
-  drops_goes p back records known run =
+  drops_goes p back records known run done =
       split P F (Goes P F p.next) (back && not (is_first p (first_number records))) _ _ (λ look. back_goes p Finds records known tt run)
-      (λ front. word_goes p records known run)
+      (λ front. word_goes p records known (run.0, front_of p records run.1 (done front)))
 
-  sees_none_goes : (p : PollState) (back : Bool) (records : List Numbered) → IsBefore p.newest p.next → FrontRun p records →
-      Goes P F p.next (sees_none p back records)
-  sees_none_goes p back records known run =
-      split P F (Goes P F p.next) (is_ahead p.next (first_number records)) _ _ (λ behind. drops_goes p back records known run)
-      (λ before. another_by_goes p records run)
+  sees_before_goes : (p : PollState) (cut : Bool) (records : List Numbered) → IsBefore p.newest p.next → FullRun records →
+      Goes P F p.next (sees_before p cut records)
+  sees_before_goes p cut records known run =
+      split P F (Goes P F p.next) cut _ _
+      (λ short. (record { mid = p.next; before = refl; behind = refl; fronts = λ sure. (tt, tt) }, λ none. (known, run)))
+      (λ whole. another_by_goes p records run)
 
-  sees_newest_goes : (p : PollState) (kept : KeptAs) (records : List Numbered) (found : Option Numbered) → p.next ≡ number_after kept.number 1 → IsBefore p.newest p.next →
-      FrontRun p records → Goes P F p.next (sees_newest p kept records found)
-  sees_newest_goes p kept records None here known run =
-      (record { mid = p.next; before = refl; behind = refl; fronts = λ sure. (tt, tt) }, λ none. (known, tt))
-  sees_newest_goes p kept records (Some held) here known run =
+  pub by_number_goes : (p : PollState) (held records : List Numbered) → FullRun held → Goes P F p.next (by_number p held records)
+  by_number_goes p held records run =
+      split P F (Goes P F p.next) (length records == 0) _ _ (λ none. ends_goes P F p NoneByNumber) (λ some. another_by_goes p held run)
+
+  sees_none_goes : (p : PollState) (back cut : Bool) (records : List Numbered) → IsBefore p.newest p.next → FullRun records → IsDone p back records →
+      Goes P F p.next (sees_none p back cut records)
+  sees_none_goes p back cut records known run done =
+      split P F (Goes P F p.next) (is_ahead p.next (first_number records)) _ _ (λ behind. drops_goes p back records known run done)
+      (λ before. sees_before_goes p cut records known run)
+
+  newest_goes : (p : PollState) (number : ℕ) → IsBefore p.newest p.next → Goes P F p.next (asks_newest p number)
+  newest_goes p number known = (record { mid = p.next; before = refl; behind = refl; fronts = λ sure. (tt, tt) }, λ none. (known, tt))
+
+  sees_newest_goes : (p : PollState) (kept : KeptAs) (cut : Bool) (records : List Numbered) (found : Option Numbered) → record_at kept.number records ≡ found →
+      p.next ≡ number_after kept.number 1 → IsBefore p.newest p.next → FullRun records → Goes P F p.next (sees_newest p kept cut records found)
+  sees_newest_goes p kept cut records None is here known run =
+      split P F (Goes P F p.next) p.alone _ _ (λ asked. sees_before_goes p cut records known run) (λ other. newest_goes p kept.number known)
+  sees_newest_goes p kept cut records (Some held) is here known run =
+      let shown_here : p.next ≡ number_after held.number 1 = here ∙ ap (λ (k : ℕ). number_after k 1) (sym (found_number P F kept.number records held is)) in
       let behind : IsRun P p.next (records_behind kept.number records) =
       subst (λ k. IsRun P k (records_behind kept.number records)) (sym here) (run_behind P F kept.number (first_number records) records run.0) in
-      split P F (Goes P F p.next) ((length (records_behind kept.number records) == 0) && is_some p.earlier) _ _
-      (λ none. (record { mid = p.next; before = refl; behind = refl; fronts = λ sure. (tt, tt) }, λ none. (known, tt)))
-      (λ some. brings_goes P F (confirmed p) (records_behind kept.number records) behind)
+      split P F (Goes P F p.next) ((length (records_behind kept.number records) == 0) && not p.alone) _ _
+      (λ none. (record { mid = p.next; before = refl; behind = refl; fronts = λ sure. (tt, tt) }, λ none. (shown_here, tt)))
+      (λ some. brings_goes P F (found p held) (records_behind kept.number records) behind)
 
-  sees_same_goes : (p : PollState) (records : List Numbered) (newest : Option KeptAs) → IsBefore newest p.next → IsBefore p.newest p.next → FrontRun p records →
-      Goes P F p.next (sees_same p records newest)
-  sees_same_goes p records None here known run = another_by_goes p records run
-  sees_same_goes p records (Some kept) here known run = sees_newest_goes p kept records (record_at kept.number records) here known run
+  sees_same_goes : (p : PollState) (cut : Bool) (records : List Numbered) (newest : Option KeptAs) → IsBefore newest p.next → IsBefore p.newest p.next → FullRun records →
+      Goes P F p.next (sees_same p cut records newest)
+  sees_same_goes p cut records None here known run = another_by_goes p records run
+  sees_same_goes p cut records (Some kept) here known run = sees_newest_goes p kept cut records (record_at kept.number records) refl here known run
 
-  sees_by_goes : (p : PollState) (back : Bool) (records : List Numbered) (means : Means) → IsBefore p.newest p.next → FrontRun p records →
-      Goes P F p.next (sees_by p back records means)
-  sees_by_goes p back records Unshown known run = sees_none_goes p back records known run
-  sees_by_goes p back records Same known run = sees_same_goes p records p.newest known known run
-  sees_by_goes p back records (Shifted by) known run = hour_goes p.next by _ (sees_same_goes p records p.newest known known run)
-  sees_by_goes p back records Partly known run = each_begins p p.newest refl known known
-  sees_by_goes p back records Another known run = another_by_goes p records run
+  sees_by_goes : (p : PollState) (back cut : Bool) (records : List Numbered) (means : Means) → IsBefore p.newest p.next → FullRun records →
+      (means ≡ Unshown → IsDone p back records) → Goes P F p.next (sees_by p back cut records means)
+  sees_by_goes p back cut records Unshown known run done = sees_none_goes p back cut records known run (done refl)
+  sees_by_goes p back cut records Same known run done = sees_same_goes p cut records p.newest known known run
+  sees_by_goes p back cut records (Shifted by) known run done = hour_goes p.next by _ _ (sees_same_goes p cut records p.newest known known run)
+  sees_by_goes p back cut records Partly known run done = each_begins p p.newest refl known known
+  sees_by_goes p back cut records Another known run done = another_by_goes p records run
 
-  pub sees_goes : (p : PollState) (back : Bool) (records : List Numbered) → IsBefore p.newest p.next → FrontRun p records →
-      Goes P F p.next (sees p back records)
-  sees_goes p back records known run = sees_by_goes p back records (means_in p records) known run
+  sees_goes : (p : PollState) (back cut : Bool) (records : List Numbered) → IsBefore p.newest p.next → FullRun records →
+      (means_in p records ≡ Unshown → IsDone p back records) → Goes P F p.next (sees p back cut records)
+  sees_goes p back cut records known run done = sees_by_goes p back cut records (means_in p records) known run done
+
+  not_false : (b : Bool) → not b ≡ false → b ≡ true
+  not_false true is = refl
+  not_false false is = absurd (cc)
+
+  -- they came by time, or up to a count
+  pub came_sees : (p : PollState) (cut : Bool) (records : List Numbered) → IsBefore p.newest p.next → FullRun records → F 1 →
+      Goes P F p.next (sees p true cut records)
+  came_sees p cut records known run one =
+      sees_goes p true cut records known run (λ none done. first_is p (first_number records) (not_false (is_first p (first_number records)) done) one)
 
   -- ---- 3. the count
 
-  pub counted_goes : (p : PollState) (count : Option ℕ) → IsBefore p.newest p.next → TellsFront F count → Goes P F p.next (counted p count)
+  pub counted_goes : (p : PollState) (count : Option ℕ) → IsBefore p.newest p.next → TellsFront F count → Goes P F p.next (by_count p count)
   counted_goes p None known front = ends_goes P F p ShowsNone
   counted_goes p (Some total) known front =
       split P F (Goes P F p.next) (total == logged p) _ _ (λ same. ends_goes P F (confirmed p) CaughtUp)
@@ -368,41 +416,75 @@ module _ (P : Numbered → Type 0) (F : ℕ → Type 0) where
   moved_goes : (n m : ℕ) (t : Turned) → n ≡ m → Goes P F m t → Goes P F n t
   moved_goes n m t same goes = subst (λ (k : ℕ). Goes P F k t) (sym same) goes
 
-  pub starts_by_goes : (p : PollState) (records : List Numbered) → p.next ≡ 1 → FrontRun p records → Goes P F p.next (starts_by p records)
-  starts_by_goes p records one run =
-      moved_goes p.next 1 (starts_by p records) one
-      (split P F (Goes P F 1) (first_number records == 1) _ _ (λ first. starts_goes (standing_at p 1) records run)
-      (λ later. back_goes (standing_at p 1) Starts records tt refl run))
+  pub starts_by_goes : (p : PollState) (records : List Numbered) → IsBegun p → FullRun records → F 1 → Goes P F p.next (starts_by p records)
+  starts_by_goes p records begun run one =
+      moved_goes p.next 1 (starts_by p records) begun.0
+      (split P F (Goes P F 1) (is_first (standing_at p 1) (first_number records)) _ _
+      (λ first. starts_goes (standing_at p 1) records (run.0, front_of (standing_at p 1) records run.1 (first_is (standing_at p 1) (first_number records) first one)))
+      (λ later. back_goes (standing_at p 1) Starts records tt (refl, refl, refl, refl) run))
 
-  pub starts_from_goes : (p : PollState) (begins count : Option ℕ) → IsBefore p.newest p.next → IsAimed p Starts → TellsFront F count → Goes P F p.next (starts_from p begins count)
-  starts_from_goes p None count known aimed front = (record { mid = p.next; before = refl; behind = refl; fronts = λ sure. (tt, tt) }, λ none. (known, (aimed, front)))
-  starts_from_goes p (Some begins) count known aimed front = (record { mid = p.next; before = refl; behind = refl; fronts = λ sure. (tt, tt) }, λ none. (known, (aimed, front)))
+  pub starts_none_goes : (p : PollState) → F (number_after p.total 1) → Goes P F p.next (starts_none p)
+  starts_none_goes p front =
+      split P F (Goes P F p.next) (p.refused && is_some p.counted) _ _ (λ stays. ends_goes P F p ShowsNone) (λ told. starts_goes p [] (tt, front))
+
+  told_goes : (p : PollState) (begins : Option ℕ) (next : ℕ) → IsBefore p.newest p.next → IsAimed p Starts × IsTold F p Starts → Goes P F p.next (starts_told p begins next)
+  told_goes p None next known aimed = (record { mid = p.next; before = refl; behind = refl; fronts = λ sure. (tt, tt) }, λ none. (known, aimed))
+  told_goes p (Some begins) next known aimed = oldest_goes p Starts known aimed
+
+  refused_goes : (p : PollState) (counted : Option ℕ) → IsBefore p.newest p.next → IsAimed p Starts × IsTold F p Starts → Goes P F p.next (starts_refused p counted)
+  refused_goes p None known aimed = (record { mid = p.next; before = refl; behind = refl; fronts = λ sure. (tt, tt) }, λ none. (known, aimed))
+  refused_goes p (Some counted) known aimed = oldest_goes p Starts known aimed
+
+  pub starts_from_goes : (p : PollState) (count : Option ℕ) → IsBefore p.newest p.next → IsAimed p Starts → TellsFront F count → Goes P F p.next (starts_from p count)
+  starts_from_goes p None known aimed front = refused_goes (record p { total = 0; refused = true }) p.counted known (aimed, front)
+  starts_from_goes p (Some total) known aimed front =
+      told_goes (record p { total = total; refused = false }) p.begins (number_after total 1) known (aimed, front)
 
   -- ---- before the first of the records that are held back
 
-  done_goes : (p : PollState) (aim : Aim) (records : List Numbered) → IsBefore p.newest p.next → FrontRun p records →
+  done_goes : (p : PollState) (aim : Aim) (records : List Numbered) → IsBefore p.newest p.next → FullRun records →
+      (means_in p records ≡ Unshown → F (first_number records)) → (IsBegun p → F (first_number records)) → IsAimed p aim →
       Goes P F p.next (back_done p aim records)
-  done_goes p Finds records known run = sees_goes p false records known run
-  done_goes p Renews records known run = behind_goes p records run
-  done_goes p Starts records known run = starts_goes p records run
+  done_goes p Finds records known run front begun aimed = sees_goes p false false records known run (λ none done. front none)
+  done_goes p Renews records known run front begun aimed = behind_goes p records (run.0, front_of p records run.1 (begun aimed))
+  done_goes p Starts records known run front begun aimed = starts_goes p records (run.0, front_of p records run.1 (begun aimed))
+
+  -- of no known record nothing is shown
+  shows_none : (p : PollState) (newest earlier earliest : Option KeptAs) (records : List Numbered) → newest ≡ None → earlier ≡ None → earliest ≡ None →
+      heeding p (means_of (is_some earliest) (shown_in newest records) (shown_in earlier records) (shown_in earliest records)) ≡ Unshown
+  shows_none p None None None records a b c = refl
+  shows_none p None None (Some kept) records a b c = absurd (cc)
+  shows_none p None (Some kept) earliest records a b c = absurd (cc)
+  shows_none p (Some kept) earlier earliest records a b c = absurd (cc)
+
+  -- those in front of which nothing is looked for show a known one, or begin at 1
+  front_at : (p : PollState) (records : List Numbered) → is_front p records (means_in p records) ≡ true → F 1 → means_in p records ≡ Unshown → F (first_number records)
+  front_at p records front one none =
+      let is : is_first p (first_number records) ≡ true = subst (λ means. is_front p records means ≡ true) none front in
+      first_is p (first_number records) is one
+
+  begun_at : (p : PollState) (records : List Numbered) → is_front p records (means_in p records) ≡ true → F 1 → IsBegun p → F (first_number records)
+  begun_at p records front one begun =
+      front_at p records front one (shows_none p p.newest p.earlier p.earliest records begun.1 begun.2 begun.3)
 
   lost_back : (p : PollState) (aim : Aim) → IsBefore p.newest p.next → IsAimed p aim → Goes P F p.next (back_lost p aim)
   lost_back p Finds known aimed = oldest_goes p Finds known (tt, tt)
   lost_back p Renews known aimed = oldest_goes p Renews known (aimed, tt)
   lost_back p Starts known aimed = (record { mid = p.next; before = refl; behind = refl; fronts = λ sure. (tt, tt) }, λ none. (known, aimed))
 
-  more_goes : (p : PollState) (aim : Aim) (records : List Numbered) → IsBefore p.newest p.next → IsAimed p aim → FrontRun p records →
+  more_goes : (p : PollState) (aim : Aim) (records : List Numbered) → IsBefore p.newest p.next → IsAimed p aim → FullRun records → F 1 →
       Goes P F p.next (back_more p aim records)
-  more_goes p aim records known aimed run =
-      split P F (Goes P F p.next) (is_front p records (means_in p records)) _ _ (λ front. done_goes p aim records known run)
+  more_goes p aim records known aimed run one =
+      split P F (Goes P F p.next) (is_front p records (means_in p records)) _ _
+      (λ front. done_goes p aim records known run (front_at p records front one) (begun_at p records front one) aimed)
       (λ back. back_goes p aim records known aimed run)
 
-  alone_goes : (p : PollState) (aim : Aim) (held : List Numbered) → IsBefore p.newest p.next → IsAimed p aim → FrontRun p held →
-      Goes P F p.next (back_alone p aim held)
-  alone_goes p aim held known aimed kept =
-      split P F (Goes P F p.next) p.more _ _
+  alone_goes : (p : PollState) (aim : Aim) (held : List Numbered) → IsBefore p.newest p.next → IsAimed p aim → FullRun held →
+      ((p.more || (p.walk.count == 1)) ≡ false → F (first_number held)) → Goes P F p.next (back_alone p aim held)
+  alone_goes p aim held known aimed kept bare =
+      split P F (Goes P F p.next) (p.more || (p.walk.count == 1)) _ _
       (λ more. (record { mid = p.next; before = refl; behind = refl; fronts = λ sure. (tt, tt) }, λ none. (known, (aimed_at aim aimed, kept.0, kept.1))))
-      (λ none. done_goes p aim held known kept)
+      (λ none. done_goes p aim held known kept (λ unshown. bare none) (λ begun. bare none) aimed)
     where
       aimed_at : (aim : Aim) → IsAimed p aim → IsAimed (record p { stage = Back aim; reference = number_before (first_number held); held = held }) aim
       aimed_at Finds aimed = tt
@@ -410,23 +492,55 @@ module _ (P : Numbered → Type 0) (F : ℕ → Type 0) where
       aimed_at Starts aimed = aimed
 
   shown_goes : (p : PollState) (aim : Aim) (held records : List Numbered) (seen : Shown) → IsBefore p.newest p.next → IsAimed p aim →
-      FrontRun p held → FrontRun p records → Goes P F p.next (back_shown p aim held records seen)
-  shown_goes p aim held records shown.Equal known aimed kept run =
-      split P F (Goes P F p.next) (length records == 1) _ _ (λ alone. alone_goes p aim held known aimed kept) (λ more. more_goes p aim records known aimed run)
-  shown_goes p aim held records shown.Unshown known aimed kept run = lost_back p aim known aimed
-  shown_goes p aim held records (shown.Moved by) known aimed kept run = lost_back p aim known aimed
-  shown_goes p aim held records shown.Another known aimed kept run = lost_back p aim known aimed
+      FullRun held → FullRun records → F 1 → ((length records == 1) ≡ true → (p.more || (p.walk.count == 1)) ≡ false → F (first_number held)) →
+      Goes P F p.next (back_shown p aim held records seen)
+  shown_goes p aim held records shown.Equal known aimed kept run one bare =
+      split P F (Goes P F p.next) (length records == 1) _ _ (λ alone. alone_goes p aim held known aimed kept (bare alone))
+      (λ more. more_goes p aim records known aimed run one)
+  shown_goes p aim held records shown.Unshown known aimed kept run one bare = lost_back p aim known aimed
+  shown_goes p aim held records (shown.Moved by) known aimed kept run one bare = lost_back p aim known aimed
+  shown_goes p aim held records shown.Another known aimed kept run one bare = lost_back p aim known aimed
 
-  back_by_goes : (p : PollState) (aim : Aim) (held records : List Numbered) (last : Option Numbered) → IsBefore p.newest p.next → IsAimed p aim →
-      FrontRun p held → FrontRun p records → Goes P F p.next (back_by p aim held records last)
-  back_by_goes p aim held records None known aimed kept run = done_goes p aim held known kept
-  back_by_goes p aim held records (Some last) known aimed kept run =
+  -- by the last of the records of a reply, which has one at least
+  back_by_goes : (p : PollState) (aim : Aim) (held records : List Numbered) (last : Numbered) → IsBefore p.newest p.next → IsAimed p aim →
+      FullRun held → FullRun records → F 1 →
+      ((length records == 1) ≡ true → (last.number == first_number held) ≡ true → (p.more || (p.walk.count == 1)) ≡ false → F (first_number held)) →
+      Goes P F p.next (back_by p aim held records (Some last))
+  back_by_goes p aim held records last known aimed kept run one bare =
       split P F (Goes P F p.next) (last.number == first_number held) _ _
-      (λ ended. shown_goes p aim held records (shown_last (first_in held) last) known aimed kept run)
-      (λ short. more_goes p aim records known aimed run)
+      (λ ended. shown_goes p aim held records (shown_last (first_in held) last) known aimed kept run one (λ alone none. bare alone ended none))
+      (λ short. more_goes p aim records known aimed run one)
+
+  bare_front : (n : ℕ) (a b c : Bool) → a ≡ true → b ≡ true → c ≡ false → ((a && (b && not c)) ≡ true → F n) → F n
+  bare_front n true true false x y z front = front refl
+  bare_front n false b c x y z front = absurd (cc)
+  bare_front n true false c x y z front = absurd (cc)
+  bare_front n true true true x y z front = absurd (cc)
+
+  takes : (p : PollState) (aim : Aim) (held records : List Numbered) → IsBefore p.newest p.next → IsAimed p aim → FullRun held →
+      IsRun P (first_number records) records → F 1 →
+      (((length records == 0) || ((length records == 1) && ((first_number records == first_number held) && not (p.more || (p.walk.count == 1))))) ≡ true → F (first_number held)) →
+      Goes P F p.next (back_by p aim held records (last_in records))
+  takes p aim held [] known aimed kept run one bare = done_goes p aim held known kept (λ none. bare refl) (λ begun. bare refl) aimed
+  takes p aim held (r ∷ []) known aimed kept run one bare =
+      back_by_goes p aim held (r ∷ []) r known aimed kept (run, tt) one
+      (λ alone ended none. bare_front (first_number held) (length (r ∷ []) == 1) (r.number == first_number held) (p.more || (p.walk.count == 1)) alone ended none bare)
+  takes p aim held (r ∷ s ∷ rs) known aimed kept run one bare =
+      let e = run_ends P F r.number r (s ∷ rs) run in
+      subst (λ last. Goes P F p.next (back_by p aim held (r ∷ s ∷ rs) last)) (sym e.1)
+      (back_by_goes p aim held (r ∷ s ∷ rs) e.0 known aimed kept (run, tt) one
+      (λ alone ended none. let same : length (r ∷ s ∷ rs) ≡ 1 = eqb-true _ _ alone in let never : ⊥ = omega (arith, same) in absurd never))
 
   pub back_takes : (p : PollState) (aim : Aim) (held records : List Numbered) → IsBefore p.newest p.next → IsAimed p aim →
-      FrontRun p held → IsRun P (first_number records) records → IsFront F records → Goes P F p.next (back p aim held records)
-  back_takes p aim held [] known aimed kept run front = done_goes p aim held known kept
-  back_takes p aim held (r ∷ rs) known aimed kept run front =
-      back_by_goes p aim held (r ∷ rs) (last_in (r ∷ rs)) known aimed kept (run, front)
+      FullRun held → IsRun P (first_number records) records → F 1 →
+      (((length records == 0) || ((length records == 1) && ((first_number records == first_number held) && not (p.more || (p.walk.count == 1))))) ≡ true → F (first_number held)) →
+      Goes P F p.next (back p aim held records)
+  back_takes p aim held records known aimed kept run one bare =
+      split P F (Goes P F p.next) (nat_lt p.back 2147483648) _ _
+      (λ near. takes (went_back p records) aim held records known (aimed_so aim aimed) kept run one bare)
+      (λ far. ends_goes P F p Contradicts)
+    where
+      aimed_so : (aim : Aim) → IsAimed p aim → IsAimed (went_back p records) aim
+      aimed_so Finds aimed = tt
+      aimed_so Renews aimed = aimed
+      aimed_so Starts aimed = aimed

@@ -57,7 +57,7 @@ first_shows H m p (Some first) count (e ∷ es) last more shows =
     (asked_shows H (are_asked p p.stage (first_number (with_numbers first (e ∷ es))) (length (with_numbers first (e ∷ es)))) (with_numbers first (e ∷ es)) last more all)
     tt)
 
-reply_shows : (H : History) (m : Moment) (p : PollState) (datagram : List ℕ) → IsShownAt m H p.walk.log datagram →
+pub reply_shows : (H : History) (m : Moment) (p : PollState) (datagram : List ℕ) → IsShownAt m H p.walk.log datagram →
     ShowsOnly (IsLogged H) (reply_in p datagram)
 reply_shows H m p datagram shown =
     let last = has_last (ack_in datagram) in

@@ -9,7 +9,7 @@ use Rattle.bac_walk.specs.Walks.{item_of, with_numbers}
 use Rattle.bac_walk.specs.declared.batch.Numbered.{Numbered}
 use Rattle.bac_poll.specs.Known.{record_at, records_behind}
 use Rattle.bac_poll.specs.Laws.{Covers, EndAt, Goes, HoldsOfEach, IsRun, IsStanding}
-use Rattle.bac_poll.specs.State.{PollState, kept_of}
+use Rattle.bac_poll.specs.State.{PollState}
 use Rattle.bac_poll.specs.Turns.{Turned, asks, behind, brings, brings_to, end_of, ends, first_in, first_number, gap_up_to, last_in, number_or}
 use Rattle.bac_poll.specs.declared.turn.PollEnd.{PollEnd}
 
@@ -94,7 +94,7 @@ module _ (P : Numbered → Type 0) (F : ℕ → Type 0) where
   -- what is kept of a run, in any turn
   pub brings_by : (T : Turned → Type 0) (p : PollState) (n : ℕ) (rs : List Numbered) → IsRun P n rs → (rs ≡ [] → T (ends p (end_of p))) →
       ((l : Numbered) → Covers P n (map item_of rs) (number_after l.number 1) →
-      T (record (asks (behind p (kept_of l))) { records = rs })) → T (brings p rs)
+      T (record (asks (behind p rs l)) { records = rs })) → T (brings p rs)
   brings_by T p n [] run none some = none refl
   brings_by T p n (r ∷ rs) run none some =
       let e = run_ends n r rs run in

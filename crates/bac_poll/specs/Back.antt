@@ -1,12 +1,13 @@
 -- Before a gap is put in front of records, the first of them is asked for backwards, until nothing stands before it.
-use Rattle.std.specs.Prelude.{◌==◌, Bool, true, false, if◌then◌else◌, List, length, Option, None, Some}
+use Rattle.std.specs.Prelude.{◌+◌, ◌==◌, ◌||◌, nat_lt, Bool, true, false, if◌then◌else◌, List, length, Option, None, Some}
+use Rattle.bac_link.specs.Ordinals.{distance}
 use Rattle.bac_walk.specs.declared.batch.Numbered.{Numbered}
 use Rattle.bac_poll.specs.Epochs.{asks_back, asks_oldest, brings_behind}
 use Rattle.bac_poll.specs.Known.{means_in, shown_as}
 use Rattle.bac_poll.specs.Oldest.{is_first, sees}
 use Rattle.bac_poll.specs.Starts.{starts}
 use Rattle.bac_poll.specs.State.{PollState, kept_of}
-use Rattle.bac_poll.specs.Turns.{Turned, asks, asks_at, first_in, first_number, last_in, number_before}
+use Rattle.bac_poll.specs.Turns.{Turned, asks, asks_at, ends, first_in, first_number, last_in, number_before, number_or}
 use Rattle.bac_poll.specs.declared.known.Means.{Means}
 use Rattle.bac_poll.specs.declared.known.Means.TheVariants.{Shifted, Partly, Same, Unshown, Another}
 use Rattle.bac_poll.specs.declared.known.Shown.{Shown}
@@ -14,10 +15,11 @@ use Rattle.bac_poll.specs.declared.known.Shown.TheVariants as shown
 use Rattle.bac_poll.specs.declared.stage.Aim.{Aim}
 use Rattle.bac_poll.specs.declared.stage.Aim.TheVariants.{Finds, Renews, Starts}
 use Rattle.bac_poll.specs.declared.stage.Stage.TheVariants.{Back, Counts}
+use Rattle.bac_poll.specs.declared.turn.PollEnd.TheVariants.{Contradicts}
 
 -- nothing stands before these
 abbrev pub back_done : PollState → Aim → List Numbered → Turned
-back_done p Finds records = sees p false records
+back_done p Finds records = sees p false false records
 back_done p Renews records = brings_behind p records
 back_done p Starts records = starts p records
 
@@ -40,10 +42,11 @@ abbrev pub back_more : PollState → Aim → List Numbered → Turned
 back_more p aim records =
     if is_front p records (means_in p records) then back_done p aim records else asks_back p aim records
 
--- it came alone: those before it are asked for without it, if the reply says that more is there
+-- It came alone. Those before it are asked for without it, if the reply says that more is there, or no other was asked
+-- for.
 abbrev pub back_alone : PollState → Aim → List Numbered → Turned
 back_alone p aim held =
-    if p.more
+    if p.more || (p.walk.count == 1)
     then asks (record p { stage = Back aim; reference = number_before (first_number held); held = held })
     else back_done p aim held
 
@@ -67,6 +70,13 @@ back_by p aim held records (Some last) =
     if last.number == first_number held then back_shown p aim held records (shown_last (first_in held) last)
     else back_more p aim records
 
--- a reply to that
+-- the poll went back to the first of these, from the number that was asked for on, and with that
+abbrev pub went_back : PollState → List Numbered → PollState
+went_back p records =
+    record p { back = p.back + distance (number_or p.reference (first_in records)) p.reference + 1 }
+
+-- A reply to that. Half of all numbers lie before one: who went back behind them contradicts itself.
 abbrev pub back : PollState → Aim → List Numbered → List Numbered → Turned
-back p aim held records = back_by p aim held records (last_in records)
+back p aim held records =
+    if nat_lt p.back 2147483648 then back_by (went_back p records) aim held records (last_in records)
+    else ends p Contradicts

@@ -3,11 +3,11 @@ use Rattle.std.specs.Prelude.{ℕ, ◌==◌, if◌then◌else◌, List}
 use Rattle.bac_link.specs.Ordinals.{number_after}
 use Rattle.bac_walk.specs.declared.batch.Numbered.{Numbered}
 use Rattle.bac_poll.specs.State.{PollState}
-use Rattle.bac_poll.specs.Turns.{Turned, anew, asks, asks_at, brings, ends, first_in, first_number, gap_up_to}
+use Rattle.bac_poll.specs.Turns.{Turned, anew, asks, asks_at, brings, end_of, ends, first_in, first_number, gap_up_to}
 use Rattle.bac_poll.specs.Turns.{number_or, renewed, standing_at}
 use Rattle.bac_poll.specs.declared.stage.Aim.{Aim}
 use Rattle.bac_poll.specs.declared.stage.Aim.TheVariants.{Renews}
-use Rattle.bac_poll.specs.declared.stage.Stage.TheVariants.{Oldest, Back}
+use Rattle.bac_poll.specs.declared.stage.Stage.TheVariants.{Oldest, UpTo, Back}
 use Rattle.bac_poll.specs.declared.turn.Line.TheVariants.{BeganAnew}
 use Rattle.bac_poll.specs.declared.turn.PollEnd.TheVariants.{CaughtUp, Contradicts}
 
@@ -43,8 +43,12 @@ abbrev pub renews_none : PollState → ℕ → Turned
 renews_none p total =
     record (ends (standing_at p (number_after total 1)) CaughtUp) { missing = gap_up_to p.next (number_after total 1) }
 
--- another life, which holds nothing, told by its count
+-- an epoch has begun and shows no record by time: of so many that were logged in it the last are asked for by number
+abbrev pub renews_of : PollState → ℕ → Turned
+renews_of p total =
+    if total == 0 then ends p (end_of p) else asks_at (record p { total = total }) (UpTo Renews) total
+
+-- another life, told by its count
 abbrev pub another_of : PollState → ℕ → Turned
 another_of p total =
-    record (anew (ends (standing_at (renewed p p.told) (number_after total 1)) CaughtUp) BeganAnew)
-    { gap = gap_up_to 1 (number_after total 1) }
+    if p.lives == 2 then ends p Contradicts else anew (renews_of (renewed p p.told) total) BeganAnew

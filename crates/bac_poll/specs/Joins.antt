@@ -1,20 +1,22 @@
 -- 1. Each question shows the record before it.
 use Rattle.std.specs.Prelude.{ℕ, ◌==◌, ◌&&◌, ◌++◌, not, nat_lt, Bool, true, if◌then◌else◌, List, [], ◌∷◌, length}
 use Rattle.std.specs.Prelude.{Option, None, Some}
+use Rattle.std.specs.Option.{is_some}
 use Rattle.bac_link.specs.Ordinals.{number_after}
 use Rattle.bac_walk.specs.declared.batch.Numbered.{Numbered}
 use Rattle.bac_poll.specs.Epochs.{another, asks_oldest}
-use Rattle.bac_poll.specs.Known.{means_in, number_in, record_at, records_behind, shown_in}
+use Rattle.bac_poll.specs.Known.{is_retold, is_steady, means_in, number_in, record_at, records_behind, shown_in}
 use Rattle.bac_poll.specs.State.{KeptAs, PollState, Reply, kept_of}
-use Rattle.bac_poll.specs.Turns.{Turned, asks, asks_at, behind, brings, confirmed, end_of, ends, first_in, first_number}
-use Rattle.bac_poll.specs.Turns.{gap_up_to, last_in, standing_at, standing_on}
+use Rattle.bac_poll.specs.Turns.{Turned, asking_from, asks, asks_at, behind, brings, confirmed, end_of, ends, first_in}
+use Rattle.bac_poll.specs.Turns.{first_number, gap_up_to, last_in, standing_at, standing_on}
 use Rattle.bac_poll.specs.declared.known.Means.{Means}
 use Rattle.bac_poll.specs.declared.known.Means.TheVariants.{Shifted, Partly, Same, Unshown, Another}
 use Rattle.bac_poll.specs.declared.known.Shown.{Shown}
 use Rattle.bac_poll.specs.declared.known.Shown.TheVariants as shown
 use Rattle.bac_poll.specs.declared.stage.Aim.TheVariants.{Finds}
-use Rattle.bac_poll.specs.declared.stage.Stage.TheVariants.{Joins, Ahead, Again, Each}
-use Rattle.bac_poll.specs.declared.turn.Line.TheVariants.{AtHour}
+use Rattle.bac_poll.specs.declared.stage.Stage.TheVariants.{Ahead, Again, Each}
+use Rattle.bac_poll.specs.declared.turn.Line.{Line}
+use Rattle.bac_poll.specs.declared.turn.Line.TheVariants.{AtHour, AtHourOrBegan}
 use Rattle.bac_poll.specs.declared.turn.PollEnd.TheVariants.{CaughtUp}
 
 -- ---- the known records, and those behind them
@@ -26,37 +28,48 @@ asks_each p held (Some number) = asks (record p { stage = Each; reference = numb
 
 -- Nothing follows the newest known one: the log is done, if it says so; else, if that came alone, what follows it by
 -- number is asked for, and else it is asked for alone.
-abbrev pub goes_nowhere : PollState → (done : Bool) → (alone : Bool) → Numbered → Turned
-goes_nowhere p done alone held =
-    if done then ends p CaughtUp
-    else (if alone then asks_at (standing_on p (kept_of held)) Ahead p.next
-    else asks (standing_on p (kept_of held)))
+abbrev pub goes_nowhere : PollState → (done : Bool) → (alone : Bool) → Turned
+goes_nowhere p done alone =
+    if done then ends p CaughtUp else (if alone then asks_at p Ahead p.next else asks p)
 
--- the log is found at its place by this record, the newest known one; what follows that is kept
-abbrev pub goes_on : PollState → Reply → Numbered → List Numbered → Turned
-goes_on p reply held news =
-    if length news == 0 then goes_nowhere p (reply.last && not reply.more) (length reply.records == 1) held
+-- the log is found at its place by the newest known record; what follows that is kept
+abbrev pub goes_on : PollState → Reply → List Numbered → Turned
+goes_on p reply news =
+    if length news == 0 then goes_nowhere p (reply.last && not reply.more) (length reply.records == 1)
     else brings p news
+
+-- the log is found at its place by this record, the newest known one, which is known as it is shown from then on
+abbrev pub found : PollState → Numbered → PollState
+found p held = standing_on (confirmed p) (kept_of held)
+
+-- the newest known one is asked for by its number
+abbrev pub asks_newest : PollState → (number : ℕ) → Turned
+asks_newest p number = asks (asking_from p number)
 
 -- known records are shown as they are known, with the newest or, as a short reply does, without it
 abbrev pub joined : PollState → KeptAs → Reply → Option Numbered → Turned
-joined p kept reply None = asks_at p Joins kept.number
-joined p kept reply (Some held) = goes_on (confirmed p) reply held (records_behind kept.number reply.records)
+joined p kept reply None = asks_newest p kept.number
+joined p kept reply (Some held) = goes_on (found p held) reply (records_behind kept.number reply.records)
 
 -- the same where the newest is known
 abbrev pub joins_from : PollState → Reply → Option KeptAs → Turned
 joins_from p reply None = asks_oldest p Finds
 joins_from p reply (Some kept) = joined p kept reply (record_at kept.number reply.records)
 
+-- What is told of that: a value that never changes, of a device that doesn't tell its restart again, may be of a new
+-- life as well.
+abbrev pub hour : PollState → ℕ → Line
+hour p by = if is_steady p && not (is_retold p.word p.told) then AtHourOrBegan by else AtHour by
+
 -- all at another hour: it is told, but where the newest is shown as it is known
-abbrev pub at_hour : ℕ → Turned → Turned
-at_hour by t = if by == 100 then t else record t { line = Some (AtHour by) }
+abbrev pub at_hour : ℕ → Line → Turned → Turned
+at_hour by line t = if by == 100 then t else record t { line = Some line }
 
 -- by what they mean
 abbrev pub joins_by : PollState → Reply → Means → Turned
 joins_by p reply Unshown = asks_oldest p Finds
 joins_by p reply Same = joins_from p reply p.newest
-joins_by p reply (Shifted by) = at_hour by (joins_from p reply p.newest)
+joins_by p reply (Shifted by) = at_hour by (hour p by) (joins_from p reply p.newest)
 joins_by p reply Partly = asks_each p [] (number_in p.newest)
 joins_by p reply Another = another p
 
@@ -103,11 +116,16 @@ lost_ahead p seen (Some last) =
     record (lost (standing_at p (number_after last.number 1)) seen)
     { missing = gap_up_to p.next (number_after last.number 1); doubtful = true }
 
+-- It is shown at another hour: of three that are known each is asked for alone, and what came ahead comes again.
+abbrev pub moved_ahead : PollState → List Numbered → Shown → Turned
+moved_ahead p held seen =
+    if is_some p.earliest then asks_each p [] (number_in p.newest) else lost_ahead p seen (last_in held)
+
 -- what came ahead is kept, of a device that shows one record a reply: what follows by number is asked for
 abbrev pub brings_ahead : PollState → List Numbered → Option Numbered → Turned
 brings_ahead p held None = ends p (end_of p)
 brings_ahead p held (Some last) =
-    record (asks (record (behind p (kept_of last)) { stage = Ahead; reference = number_after last.number 1 }))
+    record (asks (record (behind p held last) { stage = Ahead; reference = number_after last.number 1 }))
     { records = held }
 
 -- It is as it is known, and was asked for with what follows it: that is kept, if nothing came ahead; or alone.
@@ -120,7 +138,7 @@ again_equal p held kept records =
 abbrev pub again_by : PollState → List Numbered → KeptAs → List Numbered → Shown → Turned
 again_by p held kept records shown.Equal = again_equal p held kept records
 again_by p held kept records shown.Unshown = lost_ahead p shown.Unshown (last_in held)
-again_by p held kept records (shown.Moved by) = lost_ahead p (shown.Moved by) (last_in held)
+again_by p held kept records (shown.Moved by) = moved_ahead p held (shown.Moved by)
 again_by p held kept records shown.Another = lost_ahead p shown.Another (last_in held)
 
 -- where the newest is known
@@ -137,7 +155,7 @@ again p held records = again_from p held records p.newest
 -- by what they mean, the newest shown as this one
 abbrev pub each_means : PollState → Numbered → Means → Turned
 each_means p held Same = asks (standing_on p (kept_of held))
-each_means p held (Shifted by) = at_hour by (asks (standing_on p (kept_of held)))
+each_means p held (Shifted by) = at_hour by (hour p by) (asks (standing_on p (kept_of held)))
 each_means p held Unshown = another p
 each_means p held Partly = another p
 each_means p held Another = another p

@@ -207,6 +207,10 @@ word_of was now =
     if is_restart_changed was.restart now.restart || is_revision_changed was.revision now.revision
     then Changed else is_untold was.restart
 
+-- the restart on record is told, and is the same
+abbrev pub is_retold : ToldAs → ToldAs → Bool
+is_retold was now = not (length was.restart == 0) && bytes_eq was.restart now.restart
+
 -- ---- a reply
 
 -- two known records have one value

@@ -1,21 +1,22 @@
 -- What holds of each turn, whoever answers: each number comes once, from the beginning of an epoch up to the one that
 -- comes next.
-use Rattle.std.specs.Prelude.{◌≡◌, ℕ, false, if◌then◌else◌, List, [], ◌∷◌, ◌++◌, map, ◌⊎◌, Option, None, Some}
+use Rattle.std.specs.Prelude.{◌≡◌, ℕ, ◌==◌, ◌&&◌, ◌||◌, not, Bool, true, false, if◌then◌else◌, List, [], ◌∷◌, ◌++◌}
+use Rattle.std.specs.Prelude.{length, map, ◌⊎◌, Option, None, Some}
 use Rattle.bac_wire.specs.Primitive.{Id}
 use Rattle.bac_link.specs.Ordinals.{number_after}
 use Rattle.bac_link.specs.declared.item.Item.{Item}
 use Rattle.bac_link.specs.declared.item.Item.TheVariants.{Gap, Logged}
 use Rattle.bac_walk.specs.Walks.{item_of}
 use Rattle.bac_walk.specs.declared.batch.Numbered.{Numbered}
-use Rattle.bac_poll.specs.Poll.{after, after_count, after_restart, after_revision, joining, reply_in, starting}
+use Rattle.bac_poll.specs.Poll.{after, after_count, after_restart, after_revision, joining, more_of, reply_in, starting}
 use Rattle.bac_poll.specs.State.{KeptAs, PollState, Reply, StandingAs, ToldAs}
 use Rattle.bac_poll.specs.Starts.{total_of}
 use Rattle.bac_poll.specs.Turns.{Turned, first_in, first_number, number_or}
 use Rattle.bac_poll.specs.declared.stage.Aim.{Aim}
 use Rattle.bac_poll.specs.declared.stage.Aim.TheVariants.{Finds, Renews, Starts}
 use Rattle.bac_poll.specs.declared.stage.Stage.{Stage}
-use Rattle.bac_poll.specs.declared.stage.Stage.TheVariants.{Joins, Prior, Ahead, Again, Each, Oldest, Counts, UpTo, Back}
-use Rattle.bac_poll.specs.declared.stage.Stage.TheVariants.{Revision, Restart}
+use Rattle.bac_poll.specs.declared.stage.Stage.TheVariants.{Joins, Prior, Ahead, Again, Each, Oldest, ByNumber, Counts}
+use Rattle.bac_poll.specs.declared.stage.Stage.TheVariants.{UpTo, Back, Revision, Restart}
 use Rattle.bac_poll.specs.declared.turn.Beginning.{Beginning}
 
 -- Read in order, items cover the numbers from this one up to that: a gap those up to its end, a record its own; and
@@ -38,11 +39,15 @@ abbrev pub IsBefore : Option KeptAs → ℕ → Type 0
 IsBefore None next = Unit {0}
 IsBefore (Some kept) next = next ≡ number_after kept.number 1
 
--- what is looked for begins an epoch, whose first number comes next
+-- no record is known, and the first number of an epoch comes next
+abbrev pub IsBegun : PollState → Type 0
+IsBegun p = (p.next ≡ 1) × (p.newest ≡ None) × (p.earlier ≡ None) × (p.earliest ≡ None)
+
+-- what is looked for begins an epoch
 abbrev pub IsAimed : PollState → Aim → Type 0
 IsAimed p Finds = Unit {0}
-IsAimed p Renews = p.next ≡ 1
-IsAimed p Starts = p.next ≡ 1
+IsAimed p Renews = IsBegun p
+IsAimed p Starts = IsBegun p
 
 -- the number behind the count of a first run is where a gap may end
 abbrev pub IsTold : (ℕ → Type 0) → PollState → Aim → Type 0
@@ -59,17 +64,24 @@ abbrev pub IsEach : (reference : ℕ) → (next : ℕ) → List Numbered → Typ
 IsEach reference next [] = next ≡ number_after reference 1
 IsEach reference next (held ∷ others) = next ≡ number_after held.number 1
 
--- What is held back follows the newest known record, or is a run at least, in front of which a gap may end.
+-- there is a record among these
+abbrev pub HasSome : List Numbered → Type 0
+HasSome [] = ⊥
+HasSome (held ∷ others) = Unit {0}
+
+-- What is held back follows the newest known record, or is a run at least; in front of it a gap may end, once those
+-- before it were looked for.
 abbrev pub IsAt : (Numbered → Type 0) → (ℕ → Type 0) → PollState → Stage → Type 0
 IsAt P F p Joins = Unit {0}
 IsAt P F p Prior = Unit {0}
 IsAt P F p Ahead = Unit {0}
 IsAt P F p Again = IsRun P p.next p.held
 IsAt P F p Each = IsEach p.reference p.next p.held
+IsAt P F p ByNumber = IsRun P (first_number p.held) p.held × HasSome p.held
 IsAt P F p (Oldest aim) = IsAimed p aim × IsTold F p aim
 IsAt P F p (Counts aim) = IsAimed p aim
 IsAt P F p (UpTo aim) = IsAimed p aim × F (number_after p.total 1)
-IsAt P F p (Back aim) = IsAimed p aim × IsRun P (first_number p.held) p.held × IsFrontOf F p p.held
+IsAt P F p (Back aim) = IsAimed p aim × IsRun P (first_number p.held) p.held × HasSome p.held
 IsAt P F p Revision = IsRun P (first_number p.held) p.held × IsFrontOf F p p.held
 IsAt P F p Restart = IsRun P (first_number p.held) p.held × IsFrontOf F p p.held
 
@@ -123,45 +135,55 @@ abbrev pub IsOneOf : List ℕ → ℕ → Type 0
 IsOneOf [] number = ⊥
 IsOneOf (one ∷ others) number = (one ≡ number) ⊎ IsOneOf others number
 
--- this holds of the number of the first of these records
-abbrev pub IsFront : (ℕ → Type 0) → List Numbered → Type 0
-IsFront F [] = Unit {0}
-IsFront F (held ∷ others) = F held.number
+-- Whether a reply says that nothing stands before the first of the records that are held back: it has none, or that one
+-- alone, and neither says that more is there nor was asked for one alone.
+abbrev pub is_bare : PollState → (more : Bool) → Reply → Bool
+is_bare p more reply =
+    (length reply.records == 0)
+    || ((length reply.records == 1)
+    && ((first_number reply.records == first_number p.held) && not (more || (p.walk.count == 1))))
 
--- of the first record that is shown where the oldest are asked for, by time, up to a count, or backwards
-abbrev pub IsFrontAt : (ℕ → Type 0) → Stage → List Numbered → Type 0
-IsFrontAt F Joins records = Unit {0}
-IsFrontAt F Prior records = Unit {0}
-IsFrontAt F Ahead records = Unit {0}
-IsFrontAt F Again records = Unit {0}
-IsFrontAt F Each records = Unit {0}
-IsFrontAt F (Oldest aim) records = IsFront F records
-IsFrontAt F (Counts aim) records = Unit {0}
-IsFrontAt F (UpTo aim) records = IsFront F records
-IsFrontAt F (Back aim) records = IsFront F records
-IsFrontAt F Revision records = Unit {0}
-IsFrontAt F Restart records = Unit {0}
+-- this holds of the number of that one, where a reply says so
+abbrev pub IsClearAt : (ℕ → Type 0) → PollState → (more : Bool) → Stage → Reply → Type 0
+IsClearAt F p more Joins reply = Unit {0}
+IsClearAt F p more Prior reply = Unit {0}
+IsClearAt F p more Ahead reply = Unit {0}
+IsClearAt F p more Again reply = Unit {0}
+IsClearAt F p more Each reply = Unit {0}
+IsClearAt F p more ByNumber reply = Unit {0}
+IsClearAt F p more (Oldest aim) reply = Unit {0}
+IsClearAt F p more (Counts aim) reply = Unit {0}
+IsClearAt F p more (UpTo aim) reply = Unit {0}
+IsClearAt F p more (Back aim) reply = is_bare p more reply ≡ true → F (first_number p.held)
+IsClearAt F p more Revision reply = Unit {0}
+IsClearAt F p more Restart reply = Unit {0}
 
--- the same of a reply
-abbrev pub ShowsFront : (ℕ → Type 0) → Stage → Option Reply → Type 0
-ShowsFront F stage None = Unit {0}
-ShowsFront F stage (Some reply) = IsFrontAt F stage reply.records
+-- the same of a reply that there may be
+abbrev pub Clears : (ℕ → Type 0) → PollState → Option Reply → Type 0
+Clears F p None = Unit {0}
+Clears F p (Some reply) = IsClearAt F p (more_of p reply) p.stage reply
 
 -- and of the number behind a count; 1 if that isn't told
 abbrev pub TellsFront : (ℕ → Type 0) → Option ℕ → Type 0
 TellsFront F count = F (number_after (total_of count) 1)
 
 -- Whatever is answered, each number comes once, and each record that is kept was shown: if replies show none but these,
--- it is one of them. A gap that isn't doubtful lies from the number that comes next (or from a beginning) up to the first
--- record of an answer that shows the oldest, or up to a count: if those are none but these, it ends at one of them.
+-- it is one of them. A gap that isn't doubtful lies from the number that comes next (or from a beginning) up to a
+-- record before which nothing stands, as a reply says, or up to a count, or to 1: if those are none but these, it ends
+-- at one of them.
 abbrev pub EachShownOnce : Type 0
 EachShownOnce =
-    (shown : List Numbered) (fronts : List ℕ) (p : PollState) → IsStanding (IsAmong shown) (IsOneOf fronts) p →
+    (shown : List Numbered) (fronts : List ℕ) → IsOneOf fronts 1 →
+    (p : PollState) → IsStanding (IsAmong shown) (IsOneOf fronts) p →
     ((datagram : List ℕ) → ShowsOnly (IsAmong shown) (reply_in p datagram) →
-    ShowsFront (IsOneOf fronts) p.stage (reply_in p datagram) → Goes (IsAmong shown) (IsOneOf fronts) p.next (after p datagram))
-    × ((count : Option ℕ) → TellsFront (IsOneOf fronts) count → Goes (IsAmong shown) (IsOneOf fronts) p.next (after_count p count))
-    × ((p.stage ≡ Revision) → (revision : Option ℕ) → Goes (IsAmong shown) (IsOneOf fronts) p.next (after_revision p revision))
-    × ((p.stage ≡ Restart) → (restart moment : List ℕ) → Goes (IsAmong shown) (IsOneOf fronts) p.next (after_restart p restart moment))
+    Clears (IsOneOf fronts) p (reply_in p datagram) →
+    Goes (IsAmong shown) (IsOneOf fronts) p.next (after p datagram))
+    × ((count : Option ℕ) → TellsFront (IsOneOf fronts) count →
+    Goes (IsAmong shown) (IsOneOf fronts) p.next (after_count p count))
+    × ((p.stage ≡ Revision) → (revision : Option ℕ) →
+    Goes (IsAmong shown) (IsOneOf fronts) p.next (after_revision p revision))
+    × ((p.stage ≡ Restart) → (restart moment : List ℕ) →
+    Goes (IsAmong shown) (IsOneOf fronts) p.next (after_restart p restart moment))
 
 -- ---- from its beginning on
 

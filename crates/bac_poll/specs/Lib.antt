@@ -10,3 +10,5 @@ pub mod Back
 pub mod Poll
 pub mod Laws
 pub mod Logged
+pub mod Gaps
+pub mod Asks

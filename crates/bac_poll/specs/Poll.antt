@@ -1,6 +1,7 @@
 -- How a trend log is polled: what is asked, and what an answer makes of it. Read `after` from the end.
-use Rattle.std.specs.Prelude.{ℕ, pos, negsuc, ◌+◌, ◌-◌, ◌==◌, ◌&&◌, nat_le, nat_lt, Bool, true, false, if◌then◌else◌}
+use Rattle.std.specs.Prelude.{ℕ, pos, negsuc, ◌+◌, ◌-◌, ◌/◌, ◌==◌, ◌&&◌, nat_le, nat_lt, Bool, true, false, if◌then◌else◌}
 use Rattle.std.specs.Prelude.{List, [], length, Option, None, Some}
+use Rattle.std.specs.Option.{is_none}
 use Rattle.bac_wire.specs.Primitive.{Id}
 use Rattle.bac_apdu.specs.Service.ReadRangeAck.{RangeAck, read_range_ack_at}
 use Rattle.bac_apdu.specs.declared.service.extent.Extent.TheVariants.{ByNumber}
@@ -16,18 +17,18 @@ use Rattle.bac_walk.specs.Walks.{Ask, Bring, End, NextAct, Refuse, question_of, 
 use Rattle.bac_walk.specs.declared.batch.Numbered.{Numbered}
 use Rattle.bac_walk.specs.declared.outcome.WalkFault.TheVariants.{BadReply}
 use Rattle.bac_poll.specs.Back.{back}
-use Rattle.bac_poll.specs.Epochs.{renews, renews_none}
+use Rattle.bac_poll.specs.Epochs.{renews, renews_none, renews_of}
 use Rattle.bac_poll.specs.Gone.{asks_restart, asks_word, by_word}
 use Rattle.bac_poll.specs.Joins.{ahead, again, each, joins, prior}
-use Rattle.bac_poll.specs.Oldest.{counted, sees}
-use Rattle.bac_poll.specs.Starts.{starts, starts_by, starts_from}
+use Rattle.bac_poll.specs.Oldest.{by_count, by_number, is_cut, sees}
+use Rattle.bac_poll.specs.Starts.{starts, starts_by, starts_from, starts_none}
 use Rattle.bac_poll.specs.State.{KeptAs, PollState, Reply, StandingAs, ToldAs}
 use Rattle.bac_poll.specs.Turns.{Turned, asks_at, end_of, ends, first_number, number_before}
 use Rattle.bac_poll.specs.declared.stage.Aim.{Aim}
 use Rattle.bac_poll.specs.declared.stage.Aim.TheVariants.{Finds, Renews, Starts}
 use Rattle.bac_poll.specs.declared.stage.Stage.{Stage}
-use Rattle.bac_poll.specs.declared.stage.Stage.TheVariants.{Joins, Prior, Ahead, Again, Each, Oldest, Counts, UpTo, Back}
-use Rattle.bac_poll.specs.declared.stage.Stage.TheVariants.{Revision, Restart}
+use Rattle.bac_poll.specs.declared.stage.Stage.TheVariants.{Joins, Prior, Ahead, Again, Each, Oldest, ByNumber, Counts}
+use Rattle.bac_poll.specs.declared.stage.Stage.TheVariants.{UpTo, Back, Revision, Restart}
 use Rattle.bac_poll.specs.declared.turn.PollEnd.TheVariants.{Fault}
 
 -- ---- what is asked
@@ -53,6 +54,7 @@ question_at p Prior = number_question p
 question_at p Ahead = number_question p
 question_at p Again = number_question p
 question_at p Each = number_question p
+question_at p ByNumber = number_question p
 question_at p (Oldest aim) = question p.walk.log (question_of p.walk)
 question_at p (Counts aim) = property_question p.walk.log 145
 question_at p (UpTo aim) = back_question p
@@ -85,6 +87,7 @@ are_asked p Prior first count = are_from p.walk.count p.reference first count
 are_asked p Ahead first count = are_from p.walk.count p.reference first count
 are_asked p Again first count = are_from p.walk.count p.reference first count
 are_asked p Each first count = are_from p.walk.count p.reference first count
+are_asked p ByNumber first count = are_from p.walk.count p.reference first count
 are_asked p (Counts aim) first count = false
 are_asked p Revision first count = false
 are_asked p Restart first count = false
@@ -137,7 +140,7 @@ reply_in p datagram =
 abbrev pub oldest_none : PollState → Aim → Turned
 oldest_none p Finds = asks_at p (Counts Finds) p.reference
 oldest_none p Renews = asks_at p (Counts Renews) p.reference
-oldest_none p Starts = if p.total == 0 then starts p [] else asks_at p (UpTo Starts) p.total
+oldest_none p Starts = if p.total == 0 then starts_none p else asks_at p (UpTo Starts) p.total
 
 -- nor any up to the count
 abbrev pub up_to_none : PollState → Aim → Turned
@@ -146,18 +149,19 @@ up_to_none p Renews = renews_none p p.total
 up_to_none p Starts = starts p []
 
 -- the oldest, or those up to the count, came
-abbrev pub came : PollState → Aim → List Numbered → Turned
-came p Finds records = sees p true records
-came p Renews records = renews p records
-came p Starts records = starts_by p records
+abbrev pub came : PollState → Aim → (cut : Bool) → List Numbered → Turned
+came p Finds cut records = sees p true cut records
+came p Renews cut records = renews p records
+came p Starts cut records = starts_by p records
 
 -- the oldest were asked for
-abbrev pub oldest : PollState → Aim → List Numbered → Turned
-oldest p aim records = if length records == 0 then oldest_none p aim else came p aim records
+abbrev pub oldest : PollState → Aim → Reply → Turned
+oldest p aim reply =
+    if length reply.records == 0 then oldest_none p aim else came p aim (is_cut p reply) reply.records
 
 -- those up to the count were asked for, since none was found by time
 abbrev pub up_to : PollState → Aim → List Numbered → Turned
-up_to p aim records = if length records == 0 then up_to_none p aim else came p aim records
+up_to p aim records = if length records == 0 then up_to_none p aim else came p aim false records
 
 -- by what the answer is for, with the records that were held back
 abbrev pub at_stage : PollState → Stage → List Numbered → Reply → Turned
@@ -166,7 +170,8 @@ at_stage p Prior held reply = prior p reply.records
 at_stage p Ahead held reply = ahead p reply.records
 at_stage p Again held reply = again p held reply.records
 at_stage p Each held reply = each p held reply.records
-at_stage p (Oldest aim) held reply = oldest p aim reply.records
+at_stage p ByNumber held reply = by_number p held reply.records
+at_stage p (Oldest aim) held reply = oldest p aim reply
 at_stage p (UpTo aim) held reply = up_to p aim reply.records
 at_stage p (Back aim) held reply = back p aim held reply.records
 at_stage p (Counts aim) held reply = ends p (Fault BadReply)
@@ -194,19 +199,19 @@ after p datagram = after_heard p (reply_in p datagram)
 -- of a new epoch that shows no record
 abbrev pub renews_by : PollState → Option ℕ → Turned
 renews_by p None = ends p (end_of p)
-renews_by p (Some total) =
-    if total == 0 then ends p (end_of p) else asks_at (record p { total = total }) (UpTo Renews) total
+renews_by p (Some total) = renews_of p total
 
 -- by what the count is for
 abbrev pub count_at : PollState → Stage → Option ℕ → Turned
-count_at p (Counts Finds) count = counted (record p { more = false }) count
+count_at p (Counts Finds) count = by_count (record p { more = false }) count
 count_at p (Counts Renews) count = renews_by p count
-count_at p (Counts Starts) count = starts_from p p.begins count
+count_at p (Counts Starts) count = starts_from p count
 count_at p Joins count = ends p (Fault BadReply)
 count_at p Prior count = ends p (Fault BadReply)
 count_at p Ahead count = ends p (Fault BadReply)
 count_at p Again count = ends p (Fault BadReply)
 count_at p Each count = ends p (Fault BadReply)
+count_at p ByNumber count = ends p (Fault BadReply)
 count_at p (Oldest aim) count = ends p (Fault BadReply)
 count_at p (UpTo aim) count = ends p (Fault BadReply)
 count_at p (Back aim) count = ends p (Fault BadReply)
@@ -226,6 +231,16 @@ after_revision p revision =
 abbrev pub after_restart : PollState → (restart : List ℕ) → (moment : List ℕ) → Turned
 after_restart p restart moment =
     by_word (record p { again = record p.again { restart = restart; moment = moment }; held = [] }) p.held
+
+-- ---- too many are asked for
+
+-- half of so many records, one at least
+abbrev pub half_of : ℕ → ℕ
+half_of count = if nat_le count 1 then 1 else count / 2
+
+-- The device can't send so many at once (Abort 1, 4 or 11, clause 18.10): half as many are asked for from now on.
+abbrev pub after_too_many : PollState → PollState
+after_too_many p = record p { walk = asking (half_of p.walk.count) p.walk }
 
 -- ---- beginnings
 
@@ -260,6 +275,7 @@ joining log device count at told = record {
   newest = at.newest;
   earlier = at.earlier;
   earliest = at.earliest;
+  alone = is_none at.earlier;
   stamp = at.stamp;
   word = at.word;
   told = told;
@@ -269,6 +285,8 @@ joining log device count at told = record {
   begins = None;
   counted = None;
   total = 0;
+  refused = false;
+  back = 0;
   held = [];
 }
 
@@ -283,6 +301,7 @@ starting log device count begins word told = record {
   newest = None;
   earlier = None;
   earliest = None;
+  alone = false;
   stamp = [];
   word = word;
   told = told;
@@ -290,7 +309,9 @@ starting log device count begins word told = record {
   lives = 0;
   more = false;
   begins = begins;
-  counted = None;
+  counted = begins;
   total = 0;
+  refused = false;
+  back = 0;
   held = [];
 }

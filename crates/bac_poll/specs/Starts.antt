@@ -1,14 +1,16 @@
 -- 5. A first run.
-use Rattle.std.specs.Prelude.{ℕ, ◌==◌, Bool, true, false, if◌then◌else◌, List, Option, None, Some}
-use Rattle.std.specs.Option.{is_some, option_map}
+use Rattle.std.specs.Prelude.{ℕ, ◌&&◌, Bool, true, false, if◌then◌else◌, List, [], Option, None, Some}
+use Rattle.std.specs.Option.{is_some}
 use Rattle.bac_link.specs.Ordinals.{is_ahead, number_after}
 use Rattle.bac_walk.specs.declared.batch.Numbered.{Numbered}
 use Rattle.bac_poll.specs.Epochs.{asks_back, asks_oldest}
 use Rattle.bac_poll.specs.Known.{word_of}
+use Rattle.bac_poll.specs.Oldest.{is_first}
 use Rattle.bac_poll.specs.State.{PollState}
-use Rattle.bac_poll.specs.Turns.{Turned, brings, confirmed, first_in, first_number, number_or, gap_up_to, standing_at}
+use Rattle.bac_poll.specs.Turns.{Turned, brings, confirmed, ends, first_in, first_number, number_or, gap_up_to, standing_at}
 use Rattle.bac_poll.specs.declared.stage.Aim.TheVariants.{Starts}
 use Rattle.bac_poll.specs.declared.turn.Beginning.{Beginning}
+use Rattle.bac_poll.specs.declared.turn.PollEnd.TheVariants.{ShowsNone}
 use Rattle.bac_poll.specs.declared.word.Word.{Word}
 use Rattle.bac_poll.specs.declared.word.Word.TheVariants.{Same, Changed, Untold}
 
@@ -52,22 +54,34 @@ starts p held = starts_at p (number_or (number_after p.total 1) (first_in held))
 -- records came first: those before them are asked for
 abbrev pub starts_by : PollState → List Numbered → Turned
 starts_by p records =
-    if first_number records == 1 then starts (standing_at p 1) records else asks_back (standing_at p 1) Starts records
+    if is_first (standing_at p 1) (first_number records)
+    then starts (standing_at p 1) records else asks_back (standing_at p 1) Starts records
 
 -- how many were logged; 0 if that isn't told
 abbrev pub total_of : Option ℕ → ℕ
 total_of None = 0
 total_of (Some total) = total
 
--- the number behind a count
-abbrev pub behind_count : Option ℕ → Option ℕ
-behind_count count = option_map (λ total. number_after total 1) count
+-- no record is shown: a beginning by the count stays as it is on record where the count is refused now
+abbrev pub starts_none : PollState → Turned
+starts_none p = if p.refused && is_some p.counted then ends p ShowsNone else starts p []
 
--- The count of a first run: its beginning behind that goes on record, by the count alone; a run before may have put one
--- there.
-abbrev pub starts_from : PollState → (begins : Option ℕ) → (count : Option ℕ) → Turned
-starts_from p None count =
-    record (asks_oldest (record (confirmed p) { total = total_of count; counted = behind_count count }) Starts)
-    { begins = beginning (number_after (total_of count) 1) true }
-starts_from p (Some begins) count =
-    asks_oldest (record p { total = total_of count; counted = Some begins }) Starts
+-- the oldest are asked for, and the first epoch begins there by the count alone
+abbrev pub starts_at_count : PollState → ℕ → Turned
+starts_at_count p number = record (asks_oldest (confirmed p) Starts) { begins = beginning number true }
+
+-- so many were logged: the beginning behind them goes on record; a run before may have put one there
+abbrev pub starts_told : PollState → (begins : Option ℕ) → ℕ → Turned
+starts_told p None next = starts_at_count (record p { counted = Some next }) next
+starts_told p (Some begins) next = asks_oldest p Starts
+
+-- the count is refused: a beginning by a count that is on record stays
+abbrev pub starts_refused : PollState → (counted : Option ℕ) → Turned
+starts_refused p None = starts_at_count p 1
+starts_refused p (Some counted) = asks_oldest p Starts
+
+-- the count of a first run
+abbrev pub starts_from : PollState → (count : Option ℕ) → Turned
+starts_from p None = starts_refused (record p { total = 0; refused = true }) p.counted
+starts_from p (Some total) =
+    starts_told (record p { total = total; refused = false }) p.begins (number_after total 1)

@@ -36,8 +36,9 @@ pub record PollState : Type 0 where
   pub reference : ℕ  -- the number from which that asks, or up to which
   pub next : ℕ  -- the number that comes next
   pub newest : Option KeptAs  -- the record right before that, if it is known
-  pub earlier : Option KeptAs  -- the one before it, known of what was kept before the poll alone
+  pub earlier : Option KeptAs  -- the one before it
   pub earliest : Option KeptAs  -- and the one before that
+  pub alone : Bool  -- whether the newest was asked for by its own number, not behind an earlier one
   pub stamp : List ℕ  -- the date and time of the newest record of the epoch, no octets if it has none
   pub word : ToldAs  -- what was told when the log was last found at its place
   pub told : ToldAs  -- what was told before its records were asked for
@@ -47,6 +48,8 @@ pub record PollState : Type 0 where
   pub begins : Option ℕ  -- where the first epoch begins by the count of a run before that ended behind it
   pub counted : Option ℕ  -- the same, or by the count of this run
   pub total : ℕ  -- the count
+  pub refused : Bool  -- whether that was refused
+  pub back : ℕ  -- how many numbers the poll went back, before the first of records
   pub held : List Numbered  -- records that came and aren't kept yet
 
 -- a reply: its records, and whether it has LAST_ITEM and MORE_ITEMS set (clause 15.8.1.1)

@@ -1,6 +1,7 @@
 -- What an answer makes of a poll, and the steps of which the rule is made.
 use Rattle.std.specs.Prelude.{ℕ, ◌+◌, ◌-◌, ◌==◌, nat_lt, Bool, true, false, if◌then◌else◌, List, [], ◌∷◌, length}
 use Rattle.std.specs.Prelude.{Option, None, Some, slice_get}
+use Rattle.std.specs.Option.{option_map}
 use Rattle.bac_link.specs.Ordinals.{number_after}
 use Rattle.bac_link.specs.declared.item.Item.{Item}
 use Rattle.bac_link.specs.declared.item.Item.TheVariants.{Gap}
@@ -94,24 +95,48 @@ first_number records = number_or 0 (first_in records)
 
 -- ---- where the log stands
 
--- a record is the newest that is known: what follows is asked for from it on
+-- what follows the newest known record is asked for, from that one on
+abbrev pub asking_from : PollState → (number : ℕ) → PollState
+asking_from p number = record p { stage = Joins; reference = number; alone = true }
+
+-- the newest known record is known as it is shown now
 abbrev pub standing_on : PollState → KeptAs → PollState
-standing_on p kept = record p {
-  newest = Some kept;
-  earlier = None;
-  earliest = None;
-  stage = Joins;
-  reference = kept.number;
+standing_on p kept = asking_from (record p { newest = Some kept }) kept.number
+
+-- the record so many before the last of these, if there is one
+abbrev pub before_last : List Numbered → ℕ → Option Numbered
+before_last records back =
+    if nat_lt back (length records) then slice_get records (length records - 1 - back) else None
+
+-- this record, or that where there is none
+abbrev pub kept_or : Option KeptAs → Option KeptAs → Option KeptAs
+kept_or None other = other
+kept_or (Some kept) other = Some kept
+
+-- the third of the records that are known then
+abbrev pub third_known : PollState → (earlier : Option KeptAs) → (earliest : Option KeptAs) → Option KeptAs
+third_known p None earliest = p.earlier
+third_known p (Some earlier) earliest = kept_or earliest p.newest
+
+-- The last three of records are known. Where fewer came, those that were known stand before them.
+abbrev pub knowing : PollState → List Numbered → (last : Numbered) → PollState
+knowing p records last = record p {
+  newest = Some (kept_of last);
+  earlier = kept_or (option_map kept_of (before_last records 1)) p.newest;
+  earliest =
+      third_known p (option_map kept_of (before_last records 1)) (option_map kept_of (before_last records 2));
 }
 
--- records are kept up to this one
-abbrev pub behind : PollState → KeptAs → PollState
-behind p kept = record (standing_on p kept) { next = number_after kept.number 1; stamp = kept.stamp }
+-- records are kept, the last of which is this
+abbrev pub behind : PollState → List Numbered → (last : Numbered) → PollState
+behind p records last =
+    record (asking_from (knowing p records last) last.number)
+    { next = number_after last.number 1; stamp = (kept_of last).stamp }
 
--- records are kept, the last of which is this; there are none: nothing is newer
+-- the same as a turn; there are none: nothing is newer
 abbrev pub brings_to : PollState → List Numbered → Option Numbered → Turned
 brings_to p records None = ends p (end_of p)
-brings_to p records (Some last) = record (asks (behind p (kept_of last))) { records = records }
+brings_to p records (Some last) = record (asks (behind p records last)) { records = records }
 
 -- records are kept
 abbrev pub brings : PollState → List Numbered → Turned

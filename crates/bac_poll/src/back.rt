@@ -1,16 +1,16 @@
 //! What stands before the first of the records that are held back.
 
 ghost use Rattle.std.specs.Prelude.{◌≡◌, IfOk};
-ghost use Rattle.bac_poll.specs.Turns.{turned};
-ghost use Rattle.bac_poll.specs.Back.{back, back_alone, back_done, back_lost, back_more, back_shown, is_front};
-ghost use Rattle.bac_poll.specs.Back.{shown_last};
+ghost use Rattle.bac_poll.specs.Turns.{last_in, turned};
+ghost use Rattle.bac_poll.specs.Back.{back, back_alone, back_by, back_done, back_lost, back_more, back_shown};
+ghost use Rattle.bac_poll.specs.Back.{is_front, shown_last};
 
 use crate::kept::Kept;
 use crate::known::{Means, Shown, shown_as};
 use crate::poll::LogPoll;
 use crate::stage::{Aim, Stage};
-use crate::turn::Turn;
-use crate::turns::{first_in, first_number, is_one, last_in, number_before};
+use crate::turn::{PollEnd, Turn};
+use crate::turns::{distance, first_in, first_number, is_one, last_in, number_before, number_or};
 use arrayvec::ArrayVec;
 use bac_walk::Numbered;
 use std::alloc::{AllocError, Global};
@@ -26,7 +26,7 @@ impl LogPoll {
         ensures { IfOk result (λ turn. turned self.new turn ≡ back_done self.old aim records.items) }
     {
         match aim {
-            Aim::Finds => self.see(alloc, false, records),
+            Aim::Finds => self.see(alloc, false, false, records),
             Aim::Renews => self.bring_behind(alloc, records),
             Aim::Starts => self.start(alloc, records),
         }
@@ -82,7 +82,7 @@ impl LogPoll {
     ) -> Result<Turn, AllocError>
         ensures { IfOk result (λ turn. turned self.new turn ≡ back_alone self.old aim held.items) }
     {
-        if self.more {
+        if self.more || self.walk.count().number() == 1 {
             let reference = number_before(first_number(&held));
             self.held = held;
             Ok(self.ask_at(Stage::Back(aim), reference))
@@ -117,8 +117,8 @@ impl LogPoll {
         }
     }
 
-    /// A reply to that.
-    pub(crate) fn take_back(
+    // By the last record of a reply.
+    fn take_back_by(
         &mut self,
         alloc: Global,
         aim: Aim,
@@ -126,7 +126,7 @@ impl LogPoll {
         records: ArrayVec<Numbered, 100>,
     ) -> Result<Turn, AllocError>
         ensures { IfOk result (λ turn. turned self.new turn
-            ≡ back self.old aim held.items records.items) }
+            ≡ back_by self.old aim held.items records.items (last_in records.items)) }
     {
         match last_in(&records) {
             Some(last) => {
@@ -138,6 +138,26 @@ impl LogPoll {
                 }
             }
             None => self.end_back(alloc, aim, held),
+        }
+    }
+
+    /// A reply to that: half of all numbers lie before one.
+    pub(crate) fn take_back(
+        &mut self,
+        alloc: Global,
+        aim: Aim,
+        held: ArrayVec<Numbered, 100>,
+        records: ArrayVec<Numbered, 100>,
+    ) -> Result<Turn, AllocError>
+        ensures { IfOk result (λ turn. turned self.new turn
+            ≡ back self.old aim held.items records.items) }
+    {
+        if self.back < 2147483648 {
+            let first = number_or(self.reference, first_in(&records));
+            self.back = self.back + distance(first, self.reference) + 1;
+            self.take_back_by(alloc, aim, held, records)
+        } else {
+            Ok(self.ends(PollEnd::Contradicts))
         }
     }
 }

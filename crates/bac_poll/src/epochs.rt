@@ -3,7 +3,7 @@
 ghost use Rattle.std.specs.Prelude.{◌≡◌, IfOk};
 ghost use Rattle.bac_poll.specs.Turns.{anew, turned};
 ghost use Rattle.bac_poll.specs.Epochs.{another, another_by, another_of, asks_back, asks_oldest};
-ghost use Rattle.bac_poll.specs.Epochs.{brings_behind, renews, renews_none};
+ghost use Rattle.bac_poll.specs.Epochs.{brings_behind, renews, renews_none, renews_of};
 
 use crate::poll::LogPoll;
 use crate::stage::{Aim, Stage};
@@ -111,17 +111,27 @@ impl LogPoll {
         Ok(self.begun(turn, Line::BeganAnew))
     }
 
-    /// The same, which holds nothing, told by its count.
+    /// An epoch has begun and shows no record by time.
+    pub(crate) fn renew_of(&mut self, total: u32) -> Turn
+        ensures { turned self.new result ≡ renews_of self.old total }
+    {
+        if total == 0 {
+            return self.ends(self.end());
+        }
+        self.total = total;
+        self.ask_at(Stage::UpTo(Aim::Renews), total)
+    }
+
+    /// Another life, told by its count.
     pub(crate) fn tell_another_of(&mut self, alloc: Global, total: u32) -> Result<Turn, AllocError>
         ensures { IfOk result (λ turn. turned self.new turn ≡ another_of self.old total) }
     {
-        let next = number_behind(total);
+        if self.lives == 2 {
+            return Ok(self.ends(PollEnd::Contradicts));
+        }
         let word = self.told.copied(alloc)?;
         self.stand_anew(alloc, word);
-        self.stand_at(next);
-        let turn = self.ends(PollEnd::CaughtUp);
-        let mut turn = self.begun(turn, Line::BeganAnew);
-        turn.gap = gap_up_to(1, next);
-        Ok(turn)
+        let turn = self.renew_of(total);
+        Ok(self.begun(turn, Line::BeganAnew))
     }
 }

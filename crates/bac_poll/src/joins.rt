@@ -6,9 +6,10 @@ ghost use Rattle.bac_poll.specs.Known.{record_at, records_behind};
 ghost use Rattle.bac_poll.specs.Turns.{first_in, last_in};
 ghost use Rattle.bac_poll.specs.Turns.{turned};
 ghost use Rattle.bac_poll.specs.Joins.{again, again_by, again_equal, ahead, ahead_none, asks_again};
-ghost use Rattle.bac_poll.specs.Joins.{asks_each, at_hour, brings_ahead, each, each_all, each_by};
-ghost use Rattle.bac_poll.specs.Joins.{each_means, each_next, goes_nowhere, goes_on, joined, joins};
-ghost use Rattle.bac_poll.specs.Joins.{joins_by, joins_from, lost, lost_ahead, prior};
+ghost use Rattle.bac_poll.specs.Joins.{asks_each, asks_newest, at_hour, brings_ahead, each, each_all};
+ghost use Rattle.bac_poll.specs.Joins.{each_by, each_means, each_next, found, goes_nowhere, goes_on, hour};
+ghost use Rattle.bac_poll.specs.Joins.{joined, joins, joins_by, joins_from, lost, lost_ahead};
+ghost use Rattle.bac_poll.specs.Joins.{moved_ahead, prior};
 
 use crate::ack::Reply;
 use crate::kept::Kept;
@@ -16,7 +17,8 @@ use crate::known::{Means, Shown, number_in, record_at, records_behind, shown_in}
 use crate::poll::LogPoll;
 use crate::stage::{Aim, Stage};
 use crate::turn::{Line, PollEnd, Turn, gap_up_to};
-use crate::turns::{first_in, first_number, is_none, is_one, last_in, number_behind};
+use crate::turns::{first_in, first_number, is_known, is_none, is_one, last_in, number_behind};
+use crate::word::is_retold;
 use arrayvec::ArrayVec;
 use bac_walk::Numbered;
 use std::alloc::{AllocError, Global};
@@ -41,35 +43,21 @@ impl LogPoll {
     }
 
     // Nothing follows the newest known one.
-    fn go_nowhere(
-        &mut self,
-        alloc: Global,
-        done: bool,
-        alone: bool,
-        held: Numbered,
-    ) -> Result<Turn, AllocError>
-        ensures { IfOk result (λ turn. turned self.new turn ≡ goes_nowhere self.old done alone held) }
+    fn go_nowhere(&mut self, done: bool, alone: bool) -> Turn
+        ensures { turned self.new result ≡ goes_nowhere self.old done alone }
     {
         if done {
-            return Ok(self.ends(PollEnd::CaughtUp));
+            return self.ends(PollEnd::CaughtUp);
         }
-        let kept = Kept::of(alloc, held)?;
-        self.stand_on(kept);
         if alone {
-            return Ok(self.ask_at(Stage::Ahead, self.next));
+            return self.ask_at(Stage::Ahead, self.next);
         }
-        Ok(self.asks())
+        self.asks()
     }
 
     // The log is found at its place by the newest known record.
-    fn go_on(
-        &mut self,
-        alloc: Global,
-        reply: Reply,
-        held: Numbered,
-        number: u32,
-    ) -> Result<Turn, AllocError>
-        ensures { IfOk result (λ turn. turned self.new turn ≡ goes_on self.old (reply_as reply) held
+    fn go_on(&mut self, alloc: Global, reply: Reply, number: u32) -> Result<Turn, AllocError>
+        ensures { IfOk result (λ turn. turned self.new turn ≡ goes_on self.old (reply_as reply)
             (records_behind number reply.records.items)) }
     {
         let Reply {
@@ -80,9 +68,27 @@ impl LogPoll {
         let alone = is_one(&records);
         let news = records_behind(number, records);
         if is_none(&news) {
-            return self.go_nowhere(alloc, last && !more, alone, held);
+            return Ok(self.go_nowhere(last && !more, alone));
         }
         self.bring(alloc, news)
+    }
+
+    /// The log is found at its place by this record, the newest known one.
+    pub(crate) fn find(&mut self, alloc: Global, held: Numbered) -> Result<(), AllocError>
+        ensures { IfOk result (λ _. self.new ≡ found self.old held) }
+    {
+        self.confirm(alloc)?;
+        let kept = Kept::of(alloc, held)?;
+        self.stand_on(kept);
+        Ok(())
+    }
+
+    /// The newest known one is asked for by its number.
+    pub(crate) fn ask_newest(&mut self, number: u32) -> Turn
+        ensures { turned self.new result ≡ asks_newest self.old number }
+    {
+        self.ask_from(number);
+        self.asks()
     }
 
     // Known records are shown as they are known, with the newest or without it.
@@ -93,10 +99,10 @@ impl LogPoll {
     {
         match record_at(number, reply.records.as_slice()) {
             Some(held) => {
-                self.confirm(alloc)?;
-                self.go_on(alloc, reply, held, number)
+                self.find(alloc, held)?;
+                self.go_on(alloc, reply, number)
             }
-            None => Ok(self.ask_at(Stage::Joins, number)),
+            None => Ok(self.ask_newest(number)),
         }
     }
 
@@ -114,16 +120,26 @@ impl LogPoll {
         }
     }
 
-    /// All known ones were shown at another hour, which is told, but where the newest is shown as it
-    /// is known.
-    pub(crate) fn at_hour(&self, by: u32, turn: Turn) -> Turn
-        ensures { turned self.now result ≡ at_hour by (turned self.now turn) }
+    /// What is told where all known ones are shown at another hour.
+    pub(crate) fn hour(&self, by: u32) -> Line
+        ensures { result ≡ hour self.now by }
+    {
+        if self.is_steady() && !is_retold(&self.word, &self.told) {
+            Line::AtHourOrBegan(by)
+        } else {
+            Line::AtHour(by)
+        }
+    }
+
+    /// It is told, but where the newest is shown as it is known.
+    pub(crate) fn at_hour(&self, by: u32, line: Line, turn: Turn) -> Turn
+        ensures { turned self.now result ≡ at_hour by line (turned self.now turn) }
     {
         if by == 100 {
             return turn;
         }
         let mut turn = turn;
-        turn.line = Some(Line::AtHour(by));
+        turn.line = Some(line);
         turn
     }
 
@@ -136,8 +152,9 @@ impl LogPoll {
             Means::Unshown => Ok(self.ask_oldest(Aim::Finds)),
             Means::Same => self.join_from(alloc, reply),
             Means::Shifted(by) => {
+                let line = self.hour(by);
                 let turn = self.join_from(alloc, reply)?;
-                Ok(self.at_hour(by, turn))
+                Ok(self.at_hour(by, line, turn))
             }
             Means::Partly => {
                 let number = number_in(&self.newest);
@@ -245,6 +262,23 @@ impl LogPoll {
         }
     }
 
+    // It is shown at another hour.
+    fn move_ahead(
+        &mut self,
+        alloc: Global,
+        held: ArrayVec<Numbered, 100>,
+        seen: Shown,
+    ) -> Result<Turn, AllocError>
+        ensures { IfOk result (λ turn. turned self.new turn ≡ moved_ahead self.old held.items seen) }
+    {
+        if is_known(&self.earliest) {
+            let number = number_in(&self.newest);
+            self.ask_each(alloc, ArrayVec::new(), number)
+        } else {
+            self.lose_ahead(alloc, seen, last_in(&held))
+        }
+    }
+
     // What came ahead is kept.
     fn bring_ahead(
         &mut self,
@@ -256,7 +290,7 @@ impl LogPoll {
     {
         match last_in(&held) {
             Some(last) => {
-                self.stand_behind(alloc, last)?;
+                self.stand_behind(alloc, &held, last)?;
                 let mut turn = self.ask_at(Stage::Ahead, number_behind(last.number));
                 turn.entries = held;
                 Ok(turn)
@@ -301,7 +335,7 @@ impl LogPoll {
         match shown {
             Shown::Equal => self.take_equal(alloc, held, number, records),
             Shown::Unshown => self.lose_ahead(alloc, Shown::Unshown, last_in(&held)),
-            Shown::Moved(by) => self.lose_ahead(alloc, Shown::Moved(by), last_in(&held)),
+            Shown::Moved(by) => self.move_ahead(alloc, held, Shown::Moved(by)),
             Shown::Another => self.lose_ahead(alloc, Shown::Another, last_in(&held)),
         }
     }
@@ -336,10 +370,11 @@ impl LogPoll {
                 Ok(self.asks())
             }
             Means::Shifted(by) => {
+                let line = self.hour(by);
                 let kept = Kept::of(alloc, held)?;
                 self.stand_on(kept);
                 let turn = self.asks();
-                Ok(self.at_hour(by, turn))
+                Ok(self.at_hour(by, line, turn))
             }
             Means::Unshown => self.tell_another(alloc),
             Means::Partly => self.tell_another(alloc),

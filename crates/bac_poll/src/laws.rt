@@ -1,5 +1,7 @@
 //! Laws of polls. Each function does nothing: what it ensures is the law.
 
+ghost use Rattle.bac_poll.specs.Asks.{AsksOnceMore};
+ghost use Rattle.bac_poll.specs.Gaps.{GapsAreGone};
 ghost use Rattle.bac_poll.specs.Laws.{BeginsStanding, EachShownOnce, EpochsAreWhole};
 ghost use Rattle.bac_poll.specs.Logged.{KeptIsLogged, SaidIsShown};
 
@@ -29,4 +31,16 @@ pub fn said_is_shown()
 /// entry of the log under its number; and each number comes once.
 pub fn kept_is_logged()
     ensures { KeptIsLogged }
+{}
+
+/// Where a device says what its log holds, of a log that goes on, what a gap that isn't doubtful
+/// covers isn't held when it is put.
+pub fn gaps_are_gone()
+    ensures { GapsAreGone }
+{}
+
+/// A log whose newest known record is shown as it is known is asked once where nothing is newer,
+/// and once more for each reply with news, of which nothing that is known is kept.
+pub fn asks_once_more()
+    ensures { AsksOnceMore }
 {}

@@ -19,6 +19,8 @@ mod known;
 mod laws;
 mod oldest;
 mod poll;
+mod question;
+mod reading;
 mod stage;
 mod starts;
 mod turn;
@@ -29,7 +31,10 @@ pub use ack::Reply;
 pub use gone::Gone;
 pub use kept::Kept;
 pub use known::{Means, Shown};
-pub use laws::{begins_standing, each_shown_once, epochs_are_whole, kept_is_logged, said_is_shown};
+pub use laws::{
+    asks_once_more, begins_standing, each_shown_once, epochs_are_whole, gaps_are_gone,
+    kept_is_logged, said_is_shown,
+};
 pub use poll::{LogPoll, Standing};
 pub use stage::{Aim, Stage};
 pub use turn::{Beginning, Line, PollEnd, Turn};

@@ -2,26 +2,38 @@
 
 ghost use Rattle.std.specs.Prelude.{◌≡◌, IfOk};
 ghost use Rattle.bac_poll.specs.Known.{record_at};
-ghost use Rattle.bac_poll.specs.State.{KeptAs};
+ghost use Rattle.bac_poll.specs.State.{KeptAs, reply_as};
 ghost use Rattle.bac_poll.specs.Turns.{turned};
-ghost use Rattle.bac_poll.specs.Oldest.{asks_newest, counted, drops, is_first, logged, sees, sees_by, sees_newest};
-ghost use Rattle.bac_poll.specs.Oldest.{sees_news, sees_none, sees_same, weighed};
+ghost use Rattle.bac_poll.specs.Oldest.{by_count, by_number, drops, is_cut, is_first, is_since};
+ghost use Rattle.bac_poll.specs.Oldest.{logged, sees, sees_before, sees_by, sees_newest, sees_news, sees_none, sees_same};
+ghost use Rattle.bac_poll.specs.Oldest.{weighed};
 
+use crate::ack::Reply;
 use crate::known::{Means, number_in, record_at, records_behind};
 use crate::poll::LogPoll;
 use crate::stage::{Aim, Stage};
 use crate::turn::{PollEnd, Turn};
-use crate::turns::{first_number, is_ahead, is_known, is_none, number_before};
+use crate::turns::{first_number, is_ahead, is_none, last_in, number_before, number_or};
 use arrayvec::ArrayVec;
 use bac_walk::Numbered;
 use std::alloc::{AllocError, Global};
 
+// Whether numbers are missing from the one behind the count up to 1.
+fn is_since(counted: Option<u32>) -> bool
+    ensures { result ≡ is_since counted }
+{
+    match counted {
+        Some(counted) => is_ahead(counted, 1),
+        None => false,
+    }
+}
+
 impl LogPoll {
-    /// Whether nothing may stand before this number.
+    /// Whether no gap is put in front of this number.
     pub(crate) fn is_first(&self, number: u32) -> bool
         ensures { result ≡ is_first self.now number }
     {
-        number == self.next || number == 1
+        number == 1 && self.next == 1 && !is_since(self.counted)
     }
 
     // All lie behind the newest known one.
@@ -40,42 +52,70 @@ impl LogPoll {
         }
     }
 
-    // They show no known one.
-    fn see_none(
+    // They begin before the newest known one, and don't show it.
+    fn see_before(
         &mut self,
         alloc: Global,
-        back: bool,
+        cut: bool,
         records: ArrayVec<Numbered, 100>,
     ) -> Result<Turn, AllocError>
-        ensures { IfOk result (λ turn. turned self.new turn ≡ sees_none self.old back records.items) }
+        ensures { IfOk result (λ turn. turned self.new turn ≡ sees_before self.old cut records.items) }
     {
-        if is_ahead(self.next, first_number(&records)) {
-            self.drop_to(alloc, back, records)
+        if cut {
+            let reference = number_or(0, last_in(&records));
+            self.held = records;
+            Ok(self.ask_at(Stage::ByNumber, reference))
         } else {
             self.tell_another_by(alloc, records)
         }
     }
 
-    // The newest known one is asked for, by number and alone.
-    fn ask_newest(&mut self, number: u32) -> Turn
-        ensures { turned self.new result ≡ asks_newest self.old number }
+    /// A reply to the question for the last of them.
+    pub(crate) fn take_by_number(
+        &mut self,
+        alloc: Global,
+        held: ArrayVec<Numbered, 100>,
+        records: ArrayVec<Numbered, 100>,
+    ) -> Result<Turn, AllocError>
+        ensures { IfOk result (λ turn. turned self.new turn
+            ≡ by_number self.old held.items records.items) }
     {
-        self.earlier = None;
-        self.earliest = None;
-        self.ask_at(Stage::Joins, number)
+        if is_none(&records) {
+            Ok(self.ends(PollEnd::NoneByNumber))
+        } else {
+            self.tell_another_by(alloc, held)
+        }
+    }
+
+    // They show no known one.
+    fn see_none(
+        &mut self,
+        alloc: Global,
+        back: bool,
+        cut: bool,
+        records: ArrayVec<Numbered, 100>,
+    ) -> Result<Turn, AllocError>
+        ensures { IfOk result (λ turn. turned self.new turn
+            ≡ sees_none self.old back cut records.items) }
+    {
+        if is_ahead(self.next, first_number(&records)) {
+            self.drop_to(alloc, back, records)
+        } else {
+            self.see_before(alloc, cut, records)
+        }
     }
 
     // What follows the newest is kept.
     fn see_news(
         &mut self,
         alloc: Global,
-        number: u32,
+        asked: bool,
         news: ArrayVec<Numbered, 100>,
     ) -> Result<Turn, AllocError>
-        ensures { IfOk result (λ turn. turned self.new turn ≡ sees_news self.old number news.items) }
+        ensures { IfOk result (λ turn. turned self.new turn ≡ sees_news self.old asked news.items) }
     {
-        if is_none(&news) && is_known(&self.earlier) {
-            Ok(self.ask_newest(number))
+        if is_none(&news) && !asked {
+            Ok(self.asks())
         } else {
             self.bring(alloc, news)
         }
@@ -86,18 +126,26 @@ impl LogPoll {
         &mut self,
         alloc: Global,
         number: u32,
+        cut: bool,
         records: ArrayVec<Numbered, 100>,
     ) -> Result<Turn, AllocError>
         ensures { IfOk result (λ turn. (kept : KeptAs) → kept.number ≡ number
-            → turned self.new turn ≡ sees_newest self.old kept records.items
+            → turned self.new turn ≡ sees_newest self.old kept cut records.items
             (record_at number records.items)) }
     {
         match record_at(number, records.as_slice()) {
-            Some(_) => {
-                self.confirm(alloc)?;
-                self.see_news(alloc, number, records_behind(number, records))
+            Some(held) => {
+                let asked = self.alone;
+                self.find(alloc, held)?;
+                self.see_news(alloc, asked, records_behind(number, records))
             }
-            None => Ok(self.ask_newest(number)),
+            None => {
+                if self.alone {
+                    self.see_before(alloc, cut, records)
+                } else {
+                    Ok(self.ask_newest(number))
+                }
+            }
         }
     }
 
@@ -105,15 +153,16 @@ impl LogPoll {
     fn see_same(
         &mut self,
         alloc: Global,
+        cut: bool,
         records: ArrayVec<Numbered, 100>,
     ) -> Result<Turn, AllocError>
         ensures { IfOk result (λ turn. turned self.new turn
-            ≡ sees_same self.old records.items self.old.newest) }
+            ≡ sees_same self.old cut records.items self.old.newest) }
     {
         match &self.newest {
             Some(kept) => {
                 let number = kept.number;
-                self.see_newest(alloc, number, records)
+                self.see_newest(alloc, number, cut, records)
             }
             None => self.tell_another_by(alloc, records),
         }
@@ -124,18 +173,20 @@ impl LogPoll {
         &mut self,
         alloc: Global,
         back: bool,
+        cut: bool,
         records: ArrayVec<Numbered, 100>,
         means: Means,
     ) -> Result<Turn, AllocError>
         ensures { IfOk result (λ turn. turned self.new turn
-            ≡ sees_by self.old back records.items means) }
+            ≡ sees_by self.old back cut records.items means) }
     {
         match means {
-            Means::Unshown => self.see_none(alloc, back, records),
-            Means::Same => self.see_same(alloc, records),
+            Means::Unshown => self.see_none(alloc, back, cut, records),
+            Means::Same => self.see_same(alloc, cut, records),
             Means::Shifted(by) => {
-                let turn = self.see_same(alloc, records)?;
-                Ok(self.at_hour(by, turn))
+                let line = self.hour(by);
+                let turn = self.see_same(alloc, cut, records)?;
+                Ok(self.at_hour(by, line, turn))
             }
             Means::Partly => {
                 let number = number_in(&self.newest);
@@ -150,12 +201,21 @@ impl LogPoll {
         &mut self,
         alloc: Global,
         back: bool,
+        cut: bool,
         records: ArrayVec<Numbered, 100>,
     ) -> Result<Turn, AllocError>
-        ensures { IfOk result (λ turn. turned self.new turn ≡ sees self.old back records.items) }
+        ensures { IfOk result (λ turn. turned self.new turn ≡ sees self.old back cut records.items) }
     {
         let means = self.means_in(alloc, records.as_slice())?;
-        self.see_by(alloc, back, records, means)
+        self.see_by(alloc, back, cut, records, means)
+    }
+
+    /// Whether a reply by time needn't be all that the log holds.
+    pub(crate) fn is_cut(&self, reply: &Reply) -> bool
+        ensures { result ≡ is_cut self.now (reply_as reply.now) }
+    {
+        let asked = usize::from(self.walk.count().number());
+        reply.more || (reply.records.len() == asked && !reply.last)
     }
 
     // How many records were logged before the number that comes next.
@@ -190,7 +250,7 @@ impl LogPoll {
         alloc: Global,
         count: Option<u32>,
     ) -> Result<Turn, AllocError>
-        ensures { IfOk result (λ turn. turned self.new turn ≡ counted self.old count) }
+        ensures { IfOk result (λ turn. turned self.new turn ≡ by_count self.old count) }
     {
         match count {
             Some(total) => self.weigh_by(alloc, total),

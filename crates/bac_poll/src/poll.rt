@@ -1,50 +1,24 @@
 //! A poll of one trend log.
 
-ghost use Rattle.std.specs.Prelude.{◌≡◌, ◌<◌, ◌≤◌, ◌↔◌, ◌==◌, IfSome, IfNone, IsSome, IfOk, Some, None, [], true, false, length};
-ghost use Rattle.bac_apdu.specs.Service.Extent.{IsExtent};
-ghost use Rattle.bac_link.specs.Datagrams.{apdu_in};
-ghost use Rattle.bac_link.specs.Exchanges.{verdict_of};
-ghost use Rattle.bac_link.specs.Heard.{heard_in};
-ghost use Rattle.bac_link.specs.Ordinals.{distance};
-ghost use Rattle.bac_link.specs.Path.{towards};
-ghost use Rattle.bac_link.specs.Requests.{IsSendable, IsTooLong, next_invoke, request_octets};
-ghost use Rattle.bac_link.specs.Transactions.{begun_with};
-ghost use Rattle.bac_walk.specs.Place.{WalkPlace};
-ghost use Rattle.bac_walk.specs.Walks.{IsTakenFrom};
-ghost use Rattle.bac_poll.specs.State.{PollState, maybe_reply, reply_as, standing_as, told_as};
-ghost use Rattle.bac_poll.specs.Poll.{after, after_count, after_heard, after_reply, after_restart};
-ghost use Rattle.bac_poll.specs.Poll.{after_revision, are_asked, are_from, are_up_to, asked_by_poll};
-ghost use Rattle.bac_poll.specs.Poll.{at_stage, back_question, came, count_at, more_of};
-ghost use Rattle.bac_poll.specs.Poll.{number_question, oldest, oldest_none, property_question};
-ghost use Rattle.bac_poll.specs.Poll.{question_at, renews_by, reply_in, reply_with, up_to, up_to_none};
-ghost use Rattle.bac_poll.specs.Poll.{first_reference, first_stage, joining, kept_number, starting};
-ghost use Rattle.bac_poll.specs.State.{maybe_kept};
-ghost use Rattle.bac_poll.specs.Turns.{ends, turned};
+ghost use Rattle.std.specs.Prelude.{◌≡◌, ◌↔◌, IfSome, IsSome, IfOk};
+ghost use Rattle.bac_poll.specs.Poll.{after, after_count, after_reply, after_restart, after_revision};
+ghost use Rattle.bac_poll.specs.Poll.{after_too_many, at_stage, came, first_reference, first_stage, joining};
+ghost use Rattle.bac_poll.specs.Poll.{kept_number, oldest, oldest_none, renews_by, starting, up_to, up_to_none};
+ghost use Rattle.bac_poll.specs.State.{PollState, maybe_kept, reply_as, standing_as, told_as};
+ghost use Rattle.bac_poll.specs.Turns.{turned};
 
-use crate::ack::{Reply, parameters_of, says_last, says_more};
+use crate::ack::Reply;
 use crate::kept::Kept;
 use crate::stage::{Aim, Stage};
 use crate::turn::{PollEnd, Turn};
-use crate::turns::{first_number, is_none, number_before};
+use crate::turns::{is_none, number_before};
 use crate::word::Told;
 use arrayvec::ArrayVec;
-use bac_apdu::property_id::LOG_BUFFER;
-use bac_apdu::{Extent, ReadProperty, ReadRange};
-use bac_link::{Request, Transactions, Verdict, judge};
-use bac_walk::{BadReply, Batch, Count, Numbered, Progress, Walk, WalkFault};
+use bac_walk::{Count, Numbered, Walk, WalkFault};
 use bac_wire::{Datagram, ObjectId};
 use std::alloc::{AllocError, Global};
 use std::marker::Model;
 use std::mem::replace;
-
-/// Total_Record_Count of a trend log (clause 12.25).
-const TOTAL_RECORD_COUNT: u32 = 145;
-
-/// Database_Revision of a device (clause 12.11).
-const DATABASE_REVISION: u32 = 155;
-
-/// Time_Of_Device_Restart of a device (clause 12.11).
-const TIME_OF_DEVICE_RESTART: u32 = 203;
 
 /// Where a log stands by its rows: the number that comes next, up to three records right before it
 /// in the same epoch, the date and time of the newest record of the epoch (no octets if it has
@@ -70,6 +44,7 @@ pub struct LogPoll {
     pub(crate) newest: Option<Kept>,
     pub(crate) earlier: Option<Kept>,
     pub(crate) earliest: Option<Kept>,
+    pub(crate) alone: bool,
     pub(crate) stamp: Vec<u8>,
     pub(crate) word: Told,
     pub(crate) told: Told,
@@ -79,6 +54,8 @@ pub struct LogPoll {
     pub(crate) begins: Option<u32>,
     pub(crate) counted: Option<u32>,
     pub(crate) total: u32,
+    pub(crate) refused: bool,
+    pub(crate) back: u64,
     pub(crate) held: ArrayVec<Numbered, 100>,
 }
 
@@ -96,6 +73,7 @@ impl Model for LogPoll {
       newest = maybe_kept p.newest;
       earlier = maybe_kept p.earlier;
       earliest = maybe_kept p.earliest;
+      alone = p.alone;
       stamp = p.stamp.items;
       word = told_as p.word;
       told = told_as p.told;
@@ -105,6 +83,8 @@ impl Model for LogPoll {
       begins = p.begins;
       counted = p.counted;
       total = p.total;
+      refused = p.refused;
+      back = p.back;
       held = p.held.items;
     } };
 }
@@ -127,6 +107,7 @@ impl LogPoll {
         let walk = Walk::oldest(log)?;
         let stage = first_stage(&at.newest, at.next);
         let reference = first_reference(&at);
+        let alone = at.earlier.is_none();
         let Standing {
             next,
             newest,
@@ -144,6 +125,7 @@ impl LogPoll {
             newest,
             earlier,
             earliest,
+            alone,
             stamp,
             word,
             told,
@@ -153,6 +135,8 @@ impl LogPoll {
             begins: None,
             counted: None,
             total: 0,
+            refused: false,
+            back: 0,
             held: ArrayVec::new(),
         })
     }
@@ -182,6 +166,7 @@ impl LogPoll {
             newest: None,
             earlier: None,
             earliest: None,
+            alone: false,
             stamp: Vec::new(alloc),
             word,
             told,
@@ -189,8 +174,10 @@ impl LogPoll {
             lives: 0,
             more: false,
             begins,
-            counted: None,
+            counted: begins,
             total: 0,
+            refused: false,
+            back: 0,
             held: ArrayVec::new(),
         })
     }
@@ -216,85 +203,25 @@ impl LogPoll {
         &self.word
     }
 
-    /// What is asked next. It always fits a request.
-    pub fn question(&self) -> Request
-        ensures asks { result ≡ asked_by_poll self.now }
-        ensures fits { IsTooLong result → ⊥ }
-        ensures sendable { IsSendable result }
+    /// The device can't send so many records at once (Abort 1, 4 or 11, clause 18.10): half as many
+    /// are asked for from now on, one at least. The question is asked again, if it asked for more
+    /// than one.
+    pub fn too_many(&mut self)
+        ensures { self.new ≡ after_too_many self.old }
     {
-        match self.stage {
-            Stage::Joins => self.number_question(),
-            Stage::Prior => self.number_question(),
-            Stage::Ahead => self.number_question(),
-            Stage::Again => self.number_question(),
-            Stage::Each => self.number_question(),
-            Stage::Oldest(_) => self.walk.question(),
-            Stage::Counts(_) => property_question(self.walk.log(), TOTAL_RECORD_COUNT),
-            Stage::UpTo(_) => self.back_question(),
-            Stage::Back(_) => self.back_question(),
-            Stage::Revision => property_question(self.device, DATABASE_REVISION),
-            Stage::Restart => property_question(self.device, TIME_OF_DEVICE_RESTART),
+        let number = self.walk.count().number();
+        let half = if number <= 1 { 1 } else { number / 2 };
+        match Count::new(half) {
+            Some(count) => self.walk = self.walk.copy().asking_for(count),
+            None => unreachable!(),
         }
     }
 
-    // So many records from a number on.
-    fn number_question(&self) -> Request
-        ensures asks { result ≡ number_question self.now }
-        ensures fits { IsTooLong result → ⊥ }
-        ensures sendable { IsSendable result }
+    /// How many records a question asks for: of the next log of its device, too.
+    pub fn count(&self) -> Count
+        ensures { result ≡ self.now.walk.count }
     {
-        let object = self.walk.log();
-        let count = i32::from(self.walk.count().number());
-        Request::ReadRange(ReadRange {
-            object,
-            property: LOG_BUFFER,
-            index: None,
-            extent: Extent::ByNumber {
-                reference: self.reference,
-                count,
-            },
-        })
-    }
-
-    // So many up to it.
-    fn back_question(&self) -> Request
-        ensures asks { result ≡ back_question self.now }
-        ensures fits { IsTooLong result → ⊥ }
-        ensures sendable { IsSendable result }
-    {
-        let object = self.walk.log();
-        let count = -i32::from(self.walk.count().number());
-        Request::ReadRange(ReadRange {
-            object,
-            property: LOG_BUFFER,
-            index: None,
-            extent: Extent::ByNumber {
-                reference: self.reference,
-                count,
-            },
-        })
-    }
-
-    /// Its question as the next transaction: the datagram that is sent.
-    pub fn ask(&self, transactions: &mut Transactions) -> Datagram
-        ensures datagram { result ≡ request_octets (towards transactions.old.route)
-            (next_invoke transactions.old.invoke) (asked_by_poll self.now) }
-        ensures begun { transactions.new ≡ begun_with (asked_by_poll self.now) transactions.old }
-    {
-        // In a list of one, since the prover doesn't take a request that is lent from a variable.
-        let questions = [self.question()];
-        match transactions.begin(&questions[0]) {
-            Ok(datagram) => datagram,
-            Err(_) => unreachable!(),
-        }
-    }
-
-    /// What an answer is to its question.
-    pub fn judge(&self, datagram: &[u8]) -> Verdict
-        ensures { result ≡ verdict_of (asked_by_poll self.now) (apdu_in datagram.now) }
-    {
-        let questions = [self.question()];
-        judge(&questions[0], datagram)
+        self.walk.count()
     }
 
     /// Takes a datagram with the ACK that answers a question for records: what it brings. After
@@ -324,6 +251,7 @@ impl LogPoll {
             Stage::Ahead => Ok(self.ends(PollEnd::Fault(WalkFault::BadReply))),
             Stage::Again => Ok(self.ends(PollEnd::Fault(WalkFault::BadReply))),
             Stage::Each => Ok(self.ends(PollEnd::Fault(WalkFault::BadReply))),
+            Stage::ByNumber => Ok(self.ends(PollEnd::Fault(WalkFault::BadReply))),
             Stage::Oldest(_) => Ok(self.ends(PollEnd::Fault(WalkFault::BadReply))),
             Stage::UpTo(_) => Ok(self.ends(PollEnd::Fault(WalkFault::BadReply))),
             Stage::Back(_) => Ok(self.ends(PollEnd::Fault(WalkFault::BadReply))),
@@ -370,66 +298,6 @@ impl LogPoll {
         self.again.moment = moment;
     }
 
-    // What the walk from the oldest makes of a datagram.
-    fn hear(&self, datagram: &[u8]) -> Result<Progress, BadReply>
-        ensures { (new : WalkPlace) × IsTakenFrom self.now.walk
-            (heard_in self.now.walk.log datagram.now) result new }
-    {
-        let mut walk = self.walk.copy();
-        hear_by(&mut walk, datagram)
-    }
-
-    // A datagram as a reply, if it is one by the question.
-    fn read(&self, datagram: &[u8]) -> Option<Reply>
-        ensures { maybe_reply result ≡ reply_in self.now datagram.now }
-    {
-        let last = says_last(datagram);
-        let more = says_more(datagram);
-        match self.hear(datagram) {
-            Ok(Progress::Batch(batch)) => self.read_batch(batch, last, more),
-            Ok(Progress::AskOldest) => Some(no_records(last, more)),
-            Ok(Progress::CaughtUp) => Some(no_records(last, more)),
-            Err(BadReply) => None,
-        }
-    }
-
-    // Records as a reply, if they were asked for.
-    fn read_batch(&self, batch: Batch, last: bool, more: bool) -> Option<Reply>
-        ensures { maybe_reply result ≡ reply_with self.now batch.entries.items last more }
-    {
-        let Batch { gap: _, entries } = batch;
-        if self.are_asked(first_number(&entries), entries.len()) {
-            Some(Reply {
-                records: entries,
-                last,
-                more,
-            })
-        } else {
-            None
-        }
-    }
-
-    // Whether so many records from this number on were asked for.
-    fn are_asked(&self, first: u32, count: usize) -> bool
-        requires { count ≤ 100 }
-        ensures { result ≡ are_asked self.now self.now.stage first count }
-    {
-        let asked = usize::from(self.walk.count().number());
-        match self.stage {
-            Stage::Oldest(_) => true,
-            Stage::UpTo(_) => are_up_to(asked, self.reference, first, count),
-            Stage::Back(_) => are_up_to(asked, self.reference, first, count),
-            Stage::Joins => are_from(asked, self.reference, first, count),
-            Stage::Prior => are_from(asked, self.reference, first, count),
-            Stage::Ahead => are_from(asked, self.reference, first, count),
-            Stage::Again => are_from(asked, self.reference, first, count),
-            Stage::Each => are_from(asked, self.reference, first, count),
-            Stage::Counts(_) => false,
-            Stage::Revision => false,
-            Stage::Restart => false,
-        }
-    }
-
     // A reply by the question.
     fn take_reply(&mut self, alloc: Global, reply: Reply) -> Result<Turn, AllocError>
         ensures { IfOk result (λ turn. turned self.new turn ≡ after_reply self.old (reply_as reply)) }
@@ -457,7 +325,8 @@ impl LogPoll {
             Stage::Ahead => Ok(self.take_ahead(reply.records)),
             Stage::Again => self.take_again(alloc, held, reply.records),
             Stage::Each => self.take_each(alloc, held, reply.records),
-            Stage::Oldest(aim) => self.take_oldest(alloc, aim, reply.records),
+            Stage::ByNumber => self.take_by_number(alloc, held, reply.records),
+            Stage::Oldest(aim) => self.take_oldest(alloc, aim, reply),
             Stage::UpTo(aim) => self.take_up_to(alloc, aim, reply.records),
             Stage::Back(aim) => self.take_back(alloc, aim, held, reply.records),
             Stage::Counts(_) => Ok(self.ends(PollEnd::Fault(WalkFault::BadReply))),
@@ -467,18 +336,14 @@ impl LogPoll {
     }
 
     // The oldest were asked for.
-    fn take_oldest(
-        &mut self,
-        alloc: Global,
-        aim: Aim,
-        records: ArrayVec<Numbered, 100>,
-    ) -> Result<Turn, AllocError>
-        ensures { IfOk result (λ turn. turned self.new turn ≡ oldest self.old aim records.items) }
+    fn take_oldest(&mut self, alloc: Global, aim: Aim, reply: Reply) -> Result<Turn, AllocError>
+        ensures { IfOk result (λ turn. turned self.new turn ≡ oldest self.old aim (reply_as reply)) }
     {
-        if is_none(&records) {
+        if is_none(&reply.records) {
             return self.take_no_oldest(alloc, aim);
         }
-        self.take_came(alloc, aim, records)
+        let cut = self.is_cut(&reply);
+        self.take_came(alloc, aim, cut, reply.records)
     }
 
     // None of them is shown.
@@ -490,7 +355,7 @@ impl LogPoll {
             Aim::Renews => Ok(self.ask_at(Stage::Counts(Aim::Renews), self.reference)),
             Aim::Starts => {
                 if self.total == 0 {
-                    return self.start(alloc, ArrayVec::new());
+                    return self.start_none(alloc);
                 }
                 Ok(self.ask_at(Stage::UpTo(Aim::Starts), self.total))
             }
@@ -509,7 +374,7 @@ impl LogPoll {
         if is_none(&records) {
             return self.take_none_up_to(alloc, aim);
         }
-        self.take_came(alloc, aim, records)
+        self.take_came(alloc, aim, false, records)
     }
 
     // None of them is shown either.
@@ -528,12 +393,13 @@ impl LogPoll {
         &mut self,
         alloc: Global,
         aim: Aim,
+        cut: bool,
         records: ArrayVec<Numbered, 100>,
     ) -> Result<Turn, AllocError>
-        ensures { IfOk result (λ turn. turned self.new turn ≡ came self.old aim records.items) }
+        ensures { IfOk result (λ turn. turned self.new turn ≡ came self.old aim cut records.items) }
     {
         match aim {
-            Aim::Finds => self.see(alloc, true, records),
+            Aim::Finds => self.see(alloc, true, cut, records),
             Aim::Renews => self.renew(alloc, records),
             Aim::Starts => self.start_by(alloc, records),
         }
@@ -544,36 +410,9 @@ impl LogPoll {
         ensures { turned self.new result ≡ renews_by self.old count }
     {
         match count {
-            Some(total) => {
-                if total == 0 {
-                    return self.ends(self.end());
-                }
-                self.total = total;
-                self.ask_at(Stage::UpTo(Aim::Renews), total)
-            }
+            Some(total) => self.renew_of(total),
             None => self.ends(self.end()),
         }
-    }
-}
-
-// What a walk makes of a datagram.
-fn hear_by(walk: &mut Walk, datagram: &[u8]) -> Result<Progress, BadReply>
-    ensures { IsTakenFrom walk.old (heard_in walk.old.log datagram.now) result walk.new }
-{
-    let Some(parameters) = parameters_of(datagram) else {
-        return Err(BadReply);
-    };
-    walk.take(parameters)
-}
-
-// A reply without records.
-fn no_records(last: bool, more: bool) -> Reply
-    ensures { reply_as result ≡ record { records = []; last = last; more = more } }
-{
-    Reply {
-        records: ArrayVec::new(),
-        last,
-        more,
     }
 }
 
@@ -611,41 +450,4 @@ fn first_reference(at: &Standing) -> u32
     let newest = kept_number(&at.newest, before);
     let earlier = kept_number(&at.earlier, newest);
     kept_number(&at.earliest, earlier)
-}
-
-// A question for a property of an object.
-fn property_question(object: ObjectId, property: u32) -> Request<'static>
-    ensures asks { result ≡ property_question object property }
-    ensures fits { IsTooLong result → ⊥ }
-    ensures sendable { IsSendable result }
-{
-    Request::ReadProperty(ReadProperty {
-        object,
-        property,
-        index: None,
-    })
-}
-
-// How many numbers lie from one up to another, round the count.
-fn distance(first: u32, before: u32) -> u64
-    ensures value { result ≡ distance first before }
-    ensures bound { result < 4294967296 }
-{
-    (u64::from(before) + 4294967295 - u64::from(first)) % 4294967295
-}
-
-// Whether so many records lie among as many from a number on.
-fn are_from(asked: usize, reference: u32, first: u32, count: usize) -> bool
-    requires { count ≤ 100 }
-    ensures { result ≡ are_from asked reference first count }
-{
-    distance(reference, first) + count as u64 <= asked as u64
-}
-
-// Or among as many up to a number.
-fn are_up_to(asked: usize, reference: u32, first: u32, count: usize) -> bool
-    requires { count ≤ 100 }
-    ensures { result ≡ are_up_to asked reference first count }
-{
-    distance(first, reference) < asked as u64 && count as u64 <= distance(first, reference) + 1
 }

@@ -26,6 +26,8 @@ pub enum Stage {
     Each,
     /// The oldest, by time.
     Oldest(Aim),
+    /// The last of these by number, since they show no known one and aren't all that is held.
+    ByNumber,
     /// Total_Record_Count, since none of them is shown.
     Counts(Aim),
     /// The records up to that count.

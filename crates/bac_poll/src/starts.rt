@@ -2,12 +2,13 @@
 
 ghost use Rattle.std.specs.Prelude.{◌≡◌, IfOk};
 ghost use Rattle.bac_poll.specs.Turns.{turned};
-ghost use Rattle.bac_poll.specs.Starts.{beginning, behind_count, is_doubted, stands_from, starts};
-ghost use Rattle.bac_poll.specs.Starts.{starts_at, starts_behind, starts_by, starts_from, starts_here, total_of};
+ghost use Rattle.bac_poll.specs.Starts.{beginning, is_doubted, stands_from, starts, starts_at, starts_at_count};
+ghost use Rattle.bac_poll.specs.Starts.{starts_behind, starts_by, starts_from, starts_here, starts_none};
+ghost use Rattle.bac_poll.specs.Starts.{starts_refused, starts_told};
 
 use crate::poll::LogPoll;
 use crate::stage::Aim;
-use crate::turn::{Beginning, Turn, gap_up_to};
+use crate::turn::{Beginning, PollEnd, Turn, gap_up_to};
 use crate::turns::{first_in, first_number, is_ahead, number_behind, number_or};
 use crate::word::{Word, word_of};
 use arrayvec::ArrayVec;
@@ -116,10 +117,56 @@ impl LogPoll {
         ensures { IfOk result (λ turn. turned self.new turn ≡ starts_by self.old records.items) }
     {
         self.stand_at(1);
-        if first_number(&records) == 1 {
+        if self.is_first(first_number(&records)) {
             self.start(alloc, records)
         } else {
             Ok(self.ask_back(Aim::Starts, records))
+        }
+    }
+
+    /// No record is shown.
+    pub(crate) fn start_none(&mut self, alloc: Global) -> Result<Turn, AllocError>
+        ensures { IfOk result (λ turn. turned self.new turn ≡ starts_none self.old) }
+    {
+        if self.refused && self.counted.is_some() {
+            Ok(self.ends(PollEnd::ShowsNone))
+        } else {
+            self.start(alloc, ArrayVec::new())
+        }
+    }
+
+    // The first epoch begins there by the count alone.
+    fn start_at_count(&mut self, alloc: Global, number: u32) -> Result<Turn, AllocError>
+        ensures { IfOk result (λ turn. turned self.new turn ≡ starts_at_count self.old number) }
+    {
+        self.confirm(alloc)?;
+        let mut turn = self.ask_oldest(Aim::Starts);
+        turn.begins = beginning(number, true);
+        Ok(turn)
+    }
+
+    // So many were logged as are before this number.
+    fn start_told(&mut self, alloc: Global, next: u32) -> Result<Turn, AllocError>
+        ensures { IfOk result (λ turn. turned self.new turn
+            ≡ starts_told self.old self.old.begins next) }
+    {
+        match self.begins {
+            Some(_) => Ok(self.ask_oldest(Aim::Starts)),
+            None => {
+                self.counted = Some(next);
+                self.start_at_count(alloc, next)
+            }
+        }
+    }
+
+    // The count is refused.
+    fn start_refused(&mut self, alloc: Global) -> Result<Turn, AllocError>
+        ensures { IfOk result (λ turn. turned self.new turn
+            ≡ starts_refused self.old self.old.counted) }
+    {
+        match self.counted {
+            Some(_) => Ok(self.ask_oldest(Aim::Starts)),
+            None => self.start_at_count(alloc, 1),
         }
     }
 
@@ -129,23 +176,18 @@ impl LogPoll {
         alloc: Global,
         count: Option<u32>,
     ) -> Result<Turn, AllocError>
-        ensures { IfOk result (λ turn. turned self.new turn
-            ≡ starts_from self.old self.old.begins count) }
+        ensures { IfOk result (λ turn. turned self.new turn ≡ starts_from self.old count) }
     {
-        let total = total_of(count);
-        match self.begins {
-            Some(begins) => {
+        match count {
+            Some(total) => {
                 self.total = total;
-                self.counted = Some(begins);
-                Ok(self.ask_oldest(Aim::Starts))
+                self.refused = false;
+                self.start_told(alloc, number_behind(total))
             }
             None => {
-                self.confirm(alloc)?;
-                self.total = total;
-                self.counted = behind_count(count);
-                let mut turn = self.ask_oldest(Aim::Starts);
-                turn.begins = beginning(number_behind(total), true);
-                Ok(turn)
+                self.total = 0;
+                self.refused = true;
+                self.start_refused(alloc)
             }
         }
     }
@@ -156,24 +198,4 @@ fn beginning(number: u32, counted: bool) -> Option<Beginning>
     ensures { result ≡ beginning number counted }
 {
     Some(Beginning { number, counted })
-}
-
-// How many were logged; 0 if that isn't told.
-fn total_of(count: Option<u32>) -> u32
-    ensures { result ≡ total_of count }
-{
-    match count {
-        Some(total) => total,
-        None => 0,
-    }
-}
-
-// The number behind a count.
-fn behind_count(count: Option<u32>) -> Option<u32>
-    ensures { result ≡ behind_count count }
-{
-    match count {
-        Some(total) => Some(number_behind(total)),
-        None => None,
-    }
 }

@@ -17,7 +17,10 @@ pub enum PollEnd {
     SaysMore,
     /// It shows no record, and refuses its count.
     ShowsNone,
-    /// Its records contradict each other: it would begin a third life in one poll.
+    /// It shows its oldest records, which aren't all that it holds, and none by number.
+    NoneByNumber,
+    /// It contradicts itself: it would begin a third life in one poll, or holds more records before
+    /// one than there are numbers before it.
     Contradicts,
     Fault(WalkFault),
 }
@@ -27,6 +30,8 @@ pub enum PollEnd {
 pub enum Line {
     /// It shows its records so many quarter hours later, and a hundred.
     AtHour(u32),
+    /// The same, or it began anew: their value never changes, and it doesn't tell its restart again.
+    AtHourOrBegan(u32),
     /// It began anew.
     BeganAnew,
     /// It began anew, or dropped records.

@@ -1,13 +1,15 @@
 //! The steps of which the rule is made.
 
-ghost use Rattle.std.specs.Prelude.{◌≡◌, ◌+◌, ◌<◌, ◌==◌, IfOk, length};
-ghost use Rattle.std.specs.Option.{is_some};
-ghost use Rattle.bac_link.specs.Ordinals.{is_ahead, number_after};
+ghost use Rattle.std.specs.Prelude.{◌≡◌, ◌+◌, ◌<◌, ◌==◌, IfOk, Some, length};
+ghost use Rattle.std.specs.Option.{is_some, option_map};
+ghost use Rattle.bac_link.specs.Ordinals.{distance, is_ahead, number_after};
 ghost use Rattle.bac_walk.specs.Walks.{gap_items};
 ghost use Rattle.bac_poll.specs.State.{kept_as, kept_of, maybe_kept, told_as};
-ghost use Rattle.bac_poll.specs.Turns.{asks, asks_at, ends, anew, brings, brings_to, confirmed, end_of, first_in};
-ghost use Rattle.bac_poll.specs.Turns.{first_number, last_in, next_life, number_before, number_or};
-ghost use Rattle.bac_poll.specs.Turns.{renewed, standing_at, standing_on, turned, behind};
+ghost use Rattle.bac_poll.specs.Turns.{asking_from, asks, asks_at, before_last, behind, brings, confirmed};
+ghost use Rattle.bac_poll.specs.Turns.{end_of, ends, first_in, first_number, kept_or, knowing, last_in};
+ghost use Rattle.bac_poll.specs.Turns.{third_known};
+ghost use Rattle.bac_poll.specs.Turns.{next_life, number_before, number_or, renewed, standing_at};
+ghost use Rattle.bac_poll.specs.Turns.{standing_on, turned};
 ghost use Rattle.bac_poll.specs.Known.{heeding, is_steady, means_in};
 
 use crate::kept::{Kept, stamp_of};
@@ -19,6 +21,7 @@ use crate::word::{Told, is_other_word};
 use arrayvec::ArrayVec;
 use bac_walk::Numbered;
 use std::alloc::{AllocError, Global};
+use std::mem::replace;
 
 impl LogPoll {
     /// The next question is asked for this, from a number or up to it.
@@ -55,15 +58,22 @@ impl LogPoll {
         }
     }
 
-    /// This record is the newest that is known.
+    /// What follows the newest known record is asked for, from that one on.
+    pub(crate) fn ask_from(&mut self, number: u32)
+        ensures { self.new ≡ asking_from self.old number }
+    {
+        self.stage = Stage::Joins;
+        self.reference = number;
+        self.alone = true;
+    }
+
+    /// The newest known record is known as it is shown now.
     pub(crate) fn stand_on(&mut self, kept: Kept)
         ensures { self.new ≡ standing_on self.old (kept_as kept) }
     {
-        self.stage = Stage::Joins;
-        self.reference = kept.number;
+        let number = kept.number;
         self.newest = Some(kept);
-        self.earlier = None;
-        self.earliest = None;
+        self.ask_from(number);
     }
 
     /// No record right before this number is known.
@@ -76,14 +86,53 @@ impl LogPoll {
         self.earliest = None;
     }
 
-    /// Records are kept up to this one.
-    pub(crate) fn stand_behind(&mut self, alloc: Global, last: Numbered) -> Result<(), AllocError>
-        ensures { IfOk result (λ _. self.new ≡ behind self.old (kept_of last)) }
+    // These are the newest that are known, and before them those that were.
+    fn know(&mut self, newest: Kept, earlier: Option<Kept>, earliest: Option<Kept>)
+        ensures { self.new ≡ record self.old {
+          newest = Some (kept_as newest);
+          earlier = kept_or (maybe_kept earlier) self.old.newest;
+          earliest = third_known self.old (maybe_kept earlier) (maybe_kept earliest);
+        } }
     {
-        let kept = Kept::of(alloc, last)?;
+        let was = replace(&mut self.newest, Some(newest));
+        match earlier {
+            Some(earlier) => {
+                self.earlier = Some(earlier);
+                self.earliest = kept_or(earliest, was);
+            }
+            None => self.earliest = replace(&mut self.earlier, was),
+        }
+    }
+
+    // The last three of records are known.
+    fn know_last(
+        &mut self,
+        alloc: Global,
+        records: &ArrayVec<Numbered, 100>,
+        last: Numbered,
+    ) -> Result<(), AllocError>
+        ensures { IfOk result (λ _. self.new ≡ knowing self.old records.now.items last) }
+    {
+        let newest = Kept::of(alloc, last)?;
+        let earlier = kept_of(alloc, before_last(records, 1))?;
+        let earliest = kept_of(alloc, before_last(records, 2))?;
+        self.know(newest, earlier, earliest);
+        Ok(())
+    }
+
+    /// Records are kept, the last of which is this.
+    pub(crate) fn stand_behind(
+        &mut self,
+        alloc: Global,
+        records: &ArrayVec<Numbered, 100>,
+        last: Numbered,
+    ) -> Result<(), AllocError>
+        ensures { IfOk result (λ _. self.new ≡ behind self.old records.now.items last) }
+    {
+        self.know_last(alloc, records, last)?;
         self.stamp = stamp_of(alloc, last.entry)?;
         self.next = number_behind(last.number);
-        self.stand_on(kept);
+        self.ask_from(last.number);
         Ok(())
     }
 
@@ -97,7 +146,7 @@ impl LogPoll {
     {
         match last_in(&records) {
             Some(last) => {
-                self.stand_behind(alloc, last)?;
+                self.stand_behind(alloc, &records, last)?;
                 let mut turn = self.asks();
                 turn.entries = records;
                 Ok(turn)
@@ -125,8 +174,8 @@ impl LogPoll {
         self.lives = next_life(self.lives);
     }
 
-    // Whether the known records have one value.
-    fn is_steady(&self) -> bool
+    /// Whether the known records have one value.
+    pub(crate) fn is_steady(&self) -> bool
         ensures { result ≡ is_steady self.now }
     {
         is_steady_with(&self.newest, &self.earlier) && is_steady_with(&self.newest, &self.earliest)
@@ -200,6 +249,38 @@ pub(crate) fn last_in(records: &ArrayVec<Numbered, 100>) -> Option<Numbered>
     records.as_slice().last().copied()
 }
 
+// The record so many before the last of them, if there is one.
+fn before_last(records: &ArrayVec<Numbered, 100>, back: usize) -> Option<Numbered>
+    ensures { result ≡ before_last records.now.items back }
+{
+    let records = records.as_slice();
+    if back < records.len() {
+        records.get(records.len() - 1 - back).copied()
+    } else {
+        None
+    }
+}
+
+// This record, or that where there is none.
+fn kept_or(kept: Option<Kept>, other: Option<Kept>) -> Option<Kept>
+    ensures { maybe_kept result ≡ kept_or (maybe_kept kept) (maybe_kept other) }
+{
+    match kept {
+        Some(kept) => Some(kept),
+        None => other,
+    }
+}
+
+// One that there may be, as it would be kept.
+fn kept_of(alloc: Global, held: Option<Numbered>) -> Result<Option<Kept>, AllocError>
+    ensures { IfOk result (λ kept. maybe_kept kept ≡ option_map kept_of held) }
+{
+    match held {
+        Some(held) => Ok(Some(Kept::of(alloc, held)?)),
+        None => Ok(None),
+    }
+}
+
 /// The number of a record, or that one if there is none.
 pub(crate) fn number_or(number: u32, held: Option<Numbered>) -> u32
     ensures { result ≡ number_or number held }
@@ -233,6 +314,14 @@ pub(crate) fn number_before(number: u32) -> u32
     } else {
         number.saturating_sub(1)
     }
+}
+
+/// How many numbers lie from one up to another, round the count.
+pub(crate) fn distance(first: u32, before: u32) -> u64
+    ensures value { result ≡ distance first before }
+    ensures bound { result < 4294967296 }
+{
+    (u64::from(before) + 4294967295 - u64::from(first)) % 4294967295
 }
 
 /// Whether a number is another one or lies behind it: half of the numbers do.

@@ -3,7 +3,8 @@
 ghost use Rattle.std.specs.Prelude.{◌≡◌, [], None, IfOk};
 ghost use Rattle.bac_poll.specs.State.{told_as};
 ghost use Rattle.bac_poll.specs.Known.{is_other_restart, is_other_revision, is_other_word};
-ghost use Rattle.bac_poll.specs.Known.{is_restart_changed, is_revision_changed, is_untold, word_of};
+ghost use Rattle.bac_poll.specs.Known.{is_restart_changed, is_retold, is_revision_changed};
+ghost use Rattle.bac_poll.specs.Known.{is_untold, word_of};
 ghost use Rattle.bac_poll.specs.Turns.{restart_or, revision_or, word_with};
 
 use std::alloc::{AllocError, Global};
@@ -146,6 +147,13 @@ fn is_revision_changed(was: Option<u32>, now: Option<u32>) -> bool
         },
         None => false,
     }
+}
+
+/// Whether the restart on record is told, and is the same.
+pub(crate) fn is_retold(was: &Told, now: &Told) -> bool
+    ensures { result ≡ is_retold (told_as was.now) (told_as now.now) }
+{
+    !was.restart.is_empty() && was.restart.as_slice() == now.restart.as_slice()
 }
 
 // Whether a restart is on record.

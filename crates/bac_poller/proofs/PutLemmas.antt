@@ -32,7 +32,7 @@ either false n s t is also = also
 
 first_log : (s : Puts) (o : Option Beginning) → (with_first s o).log ≡ s.log
 first_log s None = refl
-first_log s (Some begins) = either begins.counted s.log s _ refl refl
+first_log s (Some begins) = refl
 
 rest_log : (doubtful : Bool) (s : Puts) (before : ℕ) → (with_rest doubtful s before).log ≡ s.log
 rest_log doubtful s before = either (nat_le before 1) s.log s _ refl refl

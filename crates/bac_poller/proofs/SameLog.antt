@@ -1,17 +1,17 @@
 -- Whatever an answer makes of a poll, it is of the same log.
-use Rattle.std.proofs.Common.{◌≡◌, ℕ, ◌==◌, ◌&&◌, nat_lt, Bool, true, false, if◌then◌else◌, List, [], ◌∷◌, ◌++◌, Option, None, Some, refl, ap, ◌∙◌}
+use Rattle.std.proofs.Common.{◌≡◌, ℕ, ◌+◌, ◌==◌, ◌&&◌, nat_lt, Bool, true, false, if◌then◌else◌, List, [], ◌∷◌, ◌++◌, Option, None, Some, refl, ap, ◌∙◌}
 use Rattle.bac_link.specs.Ordinals.{is_ahead}
 use Rattle.bac_link.specs.declared.exchanges.Verdict.{Verdict}
 use Rattle.bac_link.specs.declared.exchanges.Verdict.TheVariants.{Ack, BadReply, Refused}
 use Rattle.bac_walk.specs.declared.batch.Numbered.{Numbered}
-use Rattle.bac_poll.specs.Back.{back_alone, back_by, back_done, back_lost, back_more, back_shown, shown_last}
-use Rattle.bac_poll.specs.Epochs.{another, another_by, another_of, renews}
+use Rattle.bac_poll.specs.Back.{back, back_alone, back_by, back_done, back_lost, back_more, back_shown, shown_last, went_back}
+use Rattle.bac_poll.specs.Epochs.{another, another_by, another_of, renews, renews_of}
 use Rattle.bac_poll.specs.Gone.{asks_restart, asks_revision, asks_word, by_gone, by_word, gone_of, retold}
-use Rattle.bac_poll.specs.Joins.{again_by, again_equal, again_from, ahead, ahead_none, asks_again, asks_each, at_hour, brings_ahead, each_all, each_by, each_means, each_next, goes_nowhere, goes_on, joined, joins_by, joins_from, lost, lost_ahead, prior}
+use Rattle.bac_poll.specs.Joins.{again_by, again_equal, again_from, ahead, ahead_none, asks_again, asks_each, at_hour, brings_ahead, each_all, each_by, each_means, each_next, found, goes_nowhere, goes_on, hour, joined, joins_by, joins_from, lost, lost_ahead, moved_ahead, prior}
 use Rattle.bac_poll.specs.Known.{means_in, number_in, record_at, records_behind, shown_in, word_of}
-use Rattle.bac_poll.specs.Oldest.{counted, drops, logged, sees, sees_by, sees_newest, sees_news, sees_none, sees_same, weighed}
+use Rattle.bac_poll.specs.Oldest.{by_count, by_number, drops, logged, sees, sees_before, sees_by, sees_newest, sees_news, sees_none, sees_same, weighed}
 use Rattle.bac_poll.specs.Poll.{after, after_count, after_heard, after_restart, after_revision, at_stage, came, count_at, more_of, oldest_none, renews_by, reply_in, up_to_none}
-use Rattle.bac_poll.specs.Starts.{starts, starts_at, starts_by, starts_from}
+use Rattle.bac_poll.specs.Starts.{starts, starts_at, starts_by, starts_from, starts_none, starts_refused, starts_told}
 use Rattle.bac_poll.specs.State.{KeptAs, PollState, Reply}
 use Rattle.bac_poll.specs.Turns.{Turned, asks_at, brings_to, confirmed, ends, first_in, last_in, renewed, standing_at}
 use Rattle.bac_poll.specs.declared.gone.Gone.{Gone}
@@ -24,6 +24,7 @@ use Rattle.bac_poll.specs.declared.stage.Aim.{Aim}
 use Rattle.bac_poll.specs.declared.stage.Aim.TheVariants.{Finds, Renews, Starts}
 use Rattle.bac_poll.specs.declared.stage.Stage.{Stage}
 use Rattle.bac_poll.specs.declared.stage.Stage.TheVariants as stage
+use Rattle.bac_poll.specs.declared.turn.Line.{Line}
 use Rattle.bac_poll.specs.declared.turn.PollEnd.TheVariants.{CaughtUp}
 use Rattle.bac_poller.specs.Poller.{Answers}
 use Rattle.bac_poller.specs.Word.{moment_in, restart_in}
@@ -42,8 +43,8 @@ brings_same : (p : PollState) (rs : List Numbered) (o : Option Numbered) → IsS
 brings_same p rs None = refl
 brings_same p rs (Some last) = refl
 
-hour_same : (p : PollState) (by : ℕ) (t : Turned) → IsSame p t → IsSame p (at_hour by t)
-hour_same p by t is = either p (by == 100) t _ is is
+hour_same : (p : PollState) (by : ℕ) (told : Line) (t : Turned) → IsSame p t → IsSame p (at_hour by told t)
+hour_same p by told t is = either p (by == 100) t _ is is
 
 -- ---- new epochs
 
@@ -86,36 +87,48 @@ word_same p held = revision_same (record p { again = p.told }) held p.word.revis
 drops_same : (p : PollState) (go : Bool) (rs : List Numbered) → IsSame p (drops p go rs)
 drops_same p go rs = either p _ _ _ refl (word_same p rs)
 
-none_same : (p : PollState) (go : Bool) (rs : List Numbered) → IsSame p (sees_none p go rs)
-none_same p go rs = either p _ _ _ (drops_same p go rs) (another_by_same p rs)
+before_same : (p : PollState) (cut : Bool) (rs : List Numbered) → IsSame p (sees_before p cut rs)
+before_same p cut rs = either p cut _ _ refl (another_by_same p rs)
 
-news_same : (p : PollState) (number : ℕ) (rs : List Numbered) → IsSame p (sees_news p number rs)
-news_same p number rs = either p _ _ _ refl (brings_same p rs (last_in rs))
+by_number_same : (p : PollState) (held rs : List Numbered) → IsSame p (by_number p held rs)
+by_number_same p held rs = either p _ _ _ refl (another_by_same p held)
 
-newest_same : (p : PollState) (kept : KeptAs) (rs : List Numbered) (o : Option Numbered) → IsSame p (sees_newest p kept rs o)
-newest_same p kept rs None = refl
-newest_same p kept rs (Some held) = news_same (confirmed p) kept.number (records_behind kept.number rs)
+none_same : (p : PollState) (go cut : Bool) (rs : List Numbered) → IsSame p (sees_none p go cut rs)
+none_same p go cut rs = either p _ _ _ (drops_same p go rs) (before_same p cut rs)
 
-same_same : (p : PollState) (rs : List Numbered) (o : Option KeptAs) → IsSame p (sees_same p rs o)
-same_same p rs None = another_by_same p rs
-same_same p rs (Some kept) = newest_same p kept rs (record_at kept.number rs)
+news_same : (p : PollState) (asked : Bool) (rs : List Numbered) → IsSame p (sees_news p asked rs)
+news_same p asked rs = either p _ _ _ refl (brings_same p rs (last_in rs))
 
-sees_by_same : (p : PollState) (go : Bool) (rs : List Numbered) (m : Means) → IsSame p (sees_by p go rs m)
-sees_by_same p go rs Unshown = none_same p go rs
-sees_by_same p go rs Same = same_same p rs p.newest
-sees_by_same p go rs (Shifted by) = hour_same p by (sees_same p rs p.newest) (same_same p rs p.newest)
-sees_by_same p go rs Partly = each_asks p [] (number_in p.newest)
-sees_by_same p go rs Another = another_by_same p rs
+newest_same : (p : PollState) (kept : KeptAs) (cut : Bool) (rs : List Numbered) (o : Option Numbered) → IsSame p (sees_newest p kept cut rs o)
+newest_same p kept cut rs None = either p p.alone _ _ (before_same p cut rs) refl
+newest_same p kept cut rs (Some held) = news_same (found p held) p.alone (records_behind kept.number rs)
 
-sees_same_log : (p : PollState) (go : Bool) (rs : List Numbered) → IsSame p (sees p go rs)
-sees_same_log p go rs = sees_by_same p go rs (means_in p rs)
+same_same : (p : PollState) (cut : Bool) (rs : List Numbered) (o : Option KeptAs) → IsSame p (sees_same p cut rs o)
+same_same p cut rs None = another_by_same p rs
+same_same p cut rs (Some kept) = newest_same p kept cut rs (record_at kept.number rs)
+
+sees_by_same : (p : PollState) (go cut : Bool) (rs : List Numbered) (m : Means) → IsSame p (sees_by p go cut rs m)
+sees_by_same p go cut rs Unshown = none_same p go cut rs
+sees_by_same p go cut rs Same = same_same p cut rs p.newest
+sees_by_same p go cut rs (Shifted by) = hour_same p by (hour p by) (sees_same p cut rs p.newest) (same_same p cut rs p.newest)
+sees_by_same p go cut rs Partly = each_asks p [] (number_in p.newest)
+sees_by_same p go cut rs Another = another_by_same p rs
+
+sees_same_log : (p : PollState) (go cut : Bool) (rs : List Numbered) → IsSame p (sees p go cut rs)
+sees_same_log p go cut rs = sees_by_same p go cut rs (means_in p rs)
+
+renews_of_same : (p : PollState) (total : ℕ) → IsSame p (renews_of p total)
+renews_of_same p total = either p _ _ _ refl refl
+
+another_of_same : (p : PollState) (total : ℕ) → IsSame p (another_of p total)
+another_of_same p total = either p _ _ _ refl (renews_of_same (renewed p p.told) total)
 
 weighed_same : (p : PollState) (total : ℕ) → IsSame p (weighed p total)
 weighed_same p total =
     either p (total == logged p) (ends (confirmed p) CaughtUp) _ refl
-    (either p (nat_lt 0 total && is_ahead p.next total) (asks_at (record p { total = total }) (stage.UpTo Finds) total) (another_of p total) refl refl)
+    (either p (nat_lt 0 total && is_ahead p.next total) (asks_at (record p { total = total }) (stage.UpTo Finds) total) (another_of p total) refl (another_of_same p total))
 
-counted_same : (p : PollState) (count : Option ℕ) → IsSame p (counted p count)
+counted_same : (p : PollState) (count : Option ℕ) → IsSame p (by_count p count)
 counted_same p None = refl
 counted_same p (Some total) = weighed_same p total
 
@@ -132,14 +145,25 @@ starts_same p held = starts_at_same p _ held p.counted
 starts_by_same : (p : PollState) (rs : List Numbered) → IsSame p (starts_by p rs)
 starts_by_same p rs = either p _ _ _ (starts_same (standing_at p 1) rs) refl
 
-starts_from_same : (p : PollState) (begins count : Option ℕ) → IsSame p (starts_from p begins count)
-starts_from_same p None count = refl
-starts_from_same p (Some begins) count = refl
+starts_none_same : (p : PollState) → IsSame p (starts_none p)
+starts_none_same p = either p _ _ _ refl (starts_same p [])
+
+told_same : (p : PollState) (begins : Option ℕ) (next : ℕ) → IsSame p (starts_told p begins next)
+told_same p None next = refl
+told_same p (Some begins) next = refl
+
+refused_same : (p : PollState) (counted : Option ℕ) → IsSame p (starts_refused p counted)
+refused_same p None = refl
+refused_same p (Some counted) = refl
+
+starts_from_same : (p : PollState) (count : Option ℕ) → IsSame p (starts_from p count)
+starts_from_same p None = refused_same (record p { total = 0; refused = true }) p.counted
+starts_from_same p (Some total) = told_same (record p { total = total; refused = false }) p.begins _
 
 -- ---- backwards
 
 done_same : (p : PollState) (aim : Aim) (rs : List Numbered) → IsSame p (back_done p aim rs)
-done_same p Finds rs = sees_same_log p false rs
+done_same p Finds rs = sees_same_log p false false rs
 done_same p Renews rs = brings_same p rs (last_in rs)
 done_same p Starts rs = starts_same p rs
 
@@ -152,7 +176,7 @@ more_same : (p : PollState) (aim : Aim) (rs : List Numbered) → IsSame p (back_
 more_same p aim rs = either p _ _ _ (done_same p aim rs) refl
 
 alone_same : (p : PollState) (aim : Aim) (held : List Numbered) → IsSame p (back_alone p aim held)
-alone_same p aim held = either p p.more _ _ refl (done_same p aim held)
+alone_same p aim held = either p _ _ _ refl (done_same p aim held)
 
 shown_same : (p : PollState) (aim : Aim) (held rs : List Numbered) (seen : Shown) → IsSame p (back_shown p aim held rs seen)
 shown_same p aim held rs shown.Equal = either p _ _ _ (alone_same p aim held) (more_same p aim rs)
@@ -165,17 +189,20 @@ back_by_same p aim held rs None = done_same p aim held
 back_by_same p aim held rs (Some last) =
     either p _ _ _ (shown_same p aim held rs (shown_last (first_in held) last)) (more_same p aim rs)
 
+back_same : (p : PollState) (aim : Aim) (held rs : List Numbered) → IsSame p (back p aim held rs)
+back_same p aim held rs = either p _ _ _ (back_by_same (went_back p rs) aim held rs (last_in rs)) refl
+
 -- ---- the known records
 
-nowhere_same : (p : PollState) (done alone : Bool) (held : Numbered) → IsSame p (goes_nowhere p done alone held)
-nowhere_same p done alone held = either p done _ _ refl (either p alone _ _ refl refl)
+nowhere_same : (p : PollState) (done alone : Bool) → IsSame p (goes_nowhere p done alone)
+nowhere_same p done alone = either p done _ _ refl (either p alone _ _ refl refl)
 
-goes_on_same : (p : PollState) (reply : Reply) (held : Numbered) (news : List Numbered) → IsSame p (goes_on p reply held news)
-goes_on_same p reply held news = either p _ _ _ (nowhere_same p _ _ held) (brings_same p news (last_in news))
+goes_on_same : (p : PollState) (reply : Reply) (news : List Numbered) → IsSame p (goes_on p reply news)
+goes_on_same p reply news = either p _ _ _ (nowhere_same p _ _) (brings_same p news (last_in news))
 
 joined_same : (p : PollState) (kept : KeptAs) (reply : Reply) (o : Option Numbered) → IsSame p (joined p kept reply o)
 joined_same p kept reply None = refl
-joined_same p kept reply (Some held) = goes_on_same (confirmed p) reply held (records_behind kept.number reply.records)
+joined_same p kept reply (Some held) = goes_on_same (found p held) reply (records_behind kept.number reply.records)
 
 joins_from_same : (p : PollState) (reply : Reply) (o : Option KeptAs) → IsSame p (joins_from p reply o)
 joins_from_same p reply None = refl
@@ -184,7 +211,7 @@ joins_from_same p reply (Some kept) = joined_same p kept reply (record_at kept.n
 joins_by_same : (p : PollState) (reply : Reply) (m : Means) → IsSame p (joins_by p reply m)
 joins_by_same p reply Unshown = refl
 joins_by_same p reply Same = joins_from_same p reply p.newest
-joins_by_same p reply (Shifted by) = hour_same p by (joins_from p reply p.newest) (joins_from_same p reply p.newest)
+joins_by_same p reply (Shifted by) = hour_same p by (hour p by) (joins_from p reply p.newest) (joins_from_same p reply p.newest)
 joins_by_same p reply Partly = each_asks p [] (number_in p.newest)
 joins_by_same p reply Another = another_same p
 
@@ -211,6 +238,9 @@ lost_ahead_same : (p : PollState) (seen : Shown) (o : Option Numbered) → IsSam
 lost_ahead_same p seen None = lost_same p seen
 lost_ahead_same p seen (Some last) = lost_same (standing_at p _) seen
 
+moved_same : (p : PollState) (held : List Numbered) (seen : Shown) → IsSame p (moved_ahead p held seen)
+moved_same p held seen = either p _ _ _ (each_asks p [] (number_in p.newest)) (lost_ahead_same p seen (last_in held))
+
 brings_ahead_same : (p : PollState) (held : List Numbered) (o : Option Numbered) → IsSame p (brings_ahead p held o)
 brings_ahead_same p held None = refl
 brings_ahead_same p held (Some last) = refl
@@ -223,7 +253,7 @@ again_equal_same p held kept rs =
 again_by_same : (p : PollState) (held : List Numbered) (kept : KeptAs) (rs : List Numbered) (seen : Shown) → IsSame p (again_by p held kept rs seen)
 again_by_same p held kept rs shown.Equal = again_equal_same p held kept rs
 again_by_same p held kept rs shown.Unshown = lost_ahead_same p shown.Unshown (last_in held)
-again_by_same p held kept rs (shown.Moved by) = lost_ahead_same p (shown.Moved by) (last_in held)
+again_by_same p held kept rs (shown.Moved by) = moved_same p held (shown.Moved by)
 again_by_same p held kept rs shown.Another = lost_ahead_same p shown.Another (last_in held)
 
 again_from_same : (p : PollState) (held rs : List Numbered) (o : Option KeptAs) → IsSame p (again_from p held rs o)
@@ -232,7 +262,7 @@ again_from_same p held rs (Some kept) = again_by_same p held kept rs (shown_in (
 
 each_means_same : (p : PollState) (held : Numbered) (m : Means) → IsSame p (each_means p held m)
 each_means_same p held Same = refl
-each_means_same p held (Shifted by) = hour_same p by _ refl
+each_means_same p held (Shifted by) = hour_same p by _ _ refl
 each_means_same p held Unshown = another_same p
 each_means_same p held Partly = another_same p
 each_means_same p held Another = another_same p
@@ -255,17 +285,17 @@ each_by_same p held (Some one) = either p _ _ _ (each_next_same p (held ++ one �
 oldest_none_same : (p : PollState) (aim : Aim) → IsSame p (oldest_none p aim)
 oldest_none_same p Finds = refl
 oldest_none_same p Renews = refl
-oldest_none_same p Starts = either p _ _ _ (starts_same p []) refl
+oldest_none_same p Starts = either p _ _ _ (starts_none_same p) refl
 
 up_to_none_same : (p : PollState) (aim : Aim) → IsSame p (up_to_none p aim)
 up_to_none_same p Finds = word_same p []
 up_to_none_same p Renews = refl
 up_to_none_same p Starts = starts_same p []
 
-came_same : (p : PollState) (aim : Aim) (rs : List Numbered) → IsSame p (came p aim rs)
-came_same p Finds rs = sees_same_log p true rs
-came_same p Renews rs = renews_same p rs
-came_same p Starts rs = starts_by_same p rs
+came_same : (p : PollState) (aim : Aim) (cut : Bool) (rs : List Numbered) → IsSame p (came p aim cut rs)
+came_same p Finds cut rs = sees_same_log p true cut rs
+came_same p Renews cut rs = renews_same p rs
+came_same p Starts cut rs = starts_by_same p rs
 
 stage_same : (p : PollState) (s : Stage) (held : List Numbered) (reply : Reply) → IsSame p (at_stage p s held reply)
 stage_same p stage.Joins held reply = joins_by_same p reply (means_in p reply.records)
@@ -273,9 +303,10 @@ stage_same p stage.Prior held reply = prior_same p reply.records
 stage_same p stage.Ahead held reply = ahead_same p reply.records
 stage_same p stage.Again held reply = again_from_same p held reply.records p.newest
 stage_same p stage.Each held reply = each_by_same p held (first_in reply.records)
-stage_same p (stage.Oldest aim) held reply = either p _ _ _ (oldest_none_same p aim) (came_same p aim reply.records)
-stage_same p (stage.UpTo aim) held reply = either p _ _ _ (up_to_none_same p aim) (came_same p aim reply.records)
-stage_same p (stage.Back aim) held reply = back_by_same p aim held reply.records (last_in reply.records)
+stage_same p stage.ByNumber held reply = by_number_same p held reply.records
+stage_same p (stage.Oldest aim) held reply = either p _ _ _ (oldest_none_same p aim) (came_same p aim _ reply.records)
+stage_same p (stage.UpTo aim) held reply = either p _ _ _ (up_to_none_same p aim) (came_same p aim false reply.records)
+stage_same p (stage.Back aim) held reply = back_same p aim held reply.records
 stage_same p (stage.Counts aim) held reply = refl
 stage_same p stage.Revision held reply = refl
 stage_same p stage.Restart held reply = refl
@@ -289,17 +320,18 @@ after_same p datagram = heard_same p (reply_in p datagram)
 
 renews_by_same : (p : PollState) (count : Option ℕ) → IsSame p (renews_by p count)
 renews_by_same p None = refl
-renews_by_same p (Some total) = either p _ _ _ refl refl
+renews_by_same p (Some total) = renews_of_same p total
 
 count_same : (p : PollState) (s : Stage) (count : Option ℕ) → IsSame p (count_at p s count)
 count_same p (stage.Counts Finds) count = counted_same (record p { more = false }) count
 count_same p (stage.Counts Renews) count = renews_by_same p count
-count_same p (stage.Counts Starts) count = starts_from_same p p.begins count
+count_same p (stage.Counts Starts) count = starts_from_same p count
 count_same p stage.Joins count = refl
 count_same p stage.Prior count = refl
 count_same p stage.Ahead count = refl
 count_same p stage.Again count = refl
 count_same p stage.Each count = refl
+count_same p stage.ByNumber count = refl
 count_same p (stage.Oldest aim) count = refl
 count_same p (stage.UpTo aim) count = refl
 count_same p (stage.Back aim) count = refl

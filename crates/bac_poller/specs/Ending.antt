@@ -5,8 +5,10 @@ use Rattle.bac_query.specs.Ends.{refusal_text}
 use Rattle.bac_walk.specs.declared.outcome.WalkFault.TheVariants.{BadReply, Lost, Refused}
 use Rattle.bac_poll.specs.Turns.{number_before}
 use Rattle.bac_poll.specs.declared.turn.Line.{Line}
-use Rattle.bac_poll.specs.declared.turn.Line.TheVariants.{AtHour, BeganAnew, BeganOrDropped, DroppedOrBegan}
-use Rattle.bac_poll.specs.declared.turn.PollEnd.TheVariants.{CaughtUp, Contradicts, Fault, SaysMore, ShowsNone}
+use Rattle.bac_poll.specs.declared.turn.Line.TheVariants.{AtHour, AtHourOrBegan, BeganAnew, BeganOrDropped}
+use Rattle.bac_poll.specs.declared.turn.Line.TheVariants.{DroppedOrBegan}
+use Rattle.bac_poll.specs.declared.turn.PollEnd.TheVariants.{CaughtUp, Contradicts, Fault, NoneByNumber}
+use Rattle.bac_poll.specs.declared.turn.PollEnd.TheVariants.{SaysMore, ShowsNone}
 use Rattle.bac_poller.specs.declared.counts.Counts.{Counts}
 use Rattle.bac_poller.specs.declared.log_poller.Ending.{Ending}
 use Rattle.bac_poller.specs.declared.log_poller.Ending.TheVariants.{Poll, Epochs, NotAsked}
@@ -38,6 +40,7 @@ doubt_line first before = if first == before then on_text first else gone_text f
 -- what is told while it is polled
 abbrev pub line_text : Line → List ℕ
 line_text (AtHour by) = hour_text by
+line_text (AtHourOrBegan by) = hour_text by ++ codes ", or began anew"
 line_text BeganAnew = codes "began anew"
 line_text BeganOrDropped = codes "began anew, or dropped records"
 line_text (DroppedOrBegan first before) = doubt_line first before
@@ -47,6 +50,7 @@ abbrev pub ending_text : Ending → List ℕ
 ending_text (Poll CaughtUp) = codes "caught up"
 ending_text (Poll SaysMore) = codes "shows no more, though it says that more is there"
 ending_text (Poll ShowsNone) = codes "shows no record, and refuses its count"
+ending_text (Poll NoneByNumber) = codes "shows no record by number, and more by time than it can send at once"
 ending_text (Poll Contradicts) = codes "its records contradict each other"
 ending_text (Poll (Fault Lost)) = codes "lost"
 ending_text (Poll (Fault (Refused refusal))) = refusal_text refusal
@@ -77,6 +81,7 @@ abbrev pub is_caught_up : Ending → Bool
 is_caught_up (Poll CaughtUp) = true
 is_caught_up (Poll SaysMore) = false
 is_caught_up (Poll ShowsNone) = false
+is_caught_up (Poll NoneByNumber) = false
 is_caught_up (Poll Contradicts) = false
 is_caught_up (Poll (Fault fault)) = false
 is_caught_up Epochs = false

@@ -50,6 +50,7 @@ wanted_at stage.Prior = Records
 wanted_at stage.Ahead = Records
 wanted_at stage.Again = Records
 wanted_at stage.Each = Records
+wanted_at stage.ByNumber = Records
 wanted_at (stage.Oldest aim) = Records
 wanted_at (stage.Counts aim) = Count
 wanted_at (stage.UpTo aim) = Records

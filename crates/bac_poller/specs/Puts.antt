@@ -15,7 +15,8 @@ use Rattle.bac_poll.specs.State.{kept_of}
 use Rattle.bac_poll.specs.Turns.{Turned}
 use Rattle.bac_poll.specs.declared.turn.Beginning.{Beginning}
 use Rattle.bac_poll.specs.declared.turn.Line.{Line}
-use Rattle.bac_poll.specs.declared.turn.Line.TheVariants.{AtHour, BeganAnew, BeganOrDropped, DroppedOrBegan}
+use Rattle.bac_poll.specs.declared.turn.Line.TheVariants.{AtHour, AtHourOrBegan, BeganAnew, BeganOrDropped}
+use Rattle.bac_poll.specs.declared.turn.Line.TheVariants.{DroppedOrBegan}
 
 -- ---- a put
 
@@ -45,14 +46,14 @@ era_of s = s.log * 32768 + s.epoch
 abbrev pub with_put : Puts → PutAs → Puts
 with_put s put = record s { puts = s.puts ++ put ∷ [] }
 
--- a new item; a new beginning
+-- a new item; a beginning, new or in place of the one that was counted
 abbrev pub with_item : Puts → Values → Puts
 with_item s columns = with_put s (record { tree = 5; is_new = true; columns = columns })
 
-abbrev pub with_beginning : Puts → (number : ℕ) → (why : Option (List ℕ)) → Puts
-with_beginning s number why = with_put s (record {
+abbrev pub with_beginning : Puts → (is_new : Bool) → (number : ℕ) → (why : Option (List ℕ)) → Puts
+with_beginning s is_new number why = with_put s (record {
   tree = 6;
-  is_new = true;
+  is_new = is_new;
   columns = Int (pos (era_of s)) ∷ Int (pos number) ∷ or_null Text why ∷ [];
 })
 
@@ -76,7 +77,7 @@ gap_columns era first last doubtful = Int (pos (key era first)) ∷ Int (pos las
 
 -- an epoch begins, from 1 on
 abbrev pub with_epoch : Puts → (why : List ℕ) → Puts
-with_epoch s why = with_beginning (record s { epoch = s.epoch + 1 }) 1 (Some why)
+with_epoch s why = with_beginning (record s { epoch = s.epoch + 1 }) true 1 (Some why)
 
 -- its numbers came round (clause 12.25)
 abbrev pub with_round : Puts → Puts
@@ -111,16 +112,21 @@ abbrev pub with_records : Puts → List Numbered → Puts
 with_records s [] = s
 with_records s (held ∷ others) = with_records (with_record s held) others
 
--- the beginning of the first epoch; one that is known by the count alone isn't put, since it couldn't be lowered
+-- why the first epoch begins there: the count alone told it, or nothing is to be said
+abbrev pub why_first : Bool → Option (List ℕ)
+why_first counted = if counted then Some (codes "counted") else None
+
+-- the beginning of the first epoch: a new one by the count alone, and with the first records another in place of that
 abbrev pub with_first : Puts → Option Beginning → Puts
 with_first s None = s
-with_first s (Some begins) = if begins.counted then s else with_beginning s begins.number None
+with_first s (Some begins) = with_beginning s begins.counted begins.number (why_first begins.counted)
 
 -- why an epoch begins, by what is told of it
 abbrev pub why_anew : Option Line → List ℕ
 why_anew (Some BeganOrDropped) = codes "began anew, or dropped records"
 why_anew (Some BeganAnew) = codes "began anew"
 why_anew (Some (AtHour by)) = codes "began anew"
+why_anew (Some (AtHourOrBegan by)) = codes "began anew"
 why_anew (Some (DroppedOrBegan first before)) = codes "began anew"
 why_anew None = codes "began anew"
 

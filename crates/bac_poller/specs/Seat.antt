@@ -5,7 +5,8 @@ use Rattle.std.specs.Str.{bytes_eq}
 use Rattle.bac_link.specs.Transactions.{closed}
 use Rattle.bac_link.specs.declared.transactions.Pending.{Pending}
 use Rattle.bac_link.specs.declared.transactions.Timeout.TheVariants.{GaveUp}
-use Rattle.bac_poll.specs.declared.turn.PollEnd.TheVariants.{CaughtUp, Contradicts, Fault, SaysMore, ShowsNone}
+use Rattle.bac_poll.specs.declared.turn.PollEnd.TheVariants.{CaughtUp, Contradicts, Fault, NoneByNumber, SaysMore}
+use Rattle.bac_poll.specs.declared.turn.PollEnd.TheVariants.{ShowsNone}
 use Rattle.bac_walk.specs.declared.outcome.WalkFault.TheVariants as walk
 use Rattle.bac_poller.specs.Counts.{no_counts}
 use Rattle.bac_poller.specs.Poller.{doing_after, is_answer}
@@ -93,6 +94,7 @@ abbrev pub is_lost : Ending → Bool
 is_lost (Poll CaughtUp) = false
 is_lost (Poll SaysMore) = false
 is_lost (Poll ShowsNone) = false
+is_lost (Poll NoneByNumber) = false
 is_lost (Poll Contradicts) = false
 is_lost (Poll (Fault walk.Lost)) = true
 is_lost (Poll (Fault (walk.Refused refusal))) = false

@@ -89,6 +89,10 @@ fn push_line(text: &mut Vec<u8>, line: Line) -> Result<(), AllocError>
 {
     match line {
         Line::AtHour(by) => push_hour(text, by),
+        Line::AtHourOrBegan(by) => {
+            push_hour(text, by)?;
+            text.extend_from_slice(b", or began anew")
+        }
         Line::BeganAnew => text.extend_from_slice(b"began anew"),
         Line::BeganOrDropped => text.extend_from_slice(b"began anew, or dropped records"),
         Line::DroppedOrBegan(first, before) => push_doubt(text, first, before),
@@ -107,6 +111,9 @@ fn push_ending(text: &mut Vec<u8>, why: Ending) -> Result<(), AllocError>
         Ending::Poll(PollEnd::ShowsNone) => {
             text.extend_from_slice(b"shows no record, and refuses its count")
         }
+        Ending::Poll(PollEnd::NoneByNumber) => text.extend_from_slice(
+            b"shows no record by number, and more by time than it can send at once",
+        ),
         Ending::Poll(PollEnd::Contradicts) => {
             text.extend_from_slice(b"its records contradict each other")
         }
@@ -175,6 +182,7 @@ pub fn is_caught_up(why: Ending) -> bool
         Ending::Poll(PollEnd::CaughtUp) => true,
         Ending::Poll(PollEnd::SaysMore) => false,
         Ending::Poll(PollEnd::ShowsNone) => false,
+        Ending::Poll(PollEnd::NoneByNumber) => false,
         Ending::Poll(PollEnd::Contradicts) => false,
         Ending::Poll(PollEnd::Fault(_)) => false,
         Ending::Epochs => false,

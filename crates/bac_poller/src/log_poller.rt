@@ -341,6 +341,7 @@ fn wanted_at(stage: Stage) -> Wanted
         Stage::Ahead => Wanted::Records,
         Stage::Again => Wanted::Records,
         Stage::Each => Wanted::Records,
+        Stage::ByNumber => Wanted::Records,
         Stage::Oldest(_) => Wanted::Records,
         Stage::Counts(_) => Wanted::Count,
         Stage::UpTo(_) => Wanted::Records,

@@ -1,6 +1,6 @@
 //! What is put of a turn.
 
-ghost use Rattle.std.specs.Prelude.{◌≡◌, IfOk, OnOk};
+ghost use Rattle.std.specs.Prelude.{◌≡◌, IfOk, OnOk, None, Some, true, false};
 ghost use Rattle.bac_archive3.specs.Put.{item_columns};
 ghost use Rattle.bac_keep.specs.Items.{era};
 ghost use Rattle.bac_poll.specs.State.{PollState};
@@ -112,6 +112,7 @@ fn why_anew(line: Option<Line>) -> &'static str
         Some(Line::BeganOrDropped) => "began anew, or dropped records",
         Some(Line::BeganAnew) => "began anew",
         Some(Line::AtHour(_)) => "began anew",
+        Some(Line::AtHourOrBegan(_)) => "began anew",
         Some(Line::DroppedOrBegan(_, _)) => "began anew",
         None => "began anew",
     }
@@ -137,12 +138,12 @@ impl Putting {
         }
     }
 
-    /// The first epoch begins.
-    fn begin(&mut self, number: u32) -> Result<(), NotPut>
-        ensures { OnOk result (self.new ≡ with_beginning self.old number None) }
+    /// The first epoch begins there, and not where the count had it begin.
+    fn lower(&mut self, number: u32) -> Result<(), NotPut>
+        ensures { OnOk result (self.new ≡ with_beginning self.old false number None) }
     {
         let id = u32::from(self.place.log) * 32768 + u32::from(self.place.epoch);
-        self.push(Put::Beginning(BeginningRow {
+        self.push(Put::Lowered(BeginningRow {
             id,
             number,
             why: None,
@@ -150,8 +151,8 @@ impl Putting {
     }
 
     /// An epoch begins where the log stands, for a reason.
-    fn begin_for(&mut self, alloc: Global, why: &str) -> Result<(), NotPut>
-        ensures { OnOk result (self.new ≡ with_beginning self.old 1 (Some why.now)) }
+    fn begin_for(&mut self, alloc: Global, number: u32, why: &str) -> Result<(), NotPut>
+        ensures { OnOk result (self.new ≡ with_beginning self.old true number (Some why.now)) }
     {
         let id = u32::from(self.place.log) * 32768 + u32::from(self.place.epoch);
         let Ok(why) = String::from_str(alloc, why) else {
@@ -159,7 +160,7 @@ impl Putting {
         };
         self.push(Put::Beginning(BeginningRow {
             id,
-            number: 1,
+            number,
             why: Some(why),
         }))
     }
@@ -172,7 +173,7 @@ impl Putting {
             return Err(NotPut::Epochs);
         };
         self.place = place;
-        self.begin_for(alloc, why)
+        self.begin_for(alloc, 1, why)
     }
 
     /// Its numbers came round.
@@ -255,15 +256,15 @@ impl Putting {
     }
 
     /// The beginning of the first epoch.
-    fn push_first(&mut self, begins: Option<Beginning>) -> Result<(), NotPut>
+    fn push_first(&mut self, alloc: Global, begins: Option<Beginning>) -> Result<(), NotPut>
         ensures { OnOk result (self.new ≡ with_first self.old begins) }
     {
         match begins {
             Some(begins) => {
                 if begins.counted {
-                    return Ok(());
+                    return self.begin_for(alloc, begins.number, "counted");
                 }
-                self.begin(begins.number)
+                self.lower(begins.number)
             }
             None => Ok(()),
         }
@@ -283,7 +284,7 @@ impl Putting {
     pub fn push_turn(&mut self, alloc: Global, turn: &Turn) -> Result<(), NotPut>
         ensures { OnOk result ((p : PollState) → self.new ≡ with_turn self.old (turned p turn.now)) }
     {
-        self.push_first(turn.begins)?;
+        self.push_first(alloc, turn.begins)?;
         self.push_gaps(alloc, turn.doubtful, turn.missing)?;
         self.push_anew(alloc, turn.anew, turn.line)?;
         self.push_gaps(alloc, false, turn.gap)?;

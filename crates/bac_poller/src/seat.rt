@@ -73,6 +73,7 @@ fn is_lost(why: Ending) -> bool
         Ending::Poll(PollEnd::CaughtUp) => false,
         Ending::Poll(PollEnd::SaysMore) => false,
         Ending::Poll(PollEnd::ShowsNone) => false,
+        Ending::Poll(PollEnd::NoneByNumber) => false,
         Ending::Poll(PollEnd::Contradicts) => false,
         Ending::Poll(PollEnd::Fault(WalkFault::Lost)) => true,
         Ending::Poll(PollEnd::Fault(WalkFault::Refused(_))) => false,

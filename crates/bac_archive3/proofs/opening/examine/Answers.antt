@@ -24,8 +24,8 @@ returns-then-not-are_in_range-clause-range g c clean is all =
     let trees = (state g.S.Store c.args.conn.now).now.trees in
     let tables = c.in-Ok.tables in
     let holds = c.if-not-are_in_range.ensures.1 (
-      in_range_of 11 65536 (trees 1) tables.devices.items are.devices.each all.devices,
-      in_range_of 7 65536 (trees 3) tables.logs.items are.logs.each all.logs,
+      in_range_of 10 65536 (trees 1) tables.devices.items are.devices.each all.devices,
+      in_range_of 9 65536 (trees 3) tables.logs.items are.logs.each all.logs,
       in_range_of 2 2147483648 (trees 6) tables.beginnings.items are.beginnings.each all.beginnings,
     ) in
     search rules
@@ -73,8 +73,8 @@ returns-clause-archive g c clean =
     let ours : IsOfVersion (trees 0) = tells_version (trees 0) tables.archive.items are.archive.each ((rw c.as_slice.ensures.value at c.if-not-is_version_row.ensures).0 (search rules)) in
     let below = c.if-not-are_in_range.ensures.0 (search rules) in
     let ranged : AreInRange trees = record {
-      devices = in_range_by 11 65536 (trees 1) tables.devices.items are.devices.each below.0;
-      logs = in_range_by 7 65536 (trees 3) tables.logs.items are.logs.each below.1;
+      devices = in_range_by 10 65536 (trees 1) tables.devices.items are.devices.each below.0;
+      logs = in_range_by 9 65536 (trees 3) tables.logs.items are.logs.each below.1;
       beginnings = in_range_by 2 2147483648 (trees 6) tables.beginnings.items are.beginnings.each below.2;
     } in
     let apart : LieApart (mid.now.trees 5) = c.in-Ok-Whole.ensures.apart clean c.in-Ok-Whole.field-0-is in

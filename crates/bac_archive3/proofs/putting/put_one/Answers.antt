@@ -15,5 +15,8 @@ returns-in-Log-clause-runs g c clean mode = rw c.in-Log.is (rw c.log_bound-in-Lo
 pub returns-in-Beginning-clause-runs : goal.returns-in-Beginning-clause-runs
 returns-in-Beginning-clause-runs g c clean mode = rw c.in-Beginning.is (rw c.beginning_bound.ensures at (c.execute-in-Beginning.ensures.runs clean mode))
 
+pub returns-in-Lowered-clause-runs : goal.returns-in-Lowered-clause-runs
+returns-in-Lowered-clause-runs g c clean mode = rw c.in-Lowered.is (rw c.beginning_bound-in-Lowered.ensures at (c.execute-in-Lowered.ensures.runs clean mode))
+
 pub returns-in-Item-clause-runs : goal.returns-in-Item-clause-runs
 returns-in-Item-clause-runs g c clean mode = rw c.in-Item.is (rw c.item_bound.ensures at (c.execute-in-Item.ensures.runs clean mode))

@@ -21,20 +21,17 @@ returns-in_err-instance-clause-cause c = got c.from_residual-in_err-instance.res
 pub returns-in_err-name-clause-cause : goal.returns-in_err-name-clause-cause
 returns-in_err-name-clause-cause c = got c.from_residual-in_err-name.result device_kinds 5 (or_none characters) c.args.row.now _ c.in_err-name.field-0.0 (search rules) refl (λ is. is) c.in_err-name.ensures.named c.in_err-name.ensures.kind
 
-pub returns-in_err-restart-clause-cause : goal.returns-in_err-restart-clause-cause
-returns-in_err-restart-clause-cause c = got c.from_residual-in_err-restart.result device_kinds 6 (or_none characters) c.args.row.now _ c.in_err-restart.field-0.0 (search rules) refl (λ is. is) c.in_err-restart.ensures.named c.in_err-restart.ensures.kind
-
 pub returns-in_err-revision-clause-cause : goal.returns-in_err-revision-clause-cause
-returns-in_err-revision-clause-cause c = got c.from_residual-in_err-revision.result device_kinds 7 (or_none (below numbers)) c.args.row.now _ c.in_err-revision.field-0.0 (search rules) refl (λ is. is) c.in_err-revision.ensures.named c.in_err-revision.ensures.kind
+returns-in_err-revision-clause-cause c = got c.from_residual-in_err-revision.result device_kinds 6 (or_none (below numbers)) c.args.row.now _ c.in_err-revision.field-0.0 (search rules) refl (λ is. is) c.in_err-revision.ensures.named c.in_err-revision.ensures.kind
 
 pub returns-in_err-whole-clause-cause : goal.returns-in_err-whole-clause-cause
-returns-in_err-whole-clause-cause c = got_by c.from_residual-in_err-whole.result device_kinds 8 (below 2) c.args.row.now c.in_err-whole.field-0.0 (search rules) refl c.in_err-whole.ensures.cause
+returns-in_err-whole-clause-cause c = got_by c.from_residual-in_err-whole.result device_kinds 7 (below 2) c.args.row.now c.in_err-whole.field-0.0 (search rules) refl c.in_err-whole.ensures.cause
 
 pub returns-in_err-stopped-clause-cause : goal.returns-in_err-stopped-clause-cause
-returns-in_err-stopped-clause-cause c = got_by c.from_residual-in_err-stopped.result device_kinds 9 (below 2) c.args.row.now c.in_err-stopped.field-0.0 (search rules) refl c.in_err-stopped.ensures.cause
+returns-in_err-stopped-clause-cause c = got_by c.from_residual-in_err-stopped.result device_kinds 8 (below 2) c.args.row.now c.in_err-stopped.field-0.0 (search rules) refl c.in_err-stopped.ensures.cause
 
 pub returns-in_err-answered-clause-cause : goal.returns-in_err-answered-clause-cause
-returns-in_err-answered-clause-cause c = got c.from_residual-in_err-answered.result device_kinds 10 (or_none characters) c.args.row.now _ c.in_err-answered.field-0.0 (search rules) refl (λ is. is) c.in_err-answered.ensures.named c.in_err-answered.ensures.kind
+returns-in_err-answered-clause-cause c = got c.from_residual-in_err-answered.result device_kinds 9 (or_none characters) c.args.row.now _ c.in_err-answered.field-0.0 (search rules) refl (λ is. is) c.in_err-answered.ensures.named c.in_err-answered.ensures.kind
 
 pub returns-in_err-offset-clause-cause : goal.returns-in_err-offset-clause-cause
-returns-in_err-offset-clause-cause c = got c.from_residual-in_err-offset.result device_kinds 11 (or_none whole) c.args.row.now _ c.in_err-offset.field-0.0 (search rules) refl (λ is. is) c.in_err-offset.ensures.named c.in_err-offset.ensures.kind
+returns-in_err-offset-clause-cause c = got c.from_residual-in_err-offset.result device_kinds 10 (or_none whole) c.args.row.now _ c.in_err-offset.field-0.0 (search rules) refl (λ is. is) c.in_err-offset.ensures.named c.in_err-offset.ensures.kind

@@ -7,4 +7,4 @@ use Rattle.bac_archive3.proofs.reading.devices_of.Goals as goal
 pub loop-row-preserved : goal.loop-row-preserved
 loop-row-preserved c =
     ap (map device_columns) c.in_ok-push.ensures.items
-    ∙ one_read device_columns (first 12) c.loop-row.all.items c.in_ok-device_of.field-0 c.args.rows.now c.loop-row.row-index c.row-item.result (search rules) (search rules) c.loop-row.invariant c.in_ok-device_of.ensures.read
+    ∙ one_read device_columns (first 11) c.loop-row.all.items c.in_ok-device_of.field-0 c.args.rows.now c.loop-row.row-index c.row-item.result (search rules) (search rules) c.loop-row.invariant c.in_ok-device_of.ensures.read

@@ -24,5 +24,11 @@ returns-in_err-units-clause-cause c = got c.from_residual-in_err-units.result lo
 pub returns-in_err-description-clause-cause : goal.returns-in_err-description-clause-cause
 returns-in_err-description-clause-cause c = got c.from_residual-in_err-description.result log_kinds 6 (or_none characters) c.args.row.now _ c.in_err-description.field-0.0 (search rules) refl (λ is. is) c.in_err-description.ensures.named c.in_err-description.ensures.kind
 
+pub returns-in_err-restart-clause-cause : goal.returns-in_err-restart-clause-cause
+returns-in_err-restart-clause-cause c = got c.from_residual-in_err-restart.result log_kinds 7 (or_none characters) c.args.row.now _ c.in_err-restart.field-0.0 (search rules) refl (λ is. is) c.in_err-restart.ensures.named c.in_err-restart.ensures.kind
+
+pub returns-in_err-revision-clause-cause : goal.returns-in_err-revision-clause-cause
+returns-in_err-revision-clause-cause c = got c.from_residual-in_err-revision.result log_kinds 8 (or_none (below numbers)) c.args.row.now _ c.in_err-revision.field-0.0 (search rules) refl (λ is. is) c.in_err-revision.ensures.named c.in_err-revision.ensures.kind
+
 pub returns-in_err-stopped-clause-cause : goal.returns-in_err-stopped-clause-cause
-returns-in_err-stopped-clause-cause c = got_by c.from_residual-in_err-stopped.result log_kinds 7 (below 2) c.args.row.now c.in_err-stopped.field-0.0 (search rules) refl c.in_err-stopped.ensures.cause
+returns-in_err-stopped-clause-cause c = got_by c.from_residual-in_err-stopped.result log_kinds 9 (below 2) c.args.row.now c.in_err-stopped.field-0.0 (search rules) refl c.in_err-stopped.ensures.cause

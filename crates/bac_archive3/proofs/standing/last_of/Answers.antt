@@ -1,11 +1,11 @@
-use Rattle.std.proofs.Common.{◌+◌, map, take, drop, true, ap, sym, subst, refl, rules, arith}
+use Rattle.std.proofs.Common.{◌+◌, ◌/◌, List, map, take, drop, true, ap, sym, subst, refl, rules, arith}
 use Rattle.std.specs.List.{Contains}
 use Rattle.std.specs.List.Sorted.{IsSorted}
 use Rattle.std.proofs.lemmas.List.{take_all}
 use Rattle.sqlite_value.specs.Order.{column}
 use Rattle.bac_archive3.specs.Ask.{falls, first}
 use Rattle.bac_archive3.specs.Put.{beginning_columns}
-use Rattle.bac_archive3.specs.Stands.{epochs, TellsFirst}
+use Rattle.bac_archive3.specs.Stands.{Meets, epochs, TellsFirst}
 use Rattle.bac_archive3.proofs.NewestLemmas.{Told, told_nothing, told_more_row}
 use Rattle.bac_archive3.proofs.ReadLemmas.{one_more_row, with_rest}
 use Rattle.bac_archive3.proofs.standing.last_of.Goals as goal
@@ -21,8 +21,8 @@ loop-row-preserved c sorted =
     let b = c.in_ok-beginning_of.field-0 in
     let read = c.in_ok-beginning_of.ensures.read in
     subst (λ l. Told epochs 1 (λ _. true) beginning_columns (first 3) l c.in_ok-found.found) (one_more_row rows k row (search rules) (search rules))
-    (told_more_row epochs 1 (λ _. true) beginning_columns (first 3) (λ x y le. omega (arith, le)) (λ r. refl) (omega arith) (take k rows) (drop (k + 1) rows) row b.id b true c.loop-row.found c.in_ok-found.found
-    (subst (IsSorted falls) (with_rest rows k row (search rules) (search rules)) sorted) (sym (ap (λ r. column r 0) read)) read (λ _. refl) c.in_ok-found.ensures.meets (c.loop-row.invariant sorted))
+    (told_more_row epochs 1 (λ _. true) beginning_columns (first 3) (λ x y le. omega (arith, le)) (λ r. refl) (omega arith) (take k rows) (drop (k + 1) rows) row b.id true c.loop-row.found c.in_ok-found.found
+    (subst (IsSorted falls) (with_rest rows k row (search rules) (search rules)) sorted) (sym (ap (λ r. column r 0) read)) (λ _. refl) (subst (λ (v : List _). Meets beginning_columns 1 (b.id / epochs) true c.loop-row.found v c.in_ok-found.found) read c.in_ok-found.ensures.meets) (c.loop-row.invariant sorted))
 
 pub returns-clause-told : goal.returns-clause-told
 returns-clause-told c sorted =

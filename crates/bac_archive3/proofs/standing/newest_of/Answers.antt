@@ -10,7 +10,7 @@ use Rattle.bac_archive3.specs.Schema.{HasArchive}
 use Rattle.bac_archive3.specs.Ask.{IsLeft, asked, falls, first, shown}
 use Rattle.bac_archive3.specs.Put.{item_columns}
 use Rattle.bac_archive3.specs.Read.{FailsToRead, item_kinds, numbers}
-use Rattle.bac_archive3.specs.Stands.{FailsToTell, TellsNewest, is_last}
+use Rattle.bac_archive3.specs.Stands.{FailsToTell, Meets, TellsNewest, is_last}
 use Rattle.bac_archive3.specs.declared.asking.Question.TheVariants.{Items}
 use Rattle.sqlite_value.specs.declared.value.Value.TheVariants.{Int}
 use Rattle.bac_archive3.proofs.AskLemmas.{answers, answers_first, left_behind, left_by, commits_nothing, plain, same_length}
@@ -54,7 +54,7 @@ rows-init g c =
       λ clean.
           let early : HasCleanDisk old = omega (arith, clean, made.survives.clean) in
           let begun = begun_plain g.S.Store (asked Items) [] c.args.conn.now c.in_ok-rows.rows.conn.now (plain Items old (c.requires early)) (made.begun clean) in
-          (([], begun.0, told_nothing numbers 10 (is_last c.args.last.now) item_columns (first 6) _ (search rules) refl (omega arith), refl), begun.1),
+          (([], begun.0, told_nothing numbers 3 (is_last c.args.last.now) item_columns (first 6) _ (search rules) refl (omega arith), refl), begun.1),
     )
 
 one_longer : {X : Type 0} (xs : List X) (x : X) (n : ℕ) → length xs ≡ n → length (xs ++ x ∷ []) ≡ n + 1
@@ -77,11 +77,10 @@ rows-preserved g c =
           let has = subst (λ (d : Database). HasArchive d.schema) (sym step.0.now_is) (c.requires (omega (arith, clean_mid, c.rows.invariant.1.clean))) in
           let all = answers_first Items (state g.S.Store new) (was.0.0 ++ row ∷ []) has (given_begin g.S.Store (asked Items) [] new _ given) in
           let sorted = subst (IsSorted falls) (joined was.0.0 row all.0) (all.1.falling (inr refl)) in
-          let id = c.in_ok-item.ensures.id in
-          let read = c.in_ok-item.ensures.read in
-          let meets = c.in_ok-found.ensures.meets id.0 id.1 in
-          let told = told_more_row numbers 10 (is_last c.args.last.now) item_columns (first 6) (λ x y le. omega (arith, le)) (λ r. refl) (omega arith) was.0.0 all.0 row id.0 c.in_ok-item.item meets.0 c.rows.found c.in_ok-found.found
-          sorted (sym (ap (λ r. column r 0) read) ∙ ap Int id.1) read meets.1 meets.2 was.0.2 in
+          let id = c.in_ok-epoch.ensures.read in
+          let meets = subst (λ (e : ℕ). Meets item_columns 3 e (is_last c.args.last.now e) c.rows.found (first 6 row) c.in_ok-found.found) id.2 c.in_ok-found.ensures.meets in
+          let told = told_more_row numbers 3 (is_last c.args.last.now) item_columns (first 6) (λ x y le. omega (arith, le)) (λ r. refl) (omega arith) was.0.0 all.0 row id.0 _ c.rows.found c.in_ok-found.found
+          sorted id.1 (λ _. refl) meets was.0.2 in
           ((was.0.0 ++ row ∷ [], given, told, one_longer was.0.0 row c.rows.read was.0.3), step),
     )
 
@@ -97,8 +96,8 @@ returns-in_default-clause-told g c clean =
     let shown_all = (rw (c.in_ok-row.was, c.in_default.is) at (moved.ok late)) (asked Items) [] was.0.0 was.0.1 in
     let has = subst (λ (d : Database). HasArchive d.schema) (sym was.1.0.now_is) (c.requires (omega (arith, clean_mid, c.rows.invariant.1.clean))) in
     let all = answers Items mid (state g.S.Store now) was.0.0 has shown_all in
-    subst (λ (d : Database). TellsNewest numbers 10 (is_last c.args.last.now) (map (shown 5) (d.trees 5)) (map item_columns c.rows.found.rows.items)) was.1.0.now_is
-    (tells_newest numbers 10 (is_last c.args.last.now) (first 6) (shown 5) (λ r. refl) (λ r. refl) (mid.now.trees 5) was.0.0 (map item_columns c.rows.found.rows.items) all.each (all.falling (inr refl)) was.0.2.0.kept was.0.2.0.there)
+    subst (λ (d : Database). TellsNewest numbers 3 (is_last c.args.last.now) (map (shown 5) (d.trees 5)) (map item_columns c.rows.found.rows.items)) was.1.0.now_is
+    (tells_newest numbers 3 (is_last c.args.last.now) (first 6) (shown 5) (λ r. refl) (λ r. refl) (mid.now.trees 5) was.0.0 (map item_columns c.rows.found.rows.items) all.each (all.falling (inr refl)) was.0.2.0.kept was.0.2.0.there)
 
 pub returns-in_default-clause-same : goal.returns-in_default-clause-same
 returns-in_default-clause-same g c clean =
@@ -131,26 +130,6 @@ returns-in_default-clause-crash g c =
     let same : now ≡ c.conn-in_default-1.given.0 = search rules in
     subst (λ h. Survives old (state g.S.Store h) (λ _. ⊥)) same (survives_then old mid (state g.S.Store now) _ _ _ (λ _ db none. none) (λ _ db none. none) c.rows.invariant.1 moved.survives)
 
-pub returns-in_err-item-clause-left : goal.returns-in_err-item-clause-left
-returns-in_err-item-clause-left g c clean =
-    let old = state g.S.Store c.args.conn.now in
-    let mid = state g.S.Store c.rows.rows.conn.now in
-    let moved = c.next.follows.holds-at-none in
-    let now = c.next.follows.lender-at-none.conn.now in
-    let same : now ≡ c.conn-in_err-item-1.given.0 = search rules in
-    let late : HasCleanDisk (state g.S.Store now) = subst (λ h. HasCleanDisk (state g.S.Store h)) (sym same) clean in
-    let was = c.rows.invariant.2 (omega (arith, late, moved.survives.clean)) in
-    inl (subst (λ h. IsUnchanged old (state g.S.Store h)) same (unchanged_then old mid (state g.S.Store now) was.1 (rw c.in_ok-row.was at (moved.same late))))
-
-pub returns-in_err-item-clause-crash : goal.returns-in_err-item-clause-crash
-returns-in_err-item-clause-crash g c =
-    let old = state g.S.Store c.args.conn.now in
-    let mid = state g.S.Store c.rows.rows.conn.now in
-    let moved = c.next.follows.holds-at-none in
-    let now = c.next.follows.lender-at-none.conn.now in
-    let same : now ≡ c.conn-in_err-item-1.given.0 = search rules in
-    subst (λ h. Survives old (state g.S.Store h) (λ _. ⊥)) same (survives_then old mid (state g.S.Store now) _ _ _ (λ _ db none. none) (λ _ db none. none) c.rows.invariant.1 moved.survives)
-
 pub returns-in_err-found-clause-left : goal.returns-in_err-found-clause-left
 returns-in_err-found-clause-left g c clean =
     let old = state g.S.Store c.args.conn.now in
@@ -158,6 +137,17 @@ returns-in_err-found-clause-left g c clean =
     let moved = c.next.follows.holds-at-none in
     let now = c.next.follows.lender-at-none.conn.now in
     let same : now ≡ c.conn-in_err-found-1.given.0 = search rules in
+    let late : HasCleanDisk (state g.S.Store now) = subst (λ h. HasCleanDisk (state g.S.Store h)) (sym same) clean in
+    let was = c.rows.invariant.2 (omega (arith, late, moved.survives.clean)) in
+    inl (subst (λ h. IsUnchanged old (state g.S.Store h)) same (unchanged_then old mid (state g.S.Store now) was.1 (rw c.in_ok-row.was at (moved.same late))))
+
+pub returns-in_err-epoch-clause-left : goal.returns-in_err-epoch-clause-left
+returns-in_err-epoch-clause-left g c clean =
+    let old = state g.S.Store c.args.conn.now in
+    let mid = state g.S.Store c.rows.rows.conn.now in
+    let moved = c.next.follows.holds-at-none in
+    let now = c.next.follows.lender-at-none.conn.now in
+    let same : now ≡ c.conn-in_err-epoch-1.given.0 = search rules in
     let late : HasCleanDisk (state g.S.Store now) = subst (λ h. HasCleanDisk (state g.S.Store h)) (sym same) clean in
     let was = c.rows.invariant.2 (omega (arith, late, moved.survives.clean)) in
     inl (subst (λ h. IsUnchanged old (state g.S.Store h)) same (unchanged_then old mid (state g.S.Store now) was.1 (rw c.in_ok-row.was at (moved.same late))))
@@ -171,22 +161,14 @@ returns-in_err-found-clause-crash g c =
     let same : now ≡ c.conn-in_err-found-1.given.0 = search rules in
     subst (λ h. Survives old (state g.S.Store h) (λ _. ⊥)) same (survives_then old mid (state g.S.Store now) _ _ _ (λ _ db none. none) (λ _ db none. none) c.rows.invariant.1 moved.survives)
 
-pub returns-in_err-item-clause-cause : goal.returns-in_err-item-clause-cause
-returns-in_err-item-clause-cause g c clean =
+pub returns-in_err-epoch-clause-crash : goal.returns-in_err-epoch-clause-crash
+returns-in_err-epoch-clause-crash g c =
     let old = state g.S.Store c.args.conn.now in
     let mid = state g.S.Store c.rows.rows.conn.now in
     let moved = c.next.follows.holds-at-none in
     let now = c.next.follows.lender-at-none.conn.now in
-    let late : HasCleanDisk (state g.S.Store now) = search rules in
-    let clean_mid : HasCleanDisk mid = omega (arith, late, moved.survives.clean) in
-    let was = c.rows.invariant.2 clean_mid in
-    let given = (rw (c.in_ok-row.was, c.in-Some.is) at (moved.ok late)) (asked Items) [] was.0.0 was.0.1 in
-    let step = unchanged_then old mid (state g.S.Store now) was.1 (rw (c.in_ok-row.was) at (moved.same late)) in
-    let has = subst (λ (d : Database). HasArchive d.schema) (sym step.0.now_is) (c.requires (omega (arith, clean_mid, c.rows.invariant.1.clean))) in
-    let all = answers_first Items (state g.S.Store now) (was.0.0 ++ c.in-Some.row.now ∷ []) has (given_begin g.S.Store (asked Items) [] now _ given) in
-    let why : FailsToRead item_kinds c.in-Some.row.now c.in_err-item.field-0.0 = c.in_err-item.ensures.cause in
-    because c.from_residual-in_err-item.result c.in_err-item.field-0.0 _ (search rules)
-    (inr (inl (unread_item old.now.trees (state g.S.Store now).now.trees was.0.0 all.0 c.in-Some.row.now c.in_err-item.field-0.0 (ap (λ (d : Database). d.trees) step.0.now_is) all.1.each why)))
+    let same : now ≡ c.conn-in_err-epoch-1.given.0 = search rules in
+    subst (λ h. Survives old (state g.S.Store h) (λ _. ⊥)) same (survives_then old mid (state g.S.Store now) _ _ _ (λ _ db none. none) (λ _ db none. none) c.rows.invariant.1 moved.survives)
 
 pub returns-in_err-found-clause-cause : goal.returns-in_err-found-clause-cause
 returns-in_err-found-clause-cause g c clean =
@@ -201,9 +183,26 @@ returns-in_err-found-clause-cause g c clean =
     let step = unchanged_then old mid (state g.S.Store now) was.1 (rw (c.in_ok-row.was) at (moved.same late)) in
     let has = subst (λ (d : Database). HasArchive d.schema) (sym step.0.now_is) (c.requires (omega (arith, clean_mid, c.rows.invariant.1.clean))) in
     let all = answers_first Items (state g.S.Store now) (was.0.0 ++ c.in-Some.row.now ∷ []) has (given_begin g.S.Store (asked Items) [] now _ given) in
-    let why : FailsToRead item_kinds c.in-Some.row.now c.in_err-found.field-0.0 = inl c.in_err-found.ensures.cause in
+    let why : FailsToRead item_kinds c.in-Some.row.now c.in_err-found.field-0.0 = c.in_err-found.ensures.cause in
     because c.from_residual-in_err-found.result c.in_err-found.field-0.0 _ (search rules)
     (inr (inl (unread_item old.now.trees (state g.S.Store now).now.trees was.0.0 all.0 c.in-Some.row.now c.in_err-found.field-0.0 (ap (λ (d : Database). d.trees) step.0.now_is) all.1.each why)))
+
+pub returns-in_err-epoch-clause-cause : goal.returns-in_err-epoch-clause-cause
+returns-in_err-epoch-clause-cause g c clean =
+    let old = state g.S.Store c.args.conn.now in
+    let mid = state g.S.Store c.rows.rows.conn.now in
+    let moved = c.next.follows.holds-at-none in
+    let now = c.next.follows.lender-at-none.conn.now in
+    let late : HasCleanDisk (state g.S.Store now) = search rules in
+    let clean_mid : HasCleanDisk mid = omega (arith, late, moved.survives.clean) in
+    let was = c.rows.invariant.2 clean_mid in
+    let given = (rw (c.in_ok-row.was, c.in-Some.is) at (moved.ok late)) (asked Items) [] was.0.0 was.0.1 in
+    let step = unchanged_then old mid (state g.S.Store now) was.1 (rw (c.in_ok-row.was) at (moved.same late)) in
+    let has = subst (λ (d : Database). HasArchive d.schema) (sym step.0.now_is) (c.requires (omega (arith, clean_mid, c.rows.invariant.1.clean))) in
+    let all = answers_first Items (state g.S.Store now) (was.0.0 ++ c.in-Some.row.now ∷ []) has (given_begin g.S.Store (asked Items) [] now _ given) in
+    let why : FailsToRead item_kinds c.in-Some.row.now c.in_err-epoch.field-0.0 = c.in_err-epoch.ensures.cause in
+    because c.from_residual-in_err-epoch.result c.in_err-epoch.field-0.0 _ (search rules)
+    (inr (inl (unread_item old.now.trees (state g.S.Store now).now.trees was.0.0 all.0 c.in-Some.row.now c.in_err-epoch.field-0.0 (ap (λ (d : Database). d.trees) step.0.now_is) all.1.each why)))
 
 pub returns-in_err-row-clause-left : goal.returns-in_err-row-clause-left
 returns-in_err-row-clause-left g c clean =

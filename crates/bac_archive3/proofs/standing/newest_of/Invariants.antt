@@ -17,4 +17,4 @@ invariant-rows g l =
     let now = state g.S.Store l.rows.conn.now in
     (l.rows.conn.ghost_name ≡ l.initial.rows.conn.ghost_name) × Survives old now (λ _. ⊥)
     × (HasCleanDisk now → ((given : List Values) × HasGiven g.S.Store (asked Items) [] l.rows.conn.now given
-    × Told numbers 10 (is_last l.last) item_columns (first 6) given l.found × (length given ≡ l.read)) × IsUnchanged old now)
+    × Told numbers 3 (is_last l.last) item_columns (first 6) given l.found × (length given ≡ l.read)) × IsUnchanged old now)

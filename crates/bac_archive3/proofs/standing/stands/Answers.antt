@@ -23,21 +23,21 @@ use Rattle.bac_archive3.proofs.RowsLemmas.{because, if_err}
 use Rattle.bac_archive3.proofs.standing.stands.Goals as goal
 
 all_told : (r : Result Standing Error) (trees : Trees) (tables : Tables) (last : List BeginningRow) (newest : List ItemRow) → AreAnswers trees tables
-    → IfOk r (λ s. (row : Values) × Contains tables.archive.items row × (column row 1 ≡ Text (string_bytes s.made))) → IfOk r (λ s. map device_columns s.devices.items ≡ map (first 12) tables.devices.items)
-    → IfOk r (λ s. map log_columns s.logs.items ≡ map (first 8) tables.logs.items) → IfOk r (λ s. (s.last.items ≡ last) × (s.newest.items ≡ newest))
+    → IfOk r (λ s. (row : Values) × Contains tables.archive.items row × (column row 1 ≡ Text (string_bytes s.made))) → IfOk r (λ s. map device_columns s.devices.items ≡ map (first 11) tables.devices.items)
+    → IfOk r (λ s. map log_columns s.logs.items ≡ map (first 10) tables.logs.items) → IfOk r (λ s. (s.last.items ≡ last) × (s.newest.items ≡ newest))
     → IfOk r (λ s. (s.next_device ≡ behind (map (λ d. d.id) s.devices.items)) × (s.next_log ≡ behind (map (λ l. l.id) s.logs.items ++ map (λ b. b.id / epochs) last)))
     → TellsFirst epochs 1 (λ _. true) (map (first 3) tables.beginnings.items) (map beginning_columns last)
     × ((row : Values) → Contains (map beginning_columns last) row → Contains (map (first 3) tables.beginnings.items) row)
-    → TellsNewest numbers 10 (is_last last) (map (shown 5) (trees 5)) (map item_columns newest) → IfOk r (StandsAs trees)
+    → TellsNewest numbers 3 (is_last last) (map (shown 5) (trees 5)) (map item_columns newest) → IfOk r (StandsAs trees)
 all_told (Err e) trees tables last newest are made devices logs rows next begun items = tt
 all_told (Ok s) trees tables last newest are made devices logs rows next begun items = record {
   made = moment_of (trees 0) tables.archive.items _ are.archive.each made;
-  devices = told_rows 12 11 device_columns (trees 1) tables.devices.items s.devices.items (λ r. refl) are.devices.each devices;
-  logs = told_rows 8 7 log_columns (trees 3) tables.logs.items s.logs.items (λ r. refl) are.logs.each logs;
+  devices = told_rows 11 10 device_columns (trees 1) tables.devices.items s.devices.items (λ r. refl) are.devices.each devices;
+  logs = told_rows 10 9 log_columns (trees 3) tables.logs.items s.logs.items (λ r. refl) are.logs.each logs;
   last = subst (λ l. TellsNewest epochs 1 (λ _. true) (map (shown 2) (trees 6)) (map beginning_columns l)) (sym rows.0)
       (tells_newest epochs 1 (λ _. true) (first 3) (shown 2) (λ r. refl) (λ r. refl) (trees 6) tables.beginnings.items (map beginning_columns last) are.beginnings.each (are.beginnings.falling (inl refl)) begun.0 begun.1);
-  newest = subst (λ l. TellsNewest numbers 10 (is_last l) (map (shown 5) (trees 5)) (map item_columns s.newest.items)) (sym rows.0)
-      (subst (λ l. TellsNewest numbers 10 (is_last last) (map (shown 5) (trees 5)) (map item_columns l)) (sym rows.1) items);
+  newest = subst (λ l. TellsNewest numbers 3 (is_last l) (map (shown 5) (trees 5)) (map item_columns s.newest.items)) (sym rows.0)
+      (subst (λ l. TellsNewest numbers 3 (is_last last) (map (shown 5) (trees 5)) (map item_columns l)) (sym rows.1) items);
   next_device = next.0;
   next_log = subst (λ l. s.next_log ≡ behind (map (λ l. l.id) s.logs.items ++ map (λ b. b.id / epochs) l)) (sym rows.0) next.1;
 }
@@ -59,7 +59,7 @@ returns-clause-stands g c clean =
     let items = rw c.as_slice-2.ensures.value at (c.in_ok-newest.ensures.told clean) in
     all_told c.told_of.result old.now.trees tables last.items c.in_ok-newest.newest.items are c.told_of.ensures.made c.told_of.ensures.devices c.told_of.ensures.logs
     (both_items c.told_of.result last c.in_ok-newest.newest c.told_of.ensures.last) c.told_of.ensures.next begun
-    (subst (λ (d : Database). TellsNewest numbers 10 (is_last last.items) (map (shown 5) (d.trees 5)) (map item_columns c.in_ok-newest.newest.items)) one items)
+    (subst (λ (d : Database). TellsNewest numbers 3 (is_last last.items) (map (shown 5) (d.trees 5)) (map item_columns c.in_ok-newest.newest.items)) one items)
 
 pub returns-in_err-last-clause-cause : goal.returns-in_err-last-clause-cause
 returns-in_err-last-clause-cause g c clean =
