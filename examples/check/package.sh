@@ -36,7 +36,7 @@ package=("$room"/once/*.deb)
 is 'owners' "$({ tar --numeric-owner -tvf "$room"/once/*.tar.gz; dpkg-deb --fsys-tarfile "${package[0]}" | tar --numeric-owner -tvf -; } \
     | awk '{ print $2 }' | sort -u)" 0/0
 is 'names in order' "$(tar -tf "$room"/once/*.tar.gz | LC_ALL=C sort -c 2>&1)" ''
-version=$(sed -nE '0,/^## /s/^## ([0-9.]+) \([0-9]{4}-[0-9]{2}-[0-9]{2}\)$/\1/p' ../../CHANGELOG.md)
+version=$(sed -nE 's/^## ([0-9.]+) \([0-9]{4}-[0-9]{2}-[0-9]{2}\)$/\1/p' ../../CHANGELOG.md | head -n 1)
 bac --version
 is 'one version' "$(dpkg-deb -f "${package[0]}" Version), $said" "$version, bac $version, ${said#*, }"
 printf '#!/bin/sh\necho bac 0.0.9, of another day\n' > "$room/older"

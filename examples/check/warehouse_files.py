@@ -149,9 +149,11 @@ def program(word):
 
 def is_installed():
     """Whether a server is here, or could be installed."""
-    if not all(map(program, ("initdb", "pg_ctl", "psql"))):
-        words = [*(["sudo", "-n"] if os.geteuid() else []), "apt-get", "install", "-y", "--no-install-recommends", "postgresql"]
-        print("no PostgreSQL is here:", *words, flush=True)
-        with contextlib.suppress(FileNotFoundError):
-            subprocess.run(words, env={**os.environ, "DEBIAN_FRONTEND": "noninteractive"}, stdout=subprocess.DEVNULL)
-    return all(map(program, ("initdb", "pg_ctl", "psql")))
+    wanted = "initdb", "pg_ctl", "psql"
+    for words in (["update"], ["install", "-y", "--no-install-recommends", "postgresql"]):
+        if not all(map(program, wanted)):
+            words = [*(["sudo", "-n"] if os.geteuid() else []), "apt-get", "-q", *words]
+            print("no PostgreSQL is here:", *words, flush=True)
+            with contextlib.suppress(FileNotFoundError):
+                subprocess.run(words, env={**os.environ, "DEBIAN_FRONTEND": "noninteractive"}, stdout=subprocess.DEVNULL)
+    return all(map(program, wanted))

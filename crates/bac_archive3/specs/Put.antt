@@ -230,8 +230,8 @@ abbrev pub HaveOwnIds : List Values → Type 0
 HaveOwnIds rows = (one two : Values) → Contains rows one → Contains rows two
     → is_eq (value_cmp (rowid one) (rowid two)) ≡ true → one ≡ two
 
--- What these trees had is there in those: each item as it was; of each beginning the id, and but of one that was counted
--- the whole row, where no two beginnings had one id.
+-- What these trees had is there in those: each item as it was; of each beginning the id, and but of one that was
+-- counted the whole row, where no two beginnings had one id.
 pub record LoseNothing (old new : Trees) : Type 0 where
   pub items : (row : Values) → Contains (old 5) row → Contains (new 5) row
   pub ids : (row : Values) (id : ℤ) → Contains (old 6) row → rowid row ≡ Int id

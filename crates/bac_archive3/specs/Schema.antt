@@ -1,5 +1,6 @@
 -- The tables and views of an archive.
-use Rattle.std.specs.Prelude.{◌≡◌, ℕ, ◌+◌, true, false, Bool, not, ◌&&◌, ◌||◌, ◌==◌, List, [], ◌∷◌, ◌++◌, codes, None, Some}
+use Rattle.std.specs.Prelude.{◌≡◌, ℕ, ◌+◌, true, false, Bool, not, ◌&&◌, ◌||◌, ◌==◌, List, [], ◌∷◌, ◌++◌, codes, None}
+use Rattle.std.specs.Prelude.{Some}
 use Rattle.std.specs.List.{All, AllByRecursion, Contains}
 use Rattle.sqlite.specs.State.{State, HasCleanDisk}
 use Rattle.sqlite_value.specs.declared.value.Value.TheVariants.{Null}
@@ -129,9 +130,9 @@ devices = table (codes "devices")
     ∷ column (codes "offset") Integer false ∷ [])
     ((2 ∷ 3 ∷ 4 ∷ []) ∷ []) (plain ∷ [])
 
--- a trend log: its device and its instance there, what it told (its name, what it logs, the units and the description of
--- that), its device's word before the reply that last showed this log at its place, which is Time_Of_Device_Restart and
--- Database_Revision (clause 12.11), and whether it isn't asked any more
+-- a trend log: its device and its instance there, what it told (its name, what it logs, the units and the description
+-- of that), its device's word before the reply that last showed this log at its place, which is Time_Of_Device_Restart
+-- and Database_Revision (clause 12.11), and whether it isn't asked any more
 abbrev pub logs : Table
 logs = table (codes "logs")
     (column (codes "id") Integer false ∷ column (codes "device") Integer true ∷ column (codes "instance") Integer true
@@ -147,8 +148,8 @@ items = table (codes "items")
     ∷ column (codes "value") Number false ∷ column (codes "datum") Text false ∷ column (codes "flags") Text false ∷ [])
     [] []
 
--- an epoch of a log, by its id, the number from which its items cover each one, and why it began: NULL of the first one,
--- or 'counted' as long as only the count told where that begins
+-- an epoch of a log, by its id, the number from which its items cover each one, and why it began: NULL of the first
+-- one, or 'counted' as long as only the count told where that begins
 abbrev pub beginnings : Table
 beginnings = table (codes "beginnings")
     (column (codes "id") Integer false ∷ column (codes "number") Integer true ∷ column (codes "why") Text false ∷ [])

@@ -71,8 +71,8 @@ pub record Meets {X : Type 0} (columns : X → Values) (most place : ℕ) (wante
 abbrev pub behind : List ℕ → ℕ
 behind = fold (λ n id. max n (id + 1)) 1
 
--- What is told of an archive: when it was made; each device and each log; of each log its last beginning, and the newest
--- items of the epoch that began there, up to three; and the next ids that no device and no log has or had.
+-- What is told of an archive: when it was made; each device and each log; of each log its last beginning, and the
+-- newest items of the epoch that began there, up to three; and the next ids that no device and no log has or had.
 pub record StandsAs (trees : Trees) (s : Standing) : Type 0 where
   pub made : (row : Values) × Contains (trees 0) row × (column row 2 ≡ Text (string_bytes s.made))
   pub devices : IsPermutation (map (shown 10) (trees 1)) (map device_columns s.devices.items)
@@ -101,7 +101,8 @@ IsNotTold tables e =
 -- a row of a table isn't read
 abbrev pub HasUnread : Trees → Error → Type 0
 HasUnread trees e =
-    (question : Question) × FailsToReadOne (kinds_of question) (map (shown (width question)) (trees (tree_of question))) e
+    (question : Question)
+    × FailsToReadOne (kinds_of question) (map (shown (width question)) (trees (tree_of question))) e
 
 -- Why an archive isn't told: the database gives up on a question; a row can't be read; its table has no row that says
 -- when it was made; or there are more items than are counted.

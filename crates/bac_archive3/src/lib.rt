@@ -6,9 +6,9 @@
 //! key tells the log, the epoch and the number, and `beginnings` one for each epoch of a log.
 //!
 //! One call writes: [`put`], all rows of a batch or none (specs/Put). One tells: [`stands`], what
-//! the file holds as a run begins (specs/Stands). [`open`] takes what is an archive, and refuses the
-//! rest by its reason (specs/Archive); what a batch leaves is one if its items go on where their
-//! epochs stand (specs/Keep). [`follow_on`] makes the next part of an archive that is full.
+//! the file holds as a run begins (specs/Stands). [`open`] takes what is an archive, and refuses
+//! the rest by its reason (specs/Archive); what a batch leaves is one if its items go on where
+//! their epochs stand (specs/Keep). [`follow_on`] makes the next part of an archive that is full.
 #![tactic(auto)]
 
 mod asking;

@@ -1,12 +1,14 @@
 //! A database is opened as an archive.
 
-ghost use Rattle.std.specs.Prelude.{◌≡◌, ◌≢◌, ◌⊎◌, ◌↔◌, ◌≤◌, ◌∷◌, [], ℕ, List, None, Err, pos, length};
+ghost use Rattle.std.specs.Prelude.{◌≡◌, ◌≢◌, ◌⊎◌, ◌↔◌, ◌≤◌, ◌∷◌, [], ℕ, List, None, Err, pos};
+ghost use Rattle.std.specs.Prelude.{length};
 ghost use Rattle.std.specs.Prelude.{IsTrue, IfErr, IfOk, IfSome, OnErr, OnOk};
 ghost use Rattle.sqlite_value.specs.Order.{column};
 ghost use Rattle.sqlite_value.specs.declared.value.Value.{Value};
 ghost use Rattle.sqlite.specs.State.{HasCleanDisk, Survives, IsUnchanged};
 ghost use Rattle.sqlite.specs.Held.{state};
-ghost use Rattle.bac_archive3.specs.Archive.{AreBegun, AreBegunBy, DoNotRise, FailsToExamine, FailsToOpen};
+ghost use Rattle.bac_archive3.specs.Archive.{AreBegun, AreBegunBy, DoNotRise, FailsToExamine};
+ghost use Rattle.bac_archive3.specs.Archive.{FailsToOpen};
 ghost use Rattle.bac_archive3.specs.Archive.{Follows, HasId, HasIdBelow, HaveIdsBelow};
 ghost use Rattle.bac_archive3.specs.Archive.{IsArchive, IsBegunBy, IsBegunUpTo, IsEarlier};
 ghost use Rattle.bac_archive3.specs.Archive.{IsOfVersion, LieApart, ListsOrphan, AreInRange};

@@ -5,7 +5,8 @@ ghost use Rattle.sqlite.specs.State.{HasCleanDisk, Survives, KeepsCommit, Execut
 ghost use Rattle.sqlite.specs.Held.{state};
 ghost use Rattle.bac_archive3.specs.Schema.{HasArchive, OverArchive};
 ghost use Rattle.bac_archive3.specs.Put.{FailsToPut, GivesUp, IsPut, Puts};
-ghost use Rattle.bac_archive3.specs.Put.{given, text_of, PutsJoin, PutsKeepVersion, PutsLoseNothing};
+ghost use Rattle.bac_archive3.specs.Put.{given, text_of, PutsJoin, PutsKeepVersion};
+ghost use Rattle.bac_archive3.specs.Put.{PutsLoseNothing};
 
 use crate::ending::finish;
 use crate::row::{Put, beginning_bound, device_bound, item_bound, log_bound};

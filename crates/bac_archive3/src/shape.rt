@@ -1,7 +1,8 @@
 //! Whether a schema is an archive's.
 
 ghost use Rattle.std.specs.Prelude.{◌≡◌, ◌↔◌, [], ◌∷◌, IsTrue, false, true, All, map, codes};
-ghost use Rattle.bac_archive3.specs.Schema.{no_schema, archive_schema, archive, devices, logs, items};
+ghost use Rattle.bac_archive3.specs.Schema.{no_schema, archive_schema, archive, devices, logs};
+ghost use Rattle.bac_archive3.specs.Schema.{items};
 ghost use Rattle.bac_archive3.specs.Schema.{HasArchive, HasTables, HasIndexes, HasView, HasViews};
 ghost use Rattle.bac_archive3.specs.Schema.{RefersNowhere, lets_in};
 ghost use Rattle.bac_archive3.specs.Schema.{beginnings, column as column_of, plain_table};
@@ -70,7 +71,8 @@ fn is_plain(table: &Table, name: &[u8], tree: u32) -> bool
         && !table.is_counted
 }
 
-/// The columns of the table of the version, each with its name, its kind and whether it is NOT NULL.
+/// The columns of the table of the version, each with its name, its kind and whether it is NOT
+/// NULL.
 const VERSIONS: [(&str, Kind, bool); 2] = [
     ("version", Kind::Integer, false),
     ("made", Kind::Text, true),

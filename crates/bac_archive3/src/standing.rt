@@ -15,7 +15,8 @@ ghost use Rattle.bac_archive3.specs.Schema.{HasArchive};
 ghost use Rattle.bac_archive3.specs.Ask.{IsLeft, falls, first, shown};
 ghost use Rattle.bac_archive3.specs.Put.{beginning_columns, device_columns, item_columns};
 ghost use Rattle.bac_archive3.specs.Put.{log_columns};
-ghost use Rattle.bac_archive3.specs.Read.{FailsToRead, FailsToReadOne, archive_kinds, beginning_kinds};
+ghost use Rattle.bac_archive3.specs.Read.{FailsToRead, FailsToReadOne, archive_kinds};
+ghost use Rattle.bac_archive3.specs.Read.{beginning_kinds};
 ghost use Rattle.bac_archive3.specs.Read.{item_kinds, numbers};
 ghost use Rattle.bac_archive3.specs.Stands.{FailsToTell, IsNotTold, Meets, StandsAs, TellsFirst};
 ghost use Rattle.bac_archive3.specs.Stands.{TellsNewest, behind, epochs, is_last, met};
@@ -76,8 +77,8 @@ fn is_last(last: &[BeginningRow], epoch: u64) -> bool
     false
 }
 
-/// The place of an epoch from this one on, among beginnings by falling ids; none where one before it
-/// comes first.
+/// The place of an epoch from this one on, among beginnings by falling ids; none where one before
+/// it comes first.
 fn place_from(last: &[BeginningRow], epoch: u64, from: usize) -> Option<usize>
     ensures { IfSome result (λ _. is_last last.now epoch ≡ true) }
 {

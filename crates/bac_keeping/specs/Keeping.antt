@@ -42,8 +42,8 @@ Keeps run old new =
     (begun : Database) × (site : SiteState) × IsBegun run.moment run.makes old begun site
     × Runs run.acts (run.at site begun) new
 
--- a database, if it is open still, is as it was where it isn't opened as an archive; and as it was opened where it isn't
--- told, or there is no memory for a site
+-- a database, if it is open still, is as it was where it isn't opened as an archive; and as it was opened where it
+-- isn't told, or there is no memory for a site
 abbrev pub HaltsEarly : List ℕ → Database → State → KeepFault → Type 0
 HaltsEarly moment old new (fault.Refused why) = IsTrue new.is_open → new.now ≡ old
 HaltsEarly moment old new (fault.Untold error) = IsTrue new.is_open → IsOpened moment old new.now

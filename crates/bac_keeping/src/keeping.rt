@@ -37,7 +37,8 @@ pub enum KeepFault {
 /// An archive is opened, or made where nothing is.
 fn open_at<S: Alter>(conn: &mut Connection<S>, made: &str) -> Result<(), Refused>
     ensures opened { HasCleanDisk (state S.Store conn.new)
-        → OnOk result (IsOpened made.now (state S.Store conn.old).now (state S.Store conn.new).now) }
+        → OnOk result (IsOpened made.now (state S.Store conn.old).now
+        (state S.Store conn.new).now) }
     ensures archive { HasCleanDisk (state S.Store conn.new)
         → OnOk result (HasArchive (state S.Store conn.new).now.schema) }
     ensures committed { HasCleanDisk (state S.Store conn.new)

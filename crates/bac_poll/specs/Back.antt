@@ -1,5 +1,6 @@
 -- Before a gap is put in front of records, the first of them is asked for backwards, until nothing stands before it.
-use Rattle.std.specs.Prelude.{◌+◌, ◌==◌, ◌||◌, nat_lt, Bool, true, false, if◌then◌else◌, List, length, Option, None, Some}
+use Rattle.std.specs.Prelude.{◌+◌, ◌==◌, ◌||◌, nat_lt, Bool, true, false, if◌then◌else◌, List, length, Option, None}
+use Rattle.std.specs.Prelude.{Some}
 use Rattle.bac_link.specs.Ordinals.{distance}
 use Rattle.bac_walk.specs.declared.batch.Numbered.{Numbered}
 use Rattle.bac_poll.specs.Epochs.{asks_back, asks_oldest, brings_behind}

@@ -9,7 +9,8 @@ use Rattle.std.specs.Cmp.Lexicographic.{slice_cmp}
 use Rattle.bac_walk.specs.declared.batch.Numbered.{Numbered}
 use Rattle.bac_poll.specs.State.{KeptAs, PollState, ToldAs, kept_of}
 use Rattle.bac_poll.specs.declared.known.Means.{Means}
-use Rattle.bac_poll.specs.declared.known.Means.TheVariants.{Shifted, Partly, Same, Unshown as NoneShown, Another as OtherShown}
+use Rattle.bac_poll.specs.declared.known.Means.TheVariants.{Shifted, Partly, Same, Unshown as NoneShown}
+use Rattle.bac_poll.specs.declared.known.Means.TheVariants.{Another as OtherShown}
 use Rattle.bac_poll.specs.declared.known.Shown.{Shown}
 use Rattle.bac_poll.specs.declared.known.Shown.TheVariants.{Unshown, Equal, Moved, Another}
 use Rattle.bac_poll.specs.declared.word.Word.{Word}

@@ -103,8 +103,8 @@ EndAt F (Gap gone before ∷ items) = F before × EndAt F items
 EndAt F (Logged shown entry ∷ items) = EndAt F items
 
 -- A turn brings each number once: from the one that comes next, or from the beginning that it puts on record, up to the
--- one that comes next then; with a new epoch up to where the old one ends, and from 1 on. This holds of each record, and
--- that of the number at which a gap ends, if it isn't doubtful.
+-- one that comes next then; with a new epoch up to where the old one ends, and from 1 on. This holds of each record,
+-- and that of the number at which a gap ends, if it isn't doubtful.
 pub record IsWhole (P : Numbered → Type 0) (F : ℕ → Type 0) (next : ℕ) (t : Turned) : Type 0 where
   pub mid : ℕ
   pub before : Covers P (start_of t.begins next) t.missing mid
@@ -191,8 +191,10 @@ EachShownOnce =
 abbrev pub BeginsStanding : Type 0
 BeginsStanding =
     (shown : List Numbered) (fronts : List ℕ) (log device : Id) (many : ℕ) (told : ToldAs) →
-    ((at : StandingAs) → IsBefore at.newest at.next → IsStanding (IsAmong shown) (IsOneOf fronts) (joining log device many at told))
-    × ((begins : Option ℕ) (word : ToldAs) → IsStanding (IsAmong shown) (IsOneOf fronts) (starting log device many begins word told))
+    ((at : StandingAs) → IsBefore at.newest at.next →
+    IsStanding (IsAmong shown) (IsOneOf fronts) (joining log device many at told))
+    × ((begins : Option ℕ) (word : ToldAs) →
+    IsStanding (IsAmong shown) (IsOneOf fronts) (starting log device many begins word told))
 
 -- the answer to a question
 pub data Answer : Type 0 where
@@ -244,7 +246,10 @@ items_of t = t.gap ++ map item_of t.records
 abbrev pub epoch_after : Epoch → Turned → Epoch
 epoch_after e t =
     if t.anew then record { first = 1; items = items_of t }
-    else record { first = (epoch_from e t.begins).first; items = (epoch_from e t.begins).items ++ (t.missing ++ items_of t) }
+    else record {
+      first = (epoch_from e t.begins).first;
+      items = (epoch_from e t.begins).items ++ (t.missing ++ items_of t);
+    }
 
 -- behind answers
 abbrev pub epoch_after_all : Epoch → PollState → List Answer → Epoch
@@ -260,6 +265,8 @@ Whichever number = Unit {0}
 -- and each record of it was shown.
 abbrev pub EpochsAreWhole : Type 0
 EpochsAreWhole =
-    (shown : List Numbered) (p : PollState) (e : Epoch) (answers : List Answer) → IsStanding (IsAmong shown) Whichever p →
+    (shown : List Numbered) (p : PollState) (e : Epoch) (answers : List Answer) →
+    IsStanding (IsAmong shown) Whichever p →
     Covers (IsAmong shown) e.first e.items p.next → AreAnswers (IsAmong shown) p answers →
-    Covers (IsAmong shown) (epoch_after_all e p answers).first (epoch_after_all e p answers).items (after_all p answers).next
+    Covers (IsAmong shown) (epoch_after_all e p answers).first (epoch_after_all e p answers).items
+    (after_all p answers).next

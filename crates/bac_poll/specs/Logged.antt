@@ -7,7 +7,8 @@ use Rattle.bac_link.specs.Delivery.{History, IsEntry, Moment}
 use Rattle.bac_link.specs.Heard.{AckParameters, heard_in}
 use Rattle.bac_link.specs.Standard.{AreHeldFrom, Asked, IsSaidAt}
 use Rattle.bac_walk.specs.declared.batch.Numbered.{Numbered}
-use Rattle.bac_poll.specs.Laws.{Answer, Counted, Covers, Epoch, IsStanding, Replied, Restarted, Revised, Whichever, after_all, after_answer, epoch_after_all}
+use Rattle.bac_poll.specs.Laws.{Answer, Counted, Covers, Epoch, IsStanding, Replied, Restarted, Revised, Whichever}
+use Rattle.bac_poll.specs.Laws.{after_all, after_answer, epoch_after_all}
 use Rattle.bac_poll.specs.State.{PollState}
 use Rattle.bac_poll.specs.declared.stage.Stage.TheVariants.{Revision, Restart}
 
@@ -28,7 +29,8 @@ pub record IsShownAt (m : Moment) (H : History) (log : Id) (datagram : List ℕ)
 
 -- as one by the standard does
 abbrev pub SaidIsShown : Type 0
-SaidIsShown = (m : Moment) (H : History) (log : Id) (asked : Asked) (datagram : List ℕ) → IsSaidAt m H log asked datagram →
+SaidIsShown = (m : Moment) (H : History) (log : Id) (asked : Asked) (datagram : List ℕ) →
+    IsSaidAt m H log asked datagram →
     IsShownAt m H log datagram
 
 -- an answer that shows none but records that the log holds, at whatever moment
@@ -44,10 +46,11 @@ AreSaid H p [] = Unit {0}
 AreSaid H p (answer ∷ answers) =
     IsSaid H p answer × ((after_answer p answer).end ≡ None) × AreSaid H (after_answer p answer).poll answers
 
--- What is kept of an epoch then covers each number once, from its first up to the one that comes next; and each record of
--- it is an entry of the log, under its number.
+-- What is kept of an epoch then covers each number once, from its first up to the one that comes next; and each record
+-- of it is an entry of the log, under its number.
 abbrev pub KeptIsLogged : Type 0
 KeptIsLogged =
     (H : History) (p : PollState) (e : Epoch) (answers : List Answer) → IsStanding (IsLogged H) Whichever p →
     Covers (IsLogged H) e.first e.items p.next → AreSaid H p answers →
-    Covers (IsLogged H) (epoch_after_all e p answers).first (epoch_after_all e p answers).items (after_all p answers).next
+    Covers (IsLogged H) (epoch_after_all e p answers).first (epoch_after_all e p answers).items
+    (after_all p answers).next

@@ -30,8 +30,8 @@ abbrev pub drops : PollState → (back : Bool) → List Numbered → Turned
 drops p back records =
     if back && not (is_first p (first_number records)) then asks_back p Finds records else asks_word p records
 
--- They begin before the newest known one, and don't show it: another life. Where they may be cut off the last of them is
--- asked for by number before: a device that shows it so would show the newest known one, too.
+-- They begin before the newest known one, and don't show it: another life. Where they may be cut off the last of them
+-- is asked for by number before: a device that shows it so would show the newest known one, too.
 abbrev pub sees_before : PollState → (cut : Bool) → List Numbered → Turned
 sees_before p cut records =
     if cut then asks (record p { stage = ByNumber; reference = number_or 0 (last_in records); held = records })
@@ -46,7 +46,8 @@ abbrev pub sees_none : PollState → (back : Bool) → (cut : Bool) → List Num
 sees_none p back cut records =
     if is_ahead p.next (first_number records) then drops p back records else sees_before p cut records
 
--- What follows the newest is kept. Nothing follows, and it wasn't asked for by number yet, but an earlier one was: it is.
+-- What follows the newest is kept. Nothing follows, and it wasn't asked for by number yet, but an earlier one was: it
+-- is.
 abbrev pub sees_news : PollState → (asked : Bool) → List Numbered → Turned
 sees_news p asked news = if (length news == 0) && not asked then asks p else brings p news
 

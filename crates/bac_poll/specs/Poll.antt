@@ -1,5 +1,6 @@
 -- How a trend log is polled: what is asked, and what an answer makes of it. Read `after` from the end.
-use Rattle.std.specs.Prelude.{ℕ, pos, negsuc, ◌+◌, ◌-◌, ◌/◌, ◌==◌, ◌&&◌, nat_le, nat_lt, Bool, true, false, if◌then◌else◌}
+use Rattle.std.specs.Prelude.{ℕ, pos, negsuc, ◌+◌, ◌-◌, ◌/◌, ◌==◌, ◌&&◌, nat_le, nat_lt, Bool, true, false}
+use Rattle.std.specs.Prelude.{if◌then◌else◌}
 use Rattle.std.specs.Prelude.{List, [], length, Option, None, Some}
 use Rattle.std.specs.Option.{is_none}
 use Rattle.bac_wire.specs.Primitive.{Id}

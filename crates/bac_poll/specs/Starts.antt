@@ -7,7 +7,8 @@ use Rattle.bac_poll.specs.Epochs.{asks_back, asks_oldest}
 use Rattle.bac_poll.specs.Known.{word_of}
 use Rattle.bac_poll.specs.Oldest.{is_first}
 use Rattle.bac_poll.specs.State.{PollState}
-use Rattle.bac_poll.specs.Turns.{Turned, brings, confirmed, ends, first_in, first_number, number_or, gap_up_to, standing_at}
+use Rattle.bac_poll.specs.Turns.{Turned, brings, confirmed, ends, first_in, first_number, number_or, gap_up_to}
+use Rattle.bac_poll.specs.Turns.{standing_at}
 use Rattle.bac_poll.specs.declared.stage.Aim.TheVariants.{Starts}
 use Rattle.bac_poll.specs.declared.turn.Beginning.{Beginning}
 use Rattle.bac_poll.specs.declared.turn.PollEnd.TheVariants.{ShowsNone}

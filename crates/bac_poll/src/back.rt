@@ -2,7 +2,8 @@
 
 ghost use Rattle.std.specs.Prelude.{◌≡◌, IfOk};
 ghost use Rattle.bac_poll.specs.Turns.{last_in, turned};
-ghost use Rattle.bac_poll.specs.Back.{back, back_alone, back_by, back_done, back_lost, back_more, back_shown};
+ghost use Rattle.bac_poll.specs.Back.{back, back_alone, back_by, back_done, back_lost, back_more};
+ghost use Rattle.bac_poll.specs.Back.{back_shown};
 ghost use Rattle.bac_poll.specs.Back.{is_front, shown_last};
 
 use crate::kept::Kept;
@@ -23,7 +24,8 @@ impl LogPoll {
         aim: Aim,
         records: ArrayVec<Numbered, 100>,
     ) -> Result<Turn, AllocError>
-        ensures { IfOk result (λ turn. turned self.new turn ≡ back_done self.old aim records.items) }
+        ensures { IfOk result (λ turn. turned self.new turn
+            ≡ back_done self.old aim records.items) }
     {
         match aim {
             Aim::Finds => self.see(alloc, false, false, records),
@@ -63,7 +65,8 @@ impl LogPoll {
         aim: Aim,
         records: ArrayVec<Numbered, 100>,
     ) -> Result<Turn, AllocError>
-        ensures { IfOk result (λ turn. turned self.new turn ≡ back_more self.old aim records.items) }
+        ensures { IfOk result (λ turn. turned self.new turn
+            ≡ back_more self.old aim records.items) }
     {
         let means = self.means_in(alloc, records.as_slice())?;
         if self.is_front(&records, means) {

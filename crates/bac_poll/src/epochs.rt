@@ -46,7 +46,8 @@ impl LogPoll {
         alloc: Global,
         records: ArrayVec<Numbered, 100>,
     ) -> Result<Turn, AllocError>
-        ensures { IfOk result (λ turn. turned self.new turn ≡ brings_behind self.old records.items) }
+        ensures { IfOk result (λ turn. turned self.new turn
+            ≡ brings_behind self.old records.items) }
     {
         let missing = gap_up_to(self.next, number_or(self.next, first_in(&records)));
         let mut turn = self.bring(alloc, records)?;

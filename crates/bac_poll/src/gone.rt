@@ -5,7 +5,8 @@ ghost use Rattle.bac_poll.specs.State.{told_as};
 ghost use Rattle.bac_poll.specs.Turns.{turned};
 ghost use Rattle.bac_poll.specs.Gone.{asks_restart, asks_revision, asks_word, brings_both};
 ghost use Rattle.bac_poll.specs.Gone.{brings_doubtful, brings_gone, by_gone, by_word, doubt};
-ghost use Rattle.bac_poll.specs.Gone.{gone_by, gone_of, gone_of_none, has_logged, is_outlived, retold};
+ghost use Rattle.bac_poll.specs.Gone.{gone_by, gone_of, gone_of_none, has_logged, is_outlived};
+ghost use Rattle.bac_poll.specs.Gone.{retold};
 
 use crate::kept::stamp_of;
 use crate::known::is_before;
@@ -111,7 +112,8 @@ impl LogPoll {
         first: u32,
         held: ArrayVec<Numbered, 100>,
     ) -> Result<Turn, AllocError>
-        ensures { IfOk result (λ turn. turned self.new turn ≡ brings_gone self.old first held.items) }
+        ensures { IfOk result (λ turn. turned self.new turn
+            ≡ brings_gone self.old first held.items) }
     {
         let missing = gap_up_to(self.next, first);
         self.stand_at(first);
@@ -174,7 +176,8 @@ impl LogPoll {
         held: ArrayVec<Numbered, 100>,
         gone: Gone,
     ) -> Result<Turn, AllocError>
-        ensures { IfOk result (λ turn. turned self.new turn ≡ by_gone self.old first held.items gone) }
+        ensures { IfOk result (λ turn. turned self.new turn
+            ≡ by_gone self.old first held.items gone) }
     {
         match gone {
             Gone::Dropped => {

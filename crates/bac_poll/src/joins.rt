@@ -6,8 +6,10 @@ ghost use Rattle.bac_poll.specs.Known.{record_at, records_behind};
 ghost use Rattle.bac_poll.specs.Turns.{first_in, last_in};
 ghost use Rattle.bac_poll.specs.Turns.{turned};
 ghost use Rattle.bac_poll.specs.Joins.{again, again_by, again_equal, ahead, ahead_none, asks_again};
-ghost use Rattle.bac_poll.specs.Joins.{asks_each, asks_newest, at_hour, brings_ahead, each, each_all};
-ghost use Rattle.bac_poll.specs.Joins.{each_by, each_means, each_next, found, goes_nowhere, goes_on, hour};
+ghost use Rattle.bac_poll.specs.Joins.{asks_each, asks_newest, at_hour, brings_ahead, each};
+ghost use Rattle.bac_poll.specs.Joins.{each_all};
+ghost use Rattle.bac_poll.specs.Joins.{each_by, each_means, each_next, found, goes_nowhere};
+ghost use Rattle.bac_poll.specs.Joins.{goes_on, hour};
 ghost use Rattle.bac_poll.specs.Joins.{joined, joins, joins_by, joins_from, lost, lost_ahead};
 ghost use Rattle.bac_poll.specs.Joins.{moved_ahead, prior};
 
@@ -31,7 +33,8 @@ impl LogPoll {
         held: ArrayVec<Numbered, 100>,
         number: Option<u32>,
     ) -> Result<Turn, AllocError>
-        ensures { IfOk result (λ turn. turned self.new turn ≡ asks_each self.old held.items number) }
+        ensures { IfOk result (λ turn. turned self.new turn
+            ≡ asks_each self.old held.items number) }
     {
         match number {
             Some(number) => {
@@ -269,7 +272,8 @@ impl LogPoll {
         held: ArrayVec<Numbered, 100>,
         seen: Shown,
     ) -> Result<Turn, AllocError>
-        ensures { IfOk result (λ turn. turned self.new turn ≡ moved_ahead self.old held.items seen) }
+        ensures { IfOk result (λ turn. turned self.new turn
+            ≡ moved_ahead self.old held.items seen) }
     {
         if is_known(&self.earliest) {
             let number = number_in(&self.newest);
@@ -347,7 +351,8 @@ impl LogPoll {
         held: ArrayVec<Numbered, 100>,
         records: ArrayVec<Numbered, 100>,
     ) -> Result<Turn, AllocError>
-        ensures { IfOk result (λ turn. turned self.new turn ≡ again self.old held.items records.items) }
+        ensures { IfOk result (λ turn. turned self.new turn
+            ≡ again self.old held.items records.items) }
     {
         let shown = shown_in(alloc, &self.newest, records.as_slice())?;
         match &self.newest {
@@ -426,7 +431,8 @@ impl LogPoll {
         held: ArrayVec<Numbered, 100>,
         records: ArrayVec<Numbered, 100>,
     ) -> Result<Turn, AllocError>
-        ensures { IfOk result (λ turn. turned self.new turn ≡ each self.old held.items records.items) }
+        ensures { IfOk result (λ turn. turned self.new turn
+            ≡ each self.old held.items records.items) }
     {
         match first_in(&records) {
             Some(shown) => {

@@ -3,10 +3,12 @@
 ghost use Rattle.std.specs.Prelude.{◌≡◌, ◌+◌, ◌<◌, ◌≤◌, IfOk, length};
 ghost use Rattle.bac_poll.specs.State.{kept_as, kept_of, maybe_kept};
 ghost use Rattle.bac_poll.specs.Known.{day_of, digit, digits, is_another, is_before, is_dated};
-ghost use Rattle.bac_poll.specs.Known.{is_equal, is_moment, is_same_value, is_steady_with, is_unshown};
+ghost use Rattle.bac_poll.specs.Known.{is_equal, is_moment, is_same_value, is_steady_with};
+ghost use Rattle.bac_poll.specs.Known.{is_unshown};
 ghost use Rattle.bac_poll.specs.Known.{march_year, maybe_shown, means_all, means_of, means_other};
 ghost use Rattle.bac_poll.specs.Known.{means_shifted, means_some, month_days, number_in, record_at};
-ghost use Rattle.bac_poll.specs.Known.{records_behind, shift, shift_in, shift_of, shown_as, shown_in};
+ghost use Rattle.bac_poll.specs.Known.{records_behind, shift, shift_in, shift_of, shown_as};
+ghost use Rattle.bac_poll.specs.Known.{shown_in};
 ghost use Rattle.bac_poll.specs.Known.{ticks_in, year_days};
 
 use crate::kept::Kept;

@@ -5,8 +5,8 @@ ghost use Rattle.bac_poll.specs.Gaps.{GapsAreGone};
 ghost use Rattle.bac_poll.specs.Laws.{BeginsStanding, EachShownOnce, EpochsAreWhole};
 ghost use Rattle.bac_poll.specs.Logged.{KeptIsLogged, SaidIsShown};
 
-/// Whatever is answered, each number comes once, from the one that comes next or the beginning of an
-/// epoch up to the one that comes next then; and each record that is kept was shown.
+/// Whatever is answered, each number comes once, from the one that comes next or the beginning of
+/// an epoch up to the one that comes next then; and each record that is kept was shown.
 pub fn each_shown_once()
     ensures { EachShownOnce }
 {}

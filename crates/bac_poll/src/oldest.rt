@@ -5,7 +5,8 @@ ghost use Rattle.bac_poll.specs.Known.{record_at};
 ghost use Rattle.bac_poll.specs.State.{KeptAs, reply_as};
 ghost use Rattle.bac_poll.specs.Turns.{turned};
 ghost use Rattle.bac_poll.specs.Oldest.{by_count, by_number, drops, is_cut, is_first, is_since};
-ghost use Rattle.bac_poll.specs.Oldest.{logged, sees, sees_before, sees_by, sees_newest, sees_news, sees_none, sees_same};
+ghost use Rattle.bac_poll.specs.Oldest.{logged, sees, sees_before, sees_by, sees_newest, sees_news};
+ghost use Rattle.bac_poll.specs.Oldest.{sees_none, sees_same};
 ghost use Rattle.bac_poll.specs.Oldest.{weighed};
 
 use crate::ack::Reply;
@@ -59,7 +60,8 @@ impl LogPoll {
         cut: bool,
         records: ArrayVec<Numbered, 100>,
     ) -> Result<Turn, AllocError>
-        ensures { IfOk result (λ turn. turned self.new turn ≡ sees_before self.old cut records.items) }
+        ensures { IfOk result (λ turn. turned self.new turn
+            ≡ sees_before self.old cut records.items) }
     {
         if cut {
             let reference = number_or(0, last_in(&records));
@@ -204,7 +206,8 @@ impl LogPoll {
         cut: bool,
         records: ArrayVec<Numbered, 100>,
     ) -> Result<Turn, AllocError>
-        ensures { IfOk result (λ turn. turned self.new turn ≡ sees self.old back cut records.items) }
+        ensures { IfOk result (λ turn. turned self.new turn
+            ≡ sees self.old back cut records.items) }
     {
         let means = self.means_in(alloc, records.as_slice())?;
         self.see_by(alloc, back, cut, records, means)

@@ -1,9 +1,12 @@
 //! A poll of one trend log.
 
 ghost use Rattle.std.specs.Prelude.{◌≡◌, ◌↔◌, IfSome, IsSome, IfOk};
-ghost use Rattle.bac_poll.specs.Poll.{after, after_count, after_reply, after_restart, after_revision};
-ghost use Rattle.bac_poll.specs.Poll.{after_too_many, at_stage, came, first_reference, first_stage, joining};
-ghost use Rattle.bac_poll.specs.Poll.{kept_number, oldest, oldest_none, renews_by, starting, up_to, up_to_none};
+ghost use Rattle.bac_poll.specs.Poll.{after, after_count, after_reply, after_restart};
+ghost use Rattle.bac_poll.specs.Poll.{after_revision};
+ghost use Rattle.bac_poll.specs.Poll.{after_too_many, at_stage, came, first_reference, first_stage};
+ghost use Rattle.bac_poll.specs.Poll.{joining};
+ghost use Rattle.bac_poll.specs.Poll.{kept_number, oldest, oldest_none, renews_by, starting, up_to};
+ghost use Rattle.bac_poll.specs.Poll.{up_to_none};
 ghost use Rattle.bac_poll.specs.State.{PollState, maybe_kept, reply_as, standing_as, told_as};
 ghost use Rattle.bac_poll.specs.Turns.{turned};
 
@@ -300,7 +303,8 @@ impl LogPoll {
 
     // A reply by the question.
     fn take_reply(&mut self, alloc: Global, reply: Reply) -> Result<Turn, AllocError>
-        ensures { IfOk result (λ turn. turned self.new turn ≡ after_reply self.old (reply_as reply)) }
+        ensures { IfOk result (λ turn. turned self.new turn
+            ≡ after_reply self.old (reply_as reply)) }
     {
         if !is_none(&reply.records) {
             self.more = reply.more;
@@ -337,7 +341,8 @@ impl LogPoll {
 
     // The oldest were asked for.
     fn take_oldest(&mut self, alloc: Global, aim: Aim, reply: Reply) -> Result<Turn, AllocError>
-        ensures { IfOk result (λ turn. turned self.new turn ≡ oldest self.old aim (reply_as reply)) }
+        ensures { IfOk result (λ turn. turned self.new turn
+            ≡ oldest self.old aim (reply_as reply)) }
     {
         if is_none(&reply.records) {
             return self.take_no_oldest(alloc, aim);

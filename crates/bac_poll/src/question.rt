@@ -6,7 +6,8 @@ ghost use Rattle.bac_link.specs.Exchanges.{verdict_of};
 ghost use Rattle.bac_link.specs.Path.{towards};
 ghost use Rattle.bac_link.specs.Requests.{IsSendable, IsTooLong, next_invoke, request_octets};
 ghost use Rattle.bac_link.specs.Transactions.{begun_with};
-ghost use Rattle.bac_poll.specs.Poll.{asked_by_poll, back_question, number_question, property_question};
+ghost use Rattle.bac_poll.specs.Poll.{asked_by_poll, back_question, number_question};
+ghost use Rattle.bac_poll.specs.Poll.{property_question};
 
 use crate::poll::LogPoll;
 use crate::stage::Stage;

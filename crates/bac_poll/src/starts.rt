@@ -2,8 +2,10 @@
 
 ghost use Rattle.std.specs.Prelude.{◌≡◌, IfOk};
 ghost use Rattle.bac_poll.specs.Turns.{turned};
-ghost use Rattle.bac_poll.specs.Starts.{beginning, is_doubted, stands_from, starts, starts_at, starts_at_count};
-ghost use Rattle.bac_poll.specs.Starts.{starts_behind, starts_by, starts_from, starts_here, starts_none};
+ghost use Rattle.bac_poll.specs.Starts.{beginning, is_doubted, stands_from, starts, starts_at};
+ghost use Rattle.bac_poll.specs.Starts.{starts_at_count};
+ghost use Rattle.bac_poll.specs.Starts.{starts_behind, starts_by, starts_from, starts_here};
+ghost use Rattle.bac_poll.specs.Starts.{starts_none};
 ghost use Rattle.bac_poll.specs.Starts.{starts_refused, starts_told};
 
 use crate::poll::LogPoll;
@@ -34,7 +36,8 @@ impl LogPoll {
         first: u32,
         held: ArrayVec<Numbered, 100>,
     ) -> Result<Turn, AllocError>
-        ensures { IfOk result (λ turn. turned self.new turn ≡ stands_from self.old first held.items) }
+        ensures { IfOk result (λ turn. turned self.new turn
+            ≡ stands_from self.old first held.items) }
     {
         self.confirm(alloc)?;
         self.stand_at(first);
@@ -48,7 +51,8 @@ impl LogPoll {
         first: u32,
         held: ArrayVec<Numbered, 100>,
     ) -> Result<Turn, AllocError>
-        ensures { IfOk result (λ turn. turned self.new turn ≡ starts_here self.old first held.items) }
+        ensures { IfOk result (λ turn. turned self.new turn
+            ≡ starts_here self.old first held.items) }
     {
         let mut turn = self.stand_from(alloc, first, held)?;
         turn.begins = beginning(first, false);

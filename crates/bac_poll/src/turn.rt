@@ -30,7 +30,8 @@ pub enum PollEnd {
 pub enum Line {
     /// It shows its records so many quarter hours later, and a hundred.
     AtHour(u32),
-    /// The same, or it began anew: their value never changes, and it doesn't tell its restart again.
+    /// The same, or it began anew: their value never changes, and it doesn't tell its restart
+    /// again.
     AtHourOrBegan(u32),
     /// It began anew.
     BeganAnew,

@@ -59,7 +59,8 @@ impl Told {
 
     /// This word, with each part that is told.
     pub(crate) fn with(&self, alloc: Global, told: &Told) -> Result<Told, AllocError>
-        ensures { IfOk result (λ word. told_as word ≡ word_with (told_as self.now) (told_as told.now)) }
+        ensures { IfOk result (λ word. told_as word
+            ≡ word_with (told_as self.now) (told_as told.now)) }
     {
         let restart = restart_or(alloc, &self.restart, &told.restart)?;
         let moment = restart_or(alloc, &self.moment, &told.moment)?;

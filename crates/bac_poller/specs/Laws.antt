@@ -33,8 +33,8 @@ IsQuestion octets =
 abbrev pub IsAnswer : List ℕ → Type 0
 IsAnswer datagram = (request : List ℕ) × IsQuestion request × (answers_to request datagram ≡ true)
 
--- What is put are the rows that the poll makes of a datagram that came from the poller's device before, and answers one of
--- its questions.
+-- What is put are the rows that the poll makes of a datagram that came from the poller's device before, and answers one
+-- of its questions.
 abbrev pub RowsCame : {P C : Type 0} → Acts LogPoller P C → Type 0
 RowsCame {P = P} {C = C} acts =
     (old new : Scene LogPoller P C) (front behind : List Event) (puts : List Put) →

@@ -58,8 +58,8 @@ wanted_at (stage.Back aim) = Records
 wanted_at stage.Revision = Revision
 wanted_at stage.Restart = Restart
 
--- An answer with this verdict, read so, makes this of a poll. A refusal of records ends it; one of a count, or of a part
--- of the word, is an answer.
+-- An answer with this verdict, read so, makes this of a poll. A refusal of records ends it; one of a count, or of a
+-- part of the word, is an answer.
 abbrev pub Answers : PollState → Wanted → Verdict → List ℕ → Turned → Type 0
 Answers p Records Ack datagram t = t ≡ after p datagram
 Answers p Records (Refused refusal) datagram t = t ≡ ends p (Fault (walk.Refused refusal))

@@ -137,5 +137,6 @@ with_anew s anew line = if anew then with_epoch s (why_anew line) else s
 -- beginning; the records.
 abbrev pub with_turn : Puts → Turned → Puts
 with_turn s t =
-    with_records (with_gaps false (with_anew (with_gaps t.doubtful (with_first s t.begins) t.missing) t.anew t.line) t.gap)
+    with_records
+    (with_gaps false (with_anew (with_gaps t.doubtful (with_first s t.begins) t.missing) t.anew t.line) t.gap)
     t.records

@@ -169,8 +169,8 @@ SiteSendsAsk {P = P} {C = C} acts =
     IsUnasked old.machine → Chain (Happens acts) old (front ++ Sent octets to answer ∷ behind) new →
     (one : LogPoller) × IsOf old.machine.waiting one × (to ≡ one.peer) × (octets ≡ question_of one)
 
--- Each open request that was sent again is marked so, and no other: it has given up its place among those that were sent
--- once.
+-- Each open request that was sent again is marked so, and no other: it has given up its place among those that were
+-- sent once.
 abbrev pub RepeatsAreMarked : {P C : Type 0} → Acts SiteState P C → Type 0
 RepeatsAreMarked {P = P} {C = C} acts =
     (old new : Scene SiteState P C) (es : List Event) → IsUnasked old.machine → Chain (Happens acts) old es new →
@@ -219,8 +219,8 @@ abbrev pub sends_in_vain : List ℕ → Seat → ℕ
 sends_in_vain peer s = if is_of peer s then s.poller.transactions.retries + 2 else 0
 
 -- A device that is silent, or falls silent at any moment of a run, is waited for once, however many logs it has: while
--- nothing comes from an address, each device there is sent a question and its repeats, and one of the next log, and then
--- no more.
+-- nothing comes from an address, each device there is sent a question and its repeats, and one of the next log, and
+-- then no more.
 abbrev pub WaitsOnce : {P C : Type 0} → Acts SiteState P C → Type 0
 WaitsOnce {P = P} {C = C} acts =
     (old new : Scene SiteState P C) (es : List Event) (peer : List ℕ) → Chain (Happens acts) old es new →

@@ -7,7 +7,8 @@ ghost use Rattle.bac_poll.specs.State.{PollState};
 ghost use Rattle.bac_poll.specs.Turns.{turned};
 ghost use Rattle.bac_walk.specs.Walks.{gap_items};
 ghost use Rattle.bac_poller.specs.Puts.{gap_columns, none_from, put_as, record_columns, why_anew};
-ghost use Rattle.bac_poller.specs.Puts.{with_anew, with_beginning, with_epoch, with_first, with_gap};
+ghost use Rattle.bac_poller.specs.Puts.{with_anew, with_beginning, with_epoch, with_first};
+ghost use Rattle.bac_poller.specs.Puts.{with_gap};
 ghost use Rattle.bac_poller.specs.Puts.{with_gap_row, with_gaps, with_put, with_record};
 ghost use Rattle.bac_poller.specs.Puts.{with_records, with_rest, with_round, with_turn};
 
@@ -282,7 +283,8 @@ impl Putting {
 
     /// All that a turn brings.
     pub fn push_turn(&mut self, alloc: Global, turn: &Turn) -> Result<(), NotPut>
-        ensures { OnOk result ((p : PollState) → self.new ≡ with_turn self.old (turned p turn.now)) }
+        ensures { OnOk result ((p : PollState) → self.new
+            ≡ with_turn self.old (turned p turn.now)) }
     {
         self.push_first(alloc, turn.begins)?;
         self.push_gaps(alloc, turn.doubtful, turn.missing)?;

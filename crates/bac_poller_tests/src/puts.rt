@@ -24,8 +24,8 @@ const NEWS: &str =
 const NEWEST: &str =
     "810a002c010030011a0c0500000119833a054049015e0ea47e031d07b4000000000f1e491c1f2a04005f6902";
 
-/// The rows that are put, by their ids: 4294967295 of epoch 0, the beginning of epoch 1, and 1 and 2
-/// of that.
+/// The rows that are put, by their ids: 4294967295 of epoch 0, the beginning of epoch 1, and 1 and
+/// 2 of that.
 const PUT: [i64; 4] = [
     140_741_783_322_623,
     32_769,

@@ -1,0 +1,351 @@
+-- No log of a device is left out.
+use Rattle.std.proofs.Common.{◌≡◌, ◌∙◌, ℕ, ◌+◌, ◌==◌, ◌&&◌, nat_le, Bool, true, false, if◌then◌else◌, List, [], ◌∷◌, ◌++◌, map, Option, None, Some, ap, sym, refl, subst, append-nil, append_assoc}
+use Rattle.std.proofs.lemmas.Grind.{flat_map-append}
+use Rattle.std.proofs.lemmas.List.{map-append}
+use Rattle.bac_wire.specs.Primitive.{Id}
+use Rattle.bac_wire.specs.Stamp.{CivilTime}
+use Rattle.bac_wire.specs.declared.stamp.Date4.{Date4}
+use Rattle.bac_link.specs.declared.exchanges.Verdict.{Verdict}
+use Rattle.bac_poll.specs.Turns.{Turned as LogTurned, ends}
+use Rattle.bac_poll.specs.declared.turn.PollEnd.{PollEnd}
+use Rattle.bac_poll.specs.declared.turn.PollEnd.TheVariants.{Fault}
+use Rattle.bac_walk.specs.declared.outcome.WalkFault.TheVariants as walk
+use Rattle.bac_device_poll.specs.Clock.{after_clock, after_date, clocks}
+use Rattle.bac_device_poll.specs.Identity.{after_i_am, after_instance, after_name, met_as, whose}
+use Rattle.bac_device_poll.specs.Laws.{Accounts, NoneLeftOut, added_by, added_in, at_stage, ended_by, ended_in, left, not_asked_by, not_asked_in, waiting}
+use Rattle.bac_device_poll.specs.Listing.{after_count, after_element, after_objects, are_same, listed, lists, may_differ, new_among, new_log, others_in, told_others, unlisted}
+use Rattle.bac_device_poll.specs.Logs.{after_end, after_loss, begins_with, log_after, log_at, loss_at, stage_behind, with_log}
+use Rattle.bac_device_poll.specs.Naming.{after_description, is_changed, is_other, names, names_next, names_with, read_at, told_read, unnamed}
+use Rattle.bac_device_poll.specs.Poll.{Answers}
+use Rattle.bac_device_poll.specs.State.{DeviceState, LogAs}
+use Rattle.bac_device_poll.specs.Turns.{Turned, asks, leaves, not_asked}
+use Rattle.bac_device_poll.specs.declared.entry.Entry.{Entry}
+use Rattle.bac_device_poll.specs.declared.entry.Entry.TheVariants as entry
+use Rattle.bac_device_poll.specs.Values.{number_of, value_by}
+use Rattle.bac_device_poll.specs.declared.entry.Offset.{Offset}
+use Rattle.bac_device_poll.specs.declared.entry.Others.{Others}
+use Rattle.bac_device_poll.specs.declared.stage.Stage.{Stage}
+use Rattle.bac_device_poll.specs.declared.stage.Stage.TheVariants as stage
+use Rattle.bac_device_poll.specs.declared.task.Polled.{Polled}
+use Rattle.bac_device_poll.specs.declared.turn.DeviceEnd.{DeviceEnd}
+use Rattle.bac_device_poll.specs.declared.turn.DeviceEnd.TheVariants.{Silent}
+use Rattle.bac_device_poll.specs.declared.who.Who.{Who}
+use Rattle.bac_device_poll.specs.declared.who.Who.TheVariants as who
+use Rattle.bac_device_poll.specs.declared.who.Whose.{Whose}
+use Rattle.bac_device_poll.specs.declared.who.Whose.TheVariants as whose_is
+
+-- ---- where none is polled
+
+none_at : (s : Stage) → at_stage s None ≡ []
+none_at stage.Instance = refl
+none_at stage.IAm = refl
+none_at stage.Name = refl
+none_at stage.Restart = refl
+none_at stage.Revision = refl
+none_at stage.Date = refl
+none_at (stage.Time date) = refl
+none_at stage.Objects = refl
+none_at stage.Count = refl
+none_at (stage.Element index count) = refl
+none_at (stage.LogName log) = refl
+none_at (stage.Source log) = refl
+none_at (stage.Units log) = refl
+none_at (stage.Description log) = refl
+none_at stage.Log = refl
+none_at stage.Between = refl
+none_at stage.Ended = refl
+
+left_none : (p : DeviceState) → p.polled ≡ None → left p ≡ waiting p
+left_none p none =
+    ap (λ (q : Option Polled). at_stage p.stage q ++ waiting p) none ∙ ap (λ (l : List Id). l ++ waiting p) (none_at p.stage)
+
+-- what accounts for the logs of a device of which none was polled
+record Goes (p : DeviceState) (t : Turned) : Type 0 where
+  log : t.log ≡ None
+  all : not_asked_in t.entries ++ left t.device ≡ waiting p ++ added_in t.entries
+
+accounts : (p : DeviceState) (t : Turned) → p.polled ≡ None → Goes p t → Accounts p t
+accounts p t none goes =
+    ap (λ (l : Option LogTurned). ended_in l p.polled ++ (not_asked_in t.entries ++ left t.device)) goes.log
+    ∙ goes.all ∙ ap (λ (l : List Id). l ++ added_in t.entries) (sym (left_none p none))
+
+-- ---- entries that tell of no log
+
+record IsQuiet (es : List Entry) : Type 0 where
+  asked : not_asked_in es ≡ []
+  old : added_in es ≡ []
+
+quiet_if : (b : Bool) (revision : ℕ) → IsQuiet (if b then entry.Read revision ∷ [] else [])
+quiet_if true revision = record { asked = refl; old = refl }
+quiet_if false revision = record { asked = refl; old = refl }
+
+quiet_at : (was now : Option ℕ) → IsQuiet (read_at was now)
+quiet_at was None = record { asked = refl; old = refl }
+quiet_at was (Some now) = quiet_if (is_other was now) now
+
+quiet_read_if : (b : Bool) (es : List Entry) → IsQuiet es → IsQuiet (if b then es else [])
+quiet_read_if true es quiet = quiet
+quiet_read_if false es quiet = record { asked = refl; old = refl }
+
+quiet_read : (p : DeviceState) → IsQuiet (told_read p)
+quiet_read p = quiet_read_if p.listed (read_at p.revision p.told.revision) (quiet_at p.revision p.told.revision)
+
+-- ---- the next log
+
+-- these entries, and the logs that wait are still polled
+record Stays (l : List Id) (es : List Entry) (t : Turned) : Type 0 where
+  log : t.log ≡ None
+  left : left t.device ≡ l
+  asked : not_asked_in t.entries ≡ not_asked_in es
+  added : added_in t.entries ≡ added_in es
+
+begun : (p : DeviceState) (logs : List LogAs) (es : List Entry) → p.logs ≡ logs → Stays (waiting p) es (begins_with p logs es)
+begun p [] es is = record { log = refl; left = refl; asked = refl; added = refl }
+begun p (task ∷ logs) es is =
+    record { log = refl; left = ap (map (λ (t : LogAs). t.log)) (sym is); asked = refl; added = refl }
+
+-- quiet entries behind others change nothing
+behind : (p : DeviceState) (es more : List Entry) (t : Turned) → IsQuiet more → Stays (waiting p) (es ++ more) t → Stays (waiting p) es t
+behind p es more t quiet stays = record {
+  log = stays.log;
+  left = stays.left;
+  asked = stays.asked ∙ flat_map-append not_asked_by es more
+      ∙ ap (λ (l : List Id). not_asked_in es ++ l) quiet.asked ∙ append-nil (not_asked_in es);
+  added = stays.added ∙ flat_map-append added_by es more
+      ∙ ap (λ (l : List Id). added_in es ++ l) quiet.old ∙ append-nil (added_in es);
+}
+
+named : (p : DeviceState) (logs : List Id) (es : List Entry) → Stays (waiting p) es (names_with p logs es)
+named p [] es = behind p es (told_read p) _ (quiet_read p) (begun p p.logs (es ++ told_read p) refl)
+named p (log ∷ logs) es = record { log = refl; left = refl; asked = refl; added = refl }
+
+named_if : (b : Bool) (p : DeviceState) (logs : List Id) (es : List Entry) →
+    Stays (waiting p) es (if b then names_next (record p { unnamed = logs }) es else names_next p es)
+named_if true p logs es = named (record p { unnamed = logs }) logs es
+named_if false p logs es = named p p.unnamed es
+
+names_stay : (p : DeviceState) (es : List Entry) → Stays (waiting p) es (names p es)
+names_stay p es = named_if (is_changed p.revision p.told.revision) p (waiting p) es
+
+lists_if : (b : Bool) (p : DeviceState) (es : List Entry) →
+    Stays (waiting p) es (if b then asks (record p { stage = stage.Objects }) es else names p es)
+lists_if true p es = record { log = refl; left = refl; asked = refl; added = refl }
+lists_if false p es = names_stay p es
+
+lists_stay : (p : DeviceState) (es : List Entry) → Stays (waiting p) es (lists p es)
+lists_stay p es = lists_if (p.whole && may_differ p.revision p.told.revision) p es
+
+clocks_if : (b : Bool) (p : DeviceState) →
+    Stays (waiting p) [] (if b then asks (record p { stage = stage.Date }) [] else lists p [])
+clocks_if true p = record { log = refl; left = refl; asked = refl; added = refl }
+clocks_if false p = lists_stay p []
+
+-- with quiet entries none is left out
+goes_of : (p : DeviceState) (es : List Entry) (t : Turned) → IsQuiet es → Stays (waiting p) es t → Goes p t
+goes_of p es t quiet stays = record {
+  log = stays.log;
+  all = ap (λ (l : List Id). l ++ left t.device) (stays.asked ∙ quiet.asked) ∙ stays.left
+      ∙ sym (append-nil (waiting p)) ∙ ap (λ (l : List Id). waiting p ++ l) (sym (stays.added ∙ quiet.old));
+}
+
+nothing : IsQuiet []
+nothing = record { asked = refl; old = refl }
+
+-- ---- new logs
+
+added_asked : (logs : List Id) → not_asked_in (map entry.Added logs) ≡ []
+added_asked [] = refl
+added_asked (log ∷ logs) = added_asked logs
+
+added_all : (logs : List Id) → added_in (map entry.Added logs) ≡ logs
+added_all [] = refl
+added_all (log ∷ logs) = ap (λ (l : List Id). log ∷ l) (added_all logs)
+
+new_all : (logs : List Id) → map (λ (t : LogAs). t.log) (map new_log logs) ≡ logs
+new_all [] = refl
+new_all (log ∷ logs) = ap (λ (l : List Id). log ∷ l) (new_all logs)
+
+quiet_others : (b : Bool) (now : Others) → IsQuiet (if b then [] else entry.Others now ∷ [])
+quiet_others true now = record { asked = refl; old = refl }
+quiet_others false now = record { asked = refl; old = refl }
+
+listed_goes : (p : DeviceState) (objects : List Id) → Goes p (listed p objects)
+listed_goes p objects =
+    let new : List Id = new_among p.logs p.stopped objects in
+    let es : List Entry = map entry.Added new in
+    let more : List Entry = told_others p.others (others_in objects) in
+    let q : DeviceState = record p { listed = true; objects = []; unnamed = new; logs = p.logs ++ map new_log new } in
+    let stays : Stays (waiting q) es (names q (es ++ more)) = behind q es more _ (quiet_others (are_same p.others (others_in objects)) (others_in objects)) (names_stay q (es ++ more)) in
+    let waits : waiting q ≡ waiting p ++ new = map-append (λ (t : LogAs). t.log) p.logs (map new_log new) ∙ ap (λ (l : List Id). waiting p ++ l) (new_all new) in
+    let t : Turned = names q (es ++ more) in
+    record {
+      log = stays.log;
+      all = ap (λ (l : List Id). l ++ left t.device) (stays.asked ∙ added_asked new) ∙ stays.left ∙ waits
+          ∙ ap (λ (l : List Id). waiting p ++ l) (sym (stays.added ∙ added_all new));
+    }
+
+-- ---- a device that is left
+
+not_asked_all : (logs : List LogAs) → not_asked_in (map not_asked logs) ≡ map (λ (t : LogAs). t.log) logs
+not_asked_all [] = refl
+not_asked_all (task ∷ logs) = ap (λ (l : List Id). task.log ∷ l) (not_asked_all logs)
+
+not_asked_old : (logs : List LogAs) → added_in (map not_asked logs) ≡ []
+not_asked_old [] = refl
+not_asked_old (task ∷ logs) = not_asked_old logs
+
+leaves_goes : (p : DeviceState) (es : List Entry) (why : DeviceEnd) → IsQuiet es → Goes p (leaves p es why)
+leaves_goes p es why quiet = record {
+  log = refl;
+  all = append-nil _ ∙ flat_map-append not_asked_by es (map not_asked p.logs)
+      ∙ ap (λ (l : List Id). l ++ not_asked_in (map not_asked p.logs)) quiet.asked ∙ not_asked_all p.logs
+      ∙ sym (append-nil (waiting p))
+      ∙ ap (λ (l : List Id). waiting p ++ l)
+      (sym (flat_map-append added_by es (map not_asked p.logs) ∙ ap (λ (l : List Id). l ++ added_in (map not_asked p.logs)) quiet.old ∙ not_asked_old p.logs));
+}
+
+-- ---- who answers
+
+asks_goes : (p q : DeviceState) (es : List Entry) → left q ≡ waiting p → IsQuiet es → Goes p (asks q es)
+asks_goes p q es same quiet = goes_of p es (asks q es) quiet (record { log = refl; left = same; asked = refl; added = refl })
+
+met_goes : (p : DeviceState) (w : Who) (is : Whose) → Goes p (met_as p w is)
+met_goes p w whose_is.New = asks_goes p _ (entry.Known w ∷ []) refl (record { asked = refl; old = refl })
+met_goes p w whose_is.Same = asks_goes p _ [] refl nothing
+met_goes p w whose_is.Now = asks_goes p _ (entry.KnownNow w ∷ []) refl (record { asked = refl; old = refl })
+met_goes p w whose_is.Another = leaves_goes p (entry.Another w ∷ []) _ (record { asked = refl; old = refl })
+met_goes p w whose_is.Untold = leaves_goes p (entry.Untold ∷ []) _ (record { asked = refl; old = refl })
+
+instance_goes : (p : DeviceState) (device : Option Id) → Goes p (after_instance p device)
+instance_goes p None = asks_goes p _ [] refl nothing
+instance_goes p (Some device) = met_goes p (who.Device device) (whose p.who (who.Device device))
+
+i_am_goes : (p : DeviceState) (device : Option Id) → Goes p (after_i_am p device)
+i_am_goes p None = asks_goes p _ [] refl nothing
+i_am_goes p (Some device) = met_goes p (who.Device device) (whose p.who (who.Device device))
+
+name_goes : (p : DeviceState) (name : Option (List ℕ)) → Goes p (after_name p name)
+name_goes p None = met_goes p who.Address (whose p.who who.Address)
+name_goes p (Some name) = met_goes p (who.Name name) (whose p.who (who.Name name))
+
+-- ---- its clock, its list and its logs' names
+
+clock_goes : (p : DeviceState) (offset : Option Offset) → Goes p (after_clock p offset)
+clock_goes p offset = goes_of p (entry.Clock offset ∷ []) _ (record { asked = refl; old = refl }) (lists_stay p (entry.Clock offset ∷ []))
+
+date_goes : (p : DeviceState) (date : Option Date4) → Goes p (after_date p date)
+date_goes p None = clock_goes p None
+date_goes p (Some date) = asks_goes p _ [] refl nothing
+
+unlisted_goes : (p : DeviceState) → Goes p (unlisted p)
+unlisted_goes p = goes_of p [] _ nothing (names_stay (record p { objects = [] }) [])
+
+long_goes : (b : Bool) (p : DeviceState) → Goes p (if b then asks (record p { stage = stage.Count }) [] else unlisted p)
+long_goes true p = asks_goes p _ [] refl nothing
+long_goes false p = unlisted_goes p
+
+objects_go : (p : DeviceState) (too_long : Bool) (objects : Option (List Id)) → Goes p (after_objects p too_long objects)
+objects_go p too_long None = long_goes too_long p
+objects_go p too_long (Some objects) = listed_goes p objects
+
+count_if : (b : Bool) (p : DeviceState) (count : ℕ) →
+    Goes p (if b then listed p [] else asks (record p { stage = stage.Element 1 count; objects = [] }) [])
+count_if true p count = listed_goes p []
+count_if false p count = asks_goes p _ [] refl nothing
+
+count_goes : (p : DeviceState) (count : Option ℕ) → Goes p (after_count p count)
+count_goes p None = unlisted_goes p
+count_goes p (Some count) = count_if (count == 0) p count
+
+element_if : (b : Bool) (p : DeviceState) (s : Stage) (objects : List Id) → at_stage s p.polled ≡ [] →
+    Goes p (if b then listed p objects else asks (record p { stage = s; objects = objects }) [])
+element_if true p s objects none = listed_goes p objects
+element_if false p s objects none = asks_goes p _ _ (ap (λ (l : List Id). l ++ waiting p) none) nothing
+
+element_goes : (p : DeviceState) (index count : ℕ) (object : Option Id) → Goes p (after_element p index count object)
+element_goes p index count None = unlisted_goes p
+element_goes p index count (Some object) =
+    element_if (nat_le count index) p (stage.Element (index + 1) count) (p.objects ++ object ∷ []) refl
+
+description_goes : (p : DeviceState) (log : Id) (text : Option (List ℕ)) → Goes p (after_description p log text)
+description_goes p log text =
+    goes_of p (entry.Named log (record p.naming { description = text }) ∷ []) _ (record { asked = refl; old = refl })
+    (named (record p { naming = unnamed }) p.unnamed (entry.Named log (record p.naming { description = text }) ∷ []))
+
+-- ---- all answers before its logs are polled
+
+answers_go : (p : DeviceState) (s : Stage) (v : Verdict) (datagram : List ℕ) (now : CivilTime) (t : Turned) →
+    p.polled ≡ None → Answers p s v datagram now t → Goes p t
+answers_go p stage.Instance v d now t none is = subst (Goes p) (sym is) (instance_goes p _)
+answers_go p stage.IAm v d now t none is = subst (Goes p) (sym is) (asks_goes p p [] (left_none p none) nothing)
+answers_go p stage.Name v d now t none is = subst (Goes p) (sym is.2) (name_goes p is.0)
+answers_go p stage.Restart v d now t none is = subst (Goes p) (sym is) (asks_goes p _ [] refl nothing)
+answers_go p stage.Revision v d now t none is =
+    subst (Goes p) (sym is) (goes_of p [] _ nothing (clocks_if p.clock (record p { told = record p.told { revision = number_of (value_by v d) } })))
+answers_go p stage.Date v d now t none is = subst (Goes p) (sym is) (date_goes p _)
+answers_go p (stage.Time date) v d now t none is = subst (Goes p) (sym is.2) (clock_goes p is.0)
+answers_go p stage.Objects v d now t none is = subst (Goes p) (sym is) (objects_go p _ _)
+answers_go p stage.Count v d now t none is = subst (Goes p) (sym is) (count_goes p (number_of (value_by v d)))
+answers_go p (stage.Element index count) v d now t none is = subst (Goes p) (sym is) (element_goes p index count _)
+answers_go p (stage.LogName log) v d now t none is = subst (Goes p) (sym is.2) (asks_goes p _ [] refl nothing)
+answers_go p (stage.Source log) v d now t none is = subst (Goes p) (sym is) (asks_goes p _ [] refl nothing)
+answers_go p (stage.Units log) v d now t none is = subst (Goes p) (sym is) (asks_goes p _ [] refl nothing)
+answers_go p (stage.Description log) v d now t none is = subst (Goes p) (sym is.2) (description_goes p log is.0)
+answers_go p stage.Log v d now t none is =
+    subst (Goes p) (sym is) (subst (λ (q : Option Polled). Goes p (log_at p q v d)) (sym none) (asks_goes p p [] (left_none p none) nothing))
+answers_go p stage.Between v d now t none is = subst (Goes p) (sym is) (asks_goes p p [] (left_none p none) nothing)
+answers_go p stage.Ended v d now t none is = subst (Goes p) (sym is) (asks_goes p p [] (left_none p none) nothing)
+
+-- no answer
+loss_goes : (p : DeviceState) → p.polled ≡ None → Goes p (after_loss p)
+loss_goes p none = subst (λ (q : Option Polled). Goes p (loss_at p q)) (sym none) (leaves_goes p [] _ nothing)
+
+-- ---- while a log is polled
+
+-- this accounts for the logs, with one that is polled or none
+abbrev Polls : DeviceState → Option Polled → Stage → Turned → Type 0
+Polls p o s t = ended_in t.log o ++ (not_asked_in t.entries ++ left t.device) ≡ (at_stage s o ++ waiting p) ++ added_in t.entries
+
+goes_or_ends : (e : Option PollEnd) (r : Polled) (l : List Id) →
+    ended_by e r.log ++ (at_stage (stage_behind e) (Some r) ++ l) ≡ r.log ∷ l
+goes_or_ends None r l = refl
+goes_or_ends (Some why) r l = refl
+
+log_polls : (p : DeviceState) (q : Polled) (t : LogTurned) → Polls p (Some q) stage.Log (with_log p q t)
+log_polls p q t = goes_or_ends t.end (record q { poll = t.poll }) (waiting p) ∙ sym (append-nil (q.log ∷ waiting p))
+
+lost_if : (b : Bool) (p : DeviceState) (q : Polled) (t : LogTurned) (why : DeviceEnd) (e : PollEnd) → t.end ≡ Some e →
+    Polls p (Some q) stage.Log (if b then record (leaves (record p { polled = Some q }) [] why) { log = Some t } else with_log (record p { doubt = true }) q t)
+lost_if true p q t why e is =
+    ap (λ (o : Option PollEnd). ended_by o q.log ++ (not_asked_in (map not_asked p.logs) ++ [])) is
+    ∙ ap (λ (l : List Id). q.log ∷ l) (append-nil _ ∙ not_asked_all p.logs)
+    ∙ sym (append-nil (q.log ∷ waiting p)) ∙ ap (λ (l : List Id). (q.log ∷ waiting p) ++ l) (sym (not_asked_old p.logs))
+lost_if false p q t why e is = log_polls (record p { doubt = true }) q t
+
+-- at any log that is polled
+at_log : (p : DeviceState) (q : Polled) (f : Option Polled → Turned) → p.polled ≡ Some q → p.stage ≡ stage.Log →
+    Polls p (Some q) stage.Log (f (Some q)) → Accounts p (f p.polled)
+at_log p q f is at polls =
+    subst (λ (o : Option Polled). Polls p o p.stage (f o)) (sym is)
+    (subst (λ (s : Stage). Polls p (Some q) s (f (Some q))) (sym at) polls)
+
+-- the next one
+end_accounts : (p : DeviceState) → p.stage ≡ stage.Between → Accounts p (after_end p)
+end_accounts p is =
+    let goes : Goes p (after_end p) = goes_of p [] _ nothing (begun p p.logs [] refl) in
+    ap (λ (l : Option LogTurned). ended_in l p.polled ++ (not_asked_in (after_end p).entries ++ left (after_end p).device)) goes.log
+    ∙ goes.all ∙ ap (λ (l : List Id). l ++ added_in (after_end p).entries) (sym (ap (λ (s : Stage). at_stage s p.polled ++ waiting p) is))
+
+pub none_left_out : NoneLeftOut
+none_left_out p = (
+  λ none. (
+    λ v datagram now t is. accounts p t none (answers_go p p.stage v datagram now t none is),
+    λ device. accounts p _ none (i_am_goes p device),
+    accounts p _ none (loss_goes p none),
+  ),
+  λ q is at. (
+    λ v datagram. at_log p q (λ (o : Option Polled). log_at p o v datagram) is at (log_polls p q (log_after q.poll v datagram)),
+    at_log p q (loss_at p) is at (lost_if p.doubt p q (ends q.poll (Fault walk.Lost)) Silent (Fault walk.Lost) refl),
+  ),
+  λ is. end_accounts p is,
+)

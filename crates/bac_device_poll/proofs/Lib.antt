@@ -1,0 +1,5 @@
+mod Fits
+mod Foreign
+mod LeftOut
+mod Objects
+mod OnlyAsked

@@ -1,0 +1,12 @@
+pub mod State
+pub mod Turns
+pub mod Values
+pub mod Identity
+pub mod Word
+pub mod Clock
+pub mod Listing
+pub mod Source
+pub mod Naming
+pub mod Logs
+pub mod Poll
+pub mod Laws

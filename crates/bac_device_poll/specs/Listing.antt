@@ -1,0 +1,126 @@
+-- The Object_List of a device (clause 12.11): which trend logs it has.
+use Rattle.std.specs.Prelude.{ℕ, ◌+◌, ◌==◌, ◌&&◌, ◌||◌, nat_le, not, Bool, true, false, if◌then◌else◌, List, [], ◌∷◌}
+use Rattle.std.specs.Prelude.{◌++◌, map}
+use Rattle.std.specs.Prelude.{Option, None, Some, count_by}
+use Rattle.std.specs.List.{fold, list_any}
+use Rattle.bac_wire.specs.Primitive.{Id}
+use Rattle.bac_link.specs.declared.exchanges.Refusal.{Refusal}
+use Rattle.bac_link.specs.declared.exchanges.Refusal.TheVariants.{Abort, Error, Reject}
+use Rattle.bac_link.specs.declared.exchanges.Verdict.{Verdict}
+use Rattle.bac_link.specs.declared.exchanges.Verdict.TheVariants.{Ack, BadReply, Refused}
+use Rattle.bac_poll.specs.Poll.{nothing_told}
+use Rattle.bac_device_poll.specs.Naming.{is_other, names}
+use Rattle.bac_device_poll.specs.State.{DeviceState, LogAs, Starting}
+use Rattle.bac_device_poll.specs.Turns.{Turned, asks}
+use Rattle.bac_device_poll.specs.declared.entry.Entry.{Entry}
+use Rattle.bac_device_poll.specs.declared.entry.Entry.TheVariants.{Added, Others as Told}
+use Rattle.bac_device_poll.specs.declared.entry.Others.{Others}
+use Rattle.bac_device_poll.specs.declared.stage.Stage.TheVariants.{Count, Element, Objects}
+
+-- ---- whether it is asked for
+
+-- whether a device that tells this revision may have another list; one that tells none may
+abbrev pub may_differ : (was : Option ℕ) → (now : Option ℕ) → Bool
+may_differ was None = true
+may_differ was (Some now) = is_other was now
+
+-- The list is asked for of a device that is kept whole, where it may be another one.
+abbrev pub lists : DeviceState → List Entry → Turned
+lists p entries =
+    if p.whole && may_differ p.revision p.told.revision
+    then asks (record p { stage = Objects }) entries
+    else names p entries
+
+-- ---- the trend logs in it
+
+-- the same object
+abbrev pub is_object : Id → Id → Bool
+is_object object other = object.kind == other.kind && object.instance == other.instance
+
+-- one of these logs
+abbrev pub is_polled : Id → List LogAs → Bool
+is_polled object logs = list_any (λ (t : LogAs). is_object object t.log) logs
+
+-- a log that is on record: one of these, or one that is stopped
+abbrev pub is_known : List LogAs → (stopped : List Id) → Id → Bool
+is_known logs stopped object = is_polled object logs || list_any (is_object object) stopped
+
+-- a trend log (type 20) that is not, behind those that were found
+abbrev pub add_new : List LogAs → (stopped : List Id) → (found : List Id) → Id → List Id
+add_new logs stopped found object =
+    if object.kind == 20 && not (is_known logs stopped object || list_any (is_object object) found)
+    then found ++ object ∷ [] else found
+
+-- The trend logs among objects that aren't on record, each once.
+abbrev pub new_among : List LogAs → (stopped : List Id) → (objects : List Id) → List Id
+new_among logs stopped objects = fold (add_new logs stopped) [] objects
+
+-- one of which nothing is kept yet
+abbrev pub new_log : Id → LogAs
+new_log object = record { log = object; begin = Starting None nothing_told }
+
+-- ---- objects whose records aren't kept
+
+-- objects of a type among these
+abbrev pub count_of : (kind : ℕ) → List Id → ℕ
+count_of kind objects = count_by (λ (object : Id). object.kind == kind) objects
+
+-- Trend Log Multiple objects (type 27) and Event Log objects (type 25)
+abbrev pub others_in : List Id → Others
+others_in objects = record { multiple = count_of 27 objects; event = count_of 25 objects }
+
+-- the same numbers of them
+abbrev pub are_same : Option Others → Others → Bool
+are_same None now = now.multiple == 0 && now.event == 0
+are_same (Some was) now = was.multiple == now.multiple && was.event == now.event
+
+-- They are told where their numbers are other ones.
+abbrev pub told_others : Option Others → Others → List Entry
+told_others was now = if are_same was now then [] else Told now ∷ []
+
+-- ---- what each answer makes of it
+
+-- The list has these objects: its new trend logs are polled, too.
+abbrev pub listed : DeviceState → List Id → Turned
+listed p objects =
+    names (record p {
+      listed = true;
+      objects = [];
+      unnamed = new_among p.logs p.stopped objects;
+      logs = p.logs ++ map new_log (new_among p.logs p.stopped objects);
+    }) (map Added (new_among p.logs p.stopped objects) ++ told_others p.others (others_in objects))
+
+-- the list isn't told: its logs are those on record
+abbrev pub unlisted : DeviceState → Turned
+unlisted p = names (record p { objects = [] }) []
+
+-- too long for one answer: no room for it, no segments, or an APDU that is too long (Abort 1, 4 and 11; clause 18.10)
+abbrev pub is_long : Refusal → Bool
+is_long (Error class code) = false
+is_long (Reject reason) = false
+is_long (Abort reason) = reason == 1 || (reason == 4 || reason == 11)
+
+-- an answer that says so
+abbrev pub is_too_long : Verdict → Bool
+is_too_long Ack = false
+is_too_long (Refused refusal) = is_long refusal
+is_too_long BadReply = false
+
+-- The whole list; where it is too long for one answer it is asked for by index, of which 0 tells how long it is.
+abbrev pub after_objects : DeviceState → (too_long : Bool) → Option (List Id) → Turned
+after_objects p too_long None = if too_long then asks (record p { stage = Count }) [] else unlisted p
+after_objects p too_long (Some objects) = listed p objects
+
+-- how long it is
+abbrev pub after_count : DeviceState → Option ℕ → Turned
+after_count p None = unlisted p
+after_count p (Some count) =
+    if count == 0 then listed p [] else asks (record p { stage = Element 1 count; objects = [] }) []
+
+-- an element of so many
+abbrev pub after_element : DeviceState → (index : ℕ) → (count : ℕ) → Option Id → Turned
+after_element p index count None = unlisted p
+after_element p index count (Some object) =
+    if nat_le count index
+    then listed p (p.objects ++ object ∷ [])
+    else asks (record p { stage = Element (index + 1) count; objects = p.objects ++ object ∷ [] }) []

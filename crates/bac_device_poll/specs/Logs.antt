@@ -1,0 +1,152 @@
+-- The logs of a device are polled, one after the other.
+use Rattle.std.specs.Prelude.{ℕ, Bool, true, false, ◌==◌, ◌&&◌, ◌||◌, if◌then◌else◌, List, [], ◌∷◌, ◌++◌, Option, None}
+use Rattle.std.specs.Prelude.{Some}
+use Rattle.bac_wire.specs.Primitive.{Id}
+use Rattle.bac_link.specs.declared.exchanges.Refusal.{Refusal}
+use Rattle.bac_link.specs.declared.exchanges.Refusal.TheVariants.{Abort, Error, Reject}
+use Rattle.bac_link.specs.declared.exchanges.Verdict.{Verdict}
+use Rattle.bac_link.specs.declared.exchanges.Verdict.TheVariants.{Ack, BadReply, Refused}
+use Rattle.bac_walk.specs.declared.outcome.WalkFault.TheVariants as walk
+use Rattle.bac_poll.specs.Poll.{after, after_count, after_restart, after_revision}
+use Rattle.bac_poll.specs.State.{PollState}
+use Rattle.bac_poll.specs.Turns.{Turned as LogTurned, ends}
+use Rattle.bac_poll.specs.declared.stage.Stage.TheVariants as log
+use Rattle.bac_poll.specs.declared.stage.Stage.{Stage as LogStage}
+use Rattle.bac_poll.specs.declared.turn.PollEnd.{PollEnd}
+use Rattle.bac_poll.specs.declared.turn.PollEnd.TheVariants.{Fault}
+use Rattle.bac_device_poll.specs.Identity.{device_of}
+use Rattle.bac_device_poll.specs.State.{DeviceState, LogAs, begun}
+use Rattle.bac_device_poll.specs.Turns.{Turned, asks, leaves}
+use Rattle.bac_device_poll.specs.Values.{number_of, told_by, value_by}
+use Rattle.bac_device_poll.specs.Word.{moment_of, restart_of}
+use Rattle.bac_device_poll.specs.declared.entry.Entry.{Entry}
+use Rattle.bac_device_poll.specs.declared.logs.Wanted.{Wanted}
+use Rattle.bac_device_poll.specs.declared.logs.Wanted.TheVariants.{Records, Count, Revision, Restart}
+use Rattle.bac_device_poll.specs.declared.stage.Stage.{Stage}
+use Rattle.bac_device_poll.specs.declared.stage.Stage.TheVariants.{Between, Ended, Log}
+use Rattle.bac_device_poll.specs.declared.task.Polled.{Polled}
+use Rattle.bac_device_poll.specs.declared.turn.DeviceEnd.TheVariants.{Done, Silent}
+use Rattle.bac_device_poll.specs.declared.turn.Step.{Step}
+use Rattle.bac_device_poll.specs.declared.turn.Step.TheVariants.{Ask, End, GoOn}
+
+-- ---- refusals that pass
+
+-- preempted, out of time or of resources, or no answer from behind it (Abort 3, 8, 9 and 10; clause 18.10), or a device
+-- that is busy (Error 0 3; clause 18)
+abbrev pub is_passing : Refusal → Bool
+is_passing (Error class code) = class == 0 && code == 3
+is_passing (Reject reason) = false
+is_passing (Abort reason) = reason == 3 || (reason == 8 || (reason == 9 || reason == 10))
+
+-- an answer that is one
+abbrev pub is_busy : Verdict → Bool
+is_busy Ack = false
+is_busy (Refused refusal) = is_passing refusal
+is_busy BadReply = false
+
+-- ---- one log behind the other
+
+-- the device has no more logs
+abbrev pub is_done : DeviceState → List Entry → Turned
+is_done p entries = record (asks (record p { stage = Ended; polled = None }) entries) { step = End Done }
+
+-- the first of these logs is polled
+abbrev pub begins_with : DeviceState → List LogAs → List Entry → Turned
+begins_with p [] entries = is_done p entries
+begins_with p (task ∷ logs) entries =
+    asks (record p {
+      stage = Log;
+      polled = Some (record { log = task.log; poll = begun task.log (device_of p.who) p.many p.told task.begin });
+      logs = logs;
+    }) entries
+
+-- The next log is polled, if there is one.
+abbrev pub begins : DeviceState → List Entry → Turned
+begins p entries = begins_with p p.logs entries
+
+-- ---- what an answer makes of one
+
+-- what an answer is read as, by what it is for
+abbrev pub wanted_at : LogStage → Wanted
+wanted_at log.Joins = Records
+wanted_at log.Prior = Records
+wanted_at log.Ahead = Records
+wanted_at log.Again = Records
+wanted_at log.Each = Records
+wanted_at log.ByNumber = Records
+wanted_at (log.Oldest aim) = Records
+wanted_at (log.Counts aim) = Count
+wanted_at (log.UpTo aim) = Records
+wanted_at (log.Back aim) = Records
+wanted_at log.Revision = Revision
+wanted_at log.Restart = Restart
+
+-- records that came, or were refused
+abbrev pub with_records : PollState → Verdict → List ℕ → LogTurned
+with_records q Ack datagram = after q datagram
+with_records q (Refused refusal) datagram = ends q (Fault (walk.Refused refusal))
+with_records q BadReply datagram = ends q (Fault walk.BadReply)
+
+-- A refusal of records ends the poll of a log; one of a count, or of a part of the word, is an answer.
+abbrev pub read_as : PollState → Wanted → Verdict → List ℕ → LogTurned
+read_as q Records verdict datagram = with_records q verdict datagram
+read_as q Count verdict datagram = after_count q (number_of (value_by verdict datagram))
+read_as q Revision verdict datagram = after_revision q (number_of (value_by verdict datagram))
+read_as q Restart verdict datagram =
+    after_restart q (restart_of (told_by verdict datagram)) (moment_of (told_by verdict datagram))
+
+-- but one that passes, and was given too often, is none: it ends the poll
+abbrev pub log_after : PollState → Verdict → List ℕ → LogTurned
+log_after q verdict datagram =
+    if is_busy verdict then with_records q verdict datagram else read_as q (wanted_at q.stage) verdict datagram
+
+-- what is asked behind a turn of a log
+abbrev pub stage_behind : Option PollEnd → Stage
+stage_behind None = Log
+stage_behind (Some why) = Between
+
+-- how it goes on
+abbrev pub step_behind : Option PollEnd → Step
+step_behind None = Ask
+step_behind (Some why) = GoOn
+
+-- the log that is polled has this turn
+abbrev pub with_log : DeviceState → Polled → LogTurned → Turned
+with_log p q t = record {
+  device = record p { stage = stage_behind t.end; polled = Some (record q { poll = t.poll }) };
+  entries = [];
+  log = Some t;
+  step = step_behind t.end;
+}
+
+-- the log of a device, if one is polled
+abbrev pub log_at : DeviceState → Option Polled → Verdict → List ℕ → Turned
+log_at p None verdict datagram = asks p []
+log_at p (Some q) verdict datagram = with_log p q (log_after q.poll verdict datagram)
+
+-- An answer to the question of the log that is polled.
+abbrev pub after_log : DeviceState → Verdict → List ℕ → Turned
+after_log p verdict datagram = log_at p p.polled verdict datagram
+
+-- ---- no answer
+
+-- Its log is lost: behind it the first question of the next one is sent once. If that is lost, too, the device is
+-- silent, and the logs behind it aren't asked.
+abbrev pub lost : DeviceState → Polled → Turned
+lost p q =
+    if p.doubt
+    then record (leaves (record p { polled = Some q }) [] Silent) { log = Some (ends q.poll (Fault walk.Lost)) }
+    else with_log (record p { doubt = true }) q (ends q.poll (Fault walk.Lost))
+
+-- a device that doesn't answer before its logs are polled is silent
+abbrev pub loss_at : DeviceState → Option Polled → Turned
+loss_at p None = leaves p [] Silent
+loss_at p (Some q) = lost p q
+
+-- No answer came, to any send.
+abbrev pub after_loss : DeviceState → Turned
+after_loss p = loss_at p p.polled
+
+-- The poll of a log has ended: the next one.
+abbrev pub after_end : DeviceState → Turned
+after_end p = begins p []

@@ -1,0 +1,39 @@
+//! What is asked of one device, and what each answer makes of it: a function of what is known of
+//! the device. There is no socket here, no file and no clock.
+//!
+//! A [`DevicePoll`] asks first who answers, and compares it with the device on record; then for
+//! the device's word, its clock, its Object_List and what its trend logs are; then it polls one log
+//! behind the other, each as a `LogPoll`. [`DevicePoll::question`] is what is asked next;
+//! [`DevicePoll::take`], [`DevicePoll::hear_i_am`] and [`DevicePoll::lose`] are what comes of it. A
+//! [`Turn`] is what is put on record then, or told.
+#![tactic(auto)]
+
+mod clock;
+mod entry;
+mod identity;
+mod laws;
+mod listing;
+mod logs;
+mod naming;
+mod poll;
+mod question;
+mod read;
+mod source;
+mod stage;
+mod task;
+mod text;
+mod turn;
+mod who;
+mod word;
+
+pub use entry::{Entry, Naming, Offset, Others, Reference};
+pub use laws::{asks_readings, keeps_no_other, none_left_out};
+pub use logs::Wanted;
+pub use poll::{DevicePoll, Known};
+pub use question::Question;
+pub use stage::Stage;
+pub use task::{Begin, LogTask, Polled};
+pub use text::Text;
+pub use turn::{DeviceEnd, Step, Turn};
+pub use who::{Who, Whose};
+pub use word::{moment_in, restart_in};
