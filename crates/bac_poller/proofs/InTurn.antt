@@ -45,7 +45,7 @@ act_behind (doing.Ended why) old s wanted new acts = on_behind old (seat_ended w
 -- one that asks isn't among those that wait any more
 asked_waits : (old : SiteState) (s : Seat) (wanted : Next) (new : SiteState) (p : LogPoller) → GivesBy doing.Asks s.poller wanted p → new ≡ put_by p.doing old (record s { poller = p; kept = counts_with wanted s.kept }) → new.waiting ≡ old.waiting
 asked_waits old s (next.Send octets to) new p gives is =
-    let P : Doing → Type 0 = λ d. (put_by d old (record s { poller = p; kept = counts_with wanted s.kept })).waiting ≡ old.waiting in
+    let P : Doing → Type 0 = λ d. (put_by d old (record s { poller = p })).waiting ≡ old.waiting in
     let e : p.doing ≡ doing.Waits 16 = ap (λ (x : LogPoller). x.doing) gives.2 in
     ap (λ (x : SiteState). x.waiting) is ∙ subst P (sym e) refl
 asked_waits old s wanted new p gives is = absurd gives

@@ -103,6 +103,7 @@ fn id_of(put: &Put) -> i64 {
     match put {
         Put::Item(row) => row.id,
         Put::Beginning(row) => i64::from(row.id),
+        Put::Lowered(row) => i64::from(row.id),
         Put::NewDevice(_) => 0,
         Put::Device(_) => 0,
         Put::NewLog(_) => 0,
