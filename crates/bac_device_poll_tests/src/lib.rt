@@ -1,0 +1,5 @@
+//! Tests of a device's poll, by its public calls.
+#![tactic(auto)]
+
+#[cfg(test)]
+mod device;
