@@ -312,8 +312,8 @@ module _ {S P : Type 0} (rules : SocketRules S P) (changes : S → S → Type 0)
       (old : Streams S C) (result : Ending) (new : Streams S C) (errors now : Held) (status : ℕ)
       → Works rules tells (job.Log said) old result new → Ends passed result errors now status
       → PrintsLog rules changes new.sockets said old.output new.output status
-  works tells said lines passed old result new errors now status (inl (fault, none, keeps, same), quiet) ends = inl keeps
-  works tells said lines passed old result new errors now status (inr is, quiet) ends =
+  works tells said lines passed old result new errors now status (inl (fault, none, keeps, same), quiet, unread) ends = inl keeps
+  works tells said lines passed old result new errors now status (inr is, quiet, unread) ends =
       logged said lines passed (outlets_of old) result (outlets_of new) errors now status is ends
 
   runs : {C : Type 0} (passes : S → Passed) (tells : C → Option CivilTime → C → Type 0) (said : LogReading) → said.csv ≡ false

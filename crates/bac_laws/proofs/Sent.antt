@@ -95,22 +95,22 @@ module _ {S P : Type 0} {rules : SocketRules S P} {changes : S → S → Type 0}
       → (seal : Seal rules changes (MaySend asked)) (old : Streams S C) (result : Ending) (new : Streams S C)
       → Works rules tells asked old result new → seal.sockets old.sockets ≡ true → seal.sockets new.sockets ≡ true
   works tells job.Replay bound seal old result new is whole = same_sockets seal old.sockets new.sockets is.1.1 whole
-  works tells (job.Rp said) bound seal old result new (inl (none, (why, keeps, same)), quiet) whole =
+  works tells (job.Rp said) bound seal old result new (inl (none, (why, keeps, same)), quiet, unread) whole =
       same_sockets seal old.sockets new.sockets same whole
-  works tells (job.Rp said) bound seal old result new (inr is, quiet) whole =
+  works tells (job.Rp said) bound seal old result new (inr is, quiet, unread) whole =
       reads seal said.asked (question said) (reals_of said.numbers) (outside_of old) result (outside_of new) (λ octets r. (r, refl)) is whole
-  works tells (job.Wp said) bound seal old result new (inl (none, (why, keeps, same)), quiet) whole =
+  works tells (job.Wp said) bound seal old result new (inl (none, (why, keeps, same)), quiet, unread) whole =
       same_sockets seal old.sockets new.sockets same whole
-  works tells (job.Wp said) bound seal old result new (inr (w, same, is), quiet) whole =
+  works tells (job.Wp said) bound seal old result new (inr (w, same, is), quiet, unread) whole =
       writes seal said.asked w (outside_of old) result (outside_of new) (λ octets r. (r, refl)) is whole
-  works tells (job.Log said) bound seal old result new (inl (fault, none, keeps, same), quiet) whole =
+  works tells (job.Log said) bound seal old result new (inl (fault, none, keeps, same), quiet, unread) whole =
       same_sockets seal old.sockets new.sockets same whole
-  works tells (job.Log said) bound seal old result new (inr is, quiet) whole =
+  works tells (job.Log said) bound seal old result new (inr is, quiet, unread) whole =
       fetches seal said.asked (errand (layout_of said.csv) (walk_from said.instance said.from said.count) said.steps)
           (outlets_of old) result (outlets_of new) (λ octets r. (r, refl)) is whole
-  works tells (job.Logs said) bound seal old result new (inl (fault, none, keeps, same), quiet) whole =
+  works tells (job.Logs said) bound seal old result new (inl (fault, none, keeps, same), quiet, unread) whole =
       same_sockets seal old.sockets new.sockets same whole
-  works tells (job.Logs said) bound seal old result new (inr is, quiet) whole =
+  works tells (job.Logs said) bound seal old result new (inr is, quiet, unread) whole =
       lists seal said.asked (map trend_log said.instances) (outside_of old) result (outside_of new) (λ octets r. (r, refl)) is whole
   works tells (job.Serve said) bound seal old result new is whole = absurd bound
   works tells (job.Wi said) bound seal old result new (is, quiet) whole =
