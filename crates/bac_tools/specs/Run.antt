@@ -154,7 +154,7 @@ abbrev pub IsQuietAtFault : {S C : Type 0} → Ending → Streams S C → Stream
 IsQuietAtFault result old new = IfErr result (λ fault. new.errors ≡ old.errors) × (new.clock ≡ old.clock)
 
 -- The tool of a job, before its fault is told. Only `serve` looks at the clock, and tells that it is up; and only `log`
--- tells of a device that it contradicted itself. The input is left to who comes next, but by `replay`, `serve` and `wi`.
+-- tells of a device that it contradicted itself. Only `replay`, `serve` and `wi` read the input.
 abbrev pub Works : {S P C : Type 0} → SocketRules S P → (C → Option CivilTime → C → Type 0) →
     Job → Streams S C → Ending → Streams S C → Type 0
 Works rules tells job.Replay old result new =
