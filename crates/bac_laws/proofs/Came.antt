@@ -136,10 +136,12 @@ module _ {S : Type 0} {asks : Ask S} {leads : Leads asks Any} (ears : Hears lead
   replies log (c ∷ came) before after same (mid, next, p, place, asks-by, taken, items, rest) number entry has =
       elim (Contains-append_cases c.items (items_of (answers_of came)) (Logged number entry) has) [
         | inl now ↦ known_on mid after.link log number entry
-            (come leads (λ r. tt) came (walk_by mid (asked before.place before.transactions) next) after rest)
-            (c.datagram, heard_by (next_way before.transactions) _ before.link c.datagram mid asks-by,
-            subst (λ (l : Id). HasRecord l c.datagram number entry) same
-            (has_record before.place c.datagram _ p next refl taken number entry (subst (λ (l : List Item). Contains l (Logged number entry)) items now)))
+            (come leads (λ r. tt) came (walk_by mid (asked before.place before.transactions) next) after rest) (
+              c.datagram,
+              heard_by (next_way before.transactions) _ before.link c.datagram mid asks-by,
+              subst (λ (l : Id). HasRecord l c.datagram number entry) same
+                  (has_record before.place c.datagram _ p next refl taken number entry (subst (λ (l : List Item). Contains l (Logged number entry)) items now)),
+            )
         | inr later ↦ replies log came (walk_by mid (asked before.place before.transactions) next) after
             (log_stays before.place _ p next taken ∙ same) rest number entry later
       ]
@@ -158,5 +160,5 @@ module _ {S : Type 0} {asks : Ask S} {leads : Leads asks Any} (ears : Hears lead
       → Known after.link before.place.log number entry
   run_known before steps came items ended after is number entry has =
       known_on is.mid after.link before.place.log number entry (ends leads (λ r. tt) steps came (walk_by is.mid is.half is.here) ended after is.ends)
-          (replies before.place.log came (walk_by before.link before.transactions (restarted before.place)) (walk_by is.mid is.half is.here) refl is.comes number entry
-          (among_all ended came items after.place is.are (Logged number entry) has))
+      (replies before.place.log came (walk_by before.link before.transactions (restarted before.place)) (walk_by is.mid is.half is.here) refl is.comes number entry
+      (among_all ended came items after.place is.are (Logged number entry) has))

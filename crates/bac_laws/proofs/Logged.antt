@@ -106,7 +106,7 @@ module _ {S P : Type 0} {rules : SocketRules S P} {changes : S → S → Type 0}
       λ from datagram has. keep_same mid new is from datagram (ledger.receives old mid (Err why) from datagram has receives)
   keep_awaits peer request (suc n) old result new (Ok heard, mid, receives, is) =
       λ from datagram has. keep_taken (fitting peer request heard) mid result new (Awaits rules.receives peer request n mid result new) is
-          (λ more. keep_awaits peer request n mid result new more) from datagram (ledger.receives old mid (Ok heard) from datagram has receives)
+      (λ more. keep_awaits peer request n mid result new more) from datagram (ledger.receives old mid (Ok heard) from datagram has receives)
 
   pub keep_sent : (peer request : List ℕ) (limit : ℕ) (answer : Sending) (port : P) (result : Result (List ℕ) Lost) (new : P)
       → IsSent rules.receives (to_peer peer request) limit answer port result new → Keep port new
@@ -128,8 +128,8 @@ module _ {S P : Type 0} {rules : SocketRules S P} {changes : S → S → Type 0}
       let one : datagram ≡ came = (let e : Ok datagram ≡ Ok came = same in cc) in
       let has : ledger.port mid heard.from came ≡ true = ledger.hears old mid heard came of.1 receives in
       subst (λ (p : P). ledger.port p peer datagram ≡ true) (sym is)
-          (subst (λ (d : List ℕ). ledger.port mid peer d ≡ true) (sym one)
-          (subst (λ (from : List ℕ). ledger.port mid from came ≡ true) of.0 has))
+      (subst (λ (d : List ℕ). ledger.port mid peer d ≡ true) (sym one)
+      (subst (λ (from : List ℕ). ledger.port mid from came ≡ true) of.0 has))
 
   pub heard_awaits : (peer request : List ℕ) (n : ℕ) (old : P) (datagram : List ℕ) (new : P)
       → Awaits rules.receives peer request n old (Ok datagram) new → ledger.port new peer datagram ≡ true
@@ -138,7 +138,7 @@ module _ {S P : Type 0} {rules : SocketRules S P} {changes : S → S → Type 0}
   heard_awaits peer request (suc n) old datagram new (Err why, mid, receives, (lost, is)) = absurd lost
   heard_awaits peer request (suc n) old datagram new (Ok heard, mid, receives, is) =
       heard_taken peer request heard (fitting peer request heard) old mid new datagram (Awaits rules.receives peer request n mid (Ok datagram) new) refl receives is
-          (λ more. heard_awaits peer request n mid datagram new more)
+      (λ more. heard_awaits peer request n mid datagram new more)
 
   pub heard_asked : (peer octets : List ℕ) (old : P) (datagram : List ℕ) (new : P)
       → Asks rules.sends rules.receives (to_peer peer octets) 16 old (Ok datagram) new → ledger.port new peer datagram ≡ true
@@ -159,7 +159,7 @@ module _ {S P : Type 0} (rules : SocketRules S P) (changes : S → S → Type 0)
     had = λ a datagram. (ledger : Ledger rules changes) → ledger.port a.port a.peer datagram ≡ true;
     keeps = λ a b datagram to has. λ ledger. subst (λ (p : List ℕ). ledger.port b.port p datagram ≡ true) (sym to.0) (to.1 ledger a.peer datagram (has ledger));
     hears = λ a b octets datagram is. λ ledger. subst (λ (p : List ℕ). ledger.port b.port p datagram ≡ true) (sym is.1)
-    (heard_asked ledger a.peer octets a.port datagram b.port is.0);
+        (heard_asked ledger a.peer octets a.port datagram b.port is.0);
   }
 
 -- ---- the text
@@ -285,7 +285,7 @@ module _ {S P : Type 0} (rules : SocketRules S P) (changes : S → S → Type 0)
   over said false is before fetching after (inl (fault, (not, same), failed, left)) = absurd (let e : Err fault ≡ Ok tt = not in cc)
   over said false is before fetching after (inr (mid, (done, same), ((last, run, few), told, flaw))) =
       subst (λ (h : Held). IsPrinted (link_hears rules changes) said before.asker after.asker fetching h after.printed) same
-          (run_printed (link_hears rules changes) said (printing (client before.asker (transactions_with said.asked)) mid) fetching (printing (client after.asker last) after.printed) run)
+      (run_printed (link_hears rules changes) said (printing (client before.asker (transactions_with said.asked)) mid) fetching (printing (client after.asker last) after.printed) run)
 
   -- the peer of a link that was just made is the device's
   pub logged : (said : LogReading) → said.csv ≡ false → (passed : Passed) (old : Outlets S) (result : Ending) (new : Outlets S) (errors now : Held) (status : ℕ)
@@ -305,15 +305,15 @@ module _ {S P : Type 0} (rules : SocketRules S P) (changes : S → S → Type 0)
             (subst (λ (b : Bool). result ≡ of_fetching (layout_of b) said.asked.address fetching) lines how) ends,
         it.once,
         λ number entry has. let known = it.came number entry has in
-        (known.0, (λ ledger. ledger.closes between new.sockets last said.asked.address known.0 (inr (stands ledger known.0 (known.1 ledger))) closes), known.2),
+            (known.0, (λ ledger. ledger.closes between new.sockets last said.asked.address known.0 (inr (stands ledger known.0 (known.1 ledger))) closes), known.2),
       )
 
   works : {C : Type 0} (tells : C → Option CivilTime → C → Type 0) (said : LogReading) → said.csv ≡ false → (passed : Passed)
       (old : Streams S C) (result : Ending) (new : Streams S C) (errors now : Held) (status : ℕ)
       → Works rules tells (job.Log said) old result new → Ends passed result errors now status
       → PrintsLog rules changes new.sockets said old.output new.output status
-  works tells said lines passed old result new errors now status (inl (fault, none, keeps, same), quiet) ends = inl keeps
-  works tells said lines passed old result new errors now status (inr is, quiet) ends =
+  works tells said lines passed old result new errors now status (inl (fault, none, keeps, same), quiet, unread) ends = inl keeps
+  works tells said lines passed old result new errors now status (inr is, quiet, unread) ends =
       logged said lines passed (outlets_of old) result (outlets_of new) errors now status is ends
 
   runs : {C : Type 0} (passes : S → Passed) (tells : C → Option CivilTime → C → Type 0) (said : LogReading) → said.csv ≡ false

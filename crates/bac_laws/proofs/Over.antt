@@ -33,7 +33,7 @@ module _ {S P : Type 0} {rules : SocketRules S P} {changes : S → S → Type 0}
       λ whole. still mid new is (seal.receives old mid (Err fault) whole receives)
   awaits peer request (suc n) old result new (Ok heard, mid, receives, is) =
       λ whole. taken (fitting peer request heard) mid result new (Awaits rules.receives peer request n mid result new) is
-          (λ more. awaits peer request n mid result new more) (seal.receives old mid (Ok heard) whole receives)
+      (λ more. awaits peer request n mid result new more) (seal.receives old mid (Ok heard) whole receives)
 
   sent : (peer request : List ℕ) (limit : ℕ) (answer : Sending) (port : P) (result : Result (List ℕ) Lost) (new : P)
       → IsSent rules.receives (to_peer peer request) limit answer port result new → StaysWhole port new

@@ -61,7 +61,7 @@ module _ {S P : Type 0} {rules : SocketRules S P} {changes : S → S → Type 0}
   along octets [] old new ok is = still seal old new is
   along octets (Sent address sent ∷ turns) old new ok (mid, sends, rest) =
       λ whole. along octets turns mid new (λ a has. ok a (Contains-append_right (address ∷ []) (asked_in turns) a has)) rest
-          (seal.sends old mid octets address sent (ok address (first_of address (asked_in turns))) whole sends)
+      (seal.sends old mid octets address sent (ok address (first_of address (asked_in turns))) whole sends)
   along octets (Received wait heard ∷ turns) old new ok (mid, receives, rest) =
       λ whole. along octets turns mid new ok rest (received wait old heard mid receives whole)
 
@@ -70,9 +70,9 @@ module _ {S P : Type 0} {rules : SocketRules S P} {changes : S → S → Type 0}
       → Searches rules wanted addresses old result new → seal.sockets old.sockets ≡ true → seal.sockets new.sockets ≡ true
   searches wanted addresses old result new ok is whole =
       done_over seal (binding (own_address wanted.local) wanted.timeout) old.sockets new.sockets result _ _
-          (λ port last did. let tells = did.1.3 in
-          along (who_is_octets wanted.search) tells.0 port last
-          (λ a has. ok a (among 4096 addresses tells.0 (unasked old.output) did.1.0 did.1.1 tells.2 a has)) tells.1) is whole
+      (λ port last did. let tells = did.1.3 in
+      along (who_is_octets wanted.search) tells.0 port last
+      (λ a has. ok a (among 4096 addresses tells.0 (unasked old.output) did.1.0 did.1.1 tells.2 a has)) tells.1) is whole
 
   finds : (wanted : Inquiry) (stations : Stations) (old : Pipes S) (result : Ending) (new : Pipes S)
       → ((a : List ℕ) → IsStation stations a → may (who_is_octets wanted.search) a)
@@ -95,27 +95,27 @@ module _ {S P : Type 0} {rules : SocketRules S P} {changes : S → S → Type 0}
       → (seal : Seal rules changes (MaySend asked)) (old : Streams S C) (result : Ending) (new : Streams S C)
       → Works rules tells asked old result new → seal.sockets old.sockets ≡ true → seal.sockets new.sockets ≡ true
   works tells job.Replay bound seal old result new is whole = same_sockets seal old.sockets new.sockets is.1.1 whole
-  works tells (job.Rp said) bound seal old result new (inl (none, (why, keeps, same)), quiet) whole =
+  works tells (job.Rp said) bound seal old result new (inl (none, (why, keeps, same)), quiet, unread) whole =
       same_sockets seal old.sockets new.sockets same whole
-  works tells (job.Rp said) bound seal old result new (inr is, quiet) whole =
+  works tells (job.Rp said) bound seal old result new (inr is, quiet, unread) whole =
       reads seal said.asked (question said) (reals_of said.numbers) (outside_of old) result (outside_of new) (λ octets r. (r, refl)) is whole
-  works tells (job.Wp said) bound seal old result new (inl (none, (why, keeps, same)), quiet) whole =
+  works tells (job.Wp said) bound seal old result new (inl (none, (why, keeps, same)), quiet, unread) whole =
       same_sockets seal old.sockets new.sockets same whole
-  works tells (job.Wp said) bound seal old result new (inr (w, same, is), quiet) whole =
+  works tells (job.Wp said) bound seal old result new (inr (w, same, is), quiet, unread) whole =
       writes seal said.asked w (outside_of old) result (outside_of new) (λ octets r. (r, refl)) is whole
-  works tells (job.Log said) bound seal old result new (inl (fault, none, keeps, same), quiet) whole =
+  works tells (job.Log said) bound seal old result new (inl (fault, none, keeps, same), quiet, unread) whole =
       same_sockets seal old.sockets new.sockets same whole
-  works tells (job.Log said) bound seal old result new (inr is, quiet) whole =
+  works tells (job.Log said) bound seal old result new (inr is, quiet, unread) whole =
       fetches seal said.asked (errand (layout_of said.csv) (walk_from said.instance said.from said.count) said.steps)
-          (outlets_of old) result (outlets_of new) (λ octets r. (r, refl)) is whole
-  works tells (job.Logs said) bound seal old result new (inl (fault, none, keeps, same), quiet) whole =
+      (outlets_of old) result (outlets_of new) (λ octets r. (r, refl)) is whole
+  works tells (job.Logs said) bound seal old result new (inl (fault, none, keeps, same), quiet, unread) whole =
       same_sockets seal old.sockets new.sockets same whole
-  works tells (job.Logs said) bound seal old result new (inr is, quiet) whole =
+  works tells (job.Logs said) bound seal old result new (inr is, quiet, unread) whole =
       lists seal said.asked (map trend_log said.instances) (outside_of old) result (outside_of new) (λ octets r. (r, refl)) is whole
   works tells (job.Serve said) bound seal old result new is whole = absurd bound
   works tells (job.Wi said) bound seal old result new (is, quiet) whole =
       finds seal (inquiry (search_of said) said.local said.timeout) said.stations (pipes_of old) result (pipes_of new)
-          (λ a has. ((search_of said, refl), has)) is whole
+      (λ a has. ((search_of said, refl), has)) is whole
   works tells (job.Keep asked) bound seal old result new is whole = same_sockets seal old.sockets new.sockets is.3.1 whole
   works tells (job.Kept asked) bound seal old result new is whole = same_sockets seal old.sockets new.sockets is.3.1 whole
   works tells (job.Check asked) bound seal old result new is whole = same_sockets seal old.sockets new.sockets is.3.1 whole
@@ -176,4 +176,4 @@ module _ {S C P F G T Q : Type 0} {s : start.Ghosts F} {t : start.Ghosts G} (g :
       λ seal whole. same_sockets seal old.sockets new.sockets same whole
   sends_only asked bound old files status new left (inr (sockets, switches', is)) =
       λ seal whole. does_all asked bound seal (streams old.input old.output old.errors sockets old.clock) files status new left is
-          (seal.changed old.sockets sockets whole (inl (is_traced asked, switches')))
+      (seal.changed old.sockets sockets whole (inl (is_traced asked, switches')))

@@ -61,8 +61,8 @@ module _ {L : Type 0} {asks : Ask L} (leads : Leads asks IsReadRange) where
   fetched wanted old result new (came, items, n, ended, after, half, mid, is, tells, head, more) =
       let at = left_so wanted.layout _ wanted.steps (course items n ended after) result old.printed new.printed tells in
       leads.on old.asker.link mid new.asker.link
-          (brought leads (λ r. (r, refl)) (walk_by old.asker.link old.asker.transactions wanted.walk) n came items ended (walk_by mid half after) is)
-          (is_left half mid after new.asker.transactions new.asker.link at.0 at.1)
+      (brought leads (λ r. (r, refl)) (walk_by old.asker.link old.asker.transactions wanted.walk) n came items ended (walk_by mid half after) is)
+      (is_left half mid after new.asker.transactions new.asker.link at.0 at.1)
 
 module _ {S P : Type 0} {rules : SocketRules S P} {changes : S → S → Type 0} {may : List ℕ → List ℕ → Type 0}
     (seal : Seal rules changes may) where
@@ -87,8 +87,8 @@ module _ {S P : Type 0} {rules : SocketRules S P} {changes : S → S → Type 0}
       → AsksDevice rules asked does ends old result new → seal.sockets old.sockets ≡ true → seal.sockets new.sockets ≡ true
   device {A = A} asked does ends old result new each is whole =
       done_over (binding (own_address asked.local) asked.timeout) old.sockets new.sockets result (Keeps old.output new.output) (Over {A = A} asked does ends old result new)
-          (λ port last did. linked seal asked.address port last did.1
-          (each (printing (link_over asked.address port) old.output) did.0 (printing did.1 new.output) did.2) did.3) is whole
+      (λ port last did. linked seal asked.address port last did.1
+      (each (printing (link_over asked.address port) old.output) did.0 (printing did.1 new.output) did.2) did.3) is whole
 
   pub reads : (asked : Asked) (question : ReadProperty) (reals : Reals) (old : Outside S) (result : Ending)
       (new : Outside S) → ((octets : List ℕ) → Requests IsReadProperty octets → may octets asked.address)
@@ -123,12 +123,12 @@ module _ {S P : Type 0} {rules : SocketRules S P} {changes : S → S → Type 0}
       alike (over_link seal asked.address IsReadRange ok) before.asker after.asker same
   fetches_over asked wanted ok before fetching after (inr (mid, begins, ((last, is, few), run, flaw))) =
       fetched (over_link seal asked.address IsReadRange ok) wanted
-          (printing (client before.asker (transactions_with asked)) mid) fetching (printing (client after.asker last) after.printed) is
+      (printing (client before.asker (transactions_with asked)) mid) fetching (printing (client after.asker last) after.printed) is
 
   pub fetches : (asked : Asked) (wanted : Errand) (old : Outlets S) (result : Ending) (new : Outlets S)
       → ((octets : List ℕ) → Requests IsReadRange octets → may octets asked.address)
       → Fetches rules asked wanted old result new → seal.sockets old.sockets ≡ true → seal.sockets new.sockets ≡ true
   fetches asked wanted old result new ok is whole =
       device asked (λ before fetching after. FetchesOver rules asked wanted before fetching after × SaysOf fetching old.errors new.errors)
-          (of_fetching wanted.layout asked.address) (outside old.sockets old.output) result (outside new.sockets new.output)
-          (λ before answer after did. fetches_over asked wanted ok before answer after did.0) is whole
+      (of_fetching wanted.layout asked.address) (outside old.sockets old.output) result (outside new.sockets new.output)
+      (λ before answer after did. fetches_over asked wanted ok before answer after did.0) is whole

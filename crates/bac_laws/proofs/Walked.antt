@@ -38,8 +38,8 @@ module _ {S : Type 0} {asks : Ask S} {reads : Request → Type 0} (leads : Leads
   come [] before after is = alike leads before.link after.link is.1
   come (c ∷ came) before after (mid, next, p, place, asks-by, taken, items, rest) =
       leads.on before.link mid after.link
-          (walked before.transactions before.link before.place (Ok c.datagram) mid asks-by)
-          (come came (walk_by mid (asked before.place before.transactions) next) after rest)
+      (walked before.transactions before.link before.place (Ok c.datagram) mid asks-by)
+      (come came (walk_by mid (asked before.place before.transactions) next) after rest)
 
   pub ends : (steps : ℕ) (came : List Came) (here : WalkBy S) (ended : Ended) (after : WalkBy S)
       → EndsAfter asks steps came here ended after → leads.to here.link after.link
@@ -53,8 +53,8 @@ module _ {S : Type 0} {asks : Ask S} {reads : Request → Type 0} (leads : Leads
       → BroughtBy asks before steps came items ended after → leads.to before.link after.link
   brought before steps came items ended after is =
       leads.on before.link is.mid after.link
-          (come came (walk_by before.link before.transactions (restarted before.place)) (walk_by is.mid is.half is.here) is.comes)
-          (ends steps came (walk_by is.mid is.half is.here) ended after is.ends)
+      (come came (walk_by before.link before.transactions (restarted before.place)) (walk_by is.mid is.half is.here) is.comes)
+      (ends steps came (walk_by is.mid is.half is.here) ended after is.ends)
 
 -- ---- properties
 
@@ -80,8 +80,8 @@ module _ {S : Type 0} {asks : Ask S} {reads : Request → Type 0} (leads : Leads
   adds_cells log [] old result new is = alike_clients old.asker new.asker is.2
   adds_cells log (property ∷ more) old result new (inl (mid, between, first, rest)) =
       leads.on old.asker.link mid.link new.asker.link
-          (adds_cell (table.property_of log property) old (Ok tt) (printing mid between) first)
-          (adds_cells log more (printing mid between) result new rest)
+      (adds_cell (table.property_of log property) old (Ok tt) (printing mid between) first)
+      (adds_cells log more (printing mid between) result new rest)
   adds_cells log (property ∷ more) old result new (inr (fault, is, first)) =
       adds_cell (table.property_of log property) old (Err fault) new first
 
@@ -108,7 +108,7 @@ module _ {S : Type 0} {asks : Ask S} {reads : Request → Type 0} (leads : Leads
   prints_rows [] old result new is = alike_clients old.asker new.asker is.1
   prints_rows (log ∷ logs) old result new (inl (mid, held, first, rest)) =
       leads.on old.asker.link mid.link new.asker.link (prints_row log old (Ok tt) (printing mid held) first)
-          (prints_rows logs (printing mid held) result new rest)
+      (prints_rows logs (printing mid held) result new rest)
   prints_rows (log ∷ logs) old result new (inr (fault, is, first)) = prints_row log old (Err fault) new first
 
   ends_so : (end : Answer) (old : Session S) (result : Answer) (new : Session S) → table.EndsSo end old result new
@@ -130,7 +130,7 @@ module _ {S : Type 0} {asks : Ask S} {reads : Request → Type 0} (leads : Leads
       → table.PrintsPlace asks place old result new → leads.to old.asker.link new.asker.link
   prints_place place old result new (answer, mid, asks-it, prints) =
       leads.on old.asker.link mid.link new.asker.link (questioned (list_at place) old.asker answer mid asks-it)
-          (prints_told answer (printing mid old.printed) result new prints)
+      (prints_told answer (printing mid old.printed) result new prints)
 
   prints_each : (prints : ℕ → Session S → Answer → Session S → Type 0)
       → ((place : ℕ) (old : Session S) (result : Answer) (new : Session S) → prints place old result new
@@ -139,7 +139,7 @@ module _ {S : Type 0} {asks : Ask S} {reads : Request → Type 0} (leads : Leads
   prints_each prints one zero place old result new is = ends_so (Ok tt) old result new is
   prints_each prints one (suc left) place old result new (inl (mid, held, first, rest)) =
       leads.on old.asker.link mid.link new.asker.link (one place old (Ok tt) (printing mid held) first)
-          (prints_each prints one left (place + 1) (printing mid held) result new rest)
+      (prints_each prints one left (place + 1) (printing mid held) result new rest)
   prints_each prints one (suc left) place old result new (inr (fault, is, first)) = one place old (Err fault) new first
 
   listed_at : (values : List ℕ) (place : ℕ) (old : Session S) (result : Answer) (new : Session S)
@@ -157,7 +157,7 @@ module _ {S : Type 0} {asks : Ask S} {reads : Request → Type 0} (leads : Leads
       → table.PrintsObjects asks count old result new → leads.to old.asker.link new.asker.link
   prints_objects count old result new (answer, mid, asks-it, prints) =
       leads.on old.asker.link mid.link new.asker.link (questioned whole_list old.asker answer mid asks-it)
-          (prints_answered answer count (printing mid old.printed) result new prints)
+      (prints_answered answer count (printing mid old.printed) result new prints)
 
   prints_counted : (answer : Result (List ℕ) ExchangeFault) (old : Session S) (result : Answer) (new : Session S)
       → table.PrintsCounted asks answer old result new → leads.to old.asker.link new.asker.link
@@ -169,7 +169,7 @@ module _ {S : Type 0} {asks : Ask S} {reads : Request → Type 0} (leads : Leads
       → leads.to old.asker.link new.asker.link
   prints_listed old result new (answer, mid, asks-it, prints) =
       leads.on old.asker.link mid.link new.asker.link (questioned (list_at 0) old.asker answer mid asks-it)
-          (prints_counted answer (printing mid old.printed) result new prints)
+      (prints_counted answer (printing mid old.printed) result new prints)
 
   prints_logs : (logs : List Id) (old : Session S) (result : Answer) (new : Session S)
       → table.PrintsLogs asks logs old result new → leads.to old.asker.link new.asker.link

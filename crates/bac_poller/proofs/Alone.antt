@@ -7,7 +7,6 @@ use Rattle.bac_ports.specs.Port.{Receiving, Sending}
 use Rattle.bac_drive.specs.Event.{Event, Kept, Printed, Read, Sent, Waited, Warned}
 use Rattle.bac_drive.specs.Happens.{Happens, Scene}
 use Rattle.bac_drive.specs.declared.machine.Next.{Next}
-use Rattle.bac_drive.specs.declared.machine.Next.TheVariants as next
 use Rattle.bac_poller.specs.Counts.{counts_with}
 use Rattle.bac_poller.specs.Poller.{is_answer}
 use Rattle.bac_poller.specs.Seat.{heard_by, is_due, missed, seat_ended, seat_heard, seat_read}

@@ -10,7 +10,6 @@ use Rattle.bac_ports.specs.Port.{Receiving, Sending}
 use Rattle.bac_drive.specs.Event.{Event, Kept, Printed, Read, Sent, Waited, Warned}
 use Rattle.bac_drive.specs.Happens.{Happens, Scene}
 use Rattle.bac_drive.specs.declared.machine.Next.{Next}
-use Rattle.bac_drive.specs.declared.machine.Next.TheVariants as next
 use Rattle.bac_poller.specs.Counts.{counts_with}
 use Rattle.bac_poller.specs.Seat.{is_at, is_first, seat_ended}
 use Rattle.bac_poller.specs.Site.{Acts, GivesFrom, GivesSite, GivesWaiting, GoesOn, IsWithin, SiteState, put_by, site_heard}

@@ -5,7 +5,7 @@ use Rattle.std.proofs.lemmas.List.Elements.{Contains-append_left, Contains-appen
 use Rattle.std.proofs.lemmas.List.Sums.{sum_by-append, sum_by-cons, sum_by-remove}
 use Rattle.std.proofs.lemmas.Option.{get_or_from_slice_get, slice_get_within}
 use Rattle.std.proofs.lemmas.Slice.Eq.{bytes_eq-Decides}
-use Rattle.std.specs.List.{Contains, count_by, sum_by}
+use Rattle.std.specs.List.{count_by, sum_by}
 use Rattle.std.specs.Str.{bytes_eq}
 use Rattle.bac_archive3.specs.declared.row.Put.{Put}
 use Rattle.bac_desks.specs.Chain.{Chain}
@@ -15,7 +15,6 @@ use Rattle.bac_poll.specs.Turns.{Turned}
 use Rattle.bac_poll.specs.declared.turn.Line.{Line}
 use Rattle.bac_poll.specs.declared.turn.PollEnd.{PollEnd}
 use Rattle.bac_ports.specs.Port.{Receiving, Sending}
-use Rattle.bac_ports.specs.declared.port.Heard.{Heard}
 use Rattle.bac_drive.specs.Event.{Event, Kept, Printed, Read, Sent, Waited, Warned}
 use Rattle.bac_drive.specs.Happens.{Does, Happens, Scene}
 use Rattle.bac_drive.specs.declared.machine.Next.{Next}
@@ -25,8 +24,8 @@ use Rattle.bac_poller.specs.Laws.{Came}
 use Rattle.bac_poller.specs.Counts.{counts_with}
 use Rattle.bac_poller.specs.Poller.{GivesBy, IsPlaced, doing_behind, doing_told, is_answer}
 use Rattle.bac_poller.specs.Seat.{begun, doing_begun, given_up, is_due, is_lost, is_waiting, lost_one, missed, seat_ended, seat_heard, seat_read, without_answer}
-use Rattle.bac_poller.specs.Site.{Acts, GivesFrom, GivesSite, GivesWaiting, GoesOn, Rests, SiteState, Tells, due_from, given, put_by, site_heard, site_read}
-use Rattle.bac_poller.specs.SiteLaws.{LostStopsNone, WaitsOnce, is_of, is_sent_to, seats_of, sends_in_vain, site_acts}
+use Rattle.bac_poller.specs.Site.{Acts, GivesFrom, GivesSite, GivesWaiting, GoesOn, Rests, SiteState, Tells, due_from, given, put_by, site_read}
+use Rattle.bac_poller.specs.SiteLaws.{LostStopsNone, WaitsOnce, is_of, is_sent_to, sends_in_vain, site_acts}
 use Rattle.bac_poller.specs.declared.log_poller.Doing.{Doing}
 use Rattle.bac_poller.specs.declared.log_poller.Doing.TheVariants as doing
 use Rattle.bac_poller.specs.declared.log_poller.Ending.{Ending}

@@ -27,7 +27,7 @@ use Rattle.bac_poller.specs.declared.log_poller.Ending.{Ending}
 use Rattle.bac_poller.specs.declared.log_poller.LogPoller.{LogPoller}
 use Rattle.bac_poller.specs.declared.seat.LogTask.{LogTask}
 use Rattle.bac_poller.specs.declared.seat.Presence.{Presence}
-use Rattle.bac_poller.specs.declared.seat.Presence.TheVariants.{Doubted, Present, Silent}
+use Rattle.bac_poller.specs.declared.seat.Presence.TheVariants.{Present}
 use Rattle.bac_poller.specs.declared.seat.Seat.{Seat}
 
 -- what a site says and makes of what it is told, over such a port and clock

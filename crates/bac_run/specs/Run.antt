@@ -5,6 +5,7 @@ use Rattle.sqlite_disk.specs.declared.Disk as disk
 use Rattle.sqlite_disk.specs.declared.start.Start as start
 use Rattle.sqlite_wal.specs.Files.{image_at}
 use Rattle.sqlite.specs.Effect.{Database}
+use Rattle.clap.specs.Words.{Text}
 use Rattle.bac_asked.specs.declared.end.NotDone.{NotDone}
 use Rattle.bac_asked.specs.declared.end.NotDone.TheVariants.{Asking}
 use Rattle.bac_asked.specs.declared.fault.Fault.{Fault as KeepFault}
@@ -29,7 +30,7 @@ use Rattle.std.specs.Io.KnownBytes.{Keeps}
 use Rattle.bac_print.specs.Output.{Held}
 use Rattle.bac_run.specs.Faults.{fault_of}
 use Rattle.bac_tools.specs.Finding.{IsListWithin}
-use Rattle.bac_tools.specs.Run.{IsToldAfter, OnlyTells, Runs}
+use Rattle.bac_tools.specs.Run.{AskFor, IsToldAfter, OnlyTells, Runs}
 use Rattle.bac_tools.specs.Status.{exit_status}
 use Rattle.bac_tools.specs.Streams.{Streams, streams}
 use Rattle.bac_tools.specs.declared.fault.Fault.TheVariants.{Memory}
@@ -44,6 +45,10 @@ use Rattle.bac_words.specs.declared.job.Keep.{Keep}
 use Rattle.bac_words.specs.declared.job.Check.{Check}
 use Rattle.bac_words.specs.declared.job.Kept.{Kept}
 use Rattle.bac_words.specs.declared.listing.ListFault.{ListFault}
+
+-- the words ask for `keep`
+abbrev pub AskToKeep : List Text → Type 0
+AskToKeep words = (asked : Keep) × AskFor words (job.Keep asked)
 
 -- the input isn't read
 abbrev pub IsUnread : {S C : Type 0} → Streams S C → Streams S C → Type 0

@@ -12,9 +12,11 @@ ghost use Rattle.bac_tools.specs.Streams.{streams};
 ghost use Rattle.bac_words.specs.Jobs.{reads_input};
 ghost use Rattle.bac_words.specs.Outcome.{mistakes_of};
 ghost use Rattle.bac_words.specs.declared.job.Job.{Job as AnyJob};
+ghost use Rattle.bac_words.specs.declared.job.Keep.{Keep as KeepWords};
 ghost use Rattle.bac_words.specs.declared.word.Word.{Word as AnyWord};
 ghost use Rattle.bac_run.specs.Faults.{ending_of, fault_of};
-ghost use Rattle.bac_run.specs.Run.{DoesAll, DoesTold, GainsBy, Leaves, RunsAll, RunsGroups};
+ghost use Rattle.bac_run.specs.Run.{AskToKeep, DoesAll, DoesTold, GainsBy, Leaves, RunsAll};
+ghost use Rattle.bac_run.specs.Run.{RunsGroups};
 ghost use Rattle.bac_run.specs.Run.{RunsCheck, RunsKeep, RunsKept, RunsListed};
 
 use crate::machine::{Console, Machine};
@@ -239,6 +241,8 @@ where
         (E.contents console.new.errors) machine.new.sockets machine.new.clock) machine.new.files }
     ensures stays { Leaves ⟦<FileOf<F> as Disk>⟧ LosesNothing machine.old.files machine.new.files }
     ensures part { Leaves ⟦<FileOf<G> as Disk>⟧ KeepsRows machine.old.parts machine.new.parts }
+    ensures beside { ((asked : KeepWords) → job ≡ AnyJob.Keep asked → ⊥)
+        → machine.new.parts ≡ machine.old.parts }
 {
     match job {
         Job::Keep(asked) => keep_job(
@@ -313,6 +317,8 @@ where
         (E.contents console.new.errors) machine.new.sockets machine.new.clock) machine.new.files }
     ensures stays { Leaves ⟦<FileOf<F> as Disk>⟧ LosesNothing machine.old.files machine.new.files }
     ensures part { Leaves ⟦<FileOf<G> as Disk>⟧ KeepsRows machine.old.parts machine.new.parts }
+    ensures beside { ((asked : KeepWords) → job ≡ AnyJob.Keep asked → ⊥)
+        → machine.new.parts ≡ machine.old.parts }
 {
     machine.sockets.trace(job.is_traced());
     run_job(machine, console, alloc, waits, job, counts)
@@ -359,6 +365,9 @@ where
     ensures stays { Leaves ⟦<FileOf<F> as Disk>⟧ LosesNothing machine.old.files machine.new.files }
     // And of the part before it, if one is begun, each row stays as it is.
     ensures part { Leaves ⟦<FileOf<G> as Disk>⟧ KeepsRows machine.old.parts machine.new.parts }
+    // That part is for `keep` alone: no other words open it.
+    ensures beside { (AskToKeep (map string_bytes words.now) → ⊥)
+        → machine.new.parts ≡ machine.old.parts }
     // Of words with a wrong value this is told, and nothing else is done.
     ensures bad_value { (word : AnyWord) → AreWrong (map string_bytes words.now) word
         → (machine.new.files ≡ machine.old.files) × (machine.new.folders ≡ machine.old.folders)

@@ -154,20 +154,20 @@ abbrev pub IsQuietAtFault : {S C : Type 0} → Ending → Streams S C → Stream
 IsQuietAtFault result old new = IfErr result (λ fault. new.errors ≡ old.errors) × (new.clock ≡ old.clock)
 
 -- The tool of a job, before its fault is told. Only `serve` looks at the clock, and tells that it is up; and only `log`
--- tells of a device that it contradicted itself.
+-- tells of a device that it contradicted itself. Only `replay`, `serve` and `wi` read the input.
 abbrev pub Works : {S P C : Type 0} → SocketRules S P → (C → Option CivilTime → C → Type 0) →
     Job → Streams S C → Ending → Streams S C → Type 0
 Works rules tells job.Replay old result new =
     Plays old.input new.input old.output new.output result × IsIdle old new
 Works rules tells (job.Rp said) old result new =
-    ReadsAsSaid rules said (outside_of old) result (outside_of new) × IsQuiet old new
+    ReadsAsSaid rules said (outside_of old) result (outside_of new) × IsQuiet old new × (new.input ≡ old.input)
 Works rules tells (job.Wp said) old result new =
-    WritesAsSaid rules said (outside_of old) result (outside_of new) × IsQuiet old new
+    WritesAsSaid rules said (outside_of old) result (outside_of new) × IsQuiet old new × (new.input ≡ old.input)
 Works rules tells (job.Log said) old result new =
     FetchesAsSaid rules said (outlets_of old) result (outlets_of new)
-    × IsQuietAtFault result old new
+    × IsQuietAtFault result old new × (new.input ≡ old.input)
 Works rules tells (job.Logs said) old result new =
-    ListsAsSaid rules said (outside_of old) result (outside_of new) × IsQuiet old new
+    ListsAsSaid rules said (outside_of old) result (outside_of new) × IsQuiet old new × (new.input ≡ old.input)
 Works rules tells (job.Serve said) old result new =
     Serves rules tells said.address said.count old result new × Keeps old.output new.output
 Works rules tells (job.Wi said) old result new =

@@ -109,15 +109,15 @@ pub explained : {S P C : Type 0} (rules : SocketRules S P) (passes : S → Passe
     (λ port last. IsExplained rules asked (walk_from instance from count) last old.errors new.errors) new.sockets
 explained rules passes tells asked instance steps count from trace old new status (inl told) four =
     absurd (other_told never_asked Memory old.errors new.errors status (λ e. omega (arith, e)) told.0 four)
-explained rules passes tells asked instance steps count from trace old new status (inr (Err fault, said, (inl unasked, quiet), ends)) four =
+explained rules passes tells asked instance steps count from trace old new status (inr (Err fault, said, (inl unasked, quiet, unread), ends)) four =
     absurd (no_walk (passes new.sockets) instance from count fault unasked.0 said new.errors status unasked.1.0 (let e = unasked.1.1 in cc) ends four)
-explained rules passes tells asked instance steps count from trace old new status (inr (Ok done, said, (inl unasked, quiet), ends)) four =
+explained rules passes tells asked instance steps count from trace old new status (inr (Ok done, said, (inl unasked, quiet, unread), ends)) four =
     absurd (let e = unasked.1.1 in cc)
-explained rules passes tells asked instance steps count from trace old new status (inr (Err fault, said, (inr (inl (shut, opens, is_shut, closed)), quiet), ends)) four =
+explained rules passes tells asked instance steps count from trace old new status (inr (Err fault, said, (inr (inl (shut, opens, is_shut, closed)), quiet, unread), ends)) four =
     absurd (named_told (passes new.sockets) fault (Unopened shut) 2 said new.errors status (let e = is_shut in cc) refl (λ e. omega (arith, e)) ends four)
-explained rules passes tells asked instance steps count from trace old new status (inr (Ok done, said, (inr (inl (shut, opens, is_shut, closed)), quiet), ends)) four =
+explained rules passes tells asked instance steps count from trace old new status (inr (Ok done, said, (inr (inl (shut, opens, is_shut, closed)), quiet, unread), ends)) four =
     absurd (let e = is_shut in cc)
-explained rules passes tells asked instance steps count from trace old new status (inr (Err fault, said, (inr (inr (port, between, last, opens, (Ok fetched, left, over, is_last, is), closes)), quiet), ends)) four =
+explained rules passes tells asked instance steps count from trace old new status (inr (Err fault, said, (inr (inr (port, between, last, opens, (Ok fetched, left, over, is_last, is), closes)), quiet, unread), ends)) four =
     let (w, told, own, wrong, same) = flaw_end (passes new.sockets) (socket_asks rules) (towards asked.route) asked.retries (walk_from instance from count).log fetched.next asked.address fetched.flaw left fetched.why fault said new.errors status (in_lines rules asked (walk_from instance from count) steps (link_over asked.address port) (Ok fetched) left old.output new.output over.0).2 is ends four in
     let Q : Held → Type 0 = λ h. AppendsPart h new.errors (told_text (Flawed told)) in (
       port,
@@ -127,14 +127,14 @@ explained rules passes tells asked instance steps count from trace old new statu
       (left, w, told, is_last, own, wrong, subst Q quiet.0 (told_flaw (passes new.sockets) said new.errors status fault told same ends four)),
       closes,
     )
-explained rules passes tells asked instance steps count from trace old new status (inr (Err fault, said, (inr (inr (port, between, last, opens, (Err (query.Exchange bad), left, over, is_last, is), closes)), quiet), ends)) four =
+explained rules passes tells asked instance steps count from trace old new status (inr (Err fault, said, (inr (inr (port, between, last, opens, (Err (query.Exchange bad), left, over, is_last, is), closes)), quiet, unread), ends)) four =
     let (came, items, n, ended, after, half, mid, brought, printed, headline, contradicts) = (in_lines rules asked (walk_from instance from count) steps (link_over asked.address port) (Err (query.Exchange bad)) left old.output new.output over.0).0.1 in
     absurd printed
-explained rules passes tells asked instance steps count from trace old new status (inr (Err fault, said, (inr (inr (port, between, last, opens, (Err query.Write, left, over, is_last, is), closes)), quiet), ends)) four =
+explained rules passes tells asked instance steps count from trace old new status (inr (Err fault, said, (inr (inr (port, between, last, opens, (Err query.Write, left, over, is_last, is), closes)), quiet, unread), ends)) four =
     absurd (named_told (passes new.sockets) fault Write 2 said new.errors status (cc) refl (λ e. omega (arith, e)) ends four)
-explained rules passes tells asked instance steps count from trace old new status (inr (Err fault, said, (inr (inr (port, between, last, opens, (Err query.Memory, left, over, is_last, is), closes)), quiet), ends)) four =
+explained rules passes tells asked instance steps count from trace old new status (inr (Err fault, said, (inr (inr (port, between, last, opens, (Err query.Memory, left, over, is_last, is), closes)), quiet, unread), ends)) four =
     absurd (named_told (passes new.sockets) fault Memory 5 said new.errors status (cc) refl (λ e. omega (arith, e)) ends four)
-explained rules passes tells asked instance steps count from trace old new status (inr (Ok done, said, (inr (inr (port, between, last, opens, (Err bad, left, over, is_last, is), closes)), quiet), ends)) four =
+explained rules passes tells asked instance steps count from trace old new status (inr (Ok done, said, (inr (inr (port, between, last, opens, (Err bad, left, over, is_last, is), closes)), quiet, unread), ends)) four =
     absurd (cc)
-explained rules passes tells asked instance steps count from trace old new status (inr (Ok done, said, (inr (inr (port, between, last, opens, (Ok fetched, left, over, is_last, is), closes)), quiet), ends)) four =
+explained rules passes tells asked instance steps count from trace old new status (inr (Ok done, said, (inr (inr (port, between, last, opens, (Ok fetched, left, over, is_last, is), closes)), quiet, unread), ends)) four =
     absurd (bad_end (socket_asks rules) (towards asked.route) asked.retries (walk_from instance from count).log fetched.next asked.address fetched.flaw left fetched.why done (in_lines rules asked (walk_from instance from count) steps (link_over asked.address port) (Ok fetched) left old.output new.output over.0).2 is (sym ends.0 ∙ four))

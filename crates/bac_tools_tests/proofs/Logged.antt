@@ -238,11 +238,11 @@ logged rules passes tells asked instance steps count from trace old new status (
     absurd (not_told never_asked Memory old.errors new.errors status told.0 zero)
 logged rules passes tells asked instance steps count from trace old new status (inr (Err fault, said, works, ends)) zero =
     absurd (not_told (passes new.sockets) fault said new.errors status ends zero)
-logged rules passes tells asked instance steps count from trace old new status (inr (Ok done, said, (inl unasked, quiet), ends)) zero =
+logged rules passes tells asked instance steps count from trace old new status (inr (Ok done, said, (inl unasked, quiet, unread), ends)) zero =
     absurd (let e = unasked.1.1 in cc)
-logged rules passes tells asked instance steps count from trace old new status (inr (Ok done, said, (inr (inl (fault, opens, is_shut, closed)), quiet), ends)) zero =
+logged rules passes tells asked instance steps count from trace old new status (inr (Ok done, said, (inr (inl (fault, opens, is_shut, closed)), quiet, unread), ends)) zero =
     absurd (let e = is_shut in cc)
-logged rules passes tells asked instance steps count from trace old new status (inr (Ok done, said, (inr (inr (port, between, last, opens, (fetching, left, over, is_last, is), closes)), quiet), ends)) zero = (
+logged rules passes tells asked instance steps count from trace old new status (inr (Ok done, said, (inr (inr (port, between, last, opens, (fetching, left, over, is_last, is), closes)), quiet, unread), ends)) zero = (
   port,
   between,
   last,
@@ -261,11 +261,11 @@ logged_at_rest rules passes tells asked instance steps count number trace old ne
     absurd (not_told never_asked Memory old.errors new.errors status told.0 zero)
 logged_at_rest rules passes tells asked instance steps count number trace old new status (inr (Err fault, said, works, ends)) zero =
     absurd (not_told (passes new.sockets) fault said new.errors status ends zero)
-logged_at_rest rules passes tells asked instance steps count number trace old new status (inr (Ok done, said, (inl unasked, quiet), ends)) zero =
+logged_at_rest rules passes tells asked instance steps count number trace old new status (inr (Ok done, said, (inl unasked, quiet, unread), ends)) zero =
     absurd (let e = unasked.1.1 in cc)
-logged_at_rest rules passes tells asked instance steps count number trace old new status (inr (Ok done, said, (inr (inl (fault, opens, is_shut, closed)), quiet), ends)) zero =
+logged_at_rest rules passes tells asked instance steps count number trace old new status (inr (Ok done, said, (inr (inl (fault, opens, is_shut, closed)), quiet, unread), ends)) zero =
     absurd (let e = is_shut in cc)
-logged_at_rest rules passes tells asked instance steps count number trace old new status (inr (Ok done, said, (inr (inr (port, between, last, opens, (fetching, left, over, is_last, is), closes)), quiet), ends)) zero = (
+logged_at_rest rules passes tells asked instance steps count number trace old new status (inr (Ok done, said, (inr (inr (port, between, last, opens, (fetching, left, over, is_last, is), closes)), quiet, unread), ends)) zero = (
   port,
   between,
   last,
@@ -281,10 +281,10 @@ pub printed_in_order : {S P C : Type 0} (rules : SocketRules S P) (passes : S �
     ⊎ UsesSocket rules (own_address asked.local) asked.timeout old.sockets
     (λ port last. IsCut rules asked (walk_from instance from count) port old.output new.output) new.sockets
 printed_in_order rules passes tells asked instance steps count from trace old new status (inl told) = inl told.1
-printed_in_order rules passes tells asked instance steps count from trace old new status (inr (result, said, (inl unasked, quiet), ends)) = inl unasked.2
-printed_in_order rules passes tells asked instance steps count from trace old new status (inr (result, said, (inr (inl (fault, opens, is_shut, closed)), quiet), ends)) =
+printed_in_order rules passes tells asked instance steps count from trace old new status (inr (result, said, (inl unasked, quiet, unread), ends)) = inl unasked.2
+printed_in_order rules passes tells asked instance steps count from trace old new status (inr (result, said, (inr (inl (fault, opens, is_shut, closed)), quiet, unread), ends)) =
     inl closed
-printed_in_order rules passes tells asked instance steps count from trace old new status (inr (result, said, (inr (inr (port, between, last, opens, (fetching, left, over, is_last, is), closes)), quiet), ends)) =
+printed_in_order rules passes tells asked instance steps count from trace old new status (inr (result, said, (inr (inr (port, between, last, opens, (fetching, left, over, is_last, is), closes)), quiet, unread), ends)) =
     let (came, items, n, ended, after, half, mid, begun, printed, headline, contradicts) = (in_lines rules asked (walk_from instance from count) steps (link_over asked.address port) fetching left old.output new.output over.0).0.1 in
     let brought = brought_plain (socket_asks rules) (transactions_with asked) half (link_over asked.address port) mid (walk_from instance from count) after n came items ended begun in
     inr (

@@ -117,13 +117,13 @@ pub no_rp : {S P C : Type 0} (rules : SocketRules S P) (passes : S → Passed) (
     (status ≡ 0 → ⊥) × Keeps old.output new.output
 no_rp rules passes tells said old new status (inl told) silent =
     (λ none. not_told never_asked fault.Memory old.errors new.errors status told.0 none, told.1)
-no_rp rules passes tells said old new status (inr (Err why, told, (inl unasked, quiet), ends)) silent =
+no_rp rules passes tells said old new status (inr (Err why, told, (inl unasked, quiet, unread), ends)) silent =
     (λ none. not_told (passes new.sockets) why told new.errors status ends none, unasked.1.1)
-no_rp rules passes tells said old new status (inr (Err why, told, (inr reads, quiet), ends)) silent =
+no_rp rules passes tells said old new status (inr (Err why, told, (inr reads, quiet, unread), ends)) silent =
     (λ none. not_told (passes new.sockets) why told new.errors status ends none, (no_values rules silent said.asked _ _ _ _ _ reads).1)
-no_rp rules passes tells said old new status (inr (Ok done, told, (inl unasked, quiet), ends)) silent =
+no_rp rules passes tells said old new status (inr (Ok done, told, (inl unasked, quiet, unread), ends)) silent =
     absurd (let e = unasked.1.0 in cc)
-no_rp rules passes tells said old new status (inr (Ok done, told, (inr reads, quiet), ends)) silent =
+no_rp rules passes tells said old new status (inr (Ok done, told, (inr reads, quiet, unread), ends)) silent =
     absurd ((no_values rules silent said.asked _ _ _ _ _ reads).0 done refl)
 
 pub no_wp : {S P C : Type 0} (rules : SocketRules S P) (passes : S → Passed) (tells : C → Option CivilTime → C → Type 0) (said : PropertyWriting)
@@ -132,13 +132,13 @@ pub no_wp : {S P C : Type 0} (rules : SocketRules S P) (passes : S → Passed) (
     (status ≡ 0 → ⊥) × Keeps old.output new.output
 no_wp rules passes tells said old new status (inl told) silent =
     (λ none. not_told never_asked fault.Memory old.errors new.errors status told.0 none, told.1)
-no_wp rules passes tells said old new status (inr (Err why, told, (inl unasked, quiet), ends)) silent =
+no_wp rules passes tells said old new status (inr (Err why, told, (inl unasked, quiet, unread), ends)) silent =
     (λ none. not_told (passes new.sockets) why told new.errors status ends none, unasked.1.1)
-no_wp rules passes tells said old new status (inr (Err why, told, (inr (w, is, writes), quiet), ends)) silent =
+no_wp rules passes tells said old new status (inr (Err why, told, (inr (w, is, writes), quiet, unread), ends)) silent =
     (λ none. not_told (passes new.sockets) why told new.errors status ends none, (not_written rules silent said.asked _ _ _ _ writes).1)
-no_wp rules passes tells said old new status (inr (Ok done, told, (inl unasked, quiet), ends)) silent =
+no_wp rules passes tells said old new status (inr (Ok done, told, (inl unasked, quiet, unread), ends)) silent =
     absurd (let e = unasked.1.0 in cc)
-no_wp rules passes tells said old new status (inr (Ok done, told, (inr (w, is, writes), quiet), ends)) silent =
+no_wp rules passes tells said old new status (inr (Ok done, told, (inr (w, is, writes), quiet, unread), ends)) silent =
     absurd ((not_written rules silent said.asked _ _ _ _ writes).0 done refl)
 
 -- ---- log
@@ -222,24 +222,24 @@ pub no_log : {S P C : Type 0} (rules : SocketRules S P) (passes : S → Passed) 
     (0 < steps → status ≡ 0 → ⊥) × ((w : Why) × (next : ℕ) × AppendsPart old.output new.output (end_line w next))
 no_log rules passes tells asked instance steps count from trace old new status (inl told) silent =
     (λ some none. not_told never_asked fault.Memory old.errors new.errors status told.0 none, nothing old.output new.output told.1)
-no_log rules passes tells asked instance steps count from trace old new status (inr (result, said, (inl unasked, quiet), ends)) silent =
+no_log rules passes tells asked instance steps count from trace old new status (inr (result, said, (inl unasked, quiet, unread), ends)) silent =
     (λ some none. bad result unasked.1.1 ends none, nothing old.output new.output unasked.2)
   where
     bad : (r : Ending) → r ≡ Err unasked.0 → Ends (passes new.sockets) r said new.errors status → status ≡ 0 → ⊥
     bad (Ok done) is ends none = absurd (cc)
     bad (Err why) is ends none = not_told (passes new.sockets) why said new.errors status ends none
-no_log rules passes tells asked instance steps count from trace old new status (inr (Err why, said, (inr (inl (shut, opens, is_shut, closed)), quiet), ends)) silent =
+no_log rules passes tells asked instance steps count from trace old new status (inr (Err why, said, (inr (inl (shut, opens, is_shut, closed)), quiet, unread), ends)) silent =
     (λ some none. not_told (passes new.sockets) why said new.errors status ends none, nothing old.output new.output closed)
-no_log rules passes tells asked instance steps count from trace old new status (inr (Ok done, said, (inr (inl (shut, opens, is_shut, closed)), quiet), ends)) silent =
+no_log rules passes tells asked instance steps count from trace old new status (inr (Ok done, said, (inr (inl (shut, opens, is_shut, closed)), quiet, unread), ends)) silent =
     absurd (let e = is_shut in cc)
-no_log rules passes tells asked instance steps count from trace old new status (inr (Err why, said, (inr (inr (port, between, last, opens, (fetching, left, over, is_last, is), closes)), quiet), ends)) silent =
+no_log rules passes tells asked instance steps count from trace old new status (inr (Err why, said, (inr (inr (port, between, last, opens, (fetching, left, over, is_last, is), closes)), quiet, unread), ends)) silent =
     let (came, items, n, ended, after, half, mid, begun, printed, headline, contradicts) = (in_lines rules asked (walk_from instance from count) steps (link_over asked.address port) fetching left old.output new.output over.0).0.1 in
     let brought = brought_plain (socket_asks rules) (transactions_with asked) half (link_over asked.address port) mid (walk_from instance from count) after n came items ended begun in
     let none = no_reply rules silent (towards asked.route) asked.retries n (link_over asked.address port) (walk_from instance from count) came items ended after mid brought in (
       λ some zero. not_told (passes new.sockets) why said new.errors status ends zero,
       end_alone items old.output new.output none.1 (cut_over (socket_asks rules) _ items steps n ended after fetching old.output new.output printed),
     )
-no_log rules passes tells asked instance steps count from trace old new status (inr (Ok done, said, (inr (inr (port, between, last, opens, (fetching, left, over, is_last, is), closes)), quiet), ends)) silent =
+no_log rules passes tells asked instance steps count from trace old new status (inr (Ok done, said, (inr (inr (port, between, last, opens, (fetching, left, over, is_last, is), closes)), quiet, unread), ends)) silent =
     let (came, items, n, ended, after, half, mid, begun, printed, headline, contradicts) = (in_lines rules asked (walk_from instance from count) steps (link_over asked.address port) fetching left old.output new.output over.0).0.1 in
     let brought = brought_plain (socket_asks rules) (transactions_with asked) half (link_over asked.address port) mid (walk_from instance from count) after n came items ended begun in
     let none = no_reply rules silent (towards asked.route) asked.retries n (link_over asked.address port) (walk_from instance from count) came items ended after mid brought in (
@@ -273,11 +273,11 @@ lost rules tells = λ said old new works. by said old new works
         (request_octets (towards said.asked.route) (next_invoke 0) (request.ReadProperty (question said)))
         (said.asked.retries + 1) (link_over said.asked.address port) left × (last ≡ left.port))
         new.sockets
-    by said old new (inl unasked, quiet) = absurd (let e = unasked.1.0 in cc)
-    by said old new (inr (inl (shut, opens, is_shut, closed)), quiet) = absurd (let e = is_shut in cc)
-    by said old new (inr (inr (port, between, last, opens, (answer, left, (Ok datagram, exchanged, prints), is_last, is), closes)), quiet) =
+    by said old new (inl unasked, quiet, unread) = absurd (let e = unasked.1.0 in cc)
+    by said old new (inr (inl (shut, opens, is_shut, closed)), quiet, unread) = absurd (let e = is_shut in cc)
+    by said old new (inr (inr (port, between, last, opens, (answer, left, (Ok datagram, exchanged, prints), is_last, is), closes)), quiet, unread) =
         absurd (not_lost (reals_of said.numbers) said.asked.address (values_in (apdu_in datagram)) answer _ _ prints is)
-    by said old new (inr (inr (port, between, last, opens, (answer, left, (Err why, exchanged, told), is_last, is), closes)), quiet) =
+    by said old new (inr (inr (port, between, last, opens, (answer, left, (Err why, exchanged, told), is_last, is), closes)), quiet, unread) =
         let P : ExchangeFault → Type 0 = λ f. Exchanges (socket_asks rules) (way_by (towards said.asked.route) (next_invoke 0) said.asked.retries) (request.ReadProperty (question said)) (link_over said.asked.address port) (Err f) left in
         (port, between, last, opens, (left, subst P (same_fault said.asked.address answer why told.0 is) exchanged, is_last), closes)
 

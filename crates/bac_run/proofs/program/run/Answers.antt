@@ -1,4 +1,4 @@
-use Rattle.std.proofs.Common.{Err, map, refl}
+use Rattle.std.proofs.Common.{Err, Ok, ap, map, refl, ◌∙◌}
 use Rattle.std.specs.String.{string_bytes}
 use Rattle.bac_files.proofs.FileGhosts.{file_ghosts}
 use Rattle.bac_offline.proofs.FileLemmas.{none_closed}
@@ -65,3 +65,7 @@ returns-in-Ok-clause-part g c unused = c.run_told.ensures.part unused
 
 pub returns-in-Err-clause-part : goal.returns-in-Err-clause-part
 returns-in-Err-clause-part g c unused = none_closed c.args.machine.now.parts.closed _ unused
+
+pub returns-in-Ok-clause-beside : goal.returns-in-Ok-clause-beside
+returns-in-Ok-clause-beside g c none =
+    c.run_told.ensures.beside (λ asked is. none (asked, (c.in-Ok.ensures.ok.0, c.in-Ok.ensures.ok.1 ∙ ap Ok is)))

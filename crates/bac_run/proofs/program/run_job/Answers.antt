@@ -48,3 +48,6 @@ pub returns-in-Kept-clause-ran : goal.returns-in-Kept-clause-ran
 returns-in-Kept-clause-ran g c =
     let done = c.print_and_tell in
     rw c.in-Kept.is (done.ensures.ran, (refl, refl), refl, λ unused. done.ensures.rows unused)
+
+pub returns-in-Keep-clause-beside : goal.returns-in-Keep-clause-beside
+returns-in-Keep-clause-beside g c none = absurd (none c.in-Keep.asked c.in-Keep.is)
