@@ -234,7 +234,8 @@ fn a_silent_device_is_waited_for_once(rt: HostRuntime) -> Result<(), Fail> {
     assert!(rt; ended);
     assert!(rt; rig.sends.as_slice() == [1, 2, 2, 3, 1, 3, 1, 1, 2].as_slice());
     assert!(rt; rig.printed.as_slice() == SILENT);
-    assert!(rt; rig.rows == 0);
+    // The beginning of each of the three logs that were answered, by the count alone.
+    assert!(rt; rig.rows == 3);
     assert!(rt; rig.ms == 9000);
     Ok(())
 }
