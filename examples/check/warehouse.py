@@ -336,6 +336,8 @@ def in_use(judge, server):
     file = f"{judge.room}/in use.db"
     judge.ran(["keep", file, device.address, "1"])
     base = sqlite3.connect(file, isolation_level=None, check_same_thread=False)
+    # As a run has it: also whoever only reads is kept out.
+    base.execute("PRAGMA locking_mode = EXCLUSIVE")
     base.execute("BEGIN EXCLUSIVE")
     began = time.monotonic()
     threading.Timer(2, base.close).start()
