@@ -88,7 +88,9 @@ def killed_loads(judge, server):
     file = f"{judge.room}/site's.db"
     log.log(60)
     judge.same("a first run", judge.ran(["keep", file, device.address, "1"])[0], 0)
+    began = time.monotonic()
     judge.same("all of it is loaded", server.load("here", file, ZONE), (0, "60 items\n", ""))
+    took = time.monotonic() - began  # on this machine: so kills fall within a load
     judge.same("and nothing again", server.load("here", file), (0, "0 items\n", ""))
     # The second log's ids lie above the first one's; then both go on, and one has a gap and begins anew.
     second.log(10)
@@ -103,7 +105,7 @@ def killed_loads(judge, server):
             log.log(7)
         judge.same("a run", judge.ran(["keep", file])[0], 0)
         before = server.loaded("here")
-        status = server.load("here", file, seconds=chance.uniform(0.1, 0.8) * (1 + at % 3), psql_alone=at % 2 == 1)[0]
+        status = server.load("here", file, seconds=chance.uniform(0.2, 1.1) * took, psql_alone=at % 2 == 1)[0]
         killed += status in (-signal.SIGKILL, 9, 3)
         judge.is_right(f"load {at} ends well, or is killed", status in (0, -signal.SIGKILL, 9, 3), status)
         # What was told the server before the kill may still come to its end.
