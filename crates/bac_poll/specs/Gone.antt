@@ -4,10 +4,12 @@ use Rattle.std.specs.Prelude.{List, [], ◌∷◌, Option, None, Some}
 use Rattle.std.specs.Option.{is_some}
 use Rattle.bac_link.specs.Ordinals.{number_after}
 use Rattle.bac_walk.specs.declared.batch.Numbered.{Numbered}
-use Rattle.bac_poll.specs.Known.{is_before, word_of}
-use Rattle.bac_poll.specs.State.{PollState, ToldAs, stamp_text}
+use Rattle.bac_poll.specs.DateTime.{dated, is_before}
+use Rattle.bac_poll.specs.Known.{word_of}
+use Rattle.bac_poll.specs.State.{PollState, ToldAs}
 use Rattle.bac_poll.specs.Turns.{Turned, anew, asks_at, brings, confirmed, first_in, gap_up_to, number_or}
 use Rattle.bac_poll.specs.Turns.{renewed, standing_at}
+use Rattle.bac_poll.specs.declared.date_time.DateTime.{DateTime}
 use Rattle.bac_poll.specs.declared.gone.Gone.{Gone}
 use Rattle.bac_poll.specs.declared.gone.Gone.TheVariants.{Dropped, Doubtful, Both}
 use Rattle.bac_poll.specs.declared.stage.Stage.TheVariants.{Revision, Restart}
@@ -16,12 +18,22 @@ use Rattle.bac_poll.specs.declared.turn.Line.TheVariants.{BeganOrDropped, Droppe
 use Rattle.bac_poll.specs.declared.word.Word.{Word}
 use Rattle.bac_poll.specs.declared.word.Word.TheVariants.{Same, Changed, Untold}
 
+-- the newest that is kept of the epoch, if there is one, is dated before the oldest
+abbrev pub is_behind : Option DateTime → DateTime → Bool
+is_behind None stamp = Bool.true
+is_behind (Some kept) stamp = is_before kept stamp
+
+-- there is one, and the oldest is dated before it
+abbrev pub is_earlier : DateTime → Option DateTime → Bool
+is_earlier stamp None = Bool.false
+is_earlier stamp (Some kept) = is_before stamp kept
+
 -- the oldest is dated between the newest that is kept and the restart that is told: the log outlived that restart
-abbrev pub is_outlived : PollState → List ℕ → Bool
-is_outlived p stamp = is_before p.stamp stamp && is_before stamp p.again.moment
+abbrev pub is_outlived : PollState → DateTime → Bool
+is_outlived p stamp = is_behind p.stamp stamp && is_before stamp p.again.moment
 
 -- by the word, where the oldest isn't dated before the newest that is kept
-abbrev pub gone_by : PollState → List ℕ → Word → Gone
+abbrev pub gone_by : PollState → DateTime → Word → Gone
 gone_by p stamp Same = Dropped
 gone_by p stamp Untold = Doubtful
 gone_by p stamp Changed = if is_outlived p stamp then Doubtful else Both
@@ -37,7 +49,7 @@ gone_of_none Changed = Both
 abbrev pub gone_of : PollState → Option Numbered → Word → Gone
 gone_of p None word = gone_of_none word
 gone_of p (Some held) word =
-    if is_before (stamp_text held.entry) p.stamp then Both else gone_by p (stamp_text held.entry) word
+    if is_earlier (dated held.entry) p.stamp then Both else gone_by p (dated held.entry) word
 
 -- whether something was logged before the number that comes next
 abbrev pub has_logged : PollState → Bool

@@ -1,13 +1,13 @@
 -- What records say of those that are known: section 1 of the rule.
-use Rattle.std.specs.Prelude.{ℕ, ◌+◌, ◌-◌, ◌*◌, ◌/◌, ◌%◌, ◌==◌, ◌&&◌, ◌||◌, not, nat_le, Bool, false, if◌then◌else◌}
-use Rattle.std.specs.Prelude.{List, [], ◌∷◌, length, Option, None, Some, slice_index}
-use Rattle.std.specs.List.{find, list_any}
+use Rattle.std.specs.Prelude.{ℕ, ◌+◌, ◌-◌, ◌/◌, ◌%◌, ◌==◌, ◌&&◌, ◌||◌, not, nat_le, Bool, false, if◌then◌else◌}
+use Rattle.std.specs.Prelude.{List, [], ◌∷◌, length, Option, None, Some}
+use Rattle.std.specs.List.{find}
 use Rattle.std.specs.Option.{is_some}
-use Rattle.std.specs.Ordering.{is_lt, nat_cmp}
 use Rattle.std.specs.Str.{bytes_eq}
-use Rattle.std.specs.Cmp.Lexicographic.{slice_cmp}
 use Rattle.bac_walk.specs.declared.batch.Numbered.{Numbered}
+use Rattle.bac_poll.specs.DateTime.{is_moment, is_same_time, ticks_of}
 use Rattle.bac_poll.specs.State.{KeptAs, PollState, ToldAs, kept_of}
+use Rattle.bac_poll.specs.declared.date_time.DateTime.{DateTime}
 use Rattle.bac_poll.specs.declared.known.Means.{Means}
 use Rattle.bac_poll.specs.declared.known.Means.TheVariants.{Shifted, Partly, Same, Unshown as NoneShown}
 use Rattle.bac_poll.specs.declared.known.Means.TheVariants.{Another as OtherShown}
@@ -15,52 +15,6 @@ use Rattle.bac_poll.specs.declared.known.Shown.{Shown}
 use Rattle.bac_poll.specs.declared.known.Shown.TheVariants.{Unshown, Equal, Moved, Another}
 use Rattle.bac_poll.specs.declared.word.Word.{Word}
 use Rattle.bac_poll.specs.declared.word.Word.TheVariants.{Changed, Untold, Same as AsKept}
-
--- ---- dates and times, by their texts: 2026-03-29T02:30:00.00
-
--- a date and time with each part: no star
-abbrev pub is_dated : List ℕ → Bool
-is_dated text = not (list_any (λ c. c == 42) text)
-
--- whether a date and time lies before another, both with each part; texts of one length are in the order of what they
--- say
-abbrev pub is_before : List ℕ → List ℕ → Bool
-is_before stamp other = is_dated stamp && (is_dated other && is_lt (slice_cmp nat_cmp stamp other))
-
--- the digit there
-abbrev pub digit : List ℕ → ℕ → ℕ
-digit text at = slice_index text at - 48
-
--- the two digits there
-abbrev pub digits : List ℕ → ℕ → ℕ
-digits text at = digit text at * 10 + digit text (at + 1)
-
--- the year, counted from March
-abbrev pub march_year : ℕ → ℕ → ℕ
-march_year year month = year - (if nat_le month 2 then 1 else 0)
-
--- the days from March of the year 0 to the first of March of a year
-abbrev pub year_days : ℕ → ℕ
-year_days year = year * 365 + year / 4 + year / 400 - year / 100
-
--- the days from the first of March to the first day of a month
-abbrev pub month_days : ℕ → ℕ
-month_days month = ((month + 9) % 12 * 153 + 2) / 5
-
--- the day of a date
-abbrev pub day_of : List ℕ → ℕ
-day_of text =
-    year_days (march_year (digits text 0 * 100 + digits text 2) (digits text 5)) + month_days (digits text 5)
-    + digits text 8
-
--- the hundredths of a second up to a date and time
-abbrev pub ticks_in : List ℕ → ℕ
-ticks_in text =
-    (((day_of text * 24 + digits text 11) * 60 + digits text 14) * 60 + digits text 17) * 100 + digits text 20
-
--- a date and time of which each part is told
-abbrev pub is_moment : List ℕ → Bool
-is_moment text = (length text == 22) && is_dated text
 
 -- By how many quarter hours a moment is shown later, and a hundred, if it is a whole number of them: 25 hours at most,
 -- and so 0 to 200.
@@ -77,14 +31,14 @@ abbrev pub is_same_value : KeptAs → KeptAs → Bool
 is_same_value kept held = bytes_eq kept.datum held.datum && bytes_eq kept.flags held.flags
 
 -- two dates and times that aren't the same
-abbrev pub shift_of : List ℕ → List ℕ → Shown
-shift_of was now = if is_moment was && is_moment now then shift (ticks_in was) (ticks_in now) else Another
+abbrev pub shift_of : DateTime → DateTime → Shown
+shift_of was now = if is_moment was && is_moment now then shift (ticks_of was) (ticks_of now) else Another
 
 -- a record that is shown under its number is the same, the same at another hour, or another one
 abbrev pub shown_as : KeptAs → KeptAs → Shown
 shown_as kept held =
     if is_same_value kept held
-    then (if bytes_eq kept.stamp held.stamp then Equal else shift_of kept.stamp held.stamp)
+    then (if is_same_time kept.stamp held.stamp then Equal else shift_of kept.stamp held.stamp)
     else Another
 
 -- the record of this number, if it is among these
@@ -113,12 +67,14 @@ number_in (Some kept) = Some kept.number
 
 -- ---- all of them
 
+-- the record isn't shown
 abbrev pub is_unshown : Shown → Bool
 is_unshown Unshown = Bool.true
 is_unshown Equal = false
 is_unshown (Moved by) = false
 is_unshown Another = false
 
+-- another one has its number
 abbrev pub is_another : Shown → Bool
 is_another Unshown = false
 is_another Equal = false

@@ -1,3 +1,5 @@
+pub mod DateTime
+pub mod Stamps
 pub mod State
 pub mod Known
 pub mod Turns
@@ -8,7 +10,3 @@ pub mod Oldest
 pub mod Starts
 pub mod Back
 pub mod Poll
-pub mod Laws
-pub mod Logged
-pub mod Gaps
-pub mod Asks

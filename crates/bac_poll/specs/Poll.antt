@@ -18,6 +18,7 @@ use Rattle.bac_walk.specs.Walks.{Ask, Bring, End, NextAct, Refuse, question_of, 
 use Rattle.bac_walk.specs.declared.batch.Numbered.{Numbered}
 use Rattle.bac_walk.specs.declared.outcome.WalkFault.TheVariants.{BadReply}
 use Rattle.bac_poll.specs.Back.{back}
+use Rattle.bac_poll.specs.DateTime.{undated}
 use Rattle.bac_poll.specs.Epochs.{renews, renews_none, renews_of}
 use Rattle.bac_poll.specs.Gone.{asks_restart, asks_word, by_word}
 use Rattle.bac_poll.specs.Joins.{ahead, again, each, joins, prior}
@@ -25,6 +26,7 @@ use Rattle.bac_poll.specs.Oldest.{by_count, by_number, is_cut, sees}
 use Rattle.bac_poll.specs.Starts.{starts, starts_by, starts_from, starts_none}
 use Rattle.bac_poll.specs.State.{KeptAs, PollState, Reply, StandingAs, ToldAs}
 use Rattle.bac_poll.specs.Turns.{Turned, asks_at, end_of, ends, first_number, number_before}
+use Rattle.bac_poll.specs.declared.date_time.DateTime.{DateTime}
 use Rattle.bac_poll.specs.declared.stage.Aim.{Aim}
 use Rattle.bac_poll.specs.declared.stage.Aim.TheVariants.{Finds, Renews, Starts}
 use Rattle.bac_poll.specs.declared.stage.Stage.{Stage}
@@ -229,7 +231,7 @@ after_revision p revision =
     asks_restart (record p { again = record p.again { revision = revision }; held = [] }) p.held p.word.restart
 
 -- Or the Time_Of_Device_Restart, as it is kept and as a date and time.
-abbrev pub after_restart : PollState → (restart : List ℕ) → (moment : List ℕ) → Turned
+abbrev pub after_restart : PollState → (restart : List ℕ) → (moment : DateTime) → Turned
 after_restart p restart moment =
     by_word (record p { again = record p.again { restart = restart; moment = moment }; held = [] }) p.held
 
@@ -263,7 +265,7 @@ first_reference at =
 
 -- nothing is told
 abbrev pub nothing_told : ToldAs
-nothing_told = record { restart = []; moment = []; revision = None }
+nothing_told = record { restart = []; moment = undated; revision = None }
 
 -- A log whose rows stand there: its device told this before it is asked.
 abbrev pub joining : Id → Id → (count : ℕ) → StandingAs → ToldAs → PollState
@@ -303,7 +305,7 @@ starting log device count begins word told = record {
   earlier = None;
   earliest = None;
   alone = false;
-  stamp = [];
+  stamp = None;
   word = word;
   told = told;
   again = nothing_told;

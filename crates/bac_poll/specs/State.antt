@@ -1,31 +1,30 @@
 -- What is known of a log that is polled.
-use Rattle.std.specs.Prelude.{ℕ, Bool, ◌++◌, ◌∷◌, List, Option}
+use Rattle.std.specs.Prelude.{ℕ, Bool, List, Option}
 use Rattle.std.specs.Option.{option_map}
 use Rattle.bac_wire.specs.Primitive.{Id}
-use Rattle.bac_wire.specs.Stamp.{date_octets, time_octets}
-use Rattle.bac_log.specs.declared.entry.Entry.{Entry}
 use Rattle.bac_print.specs.Entries.{datum_text, flags_text}
-use Rattle.bac_print.specs.Moments.{day_text, time_text}
 use Rattle.bac_walk.specs.Place.{WalkPlace}
 use Rattle.bac_walk.specs.declared.batch.Numbered.{Numbered}
+use Rattle.bac_poll.specs.DateTime.{dated}
+use Rattle.bac_poll.specs.declared.date_time.DateTime.{DateTime}
 use Rattle.bac_poll.specs.declared.kept.Kept.{Kept}
 use Rattle.bac_poll.specs.declared.poll.Standing.{Standing}
 use Rattle.bac_poll.specs.declared.stage.Stage.{Stage}
 use Rattle.bac_poll.specs.declared.ack.Reply.{Reply as ReplyOf}
 use Rattle.bac_poll.specs.declared.word.Told.{Told}
 
--- a record by the texts of its row: its number, its date and time, its datum, its status flags
+-- a record as its row has it: its number, its date and time, the texts of its datum and of its status flags
 pub record KeptAs : Type 0 where
   pub number : ℕ
-  pub stamp : List ℕ
+  pub stamp : DateTime
   pub datum : List ℕ
   pub flags : List ℕ
 
 -- What a device tells of itself: its Time_Of_Device_Restart (203) as it is kept, no octets if it doesn't tell it; the
--- same as a date and time, no octets if it is none; and its Database_Revision (155).
+-- same as a date and time, undated if it is none; and its Database_Revision (155).
 pub record ToldAs : Type 0 where
   pub restart : List ℕ
-  pub moment : List ℕ
+  pub moment : DateTime
   pub revision : Option ℕ
 
 -- What is known of a log that is polled.
@@ -39,7 +38,7 @@ pub record PollState : Type 0 where
   pub earlier : Option KeptAs  -- the one before it
   pub earliest : Option KeptAs  -- and the one before that
   pub alone : Bool  -- whether the newest was asked for by its own number, not behind an earlier one
-  pub stamp : List ℕ  -- the date and time of the newest record of the epoch, no octets if it has none
+  pub stamp : Option DateTime  -- the date and time of the newest record of the epoch, if it has one
   pub word : ToldAs  -- what was told when the log was last found at its place
   pub told : ToldAs  -- what was told before its records were asked for
   pub again : ToldAs  -- the same told again
@@ -66,24 +65,20 @@ reply_as reply = record { records = reply.records.items; last = reply.last; more
 abbrev pub maybe_reply : Option ReplyOf → Option Reply
 maybe_reply reply = option_map reply_as reply
 
--- the date and time of a record, as `log` prints them
-abbrev pub stamp_text : Entry → List ℕ
-stamp_text entry = day_text (date_octets entry.date) ++ (84 ∷ time_text (time_octets entry.time))
-
 -- a record as it would be kept
 abbrev pub kept_of : Numbered → KeptAs
 kept_of held = record {
   number = held.number;
-  stamp = stamp_text held.entry;
+  stamp = dated held.entry;
   datum = datum_text held.entry.datum;
   flags = flags_text held.entry.flags;
 }
 
--- the texts of a row of the code
+-- the same of the code
 abbrev pub kept_as : Kept → KeptAs
 kept_as kept = record {
   number = kept.number;
-  stamp = kept.stamp.items;
+  stamp = kept.stamp;
   datum = kept.datum.items;
   flags = kept.flags.items;
 }
@@ -96,7 +91,7 @@ maybe_kept kept = option_map kept_as kept
 abbrev pub told_as : Told → ToldAs
 told_as told = record {
   restart = told.restart.items;
-  moment = told.moment.items;
+  moment = told.moment;
   revision = told.revision;
 }
 
@@ -106,7 +101,7 @@ pub record StandingAs : Type 0 where
   pub newest : Option KeptAs
   pub earlier : Option KeptAs
   pub earliest : Option KeptAs
-  pub stamp : List ℕ
+  pub stamp : Option DateTime
   pub word : ToldAs
 
 -- the same of the code
@@ -116,6 +111,6 @@ standing_as at = record {
   newest = maybe_kept at.newest;
   earlier = maybe_kept at.earlier;
   earliest = maybe_kept at.earliest;
-  stamp = at.stamp.items;
+  stamp = at.stamp;
   word = told_as at.word;
 }

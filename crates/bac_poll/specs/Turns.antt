@@ -7,7 +7,9 @@ use Rattle.bac_link.specs.declared.item.Item.{Item}
 use Rattle.bac_link.specs.declared.item.Item.TheVariants.{Gap}
 use Rattle.bac_walk.specs.Walks.{gap_items}
 use Rattle.bac_walk.specs.declared.batch.Numbered.{Numbered}
+use Rattle.bac_poll.specs.DateTime.{dated}
 use Rattle.bac_poll.specs.State.{KeptAs, PollState, ToldAs, kept_of}
+use Rattle.bac_poll.specs.declared.date_time.DateTime.{DateTime}
 use Rattle.bac_poll.specs.declared.stage.Stage.{Stage}
 use Rattle.bac_poll.specs.declared.stage.Stage.TheVariants.{Joins}
 use Rattle.bac_poll.specs.declared.turn.Beginning.{Beginning}
@@ -131,7 +133,7 @@ knowing p records last = record p {
 abbrev pub behind : PollState → List Numbered → (last : Numbered) → PollState
 behind p records last =
     record (asking_from (knowing p records last) last.number)
-    { next = number_after last.number 1; stamp = (kept_of last).stamp }
+    { next = number_after last.number 1; stamp = Some (dated last.entry) }
 
 -- the same as a turn; there are none: nothing is newer
 abbrev pub brings_to : PollState → List Numbered → Option Numbered → Turned
@@ -148,10 +150,10 @@ standing_at p next = record p { next = next; newest = None; earlier = None; earl
 
 -- ---- the word
 
--- a restart that is told, else the one on record
-abbrev pub restart_or : List ℕ → List ℕ → List ℕ
-restart_or was [] = was
-restart_or was (octet ∷ octets) = octet ∷ octets
+-- the word on record with the restart that is told, if one is
+abbrev pub with_restart : ToldAs → (restart : List ℕ) → (moment : DateTime) → ToldAs
+with_restart was [] moment = was
+with_restart was (octet ∷ octets) moment = record was { restart = octet ∷ octets; moment = moment }
 
 -- a revision that is told, else the one on record
 abbrev pub revision_or : Option ℕ → Option ℕ → Option ℕ
@@ -160,11 +162,8 @@ revision_or was (Some now) = Some now
 
 -- the word on record, with each part that is told
 abbrev pub word_with : ToldAs → ToldAs → ToldAs
-word_with was now = record {
-  restart = restart_or was.restart now.restart;
-  moment = restart_or was.moment now.moment;
-  revision = revision_or was.revision now.revision;
-}
+word_with was now =
+    record (with_restart was now.restart now.moment) { revision = revision_or was.revision now.revision }
 
 -- the log was found at its place: the word that is told is on record
 abbrev pub confirmed : PollState → PollState
@@ -179,7 +178,7 @@ next_life lives = if nat_lt lives 2 then lives + 1 else 2
 -- an epoch begins, with this word on record
 abbrev pub renewed : PollState → ToldAs → PollState
 renewed p word =
-    record (standing_at p 1) { stamp = []; word = word; more = false; lives = next_life p.lives }
+    record (standing_at p 1) { stamp = None; word = word; more = false; lives = next_life p.lives }
 
 -- a turn with which it begins
 abbrev pub anew : Turned → Line → Turned

@@ -90,7 +90,7 @@ impl LogPoll {
             return Ok(self.ends(PollEnd::Contradicts));
         }
         let word = self.told.copied(alloc)?;
-        self.stand_anew(alloc, word);
+        self.stand_anew(word);
         let turn = self.ask_oldest(Aim::Renews);
         Ok(self.begun(turn, Line::BeganAnew))
     }
@@ -107,7 +107,7 @@ impl LogPoll {
             return Ok(self.ends(PollEnd::Contradicts));
         }
         let word = self.told.copied(alloc)?;
-        self.stand_anew(alloc, word);
+        self.stand_anew(word);
         let turn = self.renew(alloc, records)?;
         Ok(self.begun(turn, Line::BeganAnew))
     }
@@ -131,7 +131,7 @@ impl LogPoll {
             return Ok(self.ends(PollEnd::Contradicts));
         }
         let word = self.told.copied(alloc)?;
-        self.stand_anew(alloc, word);
+        self.stand_anew(word);
         let turn = self.renew_of(total);
         Ok(self.begun(turn, Line::BeganAnew))
     }

@@ -5,11 +5,10 @@ ghost use Rattle.bac_poll.specs.State.{told_as};
 ghost use Rattle.bac_poll.specs.Turns.{turned};
 ghost use Rattle.bac_poll.specs.Gone.{asks_restart, asks_revision, asks_word, brings_both};
 ghost use Rattle.bac_poll.specs.Gone.{brings_doubtful, brings_gone, by_gone, by_word, doubt};
-ghost use Rattle.bac_poll.specs.Gone.{gone_by, gone_of, gone_of_none, has_logged, is_outlived};
-ghost use Rattle.bac_poll.specs.Gone.{retold};
+ghost use Rattle.bac_poll.specs.Gone.{gone_by, gone_of, gone_of_none, has_logged, is_behind};
+ghost use Rattle.bac_poll.specs.Gone.{is_earlier, is_outlived, retold};
 
-use crate::kept::stamp_of;
-use crate::known::is_before;
+use crate::date_time::DateTime;
 use crate::poll::LogPoll;
 use crate::stage::Stage;
 use crate::turn::{Line, Turn, gap_up_to};
@@ -41,16 +40,36 @@ fn gone_of_none(word: Word) -> Gone
     }
 }
 
+// Whether the newest that is kept of the epoch, if there is one, is dated before the oldest.
+fn is_behind(newest: Option<DateTime>, stamp: &DateTime) -> bool
+    ensures { result ≡ is_behind newest stamp.now }
+{
+    match newest {
+        Some(kept) => kept.is_before(stamp),
+        None => true,
+    }
+}
+
+// Whether there is one, and the oldest is dated before it.
+fn is_earlier(stamp: &DateTime, newest: Option<DateTime>) -> bool
+    ensures { result ≡ is_earlier stamp.now newest }
+{
+    match newest {
+        Some(kept) => stamp.is_before(&kept),
+        None => false,
+    }
+}
+
 impl LogPoll {
     // Whether the log outlived the restart that is told.
-    fn is_outlived(&self, stamp: &[u8]) -> bool
+    fn is_outlived(&self, stamp: &DateTime) -> bool
         ensures { result ≡ is_outlived self.now stamp.now }
     {
-        is_before(self.stamp.as_slice(), stamp) && is_before(stamp, self.again.moment.as_slice())
+        is_behind(self.stamp, stamp) && stamp.is_before(&self.again.moment)
     }
 
     // By the word, where the oldest isn't dated before the newest that is kept.
-    fn gone_by(&self, stamp: &[u8], word: Word) -> Gone
+    fn gone_by(&self, stamp: &DateTime, word: Word) -> Gone
         ensures { result ≡ gone_by self.now stamp.now word }
     {
         match word {
@@ -67,23 +86,18 @@ impl LogPoll {
     }
 
     // What the evidence says, of the oldest that is held.
-    fn gone_of(
-        &self,
-        alloc: Global,
-        oldest: Option<Numbered>,
-        word: Word,
-    ) -> Result<Gone, AllocError>
-        ensures { IfOk result (λ gone. gone ≡ gone_of self.now oldest word) }
+    fn gone_of(&self, oldest: Option<Numbered>, word: Word) -> Gone
+        ensures { result ≡ gone_of self.now oldest word }
     {
         match oldest {
             Some(held) => {
-                let stamp = stamp_of(alloc, held.entry)?;
-                if is_before(stamp.as_slice(), self.stamp.as_slice()) {
-                    return Ok(Gone::Both);
+                let stamp = DateTime::of(&held.entry);
+                if is_earlier(&stamp, self.stamp) {
+                    return Gone::Both;
                 }
-                Ok(self.gone_by(stamp.as_slice(), word))
+                self.gone_by(&stamp, word)
             }
-            None => Ok(gone_of_none(word)),
+            None => gone_of_none(word),
         }
     }
 
@@ -151,7 +165,7 @@ impl LogPoll {
             ≡ brings_both self.old (told_as told) first held.items) }
     {
         let missing = gap_up_to(self.next, first);
-        self.stand_anew(alloc, told);
+        self.stand_anew(told);
         self.stand_at(first);
         let turn = self.bring(alloc, held)?;
         let mut turn = self.begun(turn, Line::BeganOrDropped);
@@ -209,7 +223,7 @@ impl LogPoll {
         let oldest = first_in(&held);
         let first = number_or(number_behind(self.total), oldest);
         let word = word_of(&self.word, &self.again);
-        let gone = self.gone_of(alloc, oldest, word)?;
+        let gone = self.gone_of(oldest, word);
         self.go_by_gone(alloc, first, held, gone)
     }
 
@@ -222,7 +236,7 @@ impl LogPoll {
         ensures { IfOk result (λ turn. turned self.new turn
             ≡ asks_restart self.old held.items self.old.word.restart) }
     {
-        if self.word.restart.is_empty() {
+        if self.word.restart.as_slice().is_empty() {
             return self.go_by_word(alloc, held);
         }
         self.held = held;

@@ -1,19 +1,21 @@
-//! Records by the texts of their rows.
+//! Records as their rows have them.
 
 ghost use Rattle.std.specs.Prelude.{◌≡◌, IfOk};
 ghost use Rattle.bac_print.specs.Entries.{datum_text, flags_text};
-ghost use Rattle.bac_poll.specs.State.{kept_as, kept_of, stamp_text};
+ghost use Rattle.bac_poll.specs.State.{kept_as, kept_of};
 
-use bac_log::{Datum, Entry};
-use bac_print::{push_datum, push_flags, push_moment};
+use crate::date_time::DateTime;
+use bac_log::Datum;
+use bac_print::{push_datum, push_flags};
 use bac_walk::Numbered;
 use std::alloc::{AllocError, Global};
 
-/// A record by the texts of its row, as `log` prints them.
+/// A record as its row has it: its number, its date and time, and the texts of its datum and of its
+/// status flags, as `log` prints them.
 #[derive(Drop)]
 pub struct Kept {
     pub number: u32,
-    pub stamp: Vec<u8>,
+    pub stamp: DateTime,
     pub datum: Vec<u8>,
     pub flags: Vec<u8>,
 }
@@ -23,25 +25,15 @@ impl Kept {
     pub(crate) fn of(alloc: Global, held: Numbered) -> Result<Kept, AllocError>
         ensures { IfOk result (λ kept. kept_as kept ≡ kept_of held) }
     {
-        let stamp = stamp_of(alloc, held.entry)?;
         let datum = datum_of(alloc, held.entry.datum)?;
         let flags = flags_of(alloc, held.entry.flags)?;
         Ok(Kept {
             number: held.number,
-            stamp,
+            stamp: DateTime::of(&held.entry),
             datum,
             flags,
         })
     }
-}
-
-/// The date and time of a record.
-pub(crate) fn stamp_of(alloc: Global, entry: Entry) -> Result<Vec<u8>, AllocError>
-    ensures { IfOk result (λ text. text.items ≡ stamp_text entry) }
-{
-    let mut text = Vec::new(alloc);
-    push_moment(&mut text, entry.date, entry.time)?;
-    Ok(text)
 }
 
 // What was logged.

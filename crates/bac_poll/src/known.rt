@@ -1,16 +1,14 @@
 //! What records say of those that are known.
 
-ghost use Rattle.std.specs.Prelude.{◌≡◌, ◌+◌, ◌<◌, ◌≤◌, IfOk, length};
+ghost use Rattle.std.specs.Prelude.{◌≡◌, ◌<◌, IfOk};
 ghost use Rattle.bac_poll.specs.State.{kept_as, kept_of, maybe_kept};
-ghost use Rattle.bac_poll.specs.Known.{day_of, digit, digits, is_another, is_before, is_dated};
-ghost use Rattle.bac_poll.specs.Known.{is_equal, is_moment, is_same_value, is_steady_with};
-ghost use Rattle.bac_poll.specs.Known.{is_unshown};
-ghost use Rattle.bac_poll.specs.Known.{march_year, maybe_shown, means_all, means_of, means_other};
-ghost use Rattle.bac_poll.specs.Known.{means_shifted, means_some, month_days, number_in, record_at};
+ghost use Rattle.bac_poll.specs.Known.{is_another, is_equal, is_same_value, is_steady_with};
+ghost use Rattle.bac_poll.specs.Known.{is_unshown, maybe_shown, means_all, means_of, means_other};
+ghost use Rattle.bac_poll.specs.Known.{means_shifted, means_some, number_in, record_at};
 ghost use Rattle.bac_poll.specs.Known.{records_behind, shift, shift_in, shift_of, shown_as};
 ghost use Rattle.bac_poll.specs.Known.{shown_in};
-ghost use Rattle.bac_poll.specs.Known.{ticks_in, year_days};
 
+use crate::date_time::DateTime;
 use crate::kept::Kept;
 use arrayvec::ArrayVec;
 use bac_walk::Numbered;
@@ -44,99 +42,7 @@ pub enum Means {
     Another,
 }
 
-// ---- dates and times
-
-// Whether a date and time has each part.
-fn is_dated(text: &[u8]) -> bool
-    ensures { result ≡ is_dated text.now }
-{
-    !text.contains(&b'*')
-}
-
-/// Whether a date and time lies before another, both with each part.
-pub(crate) fn is_before(stamp: &[u8], other: &[u8]) -> bool
-    ensures { result ≡ is_before stamp.now other.now }
-{
-    is_dated(stamp) && is_dated(other) && stamp.cmp(other).is_lt()
-}
-
-// The digit there.
-fn digit(text: &[u8], at: usize) -> u64
-    requires { at < length text.now }
-    ensures value { result ≡ digit text.now at }
-    ensures bound { result < 256 }
-{
-    u64::from(text[at].saturating_sub(48))
-}
-
-// The two digits there.
-fn digits(text: &[u8], at: usize) -> u64
-    requires { at + 1 < length text.now }
-    ensures value { result ≡ digits text.now at }
-    ensures bound { result < 2816 }
-{
-    digit(text, at) * 10 + digit(text, at + 1)
-}
-
-// The year, counted from March.
-fn march_year(year: u64, month: u64) -> u64
-    ensures value { result ≡ march_year year month }
-    ensures bound { result ≤ year }
-{
-    if month <= 2 {
-        year.saturating_sub(1)
-    } else {
-        year
-    }
-}
-
-// The days from March of the year 0 to the first of March of a year.
-fn year_days(year: u64) -> u64
-    requires { year < 1000000 }
-    ensures value { result ≡ year_days year }
-    ensures bound { result < 1000000000 }
-{
-    year * 365 + year / 4 + year / 400 - year / 100
-}
-
-// The days from the first of March to the first day of a month.
-fn month_days(month: u64) -> u64
-    requires { month < 10000 }
-    ensures value { result ≡ month_days month }
-    ensures bound { result < 1000 }
-{
-    ((month + 9) % 12 * 153 + 2) / 5
-}
-
-// The day of a date.
-fn day_of(text: &[u8]) -> u64
-    requires { length text.now ≡ 22 }
-    ensures value { result ≡ day_of text.now }
-    ensures bound { result < 2000000000 }
-{
-    let year = digits(text, 0) * 100 + digits(text, 2);
-    let month = digits(text, 5);
-    year_days(march_year(year, month)) + month_days(month) + digits(text, 8)
-}
-
-// The hundredths of a second up to a date and time.
-fn ticks_in(text: &[u8]) -> u64
-    requires { length text.now ≡ 22 }
-    ensures value { result ≡ ticks_in text.now }
-    ensures bound { result < 1000000000000000000 }
-{
-    let hours = day_of(text) * 24 + digits(text, 11);
-    let minutes = hours * 60 + digits(text, 14);
-    let seconds = minutes * 60 + digits(text, 17);
-    seconds * 100 + digits(text, 20)
-}
-
-// Whether it is a date and time of which each part is told.
-fn is_moment(text: &[u8]) -> bool
-    ensures { result ≡ is_moment text.now }
-{
-    text.len() == 22 && is_dated(text)
-}
+// ---- one known record
 
 // By how many quarter hours a moment is shown later, and a hundred.
 fn shift(was: u64, now: u64) -> Shown
@@ -151,8 +57,6 @@ fn shift(was: u64, now: u64) -> Shown
     }
 }
 
-// ---- one known record
-
 // Whether datum and flags are the same.
 fn is_same_value(kept: &Kept, held: &Kept) -> bool
     ensures { result ≡ is_same_value (kept_as kept.now) (kept_as held.now) }
@@ -161,11 +65,11 @@ fn is_same_value(kept: &Kept, held: &Kept) -> bool
 }
 
 // Two dates and times that aren't the same.
-fn shift_of(was: &[u8], now: &[u8]) -> Shown
+fn shift_of(was: &DateTime, now: &DateTime) -> Shown
     ensures { result ≡ shift_of was.now now.now }
 {
-    if is_moment(was) && is_moment(now) {
-        shift(ticks_in(was), ticks_in(now))
+    if was.is_moment() && now.is_moment() {
+        shift(was.ticks(), now.ticks())
     } else {
         Shown::Another
     }
@@ -178,10 +82,10 @@ pub(crate) fn shown_as(kept: &Kept, held: &Kept) -> Shown
     if !is_same_value(kept, held) {
         return Shown::Another;
     }
-    if kept.stamp.as_slice() == held.stamp.as_slice() {
+    if kept.stamp.is_same(&held.stamp) {
         return Shown::Equal;
     }
-    shift_of(kept.stamp.as_slice(), held.stamp.as_slice())
+    shift_of(&kept.stamp, &held.stamp)
 }
 
 /// The record of this number, if it is among these.

@@ -11,30 +11,28 @@
 
 mod ack;
 mod back;
+mod date_time;
 mod epochs;
 mod gone;
 mod joins;
 mod kept;
 mod known;
-mod laws;
 mod oldest;
 mod poll;
 mod question;
 mod reading;
 mod stage;
+mod stamps;
 mod starts;
 mod turn;
 mod turns;
 mod word;
 
 pub use ack::Reply;
+pub use date_time::DateTime;
 pub use gone::Gone;
 pub use kept::Kept;
 pub use known::{Means, Shown};
-pub use laws::{
-    asks_once_more, begins_standing, each_shown_once, epochs_are_whole, gaps_are_gone,
-    kept_is_logged, said_is_shown,
-};
 pub use poll::{LogPoll, Standing};
 pub use stage::{Aim, Stage};
 pub use turn::{Beginning, Line, PollEnd, Turn};

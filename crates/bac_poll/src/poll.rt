@@ -11,6 +11,7 @@ ghost use Rattle.bac_poll.specs.State.{PollState, maybe_kept, reply_as, standing
 ghost use Rattle.bac_poll.specs.Turns.{turned};
 
 use crate::ack::Reply;
+use crate::date_time::DateTime;
 use crate::kept::Kept;
 use crate::stage::{Aim, Stage};
 use crate::turn::{PollEnd, Turn};
@@ -24,15 +25,15 @@ use std::marker::Model;
 use std::mem::replace;
 
 /// Where a log stands by its rows: the number that comes next, up to three records right before it
-/// in the same epoch, the date and time of the newest record of the epoch (no octets if it has
-/// none), and the word of its device on record.
+/// in the same epoch, the date and time of the newest record of the epoch, if it has one, and the
+/// word of its device on record.
 #[derive(Drop)]
 pub struct Standing {
     pub next: u32,
     pub newest: Option<Kept>,
     pub earlier: Option<Kept>,
     pub earliest: Option<Kept>,
-    pub stamp: Vec<u8>,
+    pub stamp: Option<DateTime>,
     pub word: Told,
 }
 
@@ -48,7 +49,7 @@ pub struct LogPoll {
     pub(crate) earlier: Option<Kept>,
     pub(crate) earliest: Option<Kept>,
     pub(crate) alone: bool,
-    pub(crate) stamp: Vec<u8>,
+    pub(crate) stamp: Option<DateTime>,
     pub(crate) word: Told,
     pub(crate) told: Told,
     pub(crate) again: Told,
@@ -77,7 +78,7 @@ impl Model for LogPoll {
       earlier = maybe_kept p.earlier;
       earliest = maybe_kept p.earliest;
       alone = p.alone;
-      stamp = p.stamp.items;
+      stamp = p.stamp;
       word = told_as p.word;
       told = told_as p.told;
       again = told_as p.again;
@@ -170,7 +171,7 @@ impl LogPoll {
             earlier: None,
             earliest: None,
             alone: false,
-            stamp: Vec::new(alloc),
+            stamp: None,
             word,
             told,
             again: Told::nothing(alloc),
@@ -276,16 +277,16 @@ impl LogPoll {
         self.ask_restart(alloc, held)
     }
 
-    /// Takes the Time_Of_Device_Restart that was asked for, as it is kept and as a date and time;
-    /// no octets: the device doesn't tell it, or it is none.
+    /// Takes the Time_Of_Device_Restart that was asked for, as it is kept (no octets: the device
+    /// doesn't tell it) and as a date and time (unknown, if it is none).
     pub fn hear_restart(
         &mut self,
         alloc: Global,
         restart: Vec<u8>,
-        moment: Vec<u8>,
+        moment: DateTime,
     ) -> Result<Turn, AllocError>
         ensures { IfOk result (λ turn. turned self.new turn
-            ≡ after_restart self.old restart.items moment.items) }
+            ≡ after_restart self.old restart.items moment) }
     {
         self.retell_restart(restart, moment);
         let held = replace(&mut self.held, ArrayVec::new());
@@ -293,9 +294,9 @@ impl LogPoll {
     }
 
     // The restart is told again.
-    fn retell_restart(&mut self, restart: Vec<u8>, moment: Vec<u8>)
+    fn retell_restart(&mut self, restart: Vec<u8>, moment: DateTime)
         ensures { self.new ≡ record self.old
-            { again = record self.old.again { restart = restart.items; moment = moment.items } } }
+            { again = record self.old.again { restart = restart.items; moment = moment } } }
     {
         self.again.restart = restart;
         self.again.moment = moment;

@@ -14,7 +14,8 @@ ghost use Rattle.bac_poll.specs.Turns.{next_life, number_before, number_or, rene
 ghost use Rattle.bac_poll.specs.Turns.{standing_on, turned};
 ghost use Rattle.bac_poll.specs.Known.{heeding, is_steady, means_in};
 
-use crate::kept::{Kept, stamp_of};
+use crate::date_time::DateTime;
+use crate::kept::Kept;
 use crate::known::{Means, is_steady_with, means_of, shown_in};
 use crate::poll::LogPoll;
 use crate::stage::Stage;
@@ -132,7 +133,7 @@ impl LogPoll {
         ensures { IfOk result (λ _. self.new ≡ behind self.old records.now.items last) }
     {
         self.know_last(alloc, records, last)?;
-        self.stamp = stamp_of(alloc, last.entry)?;
+        self.stamp = Some(DateTime::of(&last.entry));
         self.next = number_behind(last.number);
         self.ask_from(last.number);
         Ok(())
@@ -166,11 +167,11 @@ impl LogPoll {
     }
 
     /// An epoch begins, with this word on record.
-    pub(crate) fn stand_anew(&mut self, alloc: Global, word: Told)
+    pub(crate) fn stand_anew(&mut self, word: Told)
         ensures { self.new ≡ renewed self.old (told_as word) }
     {
         self.stand_at(1);
-        self.stamp = Vec::new(alloc);
+        self.stamp = None;
         self.word = word;
         self.more = false;
         self.lives = next_life(self.lives);

@@ -1,12 +1,14 @@
 //! What a device tells of itself.
 
 ghost use Rattle.std.specs.Prelude.{◌≡◌, [], None, IfOk};
+ghost use Rattle.bac_poll.specs.DateTime.{undated};
 ghost use Rattle.bac_poll.specs.State.{told_as};
 ghost use Rattle.bac_poll.specs.Known.{is_other_restart, is_other_revision, is_other_word};
 ghost use Rattle.bac_poll.specs.Known.{is_restart_changed, is_retold, is_revision_changed};
 ghost use Rattle.bac_poll.specs.Known.{is_untold, word_of};
-ghost use Rattle.bac_poll.specs.Turns.{restart_or, revision_or, word_with};
+ghost use Rattle.bac_poll.specs.Turns.{revision_or, word_with};
 
+use crate::date_time::DateTime;
 use std::alloc::{AllocError, Global};
 
 /// What a device tells of itself; a part that it refuses, or of which a part is unspecified, isn't
@@ -15,8 +17,8 @@ use std::alloc::{AllocError, Global};
 pub struct Told {
     /// Its Time_Of_Device_Restart, as it is kept; no octets: it isn't told.
     pub restart: Vec<u8>,
-    /// The same as the date and time of a record; no octets: it is none.
-    pub moment: Vec<u8>,
+    /// The same as a date and time; unknown, if it is none.
+    pub moment: DateTime,
     /// Its Database_Revision.
     pub revision: Option<u32>,
 }
@@ -35,11 +37,11 @@ pub enum Word {
 impl Told {
     /// Nothing is told.
     pub fn nothing(alloc: Global) -> Told
-        ensures { told_as result ≡ record { restart = []; moment = []; revision = None } }
+        ensures { told_as result ≡ record { restart = []; moment = undated; revision = None } }
     {
         Told {
             restart: Vec::new(alloc),
-            moment: Vec::new(alloc),
+            moment: DateTime::unknown(),
             revision: None,
         }
     }
@@ -49,10 +51,9 @@ impl Told {
         ensures { IfOk result (λ told. told_as told ≡ told_as self.now) }
     {
         let restart = copied(alloc, &self.restart)?;
-        let moment = copied(alloc, &self.moment)?;
         Ok(Told {
             restart,
-            moment,
+            moment: self.moment,
             revision: self.revision,
         })
     }
@@ -62,13 +63,13 @@ impl Told {
         ensures { IfOk result (λ word. told_as word
             ≡ word_with (told_as self.now) (told_as told.now)) }
     {
-        let restart = restart_or(alloc, &self.restart, &told.restart)?;
-        let moment = restart_or(alloc, &self.moment, &told.moment)?;
-        Ok(Told {
-            restart,
-            moment,
-            revision: revision_or(self.revision, told.revision),
-        })
+        let mut word = if told.restart.is_empty() {
+            self.copied(alloc)?
+        } else {
+            told.copied(alloc)?
+        };
+        word.revision = revision_or(self.revision, told.revision);
+        Ok(word)
     }
 }
 
@@ -79,17 +80,6 @@ fn copied(alloc: Global, octets: &Vec<u8>) -> Result<Vec<u8>, AllocError>
     let mut copy = Vec::new(alloc);
     copy.extend_from_slice(octets.as_slice())?;
     Ok(copy)
-}
-
-// A restart that is told, else the one on record.
-fn restart_or(alloc: Global, was: &Vec<u8>, now: &Vec<u8>) -> Result<Vec<u8>, AllocError>
-    ensures { IfOk result (λ text. text.items ≡ restart_or was.now.items now.now.items) }
-{
-    if now.is_empty() {
-        copied(alloc, was)
-    } else {
-        copied(alloc, now)
-    }
 }
 
 // A revision that is told, else the one on record.

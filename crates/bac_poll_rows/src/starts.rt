@@ -1,7 +1,7 @@
 //! Where polls begin.
 
 use crate::fault::Fault;
-use crate::words::{kept, maybe_number, number, text, told};
+use crate::words::{kept, maybe_number, number, stamp, told};
 use bac_poll::{LogPoll, Standing};
 use bac_walk::Count;
 use bac_wire::ObjectId;
@@ -23,7 +23,7 @@ pub(crate) fn behind(alloc: Global, words: &mut SplitWhitespace) -> Result<LogPo
         newest: kept(alloc, words)?,
         earlier: kept(alloc, words)?,
         earliest: kept(alloc, words)?,
-        stamp: text(alloc, words)?,
+        stamp: stamp(words)?,
         word: told(alloc, words)?,
     };
     let now = told(alloc, words)?;

@@ -1,7 +1,7 @@
 //! The words of a line. `-` stands for what isn't there.
 
 use crate::fault::Fault;
-use bac_poll::{Kept, Told};
+use bac_poll::{DateTime, Kept, Told};
 use std::alloc::Global;
 use std::str::SplitWhitespace;
 
@@ -42,9 +42,20 @@ fn octets(alloc: Global, word: &str) -> Result<Vec<u8>, Fault> {
     Ok(octets)
 }
 
-/// The octets of the next word.
-pub(crate) fn text(alloc: Global, words: &mut SplitWhitespace) -> Result<Vec<u8>, Fault> {
-    octets(alloc, word(words)?)
+fn date_time(word: &str) -> Result<DateTime, Fault> {
+    match DateTime::read(word) {
+        Some(at) => Ok(at),
+        None => Err(Fault::BadLine),
+    }
+}
+
+/// A date and time, if there is one.
+pub(crate) fn stamp(words: &mut SplitWhitespace) -> Result<Option<DateTime>, Fault> {
+    let word = word(words)?;
+    if word == "-" {
+        return Ok(None);
+    }
+    Ok(Some(date_time(word)?))
 }
 
 /// A restart as it is kept, and the same as a date and time where it is one: a sequence number has
@@ -52,10 +63,14 @@ pub(crate) fn text(alloc: Global, words: &mut SplitWhitespace) -> Result<Vec<u8>
 pub(crate) fn restart(
     alloc: Global,
     words: &mut SplitWhitespace,
-) -> Result<(Vec<u8>, Vec<u8>), Fault> {
+) -> Result<(Vec<u8>, DateTime), Fault> {
     let word = word(words)?;
-    let moment = if word.contains(':') { word } else { "-" };
-    Ok((octets(alloc, word)?, octets(alloc, moment)?))
+    let moment = if word.contains(':') {
+        date_time(word)?
+    } else {
+        DateTime::unknown()
+    };
+    Ok((octets(alloc, word)?, moment))
 }
 
 /// What a device tells: its restart and its revision.
@@ -80,7 +95,7 @@ pub(crate) fn kept(alloc: Global, words: &mut SplitWhitespace) -> Result<Option<
     let (datum, flags) = parted(rest)?;
     Ok(Some(Kept {
         number: number_of(number)?,
-        stamp: octets(alloc, stamp)?,
+        stamp: date_time(stamp)?,
         datum: octets(alloc, datum)?,
         flags: octets(alloc, flags)?,
     }))

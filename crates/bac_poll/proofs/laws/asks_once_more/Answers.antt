@@ -1,5 +1,0 @@
-use Rattle.bac_poll.proofs.Asks.{asks_once}
-use Rattle.bac_poll.proofs.laws.asks_once_more.Goals as goal
-
-pub returns : goal.returns
-returns c = asks_once

@@ -1,6 +1,0 @@
-use Rattle.bac_poll.specs.Laws.{IsAmong, IsOneOf}
-use Rattle.bac_poll.proofs.Once.{begins_standing}
-use Rattle.bac_poll.proofs.laws.begins_standing.Goals as goal
-
-pub returns : goal.returns
-returns c = λ shown fronts. begins_standing (IsAmong shown) (IsOneOf fronts)

@@ -1,5 +1,0 @@
-use Rattle.bac_poll.proofs.Saids.{said_shown}
-use Rattle.bac_poll.proofs.laws.said_is_shown.Goals as goal
-
-pub returns : goal.returns
-returns c = said_shown

@@ -1,0 +1,16 @@
+mod Wholes
+mod Rules
+mod Backwards
+mod Once
+mod Saids
+mod Gaps
+mod Asks
+mod Fronts
+mod Tells
+mod Ordered
+mod Delivered
+mod Polls
+mod Questions
+mod Keeps
+mod Firsts
+mod FirstRuns

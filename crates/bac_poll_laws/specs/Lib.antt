@@ -1,0 +1,9 @@
+pub mod Laws
+pub mod Logged
+pub mod Gaps
+pub mod Asks
+pub mod Delivers
+pub mod Caught
+pub mod Questions
+pub mod Held
+pub mod Firsts

@@ -1,0 +1,10 @@
+//! What holds of the polls of trend logs, whatever is answered, and what they deliver where devices
+//! say what their logs hold. Each function does nothing: what it ensures is a law of `bac_poll`.
+#![tactic(auto)]
+
+mod laws;
+
+pub use laws::{
+    asks_once_more, begins_standing, each_shown_once, epochs_are_whole, firsts_deliver,
+    gaps_are_gone, held_is_kept, kept_is_logged, polls_deliver, questions_are_few, said_is_shown,
+};
