@@ -1,5 +1,5 @@
 -- No log of a device is left out.
-use Rattle.std.proofs.Common.{◌≡◌, ◌∙◌, ℕ, ◌+◌, ◌==◌, ◌&&◌, nat_le, Bool, true, false, if◌then◌else◌, List, [], ◌∷◌, ◌++◌, map, Option, None, Some, ap, sym, refl, subst, append-nil, append_assoc}
+use Rattle.std.proofs.Common.{◌≡◌, ◌∙◌, ℕ, ◌+◌, ◌==◌, ◌&&◌, nat_le, Bool, true, false, if◌then◌else◌, List, [], ◌∷◌, ◌++◌, map, MatchBool, Option, None, Some, ap, sym, refl, subst, append-nil, append_assoc, inl, inr, ◌⊎◌, nat_lt}
 use Rattle.std.proofs.lemmas.Grind.{flat_map-append}
 use Rattle.std.proofs.lemmas.List.{map-append}
 use Rattle.bac_wire.specs.Primitive.{Id}
@@ -12,11 +12,14 @@ use Rattle.bac_poll.specs.declared.turn.PollEnd.TheVariants.{Fault}
 use Rattle.bac_walk.specs.declared.outcome.WalkFault.TheVariants as walk
 use Rattle.bac_device_poll.specs.Clock.{after_clock, after_date, clocks}
 use Rattle.bac_device_poll.specs.Identity.{after_i_am, after_instance, after_name, met_as, whose}
-use Rattle.bac_device_poll.specs.Laws.{Accounts, NoneLeftOut, added_by, added_in, at_stage, ended_by, ended_in, left, not_asked_by, not_asked_in, waiting}
+use Rattle.bac_device_poll.specs.Laws.{ComesAt, NoneLeftOut, Runs, added_by, added_in, at_stage, behind as after_all, ended_by, ended_in, found_in, left, not_asked_by, not_asked_in, settled, waiting}
 use Rattle.bac_device_poll.specs.Listing.{after_count, after_element, after_objects, are_same, listed, lists, may_differ, new_among, new_log, others_in, told_others, unlisted}
-use Rattle.bac_device_poll.specs.Logs.{after_end, after_loss, begins_with, log_after, log_at, loss_at, stage_behind, with_log}
+use Rattle.bac_device_poll.specs.Logs.{after_end, after_log, after_loss, begins_with, halved, is_too_many, log_after, log_at, loss_at, stage_behind, with_log}
+use Rattle.bac_device_poll.specs.Refusals.{is_busy}
 use Rattle.bac_device_poll.specs.Naming.{after_description, is_changed, is_other, names, names_next, names_with, read_at, told_read, unnamed}
-use Rattle.bac_device_poll.specs.Poll.{Answers}
+use Rattle.bac_link.specs.Datagrams.{apdu_in}
+use Rattle.bac_device_poll.specs.Poll.{Answers, Takes, answered, asked_of_device, fresh, later, verdict_to}
+use Rattle.bac_device_poll.specs.declared.poll.Known.{Known}
 use Rattle.bac_device_poll.specs.State.{DeviceState, LogAs}
 use Rattle.bac_device_poll.specs.Turns.{Turned, asks, leaves, not_asked}
 use Rattle.bac_device_poll.specs.declared.entry.Entry.{Entry}
@@ -59,8 +62,22 @@ left_none : (p : DeviceState) → p.polled ≡ None → left p ≡ waiting p
 left_none p none =
     ap (λ (q : Option Polled). at_stage p.stage q ++ waiting p) none ∙ ap (λ (l : List Id). l ++ waiting p) (none_at p.stage)
 
+-- a log is polled at its stage, and before that none is; at the end none waits
+abbrev pub IsApt : Stage → DeviceState → Type 0
+IsApt stage.Log p = (q : Polled) × (p.polled ≡ Some q)
+IsApt stage.Between p = Unit {0}
+IsApt stage.Ended p = p.logs ≡ []
+IsApt other p = p.polled ≡ None
+
+-- none is left out: those whose poll ended, then those that are told as not asked and those that are still polled, are
+-- those that were, with the new ones behind them
+abbrev pub Accounts : DeviceState → Turned → Type 0
+Accounts p t =
+    ended_in t.log p.polled ++ (not_asked_in t.entries ++ left t.device) ≡ left p ++ added_in t.entries
+
 -- what accounts for the logs of a device of which none was polled
 record Goes (p : DeviceState) (t : Turned) : Type 0 where
+  apt : IsApt t.device.stage t.device
   log : t.log ≡ None
   all : not_asked_in t.entries ++ left t.device ≡ waiting p ++ added_in t.entries
 
@@ -92,21 +109,42 @@ quiet_read p = quiet_read_if p.listed (read_at p.revision p.told.revision) (quie
 
 -- ---- the next log
 
--- these entries, and the logs that wait are still polled
-record Stays (l : List Id) (es : List Entry) (t : Turned) : Type 0 where
-  log : t.log ≡ None
-  left : left t.device ≡ l
-  asked : not_asked_in t.entries ≡ not_asked_in es
-  added : added_in t.entries ≡ added_in es
+-- all else that is known of the device is as it was
+abbrev pub IsAsItWas : DeviceState → DeviceState → Type 0
+IsAsItWas p new = new ≡ record p {
+  stage = new.stage;
+  objects = new.objects;
+  unnamed = new.unnamed;
+  naming = new.naming;
+  polled = new.polled;
+  logs = new.logs;
+}
 
-begun : (p : DeviceState) (logs : List LogAs) (es : List Entry) → p.logs ≡ logs → Stays (waiting p) es (begins_with p logs es)
-begun p [] es is = record { log = refl; left = refl; asked = refl; added = refl }
-begun p (task ∷ logs) es is =
-    record { log = refl; left = ap (map (λ (t : LogAs). t.log)) (sym is); asked = refl; added = refl }
+-- these entries, and the logs that wait are still polled
+pub record Stays (p : DeviceState) (es : List Entry) (t : Turned) : Type 0 where
+  pub apt : p.polled ≡ None → IsApt t.device.stage t.device
+  pub same : IsAsItWas p t.device
+  pub log : t.log ≡ None
+  pub left : left t.device ≡ waiting p
+  pub asked : not_asked_in t.entries ≡ not_asked_in es
+  pub added : added_in t.entries ≡ added_in es
+
+begun : (p : DeviceState) (logs : List LogAs) (es : List Entry) → p.logs ≡ logs → Stays p es (begins_with p logs es)
+begun p [] es is = record { apt = λ none. is; same = refl; log = refl; left = refl; asked = refl; added = refl }
+begun p (task ∷ logs) es is = record {
+  apt = λ none. (_, refl);
+  same = refl;
+  log = refl;
+  left = ap (map (λ (t : LogAs). t.log)) (sym is);
+  asked = refl;
+  added = refl;
+}
 
 -- quiet entries behind others change nothing
-behind : (p : DeviceState) (es more : List Entry) (t : Turned) → IsQuiet more → Stays (waiting p) (es ++ more) t → Stays (waiting p) es t
+behind : (p : DeviceState) (es more : List Entry) (t : Turned) → IsQuiet more → Stays p (es ++ more) t → Stays p es t
 behind p es more t quiet stays = record {
+  apt = stays.apt;
+  same = stays.same;
   log = stays.log;
   left = stays.left;
   asked = stays.asked ∙ flat_map-append not_asked_by es more
@@ -115,34 +153,52 @@ behind p es more t quiet stays = record {
       ∙ ap (λ (l : List Id). added_in es ++ l) quiet.old ∙ append-nil (added_in es);
 }
 
-named : (p : DeviceState) (logs : List Id) (es : List Entry) → Stays (waiting p) es (names_with p logs es)
+pub named : (p : DeviceState) (logs : List Id) (es : List Entry) → Stays p es (names_with p logs es)
 named p [] es = behind p es (told_read p) _ (quiet_read p) (begun p p.logs (es ++ told_read p) refl)
-named p (log ∷ logs) es = record { log = refl; left = refl; asked = refl; added = refl }
+named p (log ∷ logs) es =
+    record { apt = λ none. none; same = refl; log = refl; left = refl; asked = refl; added = refl }
+
+-- the same device with other logs whose names are to be asked for
+unnamed_as : (p : DeviceState) (logs : List Id) (es : List Entry) (t : Turned) → Stays (record p { unnamed = logs }) es t → Stays p es t
+unnamed_as p logs es t stays = record {
+  apt = stays.apt;
+  same = stays.same;
+  log = stays.log;
+  left = stays.left;
+  asked = stays.asked;
+  added = stays.added;
+}
 
 named_if : (b : Bool) (p : DeviceState) (logs : List Id) (es : List Entry) →
-    Stays (waiting p) es (if b then names_next (record p { unnamed = logs }) es else names_next p es)
-named_if true p logs es = named (record p { unnamed = logs }) logs es
+    Stays p es (if b then names_next (record p { unnamed = logs }) es else names_next p es)
+named_if true p logs es = unnamed_as p logs es _ (named (record p { unnamed = logs }) logs es)
 named_if false p logs es = named p p.unnamed es
 
-names_stay : (p : DeviceState) (es : List Entry) → Stays (waiting p) es (names p es)
+pub names_stay : (p : DeviceState) (es : List Entry) → Stays p es (names p es)
 names_stay p es = named_if (is_changed p.revision p.told.revision) p (waiting p) es
 
 lists_if : (b : Bool) (p : DeviceState) (es : List Entry) →
-    Stays (waiting p) es (if b then asks (record p { stage = stage.Objects }) es else names p es)
-lists_if true p es = record { log = refl; left = refl; asked = refl; added = refl }
+    Stays p es (if b then asks (record p { stage = stage.Objects }) es else names p es)
+lists_if true p es =
+    record { apt = λ none. none; same = refl; log = refl; left = refl; asked = refl; added = refl }
 lists_if false p es = names_stay p es
 
-lists_stay : (p : DeviceState) (es : List Entry) → Stays (waiting p) es (lists p es)
+pub lists_stay : (p : DeviceState) (es : List Entry) → Stays p es (lists p es)
 lists_stay p es = lists_if (p.whole && may_differ p.revision p.told.revision) p es
 
 clocks_if : (b : Bool) (p : DeviceState) →
-    Stays (waiting p) [] (if b then asks (record p { stage = stage.Date }) [] else lists p [])
-clocks_if true p = record { log = refl; left = refl; asked = refl; added = refl }
+    Stays p [] (if b then asks (record p { stage = stage.Date }) [] else lists p [])
+clocks_if true p =
+    record { apt = λ none. none; same = refl; log = refl; left = refl; asked = refl; added = refl }
 clocks_if false p = lists_stay p []
 
+pub clocks_stay : (p : DeviceState) → Stays p [] (clocks p)
+clocks_stay p = clocks_if p.clock p
+
 -- with quiet entries none is left out
-goes_of : (p : DeviceState) (es : List Entry) (t : Turned) → IsQuiet es → Stays (waiting p) es t → Goes p t
-goes_of p es t quiet stays = record {
+goes_of : (p : DeviceState) (es : List Entry) (t : Turned) → IsQuiet es → Stays p es t → p.polled ≡ None → Goes p t
+goes_of p es t quiet stays none = record {
+  apt = stays.apt none;
   log = stays.log;
   all = ap (λ (l : List Id). l ++ left t.device) (stays.asked ∙ quiet.asked) ∙ stays.left
       ∙ sym (append-nil (waiting p)) ∙ ap (λ (l : List Id). waiting p ++ l) (sym (stays.added ∙ quiet.old));
@@ -169,16 +225,17 @@ quiet_others : (b : Bool) (now : Others) → IsQuiet (if b then [] else entry.Ot
 quiet_others true now = record { asked = refl; old = refl }
 quiet_others false now = record { asked = refl; old = refl }
 
-listed_goes : (p : DeviceState) (objects : List Id) → Goes p (listed p objects)
-listed_goes p objects =
+listed_goes : (p : DeviceState) (objects : List Id) → p.polled ≡ None → Goes p (listed p objects)
+listed_goes p objects none =
     let new : List Id = new_among p.logs p.stopped objects in
     let es : List Entry = map entry.Added new in
     let more : List Entry = told_others p.others (others_in objects) in
     let q : DeviceState = record p { listed = true; objects = []; unnamed = new; logs = p.logs ++ map new_log new } in
-    let stays : Stays (waiting q) es (names q (es ++ more)) = behind q es more _ (quiet_others (are_same p.others (others_in objects)) (others_in objects)) (names_stay q (es ++ more)) in
+    let stays : Stays q es (names q (es ++ more)) = behind q es more _ (quiet_others (are_same p.others (others_in objects)) (others_in objects)) (names_stay q (es ++ more)) in
     let waits : waiting q ≡ waiting p ++ new = map-append (λ (t : LogAs). t.log) p.logs (map new_log new) ∙ ap (λ (l : List Id). waiting p ++ l) (new_all new) in
     let t : Turned = names q (es ++ more) in
     record {
+      apt = stays.apt none;
       log = stays.log;
       all = ap (λ (l : List Id). l ++ left t.device) (stays.asked ∙ added_asked new) ∙ stays.left ∙ waits
           ∙ ap (λ (l : List Id). waiting p ++ l) (sym (stays.added ∙ added_all new));
@@ -196,6 +253,7 @@ not_asked_old (task ∷ logs) = not_asked_old logs
 
 leaves_goes : (p : DeviceState) (es : List Entry) (why : DeviceEnd) → IsQuiet es → Goes p (leaves p es why)
 leaves_goes p es why quiet = record {
+  apt = refl;
   log = refl;
   all = append-nil _ ∙ flat_map-append not_asked_by es (map not_asked p.logs)
       ∙ ap (λ (l : List Id). l ++ not_asked_in (map not_asked p.logs)) quiet.asked ∙ not_asked_all p.logs
@@ -206,95 +264,122 @@ leaves_goes p es why quiet = record {
 
 -- ---- who answers
 
-asks_goes : (p q : DeviceState) (es : List Entry) → left q ≡ waiting p → IsQuiet es → Goes p (asks q es)
-asks_goes p q es same quiet = goes_of p es (asks q es) quiet (record { log = refl; left = same; asked = refl; added = refl })
+asks_goes : (p q : DeviceState) (es : List Entry) → left q ≡ waiting p → IsApt q.stage q → IsQuiet es → Goes p (asks q es)
+asks_goes p q es same apt quiet = record {
+  apt = apt;
+  log = refl;
+  all = ap (λ (l : List Id). l ++ left q) quiet.asked ∙ same ∙ sym (append-nil (waiting p))
+      ∙ ap (λ (l : List Id). waiting p ++ l) (sym quiet.old);
+}
 
-met_goes : (p : DeviceState) (w : Who) (is : Whose) → Goes p (met_as p w is)
-met_goes p w whose_is.New = asks_goes p _ (entry.Known w ∷ []) refl (record { asked = refl; old = refl })
-met_goes p w whose_is.Same = asks_goes p _ [] refl nothing
-met_goes p w whose_is.Now = asks_goes p _ (entry.KnownNow w ∷ []) refl (record { asked = refl; old = refl })
-met_goes p w whose_is.Another = leaves_goes p (entry.Another w ∷ []) _ (record { asked = refl; old = refl })
-met_goes p w whose_is.Untold = leaves_goes p (entry.Untold ∷ []) _ (record { asked = refl; old = refl })
+met_goes : (p : DeviceState) (w : Who) (is : Whose) → p.polled ≡ None → Goes p (met_as p w is)
+met_goes p w whose_is.New none = asks_goes p _ (entry.Known w ∷ []) refl none (record { asked = refl; old = refl })
+met_goes p w whose_is.Same none = asks_goes p _ [] refl none nothing
+met_goes p w whose_is.Now none = asks_goes p _ (entry.KnownNow w ∷ []) refl none (record { asked = refl; old = refl })
+met_goes p w whose_is.Another none = leaves_goes p (entry.Another w ∷ []) _ (record { asked = refl; old = refl })
+met_goes p w whose_is.Untold none = leaves_goes p (entry.Untold ∷ []) _ (record { asked = refl; old = refl })
 
-instance_goes : (p : DeviceState) (device : Option Id) → Goes p (after_instance p device)
-instance_goes p None = asks_goes p _ [] refl nothing
-instance_goes p (Some device) = met_goes p (who.Device device) (whose p.who (who.Device device))
+instance_goes : (p : DeviceState) (device : Option Id) → p.polled ≡ None → Goes p (after_instance p device)
+instance_goes p None none = asks_goes p _ [] refl none nothing
+instance_goes p (Some device) none = met_goes p (who.Device device) (whose p.who (who.Device device)) none
 
-i_am_goes : (p : DeviceState) (device : Option Id) → Goes p (after_i_am p device)
-i_am_goes p None = asks_goes p _ [] refl nothing
-i_am_goes p (Some device) = met_goes p (who.Device device) (whose p.who (who.Device device))
+i_am_goes : (p : DeviceState) (device : Option Id) → p.polled ≡ None → Goes p (after_i_am p device)
+i_am_goes p None none = asks_goes p _ [] refl none nothing
+i_am_goes p (Some device) none = met_goes p (who.Device device) (whose p.who (who.Device device)) none
 
-name_goes : (p : DeviceState) (name : Option (List ℕ)) → Goes p (after_name p name)
-name_goes p None = met_goes p who.Address (whose p.who who.Address)
-name_goes p (Some name) = met_goes p (who.Name name) (whose p.who (who.Name name))
+name_goes : (p : DeviceState) (name : Option (List ℕ)) → p.polled ≡ None → Goes p (after_name p name)
+name_goes p None none = met_goes p who.Address (whose p.who who.Address) none
+name_goes p (Some name) none = met_goes p (who.Name name) (whose p.who (who.Name name)) none
 
 -- ---- its clock, its list and its logs' names
 
-clock_goes : (p : DeviceState) (offset : Option Offset) → Goes p (after_clock p offset)
-clock_goes p offset = goes_of p (entry.Clock offset ∷ []) _ (record { asked = refl; old = refl }) (lists_stay p (entry.Clock offset ∷ []))
+clock_goes : (p : DeviceState) (offset : Option Offset) → p.polled ≡ None → Goes p (after_clock p offset)
+clock_goes p offset none = goes_of p (entry.Clock offset ∷ []) _ (record { asked = refl; old = refl }) (lists_stay p (entry.Clock offset ∷ [])) none
 
-date_goes : (p : DeviceState) (date : Option Date4) → Goes p (after_date p date)
-date_goes p None = clock_goes p None
-date_goes p (Some date) = asks_goes p _ [] refl nothing
+date_goes : (p : DeviceState) (date : Option Date4) → p.polled ≡ None → Goes p (after_date p date)
+date_goes p None none = clock_goes p None none
+date_goes p (Some date) none = asks_goes p _ [] refl none nothing
 
-unlisted_goes : (p : DeviceState) → Goes p (unlisted p)
-unlisted_goes p = goes_of p [] _ nothing (names_stay (record p { objects = [] }) [])
+pub unlisted_stays : (p : DeviceState) → Stays p [] (unlisted p)
+unlisted_stays p =
+    let stays : Stays (record p { objects = [] }) [] (unlisted p) = names_stay (record p { objects = [] }) [] in
+    record {
+      apt = stays.apt;
+      same = stays.same;
+      log = stays.log;
+      left = stays.left;
+      asked = stays.asked;
+      added = stays.added;
+    }
 
-long_goes : (b : Bool) (p : DeviceState) → Goes p (if b then asks (record p { stage = stage.Count }) [] else unlisted p)
-long_goes true p = asks_goes p _ [] refl nothing
-long_goes false p = unlisted_goes p
+unlisted_goes : (p : DeviceState) → p.polled ≡ None → Goes p (unlisted p)
+unlisted_goes p none = goes_of p [] _ nothing (unlisted_stays p) none
 
-objects_go : (p : DeviceState) (too_long : Bool) (objects : Option (List Id)) → Goes p (after_objects p too_long objects)
-objects_go p too_long None = long_goes too_long p
-objects_go p too_long (Some objects) = listed_goes p objects
+long_goes : (b : Bool) (p : DeviceState) → p.polled ≡ None → Goes p (if b then asks (record p { stage = stage.Count }) [] else unlisted p)
+long_goes true p none = asks_goes p _ [] refl none nothing
+long_goes false p none = unlisted_goes p none
 
-count_if : (b : Bool) (p : DeviceState) (count : ℕ) →
+objects_go : (p : DeviceState) (too_long : Bool) (objects : Option (List Id)) → p.polled ≡ None → Goes p (after_objects p too_long objects)
+objects_go p too_long None none = long_goes too_long p none
+objects_go p too_long (Some objects) none = listed_goes p objects none
+
+count_if : (b : Bool) (p : DeviceState) (count : ℕ) → p.polled ≡ None →
     Goes p (if b then listed p [] else asks (record p { stage = stage.Element 1 count; objects = [] }) [])
-count_if true p count = listed_goes p []
-count_if false p count = asks_goes p _ [] refl nothing
+count_if true p count none = listed_goes p [] none
+count_if false p count none = asks_goes p _ [] refl none nothing
 
-count_goes : (p : DeviceState) (count : Option ℕ) → Goes p (after_count p count)
-count_goes p None = unlisted_goes p
-count_goes p (Some count) = count_if (count == 0) p count
+count_goes : (p : DeviceState) (count : Option ℕ) → p.polled ≡ None → Goes p (after_count p count)
+count_goes p None none = unlisted_goes p none
+count_goes p (Some count) none = count_if (count == 0) p count none
 
-element_if : (b : Bool) (p : DeviceState) (s : Stage) (objects : List Id) → at_stage s p.polled ≡ [] →
-    Goes p (if b then listed p objects else asks (record p { stage = s; objects = objects }) [])
-element_if true p s objects none = listed_goes p objects
-element_if false p s objects none = asks_goes p _ _ (ap (λ (l : List Id). l ++ waiting p) none) nothing
+element_if : (b : Bool) (p : DeviceState) (index count : ℕ) (objects : List Id) → p.polled ≡ None →
+    Goes p (if b then listed p objects else asks (record p { stage = stage.Element index count; objects = objects }) [])
+element_if true p index count objects none = listed_goes p objects none
+element_if false p index count objects none = asks_goes p _ _ refl none nothing
 
-element_goes : (p : DeviceState) (index count : ℕ) (object : Option Id) → Goes p (after_element p index count object)
-element_goes p index count None = unlisted_goes p
-element_goes p index count (Some object) =
-    element_if (nat_le count index) p (stage.Element (index + 1) count) (p.objects ++ object ∷ []) refl
+element_goes : (p : DeviceState) (index count : ℕ) (object : Option Id) → p.polled ≡ None → Goes p (after_element p index count object)
+element_goes p index count None none = unlisted_goes p none
+element_goes p index count (Some object) none =
+    element_if (nat_le count index) p (index + 1) count (p.objects ++ object ∷ []) none
 
-description_goes : (p : DeviceState) (log : Id) (text : Option (List ℕ)) → Goes p (after_description p log text)
-description_goes p log text =
-    goes_of p (entry.Named log (record p.naming { description = text }) ∷ []) _ (record { asked = refl; old = refl })
-    (named (record p { naming = unnamed }) p.unnamed (entry.Named log (record p.naming { description = text }) ∷ []))
+description_goes : (p : DeviceState) (log : Id) (text : Option (List ℕ)) → p.polled ≡ None → Goes p (after_description p log text)
+description_goes p log text none =
+    let stays = named (record p { naming = unnamed }) p.unnamed (entry.Named log (record p.naming { description = text }) ∷ []) in
+    record {
+      apt = stays.apt none;
+      log = stays.log;
+      all = (goes_of (record p { naming = unnamed }) (entry.Named log (record p.naming { description = text }) ∷ []) _ (record { asked = refl; old = refl }) stays none).all;
+    }
 
 -- ---- all answers before its logs are polled
 
+-- one that changes nothing
+idle_goes : (p : DeviceState) → p.polled ≡ None → IsApt p.stage p → Goes p (asks p [])
+idle_goes p none apt = asks_goes p p [] (left_none p none) apt nothing
+
 answers_go : (p : DeviceState) (s : Stage) (v : Verdict) (datagram : List ℕ) (now : CivilTime) (t : Turned) →
-    p.polled ≡ None → Answers p s v datagram now t → Goes p t
-answers_go p stage.Instance v d now t none is = subst (Goes p) (sym is) (instance_goes p _)
-answers_go p stage.IAm v d now t none is = subst (Goes p) (sym is) (asks_goes p p [] (left_none p none) nothing)
-answers_go p stage.Name v d now t none is = subst (Goes p) (sym is.2) (name_goes p is.0)
-answers_go p stage.Restart v d now t none is = subst (Goes p) (sym is) (asks_goes p _ [] refl nothing)
-answers_go p stage.Revision v d now t none is =
-    subst (Goes p) (sym is) (goes_of p [] _ nothing (clocks_if p.clock (record p { told = record p.told { revision = number_of (value_by v d) } })))
-answers_go p stage.Date v d now t none is = subst (Goes p) (sym is) (date_goes p _)
-answers_go p (stage.Time date) v d now t none is = subst (Goes p) (sym is.2) (clock_goes p is.0)
-answers_go p stage.Objects v d now t none is = subst (Goes p) (sym is) (objects_go p _ _)
-answers_go p stage.Count v d now t none is = subst (Goes p) (sym is) (count_goes p (number_of (value_by v d)))
-answers_go p (stage.Element index count) v d now t none is = subst (Goes p) (sym is) (element_goes p index count _)
-answers_go p (stage.LogName log) v d now t none is = subst (Goes p) (sym is.2) (asks_goes p _ [] refl nothing)
-answers_go p (stage.Source log) v d now t none is = subst (Goes p) (sym is) (asks_goes p _ [] refl nothing)
-answers_go p (stage.Units log) v d now t none is = subst (Goes p) (sym is) (asks_goes p _ [] refl nothing)
-answers_go p (stage.Description log) v d now t none is = subst (Goes p) (sym is.2) (description_goes p log is.0)
-answers_go p stage.Log v d now t none is =
-    subst (Goes p) (sym is) (subst (λ (q : Option Polled). Goes p (log_at p q v d)) (sym none) (asks_goes p p [] (left_none p none) nothing))
-answers_go p stage.Between v d now t none is = subst (Goes p) (sym is) (asks_goes p p [] (left_none p none) nothing)
-answers_go p stage.Ended v d now t none is = subst (Goes p) (sym is) (asks_goes p p [] (left_none p none) nothing)
+    p.polled ≡ None → IsApt p.stage p → Answers p s v datagram now t → Goes p t
+answers_go p stage.Instance v d now t none apt is = subst (Goes p) (sym is) (instance_goes p _ none)
+answers_go p stage.IAm v d now t none apt is = subst (Goes p) (sym is) (idle_goes p none apt)
+answers_go p stage.Name v d now t none apt is = subst (Goes p) (sym is.2) (name_goes p is.0 none)
+answers_go p stage.Restart v d now t none apt is = subst (Goes p) (sym is) (asks_goes p _ [] refl none nothing)
+answers_go p stage.Revision v d now t none apt is =
+    let q : DeviceState = record p { told = record p.told { revision = number_of (value_by v d) } } in
+    let goes : Goes q (clocks q) = goes_of q [] _ nothing (clocks_stay q) none in
+    subst (Goes p) (sym is) (record { apt = goes.apt; log = goes.log; all = goes.all })
+answers_go p stage.Date v d now t none apt is = subst (Goes p) (sym is) (date_goes p _ none)
+answers_go p (stage.Time date) v d now t none apt is = subst (Goes p) (sym is.2) (clock_goes p is.0 none)
+answers_go p stage.Objects v d now t none apt is = subst (Goes p) (sym is) (objects_go p _ _ none)
+answers_go p stage.Count v d now t none apt is = subst (Goes p) (sym is) (count_goes p (number_of (value_by v d)) none)
+answers_go p (stage.Element index count) v d now t none apt is = subst (Goes p) (sym is) (element_goes p index count _ none)
+answers_go p (stage.LogName log) v d now t none apt is = subst (Goes p) (sym is.2) (asks_goes p _ [] refl none nothing)
+answers_go p (stage.Source log) v d now t none apt is = subst (Goes p) (sym is) (asks_goes p _ [] refl none nothing)
+answers_go p (stage.Units log) v d now t none apt is = subst (Goes p) (sym is) (asks_goes p _ [] refl none nothing)
+answers_go p (stage.Description log) v d now t none apt is = subst (Goes p) (sym is.2) (description_goes p log is.0 none)
+answers_go p stage.Log v d now t none apt is =
+    subst (Goes p) (sym is) (subst (λ (q : Option Polled). Goes p (log_at p q v d)) (sym none) (idle_goes p none apt))
+answers_go p stage.Between v d now t none apt is = subst (Goes p) (sym is) (idle_goes p none apt)
+answers_go p stage.Ended v d now t none apt is = subst (Goes p) (sym is) (idle_goes p none apt)
 
 -- no answer
 loss_goes : (p : DeviceState) → p.polled ≡ None → Goes p (after_loss p)
@@ -311,41 +396,196 @@ goes_or_ends : (e : Option PollEnd) (r : Polled) (l : List Id) →
 goes_or_ends None r l = refl
 goes_or_ends (Some why) r l = refl
 
-log_polls : (p : DeviceState) (q : Polled) (t : LogTurned) → Polls p (Some q) stage.Log (with_log p q t)
-log_polls p q t = goes_or_ends t.end (record q { poll = t.poll }) (waiting p) ∙ sym (append-nil (q.log ∷ waiting p))
+-- the same, and what is polled then
+abbrev PollsOn : DeviceState → Option Polled → Stage → Turned → Type 0
+PollsOn p o s t = Polls p o s t × IsApt t.device.stage t.device
+
+apt_behind : (e : Option PollEnd) (p : DeviceState) (r : Polled) → p.polled ≡ Some r → IsApt (stage_behind e) p
+apt_behind None p r is = (r, is)
+apt_behind (Some why) p r is = tt
+
+log_polls : (p : DeviceState) (q : Polled) (t : LogTurned) → PollsOn p (Some q) stage.Log (with_log p q t)
+log_polls p q t = (
+  goes_or_ends t.end (record q { poll = t.poll }) (waiting p) ∙ sym (append-nil (q.log ∷ waiting p)),
+  apt_behind t.end (with_log p q t).device (record q { poll = t.poll }) refl,
+)
+
+halved_polls : (p : DeviceState) (q : Polled) → p.stage ≡ stage.Log → PollsOn p (Some q) stage.Log (halved p q)
+halved_polls p q at =
+    let d : DeviceState = (halved p q).device in (
+      ap (λ (s : Stage). at_stage s d.polled ++ waiting p) at ∙ sym (append-nil (q.log ∷ waiting p)),
+      subst (λ (s : Stage). IsApt s d) (sym at) (_, refl),
+    )
+
+answer_polls : (b : Bool) (p : DeviceState) (q : Polled) (t : LogTurned) → p.stage ≡ stage.Log →
+    PollsOn p (Some q) stage.Log (if b then halved p q else with_log p q t)
+answer_polls true p q t at = halved_polls p q at
+answer_polls false p q t at = log_polls p q t
 
 lost_if : (b : Bool) (p : DeviceState) (q : Polled) (t : LogTurned) (why : DeviceEnd) (e : PollEnd) → t.end ≡ Some e →
-    Polls p (Some q) stage.Log (if b then record (leaves (record p { polled = Some q }) [] why) { log = Some t } else with_log (record p { doubt = true }) q t)
-lost_if true p q t why e is =
-    ap (λ (o : Option PollEnd). ended_by o q.log ++ (not_asked_in (map not_asked p.logs) ++ [])) is
-    ∙ ap (λ (l : List Id). q.log ∷ l) (append-nil _ ∙ not_asked_all p.logs)
-    ∙ sym (append-nil (q.log ∷ waiting p)) ∙ ap (λ (l : List Id). (q.log ∷ waiting p) ++ l) (sym (not_asked_old p.logs))
+    PollsOn p (Some q) stage.Log (if b then record (leaves (record p { polled = Some q }) [] why) { log = Some t } else with_log (record p { doubt = true }) q t)
+lost_if true p q t why e is = (
+  ap (λ (o : Option PollEnd). ended_by o q.log ++ (not_asked_in (map not_asked p.logs) ++ [])) is
+      ∙ ap (λ (l : List Id). q.log ∷ l) (append-nil _ ∙ not_asked_all p.logs)
+      ∙ sym (append-nil (q.log ∷ waiting p)) ∙ ap (λ (l : List Id). (q.log ∷ waiting p) ++ l) (sym (not_asked_old p.logs)),
+  refl,
+)
 lost_if false p q t why e is = log_polls (record p { doubt = true }) q t
+
+-- ---- one step
+
+record Step (p : DeviceState) (t : Turned) : Type 0 where
+  accounts : Accounts p t
+  apt : IsApt t.device.stage t.device
+
+goes_on : (p : DeviceState) (t : Turned) → p.polled ≡ None → Goes p t → Step p t
+goes_on p t none goes = record { accounts = accounts p t none goes; apt = goes.apt }
 
 -- at any log that is polled
 at_log : (p : DeviceState) (q : Polled) (f : Option Polled → Turned) → p.polled ≡ Some q → p.stage ≡ stage.Log →
-    Polls p (Some q) stage.Log (f (Some q)) → Accounts p (f p.polled)
+    PollsOn p (Some q) stage.Log (f (Some q)) → Step p (f p.polled)
 at_log p q f is at polls =
-    subst (λ (o : Option Polled). Polls p o p.stage (f o)) (sym is)
-    (subst (λ (s : Stage). Polls p (Some q) s (f (Some q))) (sym at) polls)
+    let on : PollsOn p p.polled p.stage (f p.polled) = subst (λ (o : Option Polled). PollsOn p o p.stage (f o)) (sym is) (subst (λ (s : Stage). PollsOn p (Some q) s (f (Some q))) (sym at) polls) in
+    record { accounts = on.0; apt = on.1 }
+
+-- it is asked again
+apt_later : (p : DeviceState) (s : Stage) → IsApt s p → IsApt s (later p).device
+apt_later p stage.Instance apt = apt
+apt_later p stage.IAm apt = apt
+apt_later p stage.Name apt = apt
+apt_later p stage.Restart apt = apt
+apt_later p stage.Revision apt = apt
+apt_later p stage.Date apt = apt
+apt_later p (stage.Time date) apt = apt
+apt_later p stage.Objects apt = apt
+apt_later p stage.Count apt = apt
+apt_later p (stage.Element index count) apt = apt
+apt_later p (stage.LogName log) apt = apt
+apt_later p (stage.Source log) apt = apt
+apt_later p (stage.Units log) apt = apt
+apt_later p (stage.Description log) apt = apt
+apt_later p stage.Log apt = apt
+apt_later p stage.Between apt = apt
+apt_later p stage.Ended apt = apt
+
+later_steps : (p : DeviceState) → IsApt p.stage p → Step p (later p)
+later_steps p apt = record { accounts = sym (append-nil (left p)); apt = apt_later p p.stage apt }
+
+-- it answers
+apt_answered : (p : DeviceState) (s : Stage) → IsApt s p → IsApt s (answered p)
+apt_answered p stage.Instance apt = apt
+apt_answered p stage.IAm apt = apt
+apt_answered p stage.Name apt = apt
+apt_answered p stage.Restart apt = apt
+apt_answered p stage.Revision apt = apt
+apt_answered p stage.Date apt = apt
+apt_answered p (stage.Time date) apt = apt
+apt_answered p stage.Objects apt = apt
+apt_answered p stage.Count apt = apt
+apt_answered p (stage.Element index count) apt = apt
+apt_answered p (stage.LogName log) apt = apt
+apt_answered p (stage.Source log) apt = apt
+apt_answered p (stage.Units log) apt = apt
+apt_answered p (stage.Description log) apt = apt
+apt_answered p stage.Log apt = apt
+apt_answered p stage.Between apt = apt
+apt_answered p stage.Ended apt = apt
+
+step_answered : (p : DeviceState) (t : Turned) → Step (answered p) t → Step p t
+step_answered p t step = record { accounts = step.accounts; apt = step.apt }
+
+pub matched : {A B C : Type 0} (b : Bool) → MatchBool b A B → (A → C) → (B → C) → C
+matched true m f g = f m
+matched false m f g = g m
+
+-- an answer, before its logs are polled
+heard : (p : DeviceState) (t : Turned) → p.polled ≡ None → IsApt p.stage p →
+    ((datagram : List ℕ) × (now : CivilTime) × Takes p datagram now t) ⊎ (t ≡ after_loss p) → Step p t
+heard p t none apt (inl came) =
+    let v : Verdict = verdict_to (asked_of_device p) (apdu_in came.0) in
+    matched (is_busy v && nat_lt p.busy p.retries) came.2
+    (λ is. subst (Step p) (sym is) (later_steps p apt))
+    (λ is. step_answered p t (goes_on (answered p) t none (answers_go (answered p) p.stage v came.0 came.1 t none (apt_answered p p.stage apt) is)))
+heard p t none apt (inr lost) = subst (Step p) (sym lost) (goes_on p _ none (loss_goes p none))
+
+-- while one is
+log_heard : (p : DeviceState) (q : Polled) (t : Turned) → p.stage ≡ stage.Log → p.polled ≡ Some q → IsApt p.stage p →
+    ((datagram : List ℕ) × (now : CivilTime) × Takes p datagram now t) ⊎ (t ≡ after_loss p) → Step p t
+log_heard p q t at is apt (inl came) =
+    let v : Verdict = verdict_to (asked_of_device p) (apdu_in came.0) in
+    matched (is_busy v && nat_lt p.busy p.retries) came.2
+    (λ same. subst (Step p) (sym same) (later_steps p apt))
+    (λ same. subst (Step p) (sym (subst (λ (s : Stage). Answers (answered p) s v came.0 came.1 t) at same))
+    (step_answered p (after_log (answered p) v came.0) (at_log (answered p) q (λ (o : Option Polled). log_at (answered p) o v came.0) is at
+    (answer_polls (is_too_many q.poll v) (answered p) q (log_after q.poll v came.0) at))))
+log_heard p q t at is apt (inr lost) =
+    subst (Step p) (sym lost) (at_log p q (loss_at p) is at (lost_if p.doubt p q (ends q.poll (Fault walk.Lost)) Silent (Fault walk.Lost) refl))
 
 -- the next one
-end_accounts : (p : DeviceState) → p.stage ≡ stage.Between → Accounts p (after_end p)
-end_accounts p is =
-    let goes : Goes p (after_end p) = goes_of p [] _ nothing (begun p p.logs [] refl) in
-    ap (λ (l : Option LogTurned). ended_in l p.polled ++ (not_asked_in (after_end p).entries ++ left (after_end p).device)) goes.log
-    ∙ goes.all ∙ ap (λ (l : List Id). l ++ added_in (after_end p).entries) (sym (ap (λ (s : Stage). at_stage s p.polled ++ waiting p) is))
+begun_apt : (p : DeviceState) (logs : List LogAs) → p.logs ≡ logs → IsApt (begins_with p logs []).device.stage (begins_with p logs []).device
+begun_apt p [] is = is
+begun_apt p (task ∷ logs) is = (_, refl)
+
+end_steps : (p : DeviceState) → p.stage ≡ stage.Between → Step p (after_end p)
+end_steps p is =
+    let stays : Stays p [] (after_end p) = begun p p.logs [] refl in
+    record {
+      accounts = ap (λ (l : Option LogTurned). ended_in l p.polled ++ (not_asked_in (after_end p).entries ++ left (after_end p).device)) stays.log
+          ∙ ap (λ (l : List Id). l ++ left (after_end p).device) stays.asked ∙ stays.left
+          ∙ sym (ap (λ (s : Stage). at_stage s p.polled ++ waiting p) is) ∙ sym (append-nil (left p))
+          ∙ ap (λ (l : List Id). left p ++ l) (sym stays.added);
+      apt = begun_apt p p.logs refl;
+    }
+
+steps_at : (p : DeviceState) (s : Stage) (t : Turned) → p.stage ≡ s → IsApt p.stage p → IsApt s p → ComesAt s p t → Step p t
+steps_at p stage.Instance t at apt none comes = heard p t none apt comes
+steps_at p stage.IAm t at apt none comes = subst (Step p) (sym comes.1) (goes_on p _ none (i_am_goes p comes.0 none))
+steps_at p stage.Name t at apt none comes = heard p t none apt comes
+steps_at p stage.Restart t at apt none comes = heard p t none apt comes
+steps_at p stage.Revision t at apt none comes = heard p t none apt comes
+steps_at p stage.Date t at apt none comes = heard p t none apt comes
+steps_at p (stage.Time date) t at apt none comes = heard p t none apt comes
+steps_at p stage.Objects t at apt none comes = heard p t none apt comes
+steps_at p stage.Count t at apt none comes = heard p t none apt comes
+steps_at p (stage.Element index count) t at apt none comes = heard p t none apt comes
+steps_at p (stage.LogName log) t at apt none comes = heard p t none apt comes
+steps_at p (stage.Source log) t at apt none comes = heard p t none apt comes
+steps_at p (stage.Units log) t at apt none comes = heard p t none apt comes
+steps_at p (stage.Description log) t at apt none comes = heard p t none apt comes
+steps_at p stage.Log t at apt polls comes = log_heard p polls.0 t at polls.1 apt comes
+steps_at p stage.Between t at apt any comes = subst (Step p) (sym comes) (end_steps p at)
+steps_at p stage.Ended t at apt done comes = absurd comes
+
+-- ---- a run
+
+record Run (p : DeviceState) (turns : List Turned) : Type 0 where
+  accounts : settled p turns ++ left (after_all p turns) ≡ left p ++ found_in turns
+  apt : IsApt (after_all p turns).stage (after_all p turns)
+
+-- one step more, in front
+joined : (done told more l found old new : List Id) → done ++ (told ++ l) ≡ old ++ new → (rest : List Id) → more ++ rest ≡ l ++ found →
+    ((done ++ told) ++ more) ++ rest ≡ old ++ (new ++ found)
+joined done told more l found old new first rest second =
+    append_assoc (done ++ told) more rest ∙ ap (λ (x : List Id). (done ++ told) ++ x) second
+    ∙ sym (append_assoc (done ++ told) l found) ∙ ap (λ (x : List Id). x ++ found) (append_assoc done told l ∙ first)
+    ∙ append_assoc old new found
+
+runs : (p : DeviceState) (turns : List Turned) → IsApt p.stage p → Runs p turns → Run p turns
+runs p [] apt run = record { accounts = sym (append-nil (left p)); apt = apt }
+runs p (t ∷ turns) apt run =
+    let step : Step p t = steps_at p p.stage t refl apt apt run.0 in
+    let rest : Run t.device turns = runs t.device turns step.apt run.1 in
+    record {
+      accounts = joined (ended_in t.log p.polled) (not_asked_in t.entries) (settled t.device turns) (left t.device) (found_in turns) (left p) (added_in t.entries) step.accounts (left (after_all t.device turns)) rest.accounts;
+      apt = rest.apt;
+    }
+
+-- at the end none waits
+none_waits : (p : DeviceState) → IsApt p.stage p → p.stage ≡ stage.Ended → left p ≡ []
+none_waits p apt at =
+    ap (λ (s : Stage). at_stage s p.polled ++ waiting p) at ∙ ap (map (λ (t : LogAs). t.log)) (subst (λ (s : Stage). IsApt s p) at apt)
 
 pub none_left_out : NoneLeftOut
-none_left_out p = (
-  λ none. (
-    λ v datagram now t is. accounts p t none (answers_go p p.stage v datagram now t none is),
-    λ device. accounts p _ none (i_am_goes p device),
-    accounts p _ none (loss_goes p none),
-  ),
-  λ q is at. (
-    λ v datagram. at_log p q (λ (o : Option Polled). log_at p o v datagram) is at (log_polls p q (log_after q.poll v datagram)),
-    at_log p q (loss_at p) is at (lost_if p.doubt p q (ends q.poll (Fault walk.Lost)) Silent (Fault walk.Lost) refl),
-  ),
-  λ is. end_accounts p is,
-)
+none_left_out known logs many retries clock turns run =
+    let all : Run (fresh known logs many retries clock) turns = runs _ turns refl run in
+    (all.accounts, λ at. none_waits _ all.apt at)

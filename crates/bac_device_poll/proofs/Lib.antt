@@ -1,5 +1,8 @@
+mod Asked
 mod Fits
 mod Foreign
 mod LeftOut
 mod Objects
 mod OnlyAsked
+mod RefusedOne
+mod WhoIs

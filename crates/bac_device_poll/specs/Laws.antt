@@ -1,19 +1,29 @@
 -- What holds of a device's poll, whoever answers.
-use Rattle.std.specs.Prelude.{◌≡◌, ◌≢◌, ℕ, Bool, true, false, List, [], ◌∷◌, ◌++◌, map, Option, None, Some}
+use Rattle.std.specs.Prelude.{◌≡◌, ◌≢◌, ◌⊎◌, ℕ, ◌&&◌, nat_lt, Bool, true, false, MatchBool, List, [], ◌∷◌, ◌++◌, map}
+use Rattle.std.specs.Prelude.{Option, None, Some}
 use Rattle.std.specs.List.{flat_map}
 use Rattle.bac_wire.specs.Primitive.{Id}
 use Rattle.bac_wire.specs.Stamp.{CivilTime}
-use Rattle.bac_link.specs.declared.exchanges.Verdict.{Verdict}
+use Rattle.bac_link.specs.Datagrams.{apdu_in}
+use Rattle.bac_link.specs.declared.exchanges.Refusal.{Refusal}
+use Rattle.bac_link.specs.declared.exchanges.Verdict.TheVariants.{Refused}
 use Rattle.bac_link.specs.declared.request.Request.TheVariants as request
-use Rattle.bac_poll.specs.Turns.{Turned as LogTurned}
+use Rattle.bac_poll.specs.DateTime.{undated}
+use Rattle.bac_poll.specs.State.{ToldAs}
+use Rattle.bac_poll.specs.Turns.{Turned as LogTurned, ends}
 use Rattle.bac_poll.specs.declared.turn.PollEnd.{PollEnd}
+use Rattle.bac_poll.specs.declared.turn.PollEnd.TheVariants.{Fault}
+use Rattle.bac_walk.specs.declared.outcome.WalkFault.TheVariants as walk
 use Rattle.bac_device_poll.specs.Identity.{after_i_am, after_instance, after_name}
-use Rattle.bac_device_poll.specs.Logs.{after_end, after_log, after_loss}
-use Rattle.bac_device_poll.specs.Poll.{Answers, asked_of_device}
+use Rattle.bac_device_poll.specs.Logs.{after_end, after_loss, halved, is_records, is_too_many, wanted_at}
+use Rattle.bac_device_poll.specs.Poll.{Takes, answered, asked_of_device, fresh, later, verdict_to}
+use Rattle.bac_device_poll.specs.Refusals.{is_passing}
 use Rattle.bac_device_poll.specs.State.{DeviceState, LogAs}
-use Rattle.bac_device_poll.specs.Turns.{Turned}
+use Rattle.bac_device_poll.specs.Turns.{Turned, asks}
 use Rattle.bac_device_poll.specs.declared.entry.Entry.{Entry}
 use Rattle.bac_device_poll.specs.declared.entry.Entry.TheVariants as entry
+use Rattle.bac_device_poll.specs.declared.entry.Naming.{Naming}
+use Rattle.bac_device_poll.specs.declared.poll.Known.{Known}
 use Rattle.bac_device_poll.specs.declared.question.Question.{Question}
 use Rattle.bac_device_poll.specs.declared.question.Question.TheVariants.{Confirmed, Nothing, WhoIs}
 use Rattle.bac_device_poll.specs.declared.stage.Stage.{Stage}
@@ -42,16 +52,11 @@ AsksReadings = (p : DeviceState) → IsReading (asked_of_device p)
 
 -- whether an entry is put on record; else it is told
 abbrev pub is_put : Entry → Bool
-is_put (entry.Known who) = true
-is_put (entry.KnownNow who) = true
 is_put (entry.Another who) = false
 is_put entry.Untold = false
-is_put (entry.Clock offset) = true
-is_put (entry.Added log) = true
 is_put (entry.Others others) = false
-is_put (entry.Named log naming) = true
-is_put (entry.Read revision) = true
 is_put (entry.NotAsked log) = false
+is_put other = true
 
 -- One that is known by its instance, or by its name, where another instance, another name or none is told now.
 abbrev pub IsForeign : (was : Who) → (now : Who) → Type 0
@@ -90,23 +95,7 @@ KeepsNoOther =
 -- the log that is polled
 abbrev pub at_stage : Stage → Option Polled → List Id
 at_stage stage.Log (Some q) = q.log ∷ []
-at_stage stage.Log None = []
-at_stage stage.Instance polled = []
-at_stage stage.IAm polled = []
-at_stage stage.Name polled = []
-at_stage stage.Restart polled = []
-at_stage stage.Revision polled = []
-at_stage stage.Date polled = []
-at_stage (stage.Time date) polled = []
-at_stage stage.Objects polled = []
-at_stage stage.Count polled = []
-at_stage (stage.Element index count) polled = []
-at_stage (stage.LogName log) polled = []
-at_stage (stage.Source log) polled = []
-at_stage (stage.Units log) polled = []
-at_stage (stage.Description log) polled = []
-at_stage stage.Between polled = []
-at_stage stage.Ended polled = []
+at_stage other polled = []
 
 -- the logs of a device that wait
 abbrev pub waiting : DeviceState → List Id
@@ -129,16 +118,8 @@ ended_in (Some t) (Some q) = ended_by t.end q.log
 
 -- a log that is told as not asked
 abbrev pub not_asked_by : Entry → List Id
-not_asked_by (entry.Known who) = []
-not_asked_by (entry.KnownNow who) = []
-not_asked_by (entry.Another who) = []
-not_asked_by entry.Untold = []
-not_asked_by (entry.Clock offset) = []
-not_asked_by (entry.Added log) = []
-not_asked_by (entry.Others others) = []
-not_asked_by (entry.Named log naming) = []
-not_asked_by (entry.Read revision) = []
 not_asked_by (entry.NotAsked log) = log ∷ []
+not_asked_by other = []
 
 -- those of these entries
 abbrev pub not_asked_in : List Entry → List Id
@@ -146,36 +127,117 @@ not_asked_in entries = flat_map not_asked_by entries
 
 -- a log that is new
 abbrev pub added_by : Entry → List Id
-added_by (entry.Known who) = []
-added_by (entry.KnownNow who) = []
-added_by (entry.Another who) = []
-added_by entry.Untold = []
-added_by (entry.Clock offset) = []
 added_by (entry.Added log) = log ∷ []
-added_by (entry.Others others) = []
-added_by (entry.Named log naming) = []
-added_by (entry.Read revision) = []
-added_by (entry.NotAsked log) = []
+added_by other = []
 
 -- those of these entries
 abbrev pub added_in : List Entry → List Id
 added_in entries = flat_map added_by entries
 
--- None is left out: those whose poll ended, then those that are told as not asked and those that are still polled, are
--- those that were, with the new ones behind them.
-abbrev pub Accounts : DeviceState → Turned → Type 0
-Accounts p t =
-    ended_in t.log p.polled ++ (not_asked_in t.entries ++ left t.device) ≡ left p ++ added_in t.entries
+-- what may come of what is asked: an answer to a request, or none to any send; an I-Am, or none to the Who-Is; and the
+-- next log, where the poll of one has ended
+abbrev pub ComesAt : Stage → DeviceState → Turned → Type 0
+ComesAt stage.IAm p t = (device : Option Id) × (t ≡ after_i_am p device)
+ComesAt stage.Between p t = t ≡ after_end p
+ComesAt stage.Ended p t = ⊥
+ComesAt other p t = ((datagram : List ℕ) × (now : CivilTime) × Takes p datagram now t) ⊎ (t ≡ after_loss p)
 
--- Whatever comes of a question, no log of the device is left out: before its logs are polled; while one is; and as the
--- next one is begun.
+-- it comes, one after the other
+abbrev pub Runs : DeviceState → List Turned → Type 0
+Runs p [] = Unit {0}
+Runs p (t ∷ turns) = ComesAt p.stage p t × Runs t.device turns
+
+-- what is known of the device then
+abbrev pub behind : DeviceState → List Turned → DeviceState
+behind p [] = p
+behind p (t ∷ turns) = behind t.device turns
+
+-- the logs whose polls ended meanwhile, and those that were told as not asked, in their order
+abbrev pub settled : DeviceState → List Turned → List Id
+settled p [] = []
+settled p (t ∷ turns) = (ended_in t.log p.polled ++ not_asked_in t.entries) ++ settled t.device turns
+
+-- the logs that were found
+abbrev pub found_in : List Turned → List Id
+found_in turns = flat_map (λ (t : Turned). added_in t.entries) turns
+
+-- No log is left out, whatever comes: at each moment those that are settled, and behind them those that are still
+-- polled, are the logs of the device with those that were found behind them, each as often; and at the end none is
+-- still polled.
 abbrev pub NoneLeftOut : Type 0
 NoneLeftOut =
-    (p : DeviceState) →
-    (p.polled ≡ None →
-    ((v : Verdict) (datagram : List ℕ) (now : CivilTime) (t : Turned) → Answers p p.stage v datagram now t →
-    Accounts p t)
-    × ((device : Option Id) → Accounts p (after_i_am p device)) × Accounts p (after_loss p))
-    × ((q : Polled) → p.polled ≡ Some q → p.stage ≡ stage.Log →
-    ((v : Verdict) (datagram : List ℕ) → Accounts p (after_log p v datagram)) × Accounts p (after_loss p))
-    × (p.stage ≡ stage.Between → Accounts p (after_end p))
+    (known : Known) (logs : List LogAs) (many retries : ℕ) (clock : Bool) (turns : List Turned) →
+    let p : DeviceState = fresh known logs many retries clock in
+    Runs p turns →
+    (settled p turns ++ left (behind p turns) ≡ waiting p ++ found_in turns)
+    × ((behind p turns).stage ≡ stage.Ended → left (behind p turns) ≡ [])
+
+-- ---- a refusal ends what was asked, and nothing else
+
+-- the word of a device, without what was asked for
+abbrev pub untold : Stage → ToldAs → ToldAs
+untold stage.Restart told = record told { restart = []; moment = undated }
+untold stage.Revision told = record told { revision = None }
+untold other told = told
+
+-- what a log is, without that
+abbrev pub unknown : Stage → Naming → Naming
+unknown (stage.LogName log) naming = record naming { name = None }
+unknown (stage.Source log) naming = record naming { source = None }
+unknown (stage.Units log) naming = record naming { units = None }
+unknown (stage.Description log) naming = record naming { description = None }
+unknown other naming = naming
+
+-- that stays known; behind its last property the log is on record by it
+abbrev pub IsKnownStill : Stage → Naming → Turned → Type 0
+IsKnownStill (stage.LogName log) naming t = t.device.naming ≡ naming
+IsKnownStill (stage.Source log) naming t = t.device.naming ≡ naming
+IsKnownStill (stage.Units log) naming t = t.device.naming ≡ naming
+IsKnownStill (stage.Description log) naming t =
+    (others : List Entry) × (t.entries ≡ entry.Named log naming ∷ others)
+IsKnownStill other naming t = Unit {0}
+
+-- A property is refused: it stays unknown. All else that is known of the device stays as it is, but for what is asked
+-- next and of which logs that is still to be asked; each log that waits is polled still, and no other.
+pub record StaysUnknown (s : Stage) (p : DeviceState) (t : Turned) : Type 0 where
+  pub device : t.device ≡ record p {
+    stage = t.device.stage;
+    told = untold s p.told;
+    objects = t.device.objects;
+    unnamed = t.device.unnamed;
+    naming = t.device.naming;
+    polled = t.device.polled;
+    logs = t.device.logs;
+  }
+  pub naming : IsKnownStill s (unknown s p.naming) t
+  pub logs : left t.device ≡ waiting p
+  pub told : not_asked_in t.entries ++ added_in t.entries ≡ []
+  pub records : t.log ≡ None
+
+-- A log is refused: its own poll goes on or ends, and all else stays as it is. If records are refused, and not for
+-- their number, it ends by that.
+pub record EndsLog (p : DeviceState) (q : Polled) (r : Refusal) (t : Turned) : Type 0 where
+  pub device : t.device ≡
+      record p { stage = t.device.stage; many = t.device.many; polled = t.device.polled }
+  pub entries : t.entries ≡ []
+  pub log : is_records (wanted_at q.poll.stage) ≡ true → is_too_many q.poll (Refused r) ≡ false →
+      t.log ≡ Some (ends q.poll (Fault (walk.Refused r)))
+  pub fewer : is_too_many q.poll (Refused r) ≡ true → t ≡ halved p q
+
+-- by what was asked; one that isn't known yet is asked by other means who it is
+abbrev pub RefusedAt : Stage → DeviceState → Refusal → Turned → Type 0
+RefusedAt stage.Instance p r t = t ≡ asks (record p { stage = stage.IAm }) []
+RefusedAt stage.Name p r t = t ≡ after_name p None
+RefusedAt stage.Log p r t = (q : Polled) → p.polled ≡ Some q → EndsLog p q r t
+RefusedAt stage.IAm p r t = Unit {0}
+RefusedAt stage.Between p r t = Unit {0}
+RefusedAt stage.Ended p r t = Unit {0}
+RefusedAt other p r t = StaysUnknown other p t
+
+-- A refusal that passes is asked again behind the other devices, as often as what is lost; any other ends what was
+-- asked, and nothing else.
+abbrev pub RefusalsEndOne : Type 0
+RefusalsEndOne =
+    (p : DeviceState) (r : Refusal) (datagram : List ℕ) (now : CivilTime) (t : Turned) →
+    verdict_to (asked_of_device p) (apdu_in datagram) ≡ Refused r → Takes p datagram now t →
+    MatchBool (is_passing r && nat_lt p.busy p.retries) (t ≡ later p) (RefusedAt p.stage (answered p) r t)

@@ -1,7 +1,9 @@
 pub mod State
 pub mod Turns
+pub mod Refusals
 pub mod Values
 pub mod Identity
+pub mod Way
 pub mod Word
 pub mod Clock
 pub mod Listing

@@ -4,10 +4,6 @@ use Rattle.std.specs.Prelude.{◌++◌, map}
 use Rattle.std.specs.Prelude.{Option, None, Some, count_by}
 use Rattle.std.specs.List.{fold, list_any}
 use Rattle.bac_wire.specs.Primitive.{Id}
-use Rattle.bac_link.specs.declared.exchanges.Refusal.{Refusal}
-use Rattle.bac_link.specs.declared.exchanges.Refusal.TheVariants.{Abort, Error, Reject}
-use Rattle.bac_link.specs.declared.exchanges.Verdict.{Verdict}
-use Rattle.bac_link.specs.declared.exchanges.Verdict.TheVariants.{Ack, BadReply, Refused}
 use Rattle.bac_poll.specs.Poll.{nothing_told}
 use Rattle.bac_device_poll.specs.Naming.{is_other, names}
 use Rattle.bac_device_poll.specs.State.{DeviceState, LogAs, Starting}
@@ -93,18 +89,6 @@ listed p objects =
 -- the list isn't told: its logs are those on record
 abbrev pub unlisted : DeviceState → Turned
 unlisted p = names (record p { objects = [] }) []
-
--- too long for one answer: no room for it, no segments, or an APDU that is too long (Abort 1, 4 and 11; clause 18.10)
-abbrev pub is_long : Refusal → Bool
-is_long (Error class code) = false
-is_long (Reject reason) = false
-is_long (Abort reason) = reason == 1 || (reason == 4 || reason == 11)
-
--- an answer that says so
-abbrev pub is_too_long : Verdict → Bool
-is_too_long Ack = false
-is_too_long (Refused refusal) = is_long refusal
-is_too_long BadReply = false
 
 -- The whole list; where it is too long for one answer it is asked for by index, of which 0 tells how long it is.
 abbrev pub after_objects : DeviceState → (too_long : Bool) → Option (List Id) → Turned

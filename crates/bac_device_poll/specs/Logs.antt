@@ -1,13 +1,11 @@
 -- The logs of a device are polled, one after the other.
-use Rattle.std.specs.Prelude.{ℕ, Bool, true, false, ◌==◌, ◌&&◌, ◌||◌, if◌then◌else◌, List, [], ◌∷◌, ◌++◌, Option, None}
+use Rattle.std.specs.Prelude.{ℕ, Bool, true, false, ◌&&◌, nat_lt, if◌then◌else◌, List, [], ◌∷◌, ◌++◌, Option, None}
 use Rattle.std.specs.Prelude.{Some}
 use Rattle.bac_wire.specs.Primitive.{Id}
-use Rattle.bac_link.specs.declared.exchanges.Refusal.{Refusal}
-use Rattle.bac_link.specs.declared.exchanges.Refusal.TheVariants.{Abort, Error, Reject}
 use Rattle.bac_link.specs.declared.exchanges.Verdict.{Verdict}
 use Rattle.bac_link.specs.declared.exchanges.Verdict.TheVariants.{Ack, BadReply, Refused}
 use Rattle.bac_walk.specs.declared.outcome.WalkFault.TheVariants as walk
-use Rattle.bac_poll.specs.Poll.{after, after_count, after_restart, after_revision}
+use Rattle.bac_poll.specs.Poll.{after, after_count, after_restart, after_revision, after_too_many}
 use Rattle.bac_poll.specs.State.{PollState}
 use Rattle.bac_poll.specs.Turns.{Turned as LogTurned, ends}
 use Rattle.bac_poll.specs.declared.stage.Stage.TheVariants as log
@@ -15,6 +13,7 @@ use Rattle.bac_poll.specs.declared.stage.Stage.{Stage as LogStage}
 use Rattle.bac_poll.specs.declared.turn.PollEnd.{PollEnd}
 use Rattle.bac_poll.specs.declared.turn.PollEnd.TheVariants.{Fault}
 use Rattle.bac_device_poll.specs.Identity.{device_of}
+use Rattle.bac_device_poll.specs.Refusals.{is_busy, is_too_long}
 use Rattle.bac_device_poll.specs.State.{DeviceState, LogAs, begun}
 use Rattle.bac_device_poll.specs.Turns.{Turned, asks, leaves}
 use Rattle.bac_device_poll.specs.Values.{number_of, told_by, value_by}
@@ -28,21 +27,6 @@ use Rattle.bac_device_poll.specs.declared.task.Polled.{Polled}
 use Rattle.bac_device_poll.specs.declared.turn.DeviceEnd.TheVariants.{Done, Silent}
 use Rattle.bac_device_poll.specs.declared.turn.Step.{Step}
 use Rattle.bac_device_poll.specs.declared.turn.Step.TheVariants.{Ask, End, GoOn}
-
--- ---- refusals that pass
-
--- preempted, out of time or of resources, or no answer from behind it (Abort 3, 8, 9 and 10; clause 18.10), or a device
--- that is busy (Error 0 3; clause 18)
-abbrev pub is_passing : Refusal → Bool
-is_passing (Error class code) = class == 0 && code == 3
-is_passing (Reject reason) = false
-is_passing (Abort reason) = reason == 3 || (reason == 8 || (reason == 9 || reason == 10))
-
--- an answer that is one
-abbrev pub is_busy : Verdict → Bool
-is_busy Ack = false
-is_busy (Refused refusal) = is_passing refusal
-is_busy BadReply = false
 
 -- ---- one log behind the other
 
@@ -119,10 +103,29 @@ with_log p q t = record {
   step = step_behind t.end;
 }
 
+-- what is read as records
+abbrev pub is_records : Wanted → Bool
+is_records Records = true
+is_records Count = false
+is_records Revision = false
+is_records Restart = false
+
+-- too many records were asked for, where fewer can be
+abbrev pub is_too_many : PollState → Verdict → Bool
+is_too_many q verdict = is_too_long verdict && (is_records (wanted_at q.stage) && nat_lt 1 q.walk.count)
+
+-- Half as many are asked for from now on: of the log that is polled, and of those behind it.
+abbrev pub halved : DeviceState → Polled → Turned
+halved p q = asks (record p {
+  many = (after_too_many q.poll).walk.count;
+  polled = Some (record q { poll = after_too_many q.poll });
+}) []
+
 -- the log of a device, if one is polled
 abbrev pub log_at : DeviceState → Option Polled → Verdict → List ℕ → Turned
 log_at p None verdict datagram = asks p []
-log_at p (Some q) verdict datagram = with_log p q (log_after q.poll verdict datagram)
+log_at p (Some q) verdict datagram =
+    if is_too_many q.poll verdict then halved p q else with_log p q (log_after q.poll verdict datagram)
 
 -- An answer to the question of the log that is polled.
 abbrev pub after_log : DeviceState → Verdict → List ℕ → Turned

@@ -11,10 +11,12 @@ use Rattle.bac_link.specs.declared.exchanges.Verdict.{Verdict}
 use Rattle.bac_link.specs.declared.exchanges.Verdict.TheVariants.{BadReply}
 use Rattle.bac_link.specs.declared.request.Request.TheVariants as request
 use Rattle.bac_poll.specs.Poll.{asked_by_poll, nothing_told}
+use Rattle.bac_poll.specs.declared.date_time.DateTime.{DateTime}
 use Rattle.bac_device_poll.specs.Clock.{IsOffset, after_clock, after_date, clocks}
 use Rattle.bac_device_poll.specs.Identity.{after_i_am, after_instance, after_name, device_of, itself, own_device}
-use Rattle.bac_device_poll.specs.Listing.{after_count, after_element, after_objects, is_too_long}
-use Rattle.bac_device_poll.specs.Logs.{after_log, is_busy}
+use Rattle.bac_device_poll.specs.Listing.{after_count, after_element, after_objects}
+use Rattle.bac_device_poll.specs.Logs.{after_log}
+use Rattle.bac_device_poll.specs.Refusals.{is_busy, is_too_long}
 use Rattle.bac_device_poll.specs.Naming.{after_description, after_log_name, after_source, after_units, subject, unnamed}
 use Rattle.bac_device_poll.specs.Source.{source_of}
 use Rattle.bac_device_poll.specs.State.{DeviceState, LogAs}
@@ -86,7 +88,7 @@ IsFit Nothing = Unit {0}
 -- ---- its word
 
 -- what it tells of its restart
-abbrev pub after_restart : DeviceState → (restart : List ℕ) → (moment : List ℕ) → Turned
+abbrev pub after_restart : DeviceState → (restart : List ℕ) → (moment : DateTime) → Turned
 after_restart p restart moment =
     asks (record p { stage = Revision; told = record p.told { restart = restart; moment = moment } }) []
 

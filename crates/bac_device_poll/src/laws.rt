@@ -1,6 +1,7 @@
 //! What holds of a device's poll, whoever answers.
 
 ghost use Rattle.bac_device_poll.specs.Laws.{AsksReadings, KeepsNoOther, NoneLeftOut};
+ghost use Rattle.bac_device_poll.specs.Laws.{RefusalsEndOne};
 
 /// A device is asked by ReadProperty, ReadRange and Who-Is alone.
 pub fn asks_readings()
@@ -12,7 +13,13 @@ pub fn keeps_no_other()
     ensures { KeepsNoOther }
 {}
 
-/// No log of a device is left out: each is polled, or told as not asked.
+/// No log of a device is left out, whatever comes of its questions: at the end the poll of each has
+/// ended, or it was told as not asked.
 pub fn none_left_out()
     ensures { NoneLeftOut }
+{}
+
+/// A refusal ends what was asked, or is asked again if it passes, and all else is as it was.
+pub fn refusals_end_one()
+    ensures { RefusalsEndOne }
 {}

@@ -4,8 +4,8 @@ ghost use Rattle.std.specs.Prelude.{◌≡◌, ◌++◌, IfOk, OnOk, map, option
 ghost use Rattle.std.specs.List.{All, list_any};
 ghost use Rattle.bac_device_poll.specs.Listing.{after_count, after_element, after_objects};
 ghost use Rattle.bac_device_poll.specs.Listing.{are_same};
-ghost use Rattle.bac_device_poll.specs.Listing.{count_of, is_known, is_long, is_object, is_polled};
-ghost use Rattle.bac_device_poll.specs.Listing.{is_too_long, listed, lists, may_differ, new_among};
+ghost use Rattle.bac_device_poll.specs.Listing.{count_of, is_known, is_object, is_polled};
+ghost use Rattle.bac_device_poll.specs.Listing.{listed, lists, may_differ, new_among};
 ghost use Rattle.bac_device_poll.specs.Listing.{new_log};
 ghost use Rattle.bac_device_poll.specs.Listing.{others_in, told_others, unlisted};
 ghost use Rattle.bac_device_poll.specs.Turns.{turned};
@@ -18,7 +18,6 @@ use crate::stage::Stage;
 use crate::task::{Begin, LogTask};
 use crate::turn::{Turn, none};
 use bac_apdu::object_type::TREND_LOG;
-use bac_link::{Refusal, Verdict};
 use bac_poll::Told;
 use bac_wire::ObjectId;
 use std::alloc::{AllocError, Global};
@@ -29,10 +28,6 @@ const EVENT_LOG: u16 = 25;
 
 /// Trend Log Multiple.
 const TREND_LOG_MULTIPLE: u16 = 27;
-
-/// Abort reasons of what doesn't fit one answer (clause 18.10): buffer-overflow,
-/// segmentation-not-supported, and an APDU that is too long.
-const TOO_LONG: [u8; 3] = [1, 4, 11];
 
 // Whether a device that tells this revision may have another list.
 fn may_differ(was: Option<u32>, now: Option<u32>) -> bool
@@ -169,30 +164,6 @@ fn added(alloc: Global, logs: &[ObjectId]) -> Result<Vec<Entry>, AllocError>
         entries.push(Entry::Added(*log))?;
     }
     Ok(entries)
-}
-
-// Whether a refusal says that the answer would be too long.
-fn is_long(refusal: Refusal) -> bool
-    ensures { result ≡ is_long refusal }
-{
-    match refusal {
-        Refusal::Error(_, _) => false,
-        Refusal::Reject(_) => false,
-        Refusal::Abort(reason) => reason == TOO_LONG[0]
-            || reason == TOO_LONG[1]
-            || reason == TOO_LONG[2],
-    }
-}
-
-/// Whether an answer says so.
-pub(crate) fn is_too_long(verdict: Verdict) -> bool
-    ensures { result ≡ is_too_long verdict }
-{
-    match verdict {
-        Verdict::Ack => false,
-        Verdict::Refused(refusal) => is_long(refusal),
-        Verdict::BadReply => false,
-    }
 }
 
 impl DevicePoll {

@@ -1,9 +1,10 @@
 //! The logs of a device are polled, one after the other.
 
-ghost use Rattle.std.specs.Prelude.{◌≡◌, ◌++◌, ◌∷◌, [], IfOk, OnOk, MatchOption, map};
+ghost use Rattle.std.specs.Prelude.{◌≡◌, ◌++◌, ◌∷◌, [], IfOk, OnOk, MatchOption, Some, map};
 ghost use Rattle.bac_poll.specs.Turns.{ends, turned as log_turned};
-ghost use Rattle.bac_device_poll.specs.Logs.{after_end, after_log, after_loss, begins, is_busy};
-ghost use Rattle.bac_device_poll.specs.Logs.{is_done, is_passing, log_after, lost, read_as};
+ghost use Rattle.bac_device_poll.specs.Logs.{after_end, after_log, after_loss, begins, halved};
+ghost use Rattle.bac_device_poll.specs.Logs.{is_done, is_records, is_too_many, log_after, log_at};
+ghost use Rattle.bac_device_poll.specs.Logs.{lost, read_as};
 ghost use Rattle.bac_device_poll.specs.Logs.{stage_behind, step_behind, wanted_at, with_log};
 ghost use Rattle.bac_device_poll.specs.Logs.{with_records};
 ghost use Rattle.bac_device_poll.specs.State.{LogAs};
@@ -13,26 +14,17 @@ use crate::entry::Entry;
 use crate::identity::device_of;
 use crate::poll::DevicePoll;
 use crate::read::number;
+use crate::refusal::{is_busy, is_too_long};
 use crate::stage::Stage;
 use crate::task::{LogTask, Polled};
 use crate::turn::{DeviceEnd, Step, Turn, none};
 use crate::word::{moment_in, restart_in, told_again};
-use bac_link::{Refusal, Verdict};
+use bac_link::Verdict;
 use bac_poll::{LogPoll, PollEnd, Stage as LogStage, Turn as LogTurn};
 use bac_walk::WalkFault;
 use bac_wire::Datagram;
 use std::alloc::{AllocError, Global};
 use std::mem::replace;
-
-/// Abort reasons that pass (clause 18.10): preempted-by-higher-priority-task,
-/// application-exceeded-reply-time, out-of-resources and tsm-timeout.
-const PASSING: [u8; 4] = [3, 8, 9, 10];
-
-/// Error class device (clause 18.1).
-const DEVICE_CLASS: u32 = 0;
-
-/// Error code device-busy.
-const DEVICE_BUSY: u32 = 3;
 
 /// What an answer to the question of a log is read as.
 #[derive(Clone, Copy, Debug, PartialEq, Eq)]
@@ -41,33 +33,6 @@ pub enum Wanted {
     Count,
     Revision,
     Restart,
-}
-
-// Whether a refusal passes.
-fn is_passing(refusal: Refusal) -> bool
-    ensures { result ≡ is_passing refusal }
-{
-    match refusal {
-        Refusal::Error(class, code) => class == DEVICE_CLASS && code == DEVICE_BUSY,
-        Refusal::Reject(_) => false,
-        Refusal::Abort(reason) => {
-            reason == PASSING[0]
-                || reason == PASSING[1]
-                || reason == PASSING[2]
-                || reason == PASSING[3]
-        }
-    }
-}
-
-/// Whether an answer is one.
-pub(crate) fn is_busy(verdict: Verdict) -> bool
-    ensures { result ≡ is_busy verdict }
-{
-    match verdict {
-        Verdict::Ack => false,
-        Verdict::Refused(refusal) => is_passing(refusal),
-        Verdict::BadReply => false,
-    }
 }
 
 // What an answer is read as, by what it is for.
@@ -131,7 +96,7 @@ fn take_as(
         Wanted::Revision => poll.hear_revision(alloc, number(verdict, datagram)),
         Wanted::Restart => {
             let restart = restart_in(alloc, verdict, datagram)?;
-            let moment = moment_in(alloc, verdict, datagram)?;
+            let moment = moment_in(verdict, datagram);
             poll.hear_restart(alloc, restart, moment)
         }
     }
@@ -152,6 +117,25 @@ fn take_log(
     }
     let wanted = wanted_at(poll.stage());
     take_as(alloc, poll, wanted, verdict, datagram)
+}
+
+// Whether it is records.
+fn is_records(wanted: Wanted) -> bool
+    ensures { result ≡ is_records wanted }
+{
+    match wanted {
+        Wanted::Records => true,
+        Wanted::Count => false,
+        Wanted::Revision => false,
+        Wanted::Restart => false,
+    }
+}
+
+// Whether too many records were asked for, where fewer can be.
+fn is_too_many(poll: &LogPoll, verdict: Verdict) -> bool
+    ensures { result ≡ is_too_many poll.now verdict }
+{
+    is_too_long(verdict) && is_records(wanted_at(poll.stage())) && 1 < poll.count().number()
 }
 
 // What is asked behind a turn of a log.
@@ -272,13 +256,42 @@ impl DevicePoll {
     {
         match replace(&mut self.polled, None) {
             Some(polled) => {
-                let Polled { log, poll } = polled;
-                let mut poll = poll;
-                let turn = take_log(alloc, &mut poll, verdict, datagram)?;
-                Ok(self.end_turn(alloc, Polled { log, poll }, turn))
+                if is_too_many(&polled.poll, verdict) {
+                    return Ok(self.halve(alloc, polled));
+                }
+                self.take_answer(alloc, polled, verdict, datagram)
             }
             None => Ok(Turn::asks(none(alloc))),
         }
+    }
+
+    // The log that is polled is asked for half as many records, and so are those behind it.
+    fn halve(&mut self, alloc: Global, polled: Polled) -> Turn
+        ensures { turned self.new result ≡ halved self.old polled }
+    {
+        let Polled { log, poll } = polled;
+        let mut poll = poll;
+        poll.too_many();
+        self.many = poll.count();
+        self.polled = Some(Polled { log, poll });
+        Turn::asks(none(alloc))
+    }
+
+    // The log that is polled takes an answer.
+    fn take_answer(
+        &mut self,
+        alloc: Global,
+        polled: Polled,
+        verdict: Verdict,
+        datagram: &Datagram,
+    ) -> Result<Turn, AllocError>
+        ensures { IfOk result (λ turn. turned self.new turn
+            ≡ with_log self.old polled (log_after polled.poll verdict datagram.now)) }
+    {
+        let Polled { log, poll } = polled;
+        let mut poll = poll;
+        let turn = take_log(alloc, &mut poll, verdict, datagram)?;
+        Ok(self.end_turn(alloc, Polled { log, poll }, turn))
     }
 
     // The log that is polled is lost.

@@ -11,11 +11,10 @@ ghost use Rattle.bac_device_poll.specs.Turns.{turned};
 use crate::clock::offset;
 use crate::entry::{Naming, Others};
 use crate::identity::{device_of, itself, own_device};
-use crate::listing::is_too_long;
-use crate::logs::is_busy;
 use crate::naming::{subject, unnamed};
 use crate::question::Question;
 use crate::read::{date, enumerated, number, object, objects, text, time};
+use crate::refusal::{is_busy, is_too_long};
 use crate::source::source;
 use crate::stage::Stage;
 use crate::task::{LogTask, Polled};
@@ -296,7 +295,7 @@ impl DevicePoll {
             }
             Stage::Restart => {
                 let restart = restart_in(alloc, verdict, datagram)?;
-                let moment = moment_in(alloc, verdict, datagram)?;
+                let moment = moment_in(verdict, datagram);
                 Ok(self.hear_restart(alloc, restart, moment))
             }
             Stage::Revision => self.hear_revision(alloc, number(verdict, datagram)),

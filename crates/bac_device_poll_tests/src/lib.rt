@@ -3,3 +3,7 @@
 
 #[cfg(test)]
 mod device;
+#[cfg(test)]
+mod fewer;
+#[cfg(test)]
+mod way;
