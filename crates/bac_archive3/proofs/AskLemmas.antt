@@ -48,10 +48,10 @@ scan tree project order = record {
   offset = lit (Int (pos 0));
 }
 
-abbrev rising : List (Term × Key)
+abbrev pub rising : List (Term × Key)
 rising = (col 1 0, record { collation = Binary; descending = false }) ∷ []
 
-abbrev falling : List (Term × Key)
+abbrev pub falling : List (Term × Key)
 falling = (col 1 0, record { collation = Binary; descending = true }) ∷ []
 
 -- the terms of a question, and its order
@@ -104,10 +104,10 @@ abbrev env_of : Values → Env
 env_of row = [] ∷ row ∷ []
 
 -- an output is sorted by the id that it shows
-abbrev ShowsKey : Output → Type 0
+abbrev pub ShowsKey : Output → Type 0
 ShowsKey o = column o.0 0 ≡ column o.1 0
 
-all_show : (q : Query) → ((e : Env) → ShowsKey (output q e)) → (envs : List Env) → All ShowsKey (map (output q) envs)
+pub all_show : (q : Query) → ((e : Env) → ShowsKey (output q e)) → (envs : List Env) → All ShowsKey (map (output q) envs)
 all_show q key [] = λ i d lt. absurd (omega (arith, lt))
 all_show q key (e ∷ es) = All-from_get_or ShowsKey (map (output q) (e ∷ es)) (output q e) (λ i lt.
     subst ShowsKey (sym (get_or-map (output q) (e ∷ es) i e (output q e) (omega (arith, lt, length-map (e ∷ es) (output q))))) (key (get_or (e ∷ es) i e)))
@@ -117,7 +117,7 @@ plain_then Less = refl
 plain_then Equal = refl
 plain_then Greater = refl
 
-falls_by : (tree : ℕ) (project : List Term) (os : List Output) → All ShowsKey os → IsSorted (output_cmp (scan tree project falling)) os → IsSorted falls (map (λ (o : Output). o.1) os)
+pub falls_by : (tree : ℕ) (project : List Term) (os : List Output) → All ShowsKey os → IsSorted (output_cmp (scan tree project falling)) os → IsSorted falls (map (λ (o : Output). o.1) os)
 falls_by tree project os keyed sorted = λ k d low high.
     let o : Output = (d, d) in
     let len = length-map os (λ (o : Output). o.1) in
@@ -128,7 +128,7 @@ falls_by tree project os keyed sorted = λ k d low high.
     let was = sym (plain_then (value_cmp (column (get_or os k o).0 0) (column (get_or os (k + 1) o).0 0))) ∙ sorted k o low (omega (arith, high, len)) in
     subst₂ (λ x y. is_lt (value_cmp (column y 0) (column x 0)) ≡ false) (sym one) (sym two) (subst₂ (λ x y. is_lt (value_cmp y x) ≡ false) a b was)
 
-rises_by : (tree : ℕ) (project : List Term) (os : List Output) → All ShowsKey os → IsSorted (output_cmp (scan tree project rising)) os → IsSorted rises (map (λ (o : Output). o.1) os)
+pub rises_by : (tree : ℕ) (project : List Term) (os : List Output) → All ShowsKey os → IsSorted (output_cmp (scan tree project rising)) os → IsSorted rises (map (λ (o : Output). o.1) os)
 rises_by tree project os keyed sorted = λ k d low high.
     let o : Output = (d, d) in
     let len = length-map os (λ (o : Output). o.1) in

@@ -1,17 +1,18 @@
-//! The items of a log, as they are read again.
+//! Items, as they are read again.
 
 ghost use Rattle.std.specs.Prelude.{◌≡◌, ◌≢◌, ℕ, pos, ◌%◌, ◌/◌, ◌<◌, ◌≤◌, [], length, IfOk, IfErr};
-ghost use Rattle.std.specs.Prelude.{OnErr};
+ghost use Rattle.std.specs.Prelude.{OnErr, OnOk, take};
 ghost use Rattle.sqlite_value.specs.Order.{column};
-ghost use Rattle.sqlite.specs.State.{HasCleanDisk, IsUnchanged, Survives};
+ghost use Rattle.sqlite.specs.State.{FailsToQuery, HasCleanDisk, IsUnchanged, Survives};
 ghost use Rattle.sqlite.specs.Held.{state};
+ghost use Rattle.sqlite.specs.Values.{bound};
 ghost use Rattle.std.specs.Borrow.{sem, RestsIfErr};
 ghost use Rattle.sqlite.specs.contracts.connection.Connection.{the_row};
-ghost use Rattle.bac_archive3.specs.Items.{IsItemsRefused};
+ghost use Rattle.bac_archive3.specs.Ask.{IsLeft};
 ghost use Rattle.bac_archive3.specs.Read.{numbers};
-ghost use Rattle.bac_archive3.specs.Items.{AllAreItems, FirstAreItems, IsItem, IsReadable};
-ghost use Rattle.bac_archive3.specs.Items.{ReadsItems, text_at};
-ghost use Rattle.bac_archive3.specs.Items.{ids};
+ghost use Rattle.bac_archive3.specs.Items.{AllAreItems, FirstAreItems, IsFirst, IsItem};
+ghost use Rattle.bac_archive3.specs.Items.{IsItemsRefused, IsReadable};
+ghost use Rattle.bac_archive3.specs.Items.{ReadsItems, bound_for, id_of, ids, range_text, text_at};
 ghost use Rattle.bac_archive3.specs.Schema.{HasArchive, OverArchive};
 
 use sqlite::types::ToSql;
@@ -52,29 +53,141 @@ fn epoch_of(id: i64) -> u16
     (id.rem_euclid(IDS) / NUMBERS) as u16
 }
 
-/// The rows of a log's items, by their ids; [`read_item`] reads one.
-pub fn items_of<S: Alter>(conn: &mut Connection<S>, log: u16) -> Result<Rows<'_, S>, Error>
+/// The id of an item of this log, in this epoch, under this number: those of a log are from that of
+/// epoch 0 and number 0 to that of epoch 32767 and number 4294967295.
+pub fn id_of(log: u16, epoch: u16, number: u32) -> i64
+    requires { epoch < 32768 }
+    ensures { result ≡ pos (id_of log epoch number) }
+{
+    i64::from(log) * IDS + i64::from(epoch) * NUMBERS + i64::from(number)
+}
+
+/// Which items are asked for: those whose ids are from `first` to `last`.
+#[derive(Clone, Copy, Debug)]
+pub enum Range<'a> {
+    /// By rising ids.
+    Oldest {
+        first: i64,
+        last: i64,
+    },
+    /// By falling ones.
+    Newest {
+        first: i64,
+        last: i64,
+    },
+    /// By rising ids the records whose stamp is `since` or behind it, and before `before`, as texts
+    /// are compared; and each gap, which has no stamp. The stamp of an undated record, `*`, is
+    /// before each digit. A caller that shows records shows the gaps that lie between two of them.
+    Dated {
+        first: i64,
+        last: i64,
+        since: &'a str,
+        before: &'a str,
+    },
+}
+
+/// The question for a range.
+fn text_of(range: Range<'_>) -> &'static str
+    ensures { result.now ≡ range_text range.entry }
+{
+    match range {
+        Range::Oldest { .. } => {
+            "SELECT id, last, stamp, value, datum, flags FROM items WHERE id >= ?1 AND id <= ?2 \
+             ORDER BY id"
+        }
+        Range::Newest { .. } => {
+            "SELECT id, last, stamp, value, datum, flags FROM items WHERE id >= ?1 AND id <= ?2 \
+             ORDER BY id DESC"
+        }
+        Range::Dated { .. } => {
+            "SELECT id, last, stamp, value, datum, flags FROM items WHERE id >= ?1 AND id <= ?2 \
+             AND (last IS NOT NULL OR stamp >= ?3 AND stamp < ?4) ORDER BY id"
+        }
+    }
+}
+
+/// What is bound in it, and how many values that are.
+fn bound_for<'a>(range: Range<'a>) -> ([ValueRef<'a>; 4], usize)
+    ensures values { bound (take result.1 result.0) ≡ bound_for range.entry }
+    ensures few { result.1 ≤ 4 }
+{
+    match range {
+        Range::Oldest { first, last } | Range::Newest { first, last } => {
+            let ids = [
+                first.to_sql(),
+                last.to_sql(),
+                ValueRef::Null,
+                ValueRef::Null,
+            ];
+            (ids, 2)
+        }
+        Range::Dated {
+            first,
+            last,
+            since,
+            before,
+        } => {
+            let all = [
+                first.to_sql(),
+                last.to_sql(),
+                ValueRef::Text(since.as_bytes()),
+                ValueRef::Text(before.as_bytes()),
+            ];
+            (all, 4)
+        }
+    }
+}
+
+/// The rows of the items of a range; [`read_item`] reads one.
+pub fn items_in<'c, S: Alter>(
+    conn: &'c mut Connection<S>,
+    range: Range<'_>,
+) -> Result<Rows<'c, S>, Error>
     // An error is that of the question, and leaves the connection as it was, or takes back what
     // wasn't committed.
     ensures* refused { sem 𝓛 (RestsIfErr (the_row S.row S.Store) conn.entry (λ rows.
-        rows.conn.ghost_name) result (IsItemsRefused S.Store log conn.old result)) }
+        rows.conn.ghost_name) result (IsItemsRefused S.Store range.entry conn.old result)) }
     ensures same_reference { IfOk result (λ rows. rows.conn.ghost_name ≡ conn.entry.ghost_name) }
     ensures begun { IfOk result (λ rows. OverArchive (state S.Store conn.old)
         (state S.Store rows.conn.now)
-        (ReadsItems S.Store log rows.conn.now []
+        (ReadsItems S.Store range.entry rows.conn.now []
         × IsUnchanged (state S.Store conn.old) (state S.Store rows.conn.now))) }
     ensures crash { IfOk result (λ rows. HasArchive (state S.Store conn.old).now.schema
         → Survives (state S.Store conn.old) (state S.Store rows.conn.now) (λ _. ⊥)) }
     ensures clean { IfOk result (λ rows. HasCleanDisk (state S.Store rows.conn.now)
         → HasCleanDisk (state S.Store conn.old)) }
 {
-    let least = i64::from(log) * IDS;
-    let greatest = least + (IDS - 1);
-    conn.query(
-        "SELECT id, last, stamp, value, datum, flags FROM items WHERE id >= ?1 AND id <= ?2 \
-         ORDER BY id",
-        &[least.to_sql(), greatest.to_sql()],
-    )
+    let (values, count) = bound_for(range);
+    conn.query(text_of(range), &values[..count])
+}
+
+/// The row of the first item of a range, if it has one. Of all ids of a log it tells where the rows
+/// of that begin in this file, and by falling ids where they end: so it is known without reading
+/// them whether those of an earlier part are needed.
+pub fn first_in<S: Alter>(conn: &mut Connection<S>, range: Range<'_>) -> Result<Option<Row>, Error>
+    ensures first { OverArchive (state S.Store conn.old) (state S.Store conn.new)
+        (IfOk result (IsFirst range.entry ((state S.Store conn.old).now.trees 5))) }
+    ensures same { OverArchive (state S.Store conn.old) (state S.Store conn.new)
+        (OnOk result (IsUnchanged (state S.Store conn.old) (state S.Store conn.new))) }
+    // An error is that of the question, and leaves the connection as it was, or takes back what
+    // wasn't committed.
+    ensures cause { HasCleanDisk (state S.Store conn.new)
+        → IfErr result (FailsToQuery (range_text range.entry) (bound_for range.entry)
+        (state S.Store conn.old) (state S.Store conn.new)) }
+    ensures left { OverArchive (state S.Store conn.old) (state S.Store conn.new)
+        (IsLeft (state S.Store conn.old) (state S.Store conn.new)) }
+    ensures crash { HasArchive (state S.Store conn.old).now.schema
+        → Survives (state S.Store conn.old) (state S.Store conn.new) (λ _. ⊥) }
+    ensures clean { HasCleanDisk (state S.Store conn.new) → HasCleanDisk (state S.Store conn.old) }
+{
+    let (values, count) = bound_for(range);
+    match conn.query_row(text_of(range), &values[..count]) {
+        Ok(row) => Ok(Some(row)),
+        Err(error) => match error {
+            Error::QueryReturnedNoRows => Ok(None),
+            other => Err(other),
+        },
+    }
 }
 
 /// A text, or nothing.
@@ -89,7 +202,7 @@ fn text_at(row: &Row, at: usize) -> Result<&[u8], Error>
     }
 }
 
-/// The item of a row of [`items_of`].
+/// The item of a row of [`items_in`].
 pub fn read_item(row: &Row) -> Result<Item<'_>, Error>
     ensures read { IfOk result (IsItem row.now) }
     // Unless memory is lacking, each row that can be read is.
@@ -111,12 +224,12 @@ pub fn read_item(row: &Row) -> Result<Item<'_>, Error>
     })
 }
 
-/// The rows that [`items_of`] gives are the log's items: all of them once no row is left, and until
-/// then the first ones.
-pub fn given_are_items<S: Alter>(conn: &Connection<S>, log: u16)
-    ensures all { AllAreItems S.Store log }
-    ensures first { FirstAreItems S.Store log }
+/// The rows that [`items_in`] gives are the items of the range: all of them once no row is left,
+/// and until then the first ones.
+pub fn given_are_items<S: Alter>(conn: &Connection<S>, range: Range<'_>)
+    ensures all { AllAreItems S.Store range.entry }
+    ensures first { FirstAreItems S.Store range.entry }
 {
     let _conn = conn;
-    let _log = log;
+    let _range = range;
 }

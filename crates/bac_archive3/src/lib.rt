@@ -25,7 +25,7 @@ mod shape;
 mod standing;
 
 pub use following::{follow_on, part_is_archive};
-pub use items::{Item, given_are_items, items_of, read_item};
+pub use items::{Item, Range, first_in, given_are_items, id_of, items_in, read_item};
 pub use making::make;
 pub use opening::{Refused, open, puts_keep_archive};
 pub use putting::{put, puts_are_one};
