@@ -1,5 +1,5 @@
 -- Each poll of a site goes on by its own steps alone.
-use Rattle.std.proofs.Common.{◌≡◌, inl, inr, ℕ, Bool, true, false, if◌then◌else◌, List, [], ◌∷◌, ◌++◌, All, max, remove, Option, Some, None, Ok, Err, refl, sym, ap, subst}
+use Rattle.std.proofs.Common.{◌≡◌, inl, inr, ℕ, Bool, true, false, if◌then◌else◌, List, [], ◌∷◌, ◌++◌, All, map, max, remove, Option, Some, None, Ok, Err, refl, sym, ap, subst}
 use Rattle.std.specs.List.{Contains}
 use Rattle.std.proofs.lemmas.List.Elements.{All-append, All-contains_itself, All-map, All-push, All-weaker, Contains-append_left, Contains-append_right}
 use Rattle.bac_desks.specs.Chain.{Chain}
@@ -9,15 +9,17 @@ use Rattle.bac_drive.specs.Happens.{Happens, Scene}
 use Rattle.bac_drive.specs.declared.machine.Next.{Next}
 use Rattle.bac_poller.specs.Counts.{counts_with}
 use Rattle.bac_poller.specs.Poller.{is_answer}
-use Rattle.bac_poller.specs.Seat.{heard_by, is_due, missed, seat_ended, seat_heard, seat_read}
-use Rattle.bac_poller.specs.Site.{Acts, GivesFrom, GivesSite, GivesWaiting, GoesOn, SiteState, due_from, given, put_by, site_heard, site_read}
+use Rattle.bac_poller.specs.Seat.{heard_by, is_due, is_known, missed, noticed, seat_ended, seat_heard, seat_read}
+use Rattle.bac_poller.specs.Site.{Acts, GivesFrom, GivesNews, GivesSite, GivesWaiting, GoesOn, SiteState, due_from, given, noted, put_by, site_heard, site_read}
 use Rattle.bac_poller.specs.SiteLaws.{Answered, Began, Device, GoAlone, IsGoneOn, Missed, Own, OwnStep, Told, Wanted, device_of, seats_of, site_acts}
+use Rattle.bac_poller.specs.declared.news.News.{News}
 use Rattle.bac_poller.specs.declared.log_poller.Doing.{Doing}
 use Rattle.bac_poller.specs.declared.log_poller.Doing.TheVariants as doing
 use Rattle.bac_poller.specs.declared.seat.Presence.TheVariants.{Present}
 use Rattle.bac_poller.specs.declared.seat.Seat.{Seat}
 use Rattle.bac_poller.proofs.Seated.{ToldSite, at_place, but_one}
 use Rattle.bac_poller.proofs.SeatedRun.{told_site}
+use Rattle.bac_poller.proofs.Strays.{all_heeded}
 use Rattle.bac_poller.proofs.Within.{others_not_heeded}
 
 -- all of a site have gone on by their own steps
@@ -50,7 +52,7 @@ active_more start s seat gone on = record { active = All-push (IsGoneOn start) s
 put_gone : (start : List Seat) (what : Doing) (s : SiteState) (seat : Seat) → Gone start s → IsGoneOn start seat → Gone start (put_by what s seat)
 put_gone start doing.Asks s seat gone on = record {
   active = gone.active;
-  waiting = All-push (IsGoneOn start) s.waiting (record seat { is_repeated = false }) gone.waiting (stays start seat (record seat { is_repeated = false }) refl on);
+  waiting = All-push (IsGoneOn start) s.waiting (record seat { is_repeated = false; stray = None }) gone.waiting (stays start seat (record seat { is_repeated = false; stray = None }) refl on);
   ended = gone.ended;
 }
 put_gone start (doing.Waits left) s seat gone on = active_more start s (record seat { due = due_from s }) gone (stays start seat (record seat { due = due_from s }) refl on)
@@ -89,12 +91,18 @@ waiting_gone start false old wanted new gone (inl (place, s, there, asked, gives
     (at_place (IsGoneOn start) old.waiting place s gone.waiting there) gives
 waiting_gone start false old wanted new gone (inr (none, rests, same)) = let P : SiteState → Type 0 = λ x. Gone start x in subst P (sym same) gone
 
-wants_gone : (start : List Seat) (old : SiteState) (wanted : Next) (new : SiteState) → Gone start old → GivesSite old wanted new → Gone start new
-wants_gone start old wanted new gone (inl (place, s, there, not, acts)) =
-    act_gone start s.poller.doing (record old { active = remove old.active place }) s wanted new refl
+news_gone : (start : List Seat) (l : List News) (old : SiteState) (wanted : Next) (new : SiteState) → Gone start old → GivesNews l old wanted new → Gone start new
+news_gone start (news ∷ others) old wanted new gone (told, is) =
+    let P : SiteState → Type 0 = λ x. Gone start x in
+    subst P (sym is) (record { active = gone.active; waiting = gone.waiting; ended = gone.ended })
+news_gone start [] old wanted new gone (inl (place, s, there, not, acts)) =
+    act_gone start s.poller.doing (noted (record old { active = remove old.active place }) s) s wanted new refl
     (record { active = but_one (IsGoneOn start) old.active place gone.active; waiting = gone.waiting; ended = gone.ended })
     (at_place (IsGoneOn start) old.active place s gone.active there) acts
-wants_gone start old wanted new gone (inr (none, gives)) = waiting_gone start old.is_stale old wanted new gone gives
+news_gone start [] old wanted new gone (inr (none, gives)) = waiting_gone start old.is_stale old wanted new gone gives
+
+wants_gone : (start : List Seat) (old : SiteState) (wanted : Next) (new : SiteState) → Gone start old → GivesSite old wanted new → Gone start new
+wants_gone start old wanted new gone gives = news_gone start old.news old wanted new gone gives
 
 -- ---- what it makes of events
 
@@ -110,7 +118,7 @@ seat_heard_gone start from datagram s on = by (is_answer s.poller from datagram)
     by : (b : Bool) → is_answer s.poller from datagram ≡ b → IsGoneOn start (seat_heard from datagram s)
     by true fits = goes_on start s (seat_heard from datagram s) (Answered from datagram) (fits, answered s from datagram fits) on
     by false fits =
-        let P : Seat → Type 0 = λ x. IsGoneOn start x in subst P (sym (others_not_heeded from datagram s fits)) on
+        let P : Seat → Type 0 = λ x. IsGoneOn start x in subst P (sym ((others_not_heeded from datagram s).0 fits)) on
 
 seat_read_gone : (start : List Seat) (now : ℕ) (s : Seat) → IsGoneOn start s → IsGoneOn start (seat_read now s)
 seat_read_gone start now s on = by (is_due now s)
@@ -126,8 +134,9 @@ heard_gone start (Ok heard) s gone = record { active = by heard.datagram; waitin
     by : (o : Option (List ℕ)) → All (IsGoneOn start) (given heard.from o s.active)
     by None = gone.active
     by (Some datagram) =
-        All-map (IsGoneOn start) (seat_heard heard.from datagram) s.active
-        (All-weaker (IsGoneOn start) (λ x. IsGoneOn start (seat_heard heard.from datagram x)) (λ x on. seat_heard_gone start heard.from datagram x on) s.active gone.active)
+        all_heeded (IsGoneOn start) heard.from datagram (λ x on. stays start x (noticed heard.from datagram x) refl on) (is_known heard.from s.active) (map (seat_heard heard.from datagram) s.active)
+        (All-map (IsGoneOn start) (seat_heard heard.from datagram) s.active
+        (All-weaker (IsGoneOn start) (λ x. IsGoneOn start (seat_heard heard.from datagram x)) (λ x on. seat_heard_gone start heard.from datagram x on) s.active gone.active))
 
 read_gone : (start : List Seat) (ms : ℕ) (s : SiteState) → Gone start s → Gone start (site_read ms s)
 read_gone start ms s gone =

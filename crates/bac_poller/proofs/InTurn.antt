@@ -1,12 +1,13 @@
 -- Those that wait keep their order.
-use Rattle.std.proofs.Common.{◌≡◌, ◌⊎◌, inl, inr, Bool, true, false, [], ◌∷◌, ◌++◌, All, remove, refl, sym, ap, subst, ◌∙◌}
+use Rattle.std.proofs.Common.{◌≡◌, ◌⊎◌, inl, inr, Bool, true, false, [], ◌∷◌, ◌++◌, All, List, None, remove, refl, sym, ap, subst, ◌∙◌}
 use Rattle.bac_drive.specs.declared.machine.Next.{Next}
 use Rattle.bac_drive.specs.declared.machine.Next.TheVariants as next
 use Rattle.bac_poller.specs.Counts.{counts_with}
 use Rattle.bac_poller.specs.Poller.{GivesBy}
 use Rattle.bac_poller.specs.Seat.{seat_ended}
-use Rattle.bac_poller.specs.Site.{Acts, GivesFrom, GivesWaiting, GoesOn, SiteState, put_by}
+use Rattle.bac_poller.specs.Site.{Acts, GivesFrom, GivesNews, GivesWaiting, GoesOn, SiteState, noted, put_by}
 use Rattle.bac_poller.specs.SiteLaws.{AskInTurn, IsInTurn}
+use Rattle.bac_poller.specs.declared.news.News.{News}
 use Rattle.bac_poller.specs.declared.log_poller.Doing.{Doing}
 use Rattle.bac_poller.specs.declared.log_poller.Doing.TheVariants as doing
 use Rattle.bac_poller.specs.declared.log_poller.LogPoller.{LogPoller}
@@ -18,7 +19,7 @@ abbrev IsBehind : SiteState → SiteState → Type 0
 IsBehind old new = ((s : Seat) × (new.waiting ≡ old.waiting ++ s ∷ [])) ⊎ (new.waiting ≡ old.waiting)
 
 put_behind : (what : Doing) (s : SiteState) (seat : Seat) → IsBehind s (put_by what s seat)
-put_behind doing.Asks s seat = inl (record seat { is_repeated = false }, refl)
+put_behind doing.Asks s seat = inl (record seat { is_repeated = false; stray = None }, refl)
 put_behind (doing.Waits left) s seat = inr refl
 put_behind (doing.Resends datagram) s seat = inr refl
 put_behind (doing.Hears datagram) s seat = inr refl
@@ -58,6 +59,11 @@ waiting_turn false old wanted new asks (inl (place, s, there, asked, (p, gives, 
     inl (place, asked, asked_waits (record old { waiting = remove old.waiting place }) s wanted new p by_asks is)
 waiting_turn false old wanted new asks (inr (none, rests, same)) = inr (inr (ap (λ (x : SiteState). x.waiting) same))
 
+news_turn : (l : List News) (old new : SiteState) (wanted : Next) → All (λ s. s.poller.doing ≡ doing.Asks) old.waiting → GivesNews l old wanted new → IsInTurn old new
+news_turn (news ∷ others) old new wanted asks (told, is) = inr (inr (ap (λ (x : SiteState). x.waiting) is))
+news_turn [] old new wanted asks (inl (place, s, there, not, acts)) =
+    inr (act_behind s.poller.doing (noted (record old { active = remove old.active place }) s) s wanted new acts)
+news_turn [] old new wanted asks (inr (none, gives)) = waiting_turn old.is_stale old wanted new asks gives
+
 pub ask_in_turn : AskInTurn
-ask_in_turn old new wanted asks (inl (place, s, there, not, acts)) = inr (act_behind s.poller.doing (record old { active = remove old.active place }) s wanted new acts)
-ask_in_turn old new wanted asks (inr (none, gives)) = waiting_turn old.is_stale old wanted new asks gives
+ask_in_turn old new wanted asks gives = news_turn old.news old new wanted asks gives

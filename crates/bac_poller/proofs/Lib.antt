@@ -3,10 +3,12 @@ pub mod PutLemmas
 pub mod Asked
 pub mod Came
 pub mod Places
+pub mod Strays
 pub mod Within
 pub mod WithinRun
 pub mod WithinEvents
 pub mod SameLog
+pub mod Fewer
 pub mod Sound
 pub mod Seated
 pub mod SeatedRun
@@ -14,4 +16,6 @@ pub mod Told
 pub mod Alone
 pub mod InTurn
 pub mod Open
+pub mod HostLists
+pub mod HostLimits
 pub mod Silence

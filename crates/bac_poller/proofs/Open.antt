@@ -12,9 +12,10 @@ use Rattle.bac_drive.specs.Happens.{Happens, Scene}
 use Rattle.bac_drive.specs.declared.machine.Next.{Next}
 use Rattle.bac_poller.specs.Counts.{counts_with}
 use Rattle.bac_poller.specs.Seat.{is_at, is_first, seat_ended}
-use Rattle.bac_poller.specs.Site.{Acts, GivesFrom, GivesSite, GivesWaiting, GoesOn, IsWithin, SiteState, put_by, site_heard}
+use Rattle.bac_poller.specs.Site.{Acts, GivesFrom, GivesNews, GivesSite, GivesWaiting, GoesOn, IsWithin, SiteState, noted, put_by, site_heard}
 use Rattle.bac_poller.specs.SiteLaws.{IsMarked, IsUnasked, OpenWithin, is_open, is_open_at, is_open_once, was_sent_once, site_acts}
 use Rattle.bac_poller.specs.declared.limits.Limits.{Limits}
+use Rattle.bac_poller.specs.declared.news.News.{News}
 use Rattle.bac_poller.specs.declared.log_poller.Doing.{Doing}
 use Rattle.bac_poller.specs.declared.log_poller.Doing.TheVariants as doing
 use Rattle.bac_poller.specs.declared.seat.Seat.{Seat}
@@ -54,9 +55,14 @@ waiting_same true old wanted new (is_read, same) = ap (λ (x : SiteState). x.lim
 waiting_same false old wanted new (inl (place, s, there, asked, gives)) = from_same (record old { waiting = remove old.waiting place }) s wanted new gives
 waiting_same false old wanted new (inr (none, rests, same)) = ap (λ (x : SiteState). x.limits) same
 
+news_same : (l : List News) (old : SiteState) (wanted : Next) (new : SiteState) → GivesNews l old wanted new → new.limits ≡ old.limits
+news_same (news ∷ others) old wanted new (told, is) = ap (λ (x : SiteState). x.limits) is
+news_same [] old wanted new (inl (place, s, there, not, acts)) =
+    act_same s.poller.doing (noted (record old { active = remove old.active place }) s) s wanted new acts
+news_same [] old wanted new (inr (none, gives)) = waiting_same old.is_stale old wanted new gives
+
 wants_same : (old : SiteState) (wanted : Next) (new : SiteState) → GivesSite old wanted new → new.limits ≡ old.limits
-wants_same old wanted new (inl (place, s, there, not, acts)) = act_same s.poller.doing (record old { active = remove old.active place }) s wanted new acts
-wants_same old wanted new (inr (none, gives)) = waiting_same old.is_stale old wanted new gives
+wants_same old wanted new gives = news_same old.news old wanted new gives
 
 told_same : (e : Event) (mid new : SiteState) → ToldSite mid e new → new.limits ≡ mid.limits
 told_same (Waited within heard) mid new is = ap (λ (x : SiteState). x.limits) is ∙ heard_same heard

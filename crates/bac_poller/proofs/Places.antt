@@ -1,12 +1,14 @@
 -- Whose turn it is, by the places of a list.
-use Rattle.std.proofs.Common.{◌≡◌, ◌≤◌, ◌<◌, ◌+◌, ◌∙◌, ◌⊎◌, ◌↔◌, inl, inr, ℕ, Bool, true, false, min, All, Some, List, [], ◌∷◌, count_by, length, get_or, slice_get, take, refl, sym, subst, ap, arith}
+use Rattle.std.proofs.Common.{◌≡◌, ◌≤◌, ◌<◌, ◌+◌, ◌∙◌, ◌⊎◌, ◌↔◌, inl, inr, ℕ, Bool, true, false, min, All, Option, None, Some, max, List, [], ◌∷◌, count_by, length, get_or, slice_get, take, refl, sym, subst, ap, arith}
 use Rattle.std.proofs.lemmas.Bool.{cases_eq}
 use Rattle.std.proofs.lemmas.List.Elements.{All-more, All-weaker}
 use Rattle.std.proofs.lemmas.Option.{same_Some, slice_get_read, slice_get_within}
 use Rattle.std.proofs.Math.Seq.{take-length}
 use Rattle.std.specs.Bool.{OnFalse, OnTrue}
 use Rattle.bac_poller.specs.Seat.{is_at, is_first, is_waiting}
-use Rattle.bac_poller.specs.Site.{HasPlace, HasPlaceAt, HasRoom, IsNearest, MayAct, MayAsk, NoneActs, NoneAsked, SiteState}
+use Rattle.bac_poller.specs.Hosts.{host_at, limit_of}
+use Rattle.bac_poller.specs.Site.{HasPlace, HasPlaceAt, HasRoom, IsNearest, MayAct, MayAsk, NoneActs, NoneAsked, SiteState, limit_at}
+use Rattle.bac_poller.specs.declared.hosts.Host.{Host}
 use Rattle.bac_poller.specs.declared.seat.Seat.{Seat}
 
 -- ---- those that aren't waiting
@@ -72,11 +74,20 @@ pub none_asked : (old : SiteState) (n : ℕ) → length old.waiting ≤ n → ((
 none_asked old n all none place (s, there, rooms) =
     let below = slice_get_within old.waiting place s there in none place (omega (arith, below, all)) (s, there, rooms)
 
+-- one may be open at any host, and no more than at every other
+pub limit_some : (most : ℕ) (o : Option Host) → 0 < limit_of most o
+limit_some most None = omega arith
+limit_some most (Some h) = omega arith
+
+pub limit_most : (most : ℕ) (o : Option Host) → 0 < most → limit_of most o ≤ most
+limit_most most None some = omega (arith, some)
+limit_most most (Some h) some = omega (arith, some)
+
 -- while none is asked, the first that waits has room
 first_room : (old : SiteState) (seat : Seat) → old.active ≡ [] → HasRoom old seat
 first_room old seat none =
-    let P : List Seat → Type 0 = λ l. ((count_by is_first l < old.limits.at_once) × (length l < old.limits.most)) × (count_by (is_at seat.poller.peer) l < old.limits.at_host) in
-    subst P (sym none) ((old.limits.some_at_once, old.limits.some), old.limits.some_at_host)
+    let P : List Seat → Type 0 = λ l. ((count_by is_first l < old.limits.at_once) × (length l < old.limits.most)) × (count_by (is_at seat.poller.peer) l < limit_at old seat.poller.peer) in
+    subst P (sym none) ((old.limits.some_at_once, old.limits.some), limit_some old.limits.at_host (host_at seat.poller.peer old.hosts))
 
 pub none_waits : (old : SiteState) → old.active ≡ [] → NoneAsked old → old.waiting ≡ []
 none_waits old none asked = by old.waiting refl

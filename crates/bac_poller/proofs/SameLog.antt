@@ -1,19 +1,24 @@
 -- Whatever an answer makes of a poll, it is of the same log.
-use Rattle.std.proofs.Common.{◌≡◌, ℕ, ◌+◌, ◌==◌, ◌&&◌, nat_lt, Bool, true, false, if◌then◌else◌, List, [], ◌∷◌, ◌++◌, Option, None, Some, refl, ap, ◌∙◌}
+use Rattle.std.proofs.Common.{◌≡◌, ◌⊎◌, inl, inr, ℕ, ◌+◌, ◌==◌, ◌&&◌, nat_lt, Bool, true, false, if◌then◌else◌, List, [], ◌∷◌, ◌++◌, Option, None, Some, refl, ap, ◌∙◌}
 use Rattle.bac_link.specs.Ordinals.{is_ahead}
+use Rattle.bac_link.specs.declared.exchanges.Refusal.{Refusal}
 use Rattle.bac_link.specs.declared.exchanges.Verdict.{Verdict}
 use Rattle.bac_link.specs.declared.exchanges.Verdict.TheVariants.{Ack, BadReply, Refused}
+use Rattle.bac_walk.specs.Place.{asking}
 use Rattle.bac_walk.specs.declared.batch.Numbered.{Numbered}
+use Rattle.bac_walk.specs.declared.outcome.WalkFault.TheVariants as walk
 use Rattle.bac_poll.specs.Back.{back, back_alone, back_by, back_done, back_lost, back_more, back_shown, shown_last, went_back}
 use Rattle.bac_poll.specs.Epochs.{another, another_by, another_of, renews, renews_of}
 use Rattle.bac_poll.specs.Gone.{asks_restart, asks_revision, asks_word, by_gone, by_word, gone_of, retold}
 use Rattle.bac_poll.specs.Joins.{again_by, again_equal, again_from, ahead, ahead_none, asks_again, asks_each, at_hour, brings_ahead, each_all, each_by, each_means, each_next, found, goes_nowhere, goes_on, hour, joined, joins_by, joins_from, lost, lost_ahead, moved_ahead, prior}
 use Rattle.bac_poll.specs.Known.{means_in, number_in, record_at, records_behind, shown_in, word_of}
 use Rattle.bac_poll.specs.Oldest.{by_count, by_number, drops, logged, sees, sees_before, sees_by, sees_newest, sees_news, sees_none, sees_same, weighed}
-use Rattle.bac_poll.specs.Poll.{after, after_count, after_heard, after_restart, after_revision, at_stage, came, count_at, more_of, oldest_none, renews_by, reply_in, up_to_none}
+use Rattle.bac_poll.specs.DateTime.{undated}
+use Rattle.bac_poll.specs.declared.date_time.DateTime.{DateTime}
+use Rattle.bac_poll.specs.Poll.{after, after_count, after_heard, after_restart, after_revision, after_too_many, at_stage, came, count_at, half_of, more_of, oldest_none, renews_by, reply_in, up_to_none}
 use Rattle.bac_poll.specs.Starts.{starts, starts_at, starts_by, starts_from, starts_none, starts_refused, starts_told}
 use Rattle.bac_poll.specs.State.{KeptAs, PollState, Reply}
-use Rattle.bac_poll.specs.Turns.{Turned, asks_at, brings_to, confirmed, ends, first_in, last_in, renewed, standing_at}
+use Rattle.bac_poll.specs.Turns.{Turned, asks, asks_at, brings_to, confirmed, ends, first_in, last_in, renewed, standing_at}
 use Rattle.bac_poll.specs.declared.gone.Gone.{Gone}
 use Rattle.bac_poll.specs.declared.gone.Gone.TheVariants.{Dropped, Doubtful, Both}
 use Rattle.bac_poll.specs.declared.known.Means.{Means}
@@ -25,8 +30,8 @@ use Rattle.bac_poll.specs.declared.stage.Aim.TheVariants.{Finds, Renews, Starts}
 use Rattle.bac_poll.specs.declared.stage.Stage.{Stage}
 use Rattle.bac_poll.specs.declared.stage.Stage.TheVariants as stage
 use Rattle.bac_poll.specs.declared.turn.Line.{Line}
-use Rattle.bac_poll.specs.declared.turn.PollEnd.TheVariants.{CaughtUp}
-use Rattle.bac_poller.specs.Poller.{Answers}
+use Rattle.bac_poll.specs.declared.turn.PollEnd.TheVariants.{CaughtUp, Fault}
+use Rattle.bac_poller.specs.Poller.{Answers, is_too_long}
 use Rattle.bac_poller.specs.Word.{moment_in, restart_in}
 use Rattle.bac_poller.specs.declared.log_poller.Wanted.{Wanted}
 use Rattle.bac_poller.specs.declared.log_poller.Wanted.TheVariants.{Records, Count, Revision, Restart}
@@ -345,24 +350,40 @@ after_revision_same : (p : PollState) (revision : Option ℕ) → IsSame p (afte
 after_revision_same p revision =
     restart_same (record p { again = record p.again { revision = revision }; held = [] }) p.held p.word.restart
 
-after_restart_same : (p : PollState) (restart moment : List ℕ) → IsSame p (after_restart p restart moment)
+after_restart_same : (p : PollState) (restart : List ℕ) (moment : DateTime) → IsSame p (after_restart p restart moment)
 after_restart_same p restart moment =
     by_word_same (record p { again = record p.again { restart = restart; moment = moment }; held = [] }) p.held
 
+-- its walk is the same, or asks for half as many
+abbrev pub IsWalk : PollState → Turned → Type 0
+IsWalk p t = (t.poll.walk ≡ p.walk) ⊎ (t.poll.walk ≡ asking (half_of p.walk.count) p.walk)
+
 -- of a turn that is this one
-turn_same : (p : PollState) (t u : Turned) → t ≡ u → IsSame p u → t.poll.walk.log ≡ p.walk.log
-turn_same p t u is same = ap (λ (x : Turned). x.poll.walk.log) is ∙ ap (λ w. w.log) same
+turn_same : (p : PollState) (t u : Turned) → t ≡ u → IsSame p u → IsWalk p t
+turn_same p t u is same = inl (ap (λ (x : Turned). x.poll.walk) is ∙ same)
+
+-- one that is refused
+refused_walk : (p : PollState) (b : Bool) (t : Turned) (why : Refusal) → t ≡ (if b then asks (after_too_many p) else ends p (Fault (walk.Refused why))) → IsWalk p t
+refused_walk p true t why is = inr (ap (λ (x : Turned). x.poll.walk) is)
+refused_walk p false t why is = inl (ap (λ (x : Turned). x.poll.walk) is)
+
+pub answers_walk : (p : PollState) (w : Wanted) (v : Verdict) (datagram : List ℕ) (t : Turned) → Answers p w v datagram t → IsWalk p t
+answers_walk p Records Ack datagram t is = turn_same p t (after p datagram) is (after_same p datagram)
+answers_walk p Records (Refused why) datagram t is = refused_walk p (is_too_long why && nat_lt 1 p.walk.count) t why is
+answers_walk p Records BadReply datagram t is = turn_same p t (ends p _) is refl
+answers_walk p Count Ack datagram t (count, is_count, is) = turn_same p t (after_count p count) is (after_count_same p count)
+answers_walk p Count (Refused why) datagram t is = turn_same p t (after_count p None) is (after_count_same p None)
+answers_walk p Count BadReply datagram t is = turn_same p t (after_count p None) is (after_count_same p None)
+answers_walk p Revision Ack datagram t (revision, is_count, is) = turn_same p t (after_revision p revision) is (after_revision_same p revision)
+answers_walk p Revision (Refused why) datagram t is = turn_same p t (after_revision p None) is (after_revision_same p None)
+answers_walk p Revision BadReply datagram t is = turn_same p t (after_revision p None) is (after_revision_same p None)
+answers_walk p Restart Ack datagram t is = turn_same p t (after_restart p (restart_in datagram) (moment_in datagram)) is (after_restart_same p (restart_in datagram) (moment_in datagram))
+answers_walk p Restart (Refused why) datagram t is = turn_same p t (after_restart p [] undated) is (after_restart_same p [] undated)
+answers_walk p Restart BadReply datagram t is = turn_same p t (after_restart p [] undated) is (after_restart_same p [] undated)
+
+log_of_walk : (p : PollState) (t : Turned) → IsWalk p t → t.poll.walk.log ≡ p.walk.log
+log_of_walk p t (inl same) = ap (λ w. w.log) same
+log_of_walk p t (inr fewer) = ap (λ w. w.log) fewer
 
 pub answers_same : (p : PollState) (w : Wanted) (v : Verdict) (datagram : List ℕ) (t : Turned) → Answers p w v datagram t → t.poll.walk.log ≡ p.walk.log
-answers_same p Records Ack datagram t is = turn_same p t (after p datagram) is (after_same p datagram)
-answers_same p Records (Refused refusal) datagram t is = turn_same p t (ends p _) is refl
-answers_same p Records BadReply datagram t is = turn_same p t (ends p _) is refl
-answers_same p Count Ack datagram t (count, is_count, is) = turn_same p t (after_count p count) is (after_count_same p count)
-answers_same p Count (Refused refusal) datagram t is = turn_same p t (after_count p None) is (after_count_same p None)
-answers_same p Count BadReply datagram t is = turn_same p t (after_count p None) is (after_count_same p None)
-answers_same p Revision Ack datagram t (revision, is_count, is) = turn_same p t (after_revision p revision) is (after_revision_same p revision)
-answers_same p Revision (Refused refusal) datagram t is = turn_same p t (after_revision p None) is (after_revision_same p None)
-answers_same p Revision BadReply datagram t is = turn_same p t (after_revision p None) is (after_revision_same p None)
-answers_same p Restart Ack datagram t is = turn_same p t (after_restart p (restart_in datagram) (moment_in datagram)) is (after_restart_same p (restart_in datagram) (moment_in datagram))
-answers_same p Restart (Refused refusal) datagram t is = turn_same p t (after_restart p [] []) is (after_restart_same p [] [])
-answers_same p Restart BadReply datagram t is = turn_same p t (after_restart p [] []) is (after_restart_same p [] [])
+answers_same p w v datagram t answers = log_of_walk p t (answers_walk p w v datagram t answers)

@@ -1,9 +1,11 @@
 -- What holds of all devices of a site, behind events.
-use Rattle.std.proofs.Common.{◌≡◌, inl, inr, ℕ, Bool, true, false, if◌then◌else◌, List, [], ◌∷◌, ◌++◌, All, map, max, take, drop, remove, slice_get, get_or, suc, Option, Some, None, Ok, Err, refl, sym, ap, subst, ◌∙◌}
+use Rattle.std.proofs.Common.{◌≡◌, inl, inr, ℕ, Bool, true, false, if◌then◌else◌, List, [], ◌∷◌, ◌++◌, All, map, max, take, drop, remove, slice_get, get_or, suc, Option, Some, None, Ok, Err, refl, sym, ap, subst, ◌∙◌, nat_lt}
 use Rattle.std.specs.List.{Contains}
 use Rattle.std.proofs.lemmas.Bool.{and_parts}
 use Rattle.std.proofs.lemmas.List.Elements.{All-append, All-contains_itself, All-drop, All-head, All-map, All-nil, All-push, All-tail, All-take, All-weaker}
 use Rattle.std.proofs.lemmas.Option.{get_or_from_slice_get, slice_get_within}
+use Rattle.bac_poll.specs.Poll.{after_too_many}
+use Rattle.bac_poll.specs.State.{PollState}
 use Rattle.bac_ports.specs.Port.{Receiving}
 use Rattle.bac_ports.specs.declared.port.Heard.{Heard}
 use Rattle.bac_drive.specs.Event.{Event, Kept, Printed, Read, Sent, Waited, Warned}
@@ -12,15 +14,18 @@ use Rattle.bac_drive.specs.declared.machine.Next.{Next}
 use Rattle.bac_drive.specs.declared.machine.Next.TheVariants as next
 use Rattle.bac_poller.specs.Counts.{counts_with}
 use Rattle.bac_poller.specs.Ending.{is_caught_up}
-use Rattle.bac_poller.specs.Seat.{IsNext, begun, doing_begun, heard_by, is_due, is_waiting, missed, seat_ended, seat_heard, seat_read}
-use Rattle.bac_poller.specs.Site.{Acts, GivesFrom, GivesSite, GivesWaiting, GoesOn, IsToldBy, Rests, SiteState, Tells, due_from, given, put_by, site_heard, site_read}
+use Rattle.bac_poller.specs.News.{news_line}
+use Rattle.bac_poller.specs.Seat.{IsNext, begun, doing_begun, halved, heard_by, is_due, is_known, is_waiting, lowered, missed, noticed, seat_ended, seat_heard, seat_read, thrice_halved}
+use Rattle.bac_poller.specs.Site.{Acts, GivesFrom, GivesNews, GivesSite, GivesWaiting, GoesOn, IsToldBy, Rests, SiteState, Tells, due_from, given, noted, put_by, site_heard, site_read}
 use Rattle.bac_poller.specs.SiteLaws.{AreCome, IsOf, IsUnasked, LogRow, log_of, logs_of, question_of}
+use Rattle.bac_poller.specs.declared.news.News.{News}
 use Rattle.bac_poller.specs.declared.log_poller.Doing.{Doing}
 use Rattle.bac_poller.specs.declared.log_poller.Doing.TheVariants as doing
 use Rattle.bac_poller.specs.declared.log_poller.Ending.{Ending}
 use Rattle.bac_poller.specs.declared.log_poller.LogPoller.{LogPoller}
 use Rattle.bac_poller.specs.declared.seat.LogTask.{LogTask}
 use Rattle.bac_poller.specs.declared.seat.Seat.{Seat}
+use Rattle.bac_poller.proofs.Strays.{all_heeded}
 use Rattle.bac_poller.proofs.Sound.{IsClosed, IsSamePoll, IsSound, IsFreshAt, IsMarkedAt, IsMarkedWell, begun_marked, begun_sound, behind_send, gives_marked, gives_same, gives_sound, heard_marked, heard_same, heard_sound, kept_by, later, missed_marked, missed_same, missed_sound, sent_by, waiting_opened}
 
 -- its logs are among those of one of these devices, at the same address by the same route
@@ -99,7 +104,7 @@ put_seated start events doing.Asks s seat was seated comes =
     let M : Doing → Type 0 = λ d. IsMarkedAt false seat.poller d × IsFreshAt false d in
     record {
       active = seated.active;
-      waiting = All-push (Sits start events) s.waiting (record seat { is_repeated = false }) seated.waiting
+      waiting = All-push (Sits start events) s.waiting (record seat { is_repeated = false; stray = None }) seated.waiting
           (record { sound = comes.sound; marked = subst M (sym was) (tt, refl); home = comes.home });
       ended = seated.ended;
     }
@@ -122,6 +127,20 @@ from_seated start events e old s wanted new seated sits (p, gives, is) does =
     } in
     subst P (sym is) (put_seated start (behind_send events e) p.doing old (record s { poller = p; kept = counts_with wanted s.kept }) refl (seated_send start events e old seated) on)
 
+-- a poll that asks for less is of the same log
+halved_log : (most : ℕ) (p : PollState) → (halved most p).walk.log ≡ p.walk.log
+halved_log most p = by (nat_lt most p.walk.count)
+  where
+    by : (b : Bool) → (if b then after_too_many p else p).walk.log ≡ p.walk.log
+    by true = refl
+    by false = refl
+
+thrice_log : (most : ℕ) (p : PollState) → (thrice_halved most p).walk.log ≡ p.walk.log
+thrice_log most p = halved_log most (halved most (halved most p)) ∙ halved_log most (halved most p) ∙ halved_log most p
+
+lowered_log : (most : ℕ) (p : PollState) → (lowered most p).walk.log ≡ p.walk.log
+lowered_log most p = thrice_log most (thrice_halved most p) ∙ thrice_log most p
+
 -- the next log of a device is one of its logs
 next_home : (start : List Seat) (s t : Seat) → IsNext s t → IsAtHome start s → IsAtHome start t
 next_home start s t (task, logs_is, is) (h, within, at, way, logs) =
@@ -130,7 +149,8 @@ next_home start s t (task, logs_is, is) (h, within, at, way, logs) =
     let Q : List LogTask → Type 0 = λ l. All P (map f l) in
     let behind : All P (f task ∷ map f t.logs.items) = subst Q logs_is (All-tail P (log_of s.poller.poll s.poller.place.log) (map f s.logs.items) logs) in
     let R : LogRow → Type 0 = λ log. All P (log ∷ map f t.logs.items) in
-    let first : log_of t.poller.poll t.poller.place.log ≡ f task = ap (λ (x : Seat). log_of x.poller.poll x.poller.place.log) is in
+    let first : log_of t.poller.poll t.poller.place.log ≡ f task =
+    ap (λ (x : Seat). log_of x.poller.poll x.poller.place.log) is ∙ ap (λ object. record { object = object; row = task.place.log }) (lowered_log s.poller.poll.walk.count task.poll) in
     (h, within, ap (λ (x : Seat). x.poller.peer) is ∙ at, ap (λ (x : Seat). x.poller.transactions.route) is ∙ way, subst R (sym first) behind)
 
 -- as it begins, nothing of the device is open
@@ -180,13 +200,21 @@ waiting_seated start events e false old wanted new seated (inl (place, s, there,
 waiting_seated start events e false old wanted new seated (inr (none, rests, same)) does =
     let P : SiteState → Type 0 = λ x. Seated start (behind_send events e) x in subst P (sym same) (seated_send start events e old seated)
 
-pub wants_seated : (start : List Seat) (events : List Event) (e : Event) (old : SiteState) (wanted : Next) (new : SiteState) → Seated start events old → GivesSite old wanted new → Does wanted e →
+news_seated : (start : List Seat) (events : List Event) (e : Event) (l : List News) (old : SiteState) (wanted : Next) (new : SiteState) → Seated start events old → GivesNews l old wanted new → Does wanted e →
     Seated start (behind_send events e) new
-wants_seated start events e old wanted new seated (inl (place, s, there, not, acts)) does =
-    let less : SiteState = record old { active = remove old.active place } in
+news_seated start events e (news ∷ others) old wanted new seated (told, is) does =
+    let P : SiteState → Type 0 = λ x. Seated start (behind_send events e) x in
+    let on = seated_send start events e old seated in
+    subst P (sym is) (record { active = on.active; waiting = on.waiting; ended = on.ended })
+news_seated start events e [] old wanted new seated (inl (place, s, there, not, acts)) does =
+    let less : SiteState = noted (record old { active = remove old.active place }) s in
     act_seated start events e s.poller.doing less s wanted new refl (record { active = but_one (Sits start events) old.active place seated.active; waiting = seated.waiting; ended = seated.ended })
     (at_place (Sits start events) old.active place s seated.active there) acts does
-wants_seated start events e old wanted new seated (inr (none, gives)) does = waiting_seated start events e old.is_stale old wanted new seated gives does
+news_seated start events e [] old wanted new seated (inr (none, gives)) does = waiting_seated start events e old.is_stale old wanted new seated gives does
+
+pub wants_seated : (start : List Seat) (events : List Event) (e : Event) (old : SiteState) (wanted : Next) (new : SiteState) → Seated start events old → GivesSite old wanted new → Does wanted e →
+    Seated start (behind_send events e) new
+wants_seated start events e old wanted new seated gives does = news_seated start events e old.news old wanted new seated gives does
 
 -- ---- what it hears, and what time makes of it
 
@@ -197,6 +225,10 @@ sits_heard start events within heard datagram s is sits = record {
   marked = heard_marked s.is_repeated heard.from datagram s.poller sits.marked;
   home = home_as start s (heard_by heard.from datagram s.poller) (heard_same heard.from datagram s.poller) sits.home;
 }
+
+-- what came from elsewhere changes nothing of it
+sits_noticed : (start : List Seat) (events : List Event) (from datagram : List ℕ) (s : Seat) → Sits start events s → Sits start events (noticed from datagram s)
+sits_noticed start events from datagram s sits = record { sound = sits.sound; marked = sits.marked; home = sits.home }
 
 sits_read : (start : List Seat) (events : List Event) (now : ℕ) (s : Seat) → Sits start events s → Sits start events (seat_read now s)
 sits_read start events now s sits = by (is_due now s) refl
@@ -226,8 +258,9 @@ heard_seated start events within (Ok heard) s seated = record {
     by None is = all_later start events (Waited within (Ok heard) ∷ []) s.active seated.active
     by (Some datagram) is =
         let P : Seat → Type 0 = Sits start (events ++ Waited within (Ok heard) ∷ []) in
-        All-map P (seat_heard heard.from datagram) s.active
-        (All-weaker (Sits start events) (λ x. P (seat_heard heard.from datagram x)) (λ x sits. sits_heard start events within heard datagram x is sits) s.active seated.active)
+        all_heeded P heard.from datagram (λ x sits. sits_noticed start (events ++ Waited within (Ok heard) ∷ []) heard.from datagram x sits) (is_known heard.from s.active) (map (seat_heard heard.from datagram) s.active)
+        (All-map P (seat_heard heard.from datagram) s.active
+        (All-weaker (Sits start events) (λ x. P (seat_heard heard.from datagram x)) (λ x sits. sits_heard start events within heard datagram x is sits) s.active seated.active))
 
 read_seated : (start : List Seat) (events : List Event) (ms : ℕ) (s : SiteState) → Seated start events s → Seated start (events ++ Read ms ∷ []) (site_read ms s)
 read_seated start events ms s seated =
@@ -382,7 +415,11 @@ waiting_says start events e false old wanted new seated (inl (place, s, there, a
     from_says start events e _ s wanted new (at_place (Sits start events) old.waiting place s seated.waiting there) gives does
 waiting_says start events e false old wanted new seated (inr (none, rests, same)) does = rests_says start events e old wanted rests does
 
-pub wants_says : (start : List Seat) (events : List Event) (e : Event) (old : SiteState) (wanted : Next) (new : SiteState) → Seated start events old → GivesSite old wanted new → Does wanted e → SaysOf start events e
-wants_says start events e old wanted new seated (inl (place, s, there, not, acts)) does =
+news_says : (start : List Seat) (events : List Event) (e : Event) (l : List News) (old : SiteState) (wanted : Next) (new : SiteState) → Seated start events old → GivesNews l old wanted new → Does wanted e → SaysOf start events e
+news_says start events e (news ∷ others) old wanted new seated (told, is) does = text_says start events e (told_text false (news_line news) wanted e told does)
+news_says start events e [] old wanted new seated (inl (place, s, there, not, acts)) does =
     act_says start events e s.poller.doing _ s wanted new (at_place (Sits start events) old.active place s seated.active there) acts does
-wants_says start events e old wanted new seated (inr (none, gives)) does = waiting_says start events e old.is_stale old wanted new seated gives does
+news_says start events e [] old wanted new seated (inr (none, gives)) does = waiting_says start events e old.is_stale old wanted new seated gives does
+
+pub wants_says : (start : List Seat) (events : List Event) (e : Event) (old : SiteState) (wanted : Next) (new : SiteState) → Seated start events old → GivesSite old wanted new → Does wanted e → SaysOf start events e
+wants_says start events e old wanted new seated gives does = news_says start events e old.news old wanted new seated gives does

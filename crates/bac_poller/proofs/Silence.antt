@@ -23,9 +23,11 @@ use Rattle.bac_poller.specs.Ending.{is_caught_up}
 use Rattle.bac_poller.specs.Laws.{Came}
 use Rattle.bac_poller.specs.Counts.{counts_with}
 use Rattle.bac_poller.specs.Poller.{GivesBy, IsPlaced, doing_behind, doing_told, is_answer}
-use Rattle.bac_poller.specs.Seat.{begun, doing_begun, given_up, is_due, is_lost, is_waiting, lost_one, missed, seat_ended, seat_heard, seat_read, without_answer}
-use Rattle.bac_poller.specs.Site.{Acts, GivesFrom, GivesSite, GivesWaiting, GoesOn, Rests, SiteState, Tells, due_from, given, put_by, site_read}
+use Rattle.bac_poller.specs.News.{news_line}
+use Rattle.bac_poller.specs.Seat.{begun, begun_poll, doing_begun, given_up, is_due, is_known, is_lost, is_waiting, lost_one, missed, seat_ended, seat_heard, seat_read, without_answer}
+use Rattle.bac_poller.specs.Site.{Acts, GivesFrom, GivesNews, GivesSite, GivesWaiting, GoesOn, Rests, SiteState, Tells, due_from, given, noted, put_by, site_read}
 use Rattle.bac_poller.specs.SiteLaws.{LostStopsNone, WaitsOnce, is_of, is_sent_to, sends_in_vain, site_acts}
+use Rattle.bac_poller.specs.declared.news.News.{News}
 use Rattle.bac_poller.specs.declared.log_poller.Doing.{Doing}
 use Rattle.bac_poller.specs.declared.log_poller.Doing.TheVariants as doing
 use Rattle.bac_poller.specs.declared.log_poller.Ending.{Ending}
@@ -38,6 +40,7 @@ use Rattle.bac_poller.specs.declared.seat.Seat.{Seat}
 use Rattle.bac_poller.proofs.Seated.{IsText, ToldSite, told_text}
 use Rattle.bac_poller.proofs.SeatedRun.{told_site}
 use Rattle.bac_poller.proofs.Sound.{asking}
+use Rattle.bac_poller.proofs.Strays.{sum_heeded}
 use Rattle.bac_poller.proofs.Told.{tally}
 use Rattle.bac_poller.proofs.Within.{others_not_heeded, peer_heard, peer_read}
 use Rattle.bac_poller.proofs.WithinRun.{peer_given}
@@ -240,7 +243,7 @@ one_more : (peer : List ℕ) (seats : List Seat) (seat : Seat) → sum_by (weigh
 one_more peer seats seat = omega (arith, sum_by-append (weight peer) seats (seat ∷ []), sum_by-cons (weight peer) seat [])
 
 put_total : (peer : List ℕ) (what : Doing) (s : SiteState) (seat : Seat) → total peer (put_by what s seat) ≡ total peer s + weight peer seat
-put_total peer doing.Asks s seat = omega (arith, one_more peer s.waiting (record seat { is_repeated = false }))
+put_total peer doing.Asks s seat = omega (arith, one_more peer s.waiting (record seat { is_repeated = false; stray = None }))
 put_total peer (doing.Waits more) s seat = omega (arith, one_more peer s.active (record seat { due = due_from s }))
 put_total peer (doing.Resends datagram) s seat = omega (arith, one_more peer s.active seat)
 put_total peer (doing.Hears datagram) s seat = omega (arith, one_more peer s.active seat)
@@ -311,12 +314,19 @@ waiting_total peer e false old wanted new (inr (none, rests, same)) does =
     let e1 : total peer new ≡ total peer old = ap (total peer) same in
     omega (arith, sent, e1)
 
+news_total : (peer : List ℕ) (e : Event) (l : List News) (old : SiteState) (wanted : Next) (new : SiteState) → GivesNews l old wanted new → Does wanted e →
+    total peer new + tally (is_sent_to peer e) ≤ total peer old
+news_total peer e (news ∷ others) old wanted new (told, is) does =
+    let same : total peer new ≡ total peer old = ap (total peer) is in
+    omega (arith, same, text_sent peer e (told_text false (news_line news) wanted e told does))
+news_total peer e [] old wanted new (inl (place, s, there, not, acts)) does =
+    let less = act_total peer e s.poller.doing (noted (record old { active = remove old.active place }) s) s wanted new refl acts does in
+    omega (arith, less, but_one peer old.active place s there)
+news_total peer e [] old wanted new (inr (none, gives)) does = waiting_total peer e old.is_stale old wanted new gives does
+
 wants_total : (peer : List ℕ) (e : Event) (old : SiteState) (wanted : Next) (new : SiteState) → GivesSite old wanted new → Does wanted e →
     total peer new + tally (is_sent_to peer e) ≤ total peer old
-wants_total peer e old wanted new (inl (place, s, there, not, acts)) does =
-    let less = act_total peer e s.poller.doing (record old { active = remove old.active place }) s wanted new refl acts does in
-    omega (arith, less, but_one peer old.active place s there)
-wants_total peer e old wanted new (inr (none, gives)) does = waiting_total peer e old.is_stale old wanted new gives does
+wants_total peer e old wanted new gives does = news_total peer e old.news old wanted new gives does
 
 -- ---- what it hears, and what time makes of it
 
@@ -336,7 +346,7 @@ heard_weight : (peer from datagram : List ℕ) → (from ≡ peer → ⊥) → (
 heard_weight peer from datagram none s = by (is_answer s.poller from datagram) refl (is_of peer s) refl
   where
     by : (b : Bool) → is_answer s.poller from datagram ≡ b → (here : Bool) → is_of peer s ≡ here → weight peer (seat_heard from datagram s) ≤ weight peer s
-    by false fits here at = let e : weight peer (seat_heard from datagram s) ≡ weight peer s = ap (weight peer) (others_not_heeded from datagram s fits) in omega (arith, e)
+    by false fits here at = let e : weight peer (seat_heard from datagram s) ≡ weight peer s = ap (weight peer) ((others_not_heeded from datagram s).0 fits) in omega (arith, e)
     by true fits false at =
         let away : is_of peer (seat_heard from datagram s) ≡ false = ap (λ (x : List ℕ). bytes_eq x peer) (peer_heard from datagram s) ∙ at in
         let e : weight peer (seat_heard from datagram s) ≡ 0 = ap (λ (b : Bool). cond b (left (seat_heard from datagram s).poller (seat_heard from datagram s).presence) 0) away in
@@ -406,7 +416,8 @@ told_total peer (Waited within (Ok heard)) mid new none is = by heard.datagram r
         ap (total peer) is ∙ ap (λ (o : Option (List ℕ)). total peer (record mid { is_stale = true; active = given heard.from o mid.active })) at in
         let away : heard.from ≡ peer → ⊥ = λ from. none datagram (within, heard, Contains-push [] (Waited within (Ok heard)), from, at) in
         let less = mapped_less (weight peer) (seat_heard heard.from datagram) (heard_weight peer heard.from datagram away) mid.active in
-        omega (arith, e, less)
+        let same = sum_heeded (weight peer) heard.from datagram (λ x. refl) (is_known heard.from mid.active) (map (seat_heard heard.from datagram) mid.active) in
+        omega (arith, e, less, same)
 told_total peer (Read ms) mid new none is =
     let e : total peer new ≡ total peer (site_read ms mid) = ap (total peer) is in
     let less = mapped_less (weight peer) (seat_read (max mid.time ms)) (read_weight peer (max mid.time ms)) mid.active in
@@ -460,16 +471,16 @@ next_asks lost Doubted present = absurd (cc)
 next_asks lost Silent present = absurd (cc)
 
 on_waits : (why : Ending) (old new : SiteState) (s : Seat) (task : LogTask) (more : List LogTask) → s.presence ≡ Present → s.logs.items ≡ task ∷ more → GoesOn old (seat_ended why s) new →
-    (t : Seat) × (new.waiting ≡ old.waiting ++ t ∷ []) × (t.poller.peer ≡ s.poller.peer) × (t.poller.poll ≡ task.poll) × (t.poller.doing ≡ doing.Asks) × (t.logs.items ≡ more)
+    (t : Seat) × (new.waiting ≡ old.waiting ++ t ∷ []) × (t.poller.peer ≡ s.poller.peer) × (t.poller.poll ≡ begun_poll task s.poller) × (t.poller.doing ≡ doing.Asks) × (t.logs.items ≡ more)
 on_waits why old new s task more present logs (inl (t, (first, are, next_is), is)) =
     let asks : t.poller.doing ≡ doing.Asks = ap (λ (x : Seat). x.poller.doing) next_is ∙ next_asks (is_lost why) s.presence present in
     let both : first ∷ t.logs.items ≡ task ∷ more = sym are ∙ logs in
     let same : first ≡ task = cc in
-    let put_is : new.waiting ≡ old.waiting ++ record t { is_repeated = false } ∷ [] = ap (λ (x : SiteState). x.waiting) is ∙ ap (λ (d : Doing). (put_by d old t).waiting) asks in (
-      record t { is_repeated = false },
+    let put_is : new.waiting ≡ old.waiting ++ record t { is_repeated = false; stray = None } ∷ [] = ap (λ (x : SiteState). x.waiting) is ∙ ap (λ (d : Doing). (put_by d old t).waiting) asks in (
+      record t { is_repeated = false; stray = None },
       put_is,
       ap (λ (x : Seat). x.poller.peer) next_is,
-      ap (λ (x : Seat). x.poller.poll) next_is ∙ ap (λ (l : LogTask). l.poll) same,
+      ap (λ (x : Seat). x.poller.poll) next_is ∙ ap (λ (l : LogTask). begun_poll l s.poller) same,
       asks,
       cc,
     )

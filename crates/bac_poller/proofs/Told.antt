@@ -13,15 +13,17 @@ use Rattle.bac_drive.specs.declared.machine.Next.{Next}
 use Rattle.bac_drive.specs.declared.machine.Next.TheVariants as next
 use Rattle.bac_poller.specs.Counts.{counts_with}
 use Rattle.bac_poller.specs.Poller.{GivesBy}
-use Rattle.bac_poller.specs.Seat.{seat_ended, seat_heard, seat_read}
+use Rattle.bac_poller.specs.Seat.{is_known, seat_ended, seat_heard, seat_read}
 use Rattle.bac_poller.specs.Ending.{is_caught_up}
-use Rattle.bac_poller.specs.Site.{Acts, GivesFrom, GivesSite, GivesWaiting, GoesOn, IsToldBy, SiteState, given, put_by, site_heard, site_read}
+use Rattle.bac_poller.specs.Site.{Acts, GivesFrom, GivesNews, GivesSite, GivesWaiting, GoesOn, IsToldBy, SiteState, given, noted, put_by, site_heard, site_read}
 use Rattle.bac_poller.specs.SiteLaws.{AllAreTold, BeginsUnasked, IsNew, IsUnasked, is_of, site_acts}
+use Rattle.bac_poller.specs.declared.news.News.{News}
 use Rattle.bac_poller.specs.declared.log_poller.Doing.{Doing}
 use Rattle.bac_poller.specs.declared.log_poller.Doing.TheVariants as doing
 use Rattle.bac_poller.specs.declared.seat.Seat.{Seat}
 use Rattle.bac_poller.proofs.Seated.{ToldSite, at_place, but_one}
 use Rattle.bac_poller.proofs.SeatedRun.{told_site}
+use Rattle.bac_poller.proofs.Strays.{sum_heeded}
 use Rattle.bac_poller.proofs.Within.{peer_heard, peer_read}
 use Rattle.bac_poller.proofs.WithinRun.{peer_given}
 
@@ -70,10 +72,10 @@ active_more start s seat lacks = record {
 put_holds : (start : SiteState) (what : Doing) (s : SiteState) (seat : Seat) → seat.poller.doing ≡ what → Lacks start s seat → Holds start (put_by what s seat)
 put_holds start doing.Asks s seat was lacks = record {
   turns = record {
-    asks = All-push (λ x. x.poller.doing ≡ doing.Asks) s.waiting (record seat { is_repeated = false }) lacks.turns.asks was;
+    asks = All-push (λ x. x.poller.doing ≡ doing.Asks) s.waiting (record seat { is_repeated = false; stray = None }) lacks.turns.asks was;
     told = lacks.turns.told;
   };
-  all = λ peer. let b = lacks.but peer in omega (arith, b, one_more peer s.waiting (record seat { is_repeated = false }));
+  all = λ peer. let b = lacks.but peer in omega (arith, b, one_more peer s.waiting (record seat { is_repeated = false; stray = None }));
 }
 put_holds start (doing.Waits left) s seat was lacks = active_more start s (record seat { due = _ }) (record { turns = lacks.turns; but = lacks.but })
 put_holds start (doing.Resends datagram) s seat was lacks = active_more start s seat lacks
@@ -124,13 +126,19 @@ waiting_holds start false old wanted new holds (inl (place, s, there, asked, giv
     }) gives
 waiting_holds start false old wanted new holds (inr (none, rests, same)) = let P : SiteState → Type 0 = λ x. Holds start x in subst P (sym same) holds
 
-wants_holds : (start old : SiteState) (wanted : Next) (new : SiteState) → Holds start old → GivesSite old wanted new → Holds start new
-wants_holds start old wanted new holds (inl (place, s, there, not, acts)) =
-    act_holds start s.poller.doing (record old { active = remove old.active place }) s wanted new (record {
+news_holds : (start : SiteState) (l : List News) (old : SiteState) (wanted : Next) (new : SiteState) → Holds start old → GivesNews l old wanted new → Holds start new
+news_holds start (news ∷ others) old wanted new holds (told, is) =
+    let P : SiteState → Type 0 = λ x. Holds start x in
+    subst P (sym is) (record { turns = record { asks = holds.turns.asks; told = holds.turns.told }; all = holds.all })
+news_holds start [] old wanted new holds (inl (place, s, there, not, acts)) =
+    act_holds start s.poller.doing (noted (record old { active = remove old.active place }) s) s wanted new (record {
       turns = record { asks = holds.turns.asks; told = holds.turns.told };
       but = λ peer. let a = holds.all peer in omega (arith, a, but_count peer old.active place s there);
     }) acts
-wants_holds start old wanted new holds (inr (none, gives)) = waiting_holds start old.is_stale old wanted new holds gives
+news_holds start [] old wanted new holds (inr (none, gives)) = waiting_holds start old.is_stale old wanted new holds gives
+
+wants_holds : (start old : SiteState) (wanted : Next) (new : SiteState) → Holds start old → GivesSite old wanted new → Holds start new
+wants_holds start old wanted new holds gives = news_holds start old.news old wanted new holds gives
 
 -- ---- what it makes of events
 
@@ -151,7 +159,9 @@ heard_holds start (Ok heard) s holds = by heard.datagram
       turns = record { asks = holds.turns.asks; told = holds.turns.told };
       all = λ peer.
           let a = holds.all peer in
-          omega (arith, a, same_count (seat_heard heard.from datagram) (peer_heard heard.from datagram) peer s.active);
+          let from = heard.from in
+          let seats = map (seat_heard from datagram) s.active in
+          omega (arith, a, same_count (seat_heard from datagram) (peer_heard from datagram) peer s.active, sum_heeded (λ (x : Seat). tally (is_of peer x)) from datagram (λ x. refl) (is_known from s.active) seats);
     }
 
 read_holds : (start : SiteState) (ms : ℕ) (s : SiteState) → Holds start s → Holds start (site_read ms s)
@@ -206,9 +216,13 @@ waiting_ends false old new turns (inl (place, s, there, asked, (p, gives, is))) 
     absurd (subst P (at_place (λ x. x.poller.doing ≡ doing.Asks) old.waiting place s turns.asks there) gives)
 waiting_ends false old new turns (inr (none, rests, same)) = (rests.0, rests.1, same)
 
+news_ends : (l : List News) (old new : SiteState) → Turns old → GivesNews l old next.End new → HasEnded old new
+news_ends (news ∷ others) old new turns (told, is) = absurd told
+news_ends [] old new turns (inl (place, s, there, not, acts)) = absurd (act_ends s.poller.doing (noted (record old { active = remove old.active place }) s) s new refl acts)
+news_ends [] old new turns (inr (none, gives)) = waiting_ends old.is_stale old new turns gives
+
 wants_ends : (old new : SiteState) → Turns old → GivesSite old next.End new → HasEnded old new
-wants_ends old new turns (inl (place, s, there, not, acts)) = absurd (act_ends s.poller.doing _ s new refl acts)
-wants_ends old new turns (inr (none, gives)) = waiting_ends old.is_stale old new turns gives
+wants_ends old new turns gives = news_ends old.news old new turns gives
 
 pub begins : (s : SiteState) → IsUnasked s → Holds s s
 begins s (none, asks, untold) = record {

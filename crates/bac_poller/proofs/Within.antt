@@ -7,13 +7,14 @@ use Rattle.std.specs.Str.{bytes_eq}
 use Rattle.bac_link.specs.declared.transactions.Pending.{Pending}
 use Rattle.bac_ports.specs.Port.{Receiving}
 use Rattle.bac_poller.specs.Poller.{is_answer}
-use Rattle.bac_poller.specs.Seat.{given_up, is_at, is_due, is_first, missed, seat_heard, seat_read, without_answer}
+use Rattle.bac_poller.specs.Seat.{given_up, is_at, is_due, is_first, is_known, missed, seat_heard, seat_read, without_answer}
 use Rattle.bac_poller.specs.Site.{IsWithin, SiteState, given, site_heard}
 use Rattle.bac_poller.specs.SiteLaws.{OthersNotHeeded, StaysWithin}
 use Rattle.bac_poller.specs.declared.log_poller.LogPoller.{LogPoller}
 use Rattle.bac_poller.specs.declared.seat.Presence.{Presence}
 use Rattle.bac_poller.specs.declared.seat.Presence.TheVariants.{Doubted, Present, Silent}
 use Rattle.bac_poller.specs.declared.seat.Seat.{Seat}
+use Rattle.bac_poller.proofs.Strays.{length_heeded, sum_heeded}
 
 -- ---- the address stays
 
@@ -86,7 +87,7 @@ other true heard s not = absurd (let e : true ≡ false = not in cc)
 other false heard s not = refl
 
 pub others_not_heeded : OthersNotHeeded
-others_not_heeded = λ from datagram s not. other (is_answer s.poller from datagram) _ s not
+others_not_heeded = λ from datagram s. (λ not. other (is_answer s.poller from datagram) _ s not, refl)
 
 -- ---- the limits
 
@@ -97,7 +98,14 @@ heard_within s within (Ok heard) = by heard.datagram
     by : (o : Option (List ℕ)) → IsWithin (record s { is_stale = true; active = given heard.from o s.active })
     by None = within
     by (Some datagram) =
-        mapped (seat_heard heard.from datagram) (peer_heard heard.from datagram) (none_heard heard.from datagram) s.limits.at_once s.limits.at_host s.limits.most s.active within.0 within.1 within.2
+        let from = heard.from in
+        let known = is_known from s.active in
+        let seats = map (seat_heard from datagram) s.active in
+        let more = mapped (seat_heard from datagram) (peer_heard from datagram) (none_heard from datagram) s.limits.at_once s.limits.at_host s.limits.most s.active within.0 within.1 within.2 in (
+          omega (arith, more.0, sum_heeded (λ (x : Seat). tally (is_first x)) from datagram (λ x. refl) known seats),
+          omega (arith, more.1, length_heeded from datagram known seats),
+          λ peer. let e = more.2 peer in omega (arith, e, sum_heeded (λ (x : Seat). tally (is_at peer x)) from datagram (λ x. refl) known seats),
+        )
 
 pub stays_within : StaysWithin
 stays_within = λ s within. (

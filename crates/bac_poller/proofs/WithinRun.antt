@@ -12,12 +12,15 @@ use Rattle.bac_drive.specs.declared.machine.Next.TheVariants as next
 use Rattle.bac_poller.specs.Counts.{counts_with}
 use Rattle.bac_poller.specs.Poller.{GivesBy}
 use Rattle.bac_poller.specs.Seat.{is_at, is_first, seat_ended}
-use Rattle.bac_poller.specs.Site.{Acts, GivesFrom, GivesWaiting, GoesOn, HasRoom, IsAsked, IsWithin, SiteState, put_by}
+use Rattle.bac_poller.specs.Hosts.{host_at}
+use Rattle.bac_poller.specs.Site.{Acts, GivesFrom, GivesNews, GivesWaiting, GoesOn, HasRoom, IsAsked, IsWithin, SiteState, noted, put_by}
 use Rattle.bac_poller.specs.SiteLaws.{WantsWithin}
+use Rattle.bac_poller.specs.declared.news.News.{News}
 use Rattle.bac_poller.specs.declared.log_poller.Doing.{Doing}
 use Rattle.bac_poller.specs.declared.log_poller.Doing.TheVariants as doing
 use Rattle.bac_poller.specs.declared.log_poller.LogPoller.{LogPoller}
 use Rattle.bac_poller.specs.declared.seat.Seat.{Seat}
+use Rattle.bac_poller.proofs.Places.{limit_most}
 
 abbrev tally : Bool → ℕ
 tally b = cond b 1 0
@@ -130,7 +133,9 @@ room_place old s within (place, room) = record {
     by peer true here =
         let e : take 4 s.poller.peer ≡ take 4 peer = (bytes_eq-Decides (take 4 s.poller.peer) (take 4 peer)).0 here in
         let P : List ℕ → Type 0 = λ h. count_by (λ x. bytes_eq (take 4 x.poller.peer) h) old.active < old.limits.at_host in
-        let less : count_by (is_at peer) old.active < old.limits.at_host = subst P e room in
+        let bound = limit_most old.limits.at_host (host_at s.poller.peer old.hosts) old.limits.some_at_host in
+        let fewer : count_by (is_at s.poller.peer) old.active < old.limits.at_host = omega (arith, room, bound) in
+        let less : count_by (is_at peer) old.active < old.limits.at_host = subst P e fewer in
         let one : tally (is_at peer s) ≡ 1 = ap tally here in
         omega (arith, less, one)
     by peer false here =
@@ -157,6 +162,12 @@ waiting_within true old new wanted within (is_read, same) = let P : SiteState �
 waiting_within false old new wanted within (inl asked) = asked_within old new wanted within asked
 waiting_within false old new wanted within (inr (none, rests, same)) = let P : SiteState → Type 0 = λ x. IsWithin x in subst P (sym same) within
 
+news_within : (l : List News) (old new : SiteState) (wanted : Next) → IsWithin old → GivesNews l old wanted new → IsWithin new
+news_within (news ∷ others) old new wanted within (told, is) = let P : SiteState → Type 0 = λ x. IsWithin x in subst P (sym is) within
+news_within [] old new wanted within (inl (place, s, there, not, acts)) =
+    let p = left_place old place s within there in
+    act_within s.poller.doing (noted (record old { active = remove old.active place }) s) s wanted new (record { first = p.first; few = p.few; each = p.each }) acts
+news_within [] old new wanted within (inr (none, gives)) = waiting_within old.is_stale old new wanted within gives
+
 pub wants_within : WantsWithin
-wants_within old new wanted within (inl (place, s, there, not, acts)) = act_within s.poller.doing _ s wanted new (left_place old place s within there) acts
-wants_within old new wanted within (inr (none, gives)) = waiting_within old.is_stale old new wanted within gives
+wants_within old new wanted within gives = news_within old.news old new wanted within gives

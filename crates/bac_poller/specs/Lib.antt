@@ -4,6 +4,8 @@ pub mod Counts
 pub mod Ending
 pub mod Poller
 pub mod Seat
+pub mod Hosts
+pub mod News
 pub mod Site
 pub mod Laws
 pub mod SiteLaws

@@ -1,5 +1,6 @@
 -- A poll of one log of the device at an address, as a machine. Read `GivesBy` and `Hears`.
-use Rattle.std.specs.Prelude.{◌≡◌, ◌⊎◌, ℕ, ◌-◌, ◌<◌, ◌^◌, ◌&&◌, Bool, nat_le, MatchBool}
+use Rattle.std.specs.Prelude.{◌≡◌, ◌⊎◌, ℕ, ◌-◌, ◌<◌, ◌^◌, ◌==◌, ◌&&◌, ◌||◌, Bool, false, nat_le, nat_lt, MatchBool}
+use Rattle.std.specs.Prelude.{if◌then◌else◌}
 use Rattle.std.specs.Prelude.{List, [], Option, None, Some, Ok, Err, map}
 use Rattle.std.specs.Str.{bytes_eq}
 use Rattle.bac_wire.specs.Primitive as primitive
@@ -9,6 +10,8 @@ use Rattle.bac_link.specs.Exchanges.{verdict_of}
 use Rattle.bac_link.specs.Path.{towards}
 use Rattle.bac_link.specs.Requests.{next_invoke, request_octets}
 use Rattle.bac_link.specs.Transactions.{TimesOut, begun_with, closed, is_awaited}
+use Rattle.bac_link.specs.declared.exchanges.Refusal.{Refusal}
+use Rattle.bac_link.specs.declared.exchanges.Refusal.TheVariants as refusal
 use Rattle.bac_link.specs.declared.exchanges.Verdict.{Verdict}
 use Rattle.bac_link.specs.declared.exchanges.Verdict.TheVariants.{Ack, BadReply, Refused}
 use Rattle.bac_link.specs.declared.transactions.Timeout.{Timeout}
@@ -16,9 +19,10 @@ use Rattle.bac_link.specs.declared.transactions.Timeout.TheVariants.{GaveUp, Res
 use Rattle.bac_walk.specs.declared.outcome.WalkFault.TheVariants as walk
 use Rattle.bac_ports.specs.Port.{Receiving}
 use Rattle.bac_query.specs.Answers.{Tells}
-use Rattle.bac_poll.specs.Poll.{after, after_count, after_restart, after_revision, asked_by_poll}
+use Rattle.bac_poll.specs.DateTime.{undated}
+use Rattle.bac_poll.specs.Poll.{after, after_count, after_restart, after_revision, after_too_many, asked_by_poll}
 use Rattle.bac_poll.specs.State.{PollState}
-use Rattle.bac_poll.specs.Turns.{Turned, ends}
+use Rattle.bac_poll.specs.Turns.{Turned, asks, ends}
 use Rattle.bac_poll.specs.declared.stage.Stage.{Stage}
 use Rattle.bac_poll.specs.declared.stage.Stage.TheVariants as stage
 use Rattle.bac_poll.specs.declared.turn.Line.{Line}
@@ -58,21 +62,36 @@ wanted_at (stage.Back aim) = Records
 wanted_at stage.Revision = Revision
 wanted_at stage.Restart = Restart
 
--- An answer with this verdict, read so, makes this of a poll. A refusal of records ends it; one of a count, or of a
--- part of the word, is an answer.
+-- whether a refusal says that the reply would be too long: Abort 1 (buffer overflow), 4 (segmentation not supported) or
+-- 11 (APDU too long, clause 18.10)
+abbrev pub is_too_long : Refusal → Bool
+is_too_long (refusal.Abort reason) = reason == 1 || (reason == 4 || reason == 11)
+is_too_long (refusal.Error class code) = false
+is_too_long (refusal.Reject reason) = false
+
+-- A refusal of records. If the device can't send so many, the same is asked for half as many, down to one; else the
+-- poll ends.
+abbrev pub refused : PollState → Refusal → Turned
+refused p why =
+    if is_too_long why && nat_lt 1 p.walk.count
+    then asks (after_too_many p)
+    else ends p (Fault (walk.Refused why))
+
+-- An answer with this verdict, read so, makes this of a poll. A refusal of a count, or of a part of the word, is an
+-- answer.
 abbrev pub Answers : PollState → Wanted → Verdict → List ℕ → Turned → Type 0
 Answers p Records Ack datagram t = t ≡ after p datagram
-Answers p Records (Refused refusal) datagram t = t ≡ ends p (Fault (walk.Refused refusal))
+Answers p Records (Refused why) datagram t = t ≡ refused p why
 Answers p Records BadReply datagram t = t ≡ ends p (Fault walk.BadReply)
 Answers p Count Ack datagram t = (count : Option ℕ) × IsCount datagram count × (t ≡ after_count p count)
-Answers p Count (Refused refusal) datagram t = t ≡ after_count p None
+Answers p Count (Refused why) datagram t = t ≡ after_count p None
 Answers p Count BadReply datagram t = t ≡ after_count p None
 Answers p Revision Ack datagram t = (revision : Option ℕ) × IsCount datagram revision × (t ≡ after_revision p revision)
-Answers p Revision (Refused refusal) datagram t = t ≡ after_revision p None
+Answers p Revision (Refused why) datagram t = t ≡ after_revision p None
 Answers p Revision BadReply datagram t = t ≡ after_revision p None
 Answers p Restart Ack datagram t = t ≡ after_restart p (restart_in datagram) (moment_in datagram)
-Answers p Restart (Refused refusal) datagram t = t ≡ after_restart p [] []
-Answers p Restart BadReply datagram t = t ≡ after_restart p [] []
+Answers p Restart (Refused why) datagram t = t ≡ after_restart p [] undated
+Answers p Restart BadReply datagram t = t ≡ after_restart p [] undated
 
 -- what it is at then
 abbrev pub doing_behind : Option PollEnd → Doing

@@ -6,7 +6,7 @@ use Rattle.sqlite_value.specs.Order.{Row as Values}
 use Rattle.sqlite.specs.Values.{or_null}
 use Rattle.bac_archive3.specs.Put.{columns_of, is_new, table_of}
 use Rattle.bac_archive3.specs.declared.row.Put.{Put}
-use Rattle.bac_keep.specs.Items.{key, value_of}
+use Rattle.bac_keep.specs.Items.{key, stamp_text, value_of}
 use Rattle.bac_keep.specs.declared.place.Place.{Place}
 use Rattle.bac_link.specs.declared.item.Item.{Item}
 use Rattle.bac_link.specs.declared.item.Item.TheVariants.{Gap, Logged}
@@ -61,7 +61,7 @@ with_beginning s is_new number why = with_put s (record {
 
 -- of a record, in an era
 abbrev pub record_columns : ℕ → Numbered → Values
-record_columns era held = Int (pos (key era held.number)) ∷ Null ∷ Text (kept_of held).stamp
+record_columns era held = Int (pos (key era held.number)) ∷ Null ∷ Text (stamp_text held.entry)
     ∷ or_null Real (value_of held.entry.datum) ∷ Text (kept_of held).datum ∷ Text (kept_of held).flags ∷ []
 
 -- what the row of a gap says that may be none

@@ -1,10 +1,14 @@
 -- One device of a site, with the poll of one of its logs, and what waits behind it.
-use Rattle.std.specs.Prelude.{◌≡◌, ℕ, ◌+◌, ◌&&◌, nat_le, not, take, Bool, true, false, if◌then◌else◌}
+use Rattle.std.specs.Prelude.{◌≡◌, ℕ, ◌+◌, ◌&&◌, nat_le, nat_lt, not, take, Bool, true, false}
+use Rattle.std.specs.Prelude.{if◌then◌else◌}
 use Rattle.std.specs.Prelude.{List, ◌∷◌, Option, None, Some}
+use Rattle.std.specs.List.{list_any}
 use Rattle.std.specs.Str.{bytes_eq}
-use Rattle.bac_link.specs.Transactions.{closed}
+use Rattle.bac_link.specs.Transactions.{closed, is_awaited}
 use Rattle.bac_link.specs.declared.transactions.Pending.{Pending}
 use Rattle.bac_link.specs.declared.transactions.Timeout.TheVariants.{GaveUp}
+use Rattle.bac_poll.specs.Poll.{after_too_many}
+use Rattle.bac_poll.specs.State.{PollState}
 use Rattle.bac_poll.specs.declared.turn.PollEnd.TheVariants.{CaughtUp, Contradicts, Fault, NoneByNumber, SaysMore}
 use Rattle.bac_poll.specs.declared.turn.PollEnd.TheVariants.{ShowsNone}
 use Rattle.bac_walk.specs.declared.outcome.WalkFault.TheVariants as walk
@@ -52,6 +56,19 @@ seat_heard from datagram s = record s {
   poller = heard_by from datagram s.poller;
   presence = if is_answer s.poller from datagram then Present else s.presence;
 }
+
+-- whether a datagram would answer its open question, if it came from its device
+abbrev pub is_stray : List ℕ → List ℕ → Seat → Bool
+is_stray from datagram s =
+    not (bytes_eq from s.poller.peer) && is_awaited s.poller.transactions.pending datagram
+
+-- whether one of these devices is at an address
+abbrev pub is_known : List ℕ → List Seat → Bool
+is_known from seats = list_any (λ s. bytes_eq s.poller.peer from) seats
+
+-- one came from that address
+abbrev pub noticed : List ℕ → List ℕ → Seat → Seat
+noticed from datagram s = record s { stray = if is_stray from datagram s then Some from else s.stray }
 
 -- ---- what time makes of it
 
@@ -118,9 +135,25 @@ doing_begun Present = doing.Asks
 doing_begun Doubted = doing.Asks
 doing_begun Silent = doing.Ended NotAsked
 
+-- a poll that asks for more records at once than that asks for half as many
+abbrev pub halved : (most : ℕ) → PollState → PollState
+halved most p = if nat_lt most p.walk.count then after_too_many p else p
+
+-- the same three times
+abbrev pub thrice_halved : (most : ℕ) → PollState → PollState
+thrice_halved most p = halved most (halved most (halved most p))
+
+-- and six times, by which even a hundred is one
+abbrev pub lowered : (most : ℕ) → PollState → PollState
+lowered most p = thrice_halved most (thrice_halved most p)
+
+-- The poll of a log asks for no more at once than that of the log before it did in the end.
+abbrev pub begun_poll : LogTask → LogPoller → PollState
+begun_poll task p = lowered p.poll.walk.count task.poll
+
 -- the same device, as another of its logs is polled
 abbrev pub begun : Doing → LogTask → LogPoller → LogPoller
-begun what task p = record p { poll = task.poll; place = task.place; name = task.name; doing = what }
+begun what task p = record p { poll = begun_poll task p; place = task.place; name = task.name; doing = what }
 
 -- a seat as its next log begins, and as it was before
 abbrev pub IsNext : Seat → Seat → Type 0

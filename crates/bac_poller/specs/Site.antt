@@ -1,19 +1,28 @@
 -- The polls of many devices over one port, as a machine. Read `GivesSite`, `site_heard` and `site_read`.
-use Rattle.std.specs.Prelude.{◌≡◌, ◌⊎◌, ℕ, ◌+◌, ◌-◌, ◌<◌, ◌≤◌, min, max, Bool, true, false}
+use Rattle.std.specs.Prelude.{◌≡◌, ◌⊎◌, ℕ, ◌+◌, ◌-◌, ◌<◌, ◌≤◌, ◌&&◌, nat_lt, min, max, Bool, true, false}
+use Rattle.std.specs.Prelude.{if◌then◌else◌}
 use Rattle.std.specs.Prelude.{List, [], ◌∷◌, ◌++◌, All, length, map, remove, slice_get, count_by, Option, None, Some}
 use Rattle.std.specs.Prelude.{Ok, Err}
+use Rattle.bac_poll.specs.Poll.{half_of}
 use Rattle.bac_ports.specs.Port.{Receiving}
 use Rattle.bac_drive.specs.declared.machine.Next.{Next}
 use Rattle.bac_drive.specs.declared.machine.Next.TheVariants as next
 use Rattle.bac_poller.specs.Poller.{GivesBy}
 use Rattle.bac_poller.specs.Counts.{counts_with}
 use Rattle.bac_poller.specs.Ending.{ended_line, is_caught_up}
-use Rattle.bac_poller.specs.Seat.{IsNext, is_at, is_first, is_waiting, seat_ended, seat_heard, seat_read}
+use Rattle.bac_poller.specs.Hosts.{answered_at, host_at, is_answered, is_loss, least_of, limit_of}
+use Rattle.bac_poller.specs.Hosts.{slowed_at, with_limit}
+use Rattle.bac_poller.specs.News.{news_line}
+use Rattle.bac_poller.specs.Seat.{IsNext, is_at, is_first, is_known, is_lost, is_waiting, noticed, seat_ended}
+use Rattle.bac_poller.specs.Seat.{seat_heard, seat_read}
+use Rattle.bac_poller.specs.declared.hosts.Host.{Host}
 use Rattle.bac_poller.specs.declared.limits.Limits.{Limits}
 use Rattle.bac_poller.specs.declared.log_poller.Doing.{Doing}
 use Rattle.bac_poller.specs.declared.log_poller.Doing.TheVariants as doing
 use Rattle.bac_poller.specs.declared.log_poller.Ending.{Ending}
 use Rattle.bac_poller.specs.declared.log_poller.LogPoller.{LogPoller}
+use Rattle.bac_poller.specs.declared.news.News.{News}
+use Rattle.bac_poller.specs.declared.news.News.TheVariants.{Slow, Stray}
 use Rattle.bac_poller.specs.declared.seat.Seat.{Seat}
 
 -- how many are asked at once; the time, and whether it may have passed since; the devices whose question is open or was
@@ -25,18 +34,33 @@ pub record SiteState : Type 0 where
   pub active : List Seat
   pub waiting : List Seat
   pub ended : List Seat
+  pub hosts : List Host  -- where requests were lost
+  pub news : List News  -- what is to be told beside the lines of logs
 
 -- no devices
 abbrev pub fresh_site : Limits → SiteState
 fresh_site limits =
-    record { limits = limits; time = 0; is_stale = true; active = []; waiting = []; ended = [] }
+    record {
+      limits = limits;
+      time = 0;
+      is_stale = true;
+      active = [];
+      waiting = [];
+      ended = [];
+      hosts = [];
+      news = [];
+    }
 
 -- ---- what comes
+
+-- what came from an address where no device is asked is noticed of each whose open question it would answer
+abbrev pub heeded : (known : Bool) → List ℕ → List ℕ → List Seat → List Seat
+heeded known from datagram seats = if known then seats else map (noticed from datagram) seats
 
 -- A datagram came, if it fits one: each poll whose open question it answers has it, and every other one is as it was.
 abbrev pub given : List ℕ → Option (List ℕ) → List Seat → List Seat
 given from None seats = seats
-given from (Some datagram) seats = map (seat_heard from datagram) seats
+given from (Some datagram) seats = heeded (is_known from seats) from datagram (map (seat_heard from datagram) seats)
 
 -- the same of what came while it waited
 abbrev pub site_heard : Receiving → SiteState → SiteState
@@ -57,9 +81,13 @@ site_read ms s = record s {
 abbrev pub HasPlace : SiteState → Type 0
 HasPlace s = (count_by is_first s.active < s.limits.at_once) × (length s.active < s.limits.most)
 
--- one more may be asked at the host of an address
+-- how many requests may be open at the host of an address
+abbrev pub limit_at : SiteState → List ℕ → ℕ
+limit_at s peer = limit_of s.limits.at_host (host_at peer s.hosts)
+
+-- one more may be asked there
 abbrev pub HasPlaceAt : SiteState → List ℕ → Type 0
-HasPlaceAt s peer = count_by (is_at peer) s.active < s.limits.at_host
+HasPlaceAt s peer = count_by (is_at peer) s.active < limit_at s peer
 
 -- the device of a seat may be asked
 abbrev pub HasRoom : SiteState → Seat → Type 0
@@ -71,6 +99,58 @@ IsWithin s =
     (count_by is_first s.active ≤ s.limits.at_once) × (length s.active ≤ s.limits.most)
     × ((peer : List ℕ) → count_by (is_at peer) s.active ≤ s.limits.at_host)
 
+-- ---- slow hosts
+
+-- whether others are asked at the host of an address, beside one whose request was lost
+abbrev pub is_crowded : SiteState → List ℕ → Bool
+is_crowded s peer = nat_lt 0 (count_by (is_at peer) s.active)
+
+-- A request was lost there. If others are open beside it, half as many may be from now on. One that was alone says
+-- nothing of how many its host can bear.
+abbrev pub hosts_lost : SiteState → List ℕ → List Host
+hosts_lost s peer =
+    if is_crowded s peer
+    then with_limit peer (half_of (limit_at s peer)) s.hosts
+    else map (slowed_at peer (limit_at s peer)) s.hosts
+
+-- it is told, if there never were so few
+abbrev pub news_lost : SiteState → List ℕ → List News
+news_lost s peer =
+    if is_crowded s peer
+    && nat_lt (half_of (limit_at s peer)) (least_of s.limits.at_host (host_at peer s.hosts))
+    then Slow peer (half_of (limit_at s peer)) ∷ []
+    else []
+
+-- by what the poll of a device there is at
+abbrev pub hosts_by : Doing → SiteState → List ℕ → List Host
+hosts_by what s peer =
+    if is_loss what
+    then hosts_lost s peer
+    else (if is_answered what then map (answered_at s.limits.at_host peer) s.hosts else s.hosts)
+
+abbrev pub news_by : Doing → SiteState → List ℕ → List News
+news_by what s peer = if is_loss what then news_lost s peer else []
+
+-- from where else an answer came, if its question is lost
+abbrev pub stray_news : List ℕ → Option (List ℕ) → List News
+stray_news peer None = []
+stray_news peer (Some from) = Stray peer from ∷ []
+
+abbrev pub stray_by : Doing → Seat → List News
+stray_by (doing.Ended why) s = if is_lost why then stray_news s.poller.peer s.stray else []
+stray_by doing.Asks s = []
+stray_by (doing.Resends datagram) s = []
+stray_by (doing.Waits left) s = []
+stray_by (doing.Hears datagram) s = []
+stray_by (doing.Tells line end) s = []
+
+-- What a seat, which was asked, and isn't waiting any more, says of its host, and of what came from elsewhere.
+abbrev pub noted : SiteState → Seat → SiteState
+noted s seat = record s {
+  hosts = hosts_by seat.poller.doing s seat.poller.peer;
+  news = s.news ++ (news_by seat.poller.doing s seat.poller.peer ++ stray_by seat.poller.doing seat);
+}
+
 -- ---- where a seat goes
 
 -- until when a send now is waited for
@@ -79,7 +159,8 @@ due_from s = min (s.time + s.limits.wait_ms) 18446744073709551615
 
 -- a seat goes where it belongs, by what its poller is at
 abbrev pub put_by : Doing → SiteState → Seat → SiteState
-put_by doing.Asks s seat = record s { waiting = s.waiting ++ record seat { is_repeated = false } ∷ [] }
+put_by doing.Asks s seat =
+    record s { waiting = s.waiting ++ record seat { is_repeated = false; stray = None } ∷ [] }
 put_by (doing.Waits left) s seat = record s { active = s.active ++ record seat { due = due_from s } ∷ [] }
 put_by (doing.Resends datagram) s seat = record s { active = s.active ++ seat ∷ [] }
 put_by (doing.Hears datagram) s seat = record s { active = s.active ++ seat ∷ [] }
@@ -155,7 +236,7 @@ IsNearest seats due =
 abbrev pub IsActed : SiteState → Next → SiteState → Type 0
 IsActed old wanted new =
     (place : ℕ) × (s : Seat) × (slice_get old.active place ≡ Some s) × (is_waiting s.poller.doing ≡ false)
-    × Acts s.poller.doing (record old { active = remove old.active place }) s wanted new
+    × Acts s.poller.doing (noted (record old { active = remove old.active place }) s) s wanted new
 
 -- the first that waits for its turn and has room is asked
 abbrev pub IsAsked : SiteState → Next → SiteState → Type 0
@@ -174,7 +255,13 @@ abbrev pub GivesWaiting : Bool → SiteState → Next → SiteState → Type 0
 GivesWaiting true old wanted new = (wanted ≡ next.Read) × (new ≡ old)
 GivesWaiting false old wanted new = IsAsked old wanted new ⊎ (NoneAsked old × Rests old wanted × (new ≡ old))
 
+-- what it wants by what is to be told
+abbrev pub GivesNews : List News → SiteState → Next → SiteState → Type 0
+GivesNews (news ∷ others) old wanted new =
+    IsToldBy false (news_line news) wanted × (new ≡ record old { news = others })
+GivesNews [] old wanted new =
+    IsActed old wanted new ⊎ (NoneActs old.active × GivesWaiting old.is_stale old wanted new)
+
 -- What a site wants.
 abbrev pub GivesSite : SiteState → Next → SiteState → Type 0
-GivesSite old wanted new =
-    IsActed old wanted new ⊎ (NoneActs old.active × GivesWaiting old.is_stale old wanted new)
+GivesSite old wanted new = GivesNews old.news old wanted new

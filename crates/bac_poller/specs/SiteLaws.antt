@@ -1,5 +1,6 @@
 -- What a site makes of what comes and of time, whoever answers.
-use Rattle.std.specs.Prelude.{true, false, ◌≡◌, ◌⊎◌, ◌≤◌, ◌&&◌, ◌==◌, nat_lt, is_some, if◌then◌else◌, ℕ, ◌+◌, Bool}
+use Rattle.std.specs.Prelude.{true, false, ◌≡◌, ◌⊎◌, ◌<◌, ◌≤◌, ◌&&◌, ◌==◌, nat_lt, max, is_some, ℕ, ◌+◌, Bool}
+use Rattle.std.specs.Prelude.{if◌then◌else◌}
 use Rattle.std.specs.Prelude.{List, remove, [], ◌∷◌, ◌++◌, map, count_by, sum_by, Option, None, Some}
 use Rattle.std.specs.List.{All, Contains}
 use Rattle.std.specs.Str.{bytes_eq}
@@ -19,8 +20,10 @@ use Rattle.bac_poll.specs.State.{PollState}
 use Rattle.bac_ports.specs.Port.{Receiving, Sending}
 use Rattle.bac_poller.specs.Laws.{Came}
 use Rattle.bac_poller.specs.Poller.{GivesBy, Keeps, is_answer}
-use Rattle.bac_poller.specs.Seat.{begun, doing_begun, heard_by, is_at, is_lost, lost_one, missed, seat_heard}
-use Rattle.bac_poller.specs.Site.{GivesSite, IsNextAsked, IsWithin, SiteState, Tells, fresh_site, site_heard, site_read}
+use Rattle.bac_poller.specs.Seat.{begun, begun_poll, doing_begun, heard_by, is_at, is_lost, lost_one, missed, noticed}
+use Rattle.bac_poller.specs.Seat.{seat_heard}
+use Rattle.bac_poller.specs.Site.{GivesSite, IsNextAsked, IsWithin, SiteState, Tells, fresh_site, limit_at}
+use Rattle.bac_poller.specs.Site.{site_heard, site_read}
 use Rattle.bac_poller.specs.declared.limits.Limits.{Limits}
 use Rattle.bac_poller.specs.declared.log_poller.Doing.TheVariants as doing
 use Rattle.bac_poller.specs.declared.log_poller.Ending.{Ending}
@@ -39,10 +42,11 @@ site_acts sends receives tells =
 
 -- ---- limits
 
--- A datagram changes nothing for a device that it isn't an answer of.
+-- A datagram changes nothing for a device that it isn't an answer of, but that it may be noticed.
 abbrev pub OthersNotHeeded : Type 0
-OthersNotHeeded = (from datagram : List ℕ) (s : Seat) → is_answer s.poller from datagram ≡ false →
-    seat_heard from datagram s ≡ s
+OthersNotHeeded = (from datagram : List ℕ) (s : Seat) →
+    (is_answer s.poller from datagram ≡ false → seat_heard from datagram s ≡ s)
+    × (noticed from datagram s ≡ record s { stray = (noticed from datagram s).stray })
 
 -- What comes, and time, leave no more open than may be.
 abbrev pub StaysWithin : Type 0
@@ -58,6 +62,13 @@ abbrev pub WithinLimits : {P C : Type 0} → Acts SiteState P C → Type 0
 WithinLimits {P = P} {C = C} acts =
     (old new : Scene SiteState P C) (es : List Event) → IsWithin old.machine → Chain (Happens acts) old es new →
     IsWithin new.machine
+
+-- Whatever happens, more are asked at an IP address only where fewer are than the limit that holds there then.
+abbrev pub KeepsToLimits : {P C : Type 0} → Acts SiteState P C → Type 0
+KeepsToLimits {P = P} {C = C} acts =
+    (old new : Scene SiteState P C) (e : Event) (peer : List ℕ) → Happens acts old e new →
+    count_by (is_at peer) new.machine.active
+    ≤ max (count_by (is_at peer) old.machine.active) (limit_at old.machine peer)
 
 -- ---- what is open
 
@@ -234,7 +245,7 @@ LostStopsNone =
     (why : Ending) (old new : SiteState) (s : Seat) (wanted : Next) (task : LogTask) (behind : List LogTask) →
     s.presence ≡ Present → s.logs.items ≡ task ∷ behind → Tells why old s wanted new →
     (t : Seat) × (new.waiting ≡ old.waiting ++ t ∷ []) × (t.poller.peer ≡ s.poller.peer)
-    × (t.poller.poll ≡ task.poll) × (t.poller.doing ≡ doing.Asks) × (t.logs.items ≡ behind)
+    × (t.poller.poll ≡ begun_poll task s.poller) × (t.poller.doing ≡ doing.Asks) × (t.logs.items ≡ behind)
 
 -- ---- each for itself
 
@@ -281,6 +292,13 @@ abbrev pub GoAlone : {P C : Type 0} → Acts SiteState P C → Type 0
 GoAlone {P = P} {C = C} acts =
     (old new : Scene SiteState P C) (es : List Event) → Chain (Happens acts) old es new →
     All (IsGoneOn (seats_of old.machine)) (seats_of new.machine)
+
+-- A device is never asked for more records at once than before: what it couldn't send isn't asked for again, for none
+-- of its logs.
+abbrev pub AsksNoMore : Type 0
+AsksNoMore = (d e : Device) (own : List Own) → 0 < d.poller.poll.walk.count →
+    All (λ (task : LogTask). (0 < task.poll.walk.count) × (task.poll.walk.count ≤ 100)) d.logs →
+    Chain OwnStep d own e → e.poller.poll.walk.count ≤ d.poller.poll.walk.count
 
 -- ---- turns
 

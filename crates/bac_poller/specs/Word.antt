@@ -1,40 +1,31 @@
 -- What a device tells of its restart, as a log's word has it.
-use Rattle.std.specs.Prelude.{ℕ, ◌==◌, ◌&&◌, Bool, if◌then◌else◌, List, [], ◌∷◌, ◌++◌, length, Option, None, Some}
-use Rattle.std.specs.List.{list_any, slice_index}
+use Rattle.std.specs.Prelude.{ℕ, ◌==◌, Bool, if◌then◌else◌, List, [], Option, None, Some}
+use Rattle.std.specs.List.{list_any}
 use Rattle.hex.specs.Hex.{encode_lower}
 use Rattle.bac_link.specs.Datagrams.{apdu_in}
-use Rattle.bac_print.specs.Moments.{day_text, time_text}
 use Rattle.bac_query.specs.Answers.{values_in}
+use Rattle.bac_poll.specs.DateTime.{undated}
+use Rattle.bac_poll.specs.Stamps.{stamped}
+use Rattle.bac_poll.specs.declared.date_time.DateTime.{DateTime}
 
 -- an octet of 255 says that its part is unspecified
 abbrev pub is_unspecified : List ℕ → Bool
 is_unspecified values = list_any (λ octet. octet == 255) values
 
--- a time stamp of the choice dateTime (clause 21): an opening tag 2, a Date, a Time, a closing tag 2
-abbrev pub is_moment : List ℕ → Bool
-is_moment values =
-    (length values == 12) && (slice_index values 0 == 46) && (slice_index values 1 == 164)
-    && (slice_index values 6 == 180) && (slice_index values 11 == 47)
-
--- its date and time, as `log` prints those of a record
-abbrev pub moment_text : List ℕ → List ℕ
-moment_text v =
-    day_text (slice_index v 2 ∷ slice_index v 3 ∷ slice_index v 4 ∷ slice_index v 5 ∷ [])
-    ++ (84 ∷ time_text (slice_index v 7 ∷ slice_index v 8 ∷ slice_index v 9 ∷ slice_index v 10 ∷ []))
-
--- the restart as it is kept, and as a date and time: nothing of one with an unspecified part
+-- the restart as it is kept: nothing of one with an unspecified part
 abbrev pub restart_of : Option (List ℕ) → List ℕ
 restart_of None = []
 restart_of (Some values) = if is_unspecified values then [] else encode_lower values
 
-abbrev pub moment_of : Option (List ℕ) → List ℕ
-moment_of None = []
-moment_of (Some values) =
-    if is_unspecified values then [] else (if is_moment values then moment_text values else [])
+-- the same as a date and time, if it is one
+abbrev pub moment_of : Option (List ℕ) → DateTime
+moment_of None = undated
+moment_of (Some values) = if is_unspecified values then undated else stamped values
 
--- the same of a datagram
+-- the restart that a datagram tells
 abbrev pub restart_in : List ℕ → List ℕ
 restart_in datagram = restart_of (values_in (apdu_in datagram))
 
-abbrev pub moment_in : List ℕ → List ℕ
+-- the same as a date and time
+abbrev pub moment_in : List ℕ → DateTime
 moment_in datagram = moment_of (values_in (apdu_in datagram))

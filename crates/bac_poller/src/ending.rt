@@ -138,7 +138,7 @@ pub fn told_line(alloc: Global, name: &[u8], line: Line) -> Result<Vec<u8>, Allo
 }
 
 /// Appends a number and what is counted.
-fn push_count(text: &mut Vec<u8>, count: u64, one: &[u8], many: &[u8]) -> Result<(), AllocError>
+pub fn push_count(text: &mut Vec<u8>, count: u64, one: &[u8], many: &[u8]) -> Result<(), AllocError>
     ensures { OnOk result (text.new.items ≡ text.old.items ++ counted_text count one.now many.now) }
 {
     push_number(text, count)?;

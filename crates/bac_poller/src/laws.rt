@@ -5,6 +5,7 @@ ghost use Rattle.bac_drive.specs.Happens.{acting};
 ghost use Rattle.bac_poller.specs.Laws.{RowsCame, SendsAsk};
 ghost use Rattle.bac_poller.specs.Poller.{GivesBy, Hears};
 ghost use Rattle.bac_poller.specs.SiteLaws.{AllAreTold, AskInTurn, BeginsUnasked, GoAlone};
+ghost use Rattle.bac_poller.specs.SiteLaws.{AsksNoMore, KeepsToLimits};
 ghost use Rattle.bac_poller.specs.SiteLaws.{OpenWithin, OthersNotHeeded, RepeatsAreMarked};
 ghost use Rattle.bac_poller.specs.SiteLaws.{SiteRowsCame, SiteSendsAsk, StaysWithin, WantsWithin};
 ghost use Rattle.bac_poller.specs.SiteLaws.{LostStopsNone, WaitsOnce, WithinLimits, site_acts};
@@ -48,6 +49,12 @@ pub fn within_limits<P: Port, C: Clock>()
     ensures { WithinLimits (site_acts P.sends P.receives_within C.reads) }
 {}
 
+/// More are asked at an IP address only where fewer are than the limit that holds there then, which
+/// falls where requests are lost.
+pub fn keeps_to_limits<P: Port, C: Clock>()
+    ensures { KeepsToLimits (site_acts P.sends P.receives_within C.reads) }
+{}
+
 /// Whatever happens, never more requests of a site are open than the limits say, and those stay as
 /// they are.
 pub fn open_within<P: Port, C: Clock>()
@@ -89,6 +96,11 @@ pub fn waits_once<P: Port, C: Clock>()
 /// A log that is lost stops no other of its device, if that answered since the one before.
 pub fn lost_stops_none()
     ensures { LostStopsNone }
+{}
+
+/// A device is never asked for more records at once than before, for none of its logs.
+pub fn asks_no_more()
+    ensures { AsksNoMore }
 {}
 
 /// Those that wait for their turn keep their order, and the first of them that has room is asked.

@@ -5,9 +5,11 @@
 mod counts;
 mod datum;
 mod ending;
+mod hosts;
 mod laws;
 mod limits;
 mod log_poller;
+mod news;
 mod polling;
 mod putting;
 mod seat;
@@ -15,13 +17,15 @@ mod site;
 mod word;
 
 pub use counts::Counts;
+pub use hosts::Host;
 pub use laws::{
-    all_are_told, ask_in_turn, begins_unasked, go_alone, lost_stops_none, open_within,
-    others_not_heeded, repeats_are_marked, rows_came, sends_ask, site_rows_came, site_sends_ask,
-    stays_within, waits_once, wants_within, within_limits,
+    all_are_told, ask_in_turn, asks_no_more, begins_unasked, go_alone, keeps_to_limits,
+    lost_stops_none, open_within, others_not_heeded, repeats_are_marked, rows_came, sends_ask,
+    site_rows_came, site_sends_ask, stays_within, waits_once, wants_within, within_limits,
 };
 pub use limits::Limits;
 pub use log_poller::{Doing, Ending, LogPoller, Wanted};
+pub use news::News;
 pub use polling::poll_site;
 pub use seat::{LogTask, Presence, Seat};
 pub use site::SitePoll;

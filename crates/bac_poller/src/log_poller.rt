@@ -6,11 +6,11 @@ ghost use Rattle.bac_link.specs.Exchanges.{verdict_of};
 ghost use Rattle.bac_link.specs.Transactions.{closed, is_awaited};
 ghost use Rattle.bac_poll.specs.Poll.{asked_by_poll};
 ghost use Rattle.bac_poll.specs.State.{PollState};
-ghost use Rattle.bac_poll.specs.Turns.{turned};
+ghost use Rattle.bac_poll.specs.Turns.{asks, turned};
 ghost use Rattle.bac_poller.specs.Poller.{Answers, AsksNext, GivesBy, Hears, IsCount, IsHeard};
 ghost use Rattle.bac_poller.specs.Poller.{IsPlaced};
 ghost use Rattle.bac_poller.specs.Poller.{IsTimedOut, Passes, doing_behind, doing_told, is_answer};
-ghost use Rattle.bac_poller.specs.Poller.{wanted_at};
+ghost use Rattle.bac_poller.specs.Poller.{is_too_long, refused, wanted_at};
 ghost use Rattle.bac_poller.specs.Seat.{heard_by};
 
 use crate::ending::told_line;
@@ -19,8 +19,8 @@ use crate::word::{moment_in, restart_in};
 use bac_archive3::Put;
 use bac_drive::{Machine, Next};
 use bac_keep::Place;
-use bac_link::{Received, Timeout, Transactions, Verdict};
-use bac_poll::{Line, LogPoll, PollEnd, Stage, Turn};
+use bac_link::{Received, Refusal, Timeout, Transactions, Verdict};
+use bac_poll::{DateTime, Line, LogPoll, PollEnd, Stage, Turn};
 use bac_ports::{Heard, SocketFault};
 use bac_query::number_in;
 use bac_walk::WalkFault;
@@ -118,11 +118,21 @@ impl LogPoller {
     {
         match verdict {
             Verdict::Ack => self.poll.take(alloc, datagram),
-            Verdict::Refused(refusal) => {
-                Ok(Turn::ends(PollEnd::Fault(WalkFault::Refused(refusal))))
-            }
+            Verdict::Refused(refusal) => Ok(self.refuse(refusal)),
             Verdict::BadReply => Ok(Turn::ends(PollEnd::Fault(WalkFault::BadReply))),
         }
+    }
+
+    // What a refusal of records makes of it.
+    fn refuse(&mut self, why: Refusal) -> Turn
+        ensures refused { turned self.new.poll result ≡ refused self.old.poll why }
+        ensures rest { self.new ≡ record self.old { poll = self.new.poll } }
+    {
+        if is_too_long(why) && self.poll.count().number() > 1 {
+            self.poll.too_many();
+            return asks();
+        }
+        Turn::ends(PollEnd::Fault(WalkFault::Refused(why)))
     }
 
     // What one to the question for a count makes of it.
@@ -181,16 +191,16 @@ impl LogPoller {
         match verdict {
             Verdict::Ack => {
                 let restart = restart_in(alloc, datagram)?;
-                let moment = moment_in(alloc, datagram)?;
+                let moment = moment_in(datagram);
                 self.poll.hear_restart(alloc, restart, moment)
             }
             Verdict::Refused(_) => {
                 self.poll
-                    .hear_restart(alloc, Vec::new(alloc), Vec::new(alloc))
+                    .hear_restart(alloc, Vec::new(alloc), DateTime::unknown())
             }
             Verdict::BadReply => {
                 self.poll
-                    .hear_restart(alloc, Vec::new(alloc), Vec::new(alloc))
+                    .hear_restart(alloc, Vec::new(alloc), DateTime::unknown())
             }
         }
     }
@@ -320,6 +330,26 @@ impl LogPoller {
             Received::Ignored => false,
         }
     }
+}
+
+// Whether a refusal says that the reply would be too long.
+fn is_too_long(why: Refusal) -> bool
+    ensures { result ≡ is_too_long why }
+{
+    match why {
+        Refusal::Abort(reason) => reason == 1 || reason == 4 || reason == 11,
+        Refusal::Error(_, _) => false,
+        Refusal::Reject(_) => false,
+    }
+}
+
+// The next question is asked, and nothing is brought.
+fn asks() -> Turn
+    ensures { (p : PollState) → turned p result ≡ asks p }
+{
+    let mut turn = Turn::ends(PollEnd::CaughtUp);
+    turn.end = None;
+    turn
 }
 
 // The count that a datagram tells.

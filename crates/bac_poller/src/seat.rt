@@ -1,12 +1,14 @@
 //! One device of a site, with the poll of one of its logs, and what waits behind it.
 
 ghost use Rattle.std.specs.Prelude.{◌≡◌, ◌<◌, [], IfNone, IfOk, IfSome, count_by, length, map};
-ghost use Rattle.bac_link.specs.Transactions.{closed};
+ghost use Rattle.bac_link.specs.Transactions.{closed, is_awaited};
 ghost use Rattle.bac_poller.specs.Counts.{no_counts};
 ghost use Rattle.bac_poller.specs.Ending.{ended_line};
-ghost use Rattle.bac_poller.specs.Seat.{IsNext, begun, doing_begun, given_up, is_at, is_first};
-ghost use Rattle.bac_poller.specs.Seat.{is_lost};
-ghost use Rattle.bac_poller.specs.Seat.{is_waiting, lost_one, missed, seat_ended, seat_heard};
+ghost use Rattle.bac_poller.specs.Seat.{IsNext, begun, doing_begun, given_up, halved, is_at};
+ghost use Rattle.bac_poller.specs.Seat.{is_first};
+ghost use Rattle.bac_poller.specs.Seat.{is_known, is_lost, is_stray, noticed};
+ghost use Rattle.bac_poller.specs.Seat.{is_waiting, lost_one, lowered, missed};
+ghost use Rattle.bac_poller.specs.Seat.{seat_ended, seat_heard, thrice_halved};
 ghost use Rattle.bac_poller.specs.Seat.{seat_read};
 ghost use Rattle.bac_poller.specs.Site.{IsNearest, MayAct, NoneActs};
 
@@ -14,9 +16,9 @@ use crate::counts::Counts;
 use crate::ending::ended_line;
 use crate::log_poller::{Doing, Ending, LogPoller};
 use bac_keep::Place;
-use bac_link::{Timeout, Transactions};
+use bac_link::{Received, Timeout, Transactions};
 use bac_poll::{LogPoll, PollEnd};
-use bac_walk::WalkFault;
+use bac_walk::{Count, WalkFault};
 use bac_wire::Datagram;
 use std::alloc::{AllocError, Global};
 use std::collections::VecDeque;
@@ -66,7 +68,7 @@ impl Presence {
 }
 
 /// Whether the poll of a log ended since its question was lost.
-fn is_lost(why: Ending) -> bool
+pub fn is_lost(why: Ending) -> bool
     ensures { result ≡ is_lost why }
 {
     match why {
@@ -90,6 +92,43 @@ fn close(transactions: &mut Transactions)
     while let Timeout::Resend(_) = transactions.timeout() {}
 }
 
+/// Whether a datagram answers the open request.
+fn awaits(transactions: &Transactions, octets: &[u8]) -> bool
+    ensures { result ≡ is_awaited transactions.now.pending octets.now }
+{
+    let mut copy = transactions.copy();
+    match copy.receive(octets) {
+        Received::Done(_) => true,
+        Received::Ignored => false,
+    }
+}
+
+/// A poll that asks for more records at once than that asks for half as many.
+fn halve(poll: &mut LogPoll, most: Count)
+    ensures { poll.new ≡ halved most poll.old }
+{
+    if poll.count().number() > most.number() {
+        poll.too_many();
+    }
+}
+
+/// The same three times.
+fn halve_thrice(poll: &mut LogPoll, most: Count)
+    ensures { poll.new ≡ thrice_halved most poll.old }
+{
+    halve(poll, most);
+    halve(poll, most);
+    halve(poll, most);
+}
+
+/// A poll asks for no more records at once than so many.
+fn lower(poll: &mut LogPoll, most: Count)
+    ensures { poll.new ≡ lowered most poll.old }
+{
+    halve_thrice(poll, most);
+    halve_thrice(poll, most);
+}
+
 /// A device, and the poll of one of its logs.
 #[derive(Drop)]
 pub struct Seat {
@@ -99,6 +138,8 @@ pub struct Seat {
     /// Whether its question was sent more than once.
     pub is_repeated: bool,
     pub presence: Presence,
+    /// From where else an answer to its question came.
+    pub stray: Option<[u8; 6]>,
     /// What was kept of the log that is polled.
     pub kept: Counts,
     /// The logs behind this one, the next one first.
@@ -126,6 +167,25 @@ impl Seat {
     {
         if self.poller.hear_answer(from, datagram) {
             self.presence = Presence::Present;
+        }
+    }
+
+    /// Whether a datagram would answer its open question, if it came from its device.
+    fn is_stray(&self, from: [u8; 6], datagram: &Datagram) -> bool
+        ensures { result ≡ is_stray from datagram.now self.now }
+    {
+        if from == self.poller.peer {
+            return false;
+        }
+        awaits(&self.poller.transactions, datagram.octets())
+    }
+
+    /// A datagram came from an address where no device is asked.
+    pub fn notice(&mut self, from: [u8; 6], datagram: &Datagram)
+        ensures { self.new ≡ noticed from datagram.now self.old }
+    {
+        if self.is_stray(from, datagram) {
+            self.stray = Some(from);
         }
     }
 
@@ -177,7 +237,8 @@ impl Seat {
         }
     }
 
-    /// Another of its logs is polled, or isn't asked.
+    /// Another of its logs is polled, or isn't asked. What its device couldn't send at once isn't
+    /// asked for again.
     pub fn begin(&mut self, task: LogTask)
         ensures { self.new ≡ record self.old {
           poller = begun (doing_begun self.old.presence) task self.old.poller;
@@ -185,6 +246,8 @@ impl Seat {
         } }
     {
         let LogTask { poll, place, name } = task;
+        let mut poll = poll;
+        lower(&mut poll, self.poller.poll.count());
         self.poller.poll = poll;
         self.poller.place = place;
         self.poller.name = name;
@@ -261,6 +324,22 @@ pub fn hear_all(seats: &mut [Seat], from: [u8; 6], datagram: &Datagram)
 {
     for seat in seats.iter_mut() {
         seat.hear(from, datagram);
+    }
+}
+
+/// Whether one of them is asked at an address.
+pub fn is_known(seats: &[Seat], from: [u8; 6]) -> bool
+    ensures { result ≡ is_known from seats.now }
+{
+    seats.iter().any(|seat| seat.poller.peer == from)
+}
+
+/// A datagram came from an address where none of them is asked.
+pub fn notice_all(seats: &mut [Seat], from: [u8; 6], datagram: &Datagram)
+    ensures { seats.new ≡ map (noticed from datagram.now) seats.old }
+{
+    for seat in seats.iter_mut() {
+        seat.notice(from, datagram);
     }
 }
 

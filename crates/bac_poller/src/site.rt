@@ -1,19 +1,30 @@
 //! The polls of many devices over one port.
 
-ghost use Rattle.std.specs.Prelude.{◌≡◌, ◌↔◌, ◌++◌, ◌∷◌, [], IfNone, IfOk, IfSome, IsTrue, OnOk};
+ghost use Rattle.std.specs.Prelude.{◌≡◌, ◌↔◌, ◌++◌, ◌∷◌, [], Some, false, IfNone, IfOk};
+ghost use Rattle.std.specs.Prelude.{IfSome, IsTrue, OnOk};
 ghost use Rattle.std.specs.Bool.{OnFalse, OnTrue};
+ghost use Rattle.bac_poller.specs.News.{news_line};
 ghost use Rattle.bac_poller.specs.Site.{Acts, GivesFrom, GivesSite, GivesWaiting, GoesOn, HasPlace};
-ghost use Rattle.bac_poller.specs.Site.{HasPlaceAt};
+ghost use Rattle.bac_poller.specs.Site.{GivesNews, HasPlaceAt, hosts_lost, is_crowded, limit_at};
+ghost use Rattle.bac_poller.specs.Site.{given, news_lost, noted, stray_by};
 ghost use Rattle.bac_poller.specs.Site.{IsActed, IsAsked, IsNextAsked, IsToldBy, MayAct, MayAsk};
 ghost use Rattle.bac_poller.specs.Site.{NoneAsked};
 ghost use Rattle.bac_poller.specs.Site.{Rests, Tells, fresh_site, put, site_heard, site_read};
 
 use crate::ending::is_caught_up;
+use crate::hosts::{
+    Host, answer_all, half_of, host_at, is_answered, is_loss, least_of, limit_of, set_limit,
+    slow_all,
+};
 use crate::limits::Limits;
 use crate::log_poller::{Doing, Ending};
-use crate::seat::{Seat, acting, count_at, count_first, hear_all, nearest, read_all};
+use crate::news::{News, news_line};
+use crate::seat::{
+    Seat, acting, count_at, count_first, hear_all, is_known, is_lost, nearest, notice_all, read_all,
+};
 use bac_drive::{Machine, Next};
 use bac_ports::{Heard, SocketFault};
+use bac_wire::Datagram;
 use std::alloc::{AllocError, Global};
 use std::collections::VecDeque;
 use std::marker::Model;
@@ -28,6 +39,10 @@ pub struct SitePoll {
     active: Vec<Seat>,
     waiting: VecDeque<Seat>,
     ended: Vec<Seat>,
+    /// Where requests were lost.
+    hosts: Vec<Host>,
+    /// What is to be told beside the lines of logs.
+    news: VecDeque<News>,
 }
 
 impl Model for SitePoll {
@@ -42,6 +57,8 @@ impl Model for SitePoll {
       active = site.active.items;
       waiting = site.waiting.items;
       ended = site.ended.items;
+      hosts = site.hosts.items;
+      news = site.news.items;
     } };
 }
 
@@ -56,6 +73,14 @@ fn told_by(is_caught_up: bool, line: Vec<u8>) -> Next
     }
 }
 
+/// What is told beside the lines of logs goes to the errors.
+fn warning(alloc: Global, news: News) -> Result<Next, AllocError>
+    ensures { IfOk result (λ next. IsToldBy false (news_line news) next) }
+{
+    let line = news_line(alloc, news)?;
+    Ok(told_by(false, line))
+}
+
 impl SitePoll {
     /// No devices.
     pub fn new(alloc: Global, limits: Limits) -> SitePoll
@@ -68,6 +93,8 @@ impl SitePoll {
             active: Vec::new(alloc),
             waiting: VecDeque::new(alloc),
             ended: Vec::new(alloc),
+            hosts: Vec::new(alloc),
+            news: VecDeque::new(alloc),
         }
     }
 
@@ -80,6 +107,18 @@ impl SitePoll {
         Ok(())
     }
 
+    /// A datagram came from an address.
+    fn hear_from(&mut self, from: [u8; 6], datagram: &Datagram)
+        ensures { self.new
+            ≡ record self.old { active = given from (Some datagram.now) self.old.active } }
+    {
+        let is_known = is_known(self.active.as_slice(), from);
+        hear_all(self.active.as_mut_slice(), from, datagram);
+        if !is_known {
+            notice_all(self.active.as_mut_slice(), from, datagram);
+        }
+    }
+
     /// A datagram came, or none in time.
     fn hear_any(&mut self, heard: Result<Heard, SocketFault>)
         ensures { self.new ≡ site_heard heard self.old }
@@ -88,7 +127,7 @@ impl SitePoll {
         if let Ok(heard) = heard {
             let Heard { from, datagram } = heard;
             if let Some(datagram) = datagram {
-                hear_all(self.active.as_mut_slice(), from, &datagram);
+                self.hear_from(from, &datagram);
             }
         }
     }
@@ -111,11 +150,85 @@ impl SitePoll {
             && self.active.len() < self.limits.most
     }
 
-    /// Whether one more may be asked at the host of an address.
+    /// How many requests may be open at the host of an address.
+    fn limit_at(&self, peer: [u8; 6]) -> usize
+        ensures { result ≡ limit_at self.now peer }
+    {
+        limit_of(self.limits.at_host, host_at(peer, self.hosts.as_slice()))
+    }
+
+    /// Whether one more may be asked there.
     fn has_place_at(&self, peer: [u8; 6]) -> bool
         ensures { IsTrue result ↔ HasPlaceAt self.now peer }
     {
-        count_at(self.active.as_slice(), peer) < self.limits.at_host
+        count_at(self.active.as_slice(), peer) < self.limit_at(peer)
+    }
+
+    /// Whether others are asked there, beside one whose request was lost.
+    fn is_crowded(&self, peer: [u8; 6]) -> bool
+        ensures { result ≡ is_crowded self.now peer }
+    {
+        count_at(self.active.as_slice(), peer) > 0
+    }
+
+    /// It is to be told of a host where a request was lost, if there never were so few.
+    fn note_loss(&mut self, peer: [u8; 6]) -> Result<(), AllocError>
+        ensures { OnOk result (self.new
+            ≡ record self.old { news = self.old.news ++ news_lost self.old peer }) }
+    {
+        let limit = half_of(self.limit_at(peer));
+        let least = least_of(self.limits.at_host, host_at(peer, self.hosts.as_slice()));
+        if self.is_crowded(peer) && limit < least {
+            self.news.push_back(News::Slow(peer, limit))?;
+        }
+        Ok(())
+    }
+
+    /// How many requests may be open where one was lost.
+    fn slow(&mut self, peer: [u8; 6]) -> Result<(), AllocError>
+        ensures { OnOk result (self.new
+            ≡ record self.old { hosts = hosts_lost self.old peer }) }
+    {
+        let limit = self.limit_at(peer);
+        if self.is_crowded(peer) {
+            return set_limit(&mut self.hosts, peer, half_of(limit));
+        }
+        slow_all(self.hosts.as_mut_slice(), peer, limit);
+        Ok(())
+    }
+
+    /// It is to be told from where else an answer came, if a poll's question is lost.
+    fn note_stray(&mut self, seat: &Seat) -> Result<(), AllocError>
+        ensures { OnOk result (self.new ≡ record self.old
+            { news = self.old.news ++ stray_by seat.now.poller.doing seat.now }) }
+    {
+        let Doing::Ended(why) = &seat.poller.doing else {
+            return Ok(());
+        };
+        if !is_lost(*why) {
+            return Ok(());
+        }
+        match seat.stray {
+            Some(from) => self.news.push_back(News::Stray(seat.poller.peer, from))?,
+            None => {}
+        }
+        Ok(())
+    }
+
+    /// What a seat that isn't waiting any more says of its host, and of what came from elsewhere.
+    fn note(&mut self, seat: &Seat) -> Result<(), AllocError>
+        ensures { OnOk result (self.new ≡ noted self.old seat.now) }
+    {
+        let peer = seat.poller.peer;
+        if is_loss(&seat.poller.doing) {
+            self.note_loss(peer)?;
+            self.slow(peer)?;
+            return self.note_stray(seat);
+        }
+        if is_answered(&seat.poller.doing) {
+            answer_all(self.hosts.as_mut_slice(), self.limits.at_host, peer);
+        }
+        Ok(())
     }
 
     /// Whether the one at a place waits for its turn, and its host has room.
@@ -154,6 +267,7 @@ impl SitePoll {
         match &seat.poller.doing {
             Doing::Asks => {
                 seat.is_repeated = false;
+                seat.stray = None;
                 self.waiting.push_back(seat)?;
             }
             Doing::Waits(_) => {
@@ -227,6 +341,7 @@ impl SitePoll {
         ensures { IfOk result (λ next. IsActed self.old next self.new) }
     {
         let seat = self.active.remove(place);
+        self.note(&seat)?;
         self.act(alloc, seat)
     }
 
@@ -265,13 +380,25 @@ impl SitePoll {
         }
     }
 
-    /// What is to be done.
-    fn want(&mut self, alloc: Global) -> Result<Next, AllocError>
-        ensures { IfOk result (λ next. GivesSite self.old next self.new) }
+    /// What is to be done while nothing is to be told.
+    fn poll(&mut self, alloc: Global) -> Result<Next, AllocError>
+        ensures { IfOk result (λ next. GivesNews [] self.old next self.new) }
     {
         match acting(self.active.as_slice()) {
             Some(place) => self.act_at(alloc, place),
             None => self.wait(alloc),
+        }
+    }
+}
+
+impl SitePoll {
+    /// What is to be done.
+    fn want(&mut self, alloc: Global) -> Result<Next, AllocError>
+        ensures { IfOk result (λ next. GivesSite self.old next self.new) }
+    {
+        match self.news.pop_front() {
+            Some(news) => warning(alloc, news),
+            None => self.poll(alloc),
         }
     }
 }

@@ -4,4 +4,6 @@
 #[cfg(test)]
 mod puts;
 #[cfg(test)]
+mod router;
+#[cfg(test)]
 mod site;

@@ -5,7 +5,7 @@ use bac_archive3::Put;
 use bac_drive::{Machine, Next};
 use bac_keep::Place;
 use bac_link::Transactions;
-use bac_poll::{Kept, LogPoll, Standing, Told};
+use bac_poll::{DateTime, Kept, LogPoll, Standing, Told};
 use bac_poller::{Doing, LogPoller};
 use bac_ports::Heard;
 use bac_walk::Count;
@@ -40,8 +40,8 @@ fn text(alloc: Global, from: &str) -> Result<Vec<u8>, AllocError> {
 }
 
 /// A record that is kept.
-fn kept(alloc: Global, number: u32, stamp: &str, datum: &str) -> Result<Kept, AllocError> {
-    let stamp = text(alloc, stamp)?;
+fn kept(alloc: Global, number: u32, stamp: &str, datum: &str) -> Result<Kept, Fail> {
+    let stamp = DateTime::read(stamp).ok_or("no date and time")?;
     let datum = text(alloc, datum)?;
     let flags = text(alloc, "0000")?;
     Ok(Kept {
@@ -53,11 +53,11 @@ fn kept(alloc: Global, number: u32, stamp: &str, datum: &str) -> Result<Kept, Al
 }
 
 /// A log that stands behind 4294967294.
-fn standing(alloc: Global) -> Result<Standing, AllocError> {
+fn standing(alloc: Global) -> Result<Standing, Fail> {
     let newest = kept(alloc, 4_294_967_294, "2026-03-28T23:15:00.00", "25")?;
     let earlier = kept(alloc, 4_294_967_293, "2026-03-28T23:00:00.00", "24")?;
     let earliest = kept(alloc, 4_294_967_292, "2026-03-28T22:45:00.00", "23")?;
-    let stamp = text(alloc, "2026-03-28T23:15:00.00")?;
+    let stamp = Some(newest.stamp);
     Ok(Standing {
         next: 4_294_967_295,
         newest: Some(newest),

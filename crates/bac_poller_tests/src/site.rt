@@ -26,12 +26,22 @@ const SILENT: &[u8] = b"first 1 0 records 0 gaps refused: abort 4, next 1\n\
     silent 12 0 records 0 gaps lost, next 1\n\
     silent 22 0 records 0 gaps not asked, next 1\n";
 
+/// To whom is sent then: a count, and records, seven times, always fewer. The second log of the
+/// first device asks for one at a time.
+const SENDS: [u8; 21] = [
+    1, 2, 2, 3, 1, 3, 1, 3, 1, 3, 1, 3, 1, 3, 1, 3, 1, 3, 1, 1, 2,
+];
+
 /// Those of a device that doesn't answer for some of its logs.
 const LOST: &[u8] = b"third 100 0 records 0 gaps lost, next 1\n\
     third 3 0 records 0 gaps refused: abort 4, next 1\n\
     third 101 0 records 0 gaps lost, next 1\n\
     third 33 0 records 0 gaps refused: abort 4, next 1\n\
     third 102 0 records 0 gaps lost, next 1\n";
+
+/// Those of a device that answers from another port.
+const MOVED: &[u8] = b"moved 4 0 records 0 gaps lost, next 1\n\
+    10.0.0.4:47808: no answer, but one from 10.0.0.4:47809\n";
 
 pub(crate) fn peer(number: u8) -> [u8; 6] {
     [10, 0, 0, number, 0xba, 0xc0]
@@ -61,7 +71,7 @@ fn abort(invoke: u8) -> Option<Datagram> {
 }
 
 /// The first run of the log with an instance.
-fn log(alloc: Global, instance: u32) -> Result<LogPoll, Fail> {
+pub(crate) fn log(alloc: Global, instance: u32) -> Result<LogPoll, Fail> {
     let object = ObjectId::new(20, instance).ok_or("no object")?;
     let device = ObjectId::new(8, 1).ok_or("no device")?;
     let many = Count::new(100).ok_or("no count")?;
@@ -73,7 +83,7 @@ fn log(alloc: Global, instance: u32) -> Result<LogPoll, Fail> {
     }
 }
 
-fn named(alloc: Global, name: &[u8]) -> Result<Vec<u8>, Fail> {
+pub(crate) fn named(alloc: Global, name: &[u8]) -> Result<Vec<u8>, Fail> {
     let mut text = Vec::new(alloc);
     text.extend_from_slice(name)?;
     Ok(text)
@@ -89,7 +99,7 @@ fn task(alloc: Global, instance: u16, name: &[u8]) -> Result<LogTask, Fail> {
 }
 
 /// A device with one log.
-fn seat(alloc: Global, number: u8, instance: u16, name: &[u8]) -> Result<Seat, Fail> {
+pub(crate) fn seat(alloc: Global, number: u8, instance: u16, name: &[u8]) -> Result<Seat, Fail> {
     Ok(Seat {
         poller: LogPoller {
             poll: log(alloc, u32::from(instance))?,
@@ -103,6 +113,7 @@ fn seat(alloc: Global, number: u8, instance: u16, name: &[u8]) -> Result<Seat, F
         due: 0,
         is_repeated: false,
         presence: Presence::Present,
+        stray: None,
         kept: Counts::none(),
         logs: VecDeque::new(alloc),
     })
@@ -135,6 +146,13 @@ fn part(alloc: Global) -> Result<SitePoll, Fail> {
     Ok(site)
 }
 
+/// A device that answers from another port.
+fn moved(alloc: Global) -> Result<SitePoll, Fail> {
+    let mut site = SitePoll::new(alloc, Limits::new(1, 1, 8, 3000));
+    site.add(seat(alloc, 4, 4, b"moved 4")?)?;
+    Ok(site)
+}
+
 /// A site, and what was done of it.
 #[derive(Drop)]
 struct Rig {
@@ -164,13 +182,14 @@ impl Rig {
         }
     }
 
-    /// A datagram is sent. The second device is silent, each other one answers, but for a log from
-    /// 100 on.
+    /// A datagram is sent. The second device is silent, the fourth answers from another port, and
+    /// each other one answers, but for a log from 100 on.
     fn send(&mut self, octets: &[u8], to: [u8; 6]) -> Result<(), AllocError> {
         self.sends.push(to[3])?;
         if to[3] != 2 && instance_in(octets) < 100 {
             self.is_answered = true;
             self.from = to;
+            self.from[5] = if to[3] == 4 { 0xc1 } else { to[5] };
             self.invoke = invoke_in(octets);
         }
         Ok(())
@@ -218,7 +237,7 @@ impl Rig {
 
     /// Drives the site: whether it has ended.
     fn drive(&mut self, alloc: Global) -> Result<bool, AllocError> {
-        for _ in 0..100 {
+        for _ in 0..200 {
             if self.step(alloc)? {
                 return Ok(true);
             }
@@ -232,7 +251,7 @@ fn a_silent_device_is_waited_for_once(rt: HostRuntime) -> Result<(), Fail> {
     let mut rig = Rig::new(rt.alloc(), site(rt.alloc())?);
     let ended = rig.drive(rt.alloc())?;
     assert!(rt; ended);
-    assert!(rt; rig.sends.as_slice() == [1, 2, 2, 3, 1, 3, 1, 1, 2].as_slice());
+    assert!(rt; rig.sends.as_slice() == SENDS.as_slice());
     assert!(rt; rig.printed.as_slice() == SILENT);
     // The beginning of each of the three logs that were answered, by the count alone.
     assert!(rt; rig.rows == 3);
@@ -245,8 +264,19 @@ fn a_log_that_is_lost_stops_no_other(rt: HostRuntime) -> Result<(), Fail> {
     let mut rig = Rig::new(rt.alloc(), part(rt.alloc())?);
     let ended = rig.drive(rt.alloc())?;
     assert!(rt; ended);
-    assert!(rt; rig.sends.as_slice() == [3; 10].as_slice());
+    assert!(rt; rig.sends.as_slice() == [3; 16].as_slice());
     assert!(rt; rig.printed.as_slice() == LOST);
     assert!(rt; rig.ms == 18000);
+    Ok(())
+}
+
+#[test]
+fn an_answer_from_another_port_is_told(rt: HostRuntime) -> Result<(), Fail> {
+    let mut rig = Rig::new(rt.alloc(), moved(rt.alloc())?);
+    let ended = rig.drive(rt.alloc())?;
+    assert!(rt; ended);
+    assert!(rt; rig.sends.as_slice() == [4; 2].as_slice());
+    assert!(rt; rig.printed.as_slice() == MOVED);
+    assert!(rt; rig.ms == 6000);
     Ok(())
 }

@@ -2,7 +2,7 @@ use Rattle.std.proofs.Common.{◌≡◌, ◌∙◌, List, get_or, ap, subst}
 use Rattle.std.proofs.lemmas.Option.{get_or_from_slice_get}
 use Rattle.std.proofs.lemmas.Result.{IfOk-weaker}
 use Rattle.std.specs.List.{remove}
-use Rattle.bac_poller.specs.Site.{Acts, IsActed, SiteState}
+use Rattle.bac_poller.specs.Site.{Acts, IsActed, SiteState, noted}
 use Rattle.bac_poller.specs.declared.seat.Seat.{Seat}
 use Rattle.bac_poller.proofs.site.SitePoll.act_at.Goals as goal
 
@@ -22,12 +22,16 @@ returns c =
       active = c.self.inside.active.items;
       waiting = c.self.inside.waiting.items;
       ended = c.self.inside.ended.items;
+      hosts = c.self.inside.hosts.items;
+      news = c.self.inside.news.items;
     } in
     let mid : SiteState = record view { active = c.remove-seat.new.self.items } in
     let mid_is : mid ≡ less old = ap (λ (l : List Seat). record view { active = l }) c.remove-seat.ensures.items ∙ ap less c.self.view_is in
-    IfOk-weaker c.act.result (λ next. Acts seat.poller.doing mid seat next c.act.new.self) (λ next. IsActed old next c.act.new.self)
+    let half : SiteState = c.note.new.self in
+    let half_is : half ≡ noted (less old) seat = c.in_ok-note.ensures ∙ ap (λ (o : SiteState). noted o seat) mid_is in
+    IfOk-weaker c.act.result (λ next. Acts seat.poller.doing half seat next c.act.new.self) (λ next. IsActed old next c.act.new.self)
     (λ next acts.
-    let P2 : Seat → Type 0 = λ t. Acts t.poller.doing mid t next c.act.new.self in
-    let P3 : SiteState → Type 0 = λ o. Acts s.poller.doing o s next c.act.new.self in
-    (c.args.place, s, there, not, subst P3 mid_is (subst P2 is acts)))
+    let P2 : Seat → Type 0 = λ t. Acts t.poller.doing (noted (less old) t) t next c.act.new.self in
+    let P3 : SiteState → Type 0 = λ o. Acts seat.poller.doing o seat next c.act.new.self in
+    (c.args.place, s, there, not, subst P2 is (subst P3 half_is acts)))
     c.act.ensures

@@ -22,6 +22,8 @@ returns c =
       active = c.self.inside.active.items;
       waiting = c.self.inside.waiting.items;
       ended = c.self.inside.ended.items;
+      hosts = c.self.inside.hosts.items;
+      news = c.self.inside.news.items;
     } in
     let mid : SiteState = record view { waiting = c.remove.new.self.items } in
     let mid_is : mid ≡ less old = ap (λ (l : List Seat). record view { waiting = l }) c.in-Some.ensures.items ∙ ap less c.self.view_is in
