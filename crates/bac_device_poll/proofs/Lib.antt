@@ -2,6 +2,7 @@ mod Asked
 mod Fits
 mod Foreign
 mod LeftOut
+mod LeftOutRuns
 mod Objects
 mod OnlyAsked
 mod RefusedOne

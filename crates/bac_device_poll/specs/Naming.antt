@@ -79,14 +79,17 @@ subject who log (Some source) = if is_own who source.device then source.object e
 
 -- ---- what each answer makes of it
 
+-- its Object_Name, if it tells one
 abbrev pub after_log_name : DeviceState → Id → Option (List ℕ) → Turned
 after_log_name p log name =
     asks (record p { stage = Source log; naming = record p.naming { name = name } }) []
 
+-- what it logs: its Log_DeviceObjectProperty
 abbrev pub after_source : DeviceState → Id → Option Reference → Turned
 after_source p log source =
     asks (record p { stage = Units log; naming = record p.naming { source = source } }) []
 
+-- the units of that
 abbrev pub after_units : DeviceState → Id → Option ℕ → Turned
 after_units p log units =
     asks (record p { stage = Description log; naming = record p.naming { units = units } }) []

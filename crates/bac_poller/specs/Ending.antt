@@ -17,6 +17,7 @@ use Rattle.bac_poller.specs.declared.log_poller.Ending.TheVariants.{Poll, Epochs
 abbrev pub earlier_text : ℕ → List ℕ
 earlier_text count = codes "shown " ++ (decimal count ++ codes " quarter hours earlier")
 
+-- so many later
 abbrev pub later_text : ℕ → List ℕ
 later_text count = codes "shown " ++ (decimal count ++ codes " quarter hours later")
 
@@ -73,6 +74,7 @@ summary_text kept why next =
     ++ (counted_text kept.gaps (codes " gap ") (codes " gaps ")
     ++ (ending_text why ++ (codes ", next " ++ decimal next)))
 
+-- the line of a log whose poll has ended so
 abbrev pub ended_line : List ℕ → Counts → Ending → (next : ℕ) → List ℕ
 ended_line name kept why next = name ++ (32 ∷ (summary_text kept why next ++ 10 ∷ []))
 

@@ -35,6 +35,7 @@ least_of most (Some h) = h.least
 abbrev pub slowed : (limit : ℕ) → Host → Host
 slowed limit h = record h { limit = limit; left = limit; least = min h.least limit }
 
+-- the same of the host of an address, and of no other
 abbrev pub slowed_at : List ℕ → (limit : ℕ) → Host → Host
 slowed_at peer limit h = if is_host peer h then slowed limit h else h
 
@@ -42,6 +43,7 @@ slowed_at peer limit h = if is_host peer h then slowed limit h else h
 abbrev pub new_host : List ℕ → (limit : ℕ) → Host
 new_host peer limit = record { peer = peer; limit = limit; left = limit; least = limit }
 
+-- so many may be open at the host of an address, which may be new
 abbrev pub with_limit : List ℕ → (limit : ℕ) → List Host → List Host
 with_limit peer limit hosts =
     if is_some (host_at peer hosts)
@@ -61,6 +63,7 @@ answered most h =
     then record h { limit = risen most h.limit; left = risen most h.limit }
     else record h { left = h.left - 1 }
 
+-- the same of the host of an address, and of no other
 abbrev pub answered_at : (most : ℕ) → List ℕ → Host → Host
 answered_at most peer h = if is_host peer h then answered most h else h
 

@@ -21,9 +21,11 @@ slow_text peer limit =
 abbrev pub from_text : List ℕ → List ℕ
 from_text from = codes ": no answer, but one from " ++ address_text from
 
+-- the whole of that
 abbrev pub stray_text : List ℕ → List ℕ → List ℕ
 stray_text peer from = address_text peer ++ from_text from
 
+-- what is told, without the end of its line
 abbrev pub news_text : News → List ℕ
 news_text (Slow peer limit) = slow_text peer limit
 news_text (Stray peer from) = stray_text peer from

@@ -26,6 +26,7 @@ pub record PutAs : Type 0 where
   pub is_new : Bool
   pub columns : Values
 
+-- how the archive has it
 abbrev pub put_as : Put → PutAs
 put_as put = record { tree = (table_of put).tree; is_new = is_new put; columns = columns_of put }
 
@@ -43,6 +44,7 @@ none_from place = record { log = place.log; epoch = place.epoch; puts = [] }
 abbrev pub era_of : Puts → ℕ
 era_of s = s.log * 32768 + s.epoch
 
+-- one put more
 abbrev pub with_put : Puts → PutAs → Puts
 with_put s put = record s { puts = s.puts ++ put ∷ [] }
 
@@ -50,6 +52,7 @@ with_put s put = record s { puts = s.puts ++ put ∷ [] }
 abbrev pub with_item : Puts → Values → Puts
 with_item s columns = with_put s (record { tree = 5; is_new = true; columns = columns })
 
+-- the beginning of the epoch, and why it begins
 abbrev pub with_beginning : Puts → (is_new : Bool) → (number : ℕ) → (why : Option (List ℕ)) → Puts
 with_beginning s is_new number why = with_put s (record {
   tree = 6;
@@ -83,6 +86,7 @@ with_epoch s why = with_beginning (record s { epoch = s.epoch + 1 }) true 1 (Som
 abbrev pub with_round : Puts → Puts
 with_round s = with_epoch s (codes "numbers came round")
 
+-- a gap as one row
 abbrev pub with_gap_row : Bool → Puts → (first : ℕ) → (last : ℕ) → Puts
 with_gap_row doubtful s first last = with_item s (gap_columns (era_of s) first last doubtful)
 
@@ -90,6 +94,7 @@ with_gap_row doubtful s first last = with_item s (gap_columns (era_of s) first l
 abbrev pub with_rest : Bool → Puts → (before : ℕ) → Puts
 with_rest doubtful s before = if nat_le before 1 then s else with_gap_row doubtful s 1 (before - 1)
 
+-- a gap up to the number before that, in two epochs where the numbers come round in it
 abbrev pub with_gap : Bool → Puts → (first : ℕ) → (before : ℕ) → Puts
 with_gap doubtful s first before =
     if nat_le before first
@@ -102,12 +107,14 @@ with_gaps doubtful s [] = s
 with_gaps doubtful s (Gap first before ∷ items) = with_gaps doubtful (with_gap doubtful s first before) items
 with_gaps doubtful s (Logged number entry ∷ items) = with_gaps doubtful s items
 
+-- a record, and behind the last number the next epoch
 abbrev pub with_record : Puts → Numbered → Puts
 with_record s held =
     if held.number == 4294967295
     then with_round (with_item s (record_columns (era_of s) held))
     else with_item s (record_columns (era_of s) held)
 
+-- all of them, in their order
 abbrev pub with_records : Puts → List Numbered → Puts
 with_records s [] = s
 with_records s (held ∷ others) = with_records (with_record s held) others
@@ -130,6 +137,7 @@ why_anew (Some (AtHourOrBegan by)) = codes "began anew"
 why_anew (Some (DroppedOrBegan first before)) = codes "began anew"
 why_anew None = codes "began anew"
 
+-- an epoch begins, if the log began anew
 abbrev pub with_anew : Puts → (anew : Bool) → Option Line → Puts
 with_anew s anew line = if anew then with_epoch s (why_anew line) else s
 

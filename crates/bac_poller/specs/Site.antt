@@ -128,6 +128,7 @@ hosts_by what s peer =
     then hosts_lost s peer
     else (if is_answered what then map (answered_at s.limits.at_host peer) s.hosts else s.hosts)
 
+-- the same of what is told
 abbrev pub news_by : Doing → SiteState → List ℕ → List News
 news_by what s peer = if is_loss what then news_lost s peer else []
 
@@ -136,6 +137,7 @@ abbrev pub stray_news : List ℕ → Option (List ℕ) → List News
 stray_news peer None = []
 stray_news peer (Some from) = Stray peer from ∷ []
 
+-- by what the poll is at
 abbrev pub stray_by : Doing → Seat → List News
 stray_by (doing.Ended why) s = if is_lost why then stray_news s.poller.peer s.stray else []
 stray_by doing.Asks s = []
@@ -167,6 +169,7 @@ put_by (doing.Hears datagram) s seat = record s { active = s.active ++ seat ∷ 
 put_by (doing.Tells line end) s seat = record s { active = s.active ++ seat ∷ [] }
 put_by (doing.Ended why) s seat = record s { active = s.active ++ seat ∷ [] }
 
+-- by what its own poller is at
 abbrev pub put : SiteState → Seat → SiteState
 put s seat = put_by seat.poller.doing s seat
 

@@ -89,6 +89,7 @@ abbrev pub was_sent_once : Option Pending → Bool
 was_sent_once None = false
 was_sent_once (Some request) = request.repeats == 0
 
+-- a device whose open request was sent once
 abbrev pub is_open_once : Seat → Bool
 is_open_once s = was_sent_once s.poller.transactions.pending
 
@@ -255,6 +256,7 @@ pub record Device : Type 0 where
   pub presence : Presence
   pub logs : List LogTask
 
+-- the device at a seat
 abbrev pub device_of : Seat → Device
 device_of s = record { poller = s.poller; presence = s.presence; logs = s.logs.items }
 

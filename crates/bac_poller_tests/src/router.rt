@@ -37,7 +37,6 @@ struct Router {
     /// When it has answered the first of them.
     ready: u64,
     ms: u64,
-    sends: usize,
     /// How many rows were put: of each log the beginning, by its count, which is refused.
     rows: usize,
     told: Vec<u8>,
@@ -48,7 +47,6 @@ struct Router {
 impl Router {
     /// A request comes, which it answers behind the others.
     fn send(&mut self, octets: &[u8], to: [u8; 6]) -> Result<(), AllocError> {
-        self.sends = self.sends.saturating_add(1);
         if self.requests.is_empty() {
             self.ready = self.ms.saturating_add(1000);
         }
@@ -140,7 +138,6 @@ fn devices_behind_a_slow_router_are_all_asked(rt: HostRuntime) -> Result<(), Fai
         requests: VecDeque::new(alloc),
         ready: 0,
         ms: 0,
-        sends: 0,
         rows: 0,
         told: Vec::new(alloc),
         refused: 0,
