@@ -170,7 +170,7 @@ text=$(printf 'x%.0s' {1..1400})
 bac wp 127.0.0.1 5 1 85 8 7 "--value=x$text"
 wrong 'a text of 1,401 octets' '--value: a value of the tag: none for 0, else one; bac wp --help has the tags'
 bac wp 127.77.77.77:9 5 1 85 8 7 "--value=$text" --timeout=1 --retries=0
-ended 'a text of 1,400 octets' 2 $'lost\nno answer came from 127.77.77.77:9\n'
+ended 'a text of 1,400 octets' 2 $'lost\nno reply from 127.77.77.77:9\n'
 bac wi 127.0.0.1 --max=5
 wrong '--max alone' '--max: a number from 0 to 4194303, beside --min'
 bac keep a.db --stop

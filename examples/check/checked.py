@@ -9,8 +9,8 @@ from kept_parts import BEGINNINGS, LOGS, begun, copied, fill, names, read, toget
 
 ITEMS = "SELECT id, last FROM items ORDER BY id"
 HOLES = "numbers are missing in it"
-APART = "it doesn't go on where the part before ends"
-FOREIGN = "it is no archive of trend logs, or it got a trigger, foreign key or UNIQUE index"
+APART = "it doesn't begin where the part before it ends"
+FOREIGN = "it isn't a bac archive, or someone added a trigger, foreign key or UNIQUE index to it"
 # A part that has a row is full.
 FULL = ("--part=1",)
 
@@ -124,7 +124,7 @@ def checked(judge, _runs):
     judge.same("an absent file", judge.ran(["check", absent]), no_use(absent, "there is no such file"))
     judge.same("isn't made", os.path.exists(absent), False)
     open(empty, "wb").close()
-    judge.same("an empty file", judge.ran(["check", empty]), no_use(empty, "there is no trend log in it"))
+    judge.same("an empty file", judge.ran(["check", empty]), no_use(empty, "it has no trend logs"))
     judge.same("stays empty", os.path.getsize(empty), 0)
     with contextlib.closing(sqlite3.connect(file, isolation_level=None)) as base:
         base.execute("BEGIN EXCLUSIVE")
@@ -176,7 +176,7 @@ def checked_parts(judge, _runs):
     apart, missing = told(third, APART), told(folder, HOLES)
     checks(judge, "one in the middle is gone", [folder], wanted, told(second, "there is no such file") + apart + missing)
     open(second, "wb").close()
-    checks(judge, "one in the middle has nothing", [folder], wanted, told(second, "there is no trend log in it") + apart + missing)
+    checks(judge, "one in the middle has nothing", [folder], wanted, told(second, "it has no trend logs") + apart + missing)
     removed(second)
     change(second, "CREATE TABLE other (id INTEGER PRIMARY KEY)")
     checks(judge, "one in the middle is another's", [folder], wanted, told(second, FOREIGN) + apart + missing)
@@ -203,4 +203,4 @@ def checked_parts(judge, _runs):
     checks(judge, "a part with a hole", [folder], wanted, missing)
     nothing = f"{judge.room}/nothing"
     os.mkdir(nothing)
-    judge.same("an empty folder", judge.ran(["check", nothing]), no_use(nothing, "there is no trend log in it"))
+    judge.same("an empty folder", judge.ran(["check", nothing]), no_use(nothing, "it has no trend logs"))

@@ -152,7 +152,7 @@ sleep 0.3
 is 'a client that was stopped waits on' "$(kill -0 "$client" 2> /dev/null && echo yes)" yes
 wait "$client"
 is 'and ends as lost' "$? $(cat "$room/err")" "2 lost
-no answer came from $silent"
+no reply from $silent"
 
 # ---- datagrams that are no requests, and forged addresses
 

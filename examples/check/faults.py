@@ -401,7 +401,7 @@ class Peer:
 
 
 UNANSWERED = (
-    b"no answer\naddresses asked: 1; devices that answer by broadcast are heard with --local=0.0.0.0:47808\n"
+    b"no answer\naddresses asked: 1; devices that answer by broadcast are only heard with --local=0.0.0.0:47808\n"
 )
 
 
@@ -418,7 +418,7 @@ def tools_without_memory(program, at, peer):
 
 
 def lost_at(at):
-    return f"lost\nno answer came from {at}\n".encode()
+    return f"lost\nno reply from {at}\n".encode()
 
 
 def unsent_to(at):

@@ -39,7 +39,7 @@ bac wp "$at" 20 1 133 0 1 --value=0
 is 'the logs of a device' "$? $(sed 's/^1 \(.*\) records [1-9][0-9]* of [1-9][0-9]* /1 \1 records N of N /' "$room/out" | tr '\n' ';')$(cat "$room/err")" \
     '0 1 "pump-trend" records N of N enabled false;2 "by-hand" records 1 of 1 enabled false;'
 ../use/logs.sh 127.77.77.77:9 --timeout=100 --retries=0 > "$room/out" 2> "$room/err"
-is 'the logs of nobody' "$? $(cat "$room/out" "$room/err")" $'2 lost\nno answer came from 127.77.77.77:9'
+is 'the logs of nobody' "$? $(cat "$room/out" "$room/err")" $'2 lost\nno reply from 127.77.77.77:9'
 unserved
 
 # ---- completion, in a bash on a terminal
@@ -79,6 +79,7 @@ tools() { sed -nE 's/^  ([a-z]+)  .*/\1/p' bac.help | sort; }
 completed() { bash -c '. ../use/bac.bash; compopt() { :; }; COMP_LINE=$1 COMP_POINT=${#1}; _bac; printf "%s\n" "${COMPREPLY[@]}"' _ "$1"; }
 is 'the tools' "$(completed 'bac ' | grep -v -e -- | sort)" "$(tools)"
 is 'the tools behind help' "$(completed 'bac help ' | sort)" "$(tools | grep -v '^help$')"
+is 'the man page is made of the help' "$(../../docs/man.py | cmp - ../../docs/bac.1 2>&1)" ''
 is 'the tools of the man page' "$(sed -nE 's/^\.B bac ([a-z]+)( .*)?$/\1/p' ../../docs/bac.1 | sort -u)" "$(tools | grep -v '^help$')"
 for tool in wi rp wp log logs keep kept check serve replay; do
     is "the options of $tool" "$(completed "bac $tool --" | tr -d = | sort | tr '\n' ' ')" \

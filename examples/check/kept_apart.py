@@ -6,7 +6,7 @@ from kept_devices import LAST, Device, Log, serve
 from kept_rounds import unheard, why
 
 QUICK = ("--timeout=60", "--retries=0")
-USED_UP = "it began anew, or its numbers came round, 32767 times"
+USED_UP = "this log has restarted 32767 times, the most a file can hold"
 
 
 def line(device, instance, records, end, way=""):
@@ -127,7 +127,7 @@ def dead_devices(judge, _runs):
     judge.same("adds none", in_file(file, "SELECT instance FROM logs"), [])
     dead.answers = 7
     status, out, errors = judge.ran(["keep", f"{judge.room}/c.db", dead.address, *QUICK])
-    judge.same("dead in the midst of its list", (status, out, errors), (2, untold(dead, "lost"), f"{dead.address}: no answer came from {dead.address}\n"))
+    judge.same("dead in the midst of its list", (status, out, errors), (2, untold(dead, "lost"), f"{dead.address}: no reply from {dead.address}\n"))
     # Two devices behind one router have one address.
     behind = Device([Log(1, 50)], "behind", (5, b"\x07"))
     behind.logs[1].log(4)

@@ -312,7 +312,7 @@ def lists_at_once(judge, _runs):
         site[5].answers, asked = answers, site[5].asked
         told, took = timed(judge, f"{judge.room}/silent {answers}.db", *words, "--timeout=400", "--retries=1")
         judge.same(f"silent behind {answers}", told, (2, untold(site[5], "lost") + lines_of(site[:5] + site[6:], 4),
-                                                       f"{site[5].address}: no answer came from {site[5].address}\n"))
+                                                       f"{site[5].address}: no reply from {site[5].address}\n"))
         judge.same(f"silent behind {answers}: how often it is asked", site[5].asked - asked, answers + 2)
         judge.is_right(f"silent behind {answers}: in the time of few", took < 6, took)
     site[5].answers = None
@@ -380,7 +380,7 @@ def silent_lists(judge, _runs):
     for device in dead:
         device.answers = 0
     words = [device.address for device in site]
-    once, lost = "".join(untold(device, "lost") for device in dead), [f"{device.address}: no answer came from {device.address}\n" for device in dead]
+    once, lost = "".join(untold(device, "lost") for device in dead), [f"{device.address}: no reply from {device.address}\n" for device in dead]
     file = f"{judge.room}/a.db"
     # Each is asked twice, and waited for a second each time.
     told, took = timed(judge, file, *words, "--timeout=1000", "--retries=1")
@@ -395,7 +395,7 @@ def silent_lists(judge, _runs):
     judge.same("named twice: how often each is asked", [device.asked for device in dead], [4] * 3)
     # From one something came in the answer's place: it is asked alone, and that is told.
     asked, alive[0].list_ack = alive[0].asked, another_answer
-    came = f"{words[1]}: no answer in 2 tries; 2 datagrams came that don't answer, the last from {words[1]}: an answer, but not to this question\n"
+    came = f"{words[1]}: no reply after 2 attempts; 2 unrelated datagrams arrived, the last from {words[1]}: a reply, but not to this request\n"
     told, _ = timed(judge, f"{judge.room}/b.db", *words, *quick)
     judge.same("something came", told, (2, untold(dead[0], "lost") + untold(alive[0], "lost") + untold(dead[1], "lost") + untold(dead[2], "lost")
                                         + lines_of(alive[1:], 4), lost[0] + came + lost[1] + lost[2]))

@@ -270,7 +270,7 @@ def no_archive(judge, _runs):
     with open(file, "w"):
         pass
     for tool in ("keep", "kept"):
-        judge.same(f"{tool} of an empty file", judge.ran([tool, file]), no_use(file, "there is no trend log in it"))
+        judge.same(f"{tool} of an empty file", judge.ran([tool, file]), no_use(file, "it has no trend logs"))
     judge.is_right("it stays empty", os.path.getsize(file) == 0 and not os.path.exists(f"{file}-wal"), "it isn't")
     judge.same("a device's log", judge.ran(["keep", file, device.address, "1"])[0], 0)
     base = sqlite3.connect(file)
@@ -278,7 +278,7 @@ def no_archive(judge, _runs):
     base.execute("DELETE FROM logs")
     base.commit()
     base.close()
-    judge.same("an archive without logs", judge.ran(["keep", file]), no_use(file, "there is no trend log in it"))
+    judge.same("an archive without logs", judge.ran(["keep", file]), no_use(file, "it has no trend logs"))
 
 
 def far_away(judge, _runs):
@@ -460,7 +460,7 @@ def printed(judge, _runs):
     out = judge.ran(["kept", file, devices[0].address, "2"])[1].splitlines()
     judge.same("the lines of one log", out, lines[lines.index(f"{devices[0].address} 2") + 1 :])
     judge.same("of a log that isn't kept", judge.ran(["kept", file, devices[0].address, "3"]),
-               no_use(file, "it keeps no such trend log"))
+               no_use(file, "it has no such trend log"))
     table = list(csv.reader(io.StringIO(judge.ran(["kept", file, "--csv"])[1], newline="")))
     judge.same("the names of columns", table[0], "address,device,trend_log,name,epoch,number,stamp,value,datum,flags".split(","))
     wanted = [(address, str(devices[0].number), str(instance), name, str(epoch), str(number), stamp, value, f"gap {number} {last}" if last else text, flags)
@@ -549,7 +549,7 @@ def taken_over(judge, _runs):
         base.execute(f"UPDATE logs SET {column} = ? WHERE id = 2", (other,))
         base.commit()
         base.close()
-        wrong = no_use(broken, "a trend log in it has an address that is none")
+        wrong = no_use(broken, "a trend log in it has an invalid address")
         judge.same(f"an address with {name} is refused", judge.ran(["keep", broken]), wrong)
 
 
@@ -607,7 +607,7 @@ def served(judge, _runs):
         right = re.fullmatch(rf"{address} 1 \d+ records? 0 gaps caught up, next \d+\n{address} 2 10 records 0 gaps caught up, next 11\n", site[1])
         judge.is_right("site.sh", site[0] == 0 and right and site[2] == "", site)
         judge.same("a site where nobody answers", site_kept(judge, "127.77.77.77:9\n"),
-                   (2, "", "no answer\naddresses asked: 1; devices that answer by broadcast are heard with --local=0.0.0.0:47808\n"))
+                   (2, "", "no answer\naddresses asked: 1; devices that answer by broadcast are only heard with --local=0.0.0.0:47808\n"))
         site = site_kept(judge, "127.77.77\n")
         judge.is_right("a line of a site that is no address", site[:2] == (1, "") and site[2].startswith("line 1: bad line\n"), site)
         found = judge.ran(["wi", "127.77.77.77:9", address])[1]

@@ -41,13 +41,13 @@ def told_at_once(judge, _runs):
     for device in (first, second):
         judge.ran(["keep", file, device.address, "1"])
     first.number = second.number = number
-    out = line(first, 1, 0, "caught up, next 2") + line(second, 1, 0, f"two devices have the number {number}")
+    out = line(first, 1, 0, "caught up, next 2") + line(second, 1, 0, f"two devices claim instance {number}")
     for name in ("told at once", "and again"):
         judge.same(name, judge.ran(["keep", file]), (3, out, ""))
         judge.same(f"{name}: on record", in_file(file, "SELECT device FROM logs ORDER BY id"), [(number,), (None,)])
     third, _ = one(count=1)
     file = f"{judge.room}/new.db"
-    out = (line(first, 1, 1, "caught up, next 2") + line(second, 1, 0, f"two devices have the number {number}")
+    out = (line(first, 1, 1, "caught up, next 2") + line(second, 1, 0, f"two devices claim instance {number}")
            + line(third, 1, 1, "caught up, next 2"))
     judge.same("a new file", judge.ran(["keep", file, first.address, second.address, third.address]), (3, out, ""))
     judge.same("a new file: on record", in_file(file, "SELECT device FROM logs ORDER BY id"), [(number,), (third.number,)])

@@ -129,7 +129,7 @@ MISPRINTED = (
     ("a log that is caught up is lost", edited("caught up,", "lost,"), list, int),
     ("that a log began anew isn't told", list, without(" began anew"), int),
     ("that it did is told of another", list, edited(r"^\S+ \d+ began", "127.0.0.1:1 1 began"), int),
-    ("why a log is lost isn't told", list, without(": no answer"), int),
+    ("why a log is lost isn't told", list, without(": no reply"), int),
     ("status 0", list, list, lambda _: 0),
 )
 

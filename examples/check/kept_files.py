@@ -7,7 +7,7 @@ import tempfile
 from kept_judge import no_use
 from kept_rounds import one
 
-DENIED = "reading and writing it isn't permitted"
+DENIED = "permission denied"
 
 
 def barred(judge, _runs):
@@ -15,7 +15,7 @@ def barred(judge, _runs):
     device, _log = one(count=2)
     folder, file = f"{judge.room}/plant", f"{judge.room}/a.db"
     os.mkdir(folder)
-    judge.same("kept of an empty folder", judge.ran(["kept", folder]), no_use(folder, "there is no trend log in it"))
+    judge.same("kept of an empty folder", judge.ran(["kept", folder]), no_use(folder, "it has no trend logs"))
     # An archive in parts, of which one isn't a file.
     part = f"{folder}/000001.db"
     os.mkdir(part)

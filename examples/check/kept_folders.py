@@ -62,9 +62,9 @@ def folders(judge, _runs):
     judge.same("each part names its logs", [line for line in lines if line in heads], heads * 3)
     judge.same("and no line is lost", len(lines) - 9, len([row for row in judge.ran(["kept", merged])[1].splitlines() if row not in heads]))
     judge.same("one device", judge.ran(["kept", folder, device.address, "--csv"])[1], out)
-    judge.same("no such log", judge.ran(["kept", folder, device.address, "7"]), no_use(folder, "it keeps no such trend log"))
+    judge.same("no such log", judge.ran(["kept", folder, device.address, "7"]), no_use(folder, "it has no such trend log"))
     judge.same("nor as CSV", judge.ran(["kept", folder, device.address, "7", "--csv"]),
-               (6, head[0] + "\n", no_use(folder, "it keeps no such trend log")[2]))
+               (6, head[0] + "\n", no_use(folder, "it has no such trend log")[2]))
     judge.same("the parts are as they were", [octets(file) for file in files] == before, True)
     judge.same("a log is stopped in the newest part", judge.ran(["keep", folder, device.address, "2", "--stop"]),
                (0, f"{device.address} 2 stopped\n", ""))
@@ -73,14 +73,14 @@ def folders(judge, _runs):
     judge.same("and so it is told", [line for line in stopped if line.startswith(f"{device.address} 2")],
                [f"{device.address} 2"] * 2 + [f"{device.address} 2 stopped"])
     judge.same("one that isn't there", judge.ran(["keep", folder, device.address, "7", "--stop"]),
-               no_use(files[2], "it keeps no such trend log"))
+               no_use(files[2], "it has no such trend log"))
     strangers(judge, folder, out)
     open(f"{folder}/000004.db", "wb").close()
     judge.same("the next one has nothing yet", judge.ran(["kept", folder, "--csv"]), (0, out, ""))
     judge.same("nothing is made of it", os.path.getsize(f"{folder}/000004.db"), 0)
     empty = f"{judge.room}/empty"
     os.mkdir(empty)
-    judge.same("a folder without parts", judge.ran(["kept", empty]), no_use(empty, "there is no trend log in it"))
+    judge.same("a folder without parts", judge.ran(["kept", empty]), no_use(empty, "it has no trend logs"))
     os.chmod(empty, 0)
     if not os.access(empty, os.R_OK):
         judge.same("one that isn't read", judge.ran(["kept", empty])[0], 6)
@@ -105,11 +105,11 @@ def folders_damaged(judge, _runs):
     rows = printed("the second is gone", no_use(second, "there is no such file")[2])
     judge.is_right("the first and the third are there", set(fronts) < set(rows) and rows[-1] == whole[-1])
     open(second, "wb").close()
-    printed("the second is empty", no_use(second, "there is no trend log in it")[2])
+    printed("the second is empty", no_use(second, "it has no trend logs")[2])
     with contextlib.closing(sqlite3.connect(second)) as base:
         base.execute("CREATE TABLE other (id INTEGER PRIMARY KEY)")
         base.commit()
-    printed("the second is another's", no_use(second, "it is no archive of trend logs, or it got a trigger, foreign key or UNIQUE index")[2])
+    printed("the second is another's", no_use(second, "it isn't a bac archive, or someone added a trigger, foreign key or UNIQUE index to it")[2])
     shutil.move(f"{folder}/away", second)
     with contextlib.closing(sqlite3.connect(second, isolation_level=None)) as base:
         base.execute("BEGIN EXCLUSIVE")

@@ -7,7 +7,7 @@ from kept_devices import LAST
 LINE = re.compile(r"(\S+ \d+) (\d+) records? (\d+) gaps? (.+?)(?:, next (\d+))?")
 UNTOLD = re.compile(r"(\S+) didn't tell its Object_List: lost")
 ANEW = re.compile(r"(\S+ \d+) began anew( or its clock was set back)?")
-WHY = re.compile(r"([0-9.]+:\S+ \d+|[0-9.]+:\S+): no answer (came from|in) .*")
+WHY = re.compile(r"([0-9.]+:\S+ \d+|[0-9.]+:\S+): no reply (from|after) .*")
 OTHER = r"another device answers: \d+, not \d+"
 # How the run over a log may end, and with which status.
 ENDS = (("caught up", 0), ("lost", 2), ("not asked", 2), (OTHER, 3), ("step limit", 8))

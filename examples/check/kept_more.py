@@ -6,7 +6,7 @@ from kept_apart import in_file, line, untold
 from kept_devices import LAST, Device, Log, serve
 from kept_rounds import one, said
 
-MORE = "the last reply said that more is there\n"
+MORE = "the device announced more records but sent none\n"
 
 # Each run: what its replies with records say of more items (None: what is so), how many records are new, and its status.
 RUNS = (
@@ -103,10 +103,10 @@ def no_number(ack):
 
 # What a device answers in place of its Object_List, the status, how its line ends, and what is told beside it.
 UNTOLD = (
-    ("lost", lambda ack: None, 2, "lost", "no answer came from {}"),
+    ("lost", lambda ack: None, 2, "lost", "no reply from {}"),
     ("refused", access_denied, 3, "refused: error 2 27", "read access denied"),
-    ("another ACK", other_service, 4, "bad reply", "the reply is no ACK of this request, is in segments, or can't be read"),
-    ("no number", no_number, 4, "bad reply", "the reply is no ACK of this request, is in segments, or can't be read"),
+    ("another ACK", other_service, 4, "bad reply", "the reply doesn't acknowledge this request, is segmented, or can't be read"),
+    ("no number", no_number, 4, "bad reply", "the reply doesn't acknowledge this request, is segmented, or can't be read"),
 )
 
 

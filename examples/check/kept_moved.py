@@ -47,11 +47,11 @@ def moved_line(device, old, new):
 
 
 def both_line(device, old, new):
-    return f"two devices have the number {device.number}: {old} and {new}\n"
+    return f"two devices claim instance {device.number}: {old} and {new}\n"
 
 
 def twice(device):
-    return "".join(line(device, at, 0, f"two devices have the number {device.number}") for at in (1, 2))
+    return "".join(line(device, at, 0, f"two devices claim instance {device.number}") for at in (1, 2))
 
 
 def moved(judge, _runs):
@@ -65,9 +65,9 @@ def moved(judge, _runs):
         device.logs[1].log(1)
         before = tables(file)
         ends = {"nobody": ("lost, next 2", "not asked, next 3"), "another": (f"another device answers: {Device.number}, not {device.number}",) * 2,
-                "one that refuses": (f"the device doesn't tell that it is {device.number}",) * 2}[name]
+                "one that refuses": (f"the device doesn't say that it is {device.number}",) * 2}[name]
         out = "".join(f"{old} {at} 0 records 0 gaps {end}\n" for at, end in enumerate(ends, 1))
-        lost = f"{old} 1: no answer came from {old}\n" if name == "nobody" else ""
+        lost = f"{old} 1: no reply from {old}\n" if name == "nobody" else ""
         judge.same(f"{name} where it was", judge.ran(["keep", file, *SOON]), (2 if name == "nobody" else 3, out, lost))
         judge.same(f"{name} where it was: nothing changes", tables(file), before)
         # A log that it has too is named, of which there was no row.
@@ -168,7 +168,7 @@ def told_later(judge, _runs):
     judge.same("and tells it: on record", in_file(file, rows), [(number, *device.word())] * 2)
     judge.judge("and tells it", file, [device], True)
     device.number = None
-    judge.same("and refuses again", judge.ran(["keep", file])[:2], (3, "".join(line(device, at, 0, f"the device doesn't tell that it is {number}") for at in (1, 2))))
+    judge.same("and refuses again", judge.ran(["keep", file])[:2], (3, "".join(line(device, at, 0, f"the device doesn't say that it is {number}") for at in (1, 2))))
     judge.same("and refuses again: on record", in_file(file, rows), [(number, *device.word())] * 2)
     # It tells the number of another.
     other = Device([Log(1, 50), Log(2, 50)], "untold")

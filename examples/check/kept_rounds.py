@@ -26,7 +26,7 @@ def why(device, instance, text, way=""):
 
 def unheard(device, instance=1, way=""):
     """That of one whose device gave no answer, when nothing else came either."""
-    return why(device, instance, f"no answer came from {device.address}", way)
+    return why(device, instance, f"no reply from {device.address}", way)
 
 
 def epochs_of(file):

@@ -17,7 +17,7 @@ def stopped(judge, _runs):
     asked = first.asked + second.asked + far.asked
     judge.same("stopped", judge.ran(["keep", file, "--stop", first.address]), (0, f"{first.address} 1 stopped\n", ""))
     judge.same("stopped again", judge.ran(["keep", file, first.address, "1", "--stop"]), (0, f"{first.address} 1 stopped\n", ""))
-    missing = no_use(file, "it keeps no such trend log")
+    missing = no_use(file, "it has no such trend log")
     judge.same("the router has no log", judge.ran(["keep", file, "--stop", far.address]), missing)
     judge.same("behind the router", judge.ran(["keep", file, "--stop", far.address, "--dnet=5", "--dadr=07"]),
                (0, f"{far.address}/5/07 1 stopped\n", ""))
@@ -31,7 +31,7 @@ def stopped(judge, _runs):
                [f"{first.address} 1 stopped", f"{second.address} 1", f"{far.address}/5/07 1 stopped"])
     judge.same("what was kept stays", len(lines), 10)
     judge.same("by its instance", judge.ran(["keep", file, "--stop", second.address, "1"]), (0, f"{second.address} 1 stopped\n", ""))
-    judge.same("none is left", judge.ran(["keep", file]), no_use(file, "there is no trend log in it"))
+    judge.same("none is left", judge.ran(["keep", file]), no_use(file, "it has no trend logs"))
     base = sqlite3.connect(f"file:{file}?mode=ro", uri=True)
     judge.same("their rows", base.execute("SELECT id, address, instance, stopped FROM logs ORDER BY id").fetchall(),
                [(1, first.address, 1, 1), (2, second.address, 1, 1), (3, far.address, 1, 1)])

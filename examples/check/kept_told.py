@@ -45,7 +45,7 @@ def told_beside(judge, _runs):
     device.logs[1].log(3)
     file = f"{judge.room}/a.db"
     for name, device.stray, content in STRAYS:
-        text = f"no answer in 2 tries; 2 datagrams came that don't answer, the last from {device.address}: {content}"
+        text = f"no reply after 2 attempts; 2 unrelated datagrams arrived, the last from {device.address}: {content}"
         judge.same(name, judge.ran(["keep", file, device.address, "1", *SOON]),
                    (2, said(device, 0, 0, "lost, next 1"), why(device, 1, text)))
     device.stray = None
@@ -73,7 +73,7 @@ def told_beside(judge, _runs):
     judge.same("lost on the way", judge.ran(["keep", file, "--timeout=60", "--retries=0"])[2], unheard(device))
     device.answers, device.stray = 4, I_AM
     judge.same("strays on the way", judge.ran(["keep", file, *SOON])[2],
-               why(device, 1, f"no answer in 2 tries; 2 datagrams came that don't answer, the last from {device.address}: an I-Am"))
+               why(device, 1, f"no reply after 2 attempts; 2 unrelated datagrams arrived, the last from {device.address}: an I-Am"))
 
 
 def told_among_others(judge, _runs):
@@ -92,9 +92,9 @@ def told_among_others(judge, _runs):
     for name, twisted.whole, sender, content in (
             ("a BVLC-Result", (None, RESULT), twisted.address, "BVLC-Result 0030"),
             ("an Error that is cut", (None, CUT), twisted.address, "it can't be read"),
-            ("an answer from another port", (other, ERROR), elsewhere, f"an answer, but not from {twisted.address}")):
+            ("an answer from another port", (other, ERROR), elsewhere, f"a reply, but not from {twisted.address}")):
         before = twisted.asked, silent.asked
-        text = f"no answer in 2 tries; 2 datagrams came that don't answer, the last from {sender}: {content}"
+        text = f"no reply after 2 attempts; 2 unrelated datagrams arrived, the last from {sender}: {content}"
         told = said(twisted, 0, 0, "lost, next 3"), said(silent, 0, 0, "lost, next 3"), said(alive, 0, 0, "caught up, next 3")
         judge.same(name, judge.ran(["keep", file, *SOON]), (2, "".join(told), why(twisted, 1, text) + unheard(silent)))
         # Another port of their host may be that of either.

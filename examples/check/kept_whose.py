@@ -38,7 +38,7 @@ def other_devices(judge, _runs):
         judge.same(f"and so it is in {view}", in_file(file, f"SELECT DISTINCT device FROM {view}"), [(number,)])
     every = "SELECT * FROM logs", "SELECT * FROM items ORDER BY id", "SELECT * FROM beginnings"
     before = [in_file(file, statement) for statement in every]
-    for other, end in ((number + 1, f"another device answers: {number + 1}, not {number}"), (None, f"the device doesn't tell that it is {number}")):
+    for other, end in ((number + 1, f"another device answers: {number + 1}, not {number}"), (None, f"the device doesn't say that it is {number}")):
         device.number, asked = other, device.asked
         device.logs[1].log(1)
         judge.same(f"{other} answers", judge.ran(["keep", file]), (3, line(device, 1, 0, end) + line(device, 2, 0, end), ""))

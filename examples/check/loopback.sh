@@ -21,19 +21,19 @@ server=
 is 'the server after one datagram' "$status $(cat "$room/served")" "0 serving $at"
 bac rp "$at" 8 123 77 --timeout=100 --retries=1
 is 'nobody is there' "$said" "|lost
-no answer came from $at|2"
+no reply from $at|2"
 bac wp "$at" 5 1 85 8 0 --timeout=100 --retries=0
 is 'nobody is there to write to' "$said" "|lost
-no answer came from $at|2"
+no reply from $at|2"
 bac wi "$at" --timeout=100
 is 'nobody answers' "$said" '|no answer
-addresses asked: 1; devices that answer by broadcast are heard with --local=0.0.0.0:47808|2'
+addresses asked: 1; devices that answer by broadcast are only heard with --local=0.0.0.0:47808|2'
 printf '%s\n' 127.0.0.1:1 '# and' '' "$at" > "$room/list"
 bac wi - --timeout=100 < "$room/list"
 is 'nobody of two answers' "$said" '|no answer
-addresses asked: 2; devices that answer by broadcast are heard with --local=0.0.0.0:47808|2'
+addresses asked: 2; devices that answer by broadcast are only heard with --local=0.0.0.0:47808|2'
 bac log "$at" 1 oldest --timeout=100 --retries=0
-is 'nobody is there to walk' "$said" "lost, next 1|no answer came from $at|2"
+is 'nobody is there to walk' "$said" "lost, next 1|no reply from $at|2"
 # The system sends no broadcast for a program that didn't ask for it.
 bac rp 255.255.255.255 8 123 77 --timeout=100 --retries=1
 is 'nothing can be sent' "$said" '|lost
@@ -51,7 +51,7 @@ is 'an address in use' "$said" '|socket fault
 another socket has the address|2'
 bac wi "$at" --min=124 --timeout=250
 is 'another instance' "$said" '|no answer
-addresses asked: 1; devices that answer by broadcast are heard with --local=0.0.0.0:47808|2'
+addresses asked: 1; devices that answer by broadcast are only heard with --local=0.0.0.0:47808|2'
 
 printf '127.0.0.1:1\r\n%s' "$at" > "$room/list"
 bac wi - --timeout=250 < "$room/list"

@@ -69,18 +69,18 @@ bac wi "$at" --dnet=65535 --timeout=500
 is 'found on all networks' "$said" "I-Am 123 $at net 7 mac 0a01 max-apdu 50 segmentation 3 vendor 0||0"
 bac wi "$at" --dnet=8 --timeout=200
 is 'nobody on another network' "$said" '|no answer
-addresses asked: 1; devices that answer by broadcast are heard with --local=0.0.0.0:47808|2'
+addresses asked: 1; devices that answer by broadcast are only heard with --local=0.0.0.0:47808|2'
 bac wi "$at" --timeout=200
 is 'a router is no device' "$said" '|no answer
-addresses asked: 1; devices that answer by broadcast are heard with --local=0.0.0.0:47808|2'
+addresses asked: 1; devices that answer by broadcast are only heard with --local=0.0.0.0:47808|2'
 bac rp "$at" 8 123 77 "${far[@]}"
 is 'the name of the device' "$said" '"plant"||0'
 bac rp "$at" 8 123 77 --dnet=7 --dadr=0a02 --timeout=100 --retries=1
 is 'another address' "$said" "|lost
-no answer came from $at|2"
+no reply from $at|2"
 bac rp "$at" 8 123 77 --timeout=100 --retries=1
 is 'no way to the device' "$said" "|lost
-no answer came from $at|2"
+no reply from $at|2"
 bac rp "$at" 5 2 85 "${far[@]}"
 is 'a binary value that is not there' "$said" '|refused: error 1 31
 unknown object|3'
@@ -100,7 +100,7 @@ is 'four records' "$(cut -d ' ' -f 1 "$room/out" | head -n 4 | tr '\n' ' ')$(tai
 bac log "$at" 2 1 --steps=3 "${far[@]}"
 is 'three steps' "$(tail -n 1 "$room/out")|${said##*|}" 'step limit, next 4|0'
 bac log "$at" 2 oldest --dnet=8 --dadr=0a01 --timeout=100 --retries=0
-is 'a log on another network' "$said" "lost, next 1|no answer came from $at|2"
+is 'a log on another network' "$said" "lost, next 1|no reply from $at|2"
 "$program" wi "$at" --dnet=7 --timeout=500 > "$room/found"
 bac keep "$room/far.db" - < "$room/found"
 is 'the lines of wi are kept by their way' "$(grep -c "^$at/7/0a01 [12] .* caught up, next" "$room/out")|${said#*|}" '2||0'
@@ -117,6 +117,6 @@ done
 is 'the logs are the same by both ways' "$there" "$here"
 is 'two logs' "$listed" '1 "pump-trend" 2 "by-hand" '
 bac logs "$at" 2 --dnet=7 --dadr=0a02 --timeout=100 --retries=0
-is 'logs at another address' "$said" $'instance\tname\tlogs\tenable\ttype\tinterval\trecords\tbuffer\ttotal\tstop|lost\nno answer came from '"$at|2"
+is 'logs at another address' "$said" $'instance\tname\tlogs\tenable\ttype\tinterval\trecords\tbuffer\ttotal\tstop|lost\nno reply from '"$at|2"
 
 ended

@@ -27,7 +27,7 @@ reason_line why next = why ++ (codes ", next " ++ (decimal next ++ 10 ∷ []))
 
 -- which instance a device told, if any
 unfoldable pub who_text : Option ℕ → List ℕ
-who_text None = codes "the device doesn't tell that it is "
+who_text None = codes "the device doesn't say that it is "
 who_text (Some told) = codes "another device answers: " ++ (decimal told ++ codes ", not ")
 
 -- that it isn't the one on record
@@ -36,7 +36,7 @@ other_line told kept = who_text told ++ (decimal kept ++ 10 ∷ [])
 
 -- that two devices tell one instance
 unfoldable pub twice_text : ℕ → List ℕ
-twice_text told = codes "two devices have the number " ++ decimal told
+twice_text told = codes "two devices claim instance " ++ decimal told
 
 -- the same, a line
 unfoldable pub twice_line : ℕ → List ℕ
@@ -44,14 +44,14 @@ twice_line told = twice_text told ++ 10 ∷ []
 
 -- that it is caught up, and that the device had said otherwise (MORE_ITEMS, clause 15.8.1.2)
 unfoldable pub said_more_lines : ℕ → List ℕ
-said_more_lines next = end_line CaughtUp next ++ codes "the last reply said that more is there\n"
+said_more_lines next = end_line CaughtUp next ++ codes "the device announced more records but sent none\n"
 
 -- why a run over a log ended, and the sequence number that comes next
 unfoldable pub ending_line : Ending → ℕ → List ℕ
 ending_line (Walk why) next = end_line why next
 ending_line SaidMore next = said_more_lines next
 ending_line Back next = reason_line (codes "its numbers went back") next
-ending_line Epochs next = reason_line (codes "it began anew, or its numbers came round, 32767 times") next
+ending_line Epochs next = reason_line (codes "this log has restarted 32767 times, the most a file can hold") next
 ending_line NotAsked next = reason_line (codes "not asked") next
 ending_line (Other told kept) next = other_line told kept
 ending_line (Twice told) next = twice_line told

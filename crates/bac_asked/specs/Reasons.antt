@@ -10,24 +10,24 @@ use Rattle.bac_files.specs.declared.not_opened.Obstacle.TheVariants as barred
 abbrev pub obstacle_text : Obstacle → List ℕ
 obstacle_text barred.Folder = codes "it is a folder"
 obstacle_text barred.NoFolder = codes "there is no such folder"
-obstacle_text barred.NotPermitted = codes "reading and writing it isn't permitted"
+obstacle_text barred.NotPermitted = codes "permission denied"
 obstacle_text barred.TooManyOpen = codes "too many files are open"
 
 -- the reason, in the words that tell it
 abbrev pub file_reason : FileFault → List ℕ
 file_reason (file.Barred obstacle) = obstacle_text obstacle
-file_reason file.Foreign = codes "it is no archive of trend logs, or it got a trigger, foreign key or UNIQUE index"
+file_reason file.Foreign = codes "it isn't a bac archive, or someone added a trigger, foreign key or UNIQUE index to it"
 file_reason file.First = codes "it is an archive of version 1, and version 2 is read"
 file_reason file.Version = codes "it is an archive of another version"
 file_reason file.Memory = codes "out of memory"
 file_reason file.Absent = codes "there is no such file"
-file_reason file.NoLog = codes "it keeps no such trend log"
-file_reason file.NoLogs = codes "there is no trend log in it"
-file_reason file.Overlap = codes "its items lie over one another"
-file_reason file.Orphan = codes "it has items of no trend log, or of an epoch without a beginning"
+file_reason file.NoLog = codes "it has no such trend log"
+file_reason file.NoLogs = codes "it has no trend logs"
+file_reason file.Overlap = codes "some of its records overlap"
+file_reason file.Orphan = codes "it has records of no trend log, or of an epoch without a beginning"
 file_reason file.Full = codes "it has 65535 trend logs"
-file_reason file.Address = codes "a trend log in it has an address that is none"
-file_reason file.Apart = codes "it doesn't go on where the part before ends"
+file_reason file.Address = codes "a trend log in it has an invalid address"
+file_reason file.Apart = codes "it doesn't begin where the part before it ends"
 file_reason file.Holes = codes "numbers are missing in it"
 file_reason other = codes "the database failed"
 

@@ -171,18 +171,18 @@ impl FileFault {
         match self {
             FileFault::Barred(obstacle) => obstacle_text(obstacle),
             FileFault::Foreign =>
-                "it is no archive of trend logs, or it got a trigger, foreign key or UNIQUE index",
+                "it isn't a bac archive, or someone added a trigger, foreign key or UNIQUE index to it",
             FileFault::First => "it is an archive of version 1, and version 2 is read",
             FileFault::Version => "it is an archive of another version",
             FileFault::Memory => "out of memory",
             FileFault::Absent => "there is no such file",
-            FileFault::NoLog => "it keeps no such trend log",
-            FileFault::NoLogs => "there is no trend log in it",
-            FileFault::Overlap => "its items lie over one another",
-            FileFault::Orphan => "it has items of no trend log, or of an epoch without a beginning",
+            FileFault::NoLog => "it has no such trend log",
+            FileFault::NoLogs => "it has no trend logs",
+            FileFault::Overlap => "some of its records overlap",
+            FileFault::Orphan => "it has records of no trend log, or of an epoch without a beginning",
             FileFault::Full => "it has 65535 trend logs",
-            FileFault::Address => "a trend log in it has an address that is none",
-            FileFault::Apart => "it doesn't go on where the part before ends",
+            FileFault::Address => "a trend log in it has an invalid address",
+            FileFault::Apart => "it doesn't begin where the part before it ends",
             FileFault::Holes => "numbers are missing in it",
             _ => "the database failed",
         }
@@ -203,7 +203,7 @@ fn obstacle_text<'a>(obstacle: Obstacle) -> &'a str
     match obstacle {
         Obstacle::Folder => "it is a folder",
         Obstacle::NoFolder => "there is no such folder",
-        Obstacle::NotPermitted => "reading and writing it isn't permitted",
+        Obstacle::NotPermitted => "permission denied",
         Obstacle::TooManyOpen => "too many files are open",
     }
 }

@@ -91,7 +91,7 @@ fn push_who(text: &mut Vec<u8>, told: Option<u32>) -> Result<(), AllocError>
 {
     match told {
         Some(told) => push_between(text, b"another device answers: ", told, b", not "),
-        None => text.extend_from_slice(b"the device doesn't tell that it is "),
+        None => text.extend_from_slice(b"the device doesn't say that it is "),
     }
 }
 
@@ -110,7 +110,7 @@ fn push_other(text: &mut Vec<u8>, told: Option<u32>, kept: u32) -> Result<(), Al
 fn push_number_of_two(text: &mut Vec<u8>, told: u32) -> Result<(), AllocError>
     ensures { OnOk result (text.new.items ≡ text.old.items ++ twice_text told) }
 {
-    text.extend_from_slice(b"two devices have the number ")?;
+    text.extend_from_slice(b"two devices claim instance ")?;
     push_number(text, u64::from(told))
 }
 
@@ -129,7 +129,7 @@ fn push_said_more(text: &mut Vec<u8>, next: u32) -> Result<(), AllocError>
     ensures { OnOk result (text.new.items ≡ text.old.items ++ said_more_lines next) }
 {
     push_end(text, Why::CaughtUp, next)?;
-    text.extend_from_slice(b"the last reply said that more is there\n")
+    text.extend_from_slice(b"the device announced more records but sent none\n")
 }
 
 /// Appends why a run over a log ended, and the number that comes next.
@@ -143,7 +143,7 @@ fn push_ending(text: &mut Vec<u8>, why: Ending, next: u32) -> Result<(), AllocEr
         Ending::Back => push_reason(text, b"its numbers went back", next),
         Ending::Epochs => push_reason(
             text,
-            b"it began anew, or its numbers came round, 32767 times",
+            b"this log has restarted 32767 times, the most a file can hold",
             next,
         ),
         Ending::NotAsked => push_reason(text, b"not asked", next),

@@ -47,7 +47,7 @@ unlisted_status (device ∷ more) = max (fault_status device.why) (unlisted_stat
 unfoldable pub cause_of : Passed → List ℕ → ExchangeFault → List ℕ
 cause_of passed address Lost = silence_text address passed
 cause_of passed address (Refused refusal) = cause_text refusal
-cause_of passed address BadReply = codes "the reply is no ACK of this request, is in segments, or can't be read"
+cause_of passed address BadReply = codes "the reply doesn't acknowledge this request, is segmented, or can't be read"
 cause_of passed address TooLong = codes "the request is too long"
 
 -- the same behind the device, a line

@@ -77,7 +77,7 @@ fn push_cause_of(
         ExchangeFault::Lost => push_silence(text, address, passed),
         ExchangeFault::Refused(refusal) => push_cause(text, refusal),
         ExchangeFault::BadReply => text.extend_from_slice(
-            b"the reply is no ACK of this request, is in segments, or can't be read",
+            b"the reply doesn't acknowledge this request, is segmented, or can't be read",
         ),
         ExchangeFault::TooLong => text.extend_from_slice(b"the request is too long"),
     }

@@ -34,7 +34,7 @@ unconfirmed_text service =
 -- an answer that isn't the one, from the device that was asked or from another sender
 unfoldable pub answer_text : List ℕ → Bool → List ℕ
 answer_text address own =
-    if own then codes "an answer, but not to this question" else codes "an answer, but not from "
+    if own then codes "a reply, but not to this request" else codes "a reply, but not from "
     ++ address_text address
 
 -- what a datagram is, for one who waits for an answer from an address
@@ -55,8 +55,8 @@ stray_text address stray =
 
 -- what helps where as many datagrams came to each try as it may take
 abbrev pub advice : List ℕ
-advice = codes "; 16 datagrams end a try: --retries=10 takes more, and fewer come to a port of its own, as "
-    ++ codes "with --local=0.0.0.0:50000"
+advice = codes "; an attempt ends after 16 datagrams: use --retries=10, or a port with less traffic, such as "
+    ++ codes "--local=0.0.0.0:50000"
 
 -- that, if it was so
 unfoldable pub full_text : Passed → List ℕ
@@ -64,8 +64,8 @@ full_text passed = if passed.full == passed.tries then advice else []
 
 -- how many tries there were, and how many datagrams came
 unfoldable pub counts_text : Passed → List ℕ
-counts_text passed = codes "no answer in " ++ (counted passed.tries (codes " try; ") (codes " tries; ")
-    ++ counted passed.came (codes " datagram came that doesn't answer") (codes " datagrams came that don't answer"))
+counts_text passed = codes "no reply after " ++ (counted passed.tries (codes " attempt; ") (codes " attempts; ")
+    ++ counted passed.came (codes " unrelated datagram arrived") (codes " unrelated datagrams arrived"))
 
 -- the same, and who sent the last of them and what it is
 unfoldable pub strays_text : List ℕ → Passed → Stray → List ℕ
@@ -74,14 +74,14 @@ strays_text address passed stray =
 
 -- what came, if anything did
 unfoldable pub waited_text : List ℕ → Passed → Option Stray → List ℕ
-waited_text address passed None = codes "no answer came from " ++ address_text address
+waited_text address passed None = codes "no reply from " ++ address_text address
 waited_text address passed (Some stray) = strays_text address passed stray
 
 -- whether a question could never be sent
 abbrev pub is_unsent : Passed → Bool
 is_unsent passed = (passed.tries == 0) && not (passed.unsent == 0)
 
--- that no answer came from an address, and what passed since the question was first sent
+-- that no reply came from an address, and what passed since the question was first sent
 unfoldable pub silence_text : List ℕ → Passed → List ℕ
 silence_text address passed =
     if is_unsent passed then codes "nothing could be sent to " ++ address_text address

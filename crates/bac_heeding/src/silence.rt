@@ -15,8 +15,8 @@ use std::alloc::AllocError;
 
 /// What helps where as many datagrams came to each try as it may take.
 const ADVICE: &str =
-    "; 16 datagrams end a try: --retries=10 takes more, and fewer come to a port of its own, as \
-     with --local=0.0.0.0:50000";
+    "; an attempt ends after 16 datagrams: use --retries=10, or a port with less traffic, such as \
+     --local=0.0.0.0:50000";
 
 /// Appends a number and what is counted.
 #[tactic(auto, unfolding(crate::specs::Silence::counted))]
@@ -99,9 +99,9 @@ fn push_answer(text: &mut Vec<u8>, address: [u8; 6], own: bool) -> Result<(), Al
     ensures { OnOk result (text.new.items ≡ text.old.items ++ answer_text address own) }
 {
     if own {
-        text.extend_from_slice(b"an answer, but not to this question")
+        text.extend_from_slice(b"a reply, but not to this request")
     } else {
-        push_said(text, "an answer, but not from ", address)
+        push_said(text, "a reply, but not from ", address)
     }
 }
 
@@ -158,13 +158,13 @@ fn push_full(text: &mut Vec<u8>, passed: Passed) -> Result<(), AllocError>
 fn push_counts(text: &mut Vec<u8>, passed: Passed) -> Result<(), AllocError>
     ensures { OnOk result (text.new.items ≡ text.old.items ++ counts_text passed) }
 {
-    text.extend_from_slice(b"no answer in ")?;
-    push_count(text, passed.tries, " try; ", " tries; ")?;
+    text.extend_from_slice(b"no reply after ")?;
+    push_count(text, passed.tries, " attempt; ", " attempts; ")?;
     push_count(
         text,
         passed.came,
-        " datagram came that doesn't answer",
-        " datagrams came that don't answer",
+        " unrelated datagram arrived",
+        " unrelated datagrams arrived",
     )
 }
 
@@ -191,7 +191,7 @@ fn is_unsent(passed: Passed) -> bool
     passed.tries == 0 && passed.unsent != 0
 }
 
-/// Appends that no answer came from an address, and what passed since the question was first sent.
+/// Appends that no reply came from an address, and what passed since the question was first sent.
 #[tactic(auto, unfolding(crate::specs::Silence::silence_text, crate::specs::Silence::waited_text))]
 pub fn push_silence(text: &mut Vec<u8>, address: [u8; 6], passed: Passed) -> Result<(), AllocError>
     ensures { OnOk result (text.new.items ≡ text.old.items ++ silence_text address passed) }
@@ -201,6 +201,6 @@ pub fn push_silence(text: &mut Vec<u8>, address: [u8; 6], passed: Passed) -> Res
     }
     match passed.last {
         Some(stray) => push_strays(text, address, passed, stray),
-        None => push_said(text, "no answer came from ", address),
+        None => push_said(text, "no reply from ", address),
     }
 }

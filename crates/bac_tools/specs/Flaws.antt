@@ -14,8 +14,8 @@ in_all records after = around (codes "the reply has records, ") records after
 
 -- each flaw
 unfoldable pub reply_text : ReplyFlaw → List ℕ
-reply_text flaw.NotComplex = codes "the reply is no ComplexACK; ReadRange was asked for"
-reply_text flaw.Segmented = codes "the reply is in segments, which aren't put together"
+reply_text flaw.NotComplex = codes "the reply isn't a ComplexACK, as a ReadRange needs"
+reply_text flaw.Segmented = codes "the reply is segmented, which bac doesn't support"
 reply_text (flaw.Service service) =
     around (codes "the reply is the ACK of service ") service (codes "; ReadRange is 26")
 reply_text flaw.Parameters = codes "the reply's parameters aren't those of an ACK of ReadRange"

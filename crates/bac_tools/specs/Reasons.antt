@@ -164,7 +164,7 @@ second_line (Some reason) = 10 ∷ reason_text reason
 abbrev pub unanswered_text : ℕ → List ℕ
 unanswered_text asked =
     ((codes "no answer" ++ 10 ∷ []) ++ (codes "addresses asked: " ++ decimal asked))
-    ++ codes "; devices that answer by broadcast are heard with --local=0.0.0.0:47808"
+    ++ codes "; devices that answer by broadcast are only heard with --local=0.0.0.0:47808"
 
 -- a line of a list of addresses is bad, and why
 abbrev pub listed_badly : ℕ → List ℕ → List ℕ

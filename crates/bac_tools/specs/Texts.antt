@@ -108,7 +108,7 @@ of_address line said address = (line ++ 10 ∷ []) ++ (said ++ address_text addr
 -- the reply to one question doesn't serve
 abbrev pub bad_reply : List ℕ
 bad_reply =
-    (codes "bad reply" ++ 10 ∷ []) ++ codes "the reply is no ACK of this request, is in segments, or can't be read"
+    (codes "bad reply" ++ 10 ∷ []) ++ codes "the reply doesn't acknowledge this request, is segmented, or can't be read"
 
 -- the answer to one question to an address didn't come, and what passed since the question was first sent
 abbrev pub lost_text : Passed → List ℕ → List ℕ
@@ -172,7 +172,7 @@ told_text fault = told_after nothing fault
 
 -- its device contradicts itself, a line
 abbrev pub more_line : List ℕ
-more_line = codes "the last reply said that more is there" ++ 10 ∷ []
+more_line = codes "the device announced more records but sent none" ++ 10 ∷ []
 
 -- ---- serving
 

@@ -45,7 +45,7 @@ pub enum Fault {
     },
     /// This is wrong with the reply that ended a walk; that it was a bad one is on the output.
     Flawed(ReplyFlaw),
-    /// A walk ended since no answer came from this address; that it was lost is on the output.
+    /// A walk ended since no reply came from this address; that it was lost is on the output.
     Silent([u8; 6]),
     /// A walk ended since its device refused so; that it did is on the output.
     Declined(Refusal),

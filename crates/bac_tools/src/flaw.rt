@@ -119,10 +119,10 @@ pub(crate) fn push_reply_flaw(text: &mut Vec<u8>, flaw: ReplyFlaw) -> Result<(),
 {
     match flaw {
         ReplyFlaw::NotComplex => {
-            text.extend_from_slice(b"the reply is no ComplexACK; ReadRange was asked for")
+            text.extend_from_slice(b"the reply isn't a ComplexACK, as a ReadRange needs")
         }
         ReplyFlaw::Segmented => {
-            text.extend_from_slice(b"the reply is in segments, which aren't put together")
+            text.extend_from_slice(b"the reply is segmented, which bac doesn't support")
         }
         ReplyFlaw::Service(service) => push_service(text, service),
         ReplyFlaw::Parameters => {

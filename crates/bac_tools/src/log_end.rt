@@ -53,6 +53,6 @@ pub(crate) fn say_more<E: Write>(said_more: bool, errors: &mut E)
     ensures { SaysMore said_more (E.contents errors.old) (E.contents errors.new) }
 {
     if said_more {
-        say(b"the last reply said that more is there\n", errors);
+        say(b"the device announced more records but sent none\n", errors);
     }
 }

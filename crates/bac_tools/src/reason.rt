@@ -316,7 +316,7 @@ pub(crate) fn push_unanswered(text: &mut Vec<u8>, asked: usize) -> Result<(), Al
     text.extend_from_slice(b"no answer\n")?;
     push_numbered(text, "addresses asked: ", asked)?;
     text.extend_from_slice(
-        b"; devices that answer by broadcast are heard with --local=0.0.0.0:47808",
+        b"; devices that answer by broadcast are only heard with --local=0.0.0.0:47808",
     )
 }
 

@@ -24,15 +24,21 @@ fn top<'a>(alloc: Global) -> Command<'a>
         .subcommand_required(true)
         .after_help(
             "Example: bac wi 192.168.1.20
-prints the device at that address; bac rp, bac wp and bac log then speak to it.
-bac keep keeps trend logs in a database file, each record once.
-bac help log, or bac log --help, tells what a tool takes, with an example.
+prints the device at that address; bac rp, bac wp and bac log then talk to it.
+bac keep polls trend logs into a database file, each record once.
+bac help log, or bac log --help, has the arguments of a tool, and an example.
 
-Status: 0 done, 1 usage, a bad value or a bad script, 2 no answer, or a read,
-write or socket fault, 3 refused by the device, 4 bad reply, 5 out of memory;
-of bac keep, bac kept and bac check also 6 the file isn't an archive, can't be
-read or written, is full, or lacks numbers, 7 another program has it open; of
-bac keep and bac log --csv also 8 a step limit.",
+Exit status:
+  0  done
+  1  usage, a bad value or a bad script
+  2  no reply, or a read, write or socket fault
+  3  refused by the device
+  4  bad reply
+  5  out of memory
+  6  keep, kept, check: the file isn't an archive, can't be read or written,
+     is full, or lacks numbers
+  7  keep, kept, check: another program has the file open
+  8  keep, log --csv: a step limit",
         )
 }
 

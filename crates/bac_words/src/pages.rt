@@ -39,8 +39,8 @@ macro_rules! with_refusals {
             6 insufficient security; 7 window size out of range;
             8 application exceeded reply time; 9 out of resources;
             10 TSM timeout; 11 APDU too long
-After abort 1, 4 or 11 the answer is too long for one datagram: --index=0 and on
-reads an array in parts, --count=20 a log."
+After abort 1, 4 or 11 the reply is too long for one datagram: read an array in
+parts, with --index=0 and on, and a log with --count=20."
         )
     };
 }
@@ -52,7 +52,7 @@ macro_rules! with_numbers {
             $example,
             "
 
-The numbers that are typed and printed, 'error' with its class and its code:
+The numbers in arguments and output, 'error' with its class and its code:
 
   TYPE      0, 1, 2 Analog Input, Output, Value; 3, 4, 5 Binary Input, Output,
             Value; 8 Device; 13, 14, 19 Multi-state Input, Output, Value;
@@ -78,12 +78,12 @@ pub(crate) const WI_PAGE: Page<'static> = Page {
     name: "wi",
     about: "Find devices: send Who-Is to each address and print each I-Am",
     example: "Example: bac wi 192.168.1.20 192.168.1.21:47809 --min=100 --max=199
-asks both addresses, and only devices 100 to 199 answer. --min alone means both.
-bac wi 192.168.1.0/24 asks each host of that network: 20 to 32 bits, and no
-network address and no broadcast address below 31.
-bac wi - < addresses asks those of a file: at most 4096, an address or a network
-a line.
-Devices that answer by broadcast are heard with --local=0.0.0.0:47808.",
+asks both addresses; only devices 100 to 199 reply. --min alone sets both.
+bac wi 192.168.1.0/24 asks each host of that network, /20 to /32; its network
+and broadcast addresses only for /31 and /32.
+bac wi - < addresses reads addresses from a file: at most 4096, an address or a
+network a line.
+Devices that reply by broadcast are only heard with --local=0.0.0.0:47808.",
     own: &WI,
     shared: &[],
 };
@@ -94,10 +94,10 @@ pub(crate) const RP_PAGE: Page<'static> = Page {
     example: with_numbers!(
         "Example: bac rp 192.168.1.20 8 123 77
 prints the name (property 77) of device 123 (object type 8). Instance 4194303
-is the device that is asked: bac rp 192.168.1.20 8 4194303 76 lists the objects
-of one whose instance isn't known. chars(SET,HEX) is a text that isn't printed
-as itself: SET 0 is UTF-8 (with quotes or control characters), 1 DBCS, 2 JIS X
-0208, 3 UCS-4, 4 UCS-2, 5 ISO 8859-1."
+is whatever device has the address: bac rp 192.168.1.20 8 4194303 76 lists the
+objects of one whose instance you don't know. chars(SET,HEX) is a text that
+can't be printed: SET 0 is UTF-8 (with quotes or control characters), 1 DBCS,
+2 JIS X 0208, 3 UCS-4, 4 UCS-2, 5 ISO 8859-1."
     ),
     own: &RP,
     shared: &ASKING,
@@ -123,18 +123,18 @@ pub(crate) const LOG_PAGE: Page<'static> = Page {
     about: "Fetch the records of a trend log, each once",
     example: with_refusals!(
         "Example: bac log 192.168.1.20 1 oldest
-prints each record that trend log 1 holds, and at the end which number is next:
+prints each record that trend log 1 holds, and which number comes next:
 
   41 2024-05-06T07:08:09.10 enum(0) 0000
   42 2024-05-06T07:09:09.10 enum(1) 0000
   caught up, next 43
 
-bac log 192.168.1.20 1 43 then fetches what was logged since. Begin again at
-the number that was next after 'lost' or 'step limit', too: no record is lost or
-comes twice. A line 'gap 43 50' tells the numbers that the log no longer held.
-After 'bad reply' a line on standard error says what is wrong with the reply;
-after 'caught up', if it did, that the last reply said that more is there. With
---csv, which has no last line, a step limit is status 8.
+bac log 192.168.1.20 1 43 then fetches what was logged since. After 'lost' or
+'step limit', too, go on at the next number: no record is lost or comes twice.
+A line 'gap 43 50' means that the log no longer held these numbers. After 'bad
+reply' standard error says what is wrong with the reply, and after 'caught up'
+that the device announced more records but sent none, if it did. --csv has no
+last line, so a step limit is status 8.
 
 FLAGS are in-alarm, fault, overridden and out-of-service, each 0 or 1; or - if
 the record has none. VALUE is a number, or one of
@@ -147,8 +147,8 @@ the record has none. VALUE is a number, or one of
   failure(C,D)     no value: reading it gave the error of class C and code D
   time-change(HEX) the device's clock was set, by so many seconds (a REAL)
 
-A refusal has a line on standard error that says what it means. 'error' is
-printed with its class and its code:"
+Standard error says what a refusal means. 'error' is printed with its class and
+its code:"
     ),
     own: &LOG,
     shared: &ASKING,
@@ -159,9 +159,9 @@ pub(crate) const LOGS_PAGE: Page<'static> = Page {
     about: "List the trend logs of a device, with what they log and hold",
     example: with_refusals!(
         "Example: bac logs 192.168.1.20
-asks each trend log of the device's Object_List, one question a property, and
-prints a table: a line of names, and a line a log, with a tab between two cells.
-bac logs 192.168.1.20 1 2 asks trend logs 1 and 2 alone.
+reads each trend log in the device's Object_List, one request a property, and
+prints a table: a line of names, then a line a log, with tabs between cells.
+bac logs 192.168.1.20 1 2 reads trend logs 1 and 2 alone.
 
   instance  the number that bac log and bac keep take
   name      its Object_Name
@@ -170,15 +170,14 @@ bac logs 192.168.1.20 1 2 asks trend logs 1 and 2 alone.
   enable    true, or false: nothing is logged
   type      polled, cov (change of value) or triggered
   interval  the seconds between two records of a log that is polled
-  records   how many it holds, and in the next column, buffer, at most
+  records   how many it holds; the next column, buffer, is the most it can hold
   total     how many it ever logged
   stop      true: it stops when it is full; false: the oldest record is dropped
 
-A cell is - if the device refuses, and ? if its answer can't be read. The first
-question without an answer ends the table, but for the one for the whole list:
-behind that each place is asked for. Where the device refuses its list, standard
-error has a line with the meaning. 'error' is printed with its class and its
-code:"
+A cell is - if the device refuses, and ? if its reply can't be read. The table
+ends at the first request without a reply, unless that was for the whole
+Object_List: then its elements are read one by one. If the device refuses its
+list, standard error says why. 'error' is printed with its class and its code:"
     ),
     own: &LOGS,
     shared: &ASKING,
@@ -186,7 +185,7 @@ code:"
 
 pub(crate) const KEEP_PAGE: Page<'static> = Page {
     name: "keep",
-    about: "Keep the records of trend logs in a database file, each once",
+    about: "Poll trend logs into a database file, each record once",
     example: with_refusals!(
         "Example: bac keep site.db 192.168.1.20 1 2
 adds trend logs 1 and 2 of that device to site.db and fetches their records:
@@ -194,23 +193,28 @@ adds trend logs 1 and 2 of that device to site.db and fetches their records:
   192.168.1.20:47808 1 120 records 0 gaps caught up, next 121
   192.168.1.20:47808 2 88 records 1 gap caught up, next 447
 
-Without INSTANCE it adds each trend log of the device's Object_List, and
-bac keep site.db fetches what is new of each log in the file. sqlite3 reads it.
-More devices may follow, each with its INSTANCEs, and are fetched in one run:
+Without INSTANCE it adds every trend log in the device's Object_List. bac keep
+site.db fetches what is new of every log in the file, which sqlite3 can read.
+More devices may follow, each with its INSTANCEs; one run polls them all:
 bac keep site.db 192.168.1.20 1 2 192.168.1.21 192.168.1.22 7
-ADDRESS - is the devices of standard input, which takes the lines of bac wi:
+With - instead of ADDRESS, devices are read from standard input, such as the
+lines of bac wi:
 bac wi 192.168.1.0/24 | bac keep site.db -
-With --stop, which goes with one ADDRESS, the file keeps what it has of these
-logs, and they are left out.
+With --stop, which takes one ADDRESS, these logs are no longer polled; the file
+keeps their records.
 
-Status: the greatest of its logs' as bac log has them, but 8 for a step limit,
-and 4 where a log is caught up, though the last reply said that more is there;
-3 where another device answers; of a device that didn't tell its Object_List
-2 lost, 3 refused, 4 bad reply; 6 the file isn't an archive, can't be read or
-written, is full, or has no place for a log's numbers; 7 another program has it
-open.
+Exit status, the highest of all logs:
+  0  every log is caught up
+  1  usage, or a bad value
+  2  a device didn't reply
+  3  a device refused, or another one replied
+  4  a bad reply, or more records announced than sent
+  5  out of memory
+  6  the file isn't an archive, can't be read or written, or is full
+  7  another program has the file open
+  8  a step limit
 
-Standard error tells why a log is lost, refused or has a bad reply. 'error' is
+Standard error says why a log is lost, refused or has a bad reply. 'error' is
 printed with its class and its code:"
     ),
     own: &KEEP,
@@ -219,13 +223,13 @@ printed with its class and its code:"
 
 pub(crate) const KEPT_PAGE: Page<'static> = Page {
     name: "kept",
-    about: "Print what a database file, or a folder, keeps of trend logs",
+    about: "Print the records and gaps in a database file, or a folder",
     example: "Example: bac kept site.db 192.168.1.20 1
 prints each record and each gap of trend log 1, in the lines of bac log.
-bac kept plant does so of each part of the folder plant, the oldest first.
+bac kept plant prints those of each part of the folder plant, oldest first.
 
 bac kept site.db --csv prints all logs as CSV: address, device, trend_log, name,
-epoch, number, stamp, value, datum, flags; in the row of a gap datum is gap
+epoch, number, stamp, value, datum, flags. A gap is a row whose datum is gap
 FIRST LAST.",
     own: &KEPT,
     shared: &[],
@@ -233,22 +237,22 @@ FIRST LAST.",
 
 pub(crate) const CHECK_PAGE: Page<'static> = Page {
     name: "check",
-    about: "Test a database file, or a folder, and count what it keeps",
+    about: "Check a database file, or a folder, for missing numbers",
     example: "Example: bac check site.db
-opens site.db as bac keep does, and prints of each log its epochs, each with its
-first and last number, its records and its gaps, and each number that is missing
-from what it covers. bac check plant does so of each part of the folder plant,
-and tests that each part begins where the one before it ends.
+prints the epochs of each log, with their first and last number, how many
+records and gaps they have, and every number that is missing. bac check plant
+checks each part of the folder plant, and that it begins where the part before
+it ends.
 
-Status: 6 where a number is missing, where a part doesn't begin so, or where the
-file isn't an archive or can't be read; 7 another program has it open.",
+Exit status: 6 if a number is missing, a part begins elsewhere, or the file
+isn't an archive or can't be read; 7 if another program has it open.",
     own: &CHECK,
     shared: &[],
 };
 
 pub(crate) const SERVE_PAGE: Page<'static> = Page {
     name: "serve",
-    about: "Be the device that standard input describes, with a clock in UTC",
+    about: "Simulate the device that standard input describes, in UTC",
     example: "Example: bac serve 127.0.0.1:47809 < examples/use/plant.conf
 where plant.conf has configuration lines of a script: device, binary, log ..",
     own: &SERVE,

@@ -32,20 +32,20 @@ const TIMEOUT: Entry<'static> = Entry::ChoiceOr(
     Word::Timeout,
     "MS",
     "3000",
-    "Wait for an answer: 1 to 60000 ms",
+    "Wait for a reply: 1 to 60000 ms",
 );
 
 /// Our own address.
 const LOCAL: Entry<'static> = Entry::Choice(
     Word::Local,
     "ADDRESS",
-    "Our own address and port; any where it is left out",
+    "Our own address and port; any if left out",
 );
 
 /// Whether datagrams are told.
 const TRACE: Entry<'static> = Entry::Flag(
     Word::Trace,
-    "Tell each datagram on standard error, in hex digits",
+    "Print each datagram on standard error, in hex digits",
 );
 
 /// With the next, a device behind a router.
@@ -71,7 +71,7 @@ pub(crate) const ASKING: [Entry<'static>; 6] = [
         Word::Retries,
         "N",
         "3",
-        "How many times to ask again: 0 to 10",
+        "How many times to retry: 0 to 10",
     ),
     DNET,
     DADR,
@@ -82,14 +82,14 @@ pub(crate) const KEEPING: [Entry<'static>; 6] = [
     Entry::Choice(
         Word::Timeout,
         "MS",
-        "Wait for an answer: 1 to 60000 ms; 3000 if left out",
+        "Wait for a reply: 1 to 60000 ms; 3000 if left out",
     ),
     LOCAL,
     TRACE,
     Entry::Choice(
         Word::Retries,
         "N",
-        "How many times to ask again: 0 to 10; 3 if left out",
+        "How many times to retry: 0 to 10; 3 if left out",
     ),
     DNET,
     DADR,
@@ -99,17 +99,17 @@ pub(crate) const KEEPING: [Entry<'static>; 6] = [
 pub(crate) const WI: [Entry<'static>; 7] = [
     Entry::NeededList(
         Word::Address,
-        "The stations to ask: A.B.C.D[:PORT], or with /N a network",
+        "The devices to ask: A.B.C.D[:PORT], or with /N a network",
     ),
     Entry::Choice(
         Word::Min,
         "N",
-        "The lowest instance that is to answer: 0 to 4194303",
+        "The lowest instance that is to reply: 0 to 4194303",
     ),
     Entry::Choice(
         Word::Max,
         "N",
-        "The highest instance that is to answer: 0 to 4194303",
+        "The highest instance that is to reply: 0 to 4194303",
     ),
     Entry::Choice(
         Word::Dnet,
@@ -169,13 +169,13 @@ pub(crate) const LOG: [Entry<'static>; 6] = [
         Word::Steps,
         "N",
         "1000",
-        "Batches of records to fetch, at most",
+        "Stop after so many replies with records",
     ),
     Entry::ChoiceOr(
         Word::Records,
         "N",
         "100",
-        "Records a question asks for: 1 to 100",
+        "Records a request asks for: 1 to 100",
     ),
     Entry::Flag(
         Word::Csv,
@@ -203,28 +203,28 @@ pub(crate) const KEEP: [Entry<'static>; 8] = [
     Entry::Choice(
         Word::Steps,
         "N",
-        "Batches of records of a log; all if left out",
+        "Stop a log after so many replies with records",
     ),
     Entry::Choice(
         Word::Records,
         "N",
-        "Records a question asks for: 1 to 100; 100 if left out",
+        "Records a request asks for: 1 to 100; 100 if left out",
     ),
     Entry::ChoiceOr(
         Word::Part,
         "MIB",
         "32",
-        "A part is full at so many MiB: 1 to 4096",
+        "A new part at so many MiB: 1 to 4096",
     ),
     Entry::ChoiceOr(
         Word::AtOnce,
         "N",
         "64",
-        "New questions open at once: 1 to 1024",
+        "Requests in flight at once: 1 to 1024",
     ),
     Entry::Flag(
         Word::Stop,
-        "Ask these logs no more; adding them starts them again",
+        "Stop polling these logs; name them again to resume",
     ),
 ];
 
@@ -252,6 +252,6 @@ pub(crate) const SERVE: [Entry<'static>; 2] = [
         Word::Count,
         "N",
         "4294967295",
-        "How many datagrams to serve",
+        "Stop after so many datagrams",
     ),
 ];
