@@ -179,7 +179,8 @@ impl FileFault {
             FileFault::NoLog => "it has no such trend log",
             FileFault::NoLogs => "it has no trend logs",
             FileFault::Overlap => "some of its records overlap",
-            FileFault::Orphan => "it has records of no trend log, or of an epoch without a beginning",
+            FileFault::Orphan =>
+                "it has records of no trend log, or of an epoch without a beginning",
             FileFault::Full => "it has 65535 trend logs",
             FileFault::Address => "a trend log in it has an invalid address",
             FileFault::Apart => "it doesn't begin where the part before it ends",

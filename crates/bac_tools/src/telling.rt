@@ -170,7 +170,9 @@ fn push_bad_reply(text: &mut Vec<u8>) -> Result<(), AllocError>
     ensures { OnOk result (text.new.items ≡ text.old.items ++ bad_reply) }
 {
     text.extend_from_slice(b"bad reply\n")?;
-    text.extend_from_slice(b"the reply doesn't acknowledge this request, is segmented, or can't be read")
+    text.extend_from_slice(
+        b"the reply doesn't acknowledge this request, is segmented, or can't be read",
+    )
 }
 
 /// Appends that the answer of an address didn't come, and what passed in its place.

@@ -67,12 +67,7 @@ pub(crate) const ASKING: [Entry<'static>; 6] = [
     TIMEOUT,
     LOCAL,
     TRACE,
-    Entry::ChoiceOr(
-        Word::Retries,
-        "N",
-        "3",
-        "How many times to retry: 0 to 10",
-    ),
+    Entry::ChoiceOr(Word::Retries, "N", "3", "How many times to retry: 0 to 10"),
     DNET,
     DADR,
 ];
