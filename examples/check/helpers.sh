@@ -80,6 +80,7 @@ completed() { bash -c '. ../use/bac.bash; compopt() { :; }; COMP_LINE=$1 COMP_PO
 is 'the tools' "$(completed 'bac ' | grep -v -e -- | sort)" "$(tools)"
 is 'the tools behind help' "$(completed 'bac help ' | sort)" "$(tools | grep -v '^help$')"
 is 'the man page is made of the help' "$(../../docs/man.py | cmp - ../../docs/bac.1 2>&1)" ''
+is 'the page of clauses is what the sources say' "$(../../docs/clauses.py --check 2>&1 | grep -v '^[0-9]')" ''
 is 'the tools of the man page' "$(sed -nE 's/^\.B bac ([a-z]+)( .*)?$/\1/p' ../../docs/bac.1 | sort -u)" "$(tools | grep -v '^help$')"
 for tool in wi rp wp log logs keep kept check serve replay; do
     is "the options of $tool" "$(completed "bac $tool --" | tr -d = | sort | tr '\n' ' ')" \
