@@ -6,8 +6,8 @@ use Rattle.bac_walk.specs.Walks.{item_of}
 use Rattle.bac_walk.specs.declared.batch.Numbered.{Numbered}
 use Rattle.bac_poll_laws.specs.Caught.{IsUpAt}
 use Rattle.bac_poll_laws.specs.Delivers.{AreOf, BeginsAt, Brings, Delivers, Given, IsGap, LiesIn, NoneBefore, ShowHeld, ShowsHeld, WasFront, after_given, asking_less, is_finding}
-use Rattle.bac_poll_laws.specs.Firsts.{CountsIn, DeliversFirst, FirstsDeliver, IsFirst, IsLast, IsNumberIn, ShowFirst}
-use Rattle.bac_poll_laws.specs.Laws.{Answer, Clears, Counted, Covers, Goes, HasSome, IsAt, IsBefore, IsBegun, IsStanding, IsWhole, Replied, Restarted, Revised, Whichever, after_answer, start_of}
+use Rattle.bac_poll_laws.specs.Firsts.{CountsIn, DeliversFirst, FirstsDeliver, IsFirst, IsNumberIn, ShowFirst}
+use Rattle.bac_poll_laws.specs.Laws.{Answer, Clears, Counted, Covers, Goes, HasSome, IsAt, IsBefore, IsBegun, IsStanding, IsWhole, Replied, Restarted, Revised, Whichever, after_answer, start_of, IsLast}
 use Rattle.bac_poll.specs.Poll.{after_heard, after_too_many, more_of, reply_in}
 use Rattle.bac_poll.specs.State.{PollState, Reply}
 use Rattle.bac_poll.specs.Turns.{Turned, gap_up_to}

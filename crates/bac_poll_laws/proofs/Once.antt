@@ -222,9 +222,11 @@ module _ (P : Numbered → Type 0) (F : ℕ → Type 0) where
       Covers P (epoch_after_all e p answers).first (epoch_after_all e p answers).items (after_all p answers).next
   unfolding IsCovered
   all_answers front p e [] is covers are fronts = covers
-  all_answers front p e (answer ∷ answers) is covers are fronts =
+  all_answers front p e (answer ∷ []) is covers are fronts =
+      after_covers e p.next (after_answer p answer) covers (one_answer front p answer is are.0 (fronts p answer)).0
+  all_answers front p e (answer ∷ next ∷ rest) is covers are fronts =
       let one = one_answer front p answer is are.0 (fronts p answer) in
-      all_answers front (after_answer p answer).poll (epoch_after e (after_answer p answer)) answers (one.1 are.1)
+      all_answers front (after_answer p answer).poll (epoch_after e (after_answer p answer)) (next ∷ rest) (one.1 are.1)
       (after_covers e p.next (after_answer p answer) covers one.0) are.2 fronts
 
   -- ---- beginnings

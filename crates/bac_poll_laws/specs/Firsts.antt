@@ -6,7 +6,7 @@ use Rattle.bac_link.specs.Ordinals.{number_after}
 use Rattle.bac_poll_laws.specs.Caught.{IsUpAt}
 use Rattle.bac_poll_laws.specs.Delivers.{Brings, Delivers, Given, IsWithin, LiesIn, NoneBefore, ShowHeld, ShowsHeld}
 use Rattle.bac_poll_laws.specs.Delivers.{after_given, asking_less, is_finding}
-use Rattle.bac_poll_laws.specs.Laws.{Answer, Counted, HasSome, IsBegun, Replied, Restarted, Revised}
+use Rattle.bac_poll_laws.specs.Laws.{Answer, Counted, HasSome, IsBegun, IsLast, Replied, Restarted, Revised}
 use Rattle.bac_poll.specs.State.{PollState}
 use Rattle.bac_poll.specs.Turns.{Turned}
 use Rattle.bac_poll.specs.declared.stage.Aim.TheVariants.{Renews, Starts}
@@ -24,11 +24,6 @@ CountsIn low m (Counted count) =
     (total : ℕ) → count ≡ Some total → IsNumberIn low (number_after total 1) × (total ≡ 0 → NoneBefore low m 1)
 CountsIn low m (Revised revision) = Unit {0}
 CountsIn low m (Restarted restart moment) = Unit {0}
-
--- what is said behind a turn: nothing where it ends the poll
-abbrev pub IsLast : Turned → List Given → Type 0
-IsLast t [] = Unit {0}
-IsLast t (given ∷ others) = t.end ≡ None
 
 -- Answers, one after the other, say what the log holds at their moments: those of a poll that looks for its beginning,
 -- and then those of one that stands in its epoch.

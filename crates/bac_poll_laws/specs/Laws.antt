@@ -207,11 +207,16 @@ Answers P p (Counted count) = Unit {0}
 Answers P p (Revised revision) = p.stage ≡ Revision
 Answers P p (Restarted restart moment) = p.stage ≡ Restart
 
+-- what is answered behind a turn: nothing, if it ends the poll
+abbrev pub IsLast : {A : Type 0} → Turned → List A → Type 0
+IsLast t [] = Unit {0}
+IsLast t (answer ∷ others) = t.end ≡ None
+
 -- answers, one after the other, none of which but the last ends the poll
 abbrev pub AreAnswers : (Numbered → Type 0) → PollState → List Answer → Type 0
 AreAnswers P p [] = Unit {0}
-AreAnswers P p (answer ∷ answers) =
-    Answers P p answer × ((after_answer p answer).end ≡ None) × AreAnswers P (after_answer p answer).poll answers
+AreAnswers P p (answer ∷ others) =
+    Answers P p answer × IsLast (after_answer p answer) others × AreAnswers P (after_answer p answer).poll others
 
 -- what is known of a log behind them
 abbrev pub after_all : PollState → List Answer → PollState
@@ -252,7 +257,7 @@ abbrev pub Whichever : ℕ → Type 0
 Whichever number = Unit {0}
 
 -- Whatever is answered, what is kept of an epoch covers each number once, from its first up to the one that comes next;
--- and each record of it was shown.
+-- and each record of it was shown. So it is behind each answer, that which ends the poll as well.
 abbrev pub EpochsAreWhole : Type 0
 EpochsAreWhole =
     (shown : List Numbered) (p : PollState) (e : Epoch) (answers : List Answer) →

@@ -7,8 +7,8 @@ use Rattle.bac_link.specs.Delivery.{History, IsEntry, Moment}
 use Rattle.bac_link.specs.Heard.{AckParameters, heard_in}
 use Rattle.bac_link.specs.Standard.{AreHeldFrom, Asked, IsSaidAt}
 use Rattle.bac_walk.specs.declared.batch.Numbered.{Numbered}
-use Rattle.bac_poll_laws.specs.Laws.{Answer, Counted, Covers, Epoch, IsStanding, Replied, Restarted, Revised, Whichever}
-use Rattle.bac_poll_laws.specs.Laws.{after_all, after_answer, epoch_after_all}
+use Rattle.bac_poll_laws.specs.Laws.{Answer, Counted, Covers, Epoch, IsLast, IsStanding, Replied, Restarted}
+use Rattle.bac_poll_laws.specs.Laws.{Revised, Whichever, after_all, after_answer, epoch_after_all}
 use Rattle.bac_poll.specs.State.{PollState}
 use Rattle.bac_poll.specs.declared.stage.Stage.TheVariants.{Revision, Restart}
 
@@ -43,11 +43,11 @@ IsSaid H p (Restarted restart moment) = p.stage ≡ Restart
 -- such answers, one after the other, none of which but the last ends the poll
 abbrev pub AreSaid : History → PollState → List Answer → Type 0
 AreSaid H p [] = Unit {0}
-AreSaid H p (answer ∷ answers) =
-    IsSaid H p answer × ((after_answer p answer).end ≡ None) × AreSaid H (after_answer p answer).poll answers
+AreSaid H p (answer ∷ others) =
+    IsSaid H p answer × IsLast (after_answer p answer) others × AreSaid H (after_answer p answer).poll others
 
 -- What is kept of an epoch then covers each number once, from its first up to the one that comes next; and each record
--- of it is an entry of the log, under its number.
+-- of it is an entry of the log, under its number. So it is behind the answer that ends the poll, too.
 abbrev pub KeptIsLogged : Type 0
 KeptIsLogged =
     (H : History) (p : PollState) (e : Epoch) (answers : List Answer) → IsStanding (IsLogged H) Whichever p →
