@@ -48,7 +48,7 @@ less_aimed p Finds is = tt
 less_aimed p Renews is = is
 less_aimed p Starts is = is
 
-less_at : (P : Numbered → Type 0) (F : ℕ → Type 0) (p : PollState) (what : Stage) → IsAt P F p what → IsAt P F (after_too_many p) what
+pub less_at : (P : Numbered → Type 0) (F : ℕ → Type 0) (p : PollState) (what : Stage) → IsAt P F p what → IsAt P F (after_too_many p) what
 less_at P F p stage.Joins at = tt
 less_at P F p stage.Prior at = tt
 less_at P F p stage.Ahead at = tt

@@ -12,5 +12,10 @@ mod Delivered
 mod Polls
 mod Questions
 mod Keeps
+mod Lefts
+mod Takes
+mod Looks
+mod Bounds
+mod Older
 mod Firsts
 mod FirstRuns

@@ -30,29 +30,26 @@ use Rattle.bac_poll.specs.declared.turn.Beginning.{Beginning}
 module _ (P : Numbered → Type 0) (F : ℕ → Type 0) where
   -- ---- a reply is a run
 
-  IsRunReply : Option Reply → Type 0
+  abbrev pub IsRunReply : Option Reply → Type 0
   IsRunReply None = Unit {0}
   IsRunReply (Some reply) = IsRun P (first_number reply.records) reply.records
 
   with_run : (b : Bool) (first : ℕ) (es : List Entry) (last more : Bool) →
       ShowsOnly P (if b then Some (record { records = with_numbers first es; last = last; more = more }) else None) →
       IsRunReply (if b then Some (record { records = with_numbers first es; last = last; more = more }) else None)
-  unfolding IsRunReply
   with_run true first es last more shows = run_first P F first (with_numbers first es) (numbered_run P F first es shows)
   with_run false first es last more shows = tt
 
   act_run : (p : PollState) (act : NextAct) (es : List Entry) (last more : Bool) → ShowsOnly P (reply_of p act es last more) →
       IsRunReply (reply_of p act es last more)
-  unfolding IsRunReply
   act_run p Refuse es last more shows = tt
   act_run p Ask es last more shows = tt
   act_run p End es last more shows = tt
   act_run p (Bring first) es last more shows =
       with_run (are_asked p p.stage (first_number (with_numbers first es)) (length (with_numbers first es))) first es last more shows
 
-  heard_run : (p : PollState) (heard : Option AckParameters) (last more : Bool) → ShowsOnly P (reply_from p heard last more) →
+  pub heard_run : (p : PollState) (heard : Option AckParameters) (last more : Bool) → ShowsOnly P (reply_from p heard last more) →
       IsRunReply (reply_from p heard last more)
-  unfolding IsRunReply
   heard_run p None last more shows = tt
   heard_run p (Some h) last more shows = act_run p (verdict p.walk h.first h.count h.entries) h.entries last more shows
 
@@ -94,7 +91,7 @@ module _ (P : Numbered → Type 0) (F : ℕ → Type 0) where
       (λ some. came_goes p aim false (r ∷ rs) known aimed (run, tt) one)
 
   -- the aim doesn't look at what is held back
-  aimed_so : (p : PollState) (more : Bool) (aim : Aim) → IsAimed p aim → IsAimed (record p { more = more; held = [] }) aim
+  pub aimed_so : (p : PollState) (more : Bool) (aim : Aim) → IsAimed p aim → IsAimed (record p { more = more; held = [] }) aim
   aimed_so p more Finds aimed = tt
   aimed_so p more Renews aimed = aimed
   aimed_so p more Starts aimed = aimed
@@ -118,7 +115,6 @@ module _ (P : Numbered → Type 0) (F : ℕ → Type 0) where
   stage_goes p more Restart reply known at run one clear = ends_goes P F (record p { more = more; held = [] }) (Fault BadReply)
 
   heard_goes : (p : PollState) (reply : Option Reply) → IsStanding P F p → IsRunReply reply → F 1 → Clears F p reply → Goes P F p.next (after_heard p reply)
-  unfolding IsRunReply
   heard_goes p None is run one clear = ends_goes P F p (Fault BadReply)
   heard_goes p (Some reply) is run one clear = stage_goes p (more_of p reply) p.stage reply is.0 is.1 run one clear
 
@@ -265,7 +261,7 @@ any_reply : (p : PollState) (reply : Option Reply) → Clears Whichever p reply
 any_reply p None = tt
 any_reply p (Some reply) = any_at p (more_of p reply) p.stage reply
 
-any_answer : (P : Numbered → Type 0) (p : PollState) (answer : Answer) → AnswersFront P Whichever p answer
+pub any_answer : (P : Numbered → Type 0) (p : PollState) (answer : Answer) → AnswersFront P Whichever p answer
 unfolding AnswersFront
 any_answer P p (Replied datagram) = any_reply p (reply_in p datagram)
 any_answer P p (Counted count) = tt

@@ -38,7 +38,7 @@ module _ (P : Numbered → Type 0) (F : ℕ → Type 0) where
   run_behind number n (r ∷ rs) run =
       behind_at (r.number == number) number r rs (eqb-true r.number number) run.2 (run_behind number (number_after r.number 1) rs run.2)
 
-  last_step : (r s : Numbered) (rs : List Numbered) → last_in (r ∷ s ∷ rs) ≡ last_in (s ∷ rs)
+  pub last_step : (r s : Numbered) (rs : List Numbered) → last_in (r ∷ s ∷ rs) ≡ last_in (s ∷ rs)
   last_step r s rs =
       let at : length (r ∷ s ∷ rs) - 1 ≡ suc (length (s ∷ rs) - 1) = omega arith in
       ap (λ (i : ℕ). slice_get (r ∷ s ∷ rs) i) at

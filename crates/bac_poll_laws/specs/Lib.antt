@@ -5,5 +5,7 @@ pub mod Asks
 pub mod Delivers
 pub mod Caught
 pub mod Questions
+pub mod Bounds
+pub mod Backwards
 pub mod Held
 pub mod Firsts

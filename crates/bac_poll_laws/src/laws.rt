@@ -1,6 +1,8 @@
 //! Laws of polls. Each function does nothing: what it ensures is the law.
 
 ghost use Rattle.bac_poll_laws.specs.Asks.{AsksOnceMore};
+ghost use Rattle.bac_poll_laws.specs.Backwards.{BackwardsAreFew};
+ghost use Rattle.bac_poll_laws.specs.Bounds.{QuestionsAreBounded};
 ghost use Rattle.bac_poll_laws.specs.Caught.{PollsDeliver};
 ghost use Rattle.bac_poll_laws.specs.Firsts.{FirstsDeliver};
 ghost use Rattle.bac_poll_laws.specs.Gaps.{GapsAreGone};
@@ -62,6 +64,20 @@ pub fn polls_deliver()
 /// more than there are replies with news; two more at most where LAST_ITEM isn't set.
 pub fn questions_are_few()
     ensures { QuestionsAreFew }
+{}
+
+/// Whatever is answered, a log that stands in its rows costs twelve questions at most, one of which
+/// nothing is kept yet three; and one more for each question backwards, three where that is begun
+/// again, eight for each answer by which records are kept, and nine where known records are asked
+/// for one by one, since they are shown at another hour.
+pub fn questions_are_bounded()
+    ensures { QuestionsAreBounded }
+{}
+
+/// Where a device says what its log holds, of a log that goes on, each two questions backwards, one
+/// after the other, bring an older record, down to the oldest that was held.
+pub fn backwards_are_few()
+    ensures { BackwardsAreFew }
 {}
 
 /// Of a log that goes on, a poll that ends as caught up, with no new epoch and no doubtful gap, has

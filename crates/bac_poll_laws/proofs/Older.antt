@@ -1,0 +1,407 @@
+-- Each question backwards but one brings an older record.
+use Rattle.std.proofs.Common.{arith, ◌≡◌, ℕ, zero, suc, ◌+◌, ◌*◌, ◌-◌, ◌≤◌, ◌<◌, ◌==◌, ◌&&◌, ◌||◌, not, nat_le, nat_lt, Bool, true, false, if◌then◌else◌, Option, None, Some, List, [], ◌∷◌, length, refl, sym, ap, subst, ◌∙◌, ◌⊎◌, inl, inr}
+use Rattle.std.proofs.lemmas.Bool.{and_parts, eq-eqb, eqb-true, leb-false, leb-true, ltb-false, ltb-true}
+use Rattle.bac_log.specs.TrendLog.{sequence_number}
+use Rattle.bac_log.specs.declared.entry.Entry.{Entry}
+use Rattle.bac_link.specs.Delivery.{History, Moment}
+use Rattle.bac_link.specs.Heard.{AckParameters, heard_in}
+use Rattle.bac_link.specs.Ordinals.{distance, is_ahead, number_after}
+use Rattle.bac_walk.specs.Walks.{Ask, Bring, End, NextAct, Refuse, verdict, with_numbers}
+use Rattle.bac_walk.specs.declared.batch.Numbered.{Numbered}
+use Rattle.bac_walk.proofs.Shown.{after-number, distance-behind, distance-number}
+use Rattle.bac_poll.specs.Back.{back, back_alone, back_by, back_done, back_lost, back_more, back_shown, is_front, shown_last, went_back}
+use Rattle.bac_poll.specs.Epochs.{another, another_by}
+use Rattle.bac_poll.specs.Gone.{asks_restart, asks_revision, asks_word, by_gone, by_word, retold}
+use Rattle.bac_poll.specs.Joins.{asks_each, asks_newest, at_hour, found, hour}
+use Rattle.bac_poll.specs.Known.{means_in, number_in, record_at, records_behind}
+use Rattle.bac_poll.specs.Oldest.{sees, sees_before, sees_by, sees_newest, sees_none, sees_same}
+use Rattle.bac_poll.specs.Poll.{ack_in, after_heard, after_too_many, are_asked, at_stage, count_at, has_last, has_more, more_of, reply_from, reply_in, reply_of}
+use Rattle.bac_poll.specs.Starts.{starts, starts_at}
+use Rattle.bac_poll.specs.State.{KeptAs, PollState, Reply}
+use Rattle.bac_poll.specs.Turns.{Turned, brings, brings_to, confirmed, first_in, first_number, last_in, number_before, number_or, renewed, standing_at}
+use Rattle.bac_poll.specs.declared.gone.Gone.{Gone}
+use Rattle.bac_poll.specs.declared.gone.Gone.TheVariants.{Dropped, Doubtful, Both}
+use Rattle.bac_poll.specs.declared.known.Means.{Means}
+use Rattle.bac_poll.specs.declared.known.Means.TheVariants.{Shifted, Partly, Same, Unshown, Another}
+use Rattle.bac_poll.specs.declared.known.Shown.{Shown}
+use Rattle.bac_poll.specs.declared.known.Shown.TheVariants as shown
+use Rattle.bac_poll.specs.declared.stage.Aim.{Aim}
+use Rattle.bac_poll.specs.declared.stage.Aim.TheVariants.{Finds, Renews, Starts}
+use Rattle.bac_poll.specs.declared.stage.Stage.{Stage}
+use Rattle.bac_poll.specs.declared.stage.Stage.TheVariants as stage
+use Rattle.bac_poll_laws.specs.Backwards.{BackwardsAreFew, GoesBack, IsBackFrom, IsLoggedIn, SayBack}
+use Rattle.bac_poll_laws.specs.Delivers.{Given, IsWithin, LiesIn, ShowsHeld, after_given, asking_less}
+use Rattle.bac_poll_laws.specs.Laws.{Answer, Answers, Counted, HasSome, HoldsOfEach, IsAt, IsRun, IsStanding, Replied, Restarted, Revised, ShowsOnly, Whichever, after_answer}
+use Rattle.bac_poll_laws.proofs.Bounds.{half_low}
+use Rattle.bac_poll_laws.proofs.Delivered.{less_stage, less_standing, shows_of}
+use Rattle.bac_poll_laws.proofs.Once.{IsRunReply, any_answer, heard_run, one_answer}
+use Rattle.bac_poll_laws.proofs.Ordered.{IsOf, near_ordinal}
+use Rattle.bac_poll_laws.proofs.Wholes.{last_step, split}
+
+-- ---- where a turn goes on backwards
+
+-- this holds of what is held back, and of the number up to which is asked; for so many records
+abbrev AtBack : (List Numbered → ℕ → Type 0) → (c : ℕ) → PollState → Stage → Type 0
+AtBack Z c p stage.Joins = Unit {0}
+AtBack Z c p stage.Prior = Unit {0}
+AtBack Z c p stage.Ahead = Unit {0}
+AtBack Z c p stage.Again = Unit {0}
+AtBack Z c p stage.Each = Unit {0}
+AtBack Z c p stage.ByNumber = Unit {0}
+AtBack Z c p (stage.Oldest aim) = Unit {0}
+AtBack Z c p (stage.Counts aim) = Unit {0}
+AtBack Z c p (stage.UpTo aim) = Unit {0}
+AtBack Z c p (stage.Back aim) = Z p.held p.reference × (p.walk.count ≡ c)
+AtBack Z c p stage.Revision = Unit {0}
+AtBack Z c p stage.Restart = Unit {0}
+
+-- where a turn goes on backwards, and begins no epoch
+abbrev Steps : (List Numbered → ℕ → Type 0) → ℕ → Turned → Type 0
+Steps Z c t = t.end ≡ None → t.anew ≡ false → AtBack Z c t.poll t.poll.stage
+
+module _ (P : Numbered → Type 0) (Z : List Numbered → ℕ → Type 0) (c : ℕ) where
+  pick : (b : Bool) (x y : Turned) → (b ≡ true → Steps Z c x) → (b ≡ false → Steps Z c y) → Steps Z c (if b then x else y)
+  pick b x y f g = split P Whichever (Steps Z c) b x y f g
+
+  brings_steps_to : (p : PollState) (rs : List Numbered) (last : Option Numbered) → Steps Z c (brings_to p rs last)
+  brings_steps_to p rs None = λ going sure. absurd (cc)
+  brings_steps_to p rs (Some l) = λ going sure. tt
+
+  brings_steps : (p : PollState) (rs : List Numbered) → Steps Z c (brings p rs)
+  brings_steps p rs = brings_steps_to p rs (last_in rs)
+
+  another_steps : (p : PollState) → Steps Z c (another p)
+  another_steps p = pick (p.lives == 2) _ _ (λ third. λ going sure. absurd (cc)) (λ more. λ going sure. absurd (cc))
+
+  another_by_steps : (p : PollState) (rs : List Numbered) → Steps Z c (another_by p rs)
+  another_by_steps p rs = pick (p.lives == 2) _ _ (λ third. λ going sure. absurd (cc)) (λ more. λ going sure. absurd (cc))
+
+  gone_steps : (p : PollState) (first : ℕ) (held : List Numbered) (gone : Gone) → Steps Z c (by_gone p first held gone)
+  gone_steps p first held Dropped = brings_steps (standing_at (confirmed (retold p)) first) held
+  gone_steps p first held Doubtful = brings_steps (standing_at (confirmed (retold p)) first) held
+  gone_steps p first held Both = λ going sure. absurd (cc)
+
+  by_word_steps : (p : PollState) (held : List Numbered) → Steps Z c (by_word p held)
+  by_word_steps p held = gone_steps p _ held _
+
+  restart_steps : (p : PollState) (held : List Numbered) (restart : List ℕ) → Steps Z c (asks_restart p held restart)
+  restart_steps p held [] = by_word_steps p held
+  restart_steps p held (octet ∷ octets) = λ going sure. tt
+
+  revision_steps : (p : PollState) (held : List Numbered) (revision : Option ℕ) → Steps Z c (asks_revision p held revision)
+  revision_steps p held None = restart_steps p held p.word.restart
+  revision_steps p held (Some was) = λ going sure. tt
+
+  word_steps : (p : PollState) (held : List Numbered) → Steps Z c (asks_word p held)
+  word_steps p held = revision_steps (record p { again = p.told }) held p.word.revision
+
+  -- records that are seen, where those before them were looked for
+  sees_none_steps : (p : PollState) (records : List Numbered) → Steps Z c (sees_none p false false records)
+  sees_none_steps p records = pick (is_ahead p.next (first_number records)) _ _ (λ behind. word_steps p records) (λ before. another_by_steps p records)
+
+  sees_newest_steps : (p : PollState) (kept : KeptAs) (records : List Numbered) (at : Option Numbered) → Steps Z c (sees_newest p kept false records at)
+  sees_newest_steps p kept records None = pick p.alone _ _ (λ alone. another_by_steps p records) (λ other. λ going sure. tt)
+  sees_newest_steps p kept records (Some held) =
+      pick ((length (records_behind kept.number records) == 0) && not p.alone) _ _ (λ none. λ going sure. tt) (λ some. brings_steps (found p held) (records_behind kept.number records))
+
+  sees_same_steps : (p : PollState) (records : List Numbered) (newest : Option KeptAs) → Steps Z c (sees_same p false records newest)
+  sees_same_steps p records None = another_by_steps p records
+  sees_same_steps p records (Some kept) = sees_newest_steps p kept records (record_at kept.number records)
+
+  each_steps : (p : PollState) (held : List Numbered) (number : Option ℕ) → Steps Z c (asks_each p held number)
+  each_steps p held None = another_steps p
+  each_steps p held (Some number) = λ going sure. tt
+
+  sees_steps : (p : PollState) (records : List Numbered) (means : Means) → Steps Z c (sees_by p false false records means)
+  sees_steps p records Unshown = sees_none_steps p records
+  sees_steps p records Same = sees_same_steps p records p.newest
+  sees_steps p records (Shifted by) = pick (by == 100) _ _ (λ same. sees_same_steps p records p.newest) (λ moved. sees_same_steps p records p.newest)
+  sees_steps p records Partly = each_steps p [] (number_in p.newest)
+  sees_steps p records Another = another_by_steps p records
+
+  starts_steps : (p : PollState) (first : ℕ) (held : List Numbered) (counted : Option ℕ) → Steps Z c (starts_at p first held counted)
+  starts_steps p first held None = brings_steps (standing_at (confirmed p) first) held
+  starts_steps p first held (Some counted) =
+      pick (is_ahead counted first) _ _ (λ behind. brings_steps (standing_at (confirmed p) first) held) (λ before. brings_steps (standing_at (confirmed p) first) held)
+
+  done_steps : (p : PollState) (aim : Aim) (records : List Numbered) → Steps Z c (back_done p aim records)
+  done_steps p Finds records = sees_steps p records (means_in p records)
+  done_steps p Renews records = brings_steps p records
+  done_steps p Starts records = starts_steps p _ records p.counted
+
+  lost_steps : (p : PollState) (aim : Aim) → Steps Z c (back_lost p aim)
+  lost_steps p Finds = λ going sure. tt
+  lost_steps p Renews = λ going sure. tt
+  lost_steps p Starts = λ going sure. tt
+
+  more_steps : (p : PollState) (aim : Aim) (records : List Numbered) → p.walk.count ≡ c → Z records (first_number records) → Steps Z c (back_more p aim records)
+  more_steps p aim records many older = pick (is_front p records (means_in p records)) _ _ (λ front. done_steps p aim records) (λ back. λ going sure. (older, many))
+
+  alone_steps : (p : PollState) (aim : Aim) (held : List Numbered) → p.walk.count ≡ c → Z held (number_before (first_number held)) → Steps Z c (back_alone p aim held)
+  alone_steps p aim held many before = pick (p.more || (p.walk.count == 1)) _ _ (λ more. λ going sure. (before, many)) (λ none. done_steps p aim held)
+
+  -- by how the reply ends
+  shown_steps : (p : PollState) (aim : Aim) (held records : List Numbered) (seen : Shown) → p.walk.count ≡ c → ((length records == 1) ≡ true → Z held (number_before (first_number held))) →
+      ((length records == 1) ≡ false → Z records (first_number records)) → Steps Z c (back_shown p aim held records seen)
+  shown_steps p aim held records shown.Equal many before older = pick (length records == 1) _ _ (λ alone. alone_steps p aim held many (before alone)) (λ more. more_steps p aim records many (older more))
+  shown_steps p aim held records shown.Unshown many before older = lost_steps p aim
+  shown_steps p aim held records (shown.Moved by) many before older = lost_steps p aim
+  shown_steps p aim held records shown.Another many before older = lost_steps p aim
+
+  -- the same, by its last record
+  abbrev Ends : List Numbered → List Numbered → Numbered → Type 0
+  Ends held records last =
+      ((last.number == first_number held) ≡ true → ((length records == 1) ≡ true → Z held (number_before (first_number held))) × ((length records == 1) ≡ false → Z records (first_number records)))
+      × ((last.number == first_number held) ≡ false → Z records (first_number records))
+
+  by_steps : (p : PollState) (aim : Aim) (held records : List Numbered) (last : Option Numbered) → p.walk.count ≡ c → ((l : Numbered) → last ≡ Some l → Ends held records l) → Steps Z c (back_by p aim held records last)
+  by_steps p aim held records None many ends = done_steps p aim held
+  by_steps p aim held records (Some l) many ends =
+      let all = ends l refl in
+      pick (l.number == first_number held) _ _ (λ ended. let both = all.0 ended in shown_steps p aim held records (shown_last (first_in held) l) many both.0 both.1)
+      (λ short. more_steps p aim records many (all.1 short))
+
+  pub back_steps : (p : PollState) (aim : Aim) (held records : List Numbered) → p.walk.count ≡ c → ((l : Numbered) → last_in records ≡ Some l → Ends held records l) → Steps Z c (back p aim held records)
+  back_steps p aim held records many ends =
+      pick (nat_lt p.back 2147483648) _ _ (λ near. by_steps (went_back p records) aim held records (last_in records) many ends) (λ far. λ going sure. absurd (cc))
+
+-- ---- numbers of older records
+
+near_up : (low i j : ℕ) → LiesIn low i → LiesIn low j → distance (sequence_number i) (sequence_number j) < 100 → (i ≤ j) × (distance (sequence_number i) (sequence_number j) ≡ j - i)
+near_up low i j here there near = by (nat_le i j) refl
+  where
+    by : (c : Bool) → nat_le i j ≡ c → (i ≤ j) × (distance (sequence_number i) (sequence_number j) ≡ j - i)
+    by true is = let le : i ≤ j = leb-true i j is in (le, distance-number i j le (omega (arith, here.0, there.1)))
+    by false is =
+        let less : j < i = leb-false i j is in
+        let far = distance-behind i j less (omega (arith, here.1, there.0)) in
+        let never : ⊥ = omega (arith, far, near) in absurd never
+
+-- the number before that of an ordinal is that of the one before
+before_is : (j : ℕ) → 0 < j → number_before (sequence_number j) ≡ sequence_number (j - 1)
+before_is j some = by (sequence_number j == 1) refl
+  where
+    by : (c : Bool) → (sequence_number j == 1) ≡ c → (if c then 4294967295 else sequence_number j - 1) ≡ sequence_number (j - 1)
+    by true is = let one : sequence_number j ≡ 1 = eqb-true (sequence_number j) 1 is in omega (arith, some, one)
+    by false is = other (nat_lt 1 (sequence_number j)) refl
+      where
+        other : (d : Bool) → nat_lt 1 (sequence_number j) ≡ d → sequence_number j - 1 ≡ sequence_number (j - 1)
+        other true more = let above : 1 < sequence_number j = ltb-true 1 (sequence_number j) more in omega (arith, some, above)
+        other false none =
+            let low : sequence_number j ≤ 1 = ltb-false 1 (sequence_number j) none in
+            let one : (sequence_number j == 1) ≡ true = eq-eqb (sequence_number j) 1 (omega (arith, low)) in absurd (cc)
+
+before_up : (low i j : ℕ) → 0 < low → LiesIn low i → LiesIn low j → distance (sequence_number i) (sequence_number (j - 1)) < 100 →
+    (i < j) × (distance (sequence_number i) (sequence_number (j - 1)) ≡ j - 1 - i)
+before_up low i j some here there near = by (nat_lt i j) refl
+  where
+    by : (c : Bool) → nat_lt i j ≡ c → (i < j) × (distance (sequence_number i) (sequence_number (j - 1)) ≡ j - 1 - i)
+    by true is = let less : i < j = ltb-true i j is in (less, distance-number i (j - 1) (omega (arith, less)) (omega (arith, here.0, there.1)))
+    by false is =
+        let ge : j ≤ i = ltb-false i j is in
+        let far = distance-behind i (j - 1) (omega (arith, ge, some, there.0)) (omega (arith, here.1, there.0, some)) in
+        let never : ⊥ = omega (arith, far, near) in absurd never
+
+module _ (H : History) (low : ℕ) where
+  -- the number of the last of a run
+  run_last : (i : ℕ) (r : Numbered) (rs : List Numbered) → IsRun (IsLoggedIn H low) (sequence_number i) (r ∷ rs) → (l : Numbered) → last_in (r ∷ rs) ≡ Some l →
+      l.number ≡ sequence_number (i + length rs)
+  run_last i r [] run l is =
+      let same : r.number ≡ l.number = ap (λ (o : Option Numbered). number_or 0 o) is in
+      let at : i + length {A = Numbered} [] ≡ i = omega arith in
+      sym same ∙ run.0 ∙ ap sequence_number (sym at)
+  run_last i r (s ∷ rs) run l is =
+      let next : number_after r.number 1 ≡ sequence_number (i + 1) = ap (λ (k : ℕ). number_after k 1) run.0 ∙ after-number i 1 in
+      let rest = run_last (i + 1) s rs (subst (λ (k : ℕ). IsRun (IsLoggedIn H low) k (s ∷ rs)) next run.2) l (sym (last_step (IsLoggedIn H low) Whichever r s rs) ∙ is) in
+      let at : i + 1 + length rs ≡ i + length (s ∷ rs) = omega arith in
+      rest ∙ ap sequence_number at
+
+  -- so many questions backwards are left: from the first of the records that are held back on, or from before it
+  abbrev Refers : ℕ → (j : ℕ) → (number : ℕ) → (reference : ℕ) → Type 0
+  Refers n j number reference = ((reference ≡ number) × (n ≡ 2 * (j - low) + 2)) ⊎ ((reference ≡ number_before number) × (n ≡ 2 * (j - low) + 1))
+
+  abbrev Left : ℕ → List Numbered → ℕ → Type 0
+  Left n held reference = (j : ℕ) × (first_number held ≡ sequence_number j) × LiesIn low j × Refers n j (first_number held) reference
+
+  abbrev Below : ℕ → List Numbered → ℕ → Type 0
+  Below n held reference = (m : ℕ) × (m < n) × Left m held reference
+
+  -- records that are older than the first that is held back
+  older : (n i j : ℕ) (rs : List Numbered) → first_number rs ≡ sequence_number i → low ≤ i → i + 1 < low + 2147483647 → i < j → 2 * (j - low) + 1 ≤ n → Below n rs (first_number rs)
+  older n i j rs at above below less enough = (2 * (i - low) + 2, omega (arith, above, less, enough), (i, at, (above, omega (arith, below)), inl (refl, refl)))
+
+  from_first : (n j : ℕ) (held : List Numbered) (reference : ℕ) → first_number held ≡ sequence_number j → LiesIn low j → reference ≡ first_number held → n ≡ 2 * (j - low) + 2 →
+      (r : Numbered) (rs : List Numbered) → IsRun (IsLoggedIn H low) r.number (r ∷ rs) → distance r.number reference < 100 → length (r ∷ rs) ≤ distance r.number reference + 1 →
+      (l : Numbered) → last_in (r ∷ rs) ≡ Some l → Ends (IsLoggedIn H low) (Below n) 0 held (r ∷ rs) l
+  from_first n j held reference at lies from left r rs run near upto l last =
+      let P = run.1 in
+      let i = P.0 in
+      let same : distance r.number reference ≡ distance (sequence_number i) (sequence_number j) = ap (λ (k : ℕ). distance k reference) P.1 ∙ ap (λ (k : ℕ). distance (sequence_number i) k) (from ∙ at) in
+      let up = near_up low i j (P.3, omega (arith, P.4)) lies (omega (arith, near, same)) in
+      let old : i < j → Below n (r ∷ rs) r.number = λ less. older n i j (r ∷ rs) P.1 P.3 P.4 less (omega (arith, left)) in (
+        λ ended. (
+          λ alone. (2 * (j - low) + 1, omega (arith, left), (j, at, lies, inr (refl, refl))),
+          λ more. old (many rs more up.0 (omega (arith, upto, same, up.1))),
+        ),
+        λ short. old (other rs last short up.0 (omega (arith, upto, same, up.1))),
+      )
+    where
+      many : (rs : List Numbered) → (length (r ∷ rs) == 1) ≡ false → run.1.0 ≤ j → length (r ∷ rs) ≤ j - run.1.0 + 1 → run.1.0 < j
+      many [] more le upto = absurd (cc)
+      many (s ∷ rs) more le upto = omega (arith, le, upto)
+
+      other : (rs : List Numbered) → last_in (r ∷ rs) ≡ Some l → (l.number == first_number held) ≡ false → run.1.0 ≤ j → length (r ∷ rs) ≤ j - run.1.0 + 1 → run.1.0 < j
+      other (s ∷ rs) last short le upto = omega (arith, le, upto)
+      other [] last short le upto = by (nat_lt run.1.0 j) refl
+        where
+          by : (c : Bool) → nat_lt run.1.0 j ≡ c → run.1.0 < j
+          by true is = ltb-true run.1.0 j is
+          by false is =
+              let ge : j ≤ run.1.0 = ltb-false run.1.0 j is in
+              let equal : run.1.0 ≡ j = omega (arith, ge, le) in
+              let one : r.number ≡ l.number = ap (λ (o : Option Numbered). number_or 0 o) last in
+              let number : l.number ≡ first_number held = sym one ∙ run.1.1 ∙ ap sequence_number equal ∙ sym at in
+              let yes : (l.number == first_number held) ≡ true = eq-eqb l.number (first_number held) number in absurd (cc)
+
+  from_before : (n j : ℕ) (held : List Numbered) (reference : ℕ) → 0 < low → first_number held ≡ sequence_number j → LiesIn low j → reference ≡ number_before (first_number held) → n ≡ 2 * (j - low) + 1 →
+      (r : Numbered) (rs : List Numbered) → IsRun (IsLoggedIn H low) r.number (r ∷ rs) → distance r.number reference < 100 → length (r ∷ rs) ≤ distance r.number reference + 1 →
+      (l : Numbered) → last_in (r ∷ rs) ≡ Some l → Ends (IsLoggedIn H low) (Below n) 0 held (r ∷ rs) l
+  from_before n j held reference some at lies from left r rs run near upto l last =
+      let P = run.1 in
+      let i = P.0 in
+      let before : reference ≡ sequence_number (j - 1) = from ∙ ap number_before at ∙ before_is j (omega (arith, some, lies.0)) in
+      let same : distance r.number reference ≡ distance (sequence_number i) (sequence_number (j - 1)) = ap (λ (k : ℕ). distance k reference) P.1 ∙ ap (λ (k : ℕ). distance (sequence_number i) k) before in
+      let up = before_up low i j some (P.3, omega (arith, P.4)) lies (omega (arith, near, same)) in
+      let end : i + length rs < j = omega (arith, upto, same, up.0, up.1) in
+      let number : l.number ≡ sequence_number (i + length rs) = run_last i r rs (subst (λ (k : ℕ). IsRun (IsLoggedIn H low) k (r ∷ rs)) P.1 run) l last in (
+        λ ended.
+            let is : l.number ≡ first_number held = eqb-true l.number (first_number held) ended in
+            let equal : i + length rs ≡ j = near_ordinal low (i + length rs) j (omega (arith, P.3), omega (arith, end, lies.1)) lies (sym number ∙ is ∙ at) in
+            let never : ⊥ = omega (arith, equal, end) in absurd never,
+        λ short. older n i j (r ∷ rs) P.1 P.3 P.4 up.0 (omega (arith, left)),
+      )
+
+-- ---- a reply to a question backwards
+
+-- its records lie before the number up to which was asked
+abbrev IsUpTo : PollState → Option Reply → Type 0
+IsUpTo p None = Unit {0}
+IsUpTo p (Some reply) =
+    (aim : Aim) → p.stage ≡ stage.Back aim → HasSome reply.records →
+    (distance (first_number reply.records) p.reference < p.walk.count) × (length reply.records ≤ distance (first_number reply.records) p.reference + 1)
+
+with_up : (p : PollState) (c : Bool) (rs : List Numbered) (last more : Bool) →
+    (c ≡ true → (aim : Aim) → p.stage ≡ stage.Back aim → (distance (first_number rs) p.reference < p.walk.count) × (length rs ≤ distance (first_number rs) p.reference + 1)) →
+    IsUpTo p (if c then Some (record { records = rs; last = last; more = more }) else None)
+with_up p true rs last more up = λ aim at some. up refl aim at
+with_up p false rs last more up = tt
+
+asked_up : (p : PollState) (first count : ℕ) → are_asked p p.stage first count ≡ true → (aim : Aim) → p.stage ≡ stage.Back aim →
+    (distance first p.reference < p.walk.count) × (count ≤ distance first p.reference + 1)
+asked_up p first count asked aim at =
+    let both = and_parts _ _ (subst (λ (s : Stage). are_asked p s first count ≡ true) at asked) in (ltb-true _ _ both.0, leb-true _ _ both.1)
+
+act_up : (p : PollState) (act : NextAct) (es : List Entry) (last more : Bool) → IsUpTo p (reply_of p act es last more)
+act_up p Refuse es last more = tt
+act_up p Ask es last more = λ aim at some. absurd some
+act_up p End es last more = λ aim at some. absurd some
+act_up p (Bring first) es last more =
+    let rs = with_numbers first es in
+    with_up p (are_asked p p.stage (first_number rs) (length rs)) rs last more (asked_up p (first_number rs) (length rs))
+
+heard_up : (p : PollState) (heard : Option AckParameters) (last more : Bool) → IsUpTo p (reply_from p heard last more)
+heard_up p None last more = tt
+heard_up p (Some h) last more = act_up p (verdict p.walk h.first h.count h.entries) h.entries last more
+
+-- ---- one answer
+
+module _ (H : History) (low : ℕ) where
+  each_logged : (m : Moment) (rs : List Numbered) → HoldsOfEach (IsOf H low (m ∷ [])) rs → HoldsOfEach (IsLoggedIn H low) rs
+  each_logged m [] all = tt
+  each_logged m (r ∷ rs) all = ((all.0.0, all.0.1, all.0.2, all.0.4, all.0.5), each_logged m rs all.1)
+
+  shows_logged : (m : Moment) (reply : Option Reply) → ShowsOnly (IsOf H low (m ∷ [])) reply → ShowsOnly (IsLoggedIn H low) reply
+  shows_logged m None shows = tt
+  shows_logged m (Some reply) shows = each_logged m reply.records shows
+
+  one_shown : (m : Moment) (p : PollState) (answer : Answer) → IsWithin low m → ShowsHeld low m H p answer → Answers (IsLoggedIn H low) p answer
+  one_shown m p (Replied datagram) within shows = shows_logged m (reply_in p datagram) (shows_of H low m [] within p datagram shows.0)
+  one_shown m p (Counted count) within shows = tt
+  one_shown m p (Revised revision) within shows = shows
+  one_shown m p (Restarted restart moment) within shows = shows
+
+  ends_by : (n : ℕ) (held : List Numbered) (reference count : ℕ) → 0 < low → Left H low n held reference → count ≤ 100 → (rs : List Numbered) → IsRun (IsLoggedIn H low) (first_number rs) rs →
+      (HasSome rs → (distance (first_number rs) reference < count) × (length rs ≤ distance (first_number rs) reference + 1)) →
+      (l : Numbered) → last_in rs ≡ Some l → Ends (IsLoggedIn H low) (Below H low n) count held rs l
+  ends_by n held reference count some left many [] run up l last = absurd (cc)
+  ends_by n held reference count some left many (r ∷ rs) run up l last =
+      let near = up tt in by left.3 (omega (arith, near.0, many)) near.1
+    where
+      by : Refers H low n left.0 (first_number held) reference → distance r.number reference < 100 → length (r ∷ rs) ≤ distance r.number reference + 1 →
+          Ends (IsLoggedIn H low) (Below H low n) count held (r ∷ rs) l
+      by (inl at) near upto = from_first H low n left.0 held reference left.1 left.2 at.0 at.1 r rs run near upto l last
+      by (inr at) near upto = from_before H low n left.0 held reference some left.1 left.2 at.0 at.1 r rs run near upto l last
+
+  heard_steps : (n : ℕ) (p : PollState) (reply : Option Reply) (aim : Aim) → 0 < low → p.stage ≡ stage.Back aim → Left H low n p.held p.reference → p.walk.count ≤ 100 →
+      IsRunReply (IsLoggedIn H low) Whichever reply → IsUpTo p reply → Steps (Below H low n) p.walk.count (after_heard p reply)
+  heard_steps n p None aim some at left many run up = λ going sure. absurd (cc)
+  heard_steps n p (Some reply) aim some at left many run up =
+      let q : PollState = record p { more = more_of p reply; held = [] } in
+      subst (λ (s : Stage). Steps (Below H low n) p.walk.count (at_stage q s p.held reply)) (sym at)
+      (back_steps (IsLoggedIn H low) (Below H low n) p.walk.count q aim p.held reply.records refl
+      (λ l last. ends_by n p.held p.reference p.walk.count some left many reply.records run (up aim at) l last))
+
+  answer_steps : (n : ℕ) (p : PollState) (answer : Answer) (aim : Aim) → 0 < low → p.stage ≡ stage.Back aim → Left H low n p.held p.reference → p.walk.count ≤ 100 → Answers (IsLoggedIn H low) p answer →
+      Steps (Below H low n) p.walk.count (after_answer p answer)
+  answer_steps n p (Replied datagram) aim some at left many shows =
+      let heard = heard_in p.walk.log datagram in
+      let last = has_last (ack_in datagram) in
+      let more = has_more (ack_in datagram) in
+      heard_steps n p (reply_in p datagram) aim some at left many (heard_run (IsLoggedIn H low) Whichever p heard last more shows) (heard_up p heard last more)
+  answer_steps n p (Counted count) aim some at left many shows =
+      subst (λ (s : Stage). Steps (Below H low n) p.walk.count (count_at p s count)) (sym at) (λ going sure. absurd (cc))
+  answer_steps n p (Revised revision) aim some at left many shows = let never : stage.Revision ≡ stage.Back aim = sym shows ∙ at in absurd (cc)
+  answer_steps n p (Restarted restart moment) aim some at left many shows = let never : stage.Restart ≡ stage.Back aim = sym shows ∙ at in absurd (cc)
+
+-- ---- one answer after the other
+
+less_held : (n : ℕ) (p : PollState) → (asking_less n p).held ≡ p.held
+less_held zero p = refl
+less_held (suc n) p = less_held n (after_too_many p)
+
+less_reference : (n : ℕ) (p : PollState) → (asking_less n p).reference ≡ p.reference
+less_reference zero p = refl
+less_reference (suc n) p = less_reference n (after_too_many p)
+
+less_many : (n : ℕ) (p : PollState) → p.walk.count ≤ 100 → (asking_less n p).walk.count ≤ 100
+less_many zero p many = many
+less_many (suc n) p many = less_many n (after_too_many p) (half_low p.walk.count (nat_le p.walk.count 1) many)
+
+module _ (H : History) (low : ℕ) where
+  left_some : (n : ℕ) (held : List Numbered) (reference : ℕ) → Left H low n held reference → 1 ≤ n
+  left_some n held reference left = by left.3
+    where
+      by : Refers H low n left.0 (first_number held) reference → 1 ≤ n
+      by (inl at) = omega (arith, at.1)
+      by (inr at) = omega (arith, at.1)
+
+  all_older : (n : ℕ) (p : PollState) (given : List Given) (aim : Aim) → 0 < low → p.stage ≡ stage.Back aim → IsStanding (IsLoggedIn H low) Whichever p → Left H low n p.held p.reference →
+      p.walk.count ≤ 100 → SayBack low H p given → length given ≤ n
+  all_older n p [] aim some at is left many says = omega arith
+  all_older n p (given ∷ []) aim some at is left many says = let one = left_some n p.held p.reference left in omega (arith, one)
+  all_older n p (given ∷ next ∷ rest) aim some at is left many says =
+      let q = asking_less given.less p in
+      let t = after_given p given in
+      let shows = one_shown H low given.moment q given.answer says.0 says.1 in
+      let low_many = less_many given.less p many in
+      let still : Left H low n q.held q.reference =
+      subst (λ (held : List Numbered). Left H low n held q.reference) (sym (less_held given.less p)) (subst (Left H low n p.held) (sym (less_reference given.less p)) left) in
+      let steps = answer_steps H low n q given.answer aim some (less_stage given.less p ∙ at) still low_many shows says.2.0 says.2.1 in
+      let on = subst (AtBack (Below H low n) q.walk.count t.poll) says.2.2.1 steps in
+      let stands = (one_answer (IsLoggedIn H low) Whichever tt q given.answer (less_standing (IsLoggedIn H low) Whichever given.less p is) shows (any_answer (IsLoggedIn H low) q given.answer)).1 says.2.0 in
+      let others = all_older on.0.0 t.poll (next ∷ rest) says.2.2.0 some says.2.2.1 stands on.0.2 (omega (arith, on.1, low_many)) says.3 in
+      omega (arith, others, on.0.1)
+
+pub backwards_few : BackwardsAreFew
+backwards_few H low k p answers back says =
+    all_older H low (2 * (k - low) + 2) p answers back.aim back.some back.asked back.stands (k, back.first, back.lies, inl (back.from, refl)) back.many says
