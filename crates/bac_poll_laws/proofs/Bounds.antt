@@ -21,7 +21,7 @@ use Rattle.bac_poll_laws.specs.Delivers.{Given, after_given, asking_less}
 use Rattle.bac_poll_laws.specs.Laws.{Answer, Answers, Counted, HasSome, IsAimed, IsAt, IsBefore, IsRun, IsStanding, Replied, Restarted, Revised, Whichever, after_answer}
 use Rattle.bac_poll_laws.specs.Questions.{one_if_kept}
 use Rattle.bac_poll_laws.proofs.Delivered.{less_at, less_stage}
-use Rattle.bac_poll_laws.proofs.Lefts.{Costs, Refers, Row, by_alone, by_word_costs, each_cost, left, left_at, left_back, restart_costs}
+use Rattle.bac_poll_laws.proofs.Lefts.{Costs, Refers, Row, by_word_costs, each_cost, left, left_at, left_back, restart_costs}
 use Rattle.bac_poll_laws.proofs.Looks.{back_takes, by_number_costs, counted_costs, oldest_takes, renewed_costs, starts_from_costs, up_to_takes}
 use Rattle.bac_poll_laws.proofs.Once.{IsRunReply, aimed_so, any_answer, begins_standing, heard_run, one_answer}
 use Rattle.bac_poll_laws.proofs.Takes.{again_costs, ahead_costs, each_costs, joins_costs, prior_costs}

@@ -1,5 +1,5 @@
 -- How many questions may follow a turn: what is left at each stage, and what the steps of the rule take of it.
-use Rattle.std.proofs.Common.{arith, ◌≡◌, ℕ, suc, ◌+◌, ◌*◌, ◌-◌, ◌≤◌, ◌<◌, ◌==◌, ◌&&◌, ◌||◌, not, nat_lt, Bool, true, false, if◌then◌else◌, Option, None, Some, List, [], ◌∷◌, length, slice_get, refl, sym, ap, subst, ◌∙◌, ◌⊎◌, inl, inr}
+use Rattle.std.proofs.Common.{arith, ◌≡◌, ℕ, suc, ◌+◌, ◌*◌, ◌-◌, ◌≤◌, ◌<◌, ◌==◌, Bool, true, false, if◌then◌else◌, Option, None, Some, List, [], ◌∷◌, length, slice_get, refl, sym, ap, subst, ◌∙◌}
 use Rattle.std.proofs.lemmas.Bool.{lt-ltb}
 use Rattle.std.specs.Option.{option_map}
 use Rattle.bac_link.specs.Ordinals.{number_after}
@@ -9,7 +9,7 @@ use Rattle.bac_poll.specs.Epochs.{another, another_by, another_of, asks_back, as
 use Rattle.bac_poll.specs.Gone.{asks_restart, asks_revision, asks_word, by_gone, by_word, retold}
 use Rattle.bac_poll.specs.Poll.{kept_number}
 use Rattle.bac_poll.specs.State.{KeptAs, PollState, kept_of}
-use Rattle.bac_poll.specs.Turns.{Turned, anew, asks, before_last, behind, brings, brings_to, confirmed, end_of, ends, first_in, first_number, kept_or, knowing, last_in, number_or, renewed, standing_at, third_known}
+use Rattle.bac_poll.specs.Turns.{Turned, before_last, brings, brings_to, confirmed, end_of, ends, first_in, first_number, kept_or, knowing, last_in, number_or, renewed, standing_at, third_known}
 use Rattle.bac_poll.specs.declared.gone.Gone.{Gone}
 use Rattle.bac_poll.specs.declared.gone.Gone.TheVariants.{Dropped, Doubtful, Both}
 use Rattle.bac_poll.specs.declared.stage.Aim.{Aim}

@@ -1,18 +1,17 @@
 -- How many questions may follow the turns of the rule: the oldest records, the count, first runs, and backwards.
-use Rattle.std.proofs.Common.{arith, is_some, ◌≡◌, ℕ, ◌+◌, ◌*◌, ◌-◌, ◌≤◌, ◌==◌, ◌&&◌, ◌||◌, not, nat_lt, Bool, true, false, if◌then◌else◌, Option, None, Some, List, [], ◌∷◌, length, refl, sym, ap, subst, ◌∙◌}
+use Rattle.std.proofs.Common.{arith, is_some, ◌≡◌, ℕ, ◌+◌, ◌*◌, ◌≤◌, ◌==◌, ◌&&◌, ◌||◌, not, nat_lt, Bool, true, false, if◌then◌else◌, Option, None, Some, List, [], length, refl}
 use Rattle.std.proofs.lemmas.Bool.{and_parts}
 use Rattle.bac_link.specs.Ordinals.{is_ahead, number_after}
 use Rattle.bac_walk.specs.Place.{WalkPlace}
 use Rattle.bac_walk.specs.declared.batch.Numbered.{Numbered}
 use Rattle.bac_poll.specs.Back.{back_alone, back_by, back_done, back_lost, back_more, back_shown, is_front, shown_last}
-use Rattle.bac_poll.specs.Joins.{found}
 use Rattle.bac_poll.specs.Known.{means_in, record_at, records_behind}
 use Rattle.bac_poll.specs.Oldest.{by_count, by_number, drops, is_first, logged, sees, sees_before, sees_by, sees_newest, sees_none, sees_same}
 use Rattle.bac_poll.specs.Poll.{came, oldest, oldest_none, renews_by, up_to, up_to_none}
 use Rattle.bac_poll.specs.Oldest.{is_cut}
 use Rattle.bac_poll.specs.Starts.{starts, starts_at, starts_by, starts_from, starts_none, starts_refused, starts_told}
 use Rattle.bac_poll.specs.State.{KeptAs, PollState, Reply}
-use Rattle.bac_poll.specs.Turns.{Turned, confirmed, end_of, first_in, first_number, last_in, number_or, standing_at}
+use Rattle.bac_poll.specs.Turns.{Turned, confirmed, end_of, first_in, first_number, last_in, standing_at}
 use Rattle.bac_poll.specs.declared.known.Means.{Means}
 use Rattle.bac_poll.specs.declared.known.Means.TheVariants.{Shifted, Partly, Same, Unshown, Another}
 use Rattle.bac_poll.specs.declared.known.Shown.{Shown}
@@ -21,8 +20,8 @@ use Rattle.bac_poll.specs.declared.stage.Aim.{Aim}
 use Rattle.bac_poll.specs.declared.stage.Aim.TheVariants.{Finds, Renews, Starts}
 use Rattle.bac_poll.specs.declared.turn.PollEnd.TheVariants.{CaughtUp, NoneByNumber, ShowsNone}
 use Rattle.bac_poll_laws.specs.Bounds.{oldest_one}
-use Rattle.bac_poll_laws.specs.Laws.{IsAimed, IsBegun, IsRun, Whichever}
-use Rattle.bac_poll_laws.proofs.Lefts.{Costs, IsSame, Row, another_by_costs, another_of_costs, back_costs, behind_costs, by_alone, ends_costs, fresh_costs, left_back, left_counts, left_oldest, left_up, oldest_costs, pick, renews_costs, renews_of_costs, word_costs}
+use Rattle.bac_poll_laws.specs.Laws.{IsAimed, IsRun, Whichever}
+use Rattle.bac_poll_laws.proofs.Lefts.{Costs, IsSame, Row, another_by_costs, another_of_costs, back_costs, behind_costs, ends_costs, fresh_costs, left_back, left_counts, left_oldest, left_up, pick, renews_costs, renews_of_costs, word_costs}
 use Rattle.bac_poll_laws.proofs.Takes.{each_begins, found_refers, found_row, hour_costs, newest_costs, news_costs, some_known}
 use Rattle.bac_poll_laws.proofs.Wholes.{found_number}
 
@@ -56,7 +55,7 @@ module _ (P : Numbered → Type 0) (e : ℕ) (w : WalkPlace) (b : ℕ) where
   sees_newest_costs n p kept cut records (Some held) at is row same run three nine =
       let number : held.number ≡ kept.number = found_number P Whichever kept.number records held at in
       pick P e w b n ((length (records_behind kept.number records) == 0) && not p.alone) _ _
-      (λ none. let other : p.alone ≡ false = not_true p.alone (and_parts _ _ none).1 in let enough = nine other in
+      (λ none. let other : p.alone ≡ false = not_true p.alone (and_parts _ _ none).1 in let enough : 9 ≤ n = nine other in
       λ going. (omega (arith, enough), found_row P e w b p kept held is number row, found_refers P e w b p held, same))
       (λ some. news_costs P e w b n p kept held (first_number records) records is number row same run (omega (arith, three)))
 

@@ -12,13 +12,13 @@ use Rattle.bac_walk.proofs.Shown.{after-number, distance-behind, distance-number
 use Rattle.bac_poll.specs.Back.{back, back_alone, back_by, back_done, back_lost, back_more, back_shown, is_front, shown_last, went_back}
 use Rattle.bac_poll.specs.Epochs.{another, another_by}
 use Rattle.bac_poll.specs.Gone.{asks_restart, asks_revision, asks_word, by_gone, by_word, retold}
-use Rattle.bac_poll.specs.Joins.{asks_each, asks_newest, at_hour, found, hour}
+use Rattle.bac_poll.specs.Joins.{asks_each, found}
 use Rattle.bac_poll.specs.Known.{means_in, number_in, record_at, records_behind}
-use Rattle.bac_poll.specs.Oldest.{sees, sees_before, sees_by, sees_newest, sees_none, sees_same}
+use Rattle.bac_poll.specs.Oldest.{sees_by, sees_newest, sees_none, sees_same}
 use Rattle.bac_poll.specs.Poll.{ack_in, after_heard, after_too_many, are_asked, at_stage, count_at, has_last, has_more, more_of, reply_from, reply_in, reply_of}
-use Rattle.bac_poll.specs.Starts.{starts, starts_at}
+use Rattle.bac_poll.specs.Starts.{starts_at}
 use Rattle.bac_poll.specs.State.{KeptAs, PollState, Reply}
-use Rattle.bac_poll.specs.Turns.{Turned, brings, brings_to, confirmed, first_in, first_number, last_in, number_before, number_or, renewed, standing_at}
+use Rattle.bac_poll.specs.Turns.{Turned, brings, brings_to, confirmed, first_in, first_number, last_in, number_before, number_or, standing_at}
 use Rattle.bac_poll.specs.declared.gone.Gone.{Gone}
 use Rattle.bac_poll.specs.declared.gone.Gone.TheVariants.{Dropped, Doubtful, Both}
 use Rattle.bac_poll.specs.declared.known.Means.{Means}
@@ -29,9 +29,9 @@ use Rattle.bac_poll.specs.declared.stage.Aim.{Aim}
 use Rattle.bac_poll.specs.declared.stage.Aim.TheVariants.{Finds, Renews, Starts}
 use Rattle.bac_poll.specs.declared.stage.Stage.{Stage}
 use Rattle.bac_poll.specs.declared.stage.Stage.TheVariants as stage
-use Rattle.bac_poll_laws.specs.Backwards.{BackwardsAreFew, GoesBack, IsBackFrom, IsLoggedIn, SayBack}
+use Rattle.bac_poll_laws.specs.Backwards.{BackwardsAreFew, IsLoggedIn, SayBack}
 use Rattle.bac_poll_laws.specs.Delivers.{Given, IsWithin, LiesIn, ShowsHeld, after_given, asking_less}
-use Rattle.bac_poll_laws.specs.Laws.{Answer, Answers, Counted, HasSome, HoldsOfEach, IsAt, IsRun, IsStanding, Replied, Restarted, Revised, ShowsOnly, Whichever, after_answer}
+use Rattle.bac_poll_laws.specs.Laws.{Answer, Answers, Counted, HasSome, HoldsOfEach, IsRun, IsStanding, Replied, Restarted, Revised, ShowsOnly, Whichever, after_answer}
 use Rattle.bac_poll_laws.proofs.Bounds.{half_low}
 use Rattle.bac_poll_laws.proofs.Delivered.{less_stage, less_standing, shows_of}
 use Rattle.bac_poll_laws.proofs.Once.{IsRunReply, any_answer, heard_run, one_answer}

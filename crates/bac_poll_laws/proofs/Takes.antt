@@ -1,12 +1,12 @@
 -- How many questions may follow the turns of the rule, section by section.
-use Rattle.std.proofs.Common.{arith, is_some, ◌≡◌, ℕ, suc, ◌+◌, ◌-◌, ◌≤◌, ◌<◌, ◌==◌, ◌&&◌, ◌++◌, not, nat_lt, Bool, true, false, if◌then◌else◌, Option, None, Some, List, [], ◌∷◌, cond, length, refl, sym, ap, subst, ◌∙◌}
+use Rattle.std.proofs.Common.{arith, is_some, ◌≡◌, ℕ, ◌+◌, ◌-◌, ◌≤◌, ◌<◌, ◌==◌, ◌&&◌, ◌++◌, nat_lt, Bool, true, false, Option, None, Some, List, [], ◌∷◌, cond, length, refl, sym, ap, subst, ◌∙◌}
 use Rattle.std.proofs.lemmas.Bool.{and_parts, eqb-true, ltb-true}
 use Rattle.std.proofs.lemmas.List.{length-append}
 use Rattle.bac_link.specs.Ordinals.{distance, number_after}
 use Rattle.bac_walk.specs.Place.{WalkPlace}
 use Rattle.bac_walk.specs.declared.batch.Numbered.{Numbered}
 use Rattle.bac_poll.specs.Epochs.{another}
-use Rattle.bac_poll.specs.Joins.{again, again_by, again_equal, again_from, ahead, ahead_none, asks_again, asks_each, asks_newest, at_hour, brings_ahead, each, each_all, each_by, each_means, each_next, found, goes_nowhere, hour, joined, joins, joins_by, joins_from, lost, lost_ahead, moved_ahead, prior}
+use Rattle.bac_poll.specs.Joins.{again, again_by, again_equal, again_from, ahead, asks_again, asks_each, asks_newest, at_hour, brings_ahead, each, each_by, each_means, each_next, found, goes_nowhere, hour, joined, joins, joins_by, joins_from, lost, lost_ahead, moved_ahead, prior}
 use Rattle.bac_poll.specs.Known.{heeding, maybe_shown, means_in, means_of, number_in, record_at, records_behind, shown_in}
 use Rattle.bac_poll.specs.Poll.{kept_number}
 use Rattle.bac_poll.specs.State.{KeptAs, PollState, Reply, kept_of}

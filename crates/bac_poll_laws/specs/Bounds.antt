@@ -10,7 +10,6 @@ use Rattle.bac_poll_laws.specs.Questions.{one_if_kept}
 use Rattle.bac_poll.specs.Poll.{joining, starting}
 use Rattle.bac_poll.specs.State.{KeptAs, PollState, StandingAs, ToldAs}
 use Rattle.bac_poll.specs.Turns.{Turned}
-use Rattle.bac_poll.specs.declared.stage.Aim.{Aim}
 use Rattle.bac_poll.specs.declared.stage.Stage.{Stage}
 use Rattle.bac_poll.specs.declared.stage.Stage.TheVariants.{Joins, Prior, Ahead, Again, Each, Oldest, ByNumber, Counts}
 use Rattle.bac_poll.specs.declared.stage.Stage.TheVariants.{UpTo, Back, Revision, Restart}

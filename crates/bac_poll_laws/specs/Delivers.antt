@@ -1,18 +1,17 @@
 -- What a poll keeps of a log that goes on, by ordinals, where its device says what it holds. Ordinals count the entries
 -- of a log for ever, and never come round; what is shown of one is its number. Caught has the law.
-use Rattle.std.specs.Prelude.{◌≡◌, ℕ, zero, suc, ◌+◌, ◌<◌, ◌≤◌, ◌⊎◌, Bool, true, false, Option, None, Some}
+use Rattle.std.specs.Prelude.{◌≡◌, ℕ, zero, suc, ◌+◌, ◌<◌, ◌≤◌, ◌⊎◌, Bool, true, false, None}
 use Rattle.std.specs.Prelude.{List, [], ◌∷◌}
 use Rattle.bac_wire.specs.Primitive.{Id}
 use Rattle.bac_log.specs.TrendLog.{sequence_number}
 use Rattle.bac_link.specs.Delivery.{History, Holds, IsEntry, Moment}
-use Rattle.bac_link.specs.Ordinals.{number_after}
 use Rattle.bac_link.specs.declared.item.Item.{Item}
 use Rattle.bac_link.specs.declared.item.Item.TheVariants.{Gap, Logged}
 use Rattle.bac_walk.specs.declared.batch.Numbered.{Numbered}
 use Rattle.bac_poll_laws.specs.Laws.{Answer, Clears, Counted, IsBefore, Replied, Restarted, Revised, after_answer}
 use Rattle.bac_poll_laws.specs.Logged.{IsShownAt}
 use Rattle.bac_poll.specs.Poll.{after_too_many, joining, reply_in}
-use Rattle.bac_poll.specs.State.{PollState, Reply, StandingAs, ToldAs}
+use Rattle.bac_poll.specs.State.{PollState, StandingAs, ToldAs}
 use Rattle.bac_poll.specs.Turns.{Turned}
 use Rattle.bac_poll.specs.declared.stage.Aim.TheVariants.{Finds, Renews, Starts}
 use Rattle.bac_poll.specs.declared.stage.Aim.{Aim}
