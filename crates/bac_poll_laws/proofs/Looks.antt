@@ -5,13 +5,14 @@ use Rattle.bac_link.specs.Ordinals.{is_ahead, number_after}
 use Rattle.bac_walk.specs.Place.{WalkPlace}
 use Rattle.bac_walk.specs.declared.batch.Numbered.{Numbered}
 use Rattle.bac_poll.specs.Back.{back_alone, back_by, back_done, back_lost, back_more, back_shown, is_front, shown_last}
+use Rattle.bac_poll.specs.Joins.{found}
 use Rattle.bac_poll.specs.Known.{means_in, record_at, records_behind}
 use Rattle.bac_poll.specs.Oldest.{by_count, by_number, drops, is_first, logged, sees, sees_before, sees_by, sees_newest, sees_none, sees_same}
 use Rattle.bac_poll.specs.Poll.{came, oldest, oldest_none, renews_by, up_to, up_to_none}
 use Rattle.bac_poll.specs.Oldest.{is_cut}
 use Rattle.bac_poll.specs.Starts.{starts, starts_at, starts_by, starts_from, starts_none, starts_refused, starts_told}
 use Rattle.bac_poll.specs.State.{KeptAs, PollState, Reply}
-use Rattle.bac_poll.specs.Turns.{Turned, confirmed, end_of, first_in, first_number, last_in, standing_at}
+use Rattle.bac_poll.specs.Turns.{Turned, asks, confirmed, end_of, first_in, first_number, last_in, standing_at}
 use Rattle.bac_poll.specs.declared.known.Means.{Means}
 use Rattle.bac_poll.specs.declared.known.Means.TheVariants.{Shifted, Partly, Same, Unshown, Another}
 use Rattle.bac_poll.specs.declared.known.Shown.{Shown}
@@ -48,6 +49,9 @@ module _ (P : Numbered → Type 0) (e : ℕ) (w : WalkPlace) (b : ℕ) where
       pick P e w b n (is_ahead p.next (first_number records)) _ _ (λ behind. drops_costs n p back records row same run three enough)
       (λ before. sees_before_costs n p cut records row same run (omega (arith, three)))
 
+  found_costs : (n : ℕ) (p : PollState) (kept : KeptAs) (held : Numbered) → p.newest ≡ Some kept → held.number ≡ kept.number → Row p → IsSame w b p → 9 ≤ n → Costs e w b n (asks (found p held))
+  found_costs n p kept held is number row same enough = λ going. (omega (arith, enough), found_row P e w b p kept held is number row, found_refers P e w b p held, same)
+
   sees_newest_costs : (n : ℕ) (p : PollState) (kept : KeptAs) (cut : Bool) (records : List Numbered) (at : Option Numbered) → record_at kept.number records ≡ at → p.newest ≡ Some kept → Row p →
       IsSame w b p → IsRun P (first_number records) records → 3 ≤ n → (p.alone ≡ false → 9 ≤ n) → Costs e w b n (sees_newest p kept cut records at)
   sees_newest_costs n p kept cut records None at is row same run three nine =
@@ -55,8 +59,7 @@ module _ (P : Numbered → Type 0) (e : ℕ) (w : WalkPlace) (b : ℕ) where
   sees_newest_costs n p kept cut records (Some held) at is row same run three nine =
       let number : held.number ≡ kept.number = found_number P Whichever kept.number records held at in
       pick P e w b n ((length (records_behind kept.number records) == 0) && not p.alone) _ _
-      (λ none. let other : p.alone ≡ false = not_true p.alone (and_parts _ _ none).1 in let enough : 9 ≤ n = nine other in
-      λ going. (omega (arith, enough), found_row P e w b p kept held is number row, found_refers P e w b p held, same))
+      (λ none. found_costs n p kept held is number row same (nine (not_true p.alone (and_parts _ _ none).1)))
       (λ some. news_costs P e w b n p kept held (first_number records) records is number row same run (omega (arith, three)))
 
   sees_same_costs : (n : ℕ) (p : PollState) (cut : Bool) (records : List Numbered) (newest : Option KeptAs) → p.newest ≡ newest → Row p → IsSame w b p → IsRun P (first_number records) records → 3 ≤ n →

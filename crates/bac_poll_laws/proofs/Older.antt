@@ -1,24 +1,32 @@
 -- Each question backwards but one brings an older record.
 use Rattle.std.proofs.Common.{arith, ◌≡◌, ℕ, zero, suc, ◌+◌, ◌*◌, ◌-◌, ◌≤◌, ◌<◌, ◌==◌, ◌&&◌, ◌||◌, not, nat_le, nat_lt, Bool, true, false, if◌then◌else◌, Option, None, Some, List, [], ◌∷◌, length, refl, sym, ap, subst, ◌∙◌, ◌⊎◌, inl, inr}
-use Rattle.std.proofs.lemmas.Bool.{and_parts, eq-eqb, eqb-true, leb-false, leb-true, ltb-false, ltb-true}
+use Rattle.std.proofs.lemmas.Bool.{and_from, and_parts, eq-eqb, eqb-true, leb-false, leb-true, ltb-false, ltb-true}
+use Rattle.std.proofs.lemmas.Slice.Eq.{bytes_eq-Decides}
+use Rattle.std.specs.Cmp.{nat_cmp_is}
+use Rattle.std.specs.Ordering.{is_eq, nat_cmp, ordering_then}
+use Rattle.std.specs.Str.{bytes_eq}
+use Rattle.std.specs.declared.cmp.Ordering.{Ordering}
+use Rattle.std.specs.declared.cmp.Ordering.TheVariants.{Equal}
 use Rattle.bac_log.specs.TrendLog.{sequence_number}
 use Rattle.bac_log.specs.declared.entry.Entry.{Entry}
-use Rattle.bac_link.specs.Delivery.{History, Moment}
+use Rattle.bac_link.specs.Delivery.{History, IsEntry, Moment}
 use Rattle.bac_link.specs.Heard.{AckParameters, heard_in}
 use Rattle.bac_link.specs.Ordinals.{distance, is_ahead, number_after}
 use Rattle.bac_walk.specs.Walks.{Ask, Bring, End, NextAct, Refuse, verdict, with_numbers}
 use Rattle.bac_walk.specs.declared.batch.Numbered.{Numbered}
 use Rattle.bac_walk.proofs.Shown.{after-number, distance-behind, distance-number}
-use Rattle.bac_poll.specs.Back.{back, back_alone, back_by, back_done, back_lost, back_more, back_shown, is_front, shown_last, went_back}
+use Rattle.bac_poll.specs.Back.{back, back_alone, back_by, back_done, back_more, back_shown, is_front, shown_last, went_back}
+use Rattle.bac_poll.specs.DateTime.{is_same_time}
 use Rattle.bac_poll.specs.Epochs.{another, another_by}
 use Rattle.bac_poll.specs.Gone.{asks_restart, asks_revision, asks_word, by_gone, by_word, retold}
 use Rattle.bac_poll.specs.Joins.{asks_each, found}
-use Rattle.bac_poll.specs.Known.{means_in, number_in, record_at, records_behind}
+use Rattle.bac_poll.specs.Known.{is_same_value, means_in, number_in, record_at, records_behind, shift_of, shown_as}
 use Rattle.bac_poll.specs.Oldest.{sees_by, sees_newest, sees_none, sees_same}
 use Rattle.bac_poll.specs.Poll.{ack_in, after_heard, after_too_many, are_asked, at_stage, count_at, has_last, has_more, more_of, reply_from, reply_in, reply_of}
 use Rattle.bac_poll.specs.Starts.{starts_at}
-use Rattle.bac_poll.specs.State.{KeptAs, PollState, Reply}
+use Rattle.bac_poll.specs.State.{KeptAs, PollState, Reply, kept_of}
 use Rattle.bac_poll.specs.Turns.{Turned, brings, brings_to, confirmed, first_in, first_number, last_in, number_before, number_or, standing_at}
+use Rattle.bac_poll.specs.declared.date_time.DateTime.{DateTime}
 use Rattle.bac_poll.specs.declared.gone.Gone.{Gone}
 use Rattle.bac_poll.specs.declared.gone.Gone.TheVariants.{Dropped, Doubtful, Both}
 use Rattle.bac_poll.specs.declared.known.Means.{Means}
@@ -29,9 +37,10 @@ use Rattle.bac_poll.specs.declared.stage.Aim.{Aim}
 use Rattle.bac_poll.specs.declared.stage.Aim.TheVariants.{Finds, Renews, Starts}
 use Rattle.bac_poll.specs.declared.stage.Stage.{Stage}
 use Rattle.bac_poll.specs.declared.stage.Stage.TheVariants as stage
-use Rattle.bac_poll_laws.specs.Backwards.{BackwardsAreFew, IsLoggedIn, SayBack}
+use Rattle.bac_poll_laws.specs.Backwards.{BackwardsAreFew, IsLoggedIn, NoneAgain, SayBack}
+use Rattle.bac_poll_laws.specs.Bounds.{oldest_one}
 use Rattle.bac_poll_laws.specs.Delivers.{Given, IsWithin, LiesIn, ShowsHeld, after_given, asking_less}
-use Rattle.bac_poll_laws.specs.Laws.{Answer, Answers, Counted, HasSome, HoldsOfEach, IsRun, IsStanding, Replied, Restarted, Revised, ShowsOnly, Whichever, after_answer}
+use Rattle.bac_poll_laws.specs.Laws.{Answer, Answers, Counted, HasSome, HoldsOfEach, IsAt, IsRun, IsStanding, Replied, Restarted, Revised, ShowsOnly, Whichever, after_answer}
 use Rattle.bac_poll_laws.proofs.Bounds.{half_low}
 use Rattle.bac_poll_laws.proofs.Delivered.{less_stage, less_standing, shows_of}
 use Rattle.bac_poll_laws.proofs.Once.{IsRunReply, any_answer, heard_run, one_answer}
@@ -40,7 +49,7 @@ use Rattle.bac_poll_laws.proofs.Wholes.{last_step, split}
 
 -- ---- where a turn goes on backwards
 
--- this holds of what is held back, and of the number up to which is asked; for so many records
+-- This holds of what is held back, and of the number up to which is asked, for so many records. It isn't begun again.
 abbrev AtBack : (List Numbered → ℕ → Type 0) → (c : ℕ) → PollState → Stage → Type 0
 AtBack Z c p stage.Joins = Unit {0}
 AtBack Z c p stage.Prior = Unit {0}
@@ -48,8 +57,8 @@ AtBack Z c p stage.Ahead = Unit {0}
 AtBack Z c p stage.Again = Unit {0}
 AtBack Z c p stage.Each = Unit {0}
 AtBack Z c p stage.ByNumber = Unit {0}
-AtBack Z c p (stage.Oldest aim) = Unit {0}
-AtBack Z c p (stage.Counts aim) = Unit {0}
+AtBack Z c p (stage.Oldest aim) = ⊥
+AtBack Z c p (stage.Counts aim) = ⊥
 AtBack Z c p (stage.UpTo aim) = Unit {0}
 AtBack Z c p (stage.Back aim) = Z p.held p.reference × (p.walk.count ≡ c)
 AtBack Z c p stage.Revision = Unit {0}
@@ -129,41 +138,78 @@ module _ (P : Numbered → Type 0) (Z : List Numbered → ℕ → Type 0) (c : �
   done_steps p Renews records = brings_steps p records
   done_steps p Starts records = starts_steps p _ records p.counted
 
-  lost_steps : (p : PollState) (aim : Aim) → Steps Z c (back_lost p aim)
-  lost_steps p Finds = λ going sure. tt
-  lost_steps p Renews = λ going sure. tt
-  lost_steps p Starts = λ going sure. tt
-
   more_steps : (p : PollState) (aim : Aim) (records : List Numbered) → p.walk.count ≡ c → Z records (first_number records) → Steps Z c (back_more p aim records)
   more_steps p aim records many older = pick (is_front p records (means_in p records)) _ _ (λ front. done_steps p aim records) (λ back. λ going sure. (older, many))
 
   alone_steps : (p : PollState) (aim : Aim) (held : List Numbered) → p.walk.count ≡ c → Z held (number_before (first_number held)) → Steps Z c (back_alone p aim held)
   alone_steps p aim held many before = pick (p.more || (p.walk.count == 1)) _ _ (λ more. λ going sure. (before, many)) (λ none. done_steps p aim held)
 
-  -- by how the reply ends
-  shown_steps : (p : PollState) (aim : Aim) (held records : List Numbered) (seen : Shown) → p.walk.count ≡ c → ((length records == 1) ≡ true → Z held (number_before (first_number held))) →
-      ((length records == 1) ≡ false → Z records (first_number records)) → Steps Z c (back_shown p aim held records seen)
-  shown_steps p aim held records shown.Equal many before older = pick (length records == 1) _ _ (λ alone. alone_steps p aim held many (before alone)) (λ more. more_steps p aim records many (older more))
-  shown_steps p aim held records shown.Unshown many before older = lost_steps p aim
-  shown_steps p aim held records (shown.Moved by) many before older = lost_steps p aim
-  shown_steps p aim held records shown.Another many before older = lost_steps p aim
+  -- the first that is held back is shown as it was
+  shown_steps : (p : PollState) (aim : Aim) (held records : List Numbered) → p.walk.count ≡ c → ((length records == 1) ≡ true → Z held (number_before (first_number held))) →
+      ((length records == 1) ≡ false → Z records (first_number records)) → Steps Z c (back_shown p aim held records shown.Equal)
+  shown_steps p aim held records many before older = pick (length records == 1) _ _ (λ alone. alone_steps p aim held many (before alone)) (λ more. more_steps p aim records many (older more))
 
-  -- the same, by its last record
+  -- by the last record of the reply
   abbrev Ends : List Numbered → List Numbered → Numbered → Type 0
   Ends held records last =
-      ((last.number == first_number held) ≡ true → ((length records == 1) ≡ true → Z held (number_before (first_number held))) × ((length records == 1) ≡ false → Z records (first_number records)))
+      ((last.number == first_number held) ≡ true → (shown_last (first_in held) last ≡ shown.Equal) × ((length records == 1) ≡ true → Z held (number_before (first_number held)))
+      × ((length records == 1) ≡ false → Z records (first_number records)))
       × ((last.number == first_number held) ≡ false → Z records (first_number records))
 
   by_steps : (p : PollState) (aim : Aim) (held records : List Numbered) (last : Option Numbered) → p.walk.count ≡ c → ((l : Numbered) → last ≡ Some l → Ends held records l) → Steps Z c (back_by p aim held records last)
   by_steps p aim held records None many ends = done_steps p aim held
   by_steps p aim held records (Some l) many ends =
       let all = ends l refl in
-      pick (l.number == first_number held) _ _ (λ ended. let both = all.0 ended in shown_steps p aim held records (shown_last (first_in held) l) many both.0 both.1)
+      pick (l.number == first_number held) _ _ (λ ended. let both = all.0 ended in
+      subst (λ (seen : Shown). Steps Z c (back_shown p aim held records seen)) (sym both.0) (shown_steps p aim held records many both.1 both.2))
       (λ short. more_steps p aim records many (all.1 short))
 
   pub back_steps : (p : PollState) (aim : Aim) (held records : List Numbered) → p.walk.count ≡ c → ((l : Numbered) → last_in records ≡ Some l → Ends held records l) → Steps Z c (back p aim held records)
   back_steps p aim held records many ends =
       pick (nat_lt p.back 2147483648) _ _ (λ near. by_steps (went_back p records) aim held records (last_in records) many ends) (λ far. λ going sure. absurd (cc))
+
+-- ---- an entry is shown as it was
+
+equal_part : (n : ℕ) → nat_cmp n n ≡ Equal
+equal_part n = sym (nat_cmp_is n n Equal refl)
+
+equal_then : (n : ℕ) (rest : Ordering) → ordering_then (nat_cmp n n) rest ≡ rest
+equal_then n rest = subst (λ (o : Ordering). ordering_then o rest ≡ rest) (sym (equal_part n)) refl
+
+same_time : (s : DateTime) → is_same_time s s ≡ true
+same_time s =
+    ap is_eq (equal_then s.date.year _ ∙ equal_then s.date.month _ ∙ equal_then s.date.day _ ∙ equal_then s.time.hour _ ∙ equal_then s.time.minute _ ∙ equal_then s.time.second _
+    ∙ equal_part s.time.hundredth)
+
+both_true : (a b : Bool) (x y : Shown) → a ≡ true → b ≡ true → (if a then (if b then shown.Equal else x) else y) ≡ shown.Equal
+both_true true true x y is too = refl
+both_true false b x y is too = absurd (cc)
+both_true true false x y is too = absurd (cc)
+
+same_self : (kept : KeptAs) (number : ℕ) → shown_as kept (record kept { number = number }) ≡ shown.Equal
+same_self kept number =
+    both_true (is_same_value kept (record kept { number = number })) (is_same_time kept.stamp kept.stamp) (shift_of kept.stamp kept.stamp) shown.Another
+    (and_from (bytes_eq kept.datum kept.datum) (bytes_eq kept.flags kept.flags) ((bytes_eq-Decides kept.datum kept.datum).1 refl) ((bytes_eq-Decides kept.flags kept.flags).1 refl))
+    (same_time kept.stamp)
+
+same_entry : (f l : Numbered) → f.entry ≡ l.entry → shown_as (kept_of f) (kept_of l) ≡ shown.Equal
+same_entry f l same =
+    subst (λ (e : Entry). shown_as (kept_of f) (kept_of (record { number = l.number; entry = e })) ≡ shown.Equal) same (same_self (kept_of f) l.number)
+
+-- a turn that goes on so asks for no oldest again
+none_again : (Z : List Numbered → ℕ → Type 0) (c : ℕ) (p : PollState) (s : Stage) → AtBack Z c p s → oldest_one s ≡ 0
+none_again Z c p stage.Joins at = refl
+none_again Z c p stage.Prior at = refl
+none_again Z c p stage.Ahead at = refl
+none_again Z c p stage.Again at = refl
+none_again Z c p stage.Each at = refl
+none_again Z c p stage.ByNumber at = refl
+none_again Z c p (stage.Oldest aim) at = absurd at
+none_again Z c p (stage.Counts aim) at = absurd at
+none_again Z c p (stage.UpTo aim) at = refl
+none_again Z c p (stage.Back aim) at = refl
+none_again Z c p stage.Revision at = refl
+none_again Z c p stage.Restart at = refl
 
 -- ---- numbers of older records
 
@@ -216,6 +262,27 @@ module _ (H : History) (low : ℕ) where
       let at : i + 1 + length rs ≡ i + length (s ∷ rs) = omega arith in
       rest ∙ ap sequence_number at
 
+  -- the last of a run is an entry
+  last_logged : (n : ℕ) (rs : List Numbered) (l : Numbered) → IsRun (IsLoggedIn H low) n rs → last_in rs ≡ Some l → IsLoggedIn H low l
+  last_logged n [] l run is = absurd (cc)
+  last_logged n (r ∷ []) l run is = let same : r ≡ l = cc in subst (IsLoggedIn H low) same run.1
+  last_logged n (r ∷ s ∷ rs) l run is = last_logged (number_after r.number 1) (s ∷ rs) l run.2 (sym (last_step (IsLoggedIn H low) Whichever r s rs) ∙ is)
+
+  -- the first that is held back is shown as it was
+  first_same : (held : List Numbered) (l : Numbered) → IsRun (IsLoggedIn H low) (first_number held) held → HasSome held → IsLoggedIn H low l → (l.number == first_number held) ≡ true →
+      shown_last (first_in held) l ≡ shown.Equal
+  first_same [] l run some is ended = absurd some
+  first_same (f ∷ fs) l run some is ended =
+      let at = run.1 in
+      let number : l.number ≡ f.number = eqb-true l.number f.number ended in
+      let same : is.0 ≡ at.0 = near_ordinal low is.0 at.0 (is.3, omega (arith, is.4)) (at.3, omega (arith, at.4)) (sym is.1 ∙ number ∙ at.1) in
+      let there : IsEntry H at.0 l.entry = subst (λ (k : ℕ). IsEntry H k l.entry) same is.2 in
+      let both : Some f.entry ≡ Some l.entry = sym at.2.1 ∙ there.1 in
+      same_entry f l (one_entry f.entry l.entry both)
+    where
+      one_entry : (a b : Entry) → Some a ≡ Some b → a ≡ b
+      one_entry a b both = cc
+
   -- so many questions backwards are left: from the first of the records that are held back on, or from before it
   abbrev Refers : ℕ → (j : ℕ) → (number : ℕ) → (reference : ℕ) → Type 0
   Refers n j number reference = ((reference ≡ number) × (n ≡ 2 * (j - low) + 2)) ⊎ ((reference ≡ number_before number) × (n ≡ 2 * (j - low) + 1))
@@ -232,14 +299,15 @@ module _ (H : History) (low : ℕ) where
 
   from_first : (n j : ℕ) (held : List Numbered) (reference : ℕ) → first_number held ≡ sequence_number j → LiesIn low j → reference ≡ first_number held → n ≡ 2 * (j - low) + 2 →
       (r : Numbered) (rs : List Numbered) → IsRun (IsLoggedIn H low) r.number (r ∷ rs) → distance r.number reference < 100 → length (r ∷ rs) ≤ distance r.number reference + 1 →
-      (l : Numbered) → last_in (r ∷ rs) ≡ Some l → Ends (IsLoggedIn H low) (Below n) 0 held (r ∷ rs) l
-  from_first n j held reference at lies from left r rs run near upto l last =
+      (l : Numbered) → last_in (r ∷ rs) ≡ Some l → ((l.number == first_number held) ≡ true → shown_last (first_in held) l ≡ shown.Equal) → Ends (IsLoggedIn H low) (Below n) 0 held (r ∷ rs) l
+  from_first n j held reference at lies from left r rs run near upto l last equal =
       let P = run.1 in
       let i = P.0 in
       let same : distance r.number reference ≡ distance (sequence_number i) (sequence_number j) = ap (λ (k : ℕ). distance k reference) P.1 ∙ ap (λ (k : ℕ). distance (sequence_number i) k) (from ∙ at) in
       let up = near_up low i j (P.3, omega (arith, P.4)) lies (omega (arith, near, same)) in
       let old : i < j → Below n (r ∷ rs) r.number = λ less. older n i j (r ∷ rs) P.1 P.3 P.4 less (omega (arith, left)) in (
         λ ended. (
+          equal ended,
           λ alone. (2 * (j - low) + 1, omega (arith, left), (j, at, lies, inr (refl, refl))),
           λ more. old (many rs more up.0 (omega (arith, upto, same, up.1))),
         ),
@@ -330,38 +398,39 @@ module _ (H : History) (low : ℕ) where
   one_shown m p (Revised revision) within shows = shows
   one_shown m p (Restarted restart moment) within shows = shows
 
-  ends_by : (n : ℕ) (held : List Numbered) (reference count : ℕ) → 0 < low → Left H low n held reference → count ≤ 100 → (rs : List Numbered) → IsRun (IsLoggedIn H low) (first_number rs) rs →
+  ends_by : (n : ℕ) (held : List Numbered) (reference count : ℕ) → 0 < low → Left H low n held reference → count ≤ 100 → IsRun (IsLoggedIn H low) (first_number held) held → HasSome held → (rs : List Numbered) → IsRun (IsLoggedIn H low) (first_number rs) rs →
       (HasSome rs → (distance (first_number rs) reference < count) × (length rs ≤ distance (first_number rs) reference + 1)) →
       (l : Numbered) → last_in rs ≡ Some l → Ends (IsLoggedIn H low) (Below H low n) count held rs l
-  ends_by n held reference count some left many [] run up l last = absurd (cc)
-  ends_by n held reference count some left many (r ∷ rs) run up l last =
+  ends_by n held reference count some left many kept has [] run up l last = absurd (cc)
+  ends_by n held reference count some left many kept has (r ∷ rs) run up l last =
       let near = up tt in by left.3 (omega (arith, near.0, many)) near.1
     where
       by : Refers H low n left.0 (first_number held) reference → distance r.number reference < 100 → length (r ∷ rs) ≤ distance r.number reference + 1 →
           Ends (IsLoggedIn H low) (Below H low n) count held (r ∷ rs) l
       by (inl at) near upto = from_first H low n left.0 held reference left.1 left.2 at.0 at.1 r rs run near upto l last
+          (λ ended. first_same H low held l kept has (last_logged H low r.number (r ∷ rs) l run last) ended)
       by (inr at) near upto = from_before H low n left.0 held reference some left.1 left.2 at.0 at.1 r rs run near upto l last
 
   heard_steps : (n : ℕ) (p : PollState) (reply : Option Reply) (aim : Aim) → 0 < low → p.stage ≡ stage.Back aim → Left H low n p.held p.reference → p.walk.count ≤ 100 →
-      IsRunReply (IsLoggedIn H low) Whichever reply → IsUpTo p reply → Steps (Below H low n) p.walk.count (after_heard p reply)
-  heard_steps n p None aim some at left many run up = λ going sure. absurd (cc)
-  heard_steps n p (Some reply) aim some at left many run up =
+      IsRun (IsLoggedIn H low) (first_number p.held) p.held → HasSome p.held → IsRunReply (IsLoggedIn H low) Whichever reply → IsUpTo p reply → Steps (Below H low n) p.walk.count (after_heard p reply)
+  heard_steps n p None aim some at left many kept has run up = λ going sure. absurd (cc)
+  heard_steps n p (Some reply) aim some at left many kept has run up =
       let q : PollState = record p { more = more_of p reply; held = [] } in
       subst (λ (s : Stage). Steps (Below H low n) p.walk.count (at_stage q s p.held reply)) (sym at)
       (back_steps (IsLoggedIn H low) (Below H low n) p.walk.count q aim p.held reply.records refl
-      (λ l last. ends_by n p.held p.reference p.walk.count some left many reply.records run (up aim at) l last))
+      (λ l last. ends_by n p.held p.reference p.walk.count some left many kept has reply.records run (up aim at) l last))
 
-  answer_steps : (n : ℕ) (p : PollState) (answer : Answer) (aim : Aim) → 0 < low → p.stage ≡ stage.Back aim → Left H low n p.held p.reference → p.walk.count ≤ 100 → Answers (IsLoggedIn H low) p answer →
+  answer_steps : (n : ℕ) (p : PollState) (answer : Answer) (aim : Aim) → 0 < low → p.stage ≡ stage.Back aim → Left H low n p.held p.reference → p.walk.count ≤ 100 → IsRun (IsLoggedIn H low) (first_number p.held) p.held → HasSome p.held → Answers (IsLoggedIn H low) p answer →
       Steps (Below H low n) p.walk.count (after_answer p answer)
-  answer_steps n p (Replied datagram) aim some at left many shows =
+  answer_steps n p (Replied datagram) aim some at left many kept has shows =
       let heard = heard_in p.walk.log datagram in
       let last = has_last (ack_in datagram) in
       let more = has_more (ack_in datagram) in
-      heard_steps n p (reply_in p datagram) aim some at left many (heard_run (IsLoggedIn H low) Whichever p heard last more shows) (heard_up p heard last more)
-  answer_steps n p (Counted count) aim some at left many shows =
+      heard_steps n p (reply_in p datagram) aim some at left many kept has (heard_run (IsLoggedIn H low) Whichever p heard last more shows) (heard_up p heard last more)
+  answer_steps n p (Counted count) aim some at left many kept has shows =
       subst (λ (s : Stage). Steps (Below H low n) p.walk.count (count_at p s count)) (sym at) (λ going sure. absurd (cc))
-  answer_steps n p (Revised revision) aim some at left many shows = let never : stage.Revision ≡ stage.Back aim = sym shows ∙ at in absurd (cc)
-  answer_steps n p (Restarted restart moment) aim some at left many shows = let never : stage.Restart ≡ stage.Back aim = sym shows ∙ at in absurd (cc)
+  answer_steps n p (Revised revision) aim some at left many kept has shows = let never : stage.Revision ≡ stage.Back aim = sym shows ∙ at in absurd (cc)
+  answer_steps n p (Restarted restart moment) aim some at left many kept has shows = let never : stage.Restart ≡ stage.Back aim = sym shows ∙ at in absurd (cc)
 
 -- ---- one answer after the other
 
@@ -385,22 +454,38 @@ module _ (H : History) (low : ℕ) where
       by (inl at) = omega (arith, at.1)
       by (inr at) = omega (arith, at.1)
 
+  -- what one answer is behind so many questions that are left
+  one_older : (n : ℕ) (p : PollState) (given : Given) (aim : Aim) → 0 < low → p.stage ≡ stage.Back aim → IsStanding (IsLoggedIn H low) Whichever p → Left H low n p.held p.reference →
+      p.walk.count ≤ 100 → IsWithin low given.moment → ShowsHeld low given.moment H (asking_less given.less p) given.answer →
+      Steps (Below H low n) (asking_less given.less p).walk.count (after_given p given) × ((after_given p given).end ≡ None → IsStanding (IsLoggedIn H low) Whichever (after_given p given).poll)
+  one_older n p given aim some at is left many within says =
+      let q = asking_less given.less p in
+      let shows = one_shown H low given.moment q given.answer within says in
+      let still : Left H low n q.held q.reference =
+      subst (λ (held : List Numbered). Left H low n held q.reference) (sym (less_held given.less p)) (subst (Left H low n p.held) (sym (less_reference given.less p)) left) in
+      let stands = less_standing (IsLoggedIn H low) Whichever given.less p is in
+      let back : q.stage ≡ stage.Back aim = less_stage given.less p ∙ at in
+      let held = subst (IsAt (IsLoggedIn H low) Whichever q) back stands.1 in (
+        answer_steps H low n q given.answer aim some back still (less_many given.less p many) held.1 held.2 shows,
+        (one_answer (IsLoggedIn H low) Whichever tt q given.answer stands shows (any_answer (IsLoggedIn H low) q given.answer)).1,
+      )
+
   all_older : (n : ℕ) (p : PollState) (given : List Given) (aim : Aim) → 0 < low → p.stage ≡ stage.Back aim → IsStanding (IsLoggedIn H low) Whichever p → Left H low n p.held p.reference →
-      p.walk.count ≤ 100 → SayBack low H p given → length given ≤ n
-  all_older n p [] aim some at is left many says = omega arith
-  all_older n p (given ∷ []) aim some at is left many says = let one = left_some n p.held p.reference left in omega (arith, one)
+      p.walk.count ≤ 100 → SayBack low H p given → (length given ≤ n) × NoneAgain p given
+  all_older n p [] aim some at is left many says = (omega arith, tt)
+  all_older n p (given ∷ []) aim some at is left many says =
+      let one = left_some n p.held p.reference left in
+      let t = after_given p given in
+      let steps = one_older n p given aim some at is left many says.0 says.1 in
+      (omega (arith, one), (λ going sure. none_again (Below H low n) (asking_less given.less p).walk.count t.poll t.poll.stage (steps.0 going sure), tt))
   all_older n p (given ∷ next ∷ rest) aim some at is left many says =
       let q = asking_less given.less p in
       let t = after_given p given in
-      let shows = one_shown H low given.moment q given.answer says.0 says.1 in
-      let low_many = less_many given.less p many in
-      let still : Left H low n q.held q.reference =
-      subst (λ (held : List Numbered). Left H low n held q.reference) (sym (less_held given.less p)) (subst (Left H low n p.held) (sym (less_reference given.less p)) left) in
-      let steps = answer_steps H low n q given.answer aim some (less_stage given.less p ∙ at) still low_many shows says.2.0 says.2.1 in
-      let on = subst (AtBack (Below H low n) q.walk.count t.poll) says.2.2.1 steps in
-      let stands = (one_answer (IsLoggedIn H low) Whichever tt q given.answer (less_standing (IsLoggedIn H low) Whichever given.less p is) shows (any_answer (IsLoggedIn H low) q given.answer)).1 says.2.0 in
-      let others = all_older on.0.0 t.poll (next ∷ rest) says.2.2.0 some says.2.2.1 stands on.0.2 (omega (arith, on.1, low_many)) says.3 in
-      omega (arith, others, on.0.1)
+      let steps = one_older n p given aim some at is left many says.0 says.1 in
+      let on = subst (AtBack (Below H low n) q.walk.count t.poll) says.2.2.1 (steps.0 says.2.0 says.2.1) in
+      let fewer = less_many given.less p many in
+      let others = all_older on.0.0 t.poll (next ∷ rest) says.2.2.0 some says.2.2.1 (steps.1 says.2.0) on.0.2 (omega (arith, on.1, fewer)) says.3 in
+      (omega (arith, others.0, on.0.1), (λ going sure. none_again (Below H low n) q.walk.count t.poll t.poll.stage (steps.0 going sure), others.1))
 
 pub backwards_few : BackwardsAreFew
 backwards_few H low k p answers back says =

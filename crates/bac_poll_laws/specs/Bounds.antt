@@ -20,8 +20,8 @@ use Rattle.bac_poll.specs.declared.stage.Stage.TheVariants.{UpTo, Back, Revision
 abbrev pub WhicheverRecord : Numbered → Type 0
 WhicheverRecord held = Unit {0}
 
--- answers to what is asked, one after the other, none of which but the last ends the poll; before each of them fewer
--- records may be asked for
+-- Answers to what is asked, one after the other, none of which but the last ends the poll. Before each of them fewer
+-- records may be asked for: a question counts once.
 abbrev pub AnswerIt : PollState → List Given → Type 0
 AnswerIt p [] = Unit {0}
 AnswerIt p (given ∷ others) =

@@ -75,7 +75,8 @@ pub fn questions_are_bounded()
 {}
 
 /// Where a device says what its log holds, of a log that goes on, each two questions backwards, one
-/// after the other, bring an older record, down to the oldest that was held.
+/// after the other, bring an older record, down to the oldest that was held; and none is asked
+/// because what came first is another record by then.
 pub fn backwards_are_few()
     ensures { BackwardsAreFew }
 {}
