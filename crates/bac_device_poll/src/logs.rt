@@ -56,10 +56,10 @@ fn wanted_at(stage: LogStage) -> Wanted
 }
 
 // A turn with which the poll of a log ends.
-fn ended(poll: &LogPoll, why: PollEnd) -> LogTurn
+fn ended(alloc: Global, poll: &LogPoll, why: PollEnd) -> LogTurn
     ensures { log_turned poll.now result ≡ ends poll.now why }
 {
-    LogTurn::ends(why)
+    LogTurn::ends(alloc, why)
 }
 
 // Records came, or were refused.
@@ -74,8 +74,12 @@ fn take_records(
 {
     match verdict {
         Verdict::Ack => poll.take(alloc, datagram),
-        Verdict::Refused(refusal) => Ok(ended(poll, PollEnd::Fault(WalkFault::Refused(refusal)))),
-        Verdict::BadReply => Ok(ended(poll, PollEnd::Fault(WalkFault::BadReply))),
+        Verdict::Refused(refusal) => Ok(ended(
+            alloc,
+            poll,
+            PollEnd::Fault(WalkFault::Refused(refusal)),
+        )),
+        Verdict::BadReply => Ok(ended(alloc, poll, PollEnd::Fault(WalkFault::BadReply))),
     }
 }
 
@@ -298,7 +302,7 @@ impl DevicePoll {
     fn lose_log(&mut self, alloc: Global, polled: Polled) -> Result<Turn, AllocError>
         ensures { IfOk result (λ turn. turned self.new turn ≡ lost self.old polled) }
     {
-        let lost = ended(&polled.poll, PollEnd::Fault(WalkFault::Lost));
+        let lost = ended(alloc, &polled.poll, PollEnd::Fault(WalkFault::Lost));
         if self.doubt {
             self.polled = Some(polled);
             let turn = self.leave(none(alloc), DeviceEnd::Silent)?;

@@ -1,3 +1,3 @@
 mod Fits
-mod Heard
+mod Taken
 mod ReadBack

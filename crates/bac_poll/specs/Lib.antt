@@ -10,3 +10,4 @@ pub mod Oldest
 pub mod Starts
 pub mod Back
 pub mod Poll
+pub mod Reading

@@ -12,7 +12,6 @@ use crate::poll::LogPoll;
 use crate::stage::{Aim, Stage};
 use crate::turn::{PollEnd, Turn};
 use crate::turns::{distance, first_in, first_number, is_one, last_in, number_before, number_or};
-use arrayvec::ArrayVec;
 use bac_walk::Numbered;
 use std::alloc::{AllocError, Global};
 
@@ -22,7 +21,7 @@ impl LogPoll {
         &mut self,
         alloc: Global,
         aim: Aim,
-        records: ArrayVec<Numbered, 100>,
+        records: Vec<Numbered>,
     ) -> Result<Turn, AllocError>
         ensures { IfOk result (λ turn. turned self.new turn
             ≡ back_done self.old aim records.items) }
@@ -35,18 +34,18 @@ impl LogPoll {
     }
 
     // The first of them is another one by now.
-    fn lose_back(&mut self, aim: Aim) -> Turn
+    fn lose_back(&mut self, alloc: Global, aim: Aim) -> Turn
         ensures { turned self.new result ≡ back_lost self.old aim }
     {
         match aim {
-            Aim::Finds => self.ask_oldest(Aim::Finds),
-            Aim::Renews => self.ask_oldest(Aim::Renews),
-            Aim::Starts => self.ask_at(Stage::Counts(Aim::Starts), self.reference),
+            Aim::Finds => self.ask_oldest(alloc, Aim::Finds),
+            Aim::Renews => self.ask_oldest(alloc, Aim::Renews),
+            Aim::Starts => self.ask_at(alloc, Stage::Counts(Aim::Starts), self.reference),
         }
     }
 
     // Whether what stands before these doesn't count.
-    fn is_front(&self, records: &ArrayVec<Numbered, 100>, means: Means) -> bool
+    fn is_front(&self, records: &Vec<Numbered>, means: Means) -> bool
         ensures { result ≡ is_front self.now records.now.items means }
     {
         match means {
@@ -63,7 +62,7 @@ impl LogPoll {
         &mut self,
         alloc: Global,
         aim: Aim,
-        records: ArrayVec<Numbered, 100>,
+        records: Vec<Numbered>,
     ) -> Result<Turn, AllocError>
         ensures { IfOk result (λ turn. turned self.new turn
             ≡ back_more self.old aim records.items) }
@@ -72,7 +71,7 @@ impl LogPoll {
         if self.is_front(&records, means) {
             self.end_back(alloc, aim, records)
         } else {
-            Ok(self.ask_back(aim, records))
+            Ok(self.ask_back(alloc, aim, records))
         }
     }
 
@@ -81,14 +80,14 @@ impl LogPoll {
         &mut self,
         alloc: Global,
         aim: Aim,
-        held: ArrayVec<Numbered, 100>,
+        held: Vec<Numbered>,
     ) -> Result<Turn, AllocError>
         ensures { IfOk result (λ turn. turned self.new turn ≡ back_alone self.old aim held.items) }
     {
-        if self.more || self.walk.count().number() == 1 {
+        if self.more || self.count.number() == 1 {
             let reference = number_before(first_number(&held));
             self.held = held;
-            Ok(self.ask_at(Stage::Back(aim), reference))
+            Ok(self.ask_at(alloc, Stage::Back(aim), reference))
         } else {
             self.end_back(alloc, aim, held)
         }
@@ -99,8 +98,8 @@ impl LogPoll {
         &mut self,
         alloc: Global,
         aim: Aim,
-        held: ArrayVec<Numbered, 100>,
-        records: ArrayVec<Numbered, 100>,
+        held: Vec<Numbered>,
+        records: Vec<Numbered>,
         shown: Shown,
     ) -> Result<Turn, AllocError>
         ensures { IfOk result (λ turn. turned self.new turn
@@ -114,9 +113,9 @@ impl LogPoll {
                     self.go_back(alloc, aim, records)
                 }
             }
-            Shown::Unshown => Ok(self.lose_back(aim)),
-            Shown::Moved(_) => Ok(self.lose_back(aim)),
-            Shown::Another => Ok(self.lose_back(aim)),
+            Shown::Unshown => Ok(self.lose_back(alloc, aim)),
+            Shown::Moved(_) => Ok(self.lose_back(alloc, aim)),
+            Shown::Another => Ok(self.lose_back(alloc, aim)),
         }
     }
 
@@ -125,8 +124,8 @@ impl LogPoll {
         &mut self,
         alloc: Global,
         aim: Aim,
-        held: ArrayVec<Numbered, 100>,
-        records: ArrayVec<Numbered, 100>,
+        held: Vec<Numbered>,
+        records: Vec<Numbered>,
     ) -> Result<Turn, AllocError>
         ensures { IfOk result (λ turn. turned self.new turn
             ≡ back_by self.old aim held.items records.items (last_in records.items)) }
@@ -149,8 +148,8 @@ impl LogPoll {
         &mut self,
         alloc: Global,
         aim: Aim,
-        held: ArrayVec<Numbered, 100>,
-        records: ArrayVec<Numbered, 100>,
+        held: Vec<Numbered>,
+        records: Vec<Numbered>,
     ) -> Result<Turn, AllocError>
         ensures { IfOk result (λ turn. turned self.new turn
             ≡ back self.old aim held.items records.items) }
@@ -160,7 +159,7 @@ impl LogPoll {
             self.back = self.back + distance(first, self.reference) + 1;
             self.take_back_by(alloc, aim, held, records)
         } else {
-            Ok(self.ends(PollEnd::Contradicts))
+            Ok(self.ends(alloc, PollEnd::Contradicts))
         }
     }
 }

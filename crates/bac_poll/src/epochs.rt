@@ -9,7 +9,6 @@ use crate::poll::LogPoll;
 use crate::stage::{Aim, Stage};
 use crate::turn::{Line, PollEnd, Turn, gap_up_to};
 use crate::turns::{first_in, first_number, number_behind, number_or};
-use arrayvec::ArrayVec;
 use bac_walk::Numbered;
 use std::alloc::{AllocError, Global};
 
@@ -25,26 +24,26 @@ impl LogPoll {
     }
 
     /// The oldest are asked for.
-    pub(crate) fn ask_oldest(&mut self, aim: Aim) -> Turn
+    pub(crate) fn ask_oldest(&mut self, alloc: Global, aim: Aim) -> Turn
         ensures { turned self.new result ≡ asks_oldest self.old aim }
     {
-        self.ask_at(Stage::Oldest(aim), self.reference)
+        self.ask_at(alloc, Stage::Oldest(aim), self.reference)
     }
 
     /// Those before the first of these are asked for.
-    pub(crate) fn ask_back(&mut self, aim: Aim, records: ArrayVec<Numbered, 100>) -> Turn
+    pub(crate) fn ask_back(&mut self, alloc: Global, aim: Aim, records: Vec<Numbered>) -> Turn
         ensures { turned self.new result ≡ asks_back self.old aim records.items }
     {
         let reference = first_number(&records);
         self.held = records;
-        self.ask_at(Stage::Back(aim), reference)
+        self.ask_at(alloc, Stage::Back(aim), reference)
     }
 
     /// They are kept, behind a gap from where the log stands.
     pub(crate) fn bring_behind(
         &mut self,
         alloc: Global,
-        records: ArrayVec<Numbered, 100>,
+        records: Vec<Numbered>,
     ) -> Result<Turn, AllocError>
         ensures { IfOk result (λ turn. turned self.new turn
             ≡ brings_behind self.old records.items) }
@@ -59,25 +58,25 @@ impl LogPoll {
     pub(crate) fn renew(
         &mut self,
         alloc: Global,
-        records: ArrayVec<Numbered, 100>,
+        records: Vec<Numbered>,
     ) -> Result<Turn, AllocError>
         ensures { IfOk result (λ turn. turned self.new turn ≡ renews self.old records.items) }
     {
         if first_number(&records) == 1 {
             self.bring(alloc, records)
         } else {
-            Ok(self.ask_back(Aim::Renews, records))
+            Ok(self.ask_back(alloc, Aim::Renews, records))
         }
     }
 
     /// An epoch has begun and holds nothing.
-    pub(crate) fn renew_none(&mut self) -> Turn
+    pub(crate) fn renew_none(&mut self, alloc: Global) -> Turn
         ensures { turned self.new result ≡ renews_none self.old self.old.total }
     {
         let next = number_behind(self.total);
         let missing = gap_up_to(self.next, next);
         self.stand_at(next);
-        let mut turn = self.ends(PollEnd::CaughtUp);
+        let mut turn = self.ends(alloc, PollEnd::CaughtUp);
         turn.missing = missing;
         turn
     }
@@ -87,11 +86,11 @@ impl LogPoll {
         ensures { IfOk result (λ turn. turned self.new turn ≡ another self.old) }
     {
         if self.lives == 2 {
-            return Ok(self.ends(PollEnd::Contradicts));
+            return Ok(self.ends(alloc, PollEnd::Contradicts));
         }
         let word = self.told.copied(alloc)?;
         self.stand_anew(word);
-        let turn = self.ask_oldest(Aim::Renews);
+        let turn = self.ask_oldest(alloc, Aim::Renews);
         Ok(self.begun(turn, Line::BeganAnew))
     }
 
@@ -99,12 +98,12 @@ impl LogPoll {
     pub(crate) fn tell_another_by(
         &mut self,
         alloc: Global,
-        records: ArrayVec<Numbered, 100>,
+        records: Vec<Numbered>,
     ) -> Result<Turn, AllocError>
         ensures { IfOk result (λ turn. turned self.new turn ≡ another_by self.old records.items) }
     {
         if self.lives == 2 {
-            return Ok(self.ends(PollEnd::Contradicts));
+            return Ok(self.ends(alloc, PollEnd::Contradicts));
         }
         let word = self.told.copied(alloc)?;
         self.stand_anew(word);
@@ -113,14 +112,14 @@ impl LogPoll {
     }
 
     /// An epoch has begun and shows no record by time.
-    pub(crate) fn renew_of(&mut self, total: u32) -> Turn
+    pub(crate) fn renew_of(&mut self, alloc: Global, total: u32) -> Turn
         ensures { turned self.new result ≡ renews_of self.old total }
     {
         if total == 0 {
-            return self.ends(self.end());
+            return self.ends(alloc, self.end());
         }
         self.total = total;
-        self.ask_at(Stage::UpTo(Aim::Renews), total)
+        self.ask_at(alloc, Stage::UpTo(Aim::Renews), total)
     }
 
     /// Another life, told by its count.
@@ -128,11 +127,11 @@ impl LogPoll {
         ensures { IfOk result (λ turn. turned self.new turn ≡ another_of self.old total) }
     {
         if self.lives == 2 {
-            return Ok(self.ends(PollEnd::Contradicts));
+            return Ok(self.ends(alloc, PollEnd::Contradicts));
         }
         let word = self.told.copied(alloc)?;
         self.stand_anew(word);
-        let turn = self.renew_of(total);
+        let turn = self.renew_of(alloc, total);
         Ok(self.begun(turn, Line::BeganAnew))
     }
 }

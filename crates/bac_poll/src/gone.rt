@@ -14,7 +14,6 @@ use crate::stage::Stage;
 use crate::turn::{Line, Turn, gap_up_to};
 use crate::turns::{first_in, is_known, number_behind, number_or};
 use crate::word::{Told, Word, word_of};
-use arrayvec::ArrayVec;
 use bac_walk::Numbered;
 use std::alloc::{AllocError, Global};
 
@@ -124,7 +123,7 @@ impl LogPoll {
         &mut self,
         alloc: Global,
         first: u32,
-        held: ArrayVec<Numbered, 100>,
+        held: Vec<Numbered>,
     ) -> Result<Turn, AllocError>
         ensures { IfOk result (λ turn. turned self.new turn
             ≡ brings_gone self.old first held.items) }
@@ -141,7 +140,7 @@ impl LogPoll {
         &mut self,
         alloc: Global,
         first: u32,
-        held: ArrayVec<Numbered, 100>,
+        held: Vec<Numbered>,
     ) -> Result<Turn, AllocError>
         ensures { IfOk result (λ turn. turned self.new turn
             ≡ brings_doubtful self.old first held.items) }
@@ -159,7 +158,7 @@ impl LogPoll {
         alloc: Global,
         told: Told,
         first: u32,
-        held: ArrayVec<Numbered, 100>,
+        held: Vec<Numbered>,
     ) -> Result<Turn, AllocError>
         ensures { IfOk result (λ turn. turned self.new turn
             ≡ brings_both self.old (told_as told) first held.items) }
@@ -187,7 +186,7 @@ impl LogPoll {
         &mut self,
         alloc: Global,
         first: u32,
-        held: ArrayVec<Numbered, 100>,
+        held: Vec<Numbered>,
         gone: Gone,
     ) -> Result<Turn, AllocError>
         ensures { IfOk result (λ turn. turned self.new turn
@@ -216,7 +215,7 @@ impl LogPoll {
     pub(crate) fn go_by_word(
         &mut self,
         alloc: Global,
-        held: ArrayVec<Numbered, 100>,
+        held: Vec<Numbered>,
     ) -> Result<Turn, AllocError>
         ensures { IfOk result (λ turn. turned self.new turn ≡ by_word self.old held.items) }
     {
@@ -231,7 +230,7 @@ impl LogPoll {
     pub(crate) fn ask_restart(
         &mut self,
         alloc: Global,
-        held: ArrayVec<Numbered, 100>,
+        held: Vec<Numbered>,
     ) -> Result<Turn, AllocError>
         ensures { IfOk result (λ turn. turned self.new turn
             ≡ asks_restart self.old held.items self.old.word.restart) }
@@ -240,22 +239,18 @@ impl LogPoll {
             return self.go_by_word(alloc, held);
         }
         self.held = held;
-        Ok(self.ask_at(Stage::Restart, self.reference))
+        Ok(self.ask_at(alloc, Stage::Restart, self.reference))
     }
 
     // The revision, if one is on record, and then the restart.
-    fn ask_revision(
-        &mut self,
-        alloc: Global,
-        held: ArrayVec<Numbered, 100>,
-    ) -> Result<Turn, AllocError>
+    fn ask_revision(&mut self, alloc: Global, held: Vec<Numbered>) -> Result<Turn, AllocError>
         ensures { IfOk result (λ turn. turned self.new turn
             ≡ asks_revision self.old held.items self.old.word.revision) }
     {
         match self.word.revision {
             Some(_) => {
                 self.held = held;
-                Ok(self.ask_at(Stage::Revision, self.reference))
+                Ok(self.ask_at(alloc, Stage::Revision, self.reference))
             }
             None => self.ask_restart(alloc, held),
         }
@@ -265,7 +260,7 @@ impl LogPoll {
     pub(crate) fn ask_word(
         &mut self,
         alloc: Global,
-        held: ArrayVec<Numbered, 100>,
+        held: Vec<Numbered>,
     ) -> Result<Turn, AllocError>
         ensures { IfOk result (λ turn. turned self.new turn ≡ asks_word self.old held.items) }
     {

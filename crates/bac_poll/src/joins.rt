@@ -21,7 +21,6 @@ use crate::stage::{Aim, Stage};
 use crate::turn::{Line, PollEnd, Turn, gap_up_to};
 use crate::turns::{first_in, first_number, is_known, is_none, is_one, last_in, number_behind};
 use crate::word::is_retold;
-use arrayvec::ArrayVec;
 use bac_walk::Numbered;
 use std::alloc::{AllocError, Global};
 
@@ -30,7 +29,7 @@ impl LogPoll {
     pub(crate) fn ask_each(
         &mut self,
         alloc: Global,
-        held: ArrayVec<Numbered, 100>,
+        held: Vec<Numbered>,
         number: Option<u32>,
     ) -> Result<Turn, AllocError>
         ensures { IfOk result (λ turn. turned self.new turn
@@ -39,23 +38,23 @@ impl LogPoll {
         match number {
             Some(number) => {
                 self.held = held;
-                Ok(self.ask_at(Stage::Each, number))
+                Ok(self.ask_at(alloc, Stage::Each, number))
             }
             None => self.tell_another(alloc),
         }
     }
 
     // Nothing follows the newest known one.
-    fn go_nowhere(&mut self, done: bool, alone: bool) -> Turn
+    fn go_nowhere(&mut self, alloc: Global, done: bool, alone: bool) -> Turn
         ensures { turned self.new result ≡ goes_nowhere self.old done alone }
     {
         if done {
-            return self.ends(PollEnd::CaughtUp);
+            return self.ends(alloc, PollEnd::CaughtUp);
         }
         if alone {
-            return self.ask_at(Stage::Ahead, self.next);
+            return self.ask_at(alloc, Stage::Ahead, self.next);
         }
-        self.asks()
+        self.asks(alloc)
     }
 
     // The log is found at its place by the newest known record.
@@ -71,7 +70,7 @@ impl LogPoll {
         let alone = is_one(&records);
         let news = records_behind(number, records);
         if is_none(&news) {
-            return Ok(self.go_nowhere(last && !more, alone));
+            return Ok(self.go_nowhere(alloc, last && !more, alone));
         }
         self.bring(alloc, news)
     }
@@ -87,11 +86,11 @@ impl LogPoll {
     }
 
     /// The newest known one is asked for by its number.
-    pub(crate) fn ask_newest(&mut self, number: u32) -> Turn
+    pub(crate) fn ask_newest(&mut self, alloc: Global, number: u32) -> Turn
         ensures { turned self.new result ≡ asks_newest self.old number }
     {
         self.ask_from(number);
-        self.asks()
+        self.asks(alloc)
     }
 
     // Known records are shown as they are known, with the newest or without it.
@@ -105,7 +104,7 @@ impl LogPoll {
                 self.find(alloc, held)?;
                 self.go_on(alloc, reply, number)
             }
-            None => Ok(self.ask_newest(number)),
+            None => Ok(self.ask_newest(alloc, number)),
         }
     }
 
@@ -119,7 +118,7 @@ impl LogPoll {
                 let number = kept.number;
                 self.join_at(alloc, number, reply)
             }
-            None => Ok(self.ask_oldest(Aim::Finds)),
+            None => Ok(self.ask_oldest(alloc, Aim::Finds)),
         }
     }
 
@@ -152,7 +151,7 @@ impl LogPoll {
             ≡ joins_by self.old (reply_as reply) means) }
     {
         match means {
-            Means::Unshown => Ok(self.ask_oldest(Aim::Finds)),
+            Means::Unshown => Ok(self.ask_oldest(alloc, Aim::Finds)),
             Means::Same => self.join_from(alloc, reply),
             Means::Shifted(by) => {
                 let line = self.hour(by);
@@ -161,7 +160,7 @@ impl LogPoll {
             }
             Means::Partly => {
                 let number = number_in(&self.newest);
-                self.ask_each(alloc, ArrayVec::new(), number)
+                self.ask_each(alloc, Vec::new(alloc), number)
             }
             Means::Another => self.tell_another(alloc),
         }
@@ -179,54 +178,54 @@ impl LogPoll {
     pub(crate) fn take_prior(
         &mut self,
         alloc: Global,
-        records: ArrayVec<Numbered, 100>,
+        records: Vec<Numbered>,
     ) -> Result<Turn, AllocError>
         ensures { IfOk result (λ turn. turned self.new turn ≡ prior self.old records.items) }
     {
         if first_number(&records) == self.reference {
             self.tell_another(alloc)
         } else {
-            Ok(self.ask_oldest(Aim::Finds))
+            Ok(self.ask_oldest(alloc, Aim::Finds))
         }
     }
 
     // The newest known one is asked for once more.
-    fn ask_again(&mut self, held: ArrayVec<Numbered, 100>, number: Option<u32>) -> Turn
+    fn ask_again(&mut self, alloc: Global, held: Vec<Numbered>, number: Option<u32>) -> Turn
         ensures { turned self.new result ≡ asks_again self.old held.items number }
     {
         match number {
             Some(number) => {
                 self.held = held;
-                self.ask_at(Stage::Again, number)
+                self.ask_at(alloc, Stage::Again, number)
             }
-            None => self.ask_oldest(Aim::Finds),
+            None => self.ask_oldest(alloc, Aim::Finds),
         }
     }
 
     // Nothing follows it.
-    fn take_none_ahead(&mut self) -> Turn
+    fn take_none_ahead(&mut self, alloc: Global) -> Turn
         ensures { turned self.new result ≡ ahead_none self.old }
     {
         if self.more {
             let number = number_in(&self.newest);
-            self.ask_again(ArrayVec::new(), number)
+            self.ask_again(alloc, Vec::new(alloc), number)
         } else {
-            self.ends(PollEnd::CaughtUp)
+            self.ends(alloc, PollEnd::CaughtUp)
         }
     }
 
     /// A reply to the question for what follows it.
-    pub(crate) fn take_ahead(&mut self, records: ArrayVec<Numbered, 100>) -> Turn
+    pub(crate) fn take_ahead(&mut self, alloc: Global, records: Vec<Numbered>) -> Turn
         ensures { turned self.new result ≡ ahead self.old records.items }
     {
         if is_none(&records) {
-            return self.take_none_ahead();
+            return self.take_none_ahead(alloc);
         }
         if first_number(&records) == self.next {
             let number = number_in(&self.newest);
-            self.ask_again(records, number)
+            self.ask_again(alloc, records, number)
         } else {
-            self.ask_oldest(Aim::Finds)
+            self.ask_oldest(alloc, Aim::Finds)
         }
     }
 
@@ -235,8 +234,8 @@ impl LogPoll {
         ensures { IfOk result (λ turn. turned self.new turn ≡ lost self.old seen) }
     {
         match seen {
-            Shown::Unshown => Ok(self.ask_oldest(Aim::Finds)),
-            Shown::Equal => Ok(self.ask_oldest(Aim::Finds)),
+            Shown::Unshown => Ok(self.ask_oldest(alloc, Aim::Finds)),
+            Shown::Equal => Ok(self.ask_oldest(alloc, Aim::Finds)),
             Shown::Moved(_) => self.tell_another(alloc),
             Shown::Another => self.tell_another(alloc),
         }
@@ -269,7 +268,7 @@ impl LogPoll {
     fn move_ahead(
         &mut self,
         alloc: Global,
-        held: ArrayVec<Numbered, 100>,
+        held: Vec<Numbered>,
         seen: Shown,
     ) -> Result<Turn, AllocError>
         ensures { IfOk result (λ turn. turned self.new turn
@@ -277,29 +276,25 @@ impl LogPoll {
     {
         if is_known(&self.earliest) {
             let number = number_in(&self.newest);
-            self.ask_each(alloc, ArrayVec::new(), number)
+            self.ask_each(alloc, Vec::new(alloc), number)
         } else {
             self.lose_ahead(alloc, seen, last_in(&held))
         }
     }
 
     // What came ahead is kept.
-    fn bring_ahead(
-        &mut self,
-        alloc: Global,
-        held: ArrayVec<Numbered, 100>,
-    ) -> Result<Turn, AllocError>
+    fn bring_ahead(&mut self, alloc: Global, held: Vec<Numbered>) -> Result<Turn, AllocError>
         ensures { IfOk result (λ turn. turned self.new turn
             ≡ brings_ahead self.old held.items (last_in held.items)) }
     {
         match last_in(&held) {
             Some(last) => {
                 self.stand_behind(alloc, &held, last)?;
-                let mut turn = self.ask_at(Stage::Ahead, number_behind(last.number));
+                let mut turn = self.ask_at(alloc, Stage::Ahead, number_behind(last.number));
                 turn.entries = held;
                 Ok(turn)
             }
-            None => Ok(self.ends(self.end())),
+            None => Ok(self.ends(alloc, self.end())),
         }
     }
 
@@ -307,9 +302,9 @@ impl LogPoll {
     fn take_equal(
         &mut self,
         alloc: Global,
-        held: ArrayVec<Numbered, 100>,
+        held: Vec<Numbered>,
         number: u32,
-        records: ArrayVec<Numbered, 100>,
+        records: Vec<Numbered>,
     ) -> Result<Turn, AllocError>
         ensures { IfOk result (λ turn. (kept : KeptAs) → kept.number ≡ number
             → turned self.new turn ≡ again_equal self.old held.items kept records.items) }
@@ -328,9 +323,9 @@ impl LogPoll {
     fn take_again_by(
         &mut self,
         alloc: Global,
-        held: ArrayVec<Numbered, 100>,
+        held: Vec<Numbered>,
         number: u32,
-        records: ArrayVec<Numbered, 100>,
+        records: Vec<Numbered>,
         shown: Shown,
     ) -> Result<Turn, AllocError>
         ensures { IfOk result (λ turn. (kept : KeptAs) → kept.number ≡ number
@@ -348,8 +343,8 @@ impl LogPoll {
     pub(crate) fn take_again(
         &mut self,
         alloc: Global,
-        held: ArrayVec<Numbered, 100>,
-        records: ArrayVec<Numbered, 100>,
+        held: Vec<Numbered>,
+        records: Vec<Numbered>,
     ) -> Result<Turn, AllocError>
         ensures { IfOk result (λ turn. turned self.new turn
             ≡ again self.old held.items records.items) }
@@ -360,7 +355,7 @@ impl LogPoll {
                 let number = kept.number;
                 self.take_again_by(alloc, held, number, records, shown)
             }
-            None => Ok(self.ask_oldest(Aim::Finds)),
+            None => Ok(self.ask_oldest(alloc, Aim::Finds)),
         }
     }
 
@@ -372,13 +367,13 @@ impl LogPoll {
             Means::Same => {
                 let kept = Kept::of(alloc, held)?;
                 self.stand_on(kept);
-                Ok(self.asks())
+                Ok(self.asks(alloc))
             }
             Means::Shifted(by) => {
                 let line = self.hour(by);
                 let kept = Kept::of(alloc, held)?;
                 self.stand_on(kept);
-                let turn = self.asks();
+                let turn = self.asks(alloc);
                 Ok(self.at_hour(by, line, turn))
             }
             Means::Unshown => self.tell_another(alloc),
@@ -388,11 +383,7 @@ impl LogPoll {
     }
 
     // All of them were shown.
-    fn compare_each(
-        &mut self,
-        alloc: Global,
-        held: ArrayVec<Numbered, 100>,
-    ) -> Result<Turn, AllocError>
+    fn compare_each(&mut self, alloc: Global, held: Vec<Numbered>) -> Result<Turn, AllocError>
         ensures { IfOk result (λ turn. turned self.new turn
             ≡ each_all self.old held.items (first_in held.items)) }
     {
@@ -406,11 +397,7 @@ impl LogPoll {
     }
 
     // The next of them is asked for, or they are compared.
-    fn go_on_each(
-        &mut self,
-        alloc: Global,
-        held: ArrayVec<Numbered, 100>,
-    ) -> Result<Turn, AllocError>
+    fn go_on_each(&mut self, alloc: Global, held: Vec<Numbered>) -> Result<Turn, AllocError>
         ensures { IfOk result (λ turn. turned self.new turn ≡ each_next self.old held.items) }
     {
         if held.len() == 1 {
@@ -428,8 +415,8 @@ impl LogPoll {
     pub(crate) fn take_each(
         &mut self,
         alloc: Global,
-        held: ArrayVec<Numbered, 100>,
-        records: ArrayVec<Numbered, 100>,
+        held: Vec<Numbered>,
+        records: Vec<Numbered>,
     ) -> Result<Turn, AllocError>
         ensures { IfOk result (λ turn. turned self.new turn
             ≡ each self.old held.items records.items) }
@@ -438,7 +425,7 @@ impl LogPoll {
             Some(shown) => {
                 if shown.number == self.reference && held.len() < 3 {
                     let mut held = held;
-                    held.push(shown);
+                    held.push(shown)?;
                     self.go_on_each(alloc, held)
                 } else {
                     self.tell_another(alloc)

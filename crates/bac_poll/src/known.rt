@@ -10,7 +10,6 @@ ghost use Rattle.bac_poll.specs.Known.{shown_in};
 
 use crate::date_time::DateTime;
 use crate::kept::Kept;
-use arrayvec::ArrayVec;
 use bac_walk::Numbered;
 use std::alloc::{AllocError, Global};
 
@@ -123,10 +122,7 @@ pub(crate) fn shown_in(
 }
 
 /// The records behind that of this number.
-pub(crate) fn records_behind(
-    number: u32,
-    records: ArrayVec<Numbered, 100>,
-) -> ArrayVec<Numbered, 100>
+pub(crate) fn records_behind(number: u32, records: Vec<Numbered>) -> Vec<Numbered>
     ensures { result.items ≡ records_behind number records.items }
 {
     let mut records = records;

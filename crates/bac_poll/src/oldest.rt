@@ -15,7 +15,6 @@ use crate::poll::LogPoll;
 use crate::stage::{Aim, Stage};
 use crate::turn::{PollEnd, Turn};
 use crate::turns::{first_number, is_ahead, is_none, last_in, number_before, number_or};
-use arrayvec::ArrayVec;
 use bac_walk::Numbered;
 use std::alloc::{AllocError, Global};
 
@@ -42,12 +41,12 @@ impl LogPoll {
         &mut self,
         alloc: Global,
         back: bool,
-        records: ArrayVec<Numbered, 100>,
+        records: Vec<Numbered>,
     ) -> Result<Turn, AllocError>
         ensures { IfOk result (λ turn. turned self.new turn ≡ drops self.old back records.items) }
     {
         if back && !self.is_first(first_number(&records)) {
-            Ok(self.ask_back(Aim::Finds, records))
+            Ok(self.ask_back(alloc, Aim::Finds, records))
         } else {
             self.ask_word(alloc, records)
         }
@@ -58,7 +57,7 @@ impl LogPoll {
         &mut self,
         alloc: Global,
         cut: bool,
-        records: ArrayVec<Numbered, 100>,
+        records: Vec<Numbered>,
     ) -> Result<Turn, AllocError>
         ensures { IfOk result (λ turn. turned self.new turn
             ≡ sees_before self.old cut records.items) }
@@ -66,7 +65,7 @@ impl LogPoll {
         if cut {
             let reference = number_or(0, last_in(&records));
             self.held = records;
-            Ok(self.ask_at(Stage::ByNumber, reference))
+            Ok(self.ask_at(alloc, Stage::ByNumber, reference))
         } else {
             self.tell_another_by(alloc, records)
         }
@@ -76,14 +75,14 @@ impl LogPoll {
     pub(crate) fn take_by_number(
         &mut self,
         alloc: Global,
-        held: ArrayVec<Numbered, 100>,
-        records: ArrayVec<Numbered, 100>,
+        held: Vec<Numbered>,
+        records: Vec<Numbered>,
     ) -> Result<Turn, AllocError>
         ensures { IfOk result (λ turn. turned self.new turn
             ≡ by_number self.old held.items records.items) }
     {
         if is_none(&records) {
-            Ok(self.ends(PollEnd::NoneByNumber))
+            Ok(self.ends(alloc, PollEnd::NoneByNumber))
         } else {
             self.tell_another_by(alloc, held)
         }
@@ -95,7 +94,7 @@ impl LogPoll {
         alloc: Global,
         back: bool,
         cut: bool,
-        records: ArrayVec<Numbered, 100>,
+        records: Vec<Numbered>,
     ) -> Result<Turn, AllocError>
         ensures { IfOk result (λ turn. turned self.new turn
             ≡ sees_none self.old back cut records.items) }
@@ -112,12 +111,12 @@ impl LogPoll {
         &mut self,
         alloc: Global,
         asked: bool,
-        news: ArrayVec<Numbered, 100>,
+        news: Vec<Numbered>,
     ) -> Result<Turn, AllocError>
         ensures { IfOk result (λ turn. turned self.new turn ≡ sees_news self.old asked news.items) }
     {
         if is_none(&news) && !asked {
-            Ok(self.asks())
+            Ok(self.asks(alloc))
         } else {
             self.bring(alloc, news)
         }
@@ -129,7 +128,7 @@ impl LogPoll {
         alloc: Global,
         number: u32,
         cut: bool,
-        records: ArrayVec<Numbered, 100>,
+        records: Vec<Numbered>,
     ) -> Result<Turn, AllocError>
         ensures { IfOk result (λ turn. (kept : KeptAs) → kept.number ≡ number
             → turned self.new turn ≡ sees_newest self.old kept cut records.items
@@ -145,7 +144,7 @@ impl LogPoll {
                 if self.alone {
                     self.see_before(alloc, cut, records)
                 } else {
-                    Ok(self.ask_newest(number))
+                    Ok(self.ask_newest(alloc, number))
                 }
             }
         }
@@ -156,7 +155,7 @@ impl LogPoll {
         &mut self,
         alloc: Global,
         cut: bool,
-        records: ArrayVec<Numbered, 100>,
+        records: Vec<Numbered>,
     ) -> Result<Turn, AllocError>
         ensures { IfOk result (λ turn. turned self.new turn
             ≡ sees_same self.old cut records.items self.old.newest) }
@@ -176,7 +175,7 @@ impl LogPoll {
         alloc: Global,
         back: bool,
         cut: bool,
-        records: ArrayVec<Numbered, 100>,
+        records: Vec<Numbered>,
         means: Means,
     ) -> Result<Turn, AllocError>
         ensures { IfOk result (λ turn. turned self.new turn
@@ -192,7 +191,7 @@ impl LogPoll {
             }
             Means::Partly => {
                 let number = number_in(&self.newest);
-                self.ask_each(alloc, ArrayVec::new(), number)
+                self.ask_each(alloc, Vec::new(alloc), number)
             }
             Means::Another => self.tell_another_by(alloc, records),
         }
@@ -204,7 +203,7 @@ impl LogPoll {
         alloc: Global,
         back: bool,
         cut: bool,
-        records: ArrayVec<Numbered, 100>,
+        records: Vec<Numbered>,
     ) -> Result<Turn, AllocError>
         ensures { IfOk result (λ turn. turned self.new turn
             ≡ sees self.old back cut records.items) }
@@ -217,7 +216,7 @@ impl LogPoll {
     pub(crate) fn is_cut(&self, reply: &Reply) -> bool
         ensures { result ≡ is_cut self.now (reply_as reply.now) }
     {
-        let asked = usize::from(self.walk.count().number());
+        let asked = usize::from(self.count.number());
         reply.more || (reply.records.len() == asked && !reply.last)
     }
 
@@ -238,11 +237,11 @@ impl LogPoll {
     {
         if total == self.logged() {
             self.confirm(alloc)?;
-            return Ok(self.ends(PollEnd::CaughtUp));
+            return Ok(self.ends(alloc, PollEnd::CaughtUp));
         }
         if 0 < total && is_ahead(self.next, total) {
             self.total = total;
-            return Ok(self.ask_at(Stage::UpTo(Aim::Finds), total));
+            return Ok(self.ask_at(alloc, Stage::UpTo(Aim::Finds), total));
         }
         self.tell_another_of(alloc, total)
     }
@@ -257,7 +256,7 @@ impl LogPoll {
     {
         match count {
             Some(total) => self.weigh_by(alloc, total),
-            None => Ok(self.ends(PollEnd::ShowsNone)),
+            None => Ok(self.ends(alloc, PollEnd::ShowsNone)),
         }
     }
 }

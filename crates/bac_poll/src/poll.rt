@@ -17,8 +17,8 @@ use crate::stage::{Aim, Stage};
 use crate::turn::{PollEnd, Turn};
 use crate::turns::{is_none, number_before};
 use crate::word::Told;
-use arrayvec::ArrayVec;
-use bac_walk::{Count, Numbered, Walk, WalkFault};
+use bac_apdu::object_type::TREND_LOG;
+use bac_walk::{Count, Numbered, WalkFault};
 use bac_wire::{Datagram, ObjectId};
 use std::alloc::{AllocError, Global};
 use std::marker::Model;
@@ -40,7 +40,8 @@ pub struct Standing {
 /// A poll of one trend log, which contracts see as what is known of the log.
 #[derive(Drop)]
 pub struct LogPoll {
-    pub(crate) walk: Walk,
+    pub(crate) log: ObjectId,
+    pub(crate) count: Count,
     pub(crate) device: ObjectId,
     pub(crate) stage: Stage,
     pub(crate) reference: u32,
@@ -60,16 +61,17 @@ pub struct LogPoll {
     pub(crate) total: u32,
     pub(crate) refused: bool,
     pub(crate) back: u64,
-    pub(crate) held: ArrayVec<Numbered, 100>,
+    pub(crate) held: Vec<Numbered>,
 }
 
 impl Model for LogPoll {
+    ghost use Rattle.bac_walk.specs.Place.{asking, walk_from_oldest};
     ghost use Rattle.bac_poll.specs.State.{PollState, maybe_kept, told_as};
 
     ghost Value = { PollState };
 
     ghost view = { λ p. record {
-      walk = p.walk;
+      walk = asking p.count (walk_from_oldest p.log);
       device = p.device;
       stage = p.stage;
       reference = p.reference;
@@ -108,7 +110,9 @@ impl LogPoll {
             ≡ joining log device many (standing_as at) (told_as told)) }
         ensures is_some { IsSome result ↔ log.kind ≡ 20 }
     {
-        let walk = Walk::oldest(log)?;
+        if log.kind() != TREND_LOG {
+            return None;
+        }
         let stage = first_stage(&at.newest, at.next);
         let reference = first_reference(&at);
         let alone = at.earlier.is_none();
@@ -121,7 +125,8 @@ impl LogPoll {
             word,
         } = at;
         Some(LogPoll {
-            walk: walk.asking_for(many),
+            log,
+            count: many,
             device,
             stage,
             reference,
@@ -141,7 +146,7 @@ impl LogPoll {
             total: 0,
             refused: false,
             back: 0,
-            held: ArrayVec::new(),
+            held: Vec::new(alloc),
         })
     }
 
@@ -160,9 +165,12 @@ impl LogPoll {
             ≡ starting log device many begins (told_as word) (told_as told)) }
         ensures is_some { IsSome result ↔ log.kind ≡ 20 }
     {
-        let walk = Walk::oldest(log)?;
+        if log.kind() != TREND_LOG {
+            return None;
+        }
         Some(LogPoll {
-            walk: walk.asking_for(many),
+            log,
+            count: many,
             device,
             stage: Stage::Counts(Aim::Starts),
             reference: 1,
@@ -182,7 +190,7 @@ impl LogPoll {
             total: 0,
             refused: false,
             back: 0,
-            held: ArrayVec::new(),
+            held: Vec::new(alloc),
         })
     }
 
@@ -213,10 +221,10 @@ impl LogPoll {
     pub fn too_many(&mut self)
         ensures { self.new ≡ after_too_many self.old }
     {
-        let number = self.walk.count().number();
+        let number = self.count.number();
         let half = if number <= 1 { 1 } else { number / 2 };
         match Count::new(half) {
-            Some(count) => self.walk = self.walk.copy().asking_for(count),
+            Some(count) => self.count = count,
             None => unreachable!(),
         }
     }
@@ -225,7 +233,7 @@ impl LogPoll {
     pub fn count(&self) -> Count
         ensures { result ≡ self.now.walk.count }
     {
-        self.walk.count()
+        self.count
     }
 
     /// Takes a datagram with the ACK that answers a question for records: what it brings. After
@@ -233,9 +241,9 @@ impl LogPoll {
     pub fn take(&mut self, alloc: Global, datagram: &Datagram) -> Result<Turn, AllocError>
         ensures { IfOk result (λ turn. turned self.new turn ≡ after self.old datagram.now) }
     {
-        match self.read(datagram.octets()) {
+        match self.read(alloc, datagram.octets())? {
             Some(reply) => self.take_reply(alloc, reply),
-            None => Ok(self.ends(PollEnd::Fault(WalkFault::BadReply))),
+            None => Ok(self.ends(alloc, PollEnd::Fault(WalkFault::BadReply))),
         }
     }
 
@@ -248,19 +256,19 @@ impl LogPoll {
                 self.more = false;
                 self.take_count(alloc, count)
             }
-            Stage::Counts(Aim::Renews) => Ok(self.renew_by(count)),
+            Stage::Counts(Aim::Renews) => Ok(self.renew_by(alloc, count)),
             Stage::Counts(Aim::Starts) => self.start_from(alloc, count),
-            Stage::Joins => Ok(self.ends(PollEnd::Fault(WalkFault::BadReply))),
-            Stage::Prior => Ok(self.ends(PollEnd::Fault(WalkFault::BadReply))),
-            Stage::Ahead => Ok(self.ends(PollEnd::Fault(WalkFault::BadReply))),
-            Stage::Again => Ok(self.ends(PollEnd::Fault(WalkFault::BadReply))),
-            Stage::Each => Ok(self.ends(PollEnd::Fault(WalkFault::BadReply))),
-            Stage::ByNumber => Ok(self.ends(PollEnd::Fault(WalkFault::BadReply))),
-            Stage::Oldest(_) => Ok(self.ends(PollEnd::Fault(WalkFault::BadReply))),
-            Stage::UpTo(_) => Ok(self.ends(PollEnd::Fault(WalkFault::BadReply))),
-            Stage::Back(_) => Ok(self.ends(PollEnd::Fault(WalkFault::BadReply))),
-            Stage::Revision => Ok(self.ends(PollEnd::Fault(WalkFault::BadReply))),
-            Stage::Restart => Ok(self.ends(PollEnd::Fault(WalkFault::BadReply))),
+            Stage::Joins => Ok(self.ends(alloc, PollEnd::Fault(WalkFault::BadReply))),
+            Stage::Prior => Ok(self.ends(alloc, PollEnd::Fault(WalkFault::BadReply))),
+            Stage::Ahead => Ok(self.ends(alloc, PollEnd::Fault(WalkFault::BadReply))),
+            Stage::Again => Ok(self.ends(alloc, PollEnd::Fault(WalkFault::BadReply))),
+            Stage::Each => Ok(self.ends(alloc, PollEnd::Fault(WalkFault::BadReply))),
+            Stage::ByNumber => Ok(self.ends(alloc, PollEnd::Fault(WalkFault::BadReply))),
+            Stage::Oldest(_) => Ok(self.ends(alloc, PollEnd::Fault(WalkFault::BadReply))),
+            Stage::UpTo(_) => Ok(self.ends(alloc, PollEnd::Fault(WalkFault::BadReply))),
+            Stage::Back(_) => Ok(self.ends(alloc, PollEnd::Fault(WalkFault::BadReply))),
+            Stage::Revision => Ok(self.ends(alloc, PollEnd::Fault(WalkFault::BadReply))),
+            Stage::Restart => Ok(self.ends(alloc, PollEnd::Fault(WalkFault::BadReply))),
         }
     }
 
@@ -273,7 +281,7 @@ impl LogPoll {
         ensures { IfOk result (λ turn. turned self.new turn ≡ after_revision self.old revision) }
     {
         self.again.revision = revision;
-        let held = replace(&mut self.held, ArrayVec::new());
+        let held = replace(&mut self.held, Vec::new(alloc));
         self.ask_restart(alloc, held)
     }
 
@@ -289,7 +297,7 @@ impl LogPoll {
             ≡ after_restart self.old restart.items moment) }
     {
         self.retell_restart(restart, moment);
-        let held = replace(&mut self.held, ArrayVec::new());
+        let held = replace(&mut self.held, Vec::new(alloc));
         self.go_by_word(alloc, held)
     }
 
@@ -310,7 +318,7 @@ impl LogPoll {
         if !is_none(&reply.records) {
             self.more = reply.more;
         }
-        let held = replace(&mut self.held, ArrayVec::new());
+        let held = replace(&mut self.held, Vec::new(alloc));
         self.go_by_stage(alloc, held, reply)
     }
 
@@ -318,7 +326,7 @@ impl LogPoll {
     fn go_by_stage(
         &mut self,
         alloc: Global,
-        held: ArrayVec<Numbered, 100>,
+        held: Vec<Numbered>,
         reply: Reply,
     ) -> Result<Turn, AllocError>
         ensures { IfOk result (λ turn. turned self.new turn
@@ -327,16 +335,16 @@ impl LogPoll {
         match self.stage {
             Stage::Joins => self.join(alloc, reply),
             Stage::Prior => self.take_prior(alloc, reply.records),
-            Stage::Ahead => Ok(self.take_ahead(reply.records)),
+            Stage::Ahead => Ok(self.take_ahead(alloc, reply.records)),
             Stage::Again => self.take_again(alloc, held, reply.records),
             Stage::Each => self.take_each(alloc, held, reply.records),
             Stage::ByNumber => self.take_by_number(alloc, held, reply.records),
             Stage::Oldest(aim) => self.take_oldest(alloc, aim, reply),
             Stage::UpTo(aim) => self.take_up_to(alloc, aim, reply.records),
             Stage::Back(aim) => self.take_back(alloc, aim, held, reply.records),
-            Stage::Counts(_) => Ok(self.ends(PollEnd::Fault(WalkFault::BadReply))),
-            Stage::Revision => Ok(self.ends(PollEnd::Fault(WalkFault::BadReply))),
-            Stage::Restart => Ok(self.ends(PollEnd::Fault(WalkFault::BadReply))),
+            Stage::Counts(_) => Ok(self.ends(alloc, PollEnd::Fault(WalkFault::BadReply))),
+            Stage::Revision => Ok(self.ends(alloc, PollEnd::Fault(WalkFault::BadReply))),
+            Stage::Restart => Ok(self.ends(alloc, PollEnd::Fault(WalkFault::BadReply))),
         }
     }
 
@@ -357,13 +365,13 @@ impl LogPoll {
         ensures { IfOk result (λ turn. turned self.new turn ≡ oldest_none self.old aim) }
     {
         match aim {
-            Aim::Finds => Ok(self.ask_at(Stage::Counts(Aim::Finds), self.reference)),
-            Aim::Renews => Ok(self.ask_at(Stage::Counts(Aim::Renews), self.reference)),
+            Aim::Finds => Ok(self.ask_at(alloc, Stage::Counts(Aim::Finds), self.reference)),
+            Aim::Renews => Ok(self.ask_at(alloc, Stage::Counts(Aim::Renews), self.reference)),
             Aim::Starts => {
                 if self.total == 0 {
                     return self.start_none(alloc);
                 }
-                Ok(self.ask_at(Stage::UpTo(Aim::Starts), self.total))
+                Ok(self.ask_at(alloc, Stage::UpTo(Aim::Starts), self.total))
             }
         }
     }
@@ -373,7 +381,7 @@ impl LogPoll {
         &mut self,
         alloc: Global,
         aim: Aim,
-        records: ArrayVec<Numbered, 100>,
+        records: Vec<Numbered>,
     ) -> Result<Turn, AllocError>
         ensures { IfOk result (λ turn. turned self.new turn ≡ up_to self.old aim records.items) }
     {
@@ -388,9 +396,9 @@ impl LogPoll {
         ensures { IfOk result (λ turn. turned self.new turn ≡ up_to_none self.old aim) }
     {
         match aim {
-            Aim::Finds => self.ask_word(alloc, ArrayVec::new()),
-            Aim::Renews => Ok(self.renew_none()),
-            Aim::Starts => self.start(alloc, ArrayVec::new()),
+            Aim::Finds => self.ask_word(alloc, Vec::new(alloc)),
+            Aim::Renews => Ok(self.renew_none(alloc)),
+            Aim::Starts => self.start(alloc, Vec::new(alloc)),
         }
     }
 
@@ -400,7 +408,7 @@ impl LogPoll {
         alloc: Global,
         aim: Aim,
         cut: bool,
-        records: ArrayVec<Numbered, 100>,
+        records: Vec<Numbered>,
     ) -> Result<Turn, AllocError>
         ensures { IfOk result (λ turn. turned self.new turn ≡ came self.old aim cut records.items) }
     {
@@ -412,12 +420,12 @@ impl LogPoll {
     }
 
     // The count of a new epoch that shows no record.
-    fn renew_by(&mut self, count: Option<u32>) -> Turn
+    fn renew_by(&mut self, alloc: Global, count: Option<u32>) -> Turn
         ensures { turned self.new result ≡ renews_by self.old count }
     {
         match count {
-            Some(total) => self.renew_of(total),
-            None => self.ends(self.end()),
+            Some(total) => self.renew_of(alloc, total),
+            None => self.ends(alloc, self.end()),
         }
     }
 }

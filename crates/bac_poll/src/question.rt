@@ -3,9 +3,11 @@
 ghost use Rattle.std.specs.Prelude.{◌≡◌};
 ghost use Rattle.bac_link.specs.Datagrams.{apdu_in};
 ghost use Rattle.bac_link.specs.Exchanges.{verdict_of};
+ghost use Rattle.bac_link.specs.Links.{question};
 ghost use Rattle.bac_link.specs.Path.{towards};
 ghost use Rattle.bac_link.specs.Requests.{IsSendable, IsTooLong, next_invoke, request_octets};
 ghost use Rattle.bac_link.specs.Transactions.{begun_with};
+ghost use Rattle.bac_walk.specs.Walks.{question_of};
 ghost use Rattle.bac_poll.specs.Poll.{asked_by_poll, back_question, number_question};
 ghost use Rattle.bac_poll.specs.Poll.{property_question};
 
@@ -14,7 +16,7 @@ use crate::stage::Stage;
 use bac_apdu::property_id::LOG_BUFFER;
 use bac_apdu::{Extent, ReadProperty, ReadRange};
 use bac_link::{Request, Transactions, Verdict, judge};
-use bac_wire::{Datagram, ObjectId};
+use bac_wire::{Datagram, Date4, ObjectId, Time4};
 
 /// Total_Record_Count of a trend log (clause 12.25).
 const TOTAL_RECORD_COUNT: u32 = 145;
@@ -39,13 +41,41 @@ impl LogPoll {
             Stage::Again => self.number_question(),
             Stage::Each => self.number_question(),
             Stage::ByNumber => self.number_question(),
-            Stage::Oldest(_) => self.walk.question(),
-            Stage::Counts(_) => property_question(self.walk.log(), TOTAL_RECORD_COUNT),
+            Stage::Oldest(_) => self.oldest_question(),
+            Stage::Counts(_) => property_question(self.log, TOTAL_RECORD_COUNT),
             Stage::UpTo(_) => self.back_question(),
             Stage::Back(_) => self.back_question(),
             Stage::Revision => property_question(self.device, DATABASE_REVISION),
             Stage::Restart => property_question(self.device, TIME_OF_DEVICE_RESTART),
         }
+    }
+
+    // So many of the oldest, as those newer than 1900-01-01T00:00:00.00.
+    fn oldest_question(&self) -> Request
+        ensures asks { result ≡ question self.now.walk.log (question_of self.now.walk) }
+        ensures fits { IsTooLong result → ⊥ }
+        ensures sendable { IsSendable result }
+    {
+        let object = self.log;
+        let count = i32::from(self.count.number());
+        let date = Date4 {
+            year: 0,
+            month: 1,
+            day: 1,
+            weekday: 1,
+        };
+        let time = Time4 {
+            hour: 0,
+            minute: 0,
+            second: 0,
+            hundredth: 0,
+        };
+        Request::ReadRange(ReadRange {
+            object,
+            property: LOG_BUFFER,
+            index: None,
+            extent: Extent::ByTime { date, time, count },
+        })
     }
 
     // So many records from a number on.
@@ -54,8 +84,8 @@ impl LogPoll {
         ensures fits { IsTooLong result → ⊥ }
         ensures sendable { IsSendable result }
     {
-        let object = self.walk.log();
-        let count = i32::from(self.walk.count().number());
+        let object = self.log;
+        let count = i32::from(self.count.number());
         Request::ReadRange(ReadRange {
             object,
             property: LOG_BUFFER,
@@ -73,8 +103,8 @@ impl LogPoll {
         ensures fits { IsTooLong result → ⊥ }
         ensures sendable { IsSendable result }
     {
-        let object = self.walk.log();
-        let count = -i32::from(self.walk.count().number());
+        let object = self.log;
+        let count = -i32::from(self.count.number());
         Request::ReadRange(ReadRange {
             object,
             property: LOG_BUFFER,

@@ -1,57 +1,81 @@
-//! What is heard of a trend log, as a reply.
+//! What is heard of a trend log, as a reply. It is read once.
 
-ghost use Rattle.std.specs.Prelude.{◌≡◌, ◌≤◌, []};
-ghost use Rattle.bac_link.specs.Heard.{heard_in};
-ghost use Rattle.bac_walk.specs.Place.{WalkPlace};
-ghost use Rattle.bac_walk.specs.Walks.{IsTakenFrom};
-ghost use Rattle.bac_poll.specs.State.{maybe_reply, reply_as};
-ghost use Rattle.bac_poll.specs.Poll.{are_asked, are_from, are_up_to, reply_in, reply_with};
+ghost use Rattle.std.specs.Prelude.{◌≡◌, ◌≤◌, true, IfOk};
+ghost use Rattle.std.specs.Option.{option_map};
+ghost use Rattle.bac_apdu.specs.Service.ReadRangeAck.{range_ack_of};
+ghost use Rattle.bac_link.specs.Heard.{heard_of};
+ghost use Rattle.bac_walk.specs.Walks.{fits};
+ghost use Rattle.bac_wire.specs.OptionChain.{GivesSome};
+ghost use Rattle.bac_poll.specs.State.{maybe_reply};
+ghost use Rattle.bac_poll.specs.Poll.{are_asked, are_from, are_up_to, reply_from, reply_in};
+ghost use Rattle.bac_poll.specs.Reading.{is_taken, number_told, numbered_in};
 
-use crate::ack::{Reply, parameters_of, says_last, says_more};
+use crate::ack::{Reply, ack_of, is_of, says_last, says_more};
 use crate::poll::LogPoll;
 use crate::stage::Stage;
-use crate::turns::{distance, first_number};
-use arrayvec::ArrayVec;
-use bac_walk::{BadReply, Batch, Progress, Walk};
+use crate::turns::{distance, number_behind};
+use bac_apdu::ReadRangeAck;
+use bac_log::read_entry;
+use bac_walk::Numbered;
+use std::alloc::{AllocError, Global};
+
+/// A record has so many octets at least.
+const LEAST: usize = 15;
 
 impl LogPoll {
-    // What the walk from the oldest makes of a datagram.
-    fn hear(&self, datagram: &[u8]) -> Result<Progress, BadReply>
-        ensures { (new : WalkPlace) × IsTakenFrom self.now.walk
-            (heard_in self.now.walk.log datagram.now) result new }
-    {
-        let mut walk = self.walk.copy();
-        hear_by(&mut walk, datagram)
-    }
-
     /// A datagram as a reply, if it is one by the question.
-    pub(crate) fn read(&self, datagram: &[u8]) -> Option<Reply>
-        ensures { maybe_reply result ≡ reply_in self.now datagram.now }
+    pub(crate) fn read(&self, alloc: Global, datagram: &[u8]) -> Result<Option<Reply>, AllocError>
+        ensures { IfOk result (λ reply. maybe_reply reply ≡ reply_in self.now datagram.now) }
     {
-        let last = says_last(datagram);
-        let more = says_more(datagram);
-        match self.hear(datagram) {
-            Ok(Progress::Batch(batch)) => self.read_batch(batch, last, more),
-            Ok(Progress::AskOldest) => Some(no_records(last, more)),
-            Ok(Progress::CaughtUp) => Some(no_records(last, more)),
-            Err(BadReply) => None,
+        match ack_of(datagram) {
+            Some(ack) => self.read_ack(alloc, &ack),
+            None => Ok(None),
         }
     }
 
-    // Records as a reply, if they were asked for.
-    fn read_batch(&self, batch: Batch, last: bool, more: bool) -> Option<Reply>
-        ensures { maybe_reply result ≡ reply_with self.now batch.entries.items last more }
+    // An ACK as a reply.
+    fn read_ack(&self, alloc: Global, ack: &ReadRangeAck) -> Result<Option<Reply>, AllocError>
+        ensures { IfOk result (λ reply. maybe_reply reply ≡ reply_from self.now
+            (heard_of self.now.walk.log (range_ack_of ack.now))
+            (range_ack_of ack.now).last_item (range_ack_of ack.now).more_items) }
     {
-        let Batch { gap: _, entries } = batch;
-        if self.are_asked(first_number(&entries), entries.len()) {
-            Some(Reply {
-                records: entries,
-                last,
-                more,
-            })
-        } else {
-            None
+        if !is_of(ack, self.log) {
+            return Ok(None);
         }
+        let first = number_told(ack.first_number);
+        let Some(records) = records_in(alloc, first, ack.items)? else {
+            return Ok(None);
+        };
+        if !self.takes(first, ack.count, records.as_slice().len()) {
+            return Ok(None);
+        }
+        Ok(Some(Reply {
+            records,
+            last: says_last(ack),
+            more: says_more(ack),
+        }))
+    }
+
+    // Whether so many records from this number on are taken, of which a reply says that they are
+    // as many as that.
+    fn takes(&self, first: u32, told: u64, count: usize) -> bool
+        ensures { result ≡ is_taken self.now first told count }
+    {
+        if count == 0 {
+            return true;
+        }
+        if !self.fits(first, count) {
+            return false;
+        }
+        told == count as u64 && self.are_asked(first, count)
+    }
+
+    // Whether there may be so many, from a number on.
+    fn fits(&self, first: u32, count: usize) -> bool
+        ensures value { result ≡ fits self.now.walk first count }
+        ensures few { result ≡ true → count ≤ 100 }
+    {
+        count <= usize::from(self.count.number()) && 0 < first
     }
 
     // Whether so many records from this number on were asked for.
@@ -59,7 +83,7 @@ impl LogPoll {
         requires { count ≤ 100 }
         ensures { result ≡ are_asked self.now self.now.stage first count }
     {
-        let asked = usize::from(self.walk.count().number());
+        let asked = usize::from(self.count.number());
         match self.stage {
             Stage::Oldest(_) => true,
             Stage::UpTo(_) => are_up_to(asked, self.reference, first, count),
@@ -77,24 +101,39 @@ impl LogPoll {
     }
 }
 
-// What a walk makes of a datagram.
-fn hear_by(walk: &mut Walk, datagram: &[u8]) -> Result<Progress, BadReply>
-    ensures { IsTakenFrom walk.old (heard_in walk.old.log datagram.now) result walk.new }
+// The number of the first record that a reply tells; 0, which is none, if it tells none.
+fn number_told(first: Option<u32>) -> u32
+    ensures { result ≡ number_told first }
 {
-    let Some(parameters) = parameters_of(datagram) else {
-        return Err(BadReply);
-    };
-    walk.take(parameters)
+    match first {
+        Some(first) => first,
+        None => 0,
+    }
 }
 
-// A reply without records.
-fn no_records(last: bool, more: bool) -> Reply
-    ensures { reply_as result ≡ record { records = []; last = last; more = more } }
+// Octets as records, the first of which has this number; none, if they aren't records all through.
+fn records_in(alloc: Global, first: u32, octets: &[u8]) -> Result<Option<Vec<Numbered>>, AllocError>
+    ensures { IfOk result (λ records. GivesSome (λ r. r.items) records
+        (numbered_in first octets.now)) }
 {
-    Reply {
-        records: ArrayVec::new(),
-        last,
-        more,
+    let mut records = Vec::with_capacity(alloc, octets.len() / LEAST)?;
+    let mut number = first;
+    let mut rest = octets;
+    for taken in 0..octets.len() {
+        if rest.is_empty() {
+            return Ok(Some(records));
+        }
+        let Some((entry, len)) = read_entry(rest) else {
+            return Ok(None);
+        };
+        records.push(Numbered { number, entry })?;
+        number = number_behind(number);
+        rest = &rest[len..];
+    }
+    if rest.is_empty() {
+        Ok(Some(records))
+    } else {
+        Ok(None)
     }
 }
 

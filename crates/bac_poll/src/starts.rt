@@ -13,7 +13,6 @@ use crate::stage::Aim;
 use crate::turn::{Beginning, PollEnd, Turn, gap_up_to};
 use crate::turns::{first_in, first_number, is_ahead, number_behind, number_or};
 use crate::word::{Word, word_of};
-use arrayvec::ArrayVec;
 use bac_walk::Numbered;
 use std::alloc::{AllocError, Global};
 
@@ -34,7 +33,7 @@ impl LogPoll {
         &mut self,
         alloc: Global,
         first: u32,
-        held: ArrayVec<Numbered, 100>,
+        held: Vec<Numbered>,
     ) -> Result<Turn, AllocError>
         ensures { IfOk result (λ turn. turned self.new turn
             ≡ stands_from self.old first held.items) }
@@ -49,7 +48,7 @@ impl LogPoll {
         &mut self,
         alloc: Global,
         first: u32,
-        held: ArrayVec<Numbered, 100>,
+        held: Vec<Numbered>,
     ) -> Result<Turn, AllocError>
         ensures { IfOk result (λ turn. turned self.new turn
             ≡ starts_here self.old first held.items) }
@@ -65,7 +64,7 @@ impl LogPoll {
         alloc: Global,
         counted: u32,
         first: u32,
-        held: ArrayVec<Numbered, 100>,
+        held: Vec<Numbered>,
     ) -> Result<Turn, AllocError>
         ensures { IfOk result (λ turn. turned self.new turn
             ≡ starts_behind self.old counted first held.items) }
@@ -83,7 +82,7 @@ impl LogPoll {
         &mut self,
         alloc: Global,
         first: u32,
-        held: ArrayVec<Numbered, 100>,
+        held: Vec<Numbered>,
     ) -> Result<Turn, AllocError>
         ensures { IfOk result (λ turn. turned self.new turn
             ≡ starts_at self.old first held.items self.old.counted) }
@@ -101,11 +100,7 @@ impl LogPoll {
     }
 
     /// These are the oldest that are held.
-    pub(crate) fn start(
-        &mut self,
-        alloc: Global,
-        held: ArrayVec<Numbered, 100>,
-    ) -> Result<Turn, AllocError>
+    pub(crate) fn start(&mut self, alloc: Global, held: Vec<Numbered>) -> Result<Turn, AllocError>
         ensures { IfOk result (λ turn. turned self.new turn ≡ starts self.old held.items) }
     {
         let first = number_or(number_behind(self.total), first_in(&held));
@@ -116,7 +111,7 @@ impl LogPoll {
     pub(crate) fn start_by(
         &mut self,
         alloc: Global,
-        records: ArrayVec<Numbered, 100>,
+        records: Vec<Numbered>,
     ) -> Result<Turn, AllocError>
         ensures { IfOk result (λ turn. turned self.new turn ≡ starts_by self.old records.items) }
     {
@@ -124,7 +119,7 @@ impl LogPoll {
         if self.is_first(first_number(&records)) {
             self.start(alloc, records)
         } else {
-            Ok(self.ask_back(Aim::Starts, records))
+            Ok(self.ask_back(alloc, Aim::Starts, records))
         }
     }
 
@@ -133,9 +128,9 @@ impl LogPoll {
         ensures { IfOk result (λ turn. turned self.new turn ≡ starts_none self.old) }
     {
         if self.refused && self.counted.is_some() {
-            Ok(self.ends(PollEnd::ShowsNone))
+            Ok(self.ends(alloc, PollEnd::ShowsNone))
         } else {
-            self.start(alloc, ArrayVec::new())
+            self.start(alloc, Vec::new(alloc))
         }
     }
 
@@ -144,7 +139,7 @@ impl LogPoll {
         ensures { IfOk result (λ turn. turned self.new turn ≡ starts_at_count self.old number) }
     {
         self.confirm(alloc)?;
-        let mut turn = self.ask_oldest(Aim::Starts);
+        let mut turn = self.ask_oldest(alloc, Aim::Starts);
         turn.begins = beginning(number, true);
         Ok(turn)
     }
@@ -155,7 +150,7 @@ impl LogPoll {
             ≡ starts_told self.old self.old.begins next) }
     {
         match self.begins {
-            Some(_) => Ok(self.ask_oldest(Aim::Starts)),
+            Some(_) => Ok(self.ask_oldest(alloc, Aim::Starts)),
             None => {
                 self.counted = Some(next);
                 self.start_at_count(alloc, next)
@@ -169,7 +164,7 @@ impl LogPoll {
             ≡ starts_refused self.old self.old.counted) }
     {
         match self.counted {
-            Some(_) => Ok(self.ask_oldest(Aim::Starts)),
+            Some(_) => Ok(self.ask_oldest(alloc, Aim::Starts)),
             None => self.start_at_count(alloc, 1),
         }
     }

@@ -5,8 +5,8 @@ ghost use Rattle.bac_walk.specs.Walks.{gap_items};
 ghost use Rattle.bac_poll.specs.State.{PollState};
 ghost use Rattle.bac_poll.specs.Turns.{asks, ends, gap_up_to, turned};
 
-use arrayvec::ArrayVec;
 use bac_walk::{Gap, Numbered, WalkFault};
+use std::alloc::Global;
 
 /// Why nothing more is asked.
 #[derive(Clone, Copy, Debug, PartialEq, Eq)]
@@ -63,7 +63,7 @@ pub struct Turn {
     /// A gap at its beginning.
     pub gap: Option<Gap>,
     /// The records.
-    pub entries: ArrayVec<Numbered, 100>,
+    pub entries: Vec<Numbered>,
     pub line: Option<Line>,
     /// Why nothing more is asked, if nothing is.
     pub end: Option<PollEnd>,
@@ -71,7 +71,7 @@ pub struct Turn {
 
 impl Turn {
     /// The next question is asked.
-    pub(crate) fn asks() -> Turn
+    pub(crate) fn asks(alloc: Global) -> Turn
         ensures { (p : PollState) → turned p result ≡ asks p }
     {
         Turn {
@@ -80,14 +80,14 @@ impl Turn {
             doubtful: false,
             anew: false,
             gap: None,
-            entries: ArrayVec::new(),
+            entries: Vec::new(alloc),
             line: None,
             end: None,
         }
     }
 
     /// Nothing more is asked.
-    pub fn ends(why: PollEnd) -> Turn
+    pub fn ends(alloc: Global, why: PollEnd) -> Turn
         ensures { (p : PollState) → turned p result ≡ ends p why }
     {
         Turn {
@@ -96,7 +96,7 @@ impl Turn {
             doubtful: false,
             anew: false,
             gap: None,
-            entries: ArrayVec::new(),
+            entries: Vec::new(alloc),
             line: None,
             end: Some(why),
         }

@@ -21,33 +21,32 @@ use crate::poll::LogPoll;
 use crate::stage::Stage;
 use crate::turn::{PollEnd, Turn};
 use crate::word::{Told, is_other_word};
-use arrayvec::ArrayVec;
 use bac_walk::Numbered;
 use std::alloc::{AllocError, Global};
 use std::mem::replace;
 
 impl LogPoll {
     /// The next question is asked for this, from a number or up to it.
-    pub(crate) fn ask_at(&mut self, stage: Stage, reference: u32) -> Turn
+    pub(crate) fn ask_at(&mut self, alloc: Global, stage: Stage, reference: u32) -> Turn
         ensures { turned self.new result ≡ asks_at self.old stage reference }
     {
         self.stage = stage;
         self.reference = reference;
-        self.asks()
+        self.asks(alloc)
     }
 
     /// The next question is asked.
-    pub(crate) fn asks(&self) -> Turn
+    pub(crate) fn asks(&self, alloc: Global) -> Turn
         ensures { turned self.now result ≡ asks self.now }
     {
-        Turn::asks()
+        Turn::asks(alloc)
     }
 
     /// Nothing more is asked.
-    pub(crate) fn ends(&self, why: PollEnd) -> Turn
+    pub(crate) fn ends(&self, alloc: Global, why: PollEnd) -> Turn
         ensures { turned self.now result ≡ ends self.now why }
     {
-        Turn::ends(why)
+        Turn::ends(alloc, why)
     }
 
     /// Nothing is newer.
@@ -111,7 +110,7 @@ impl LogPoll {
     fn know_last(
         &mut self,
         alloc: Global,
-        records: &ArrayVec<Numbered, 100>,
+        records: &Vec<Numbered>,
         last: Numbered,
     ) -> Result<(), AllocError>
         ensures { IfOk result (λ _. self.new ≡ knowing self.old records.now.items last) }
@@ -127,7 +126,7 @@ impl LogPoll {
     pub(crate) fn stand_behind(
         &mut self,
         alloc: Global,
-        records: &ArrayVec<Numbered, 100>,
+        records: &Vec<Numbered>,
         last: Numbered,
     ) -> Result<(), AllocError>
         ensures { IfOk result (λ _. self.new ≡ behind self.old records.now.items last) }
@@ -143,18 +142,18 @@ impl LogPoll {
     pub(crate) fn bring(
         &mut self,
         alloc: Global,
-        records: ArrayVec<Numbered, 100>,
+        records: Vec<Numbered>,
     ) -> Result<Turn, AllocError>
         ensures { IfOk result (λ turn. turned self.new turn ≡ brings self.old records.items) }
     {
         match last_in(&records) {
             Some(last) => {
                 self.stand_behind(alloc, &records, last)?;
-                let mut turn = self.asks();
+                let mut turn = self.asks(alloc);
                 turn.entries = records;
                 Ok(turn)
             }
-            None => Ok(self.ends(self.end())),
+            None => Ok(self.ends(alloc, self.end())),
         }
     }
 
@@ -225,35 +224,35 @@ pub(crate) fn is_known(kept: &Option<Kept>) -> bool
 }
 
 /// Whether there are no records.
-pub(crate) fn is_none(records: &ArrayVec<Numbered, 100>) -> bool
+pub(crate) fn is_none(records: &Vec<Numbered>) -> bool
     ensures { result ≡ (length records.now.items == 0) }
 {
     records.len() == 0
 }
 
 /// Whether there is one.
-pub(crate) fn is_one(records: &ArrayVec<Numbered, 100>) -> bool
+pub(crate) fn is_one(records: &Vec<Numbered>) -> bool
     ensures { result ≡ (length records.now.items == 1) }
 {
     records.len() == 1
 }
 
 /// The first of these records, if there is one.
-pub(crate) fn first_in(records: &ArrayVec<Numbered, 100>) -> Option<Numbered>
+pub(crate) fn first_in(records: &Vec<Numbered>) -> Option<Numbered>
     ensures { result ≡ first_in records.now.items }
 {
     records.as_slice().first().copied()
 }
 
 /// The last of them.
-pub(crate) fn last_in(records: &ArrayVec<Numbered, 100>) -> Option<Numbered>
+pub(crate) fn last_in(records: &Vec<Numbered>) -> Option<Numbered>
     ensures { result ≡ last_in records.now.items }
 {
     records.as_slice().last().copied()
 }
 
 // The record so many before the last of them, if there is one.
-fn before_last(records: &ArrayVec<Numbered, 100>, back: usize) -> Option<Numbered>
+fn before_last(records: &Vec<Numbered>, back: usize) -> Option<Numbered>
     ensures { result ≡ before_last records.now.items back }
 {
     let records = records.as_slice();
@@ -295,7 +294,7 @@ pub(crate) fn number_or(number: u32, held: Option<Numbered>) -> u32
 }
 
 /// The number of the first of them; 0 if there is none.
-pub(crate) fn first_number(records: &ArrayVec<Numbered, 100>) -> u32
+pub(crate) fn first_number(records: &Vec<Numbered>) -> u32
     ensures { result ≡ first_number records.now.items }
 {
     number_or(0, first_in(records))

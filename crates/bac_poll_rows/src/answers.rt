@@ -1,7 +1,7 @@
 //! What answers make of a poll.
 
 use crate::fault::Fault;
-use crate::text::{asked, turned};
+use crate::text::{asked, counted, turned};
 use crate::words::{maybe_number, restart, word};
 use bac_poll::{LogPoll, Turn};
 use bac_wire::Datagram;
@@ -9,7 +9,8 @@ use std::alloc::Global;
 use std::str::SplitWhitespace;
 
 /// The answer to a question: `reply OCTETS`, `count N`, `revision N` or `restart STAMP`; or
-/// `fewer`: it can't be given, since the device can't send so many records.
+/// `fewer`: it can't be given, since the device can't send so many records. `brief OCTETS` is a
+/// reply, too, of which only is told how many records are kept (bench/poll_cost.py).
 pub(crate) fn after(
     alloc: Global,
     call: &str,
@@ -21,6 +22,9 @@ pub(crate) fn after(
         return asked(alloc, poll);
     }
     let turn = taken(alloc, call, words, poll)?;
+    if call == "brief" {
+        return counted(alloc, &turn);
+    }
     turned(alloc, poll, turn)
 }
 
@@ -31,7 +35,7 @@ fn taken(
     poll: &mut LogPoll,
 ) -> Result<Turn, Fault> {
     Ok(match call {
-        "reply" => poll.take(alloc, &datagram(alloc, words)?)?,
+        "reply" | "brief" => poll.take(alloc, &datagram(alloc, words)?)?,
         "count" => poll.weigh(alloc, maybe_number(words)?)?,
         "revision" => poll.hear_revision(alloc, maybe_number(words)?)?,
         "restart" => {

@@ -43,6 +43,12 @@ pub(crate) fn turned(alloc: Global, poll: &LogPoll, turn: Turn) -> Result<String
     Ok(text)
 }
 
+/// How many records it brings.
+pub(crate) fn counted(alloc: Global, turn: &Turn) -> Result<String, Fault> {
+    let count = turn.entries.len();
+    Ok(format!(in alloc; "{count} records")?)
+}
+
 /// Its beginning, gaps and records.
 fn rows(alloc: Global, turn: &Turn) -> Result<String, Fault> {
     let mut text = String::new(alloc);
