@@ -1,0 +1,92 @@
+-- What is told of a log is what its archive has.
+use Rattle.std.proofs.Common.{arith, ◌≡◌, ℕ, zero, suc, ◌+◌, ◌%◌, ◌<◌, ◌==◌, nat_le, Bool, true, false, if◌then◌else◌, not, List, [], ◌∷◌, length, map, take, Option, None, Some, refl, sym, ap, subst, ◌∙◌}
+use Rattle.std.specs.List.{Contains, filter, list_any, slice_get}
+use Rattle.std.proofs.lemmas.Bool.{and_from, and_parts, cond-true, eq-eqb, eqb-true, le-leb, not-true, or_left, or_right}
+use Rattle.std.proofs.lemmas.List.Elements.{Contains-append_right}
+use Rattle.std.proofs.lemmas.Option.{none-some, same_Some}
+use Rattle.hex.proofs.HexLemmas.{decode_of-encode_lower}
+use Rattle.sqlite_value.specs.Order.{Row as Values, column}
+use Rattle.sqlite_trees.specs.Tree.{Trees}
+use Rattle.bac_archive3.specs.Ask.{shown}
+use Rattle.bac_archive3.specs.Items.{number_at, number_in}
+use Rattle.bac_archive3.specs.Put.{beginning_columns, item_columns}
+use Rattle.bac_archive3.specs.Read.{numbers}
+use Rattle.bac_archive3.specs.Stands.{StandsAs, epochs, is_in, is_last}
+use Rattle.bac_archive3.specs.declared.row.BeginningRow.{BeginningRow}
+use Rattle.bac_archive3.specs.declared.standing.Standing.{Standing}
+use Rattle.bac_link.specs.Ordinals.{is_number}
+use Rattle.bac_poll.specs.Turns.{number_before}
+use Rattle.bac_resume.specs.Laws.{KnownAreKept, NewestAreTold, NextIsNumber, RestartIsReadBack, before, told_in}
+use Rattle.bac_resume.specs.Met.{log_in}
+use Rattle.bac_resume.specs.Rows.{begins_of, items_of}
+use Rattle.bac_resume.specs.Stands.{is_gap, is_record_of, known_at, known_before, last_number}
+use Rattle.bac_resume.specs.Texts.{moment_of}
+use Rattle.bac_resume.proofs.Rowed.{begins_at, filtered_passes, filtered_there, first_there, item_at}
+
+pub restart_back : RestartIsReadBack
+restart_back values are = ap moment_of (decode_of-encode_lower values are)
+
+number_is : (m : ℕ) → is_number (m % 4294967295 + 1) ≡ true
+number_is m =
+    and_from (nat_le 1 (m % 4294967295 + 1)) (nat_le (m % 4294967295 + 1) 4294967295) (le-leb 1 (m % 4294967295 + 1) (omega arith)) (le-leb (m % 4294967295 + 1) 4294967295 (omega arith))
+
+pub next_number : NextIsNumber
+next_number begins [] is = is
+next_number begins (item ∷ items) is = number_is (last_number item + 1 + 4294967294)
+
+-- ---- the records that are known
+
+abbrev KnownAs : ℕ → List Values → ℕ → Values → Type 0
+KnownAs next items back item = Contains items item × (is_gap item ≡ false) × (number_in item ≡ before next (suc back))
+
+known_cons : (b : Bool) (next : ℕ) (x : Values) (xs : List Values) (back : ℕ) (item : Values) → is_record_of (number_before next) x ≡ b →
+    ((further : ℕ) → slice_get (known_before (number_before next) xs) further ≡ Some item → KnownAs (number_before next) xs further item) →
+    slice_get (if b then x ∷ known_before (number_before next) xs else []) back ≡ Some item → KnownAs next (x ∷ xs) back item
+known_cons false next x xs back item test others is = absurd (none-some item is)
+known_cons true next x xs zero item test others is =
+    let parts = and_parts (not (is_gap x)) (number_in x == number_before next) test in
+    subst (λ (y : Values). KnownAs next (x ∷ xs) 0 y) (same_Some x item is)
+    ((0, omega arith, refl), not-true (is_gap x) parts.0, eqb-true (number_in x) (number_before next) parts.1)
+known_cons true next x xs (suc back) item test others is =
+    let rest = others back is in
+    (Contains-append_right (x ∷ []) xs item rest.0, rest.1, rest.2)
+
+known_is : (next : ℕ) (items : List Values) (back : ℕ) (item : Values) → known_at next items back ≡ Some item → KnownAs next items back item
+known_is next [] back item is = absurd (none-some item is)
+known_is next (x ∷ xs) back item is =
+    known_cons (is_record_of (number_before next) x) next x xs back item refl (λ further has. known_is (number_before next) xs further item has) is
+
+-- ---- the rows that are told
+
+there_by : (trees : Trees) (s : Standing) (log : ℕ) (item : Values) (begins : Option Values) → StandsAs trees s → begins_of log (map beginning_columns s.last.items) ≡ begins →
+    Contains (items_of begins (map item_columns s.newest.items)) item → Contains (map (shown 5) (trees 5)) item × (log_in item ≡ log)
+there_by trees s log item None stands told there = absurd (omega (arith, there.1))
+there_by trees s log item (Some begins) stands told there =
+    let era = number_at (column begins 0) in
+    (stands.newest.there item (filtered_there (is_in numbers era) (map item_columns s.newest.items) item there),
+     item_at log era item (begins_at log (map beginning_columns s.last.items) begins told) (filtered_passes (is_in numbers era) (map item_columns s.newest.items) item there))
+
+pub known_kept : KnownAreKept
+known_kept trees s log next back item stands is =
+    let known = known_is next (told_in s log).newest back item is in
+    let row = there_by trees s log item (begins_of log (map beginning_columns s.last.items)) stands refl known.0 in
+    record { there = row.0; of_log = row.1; is_record = known.1; number_is = known.2 }
+
+-- the epoch of a beginning that is told is the last of its log
+last_is : (last : List BeginningRow) (begins : Values) → Contains (map beginning_columns last) begins → is_last last (number_at (column begins 0)) ≡ true
+last_is [] begins there = absurd (omega (arith, there.1))
+last_is (b ∷ last) begins (zero, less, is) =
+    or_left (b.id == number_at (column begins 0)) (is_last last (number_at (column begins 0)))
+    (eq-eqb b.id (number_at (column begins 0)) (ap (λ (v : Values). number_at (column v 0)) is))
+last_is (b ∷ last) begins (suc k, less, is) =
+    or_right (b.id == number_at (column begins 0)) (is_last last (number_at (column begins 0))) (last_is last begins (k, omega (arith, less), is))
+
+pub newest_told : NewestAreTold
+newest_told trees s log begins stands told =
+    let era = number_at (column begins 0) in
+    let items = map item_columns s.newest.items in
+    let beginnings = map beginning_columns s.last.items in
+    let begun = filtered_there (is_in epochs log) beginnings begins (first_there (filter (is_in epochs log) beginnings) begins told) in
+    (stands.newest.all, stands.newest.each, stands.newest.falling,
+     ap (λ (o : Option Values). items_of o items) told ∙ stands.newest.first era
+     ∙ cond-true (is_last s.last.items era) (take 3 (filter (is_in numbers era) stands.newest.all)) [] (last_is s.last.items begins begun))

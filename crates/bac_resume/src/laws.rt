@@ -1,0 +1,46 @@
+//! Laws of where a poll goes on. Each function does nothing: what it ensures is the law.
+
+ghost use Rattle.bac_resume.specs.Laws.{GoesOnAnew, GoesOnBehindGap, GoesOnBehindRecords};
+ghost use Rattle.bac_resume.specs.Laws.{JoinsThere, KnownAreKept, NewestAreTold, NextIsNumber};
+ghost use Rattle.bac_resume.specs.Laws.{RestartIsReadBack};
+
+/// Each record that is known of a log is one of its records in the archive, under its number.
+pub fn known_are_kept()
+    ensures { KnownAreKept }
+{}
+
+/// The items by which a poll goes on are the three of its last epoch with the greatest ids.
+pub fn newest_are_told()
+    ensures { NewestAreTold }
+{}
+
+/// The number that comes next is a sequence number.
+pub fn next_is_number()
+    ensures { NextIsNumber }
+{}
+
+/// What is put on record of a restart is read back.
+pub fn restart_is_read_back()
+    ensures { RestartIsReadBack }
+{}
+
+/// The poll that is made of what rows say stands where they say.
+pub fn joins_there()
+    ensures { JoinsThere }
+{}
+
+/// Where a poll stands by the newest items of its epoch, it stands so too behind the records that
+/// it brings, once their rows are put.
+pub fn goes_on_behind_records()
+    ensures { GoesOnBehindRecords }
+{}
+
+/// And behind a gap.
+pub fn goes_on_behind_gap()
+    ensures { GoesOnBehindGap }
+{}
+
+/// And where an epoch begins.
+pub fn goes_on_anew()
+    ensures { GoesOnAnew }
+{}
