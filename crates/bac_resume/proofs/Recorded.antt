@@ -1,8 +1,7 @@
 -- Rows as the code has them.
 use Rattle.std.proofs.Common.{◌≡◌, ℕ, ◌+◌, ◌<◌, Bool, true, false, if◌then◌else◌, List, [], ◌∷◌, ◌++◌, length, get_or, drop, map, replicate, Option, None, Some, pos, refl, sym, ap, ◌∙◌, arith}
 use Rattle.std.specs.List.{slice_get}
-use Rattle.std.specs.Option.{is_none, is_some}
-use Rattle.std.proofs.lemmas.Bool.{false≢true, true≢false}
+use Rattle.std.specs.Option.{is_some}
 use Rattle.std.proofs.lemmas.List.{drop_more, get_or-replicate, length-replicate, replicate-append-replicate}
 use Rattle.std.proofs.lemmas.Option.{slice_get-get_or}
 use Rattle.sqlite_value.specs.Order.{Row as Values, column}
@@ -16,11 +15,9 @@ use Rattle.bac_resume.specs.Stands.{is_gap, newest_record}
 
 -- ---- the newest record
 
-gap_is : (o : Option ℕ) (b : Bool) → is_none o ≡ b → is_some (last_at (or_null (λ n. Int (pos n)) o)) ≡ (if b then false else true)
-gap_is None true is = refl
-gap_is None false is = absurd (true≢false is)
-gap_is (Some n) true is = absurd (false≢true is)
-gap_is (Some n) false is = refl
+gap_is : (o : Option ℕ) → is_some (last_at (or_null (λ n. Int (pos n)) o)) ≡ is_some o
+gap_is None = refl
+gap_is (Some n) = refl
 
 at_item : (items : List ItemRow) (i : ℕ) (item : ItemRow) → i < length items → item ≡ get_or items i item →
     newest_record (map item_columns (drop i items)) ≡ (if is_gap (item_columns item) then newest_record (map item_columns (drop (i + 1) items)) else Some (item_columns item))
@@ -29,16 +26,16 @@ at_item items i item less is =
     ∙ ap (λ (x : ItemRow). newest_record (map item_columns (x ∷ drop (i + 1) items))) (sym is)
 
 pub record_here : (items : List ItemRow) (i : ℕ) (item : ItemRow) → i < length items → item ≡ get_or items i item →
-    newest_record (map item_columns (drop i items)) ≡ newest_record (map item_columns items) → is_none item.last ≡ true → Some (item_columns item) ≡ newest_record (map item_columns items)
+    newest_record (map item_columns (drop i items)) ≡ newest_record (map item_columns items) → is_some item.last ≡ false → Some (item_columns item) ≡ newest_record (map item_columns items)
 record_here items i item less is so none =
-    sym (ap (λ (b : Bool). if b then newest_record (map item_columns (drop (i + 1) items)) else Some (item_columns item)) (gap_is item.last true none))
+    sym (ap (λ (b : Bool). if b then newest_record (map item_columns (drop (i + 1) items)) else Some (item_columns item)) (gap_is item.last ∙ none))
     ∙ sym (at_item items i item less is) ∙ so
 
 pub record_more : (items : List ItemRow) (i : ℕ) (item : ItemRow) → i < length items → item ≡ get_or items i item →
-    newest_record (map item_columns (drop i items)) ≡ newest_record (map item_columns items) → is_none item.last ≡ false →
+    newest_record (map item_columns (drop i items)) ≡ newest_record (map item_columns items) → is_some item.last ≡ true →
     newest_record (map item_columns (drop (i + 1) items)) ≡ newest_record (map item_columns items)
 record_more items i item less is so none =
-    sym (ap (λ (b : Bool). if b then newest_record (map item_columns (drop (i + 1) items)) else Some (item_columns item)) (gap_is item.last false none))
+    sym (ap (λ (b : Bool). if b then newest_record (map item_columns (drop (i + 1) items)) else Some (item_columns item)) (gap_is item.last ∙ none))
     ∙ sym (at_item items i item less is) ∙ so
 
 -- ---- logs of which nothing is told

@@ -5,10 +5,10 @@ use crate::index::Index;
 use crate::polls::poll_of;
 use crate::words::{Asked, Pair};
 use bac_archive3::{DeviceRow, LogRow, Put};
-use bac_keep::Place;
 use bac_link::Transactions;
 use bac_poller::{Counts, Doing, Limits, LogPoller, LogTask, Presence, Seat, SitePoll};
 use bac_print::push_number;
+use bac_resume::Resumed;
 use std::alloc::{AllocError, Global};
 use std::collections::VecDeque;
 
@@ -26,9 +26,8 @@ fn name_of(alloc: Global, pair: &Pair) -> Result<Vec<u8>, AllocError> {
     Ok(name)
 }
 
-fn task_of(alloc: Global, index: &Index, log: u16, pair: &Pair) -> Result<LogTask, Halt> {
-    let (poll, epoch) = poll_of(alloc, index, log, pair.instance)?;
-    let place = Place::new(log, epoch).ok_or(Halt::Object)?;
+fn task_of(alloc: Global, log: u16, goes_on: Resumed, pair: &Pair) -> Result<LogTask, Halt> {
+    let (poll, place) = poll_of(alloc, log, goes_on, pair.instance)?;
     let name = name_of(alloc, pair)?;
     Ok(LogTask { poll, place, name })
 }
@@ -111,8 +110,8 @@ pub struct Making {
 impl Making {
     fn new(alloc: Global, asked: &Asked, index: Index) -> Making {
         let limits = Limits::new(asked.at_once as usize, AT_HOST, MOST, asked.timeout);
-        let next_device = index.told.next_device;
-        let next_log = index.told.next_log;
+        let next_device = index.next_device;
+        let next_log = index.next_log;
         Making {
             index,
             site: SitePoll::new(alloc, limits),
@@ -147,15 +146,15 @@ impl Making {
         Ok(())
     }
 
-    /// The row of a log, or a new one.
-    fn log(&mut self, pair: &Pair) -> Result<u16, Halt> {
-        if let Some(id) = self.index.log(self.device, pair.instance) {
-            return Ok(id);
+    /// The row of a log and where its poll goes on; of a new one at its beginning.
+    fn log(&mut self, alloc: Global, pair: &Pair) -> Result<(u16, Resumed), Halt> {
+        if let Some(row) = self.index.log(self.device, pair.instance) {
+            return Ok((row.id, self.index.goes_on(alloc, row)?));
         }
         let id = id_of(&mut self.next_log)?;
         self.puts
             .push(Put::NewLog(new_log(id, self.device, pair.instance)))?;
-        Ok(id)
+        Ok((id, Resumed::Unbegun))
     }
 
     /// One more log, behind those of its device.
@@ -167,8 +166,8 @@ impl Making {
         if !is_same {
             self.begin_device(alloc, pair)?;
         }
-        let log = self.log(pair)?;
-        let task = task_of(alloc, &self.index, log, pair)?;
+        let (log, goes_on) = self.log(alloc, pair)?;
+        let task = task_of(alloc, log, goes_on, pair)?;
         self.seat = match self.seat.take() {
             Some(mut seat) => {
                 seat.logs.push_back(task)?;
