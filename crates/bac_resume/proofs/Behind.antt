@@ -1,22 +1,19 @@
 -- Where a poll stands, once rows are put.
-use Rattle.std.proofs.Common.{arith, ◌≡◌, ℕ, zero, suc, ◌+◌, ◌-◌, ◌<◌, ◌≤◌, Bool, true, false, if◌then◌else◌, nat_lt, List, [], ◌∷◌, take, length, get_or, Option, None, Some, inl, inr, refl, sym, ap, subst, ◌∙◌}
+use Rattle.std.proofs.Common.{arith, ◌≡◌, ℕ, suc, ◌+◌, ◌-◌, ◌<◌, nat_lt, List, [], ◌∷◌, take, length, get_or, Option, None, Some, inl, inr, refl, sym, ap, subst, ◌∙◌}
 use Rattle.std.specs.List.{slice_get}
 use Rattle.std.specs.Option.{option_map}
 use Rattle.std.proofs.lemmas.Bool.{cond-true, lt-ltb}
 use Rattle.std.proofs.lemmas.Option.{none-some, same_Some, slice_get-get_or}
-use Rattle.sqlite_value.specs.Order.{Row as Values, column}
-use Rattle.bac_wire.specs.Primitive.{Id}
-use Rattle.bac_archive3.specs.Items.{last_at, number_in, text_at}
+use Rattle.sqlite_value.specs.Order.{Row as Values}
 use Rattle.bac_link.specs.Ordinals.{number_after}
 use Rattle.bac_walk.specs.declared.batch.Numbered.{Numbered}
-use Rattle.bac_poll.specs.DateTime.{dated, undated}
-use Rattle.bac_poll.specs.Poll.{joining}
-use Rattle.bac_poll.specs.State.{KeptAs, PollState, StandingAs, ToldAs, kept_of}
-use Rattle.bac_poll.specs.Turns.{before_last, behind, kept_or, last_in, number_before, renewed, standing_at, third_known}
+use Rattle.bac_poll.specs.DateTime.{dated}
+use Rattle.bac_poll.specs.State.{KeptAs, PollState, StandingAs, kept_of}
+use Rattle.bac_poll.specs.Turns.{before_last, behind, kept_or, last_in, number_before, third_known}
 use Rattle.bac_poll.specs.declared.date_time.DateTime.{DateTime}
 use Rattle.bac_resume.specs.Laws.{GoesOnAnew, GoesOnBehindGap, GoesOnBehindRecords, JoinsThere, SayRun, SaysRecord, kept_undayed, place_of, undayed, with_rows}
 use Rattle.bac_resume.specs.Resumed.{Agree, IsKept, IsStamped, StandsBy}
-use Rattle.bac_resume.specs.Stands.{known_at, known_before, newest_record}
+use Rattle.bac_resume.specs.Stands.{known_at, known_before}
 use Rattle.bac_resume.specs.Texts.{HasDate}
 use Rattle.bac_resume.proofs.Known.{known_cut, known_more, known_none, last_of_gap, last_of_record, newest_is, number_back, number_behind, record_is}
 use Rattle.bac_resume.proofs.Written.{day_same}
@@ -41,16 +38,16 @@ behind_one : (begins : ℕ) (rows : List Values) (p : PollState) (held : Numbere
 behind_one begins rows p held item stands says at more few =
     let next : number_after held.number 1 ≡ p.next + 1 = ap (λ (m : ℕ). number_after m 1) at ∙ number_behind p.next few in
     let known : known_before (number_after held.number 1) (item ∷ take 2 rows) ≡ item ∷ known_before p.next (take 2 rows) =
-      known_more (number_after held.number 1) p.next item (take 2 rows) (ap number_before next ∙ number_back p.next more) (record_is p.next item says.no_gap (says.number ∙ at)) in
+    known_more (number_after held.number 1) p.next item (take 2 rows) (ap number_before next ∙ number_back p.next more) (record_is p.next item says.no_gap (says.number ∙ at)) in
     let first : known_at p.next (take 3 rows) 0 ≡ known_at p.next (take 2 rows) 0 = known_cut p.next 3 2 0 rows (omega arith) (omega arith) in
     let second : known_at p.next (take 3 rows) 1 ≡ known_at p.next (take 2 rows) 1 = known_cut p.next 3 2 1 rows (omega arith) (omega arith) in
     record {
       next = ap (λ (m : ℕ). number_after m 1) (sym (last_of_record item says.no_gap ∙ says.number));
       newest = subst (λ (l : List Values). Agree IsKept (slice_get l 0) (Some (kept_undayed (kept_of held)))) (sym known) (kept_says held item says);
       earlier = subst (λ (l : List Values). Agree IsKept (slice_get l 1) (option_map kept_undayed p.newest)) (sym known)
-        (subst (λ (o : Option Values). Agree IsKept o (option_map kept_undayed p.newest)) first stands.newest);
+          (subst (λ (o : Option Values). Agree IsKept o (option_map kept_undayed p.newest)) first stands.newest);
       earliest = subst (λ (l : List Values). Agree IsKept (slice_get l 2) (option_map kept_undayed p.earlier)) (sym known)
-        (subst (λ (o : Option Values). Agree IsKept o (option_map kept_undayed p.earlier)) second stands.earlier);
+          (subst (λ (o : Option Values). Agree IsKept o (option_map kept_undayed p.earlier)) second stands.earlier);
     }
 
 stamped_one : (rows : List Values) (p : PollState) (held : Numbered) (item : Values) → SaysRecord held item → IsStamped (take 3 (item ∷ rows)) (place_of (behind p (held ∷ []) held))
@@ -63,11 +60,12 @@ last_some : (x : Numbered) (xs : List Numbered) (k : ℕ) → k < length xs → 
 last_some x xs k less =
     let within : length xs - 1 - k < length xs = omega (arith, less) in
     let here : slice_get xs (length xs - 1 - k) ≡ Some (get_or xs (length xs - 1 - k) x) = slice_get-get_or xs (length xs - 1 - k) x within in
-    let place : suc (length xs) - 1 - k ≡ suc (length xs - 1 - k) = omega (arith, less) in
-    (get_or xs (length xs - 1 - k) x,
-     cond-true (nat_lt k (length xs)) (slice_get xs (length xs - 1 - k)) None (lt-ltb k (length xs) less) ∙ here,
-     cond-true (nat_lt k (suc (length xs))) (slice_get (x ∷ xs) (suc (length xs) - 1 - k)) None (lt-ltb k (suc (length xs)) (omega (arith, less)))
-     ∙ ap (slice_get (x ∷ xs)) place ∙ here)
+    let place : suc (length xs) - 1 - k ≡ suc (length xs - 1 - k) = omega (arith, less) in (
+      get_or xs (length xs - 1 - k) x,
+      cond-true (nat_lt k (length xs)) (slice_get xs (length xs - 1 - k)) None (lt-ltb k (length xs) less) ∙ here,
+      cond-true (nat_lt k (suc (length xs))) (slice_get (x ∷ xs) (suc (length xs) - 1 - k)) None (lt-ltb k (suc (length xs)) (omega (arith, less)))
+          ∙ ap (slice_get (x ∷ xs)) place ∙ here,
+    )
 
 -- where a poll stands behind a record, with these known before it
 abbrev standing : PollState → Numbered → Option KeptAs → Option KeptAs → StandingAs
@@ -151,10 +149,11 @@ behind_gap begins before rows item p gap more few =
     }
 
 pub anew : GoesOnAnew
-anew first p word =
-    (record { next = refl; newest = tt; earlier = tt; earliest = tt },
-     record { next = refl; newest = tt; earlier = tt; earliest = tt },
-     tt)
+anew first p word = (
+  record { next = refl; newest = tt; earlier = tt; earliest = tt },
+  record { next = refl; newest = tt; earlier = tt; earliest = tt },
+  tt,
+)
 
 -- ---- the poll that is made of what rows say
 

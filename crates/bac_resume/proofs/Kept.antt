@@ -1,6 +1,6 @@
 -- What is told of a log is what its archive has.
-use Rattle.std.proofs.Common.{arith, ◌≡◌, ℕ, zero, suc, ◌+◌, ◌%◌, ◌<◌, ◌==◌, nat_le, Bool, true, false, if◌then◌else◌, not, List, [], ◌∷◌, length, map, take, Option, None, Some, refl, sym, ap, subst, ◌∙◌}
-use Rattle.std.specs.List.{Contains, filter, list_any, slice_get}
+use Rattle.std.proofs.Common.{arith, ◌≡◌, ℕ, zero, suc, ◌+◌, ◌%◌, ◌==◌, nat_le, Bool, true, false, if◌then◌else◌, not, List, [], ◌∷◌, map, take, Option, None, Some, refl, ap, subst, ◌∙◌}
+use Rattle.std.specs.List.{Contains, filter, slice_get}
 use Rattle.std.proofs.lemmas.Bool.{and_from, and_parts, cond-true, eq-eqb, eqb-true, le-leb, not-true, or_left, or_right}
 use Rattle.std.proofs.lemmas.List.Elements.{Contains-append_right}
 use Rattle.std.proofs.lemmas.Option.{none-some, same_Some}
@@ -62,9 +62,10 @@ there_by : (trees : Trees) (s : Standing) (log : ℕ) (item : Values) (begins : 
     Contains (items_of begins (map item_columns s.newest.items)) item → Contains (map (shown 5) (trees 5)) item × (log_in item ≡ log)
 there_by trees s log item None stands told there = absurd (omega (arith, there.1))
 there_by trees s log item (Some begins) stands told there =
-    let era = number_at (column begins 0) in
-    (stands.newest.there item (filtered_there (is_in numbers era) (map item_columns s.newest.items) item there),
-     item_at log era item (begins_at log (map beginning_columns s.last.items) begins told) (filtered_passes (is_in numbers era) (map item_columns s.newest.items) item there))
+    let era = number_at (column begins 0) in (
+      stands.newest.there item (filtered_there (is_in numbers era) (map item_columns s.newest.items) item there),
+      item_at log era item (begins_at log (map beginning_columns s.last.items) begins told) (filtered_passes (is_in numbers era) (map item_columns s.newest.items) item there),
+    )
 
 pub known_kept : KnownAreKept
 known_kept trees s log next back item stands is =
@@ -86,7 +87,10 @@ newest_told trees s log begins stands told =
     let era = number_at (column begins 0) in
     let items = map item_columns s.newest.items in
     let beginnings = map beginning_columns s.last.items in
-    let begun = filtered_there (is_in epochs log) beginnings begins (first_there (filter (is_in epochs log) beginnings) begins told) in
-    (stands.newest.all, stands.newest.each, stands.newest.falling,
-     ap (λ (o : Option Values). items_of o items) told ∙ stands.newest.first era
-     ∙ cond-true (is_last s.last.items era) (take 3 (filter (is_in numbers era) stands.newest.all)) [] (last_is s.last.items begins begun))
+    let begun = filtered_there (is_in epochs log) beginnings begins (first_there (filter (is_in epochs log) beginnings) begins told) in (
+      stands.newest.all,
+      stands.newest.each,
+      stands.newest.falling,
+      ap (λ (o : Option Values). items_of o items) told ∙ stands.newest.first era
+          ∙ cond-true (is_last s.last.items era) (take 3 (filter (is_in numbers era) stands.newest.all)) [] (last_is s.last.items begins begun),
+    )

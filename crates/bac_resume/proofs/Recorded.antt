@@ -1,10 +1,9 @@
 -- Rows as the code has them.
-use Rattle.std.proofs.Common.{◌≡◌, ℕ, ◌+◌, ◌<◌, Bool, true, false, if◌then◌else◌, List, [], ◌∷◌, ◌++◌, length, get_or, drop, map, replicate, Option, None, Some, pos, refl, sym, ap, ◌∙◌, arith}
+use Rattle.std.proofs.Common.{◌≡◌, ℕ, ◌+◌, ◌<◌, Bool, true, false, if◌then◌else◌, List, ◌∷◌, length, get_or, drop, map, replicate, Option, None, Some, pos, refl, sym, ap, ◌∙◌, arith}
 use Rattle.std.specs.List.{slice_get}
 use Rattle.std.specs.Option.{is_some}
-use Rattle.std.proofs.lemmas.List.{drop_more, get_or-replicate, length-replicate, replicate-append-replicate}
+use Rattle.std.proofs.lemmas.List.{drop_more, get_or-replicate, length-replicate}
 use Rattle.std.proofs.lemmas.Option.{slice_get-get_or}
-use Rattle.sqlite_value.specs.Order.{Row as Values, column}
 use Rattle.sqlite_value.specs.declared.value.Value.TheVariants.{Int}
 use Rattle.sqlite.specs.Values.{or_null}
 use Rattle.bac_archive3.specs.Items.{last_at}
@@ -39,9 +38,6 @@ record_more items i item less is so none =
     ∙ sym (at_item items i item less is) ∙ so
 
 -- ---- logs of which nothing is told
-
-pub more_untold : (all : List LogTold) (n : ℕ) → all ≡ replicate n untold → all ++ untold ∷ [] ≡ replicate (n + 1) untold
-more_untold all n is = ap (λ (l : List LogTold). l ++ untold ∷ []) is ∙ replicate-append-replicate n 1 untold
 
 at_replicate : (n log : ℕ) → log < n → slice_get (replicate n untold) log ≡ Some untold
 at_replicate n log less = slice_get-get_or (replicate n untold) log untold (omega (arith, length-replicate n untold, less)) ∙ ap (λ (t : LogTold). Some t) (get_or-replicate n log untold untold less)

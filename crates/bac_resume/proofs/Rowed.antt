@@ -1,11 +1,10 @@
 -- The rows of a log, among those of all.
-use Rattle.std.proofs.Common.{arith, ◌≡◌, ◌⊎◌, ℕ, zero, suc, ◌/◌, ◌<◌, ◌≤◌, ◌==◌, ◌++◌, Bool, true, false, if◌then◌else◌, List, [], ◌∷◌, length, set, Option, None, Some, pos, inl, inr, refl, sym, ap, subst, ◌∙◌}
+use Rattle.std.proofs.Common.{arith, ◌≡◌, ℕ, ◌/◌, ◌==◌, ◌++◌, Bool, true, false, if◌then◌else◌, List, [], ◌∷◌, Option, None, Some, pos, refl, sym, ap, ◌∙◌}
 use Rattle.std.specs.List.{Contains, filter, slice_get}
-use Rattle.std.specs.Option.{option_map}
-use Rattle.std.proofs.lemmas.Bool.{cases_eq, cases_lt, cond-true, cond-false, eq-eqb, eqb-true, eqb-false, false≢true, false_from_ne_true, ne_eqb}
+use Rattle.std.proofs.lemmas.Bool.{cond-true, cond-false, eqb-true, eqb-false, false≢true, false_from_ne_true}
 use Rattle.std.proofs.lemmas.List.Elements.{All-contains, All-contains_itself, All-filter, filter-append, filter_passes}
 use Rattle.std.proofs.lemmas.List.{append-nil}
-use Rattle.std.proofs.lemmas.Option.{none-some, slice_get_past}
+use Rattle.std.proofs.lemmas.Option.{none-some}
 use Rattle.sqlite_value.specs.declared.value.Value.{Value}
 use Rattle.sqlite_value.specs.declared.value.Value.TheVariants.{Int}
 use Rattle.sqlite_value.specs.Order.{Row as Values, column}
@@ -83,14 +82,6 @@ began_more log beginnings row = by (is_in epochs log row) refl
         cond-false (is_in epochs log row) (began (begun_of beginnings log) row) (begun_of beginnings log) is
         ∙ ap (λ (o : Option Values). record { begins = o; newest = [] }) (sym (begins_more log beginnings row false is))
 
-no_items : (begins : Option Values) → items_of begins [] ≡ []
-no_items None = refl
-no_items (Some begins) = refl
-
--- before the first item
-pub told_none : (beginnings : List Values) (log : ℕ) → begun_of beginnings log ≡ told_of beginnings [] log
-told_none beginnings log = ap (λ (l : List Values). record { begins = begins_of log beginnings; newest = l }) (sym (no_items (begins_of log beginnings)))
-
 items_more : (begins : Option Values) (items : List Values) (item : Values) → items_of begins (items ++ item ∷ []) ≡ items_of begins items ++ items_of begins (item ∷ [])
 items_more None items item = refl
 items_more (Some begins) items item = filter-append (is_in numbers (number_at (column begins 0))) items (item ∷ [])
@@ -116,42 +107,3 @@ item_more log beginnings items item = by (log_in item == log) refl
         (sym (items_more (begins_of log beginnings) items item
         ∙ ap (λ (l : List Values). items_of (begins_of log beginnings) items ++ l) (other_item log beginnings item (begins_of log beginnings) refl is)
         ∙ append-nil (items_of (begins_of log beginnings) items)))
-
--- ---- one of all logs
-
-set_same : (all : List LogTold) (at : ℕ) (y : LogTold) → at < length all → slice_get (set all at y) at ≡ Some y
-set_same [] at y less = absurd (omega (arith, less))
-set_same (x ∷ all) zero y less = refl
-set_same (x ∷ all) (suc at) y less = set_same all at y (omega (arith, less))
-
-set_other : (all : List LogTold) (at log : ℕ) (y : LogTold) → (at ≡ log → ⊥) → slice_get (set all at y) log ≡ slice_get all log
-set_other [] at log y other = refl
-set_other (x ∷ all) zero zero y other = absurd (other refl)
-set_other (x ∷ all) zero (suc log) y other = refl
-set_other (x ∷ all) (suc at) zero y other = refl
-set_other (x ∷ all) (suc at) (suc log) y other = set_other all at log y (λ e. other (ap (λ (n : ℕ). suc n) e))
-
-as_was : (f : LogTold → LogTold) (b : Bool) (o : Option LogTold) → b ≡ false → option_map (λ told. if b then f told else told) o ≡ o
-as_was f b None is = refl
-as_was f b (Some told) is = ap (λ (t : LogTold). Some t) (cond-false b (f told) told is)
-
--- the log at this place is changed
-pub set_one : (all : List LogTold) (f : LogTold → LogTold) (at log : ℕ) (x : LogTold) (b : Bool) → at < length all → slice_get all at ≡ Some x → b ≡ (at == log) →
-    slice_get (set all at (f x)) log ≡ option_map (λ told. if b then f told else told) (slice_get all log)
-set_one all f at log x b less has is = by (cases_eq at log)
-  where
-    by : (at ≡ log) ⊎ (at ≡ log → ⊥) → slice_get (set all at (f x)) log ≡ option_map (λ told. if b then f told else told) (slice_get all log)
-    by (inl e) =
-        subst (λ (n : ℕ). slice_get (set all at (f x)) n ≡ Some (f x)) e (set_same all at (f x) less)
-        ∙ sym (ap (option_map (λ (told : LogTold). if b then f told else told)) (subst (λ (n : ℕ). slice_get all n ≡ Some x) e has)
-        ∙ ap (λ (t : LogTold). Some t) (cond-true b (f x) x (is ∙ eq-eqb at log e)))
-    by (inr other) = set_other all at log (f x) other ∙ sym (as_was f b (slice_get all log) (is ∙ ne_eqb at log other))
-
--- there is none at this place
-pub set_none : (all : List LogTold) (f : LogTold → LogTold) (at log : ℕ) (b : Bool) → length all ≤ at → b ≡ (at == log) →
-    slice_get all log ≡ option_map (λ told. if b then f told else told) (slice_get all log)
-set_none all f at log b past is = by (cases_lt log (length all))
-  where
-    by : (log < length all) ⊎ (length all ≤ log) → slice_get all log ≡ option_map (λ told. if b then f told else told) (slice_get all log)
-    by (inl within) = sym (as_was f b (slice_get all log) (is ∙ ne_eqb at log (λ e. omega (arith, past, within, e))))
-    by (inr behind) = let none : slice_get all log ≡ None = slice_get_past all log behind in none ∙ sym (ap (option_map (λ (told : LogTold). if b then f told else told)) none)

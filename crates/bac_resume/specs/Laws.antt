@@ -22,7 +22,7 @@ use Rattle.bac_poll.specs.Turns.{behind, last_in, number_before, renewed, standi
 use Rattle.bac_poll.specs.declared.date_time.DateTime.{DateTime}
 use Rattle.bac_resume.specs.Met.{log_in}
 use Rattle.bac_resume.specs.Resumed.{IsStamped, StandsBy}
-use Rattle.bac_resume.specs.Rows.{LogTold, begins_of, told_of}
+use Rattle.bac_resume.specs.Rows.{LogTold, told_of}
 use Rattle.bac_resume.specs.Stands.{is_gap, known_at, next_of}
 use Rattle.bac_resume.specs.Texts.{moment_in}
 

@@ -162,10 +162,7 @@ fn newest_record(items: &[ItemRow]) -> Option<&ItemRow>
 }
 
 /// Its date and time.
-pub(crate) fn newest_stamp(
-    alloc: Global,
-    items: &[ItemRow],
-) -> Result<Option<DateTime>, AllocError>
+pub(crate) fn newest_stamp(alloc: Global, items: &[ItemRow]) -> Result<Option<DateTime>, AllocError>
     ensures { IfOk result (Agree HasDate (newest_record (map item_columns items.now))) }
 {
     match newest_record(items) {

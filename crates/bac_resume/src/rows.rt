@@ -47,7 +47,11 @@ impl Model for LogRows {
 pub(crate) fn id_of(item: &ItemRow) -> u64
     ensures { result ≡ number_at (column (item_columns item.now) 0) }
 {
-    if item.id < 0 { 0 } else { item.id.unsigned_abs() }
+    if item.id < 0 {
+        0
+    } else {
+        item.id.unsigned_abs()
+    }
 }
 
 // Whether an item is of an epoch.
