@@ -1,13 +1,21 @@
 -- What is told of a log is what its archive has.
-use Rattle.std.proofs.Common.{arith, ◌≡◌, ℕ, zero, suc, ◌+◌, ◌%◌, ◌==◌, nat_le, Bool, true, false, if◌then◌else◌, not, List, [], ◌∷◌, map, take, Option, None, Some, refl, ap, subst, ◌∙◌}
+use Rattle.std.proofs.Common.{arith, ◌≡◌, ℕ, zero, suc, ◌+◌, ◌%◌, ◌==◌, nat_le, Bool, true, false, if◌then◌else◌, not, List, [], ◌∷◌, map, take, Option, None, Some, IsPermutation, is_lt, refl, sym, ap, subst, ◌∙◌}
+use Rattle.std.specs.Cmp.{IsStrictWeakOrder, IsTotalOrder}
 use Rattle.std.specs.List.{Contains, filter, slice_get}
 use Rattle.std.proofs.lemmas.Bool.{and_from, and_parts, cond-true, eq-eqb, eqb-true, le-leb, not-true, or_left, or_right}
+use Rattle.std.proofs.lemmas.Cmp.{back_total, on_total}
 use Rattle.std.proofs.lemmas.List.Elements.{Contains-append_right}
+use Rattle.std.proofs.lemmas.List.Kept.{IsSortedBy-filter}
+use Rattle.std.proofs.lemmas.List.MinMax.{IsStrictWeakOrder-flip, ranks_by}
+use Rattle.std.proofs.lemmas.List.Sorted.{IsPermutation-sym, IsPermutation-trans}
 use Rattle.std.proofs.lemmas.Option.{none-some, same_Some}
 use Rattle.hex.proofs.HexLemmas.{decode_of-encode_lower}
-use Rattle.sqlite_value.specs.Order.{Row as Values, column}
-use Rattle.sqlite_trees.specs.Tree.{Trees}
-use Rattle.bac_archive3.specs.Ask.{shown}
+use Rattle.sqlite_keyed.proofs.ListLemmas.{IsPermutation-filter}
+use Rattle.sqlite_keyed.proofs.SortLemmas.{sorted_unique}
+use Rattle.sqlite_value.proofs.OrderLemmas.{value_cmp_total}
+use Rattle.sqlite_value.specs.Order.{Row as Values, column, value_cmp}
+use Rattle.sqlite_trees.specs.Tree.{Trees, rowid}
+use Rattle.bac_archive3.specs.Ask.{falls, shown}
 use Rattle.bac_archive3.specs.Items.{number_at, number_in}
 use Rattle.bac_archive3.specs.Put.{beginning_columns, item_columns}
 use Rattle.bac_archive3.specs.Read.{numbers}
@@ -15,12 +23,14 @@ use Rattle.bac_archive3.specs.Stands.{StandsAs, epochs, is_in, is_last}
 use Rattle.bac_archive3.specs.declared.row.BeginningRow.{BeginningRow}
 use Rattle.bac_archive3.specs.declared.standing.Standing.{Standing}
 use Rattle.bac_link.specs.Ordinals.{is_number}
-use Rattle.bac_poll.specs.Turns.{number_before}
-use Rattle.bac_resume.specs.Laws.{KnownAreKept, NewestAreTold, NextIsNumber, RestartIsReadBack, before, told_in}
+use Rattle.bac_poll.specs.Turns.{behind, number_before}
+use Rattle.bac_resume.specs.Laws.{GoesOnWhereItStopped, KnownAreKept, NewestAreTold, NextIsNumber, RestartIsReadBack, before, place_of, told_in, with_rows}
 use Rattle.bac_resume.specs.Met.{log_in}
+use Rattle.bac_resume.specs.Resumed.{IsStamped, StandsBy}
 use Rattle.bac_resume.specs.Rows.{begins_of, items_of}
 use Rattle.bac_resume.specs.Stands.{is_gap, is_record_of, known_at, known_before, last_number}
 use Rattle.bac_resume.specs.Texts.{moment_of}
+use Rattle.bac_resume.proofs.Behind.{behind_records}
 use Rattle.bac_resume.proofs.Rowed.{begins_at, filtered_passes, filtered_there, first_there, item_at}
 
 pub restart_back : RestartIsReadBack
@@ -82,15 +92,35 @@ last_is (b ∷ last) begins (zero, less, is) =
 last_is (b ∷ last) begins (suc k, less, is) =
     or_right (b.id == number_at (column begins 0)) (is_last last (number_at (column begins 0))) (last_is last begins (k, omega (arith, less), is))
 
+-- ids fall in one order
+falls_total : IsTotalOrder falls
+falls_total = back_total (on_total rowid value_cmp_total)
+
+falls_weak : IsStrictWeakOrder (λ (a b : Values). is_lt (falls a b))
+falls_weak = IsStrictWeakOrder-flip (λ (a b : Values). is_lt (value_cmp (rowid a) (rowid b))) (ranks_by value_cmp_total rowid)
+
 pub newest_told : NewestAreTold
-newest_told trees s log begins stands told =
+newest_told trees s log begins rows stands told has =
     let era = number_at (column begins 0) in
+    let p = is_in numbers era in
     let items = map item_columns s.newest.items in
     let beginnings = map beginning_columns s.last.items in
-    let begun = filtered_there (is_in epochs log) beginnings begins (first_there (filter (is_in epochs log) beginnings) begins told) in (
-      stands.newest.all,
-      stands.newest.each,
-      stands.newest.falling,
-      ap (λ (o : Option Values). items_of o items) told ∙ stands.newest.first era
-          ∙ cond-true (is_last s.last.items era) (take 3 (filter (is_in numbers era) stands.newest.all)) [] (last_is s.last.items begins begun),
+    let kept = map (shown 5) (trees 5) in
+    let all = stands.newest.all in
+    let begun = filtered_there (is_in epochs log) beginnings begins (first_there (filter (is_in epochs log) beginnings) begins told) in
+    let same : IsPermutation rows (filter p all) = IsPermutation-trans rows (filter p kept) (filter p all) (IsPermutation-sym (filter p kept) rows has.each) (IsPermutation-filter p kept all stands.newest.each) in
+    let one : filter p all ≡ rows =
+    sorted_unique falls falls_total rows (filter p all) has.fall same (IsSortedBy-filter (λ (a b : Values). is_lt (falls a b)) falls_weak p all stands.newest.falling) in
+    ap (λ (o : Option Values). items_of o items) told ∙ stands.newest.first era
+    ∙ cond-true (is_last s.last.items era) (take 3 (filter p all)) [] (last_is s.last.items begins begun)
+    ∙ ap (take 3) one
+
+-- ---- once rows are put
+
+pub where_stopped : GoesOnWhereItStopped
+where_stopped trees s log begins rows items p records last stands told has stood say is =
+    let behind_them = behind_records (number_at (column begins 1)) rows items p records last stood say is in
+    let newest = sym (newest_told trees s log begins (with_rows rows items) stands told has) in (
+      subst (λ (l : List Values). StandsBy (number_at (column begins 1)) l (place_of (behind p records last))) newest behind_them.0,
+      subst (λ (l : List Values). IsStamped l (place_of (behind p records last))) newest behind_them.1,
     )

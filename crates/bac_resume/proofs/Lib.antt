@@ -1,6 +1,6 @@
 mod Written
 mod Known
 mod Rowed
-mod Kept
 mod Behind
+mod Kept
 mod Recorded

@@ -1,11 +1,12 @@
--- Laws of where a poll goes on. Read `GoesOnBehindRecords`.
+-- Laws of where a poll goes on. Read `GoesOnWhereItStopped`.
 use Rattle.std.specs.Prelude.{◌≡◌, ⊤, ℕ, zero, suc, ◌+◌, ◌-◌, ◌<◌, ◌≤◌, true, false, List, [], ◌∷◌, None, Some, map, take}
 use Rattle.std.specs.List.{Contains, filter}
-use Rattle.std.specs.List.Sorted.{IsPermutation, IsSorted}
+use Rattle.std.specs.List.Sorted.{IsPermutation}
+use Rattle.std.specs.declared.cmp.Ordering.TheVariants.{Less}
 use Rattle.std.specs.Option.{option_map}
 use Rattle.hex.specs.Hex.{IsBytes, encode_lower}
 use Rattle.sqlite_value.specs.Order.{Row as Values, column}
-use Rattle.sqlite_trees.specs.Tree.{Trees}
+use Rattle.sqlite_trees.specs.Tree.{IsAscending, Trees}
 use Rattle.bac_wire.specs.Primitive.{Id}
 use Rattle.bac_archive3.specs.Ask.{falls, shown}
 use Rattle.bac_archive3.specs.Items.{last_at, number_at, number_in, text_at}
@@ -49,11 +50,15 @@ abbrev pub KnownAreKept : Type 0
 KnownAreKept = (trees : Trees) (s : Standing) (log next back : ℕ) (item : Values) → StandsAs trees s
     → known_at next (told_in s log).newest back ≡ Some item → IsRecordIn trees log (before next (suc back)) item
 
--- The items by which it goes on are the three of its last epoch with the greatest ids.
+-- these rows are all items of the epoch that begins there, by falling ids, no two with one id
+pub record AreItemsOf (trees : Trees) (begins : Values) (rows : List Values) : Type 0 where
+  pub each : IsPermutation (filter (is_in numbers (number_at (column begins 0))) (map (shown 5) (trees 5))) rows
+  pub fall : IsAscending (λ a b. falls a b ≡ Less) rows
+
+-- The items by which it goes on are the first three of these.
 abbrev pub NewestAreTold : Type 0
-NewestAreTold = (trees : Trees) (s : Standing) (log : ℕ) (begins : Values) → StandsAs trees s
-    → (told_in s log).begins ≡ Some begins → (all : List Values) × IsPermutation (map (shown 5) (trees 5)) all
-    × IsSorted falls all × ((told_in s log).newest ≡ take 3 (filter (is_in numbers (number_at (column begins 0))) all))
+NewestAreTold = (trees : Trees) (s : Standing) (log : ℕ) (begins : Values) (rows : List Values) → StandsAs trees s
+    → (told_in s log).begins ≡ Some begins → AreItemsOf trees begins rows → (told_in s log).newest ≡ take 3 rows
 
 -- The number that comes next is a sequence number, if that with which the epoch begins is one.
 abbrev pub NextIsNumber : Type 0
@@ -117,6 +122,16 @@ GoesOnBehindRecords = (begins : ℕ) (rows items : List Values) (p : PollState) 
     → StandsBy begins (take 3 rows) (place_of p) → SayRun p.next records items → last_in records ≡ Some last
     → StandsBy begins (take 3 (with_rows rows items)) (place_of (behind p records last))
     × IsStamped (take 3 (with_rows rows items)) (place_of (behind p records last))
+
+-- So what an archive tells, once they are put, is where the poll stood when it stopped.
+abbrev pub GoesOnWhereItStopped : Type 0
+GoesOnWhereItStopped = (trees : Trees) (s : Standing) (log : ℕ) (begins : Values) (rows items : List Values)
+    (p : PollState) (records : List Numbered) (last : Numbered) → StandsAs trees s
+    → (told_in s log).begins ≡ Some begins → AreItemsOf trees begins (with_rows rows items)
+    → StandsBy (number_at (column begins 1)) (take 3 rows) (place_of p) → SayRun p.next records items
+    → last_in records ≡ Some last
+    → StandsBy (number_at (column begins 1)) (told_in s log).newest (place_of (behind p records last))
+    × IsStamped (told_in s log).newest (place_of (behind p records last))
 
 -- And behind a gap up to this number.
 abbrev pub GoesOnBehindGap : Type 0

@@ -2,14 +2,14 @@
 
 ghost use Rattle.bac_resume.specs.Laws.{GoesOnAnew, GoesOnBehindGap, GoesOnBehindRecords};
 ghost use Rattle.bac_resume.specs.Laws.{JoinsThere, KnownAreKept, NewestAreTold, NextIsNumber};
-ghost use Rattle.bac_resume.specs.Laws.{RestartIsReadBack};
+ghost use Rattle.bac_resume.specs.Laws.{GoesOnWhereItStopped, RestartIsReadBack};
 
 /// Each record that is known of a log is one of its records in the archive, under its number.
 pub fn known_are_kept()
     ensures { KnownAreKept }
 {}
 
-/// The items by which a poll goes on are the three of its last epoch with the greatest ids.
+/// The items by which a poll goes on are the first three of its last epoch, by falling ids.
 pub fn newest_are_told()
     ensures { NewestAreTold }
 {}
@@ -33,6 +33,11 @@ pub fn joins_there()
 /// it brings, once their rows are put.
 pub fn goes_on_behind_records()
     ensures { GoesOnBehindRecords }
+{}
+
+/// What an archive tells, once they are put, is where the poll stood when it stopped.
+pub fn goes_on_where_it_stopped()
+    ensures { GoesOnWhereItStopped }
 {}
 
 /// And behind a gap.
