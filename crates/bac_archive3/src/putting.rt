@@ -1,8 +1,9 @@
 //! Rows are put: all of a batch, or none.
 
-ghost use Rattle.std.specs.Prelude.{◌≡◌, ◌∷◌, [], OnOk, OnErr, IfErr, IsTrue};
+ghost use Rattle.std.specs.Prelude.{◌≡◌, ◌∷◌, ◌≤◌, [], OnOk, OnErr, IfErr, IsTrue, take};
 ghost use Rattle.sqlite.specs.State.{HasCleanDisk, Survives, KeepsCommit, ExecutesInside};
 ghost use Rattle.sqlite.specs.Held.{state};
+ghost use Rattle.sqlite.specs.Values.{bound};
 ghost use Rattle.bac_archive3.specs.Schema.{HasArchive, OverArchive};
 ghost use Rattle.bac_archive3.specs.Put.{FailsToPut, GivesUp, IsPut, Puts};
 ghost use Rattle.bac_archive3.specs.Put.{given, text_of, PutsJoin, PutsKeepVersion};
@@ -11,6 +12,52 @@ ghost use Rattle.bac_archive3.specs.Put.{PutsLoseNothing};
 use crate::ending::finish;
 use crate::row::{Put, beginning_bound, device_bound, item_bound, log_bound};
 use sqlite::{Alter, Connection, Error, ErrorCode, Transaction};
+use sqlite_value::value::ValueRef;
+
+/// The statement that puts a row.
+fn text_of(put: &Put) -> &'static str
+    ensures { result.now ≡ text_of put.now }
+{
+    match put {
+        Put::NewDevice(_row) => {
+            "INSERT INTO devices (id, address, dnet, dadr, instance, name, revision, whole, \
+             stopped, answered, offset) VALUES (?1, ?2, ?3, ?4, ?5, ?6, ?7, ?8, ?9, ?10, ?11)"
+        }
+        Put::Device(_row) => {
+            "UPDATE devices SET address = ?2, dnet = ?3, dadr = ?4, instance = ?5, name = ?6, \
+             revision = ?7, whole = ?8, stopped = ?9, answered = ?10, offset = ?11 WHERE id = ?1"
+        }
+        Put::NewLog(_row) => {
+            "INSERT INTO logs (id, device, instance, name, source, units, description, restart, \
+             revision, stopped) VALUES (?1, ?2, ?3, ?4, ?5, ?6, ?7, ?8, ?9, ?10)"
+        }
+        Put::Log(_row) => {
+            "UPDATE logs SET device = ?2, instance = ?3, name = ?4, source = ?5, units = ?6, \
+             description = ?7, restart = ?8, revision = ?9, stopped = ?10 WHERE id = ?1"
+        }
+        Put::Beginning(_row) => "INSERT INTO beginnings (id, number, why) VALUES (?1, ?2, ?3)",
+        Put::Lowered(_row) => {
+            "UPDATE beginnings SET number = ?2, why = ?3 WHERE id = ?1 AND why = 'counted'"
+        }
+        Put::Item(_row) => {
+            "INSERT INTO items (id, last, stamp, value, datum, flags) VALUES (?1, ?2, ?3, ?4, ?5, \
+             ?6)"
+        }
+    }
+}
+
+/// What is bound in it, and how many values that are.
+fn bound_of(put: &Put) -> ([ValueRef<'_>; 11], usize)
+    ensures values { bound (take result.1 result.0) ≡ given put.now }
+    ensures few { result.1 ≤ 11 }
+{
+    match put {
+        Put::NewDevice(row) | Put::Device(row) => (device_bound(row), 11),
+        Put::NewLog(row) | Put::Log(row) => (log_bound(row), 10),
+        Put::Beginning(row) | Put::Lowered(row) => (beginning_bound(row), 3),
+        Put::Item(row) => (item_bound(row), 6),
+    }
+}
 
 /// Puts one row.
 fn put_one<S: Alter>(tx: &mut Transaction<'_, S>, put: &Put) -> Result<usize, Error>
@@ -22,41 +69,8 @@ fn put_one<S: Alter>(tx: &mut Transaction<'_, S>, put: &Put) -> Result<usize, Er
     ensures crash { Survives (state S.Store tx.old.conn.now) (state S.Store tx.new.conn.now)
         (λ _. ⊥) }
 {
-    match put {
-        Put::NewDevice(row) => tx.execute(
-            "INSERT INTO devices (id, address, dnet, dadr, instance, name, revision, whole, \
-             stopped, answered, offset) VALUES (?1, ?2, ?3, ?4, ?5, ?6, ?7, ?8, ?9, ?10, ?11)",
-            &device_bound(row),
-        ),
-        Put::Device(row) => tx.execute(
-            "UPDATE devices SET address = ?2, dnet = ?3, dadr = ?4, instance = ?5, name = ?6, \
-             revision = ?7, whole = ?8, stopped = ?9, answered = ?10, offset = ?11 WHERE id = ?1",
-            &device_bound(row),
-        ),
-        Put::NewLog(row) => tx.execute(
-            "INSERT INTO logs (id, device, instance, name, source, units, description, restart, \
-             revision, stopped) VALUES (?1, ?2, ?3, ?4, ?5, ?6, ?7, ?8, ?9, ?10)",
-            &log_bound(row),
-        ),
-        Put::Log(row) => tx.execute(
-            "UPDATE logs SET device = ?2, instance = ?3, name = ?4, source = ?5, units = ?6, \
-             description = ?7, restart = ?8, revision = ?9, stopped = ?10 WHERE id = ?1",
-            &log_bound(row),
-        ),
-        Put::Beginning(row) => tx.execute(
-            "INSERT INTO beginnings (id, number, why) VALUES (?1, ?2, ?3)",
-            &beginning_bound(row),
-        ),
-        Put::Lowered(row) => tx.execute(
-            "UPDATE beginnings SET number = ?2, why = ?3 WHERE id = ?1 AND why = 'counted'",
-            &beginning_bound(row),
-        ),
-        Put::Item(row) => tx.execute(
-            "INSERT INTO items (id, last, stamp, value, datum, flags) VALUES (?1, ?2, ?3, ?4, \
-             ?5, ?6)",
-            &item_bound(row),
-        ),
-    }
+    let (values, count) = bound_of(put);
+    tx.execute(text_of(put), &values[..count])
 }
 
 /// Puts each row in turn.

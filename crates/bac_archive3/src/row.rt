@@ -1,6 +1,6 @@
 //! The rows of an archive, and what is bound for them.
 
-ghost use Rattle.std.specs.Prelude.{◌≡◌, pos};
+ghost use Rattle.std.specs.Prelude.{◌≡◌, pos, take};
 ghost use Rattle.std.specs.String.{string_bytes};
 ghost use Rattle.sqlite_value.specs.declared.value.Value.TheVariants.{Int, Real, Text};
 ghost use Rattle.sqlite_value.specs.Value.{owned};
@@ -184,9 +184,9 @@ pub(crate) fn device_bound(row: &DeviceRow) -> [ValueRef<'_>; 11]
     ]
 }
 
-/// What is bound for a log.
-pub(crate) fn log_bound(row: &LogRow) -> [ValueRef<'_>; 10]
-    ensures { bound result ≡ bound_columns (log_columns row.now) }
+/// What is bound for a log: the first ten.
+pub(crate) fn log_bound(row: &LogRow) -> [ValueRef<'_>; 11]
+    ensures { bound (take 10 result) ≡ bound_columns (log_columns row.now) }
 {
     [
         short_value(row.id),
@@ -199,12 +199,13 @@ pub(crate) fn log_bound(row: &LogRow) -> [ValueRef<'_>; 10]
         text_or_null(&row.restart),
         number_or_null(row.revision),
         flag_value(row.stopped),
+        ValueRef::Null,
     ]
 }
 
-/// What is bound for a record or a gap.
-pub(crate) fn item_bound(row: &ItemRow) -> [ValueRef<'_>; 6]
-    ensures { bound result ≡ bound_columns (item_columns row.now) }
+/// What is bound for a record or a gap: the first six.
+pub(crate) fn item_bound(row: &ItemRow) -> [ValueRef<'_>; 11]
+    ensures { bound (take 6 result) ≡ bound_columns (item_columns row.now) }
 {
     [
         ValueRef::Int(row.id),
@@ -213,16 +214,29 @@ pub(crate) fn item_bound(row: &ItemRow) -> [ValueRef<'_>; 6]
         real_or_null(row.value),
         octets_or_null(&row.datum),
         octets_or_null(&row.flags),
+        ValueRef::Null,
+        ValueRef::Null,
+        ValueRef::Null,
+        ValueRef::Null,
+        ValueRef::Null,
     ]
 }
 
-/// What is bound for a beginning.
-pub(crate) fn beginning_bound(row: &BeginningRow) -> [ValueRef<'_>; 3]
-    ensures { bound result ≡ bound_columns (beginning_columns row.now) }
+/// What is bound for a beginning: the first three.
+pub(crate) fn beginning_bound(row: &BeginningRow) -> [ValueRef<'_>; 11]
+    ensures { bound (take 3 result) ≡ bound_columns (beginning_columns row.now) }
 {
     [
         long_value(row.id),
         long_value(row.number),
         text_or_null(&row.why),
+        ValueRef::Null,
+        ValueRef::Null,
+        ValueRef::Null,
+        ValueRef::Null,
+        ValueRef::Null,
+        ValueRef::Null,
+        ValueRef::Null,
+        ValueRef::Null,
     ]
 }
