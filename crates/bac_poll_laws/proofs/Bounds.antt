@@ -16,7 +16,7 @@ use Rattle.bac_poll.specs.declared.stage.Aim.TheVariants.{Finds, Renews, Starts}
 use Rattle.bac_poll.specs.declared.stage.Stage.{Stage}
 use Rattle.bac_poll.specs.declared.stage.Stage.TheVariants as stage
 use Rattle.bac_poll.specs.declared.stage.Stage.TheVariants.{Oldest}
-use Rattle.bac_poll_laws.specs.Bounds.{AnswerIt, AreBounded, AreInRow, FollowsOn, QuestionsAreBounded, WhicheverRecord, back_one, count_of, each_one, hour_one, kept_one, lost_one, oldest_one}
+use Rattle.bac_poll_laws.specs.Bounds.{AnswerIt, AreBounded, AreInRow, FollowsOn, QuestionsAreBounded, WhicheverRecord, again_one, back_one, count_of, each_one, hour_one, kept_one, lost_one}
 use Rattle.bac_poll_laws.specs.Delivers.{Given, after_given, asking_less}
 use Rattle.bac_poll_laws.specs.Laws.{Answer, Answers, Counted, HasSome, IsAimed, IsAt, IsBefore, IsRun, IsStanding, Replied, Restarted, Revised, Whichever, after_answer}
 use Rattle.bac_poll_laws.specs.Questions.{one_if_kept}
@@ -128,11 +128,11 @@ back_sum n l o k c h x costs nine lost = omega (arith, costs, nine, lost)
 
 -- at one that is for those before, from which it went back so far
 by_back : (p : PollState) (aim : Aim) (back : ℕ) (t : Turned) → p.back < 2147483648 → p.back + 1 ≤ back →
-    Costs 9 p.walk back (1 + left_back p.alone aim + 3 * oldest_one t.poll.stage) t → Paid p (stage.Back aim) t
+    Costs 9 p.walk back (1 + left_back p.alone aim + 3 * again_one t.end t.anew t.poll.stage) t → Paid p (stage.Back aim) t
 by_back p aim back t near went costs = λ going.
     let all = costs going in
     let nine : each_cost 9 t.poll.stage ≡ 9 * hour_one (stage.Back aim) t = hour_nine t.poll.stage in (
-      back_sum (left_back p.alone aim) (left t.poll) (oldest_one t.poll.stage) (one_if_kept t.records) _ (hour_one (stage.Back aim) t) (lost_one (stage.Back aim) t) all.0 nine refl,
+      back_sum (left_back p.alone aim) (left t.poll) (again_one t.end t.anew t.poll.stage) (one_if_kept t.records) _ (hour_one (stage.Back aim) t) (lost_one (stage.Back aim) t) all.0 nine refl,
       all.1,
       all.2,
       all.3.0,

@@ -17,5 +17,6 @@ mod Takes
 mod Looks
 mod Bounds
 mod Older
+mod Backs
 mod Firsts
 mod FirstRuns

@@ -20,7 +20,7 @@ use Rattle.bac_poll.specs.declared.known.Shown.TheVariants as shown
 use Rattle.bac_poll.specs.declared.stage.Aim.{Aim}
 use Rattle.bac_poll.specs.declared.stage.Aim.TheVariants.{Finds, Renews, Starts}
 use Rattle.bac_poll.specs.declared.turn.PollEnd.TheVariants.{CaughtUp, NoneByNumber, ShowsNone}
-use Rattle.bac_poll_laws.specs.Bounds.{oldest_one}
+use Rattle.bac_poll_laws.specs.Bounds.{again_one}
 use Rattle.bac_poll_laws.specs.Laws.{IsAimed, IsRun, Whichever}
 use Rattle.bac_poll_laws.proofs.Lefts.{Costs, IsSame, Row, another_by_costs, another_of_costs, back_costs, behind_costs, ends_costs, fresh_costs, left_back, left_counts, left_oldest, left_up, pick, renews_costs, renews_of_costs, word_costs}
 use Rattle.bac_poll_laws.proofs.Takes.{each_begins, found_refers, found_row, hour_costs, newest_costs, news_costs, some_known}
@@ -214,7 +214,7 @@ module _ (P : Numbered → Type 0) (e : ℕ) (w : WalkPlace) (b : ℕ) where
 
   -- what a question backwards costs, and three more where it begins again
   CostsBack : ℕ → Turned → Type 0
-  CostsBack n t = Costs e w b (n + 3 * oldest_one t.poll.stage) t
+  CostsBack n t = Costs e w b (n + 3 * again_one t.end t.anew t.poll.stage) t
 
   no_less : (n : ℕ) (t : Turned) → Costs e w b n t → CostsBack n t
   unfolding CostsBack
@@ -267,7 +267,7 @@ module _ (P : Numbered → Type 0) (e : ℕ) (w : WalkPlace) (b : ℕ) where
   back_shown_costs p aim held records shown.Another row same aimed kept run nine = lost_costs p aim row same
 
   back_by_costs : (p : PollState) (aim : Aim) (held records : List Numbered) (last : Option Numbered) → Row p → IsSame w b p → IsAimed p aim → IsRun P (first_number held) held →
-      IsRun P (first_number records) records → 9 ≤ e → Costs e w b (1 + left_back p.alone aim + 3 * oldest_one (back_by p aim held records last).poll.stage) (back_by p aim held records last)
+      IsRun P (first_number records) records → 9 ≤ e → Costs e w b (1 + left_back p.alone aim + 3 * again_one (back_by p aim held records last).end (back_by p aim held records last).anew (back_by p aim held records last).poll.stage) (back_by p aim held records last)
   unfolding CostsBack
   back_by_costs p aim held records None row same aimed kept run nine =
       no_less (1 + left_back p.alone aim) (back_done p aim held) (done_costs p aim held row same aimed kept nine)
@@ -278,5 +278,5 @@ module _ (P : Numbered → Type 0) (e : ℕ) (w : WalkPlace) (b : ℕ) where
       by false = no_less (1 + left_back p.alone aim) (back_more p aim records) (more_costs p aim records row same aimed run nine)
 
   pub back_takes : (p : PollState) (aim : Aim) (held records : List Numbered) → Row p → IsSame w b p → IsAimed p aim → IsRun P (first_number held) held → IsRun P (first_number records) records → 9 ≤ e →
-      Costs e w b (1 + left_back p.alone aim + 3 * oldest_one (back_by p aim held records (last_in records)).poll.stage) (back_by p aim held records (last_in records))
+      Costs e w b (1 + left_back p.alone aim + 3 * again_one (back_by p aim held records (last_in records)).end (back_by p aim held records (last_in records)).anew (back_by p aim held records (last_in records)).poll.stage) (back_by p aim held records (last_in records))
   back_takes p aim held records row same aimed kept run nine = back_by_costs p aim held records (last_in records) row same aimed kept run nine

@@ -37,7 +37,7 @@ use Rattle.bac_poll.specs.declared.stage.Aim.{Aim}
 use Rattle.bac_poll.specs.declared.stage.Aim.TheVariants.{Finds, Renews, Starts}
 use Rattle.bac_poll.specs.declared.stage.Stage.{Stage}
 use Rattle.bac_poll.specs.declared.stage.Stage.TheVariants as stage
-use Rattle.bac_poll_laws.specs.Backwards.{BackwardsAreFew, IsLoggedIn, NoneAgain, SayBack}
+use Rattle.bac_poll_laws.specs.Backwards.{IsLoggedIn}
 use Rattle.bac_poll_laws.specs.Bounds.{oldest_one}
 use Rattle.bac_poll_laws.specs.Delivers.{Given, IsWithin, LiesIn, ShowsHeld, after_given, asking_less}
 use Rattle.bac_poll_laws.specs.Laws.{Answer, Answers, Counted, HasSome, HoldsOfEach, IsAt, IsRun, IsStanding, Replied, Restarted, Revised, ShowsOnly, Whichever, after_answer}
@@ -50,7 +50,7 @@ use Rattle.bac_poll_laws.proofs.Wholes.{last_step, split}
 -- ---- where a turn goes on backwards
 
 -- This holds of what is held back, and of the number up to which is asked, for so many records. It isn't begun again.
-abbrev AtBack : (List Numbered → ℕ → Type 0) → (c : ℕ) → PollState → Stage → Type 0
+abbrev pub AtBack : (List Numbered → ℕ → Type 0) → (c : ℕ) → PollState → Stage → Type 0
 AtBack Z c p stage.Joins = Unit {0}
 AtBack Z c p stage.Prior = Unit {0}
 AtBack Z c p stage.Ahead = Unit {0}
@@ -65,7 +65,7 @@ AtBack Z c p stage.Revision = Unit {0}
 AtBack Z c p stage.Restart = Unit {0}
 
 -- where a turn goes on backwards, and begins no epoch
-abbrev Steps : (List Numbered → ℕ → Type 0) → ℕ → Turned → Type 0
+abbrev pub Steps : (List Numbered → ℕ → Type 0) → ℕ → Turned → Type 0
 Steps Z c t = t.end ≡ None → t.anew ≡ false → AtBack Z c t.poll t.poll.stage
 
 module _ (P : Numbered → Type 0) (Z : List Numbered → ℕ → Type 0) (c : ℕ) where
@@ -150,7 +150,7 @@ module _ (P : Numbered → Type 0) (Z : List Numbered → ℕ → Type 0) (c : �
   shown_steps p aim held records many before older = pick (length records == 1) _ _ (λ alone. alone_steps p aim held many (before alone)) (λ more. more_steps p aim records many (older more))
 
   -- by the last record of the reply
-  abbrev Ends : List Numbered → List Numbered → Numbered → Type 0
+  abbrev pub Ends : List Numbered → List Numbered → Numbered → Type 0
   Ends held records last =
       ((last.number == first_number held) ≡ true → (shown_last (first_in held) last ≡ shown.Equal) × ((length records == 1) ≡ true → Z held (number_before (first_number held)))
       × ((length records == 1) ≡ false → Z records (first_number records)))
@@ -197,7 +197,7 @@ same_entry f l same =
     subst (λ (e : Entry). shown_as (kept_of f) (kept_of (record { number = l.number; entry = e })) ≡ shown.Equal) same (same_self (kept_of f) l.number)
 
 -- a turn that goes on so asks for no oldest again
-none_again : (Z : List Numbered → ℕ → Type 0) (c : ℕ) (p : PollState) (s : Stage) → AtBack Z c p s → oldest_one s ≡ 0
+pub none_again : (Z : List Numbered → ℕ → Type 0) (c : ℕ) (p : PollState) (s : Stage) → AtBack Z c p s → oldest_one s ≡ 0
 none_again Z c p stage.Joins at = refl
 none_again Z c p stage.Prior at = refl
 none_again Z c p stage.Ahead at = refl
@@ -263,13 +263,13 @@ module _ (H : History) (low : ℕ) where
       rest ∙ ap sequence_number at
 
   -- the last of a run is an entry
-  last_logged : (n : ℕ) (rs : List Numbered) (l : Numbered) → IsRun (IsLoggedIn H low) n rs → last_in rs ≡ Some l → IsLoggedIn H low l
+  pub last_logged : (n : ℕ) (rs : List Numbered) (l : Numbered) → IsRun (IsLoggedIn H low) n rs → last_in rs ≡ Some l → IsLoggedIn H low l
   last_logged n [] l run is = absurd (cc)
   last_logged n (r ∷ []) l run is = let same : r ≡ l = cc in subst (IsLoggedIn H low) same run.1
   last_logged n (r ∷ s ∷ rs) l run is = last_logged (number_after r.number 1) (s ∷ rs) l run.2 (sym (last_step (IsLoggedIn H low) Whichever r s rs) ∙ is)
 
   -- the first that is held back is shown as it was
-  first_same : (held : List Numbered) (l : Numbered) → IsRun (IsLoggedIn H low) (first_number held) held → HasSome held → IsLoggedIn H low l → (l.number == first_number held) ≡ true →
+  pub first_same : (held : List Numbered) (l : Numbered) → IsRun (IsLoggedIn H low) (first_number held) held → HasSome held → IsLoggedIn H low l → (l.number == first_number held) ≡ true →
       shown_last (first_in held) l ≡ shown.Equal
   first_same [] l run some is ended = absurd some
   first_same (f ∷ fs) l run some is ended =
@@ -284,20 +284,20 @@ module _ (H : History) (low : ℕ) where
       one_entry a b both = cc
 
   -- so many questions backwards are left: from the first of the records that are held back on, or from before it
-  abbrev Refers : ℕ → (j : ℕ) → (number : ℕ) → (reference : ℕ) → Type 0
+  abbrev pub Refers : ℕ → (j : ℕ) → (number : ℕ) → (reference : ℕ) → Type 0
   Refers n j number reference = ((reference ≡ number) × (n ≡ 2 * (j - low) + 2)) ⊎ ((reference ≡ number_before number) × (n ≡ 2 * (j - low) + 1))
 
-  abbrev Left : ℕ → List Numbered → ℕ → Type 0
+  abbrev pub Left : ℕ → List Numbered → ℕ → Type 0
   Left n held reference = (j : ℕ) × (first_number held ≡ sequence_number j) × LiesIn low j × Refers n j (first_number held) reference
 
-  abbrev Below : ℕ → List Numbered → ℕ → Type 0
+  abbrev pub Below : ℕ → List Numbered → ℕ → Type 0
   Below n held reference = (m : ℕ) × (m < n) × Left m held reference
 
   -- records that are older than the first that is held back
   older : (n i j : ℕ) (rs : List Numbered) → first_number rs ≡ sequence_number i → low ≤ i → i + 1 < low + 2147483647 → i < j → 2 * (j - low) + 1 ≤ n → Below n rs (first_number rs)
   older n i j rs at above below less enough = (2 * (i - low) + 2, omega (arith, above, less, enough), (i, at, (above, omega (arith, below)), inl (refl, refl)))
 
-  from_first : (n j : ℕ) (held : List Numbered) (reference : ℕ) → first_number held ≡ sequence_number j → LiesIn low j → reference ≡ first_number held → n ≡ 2 * (j - low) + 2 →
+  pub from_first : (n j : ℕ) (held : List Numbered) (reference : ℕ) → first_number held ≡ sequence_number j → LiesIn low j → reference ≡ first_number held → n ≡ 2 * (j - low) + 2 →
       (r : Numbered) (rs : List Numbered) → IsRun (IsLoggedIn H low) r.number (r ∷ rs) → distance r.number reference < 100 → length (r ∷ rs) ≤ distance r.number reference + 1 →
       (l : Numbered) → last_in (r ∷ rs) ≡ Some l → ((l.number == first_number held) ≡ true → shown_last (first_in held) l ≡ shown.Equal) → Ends (IsLoggedIn H low) (Below n) 0 held (r ∷ rs) l
   from_first n j held reference at lies from left r rs run near upto l last equal =
@@ -331,7 +331,7 @@ module _ (H : History) (low : ℕ) where
               let number : l.number ≡ first_number held = sym one ∙ run.1.1 ∙ ap sequence_number equal ∙ sym at in
               let yes : (l.number == first_number held) ≡ true = eq-eqb l.number (first_number held) number in absurd (cc)
 
-  from_before : (n j : ℕ) (held : List Numbered) (reference : ℕ) → 0 < low → first_number held ≡ sequence_number j → LiesIn low j → reference ≡ number_before (first_number held) → n ≡ 2 * (j - low) + 1 →
+  pub from_before : (n j : ℕ) (held : List Numbered) (reference : ℕ) → 0 < low → first_number held ≡ sequence_number j → LiesIn low j → reference ≡ number_before (first_number held) → n ≡ 2 * (j - low) + 1 →
       (r : Numbered) (rs : List Numbered) → IsRun (IsLoggedIn H low) r.number (r ∷ rs) → distance r.number reference < 100 → length (r ∷ rs) ≤ distance r.number reference + 1 →
       (l : Numbered) → last_in (r ∷ rs) ≡ Some l → Ends (IsLoggedIn H low) (Below n) 0 held (r ∷ rs) l
   from_before n j held reference some at lies from left r rs run near upto l last =
@@ -348,145 +348,3 @@ module _ (H : History) (low : ℕ) where
             let never : ⊥ = omega (arith, equal, end) in absurd never,
         λ short. older n i j (r ∷ rs) P.1 P.3 P.4 up.0 (omega (arith, left)),
       )
-
--- ---- a reply to a question backwards
-
--- its records lie before the number up to which was asked
-abbrev IsUpTo : PollState → Option Reply → Type 0
-IsUpTo p None = Unit {0}
-IsUpTo p (Some reply) =
-    (aim : Aim) → p.stage ≡ stage.Back aim → HasSome reply.records →
-    (distance (first_number reply.records) p.reference < p.walk.count) × (length reply.records ≤ distance (first_number reply.records) p.reference + 1)
-
-with_up : (p : PollState) (c : Bool) (rs : List Numbered) (last more : Bool) →
-    (c ≡ true → (aim : Aim) → p.stage ≡ stage.Back aim → (distance (first_number rs) p.reference < p.walk.count) × (length rs ≤ distance (first_number rs) p.reference + 1)) →
-    IsUpTo p (if c then Some (record { records = rs; last = last; more = more }) else None)
-with_up p true rs last more up = λ aim at some. up refl aim at
-with_up p false rs last more up = tt
-
-asked_up : (p : PollState) (first count : ℕ) → are_asked p p.stage first count ≡ true → (aim : Aim) → p.stage ≡ stage.Back aim →
-    (distance first p.reference < p.walk.count) × (count ≤ distance first p.reference + 1)
-asked_up p first count asked aim at =
-    let both = and_parts _ _ (subst (λ (s : Stage). are_asked p s first count ≡ true) at asked) in (ltb-true _ _ both.0, leb-true _ _ both.1)
-
-act_up : (p : PollState) (act : NextAct) (es : List Entry) (last more : Bool) → IsUpTo p (reply_of p act es last more)
-act_up p Refuse es last more = tt
-act_up p Ask es last more = λ aim at some. absurd some
-act_up p End es last more = λ aim at some. absurd some
-act_up p (Bring first) es last more =
-    let rs = with_numbers first es in
-    with_up p (are_asked p p.stage (first_number rs) (length rs)) rs last more (asked_up p (first_number rs) (length rs))
-
-heard_up : (p : PollState) (heard : Option AckParameters) (last more : Bool) → IsUpTo p (reply_from p heard last more)
-heard_up p None last more = tt
-heard_up p (Some h) last more = act_up p (verdict p.walk h.first h.count h.entries) h.entries last more
-
--- ---- one answer
-
-module _ (H : History) (low : ℕ) where
-  each_logged : (m : Moment) (rs : List Numbered) → HoldsOfEach (IsOf H low (m ∷ [])) rs → HoldsOfEach (IsLoggedIn H low) rs
-  each_logged m [] all = tt
-  each_logged m (r ∷ rs) all = ((all.0.0, all.0.1, all.0.2, all.0.4, all.0.5), each_logged m rs all.1)
-
-  shows_logged : (m : Moment) (reply : Option Reply) → ShowsOnly (IsOf H low (m ∷ [])) reply → ShowsOnly (IsLoggedIn H low) reply
-  shows_logged m None shows = tt
-  shows_logged m (Some reply) shows = each_logged m reply.records shows
-
-  one_shown : (m : Moment) (p : PollState) (answer : Answer) → IsWithin low m → ShowsHeld low m H p answer → Answers (IsLoggedIn H low) p answer
-  one_shown m p (Replied datagram) within shows = shows_logged m (reply_in p datagram) (shows_of H low m [] within p datagram shows.0)
-  one_shown m p (Counted count) within shows = tt
-  one_shown m p (Revised revision) within shows = shows
-  one_shown m p (Restarted restart moment) within shows = shows
-
-  ends_by : (n : ℕ) (held : List Numbered) (reference count : ℕ) → 0 < low → Left H low n held reference → count ≤ 100 → IsRun (IsLoggedIn H low) (first_number held) held → HasSome held → (rs : List Numbered) → IsRun (IsLoggedIn H low) (first_number rs) rs →
-      (HasSome rs → (distance (first_number rs) reference < count) × (length rs ≤ distance (first_number rs) reference + 1)) →
-      (l : Numbered) → last_in rs ≡ Some l → Ends (IsLoggedIn H low) (Below H low n) count held rs l
-  ends_by n held reference count some left many kept has [] run up l last = absurd (cc)
-  ends_by n held reference count some left many kept has (r ∷ rs) run up l last =
-      let near = up tt in by left.3 (omega (arith, near.0, many)) near.1
-    where
-      by : Refers H low n left.0 (first_number held) reference → distance r.number reference < 100 → length (r ∷ rs) ≤ distance r.number reference + 1 →
-          Ends (IsLoggedIn H low) (Below H low n) count held (r ∷ rs) l
-      by (inl at) near upto = from_first H low n left.0 held reference left.1 left.2 at.0 at.1 r rs run near upto l last
-          (λ ended. first_same H low held l kept has (last_logged H low r.number (r ∷ rs) l run last) ended)
-      by (inr at) near upto = from_before H low n left.0 held reference some left.1 left.2 at.0 at.1 r rs run near upto l last
-
-  heard_steps : (n : ℕ) (p : PollState) (reply : Option Reply) (aim : Aim) → 0 < low → p.stage ≡ stage.Back aim → Left H low n p.held p.reference → p.walk.count ≤ 100 →
-      IsRun (IsLoggedIn H low) (first_number p.held) p.held → HasSome p.held → IsRunReply (IsLoggedIn H low) Whichever reply → IsUpTo p reply → Steps (Below H low n) p.walk.count (after_heard p reply)
-  heard_steps n p None aim some at left many kept has run up = λ going sure. absurd (cc)
-  heard_steps n p (Some reply) aim some at left many kept has run up =
-      let q : PollState = record p { more = more_of p reply; held = [] } in
-      subst (λ (s : Stage). Steps (Below H low n) p.walk.count (at_stage q s p.held reply)) (sym at)
-      (back_steps (IsLoggedIn H low) (Below H low n) p.walk.count q aim p.held reply.records refl
-      (λ l last. ends_by n p.held p.reference p.walk.count some left many kept has reply.records run (up aim at) l last))
-
-  answer_steps : (n : ℕ) (p : PollState) (answer : Answer) (aim : Aim) → 0 < low → p.stage ≡ stage.Back aim → Left H low n p.held p.reference → p.walk.count ≤ 100 → IsRun (IsLoggedIn H low) (first_number p.held) p.held → HasSome p.held → Answers (IsLoggedIn H low) p answer →
-      Steps (Below H low n) p.walk.count (after_answer p answer)
-  answer_steps n p (Replied datagram) aim some at left many kept has shows =
-      let heard = heard_in p.walk.log datagram in
-      let last = has_last (ack_in datagram) in
-      let more = has_more (ack_in datagram) in
-      heard_steps n p (reply_in p datagram) aim some at left many kept has (heard_run (IsLoggedIn H low) Whichever p heard last more shows) (heard_up p heard last more)
-  answer_steps n p (Counted count) aim some at left many kept has shows =
-      subst (λ (s : Stage). Steps (Below H low n) p.walk.count (count_at p s count)) (sym at) (λ going sure. absurd (cc))
-  answer_steps n p (Revised revision) aim some at left many kept has shows = let never : stage.Revision ≡ stage.Back aim = sym shows ∙ at in absurd (cc)
-  answer_steps n p (Restarted restart moment) aim some at left many kept has shows = let never : stage.Restart ≡ stage.Back aim = sym shows ∙ at in absurd (cc)
-
--- ---- one answer after the other
-
-less_held : (n : ℕ) (p : PollState) → (asking_less n p).held ≡ p.held
-less_held zero p = refl
-less_held (suc n) p = less_held n (after_too_many p)
-
-less_reference : (n : ℕ) (p : PollState) → (asking_less n p).reference ≡ p.reference
-less_reference zero p = refl
-less_reference (suc n) p = less_reference n (after_too_many p)
-
-less_many : (n : ℕ) (p : PollState) → p.walk.count ≤ 100 → (asking_less n p).walk.count ≤ 100
-less_many zero p many = many
-less_many (suc n) p many = less_many n (after_too_many p) (half_low p.walk.count (nat_le p.walk.count 1) many)
-
-module _ (H : History) (low : ℕ) where
-  left_some : (n : ℕ) (held : List Numbered) (reference : ℕ) → Left H low n held reference → 1 ≤ n
-  left_some n held reference left = by left.3
-    where
-      by : Refers H low n left.0 (first_number held) reference → 1 ≤ n
-      by (inl at) = omega (arith, at.1)
-      by (inr at) = omega (arith, at.1)
-
-  -- what one answer is behind so many questions that are left
-  one_older : (n : ℕ) (p : PollState) (given : Given) (aim : Aim) → 0 < low → p.stage ≡ stage.Back aim → IsStanding (IsLoggedIn H low) Whichever p → Left H low n p.held p.reference →
-      p.walk.count ≤ 100 → IsWithin low given.moment → ShowsHeld low given.moment H (asking_less given.less p) given.answer →
-      Steps (Below H low n) (asking_less given.less p).walk.count (after_given p given) × ((after_given p given).end ≡ None → IsStanding (IsLoggedIn H low) Whichever (after_given p given).poll)
-  one_older n p given aim some at is left many within says =
-      let q = asking_less given.less p in
-      let shows = one_shown H low given.moment q given.answer within says in
-      let still : Left H low n q.held q.reference =
-      subst (λ (held : List Numbered). Left H low n held q.reference) (sym (less_held given.less p)) (subst (Left H low n p.held) (sym (less_reference given.less p)) left) in
-      let stands = less_standing (IsLoggedIn H low) Whichever given.less p is in
-      let back : q.stage ≡ stage.Back aim = less_stage given.less p ∙ at in
-      let held = subst (IsAt (IsLoggedIn H low) Whichever q) back stands.1 in (
-        answer_steps H low n q given.answer aim some back still (less_many given.less p many) held.1 held.2 shows,
-        (one_answer (IsLoggedIn H low) Whichever tt q given.answer stands shows (any_answer (IsLoggedIn H low) q given.answer)).1,
-      )
-
-  all_older : (n : ℕ) (p : PollState) (given : List Given) (aim : Aim) → 0 < low → p.stage ≡ stage.Back aim → IsStanding (IsLoggedIn H low) Whichever p → Left H low n p.held p.reference →
-      p.walk.count ≤ 100 → SayBack low H p given → (length given ≤ n) × NoneAgain p given
-  all_older n p [] aim some at is left many says = (omega arith, tt)
-  all_older n p (given ∷ []) aim some at is left many says =
-      let one = left_some n p.held p.reference left in
-      let t = after_given p given in
-      let steps = one_older n p given aim some at is left many says.0 says.1 in
-      (omega (arith, one), (λ going sure. none_again (Below H low n) (asking_less given.less p).walk.count t.poll t.poll.stage (steps.0 going sure), tt))
-  all_older n p (given ∷ next ∷ rest) aim some at is left many says =
-      let q = asking_less given.less p in
-      let t = after_given p given in
-      let steps = one_older n p given aim some at is left many says.0 says.1 in
-      let on = subst (AtBack (Below H low n) q.walk.count t.poll) says.2.2.1 (steps.0 says.2.0 says.2.1) in
-      let fewer = less_many given.less p many in
-      let others = all_older on.0.0 t.poll (next ∷ rest) says.2.2.0 some says.2.2.1 (steps.1 says.2.0) on.0.2 (omega (arith, on.1, fewer)) says.3 in
-      (omega (arith, others.0, on.0.1), (λ going sure. none_again (Below H low n) q.walk.count t.poll t.poll.stage (steps.0 going sure), others.1))
-
-pub backwards_few : BackwardsAreFew
-backwards_few H low k p answers back says =
-    all_older H low (2 * (k - low) + 2) p answers back.aim back.some back.asked back.stands (k, back.first, back.lies, inl (back.from, refl)) back.many says

@@ -4,8 +4,8 @@ use Rattle.std.specs.Prelude.{◌≡◌, ℕ, ◌+◌, ◌-◌, ◌*◌, ◌<◌
 use Rattle.bac_log.specs.TrendLog.{sequence_number}
 use Rattle.bac_link.specs.Delivery.{History, IsEntry}
 use Rattle.bac_walk.specs.declared.batch.Numbered.{Numbered}
-use Rattle.bac_poll_laws.specs.Bounds.{oldest_one}
-use Rattle.bac_poll_laws.specs.Delivers.{Given, IsWithin, LiesIn, ShowsHeld, after_given, asking_less}
+use Rattle.bac_poll_laws.specs.Bounds.{count_of, lost_one}
+use Rattle.bac_poll_laws.specs.Delivers.{Given, IsJoined, IsWithin, LiesIn, ShowHeld, ShowsHeld, after_given, asking_less}
 use Rattle.bac_poll_laws.specs.Laws.{IsStanding, Whichever}
 use Rattle.bac_poll.specs.State.{PollState}
 use Rattle.bac_poll.specs.Turns.{Turned, first_number}
@@ -41,17 +41,14 @@ pub record IsBackFrom (low k : ℕ) (H : History) (p : PollState) : Type 0 where
   pub first : first_number p.held ≡ sequence_number k
   pub lies : LiesIn low k
 
--- none of these begins it again: asks for the oldest, or for the count, though no epoch begins
-abbrev pub NoneAgain : PollState → List Given → Type 0
-NoneAgain p [] = Unit {0}
-NoneAgain p (given ∷ others) =
-    ((after_given p given).end ≡ None → (after_given p given).anew ≡ false →
-    oldest_one (after_given p given).poll.stage ≡ 0)
-    × NoneAgain (after_given p given).poll others
-
--- So many are asked at most: each two of them bring an older record, down to the oldest that was held. They are never
--- begun again because the first of what came is another record by then.
+-- So many are asked at most: each two of them bring an older record, down to the oldest that was held.
 abbrev pub BackwardsAreFew : Type 0
 BackwardsAreFew =
     (H : History) (low k : ℕ) (p : PollState) (answers : List Given) → IsBackFrom low k H p → SayBack low H p answers →
-    (length answers ≤ 2 * (k - low) + 2) × NoneAgain p answers
+    length answers ≤ 2 * (k - low) + 2
+
+-- A poll of such a log never begins them again because the first of what came is another record by then.
+abbrev pub NoneIsBegunAgain : Type 0
+NoneIsBegunAgain =
+    (H : History) (low s : ℕ) (p : PollState) (answers : List Given) → IsJoined low s p → ShowHeld low H p answers →
+    count_of lost_one p answers ≡ 0

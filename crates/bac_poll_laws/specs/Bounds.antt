@@ -1,6 +1,6 @@
 -- How many questions a poll asks at most, whatever is answered: so many for each answer by which records are kept, and
 -- for each question backwards. What these cost is in Backwards.
-use Rattle.std.specs.Prelude.{ℕ, ◌+◌, ◌-◌, ◌*◌, ◌≡◌, ◌≤◌, List, [], ◌∷◌, Option, None, Some, length}
+use Rattle.std.specs.Prelude.{ℕ, ◌+◌, ◌-◌, ◌*◌, ◌≡◌, ◌≤◌, Bool, true, false, List, [], ◌∷◌, Option, None, Some, length}
 use Rattle.bac_wire.specs.Primitive.{Id}
 use Rattle.bac_link.specs.Ordinals.{number_after}
 use Rattle.bac_walk.specs.declared.batch.Numbered.{Numbered}
@@ -13,6 +13,7 @@ use Rattle.bac_poll.specs.Turns.{Turned}
 use Rattle.bac_poll.specs.declared.stage.Stage.{Stage}
 use Rattle.bac_poll.specs.declared.stage.Stage.TheVariants.{Joins, Prior, Ahead, Again, Each, Oldest, ByNumber, Counts}
 use Rattle.bac_poll.specs.declared.stage.Stage.TheVariants.{UpTo, Back, Revision, Restart}
+use Rattle.bac_poll.specs.declared.turn.PollEnd.{PollEnd}
 
 -- ---- answers
 
@@ -67,9 +68,15 @@ oldest_one (Back aim) = 0
 oldest_one Revision = 0
 oldest_one Restart = 0
 
+-- the same, where the poll goes on, and no epoch begins
+abbrev pub again_one : Option PollEnd → (anew : Bool) → Stage → ℕ
+again_one None false stage = oldest_one stage
+again_one None true stage = 0
+again_one (Some why) anew stage = 0
+
 -- to a question backwards that begins it again: the first of what came is another record by then
 abbrev pub lost_one : Stage → Turned → ℕ
-lost_one stage t = back_one stage t * oldest_one t.poll.stage
+lost_one stage t = back_one stage t * again_one t.end t.anew t.poll.stage
 
 -- behind which a known record is asked for alone
 abbrev pub each_one : Stage → ℕ

@@ -1,7 +1,7 @@
 //! Laws of polls. Each function does nothing: what it ensures is the law.
 
 ghost use Rattle.bac_poll_laws.specs.Asks.{AsksOnceMore};
-ghost use Rattle.bac_poll_laws.specs.Backwards.{BackwardsAreFew};
+ghost use Rattle.bac_poll_laws.specs.Backwards.{BackwardsAreFew, NoneIsBegunAgain};
 ghost use Rattle.bac_poll_laws.specs.Bounds.{QuestionsAreBounded};
 ghost use Rattle.bac_poll_laws.specs.Caught.{PollsDeliver};
 ghost use Rattle.bac_poll_laws.specs.Firsts.{FirstsDeliver};
@@ -75,10 +75,15 @@ pub fn questions_are_bounded()
 {}
 
 /// Where a device says what its log holds, of a log that goes on, each two questions backwards, one
-/// after the other, bring an older record, down to the oldest that was held; and none is asked
-/// because what came first is another record by then.
+/// after the other, bring an older record, down to the oldest that was held.
 pub fn backwards_are_few()
     ensures { BackwardsAreFew }
+{}
+
+/// A poll of such a log never begins them again because the first of what came is another record
+/// by then.
+pub fn none_is_begun_again()
+    ensures { NoneIsBegunAgain }
 {}
 
 /// Of a log that goes on, a poll that ends as caught up, with no new epoch and no doubtful gap, has
