@@ -1,5 +1,6 @@
 -- Laws of where a poll goes on. Read `GoesOnWhereItStopped`.
-use Rattle.std.specs.Prelude.{◌≡◌, ⊤, ℕ, zero, suc, ◌+◌, ◌-◌, ◌<◌, ◌≤◌, true, false, List, [], ◌∷◌, None, Some, map, take}
+use Rattle.std.specs.Prelude.{◌≡◌, ⊤, ℕ, zero, suc, ◌+◌, ◌-◌, ◌<◌, ◌≤◌, true, false}
+use Rattle.std.specs.Prelude.{List, [], ◌∷◌, None, Some, map, take}
 use Rattle.std.specs.List.{Contains, filter}
 use Rattle.std.specs.List.Sorted.{IsPermutation}
 use Rattle.std.specs.declared.cmp.Ordering.TheVariants.{Less}
@@ -115,11 +116,12 @@ abbrev pub JoinsThere : Type 0
 JoinsThere = (log device : Id) (count begins : ℕ) (rows : List Values) (at : StandingAs) (told : ToldAs)
     → StandsBy begins rows at → StandsBy begins rows (place_of (joining log device count at told))
 
--- Where a poll stands by the three newest items of its epoch, it stands so too behind records that it brings, once their
--- rows are put: the number that comes next, the records known before it, and the date and time of the newest.
+-- Where a poll stands by the three newest items of its epoch, it stands so too behind records that it brings, once
+-- their rows are put: the number that comes next, the records known before it, and the date and time of the newest.
 abbrev pub GoesOnBehindRecords : Type 0
-GoesOnBehindRecords = (begins : ℕ) (rows items : List Values) (p : PollState) (records : List Numbered) (last : Numbered)
-    → StandsBy begins (take 3 rows) (place_of p) → SayRun p.next records items → last_in records ≡ Some last
+GoesOnBehindRecords = (begins : ℕ) (rows items : List Values) (p : PollState) (records : List Numbered)
+    (last : Numbered) → StandsBy begins (take 3 rows) (place_of p) → SayRun p.next records items
+    → last_in records ≡ Some last
     → StandsBy begins (take 3 (with_rows rows items)) (place_of (behind p records last))
     × IsStamped (take 3 (with_rows rows items)) (place_of (behind p records last))
 

@@ -1,4 +1,5 @@
--- Where a log stands by the items of its last epoch, the newest first. An item is a record, or a gap up to a last number.
+-- Where a log stands by the items of its last epoch, the newest first. An item is a record, or a gap up to a last
+-- number.
 use Rattle.std.specs.Prelude.{ℕ, ◌==◌, ◌&&◌, not, Bool, if◌then◌else◌, List, [], ◌∷◌, Option, None, Some, slice_get}
 use Rattle.std.specs.Option.{is_some, unwrap_or}
 use Rattle.sqlite_value.specs.Order.{Row as Values, column}
