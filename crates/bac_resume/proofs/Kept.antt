@@ -1,30 +1,33 @@
 -- What is told of a log is what its archive has.
-use Rattle.std.proofs.Common.{arith, ◌≡◌, ℕ, zero, suc, ◌+◌, ◌%◌, ◌==◌, nat_le, Bool, true, false, if◌then◌else◌, not, List, [], ◌∷◌, map, take, Option, None, Some, IsPermutation, is_lt, refl, sym, ap, subst, ◌∙◌}
+use Rattle.std.proofs.Common.{arith, ◌≡◌, ℕ, zero, suc, ◌+◌, ◌/◌, ◌%◌, ◌<◌, ◌≤◌, ◌==◌, pos, int_cmp, Less, subst₂, nat_le, Bool, true, false, if◌then◌else◌, not, List, [], ◌∷◌, map, take, Option, None, Some, IsPermutation, is_lt, refl, sym, ap, subst, ◌∙◌}
 use Rattle.std.specs.Cmp.{IsStrictWeakOrder, IsTotalOrder}
-use Rattle.std.specs.List.{Contains, filter, slice_get}
-use Rattle.std.proofs.lemmas.Bool.{and_from, and_parts, cond-true, eq-eqb, eqb-true, le-leb, not-true, or_left, or_right}
+use Rattle.std.specs.List.{AllByRecursion, Contains, filter, slice_get}
+use Rattle.std.proofs.lemmas.Bool.{and_from, and_parts, cond-true, eq-eqb, eqb-true, le-leb, not-true, or_left, or_right, false≢true}
+use Rattle.std.proofs.lemmas.Bool.Decides.{nat_tests}
 use Rattle.std.proofs.lemmas.Cmp.{back_total, on_total}
-use Rattle.std.proofs.lemmas.List.Elements.{Contains-append_right}
+use Rattle.std.proofs.lemmas.List.Elements.{All-contains, All-from_recursion, Contains-append_right}
 use Rattle.std.proofs.lemmas.List.Kept.{IsSortedBy-filter}
 use Rattle.std.proofs.lemmas.List.MinMax.{IsStrictWeakOrder-flip, ranks_by}
-use Rattle.std.proofs.lemmas.List.Sorted.{IsPermutation-sym, IsPermutation-trans}
+use Rattle.std.proofs.lemmas.List.Sorted.{Contains-permutation, IsPermutation-sym, IsPermutation-trans}
 use Rattle.std.proofs.lemmas.Option.{none-some, same_Some}
 use Rattle.hex.proofs.HexLemmas.{decode_of-encode_lower}
 use Rattle.sqlite_keyed.proofs.ListLemmas.{IsPermutation-filter}
 use Rattle.sqlite_keyed.proofs.SortLemmas.{sorted_unique}
-use Rattle.sqlite_value.proofs.OrderLemmas.{value_cmp_total}
+use Rattle.sqlite_value.proofs.OrderLemmas.{value_cmp-Int, value_cmp_total}
 use Rattle.sqlite_value.specs.Order.{Row as Values, column, value_cmp}
+use Rattle.sqlite_value.specs.declared.value.Value.{Value}
+use Rattle.sqlite_value.specs.declared.value.Value.TheVariants.{Int}
 use Rattle.sqlite_trees.specs.Tree.{Trees, rowid}
 use Rattle.bac_archive3.specs.Ask.{falls, shown}
 use Rattle.bac_archive3.specs.Items.{number_at, number_in}
 use Rattle.bac_archive3.specs.Put.{beginning_columns, item_columns}
 use Rattle.bac_archive3.specs.Read.{numbers}
-use Rattle.bac_archive3.specs.Stands.{StandsAs, epochs, is_in, is_last}
+use Rattle.bac_archive3.specs.Stands.{StandsAs, epochs, is_at, is_in, is_last}
 use Rattle.bac_archive3.specs.declared.row.BeginningRow.{BeginningRow}
 use Rattle.bac_archive3.specs.declared.standing.Standing.{Standing}
 use Rattle.bac_link.specs.Ordinals.{is_number}
 use Rattle.bac_poll.specs.Turns.{behind, number_before}
-use Rattle.bac_resume.specs.Laws.{GoesOnWhereItStopped, KnownAreKept, NewestAreTold, NextIsNumber, RestartIsReadBack, before, place_of, told_in, with_rows}
+use Rattle.bac_resume.specs.Laws.{GoesOnWhereItStopped, KnownAreKept, NewestAreTold, NextIsNumber, NoneIsNewer, RestartIsReadBack, before, place_of, told_in, with_rows}
 use Rattle.bac_resume.specs.Met.{log_in}
 use Rattle.bac_resume.specs.Resumed.{IsStamped, StandsBy}
 use Rattle.bac_resume.specs.Rows.{begins_of, items_of}
@@ -114,6 +117,54 @@ newest_told trees s log begins rows stands told has =
     ap (λ (o : Option Values). items_of o items) told ∙ stands.newest.first era
     ∙ cond-true (is_last s.last.items era) (take 3 (filter p all)) [] (last_is s.last.items begins begun)
     ∙ ap (take 3) one
+
+-- ---- the newest of them
+
+passing_stays : (p : Values → Bool) (xs : List Values) (x : Values) → Contains xs x → p x ≡ true → Contains (filter p xs) x
+passing_stays p [] x there is = absurd (omega (arith, there.1))
+passing_stays p (y ∷ xs) x (zero, less, same) is =
+    subst (λ (l : List Values). Contains l x) (sym (cond-true (p y) (y ∷ filter p xs) (filter p xs) (ap p same ∙ is))) (0, omega arith, same)
+passing_stays p (y ∷ xs) x (suc k, less, same) is = by (p y) (passing_stays p xs x (k, omega (arith, less), same) is)
+  where
+    by : (b : Bool) → Contains (filter p xs) x → Contains (if b then y ∷ filter p xs else filter p xs) x
+    by true rest = Contains-append_right (y ∷ []) (filter p xs) x rest
+    by false rest = rest
+
+id_of : (era : ℕ) (v : Value) → is_at numbers era v ≡ true → (id : ℕ) × (v ≡ Int (pos id)) × (id / numbers ≡ era)
+id_of era (Int (pos id)) is = (id, refl, eqb-true (id / numbers) era is)
+id_of era _ is = absurd (false≢true is)
+
+less_of : (m n : ℕ) → int_cmp (pos m) (pos n) ≡ Less → m < n
+less_of m n is = grind (arith, nat_tests)
+
+rises_within : (era m n : ℕ) → m / numbers ≡ era → n / numbers ≡ era → m < n → m % numbers ≤ n % numbers
+rises_within era m n one two less = omega (arith, one, two, less)
+
+falls_within : (era : ℕ) (newest item : Values) → is_in numbers era newest ≡ true → is_in numbers era item ≡ true → falls newest item ≡ Less → number_in item ≤ number_in newest
+falls_within era newest item top low fall =
+    let m = id_of era (column item 0) low in
+    let n = id_of era (column newest 0) top in
+    let less : m.0 < n.0 = less_of m.0 n.0 (sym (value_cmp-Int (pos m.0) (pos n.0)) ∙ subst₂ (λ (v w : Value). value_cmp v w ≡ Less) m.1 n.1 fall) in
+    subst₂ (λ (v w : Value). number_at v % numbers ≤ number_at w % numbers) (sym m.1) (sym n.1) (rises_within era m.0 n.0 m.2 n.2 less)
+
+newer_by : (era : ℕ) (kept rows : List Values) (newest item : Values) → IsPermutation (filter (is_in numbers era) kept) (newest ∷ rows) → AllByRecursion (λ b. falls newest b ≡ Less) rows →
+    Contains kept item → is_in numbers era item ≡ true → number_in item ≤ number_in newest
+newer_by era kept rows newest item each fall there is =
+    by (Contains-permutation (filter (is_in numbers era) kept) (newest ∷ rows) item each (passing_stays (is_in numbers era) kept item there is))
+  where
+    top : is_in numbers era newest ≡ true
+    top =
+        filtered_passes (is_in numbers era) kept newest
+        (Contains-permutation (newest ∷ rows) (filter (is_in numbers era) kept) newest (IsPermutation-sym (filter (is_in numbers era) kept) (newest ∷ rows) each) (0, omega arith, refl))
+
+    by : Contains (newest ∷ rows) item → number_in item ≤ number_in newest
+    by (zero, less, same) = subst (λ (v : Values). number_in v ≤ number_in newest) same (omega arith)
+    by (suc k, less, same) =
+        falls_within era newest item top is
+        (All-contains (λ (b : Values). falls newest b ≡ Less) rows item (All-from_recursion (λ (b : Values). falls newest b ≡ Less) rows fall) (k, omega (arith, less), same))
+
+pub no_newer : NoneIsNewer
+no_newer trees begins newest item rows has there is = newer_by (number_at (column begins 0)) (map (shown 5) (trees 5)) rows newest item has.each has.fall.0 there is
 
 -- ---- once rows are put
 

@@ -61,6 +61,12 @@ abbrev pub NewestAreTold : Type 0
 NewestAreTold = (trees : Trees) (s : Standing) (log : ℕ) (begins : Values) (rows : List Values) → StandsAs trees s
     → (told_in s log).begins ≡ Some begins → AreItemsOf trees begins rows → (told_in s log).newest ≡ take 3 rows
 
+-- No item of the epoch has a number behind that of the newest of these, behind whose last number the next one comes.
+abbrev pub NoneIsNewer : Type 0
+NoneIsNewer = (trees : Trees) (begins newest item : Values) (rows : List Values)
+    → AreItemsOf trees begins (newest ∷ rows) → Contains (map (shown 5) (trees 5)) item
+    → is_in numbers (number_at (column begins 0)) item ≡ true → number_in item ≤ number_in newest
+
 -- The number that comes next is a sequence number, if that with which the epoch begins is one.
 abbrev pub NextIsNumber : Type 0
 NextIsNumber = (begins : ℕ) (items : List Values) → is_number begins ≡ true → is_number (next_of begins items) ≡ true

@@ -1,7 +1,7 @@
 //! Laws of where a poll goes on. Each function does nothing: what it ensures is the law.
 
 ghost use Rattle.bac_resume.specs.Laws.{GoesOnAnew, GoesOnBehindGap, GoesOnBehindRecords};
-ghost use Rattle.bac_resume.specs.Laws.{JoinsThere, KnownAreKept, NewestAreTold, NextIsNumber};
+ghost use Rattle.bac_resume.specs.Laws.{JoinsThere, KnownAreKept, NewestAreTold, NextIsNumber, NoneIsNewer};
 ghost use Rattle.bac_resume.specs.Laws.{GoesOnWhereItStopped, RestartIsReadBack};
 
 /// Each record that is known of a log is one of its records in the archive, under its number.
@@ -12,6 +12,11 @@ pub fn known_are_kept()
 /// The items by which a poll goes on are the first three of its last epoch, by falling ids.
 pub fn newest_are_told()
     ensures { NewestAreTold }
+{}
+
+/// No item of the epoch has a number behind that of the first of these.
+pub fn none_is_newer()
+    ensures { NoneIsNewer }
 {}
 
 /// The number that comes next is a sequence number.
