@@ -1,6 +1,6 @@
 -- Each question backwards but one brings an older record.
-use Rattle.std.proofs.Common.{arith, ◌≡◌, ℕ, zero, suc, ◌+◌, ◌*◌, ◌-◌, ◌≤◌, ◌<◌, ◌==◌, ◌&&◌, ◌||◌, not, nat_le, nat_lt, Bool, true, false, if◌then◌else◌, Option, None, Some, List, [], ◌∷◌, length, refl, sym, ap, subst, ◌∙◌, ◌⊎◌, inl, inr}
-use Rattle.std.proofs.lemmas.Bool.{and_from, and_parts, eq-eqb, eqb-true, leb-false, leb-true, ltb-false, ltb-true}
+use Rattle.std.proofs.Common.{arith, ◌≡◌, ℕ, ◌+◌, ◌*◌, ◌-◌, ◌≤◌, ◌<◌, ◌==◌, ◌&&◌, ◌||◌, not, nat_le, nat_lt, Bool, true, false, if◌then◌else◌, Option, None, Some, List, [], ◌∷◌, length, refl, sym, ap, subst, ◌∙◌, ◌⊎◌, inl, inr}
+use Rattle.std.proofs.lemmas.Bool.{and_from, eq-eqb, eqb-true, leb-false, leb-true, ltb-false, ltb-true}
 use Rattle.std.proofs.lemmas.Slice.Eq.{bytes_eq-Decides}
 use Rattle.std.specs.Cmp.{nat_cmp_is}
 use Rattle.std.specs.Ordering.{is_eq, nat_cmp, ordering_then}
@@ -9,10 +9,8 @@ use Rattle.std.specs.declared.cmp.Ordering.{Ordering}
 use Rattle.std.specs.declared.cmp.Ordering.TheVariants.{Equal}
 use Rattle.bac_log.specs.TrendLog.{sequence_number}
 use Rattle.bac_log.specs.declared.entry.Entry.{Entry}
-use Rattle.bac_link.specs.Delivery.{History, IsEntry, Moment}
-use Rattle.bac_link.specs.Heard.{AckParameters, heard_in}
+use Rattle.bac_link.specs.Delivery.{History, IsEntry}
 use Rattle.bac_link.specs.Ordinals.{distance, is_ahead, number_after}
-use Rattle.bac_walk.specs.Walks.{Ask, Bring, End, NextAct, Refuse, verdict, with_numbers}
 use Rattle.bac_walk.specs.declared.batch.Numbered.{Numbered}
 use Rattle.bac_walk.proofs.Shown.{after-number, distance-behind, distance-number}
 use Rattle.bac_poll.specs.Back.{back, back_alone, back_by, back_done, back_more, back_shown, is_front, shown_last, went_back}
@@ -22,9 +20,8 @@ use Rattle.bac_poll.specs.Gone.{asks_restart, asks_revision, asks_word, by_gone,
 use Rattle.bac_poll.specs.Joins.{asks_each, found}
 use Rattle.bac_poll.specs.Known.{is_same_value, means_in, number_in, record_at, records_behind, shift_of, shown_as}
 use Rattle.bac_poll.specs.Oldest.{sees_by, sees_newest, sees_none, sees_same}
-use Rattle.bac_poll.specs.Poll.{ack_in, after_heard, after_too_many, are_asked, at_stage, count_at, has_last, has_more, more_of, reply_from, reply_in, reply_of}
 use Rattle.bac_poll.specs.Starts.{starts_at}
-use Rattle.bac_poll.specs.State.{KeptAs, PollState, Reply, kept_of}
+use Rattle.bac_poll.specs.State.{KeptAs, PollState, kept_of}
 use Rattle.bac_poll.specs.Turns.{Turned, brings, brings_to, confirmed, first_in, first_number, last_in, number_before, number_or, standing_at}
 use Rattle.bac_poll.specs.declared.date_time.DateTime.{DateTime}
 use Rattle.bac_poll.specs.declared.gone.Gone.{Gone}
@@ -39,12 +36,9 @@ use Rattle.bac_poll.specs.declared.stage.Stage.{Stage}
 use Rattle.bac_poll.specs.declared.stage.Stage.TheVariants as stage
 use Rattle.bac_poll_laws.specs.Backwards.{IsLoggedIn}
 use Rattle.bac_poll_laws.specs.Bounds.{oldest_one}
-use Rattle.bac_poll_laws.specs.Delivers.{Given, IsWithin, LiesIn, ShowsHeld, after_given, asking_less}
-use Rattle.bac_poll_laws.specs.Laws.{Answer, Answers, Counted, HasSome, HoldsOfEach, IsAt, IsRun, IsStanding, Replied, Restarted, Revised, ShowsOnly, Whichever, after_answer}
-use Rattle.bac_poll_laws.proofs.Bounds.{half_low}
-use Rattle.bac_poll_laws.proofs.Delivered.{less_stage, less_standing, shows_of}
-use Rattle.bac_poll_laws.proofs.Once.{IsRunReply, any_answer, heard_run, one_answer}
-use Rattle.bac_poll_laws.proofs.Ordered.{IsOf, near_ordinal}
+use Rattle.bac_poll_laws.specs.Delivers.{LiesIn}
+use Rattle.bac_poll_laws.specs.Laws.{HasSome, IsRun, Whichever}
+use Rattle.bac_poll_laws.proofs.Ordered.{near_ordinal}
 use Rattle.bac_poll_laws.proofs.Wholes.{last_step, split}
 
 -- ---- where a turn goes on backwards
