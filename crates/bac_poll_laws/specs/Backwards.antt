@@ -5,7 +5,8 @@ use Rattle.bac_log.specs.TrendLog.{sequence_number}
 use Rattle.bac_link.specs.Delivery.{History, IsEntry}
 use Rattle.bac_walk.specs.declared.batch.Numbered.{Numbered}
 use Rattle.bac_poll_laws.specs.Bounds.{count_of, lost_one}
-use Rattle.bac_poll_laws.specs.Delivers.{Given, IsJoined, IsWithin, LiesIn, ShowHeld, ShowsHeld, after_given, asking_less}
+use Rattle.bac_poll_laws.specs.Delivers.{Given, IsJoined, IsWithin, LiesIn, ShowHeld, ShowsHeld, after_given}
+use Rattle.bac_poll_laws.specs.Delivers.{asking_less}
 use Rattle.bac_poll_laws.specs.Laws.{IsStanding, Whichever}
 use Rattle.bac_poll.specs.State.{PollState}
 use Rattle.bac_poll.specs.Turns.{Turned, first_number}

@@ -1,8 +1,9 @@
 //! Laws of where a poll goes on. Each function does nothing: what it ensures is the law.
 
 ghost use Rattle.bac_resume.specs.Laws.{GoesOnAnew, GoesOnBehindGap, GoesOnBehindRecords};
-ghost use Rattle.bac_resume.specs.Laws.{JoinsThere, KnownAreKept, NewestAreTold, NextIsNumber, NoneIsNewer};
-ghost use Rattle.bac_resume.specs.Laws.{GoesOnWhereItStopped, RestartIsReadBack};
+ghost use Rattle.bac_resume.specs.Laws.{GoesOnWhereItStopped, JoinsThere, KnownAreKept};
+ghost use Rattle.bac_resume.specs.Laws.{NewestAreTold, NextIsNumber, NoneIsNewer};
+ghost use Rattle.bac_resume.specs.Laws.{RestartIsReadBack};
 
 /// Each record that is known of a log is one of its records in the archive, under its number.
 pub fn known_are_kept()
