@@ -9,7 +9,7 @@ use Rattle.bac_ports.specs.Port.{Receiving, Sending}
 use Rattle.bac_drive.specs.Event.{Event, Kept, Printed, Read, Sent, Waited, Warned}
 use Rattle.bac_drive.specs.Happens.{Happens, Scene}
 use Rattle.bac_drive.specs.declared.machine.Next.{Next}
-use Rattle.bac_poller.specs.Counts.{counts_with}
+use Rattle.bac_device_poller.specs.Counts.{counts_with}
 use Rattle.bac_poller.specs.Hosts.{limit_of}
 use Rattle.bac_poller.specs.Seat.{is_at, is_known, seat_ended, seat_heard, seat_read}
 use Rattle.bac_poller.specs.Site.{Acts, GivesFrom, GivesNews, GivesWaiting, GoesOn, HasPlaceAt, MayAsk, SiteState, due_from, given, limit_at, noted, put_by, site_heard, site_read}

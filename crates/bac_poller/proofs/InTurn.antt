@@ -2,7 +2,7 @@
 use Rattle.std.proofs.Common.{◌≡◌, ◌⊎◌, inl, inr, Bool, true, false, [], ◌∷◌, ◌++◌, All, List, None, remove, refl, sym, ap, subst, ◌∙◌}
 use Rattle.bac_drive.specs.declared.machine.Next.{Next}
 use Rattle.bac_drive.specs.declared.machine.Next.TheVariants as next
-use Rattle.bac_poller.specs.Counts.{counts_with}
+use Rattle.bac_device_poller.specs.Counts.{counts_with}
 use Rattle.bac_poller.specs.Poller.{GivesBy}
 use Rattle.bac_poller.specs.Seat.{seat_ended}
 use Rattle.bac_poller.specs.Site.{Acts, GivesFrom, GivesNews, GivesWaiting, GoesOn, SiteState, noted, put_by}

@@ -1,5 +1,4 @@
 pub mod Driven
-pub mod PutLemmas
 pub mod Asked
 pub mod Came
 pub mod Places

@@ -10,7 +10,7 @@ use Rattle.bac_ports.specs.Port.{Receiving, Sending}
 use Rattle.bac_drive.specs.Event.{Event, Kept, Printed, Read, Sent, Waited, Warned}
 use Rattle.bac_drive.specs.Happens.{Happens, Scene}
 use Rattle.bac_drive.specs.declared.machine.Next.{Next}
-use Rattle.bac_poller.specs.Counts.{counts_with}
+use Rattle.bac_device_poller.specs.Counts.{counts_with}
 use Rattle.bac_poller.specs.Seat.{is_at, is_first, seat_ended}
 use Rattle.bac_poller.specs.Site.{Acts, GivesFrom, GivesNews, GivesSite, GivesWaiting, GoesOn, IsWithin, SiteState, noted, put_by, site_heard}
 use Rattle.bac_poller.specs.SiteLaws.{IsMarked, IsUnasked, OpenWithin, is_open, is_open_at, is_open_once, was_sent_once, site_acts}

@@ -12,8 +12,8 @@ use Rattle.bac_drive.specs.Event.{Event, Kept, Printed, Read, Sent, Waited, Warn
 use Rattle.bac_drive.specs.Happens.{Does}
 use Rattle.bac_drive.specs.declared.machine.Next.{Next}
 use Rattle.bac_drive.specs.declared.machine.Next.TheVariants as next
-use Rattle.bac_poller.specs.Counts.{counts_with}
-use Rattle.bac_poller.specs.Ending.{is_caught_up}
+use Rattle.bac_device_poller.specs.Counts.{counts_with}
+use Rattle.bac_device_poller.specs.Ending.{is_caught_up}
 use Rattle.bac_poller.specs.News.{news_line}
 use Rattle.bac_poller.specs.Seat.{IsNext, begun, doing_begun, halved, heard_by, is_due, is_known, is_waiting, lowered, missed, noticed, seat_ended, seat_heard, seat_read, thrice_halved}
 use Rattle.bac_poller.specs.Site.{Acts, GivesFrom, GivesNews, GivesSite, GivesWaiting, GoesOn, IsToldBy, Rests, SiteState, Tells, due_from, given, noted, put_by, site_heard, site_read}
@@ -21,7 +21,7 @@ use Rattle.bac_poller.specs.SiteLaws.{AreCome, IsOf, IsUnasked, LogRow, log_of, 
 use Rattle.bac_poller.specs.declared.news.News.{News}
 use Rattle.bac_poller.specs.declared.log_poller.Doing.{Doing}
 use Rattle.bac_poller.specs.declared.log_poller.Doing.TheVariants as doing
-use Rattle.bac_poller.specs.declared.log_poller.Ending.{Ending}
+use Rattle.bac_device_poller.specs.declared.ending.Ending.{Ending}
 use Rattle.bac_poller.specs.declared.log_poller.LogPoller.{LogPoller}
 use Rattle.bac_poller.specs.declared.seat.LogTask.{LogTask}
 use Rattle.bac_poller.specs.declared.seat.Seat.{Seat}

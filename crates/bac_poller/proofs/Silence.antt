@@ -19,9 +19,9 @@ use Rattle.bac_drive.specs.Event.{Event, Kept, Printed, Read, Sent, Waited, Warn
 use Rattle.bac_drive.specs.Happens.{Does, Happens, Scene}
 use Rattle.bac_drive.specs.declared.machine.Next.{Next}
 use Rattle.bac_drive.specs.declared.machine.Next.TheVariants as next
-use Rattle.bac_poller.specs.Ending.{is_caught_up}
+use Rattle.bac_device_poller.specs.Ending.{is_caught_up}
 use Rattle.bac_poller.specs.Laws.{Came}
-use Rattle.bac_poller.specs.Counts.{counts_with}
+use Rattle.bac_device_poller.specs.Counts.{counts_with}
 use Rattle.bac_poller.specs.Poller.{GivesBy, IsPlaced, doing_behind, doing_told, is_answer}
 use Rattle.bac_poller.specs.News.{news_line}
 use Rattle.bac_poller.specs.Seat.{begun, begun_poll, doing_begun, given_up, is_due, is_known, is_lost, is_waiting, lost_one, missed, seat_ended, seat_heard, seat_read, without_answer}
@@ -30,8 +30,8 @@ use Rattle.bac_poller.specs.SiteLaws.{LostStopsNone, WaitsOnce, is_of, is_sent_t
 use Rattle.bac_poller.specs.declared.news.News.{News}
 use Rattle.bac_poller.specs.declared.log_poller.Doing.{Doing}
 use Rattle.bac_poller.specs.declared.log_poller.Doing.TheVariants as doing
-use Rattle.bac_poller.specs.declared.log_poller.Ending.{Ending}
-use Rattle.bac_poller.specs.declared.log_poller.Ending.TheVariants.{Poll}
+use Rattle.bac_device_poller.specs.declared.ending.Ending.{Ending}
+use Rattle.bac_device_poller.specs.declared.ending.Ending.TheVariants.{Poll}
 use Rattle.bac_poller.specs.declared.log_poller.LogPoller.{LogPoller}
 use Rattle.bac_poller.specs.declared.seat.LogTask.{LogTask}
 use Rattle.bac_poller.specs.declared.seat.Presence.{Presence}

@@ -11,10 +11,10 @@ use Rattle.bac_drive.specs.Event.{Event, Kept, Printed, Read, Sent, Waited, Warn
 use Rattle.bac_drive.specs.Happens.{Happens, Scene}
 use Rattle.bac_drive.specs.declared.machine.Next.{Next}
 use Rattle.bac_drive.specs.declared.machine.Next.TheVariants as next
-use Rattle.bac_poller.specs.Counts.{counts_with}
+use Rattle.bac_device_poller.specs.Counts.{counts_with}
 use Rattle.bac_poller.specs.Poller.{GivesBy}
 use Rattle.bac_poller.specs.Seat.{is_known, seat_ended, seat_heard, seat_read}
-use Rattle.bac_poller.specs.Ending.{is_caught_up}
+use Rattle.bac_device_poller.specs.Ending.{is_caught_up}
 use Rattle.bac_poller.specs.Site.{Acts, GivesFrom, GivesNews, GivesSite, GivesWaiting, GoesOn, IsToldBy, SiteState, given, noted, put_by, site_heard, site_read}
 use Rattle.bac_poller.specs.SiteLaws.{AllAreTold, BeginsUnasked, IsNew, IsUnasked, is_of, site_acts}
 use Rattle.bac_poller.specs.declared.news.News.{News}

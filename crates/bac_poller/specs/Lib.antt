@@ -1,7 +1,4 @@
-pub mod Puts
 pub mod Word
-pub mod Counts
-pub mod Ending
 pub mod Poller
 pub mod Seat
 pub mod Hosts

@@ -1,7 +1,7 @@
 -- What is told of a site beside the lines of its logs.
 use Rattle.std.specs.Prelude.{ℕ, codes, decimal, List, [], ◌∷◌, ◌++◌}
 use Rattle.bac_print.specs.Addresses.{address_text}
-use Rattle.bac_poller.specs.Ending.{counted_text}
+use Rattle.bac_device_poller.specs.Ending.{counted_text}
 use Rattle.bac_poller.specs.declared.news.News.{News}
 use Rattle.bac_poller.specs.declared.news.News.TheVariants.{Slow, Stray}
 

@@ -30,12 +30,12 @@ use Rattle.bac_poll.specs.declared.turn.PollEnd.{PollEnd}
 use Rattle.bac_poll.specs.declared.turn.PollEnd.TheVariants.{Fault}
 use Rattle.bac_drive.specs.declared.machine.Next.{Next}
 use Rattle.bac_drive.specs.declared.machine.Next.TheVariants as next
-use Rattle.bac_poller.specs.Ending.{told_line}
-use Rattle.bac_poller.specs.Puts.{none_from, put_as, with_turn}
+use Rattle.bac_device_poller.specs.Ending.{told_line}
+use Rattle.bac_device_poller.specs.Puts.{none_from, put_as, with_turn}
 use Rattle.bac_poller.specs.Word.{moment_in, restart_in}
 use Rattle.bac_poller.specs.declared.log_poller.Doing.{Doing}
 use Rattle.bac_poller.specs.declared.log_poller.Doing.TheVariants as doing
-use Rattle.bac_poller.specs.declared.log_poller.Ending.TheVariants.{Poll, Epochs}
+use Rattle.bac_device_poller.specs.declared.ending.Ending.TheVariants.{Poll, Epochs}
 use Rattle.bac_poller.specs.declared.log_poller.LogPoller.{LogPoller}
 use Rattle.bac_poller.specs.declared.log_poller.Wanted.{Wanted}
 use Rattle.bac_poller.specs.declared.log_poller.Wanted.TheVariants.{Records, Count, Revision, Restart}

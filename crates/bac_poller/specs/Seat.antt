@@ -12,13 +12,13 @@ use Rattle.bac_poll.specs.State.{PollState}
 use Rattle.bac_poll.specs.declared.turn.PollEnd.TheVariants.{CaughtUp, Contradicts, Fault, NoneByNumber, SaysMore}
 use Rattle.bac_poll.specs.declared.turn.PollEnd.TheVariants.{ShowsNone}
 use Rattle.bac_walk.specs.declared.outcome.WalkFault.TheVariants as walk
-use Rattle.bac_poller.specs.Counts.{no_counts}
+use Rattle.bac_device_poller.specs.Counts.{no_counts}
 use Rattle.bac_poller.specs.Poller.{doing_after, is_answer}
 use Rattle.bac_poller.specs.declared.log_poller.Doing.{Doing}
 use Rattle.bac_poller.specs.declared.log_poller.Doing.TheVariants as doing
 use Rattle.bac_poller.specs.declared.log_poller.LogPoller.{LogPoller}
-use Rattle.bac_poller.specs.declared.log_poller.Ending.{Ending}
-use Rattle.bac_poller.specs.declared.log_poller.Ending.TheVariants.{Epochs, NotAsked, Poll}
+use Rattle.bac_device_poller.specs.declared.ending.Ending.{Ending}
+use Rattle.bac_device_poller.specs.declared.ending.Ending.TheVariants.{Epochs, NotAsked, Poll}
 use Rattle.bac_poller.specs.declared.seat.LogTask.{LogTask}
 use Rattle.bac_poller.specs.declared.seat.Presence.{Presence}
 use Rattle.bac_poller.specs.declared.seat.Presence.TheVariants.{Doubted, Present, Silent}

@@ -8,8 +8,8 @@ use Rattle.bac_ports.specs.Port.{Receiving}
 use Rattle.bac_drive.specs.declared.machine.Next.{Next}
 use Rattle.bac_drive.specs.declared.machine.Next.TheVariants as next
 use Rattle.bac_poller.specs.Poller.{GivesBy}
-use Rattle.bac_poller.specs.Counts.{counts_with}
-use Rattle.bac_poller.specs.Ending.{ended_line, is_caught_up}
+use Rattle.bac_device_poller.specs.Counts.{counts_with}
+use Rattle.bac_device_poller.specs.Ending.{ended_line, is_caught_up}
 use Rattle.bac_poller.specs.Hosts.{answered_at, host_at, is_answered, is_loss, least_of, limit_of}
 use Rattle.bac_poller.specs.Hosts.{slowed_at, with_limit}
 use Rattle.bac_poller.specs.News.{news_line}
@@ -19,7 +19,7 @@ use Rattle.bac_poller.specs.declared.hosts.Host.{Host}
 use Rattle.bac_poller.specs.declared.limits.Limits.{Limits}
 use Rattle.bac_poller.specs.declared.log_poller.Doing.{Doing}
 use Rattle.bac_poller.specs.declared.log_poller.Doing.TheVariants as doing
-use Rattle.bac_poller.specs.declared.log_poller.Ending.{Ending}
+use Rattle.bac_device_poller.specs.declared.ending.Ending.{Ending}
 use Rattle.bac_poller.specs.declared.log_poller.LogPoller.{LogPoller}
 use Rattle.bac_poller.specs.declared.news.News.{News}
 use Rattle.bac_poller.specs.declared.news.News.TheVariants.{Slow, Stray}

@@ -26,7 +26,7 @@ use Rattle.bac_poller.specs.Site.{GivesSite, IsNextAsked, IsWithin, SiteState, T
 use Rattle.bac_poller.specs.Site.{site_heard, site_read}
 use Rattle.bac_poller.specs.declared.limits.Limits.{Limits}
 use Rattle.bac_poller.specs.declared.log_poller.Doing.TheVariants as doing
-use Rattle.bac_poller.specs.declared.log_poller.Ending.{Ending}
+use Rattle.bac_device_poller.specs.declared.ending.Ending.{Ending}
 use Rattle.bac_poller.specs.declared.log_poller.LogPoller.{LogPoller}
 use Rattle.bac_poller.specs.declared.seat.LogTask.{LogTask}
 use Rattle.bac_poller.specs.declared.seat.Presence.{Presence}

@@ -2,21 +2,16 @@
 //! and which rows are kept.
 #![tactic(auto)]
 
-mod counts;
-mod datum;
-mod ending;
 mod hosts;
 mod laws;
 mod limits;
 mod log_poller;
 mod news;
 mod polling;
-mod putting;
 mod seat;
 mod site;
 mod word;
 
-pub use counts::Counts;
 pub use hosts::Host;
 pub use laws::{
     all_are_told, ask_in_turn, asks_no_more, begins_unasked, go_alone, keeps_to_limits,
@@ -24,7 +19,7 @@ pub use laws::{
     site_rows_came, site_sends_ask, stays_within, waits_once, wants_within, within_limits,
 };
 pub use limits::Limits;
-pub use log_poller::{Doing, Ending, LogPoller, Wanted};
+pub use log_poller::{Doing, LogPoller, Wanted};
 pub use news::News;
 pub use polling::poll_site;
 pub use seat::{LogTask, Presence, Seat};

@@ -13,10 +13,9 @@ ghost use Rattle.bac_poller.specs.Poller.{IsTimedOut, Passes, doing_behind, doin
 ghost use Rattle.bac_poller.specs.Poller.{is_too_long, refused, wanted_at};
 ghost use Rattle.bac_poller.specs.Seat.{heard_by};
 
-use crate::ending::told_line;
-use crate::putting::{NotPut, Putting};
 use crate::word::{moment_in, restart_in};
 use bac_archive3::Put;
+use bac_device_poller::{Ending, NotPut, put_turn, told_line};
 use bac_drive::{Machine, Next};
 use bac_keep::Place;
 use bac_link::{Received, Refusal, Timeout, Transactions, Verdict};
@@ -29,16 +28,6 @@ use std::alloc::{AllocError, Global};
 
 /// How many datagrams one send is waited for, whoever sends them.
 const RECEIVES: u32 = 16;
-
-/// Why a poller has ended.
-#[derive(Clone, Copy, Debug, PartialEq, Eq)]
-pub enum Ending {
-    Poll(PollEnd),
-    /// It began anew, or its numbers came round, once more than a log can have epochs.
-    Epochs,
-    /// Its device is silent.
-    NotAsked,
-}
 
 /// What an answer is read as.
 #[derive(Clone, Copy, Debug, PartialEq, Eq)]
@@ -215,12 +204,11 @@ impl LogPoller {
         ensures wait { self.new.wait_ms ≡ self.old.wait_ms }
         ensures name { self.new.name ≡ self.old.name }
     {
-        let mut putting = Putting::from(alloc, self.place);
-        match putting.push_turn(alloc, &turn) {
-            Ok(()) => {
-                self.place = putting.place;
+        match put_turn(alloc, self.place, &turn) {
+            Ok((place, puts)) => {
+                self.place = place;
                 self.doing = doing_told(turn.line, turn.end);
-                Ok(putting.puts)
+                Ok(puts)
             }
             Err(NotPut::Memory) => Err(AllocError),
             Err(NotPut::Epochs) => {

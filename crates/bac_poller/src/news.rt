@@ -4,7 +4,7 @@ ghost use Rattle.std.specs.Prelude.{◌≡◌, ◌++◌, ◌∷◌, [], IfOk, On
 ghost use Rattle.bac_poller.specs.News.{from_text, host_text, news_line, news_text};
 ghost use Rattle.bac_poller.specs.News.{slow_text, stray_text};
 
-use crate::ending::push_count;
+use bac_device_poller::push_count;
 use bac_print::{push_address, push_number};
 use std::alloc::{AllocError, Global};
 

@@ -1,9 +1,8 @@
 //! One device of a site, with the poll of one of its logs, and what waits behind it.
 
 ghost use Rattle.std.specs.Prelude.{◌≡◌, ◌<◌, [], IfNone, IfOk, IfSome, count_by, length, map};
-ghost use Rattle.bac_link.specs.Transactions.{closed, is_awaited};
-ghost use Rattle.bac_poller.specs.Counts.{no_counts};
-ghost use Rattle.bac_poller.specs.Ending.{ended_line};
+ghost use Rattle.bac_device_poller.specs.Counts.{no_counts};
+ghost use Rattle.bac_device_poller.specs.Ending.{ended_line};
 ghost use Rattle.bac_poller.specs.Seat.{IsNext, begun, doing_begun, given_up, halved, is_at};
 ghost use Rattle.bac_poller.specs.Seat.{is_first};
 ghost use Rattle.bac_poller.specs.Seat.{is_known, is_lost, is_stray, noticed};
@@ -12,11 +11,9 @@ ghost use Rattle.bac_poller.specs.Seat.{seat_ended, seat_heard, thrice_halved};
 ghost use Rattle.bac_poller.specs.Seat.{seat_read};
 ghost use Rattle.bac_poller.specs.Site.{IsNearest, MayAct, NoneActs};
 
-use crate::counts::Counts;
-use crate::ending::ended_line;
-use crate::log_poller::{Doing, Ending, LogPoller};
+use crate::log_poller::{Doing, LogPoller};
+use bac_device_poller::{Counts, Ending, awaits, close, ended_line};
 use bac_keep::Place;
-use bac_link::{Received, Timeout, Transactions};
 use bac_poll::{LogPoll, PollEnd};
 use bac_walk::{Count, WalkFault};
 use bac_wire::Datagram;
@@ -82,24 +79,6 @@ pub fn is_lost(why: Ending) -> bool
         Ending::Poll(PollEnd::Fault(WalkFault::BadReply)) => false,
         Ending::Epochs => false,
         Ending::NotAsked => false,
-    }
-}
-
-/// Closes what is open, whatever repeats are left: none of them is sent.
-fn close(transactions: &mut Transactions)
-    ensures { transactions.new ≡ closed transactions.old }
-{
-    while let Timeout::Resend(_) = transactions.timeout() {}
-}
-
-/// Whether a datagram answers the open request.
-fn awaits(transactions: &Transactions, octets: &[u8]) -> bool
-    ensures { result ≡ is_awaited transactions.now.pending octets.now }
-{
-    let mut copy = transactions.copy();
-    match copy.receive(octets) {
-        Received::Done(_) => true,
-        Received::Ignored => false,
     }
 }
 

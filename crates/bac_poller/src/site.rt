@@ -11,17 +11,17 @@ ghost use Rattle.bac_poller.specs.Site.{IsActed, IsAsked, IsNextAsked, IsToldBy,
 ghost use Rattle.bac_poller.specs.Site.{NoneAsked};
 ghost use Rattle.bac_poller.specs.Site.{Rests, Tells, fresh_site, put, site_heard, site_read};
 
-use crate::ending::is_caught_up;
 use crate::hosts::{
     Host, answer_all, half_of, host_at, is_answered, is_loss, least_of, limit_of, set_limit,
     slow_all,
 };
 use crate::limits::Limits;
-use crate::log_poller::{Doing, Ending};
+use crate::log_poller::Doing;
 use crate::news::{News, news_line};
 use crate::seat::{
     Seat, acting, count_at, count_first, hear_all, is_known, is_lost, nearest, notice_all, read_all,
 };
+use bac_device_poller::{Ending, is_caught_up};
 use bac_drive::{Machine, Next};
 use bac_ports::{Heard, SocketFault};
 use bac_wire::Datagram;

@@ -1,10 +1,11 @@
 //! Sites whose devices answer, don't, or don't answer for one of their logs.
 
+use bac_device_poller::Counts;
 use bac_drive::{Machine, Next};
 use bac_keep::Place;
 use bac_link::Transactions;
 use bac_poll::{LogPoll, Told};
-use bac_poller::{Counts, Doing, Limits, LogPoller, LogTask, Presence, Seat, SitePoll};
+use bac_poller::{Doing, Limits, LogPoller, LogTask, Presence, Seat, SitePoll};
 use bac_ports::{Heard, SocketFault};
 use bac_walk::Count;
 use bac_wire::{Datagram, ObjectId};

@@ -1,7 +1,7 @@
 use Rattle.std.proofs.Common.{◌≡◌, ◌∙◌, ℕ, ap}
 use Rattle.bac_poll.specs.State.{PollState}
 use Rattle.bac_poller.specs.Seat.{begun_poll, doing_begun, lowered}
-use Rattle.bac_poller.specs.declared.counts.Counts.{Counts}
+use Rattle.bac_device_poller.specs.declared.counts.Counts.{Counts}
 use Rattle.bac_poller.specs.declared.log_poller.Doing.{Doing}
 use Rattle.bac_poller.specs.declared.seat.Seat.{Seat}
 use Rattle.bac_poller.proofs.seat.Seat.begin.Goals as goal

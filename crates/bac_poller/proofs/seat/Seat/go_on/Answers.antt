@@ -1,5 +1,5 @@
 use Rattle.std.proofs.Common.{◌∙◌, ◌∷◌, ap, sym}
-use Rattle.bac_poller.specs.Counts.{no_counts}
+use Rattle.bac_device_poller.specs.Counts.{no_counts}
 use Rattle.bac_poller.specs.Seat.{begun, doing_begun}
 use Rattle.bac_poller.specs.declared.seat.Seat.{Seat}
 use Rattle.bac_poller.proofs.seat.Seat.go_on.Goals as goal

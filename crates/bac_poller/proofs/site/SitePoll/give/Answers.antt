@@ -1,6 +1,6 @@
 use Rattle.std.proofs.Common.{◌∙◌, ap}
 use Rattle.bac_poller.specs.Site.{SiteState, put}
-use Rattle.bac_poller.specs.declared.counts.Counts.{Counts}
+use Rattle.bac_device_poller.specs.declared.counts.Counts.{Counts}
 use Rattle.bac_poller.proofs.site.SitePoll.give.Goals as goal
 
 pub returns : goal.returns

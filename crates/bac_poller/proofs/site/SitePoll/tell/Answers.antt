@@ -1,5 +1,5 @@
 use Rattle.std.proofs.Common.{ℕ, Bool, List, subst}
-use Rattle.bac_poller.specs.Ending.{is_caught_up}
+use Rattle.bac_device_poller.specs.Ending.{is_caught_up}
 use Rattle.bac_poller.specs.Site.{GoesOn, IsToldBy}
 use Rattle.bac_poller.specs.declared.seat.Seat.{Seat}
 use Rattle.bac_poller.proofs.site.SitePoll.tell.Goals as goal

@@ -1,0 +1,90 @@
+-- What is told of a log: while it is polled, and how that ended.
+use Rattle.std.specs.Prelude.{ℕ, ◌-◌, ◌==◌, nat_lt, Bool, true, false, if◌then◌else◌, codes, decimal, List, [], ◌∷◌}
+use Rattle.std.specs.Prelude.{◌++◌}
+use Rattle.bac_query.specs.Ends.{refusal_text}
+use Rattle.bac_walk.specs.declared.outcome.WalkFault.TheVariants.{BadReply, Lost, Refused}
+use Rattle.bac_poll.specs.Turns.{number_before}
+use Rattle.bac_poll.specs.declared.turn.Line.{Line}
+use Rattle.bac_poll.specs.declared.turn.Line.TheVariants.{AtHour, AtHourOrBegan, BeganAnew, BeganOrDropped}
+use Rattle.bac_poll.specs.declared.turn.Line.TheVariants.{DroppedOrBegan}
+use Rattle.bac_poll.specs.declared.turn.PollEnd.TheVariants.{CaughtUp, Contradicts, Fault, NoneByNumber}
+use Rattle.bac_poll.specs.declared.turn.PollEnd.TheVariants.{SaysMore, ShowsNone}
+use Rattle.bac_device_poller.specs.declared.counts.Counts.{Counts}
+use Rattle.bac_device_poller.specs.declared.ending.Ending.{Ending}
+use Rattle.bac_device_poller.specs.declared.ending.Ending.TheVariants.{Poll, Epochs, NotAsked}
+
+-- so many quarter hours from those on record
+abbrev pub earlier_text : ℕ → List ℕ
+earlier_text count = codes "shown " ++ (decimal count ++ codes " quarter hours earlier")
+
+-- so many later
+abbrev pub later_text : ℕ → List ℕ
+later_text count = codes "shown " ++ (decimal count ++ codes " quarter hours later")
+
+-- at another hour, by so many quarter hours later, and a hundred
+abbrev pub hour_text : ℕ → List ℕ
+hour_text by = if nat_lt by 100 then earlier_text (100 - by) else later_text (by - 100)
+
+-- no number is missing, and the log may have begun anew
+abbrev pub on_text : ℕ → List ℕ
+on_text first = codes "goes on at " ++ (decimal first ++ codes ", or began anew")
+
+-- a gap that may be none
+abbrev pub gone_text : ℕ → ℕ → List ℕ
+gone_text first last =
+    codes "dropped " ++ (decimal first ++ (codes " to " ++ (decimal last ++ codes ", or began anew")))
+
+-- by the numbers from which and up to which it is
+abbrev pub doubt_line : ℕ → ℕ → List ℕ
+doubt_line first before = if first == before then on_text first else gone_text first (number_before before)
+
+-- what is told while it is polled
+abbrev pub line_text : Line → List ℕ
+line_text (AtHour by) = hour_text by
+line_text (AtHourOrBegan by) = hour_text by ++ codes ", or began anew"
+line_text BeganAnew = codes "began anew"
+line_text BeganOrDropped = codes "began anew, or dropped records"
+line_text (DroppedOrBegan first before) = doubt_line first before
+
+-- how its poll ended
+abbrev pub ending_text : Ending → List ℕ
+ending_text (Poll CaughtUp) = codes "caught up"
+ending_text (Poll SaysMore) = codes "shows no more, though it says that more is there"
+ending_text (Poll ShowsNone) = codes "shows no record, and refuses its count"
+ending_text (Poll NoneByNumber) = codes "shows no record by number, and more by time than it can send at once"
+ending_text (Poll Contradicts) = codes "its records contradict each other"
+ending_text (Poll (Fault Lost)) = codes "lost"
+ending_text (Poll (Fault (Refused refusal))) = refusal_text refusal
+ending_text (Poll (Fault BadReply)) = codes "bad reply"
+ending_text Epochs = codes "began anew once too often"
+ending_text NotAsked = codes "not asked"
+
+-- the lines of a log with this name
+abbrev pub told_line : List ℕ → Line → List ℕ
+told_line name line = name ++ (codes ": " ++ (line_text line ++ 10 ∷ []))
+
+-- a number, and what is counted
+abbrev pub counted_text : ℕ → (one : List ℕ) → (many : List ℕ) → List ℕ
+counted_text n one many = decimal n ++ (if n == 1 then one else many)
+
+-- how much was kept of a log, how its poll ended, and the number that comes next
+abbrev pub summary_text : Counts → Ending → (next : ℕ) → List ℕ
+summary_text kept why next =
+    counted_text kept.records (codes " record ") (codes " records ")
+    ++ (counted_text kept.gaps (codes " gap ") (codes " gaps ")
+    ++ (ending_text why ++ (codes ", next " ++ decimal next)))
+
+-- the line of a log whose poll has ended so
+abbrev pub ended_line : List ℕ → Counts → Ending → (next : ℕ) → List ℕ
+ended_line name kept why next = name ++ (32 ∷ (summary_text kept why next ++ 10 ∷ []))
+
+-- whether a log is caught up
+abbrev pub is_caught_up : Ending → Bool
+is_caught_up (Poll CaughtUp) = true
+is_caught_up (Poll SaysMore) = false
+is_caught_up (Poll ShowsNone) = false
+is_caught_up (Poll NoneByNumber) = false
+is_caught_up (Poll Contradicts) = false
+is_caught_up (Poll (Fault fault)) = false
+is_caught_up Epochs = false
+is_caught_up NotAsked = false

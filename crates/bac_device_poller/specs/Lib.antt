@@ -1,0 +1,11 @@
+pub mod Puts
+pub mod Counts
+pub mod Ending
+pub mod Ids
+pub mod Rows
+pub mod Naming
+pub mod Telling
+pub mod Entries
+pub mod Turns
+pub mod Poller
+pub mod Laws

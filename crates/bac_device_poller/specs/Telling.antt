@@ -1,0 +1,78 @@
+-- The lines of a device, beside those of its logs' polls.
+use Rattle.std.specs.Prelude.{◌≡◌, ℕ, Bool, true, false, codes, decimal, List, [], ◌∷◌, ◌++◌, Option, None, Some}
+use Rattle.bac_wire.specs.Primitive.{Id}
+use Rattle.bac_drive.specs.declared.machine.Next.{Next}
+use Rattle.bac_drive.specs.declared.machine.Next.TheVariants as next
+use Rattle.bac_device_poll.specs.declared.entry.Others.{Others}
+use Rattle.bac_device_poll.specs.declared.who.Who.{Who}
+use Rattle.bac_device_poll.specs.declared.who.Who.TheVariants.{Address, Device, Name}
+
+-- a line; whether it is of a log that is caught up, or of what is new
+pub record LineAs : Type 0 where
+  pub good : Bool
+  pub text : List ℕ
+
+-- it is told: such a line is printed, any other goes to the errors
+abbrev pub IsToldBy : Bool → List ℕ → Next → Type 0
+IsToldBy true text (next.Print line) = line.items ≡ text
+IsToldBy false text (next.Warn line) = line.items ≡ text
+IsToldBy good text other = ⊥
+
+-- how lines call a log of a device that they call so
+abbrev pub log_called : (device : List ℕ) → Id → List ℕ
+log_called device log = device ++ (32 ∷ decimal log.instance)
+
+-- ---- what a device tells of itself
+
+-- by what one tells who it is
+abbrev pub who_text : Who → List ℕ
+who_text (Device id) = decimal id.instance
+who_text (Name name) = name
+who_text Address = codes "one without a name"
+
+-- the instance on record, if there is one
+abbrev pub not_text : Option ℕ → List ℕ
+not_text None = []
+not_text (Some was) = codes ", not " ++ decimal was
+
+-- what the device on record doesn't tell any more
+abbrev pub that_text : Option ℕ → List ℕ
+that_text None = codes "its name"
+that_text (Some was) = codes "that it is " ++ decimal was
+
+-- which one, and which is on record
+unfoldable pub other_text : Who → Option ℕ → List ℕ
+other_text who was = who_text who ++ not_text was
+
+-- another device answers
+abbrev pub another_line : List ℕ → Who → Option ℕ → List ℕ
+another_line device who was = device ++ (codes ": another device answers: " ++ (other_text who was ++ 10 ∷ []))
+
+-- the device doesn't tell that it is the one on record
+abbrev pub untold_line : List ℕ → Option ℕ → List ℕ
+untold_line device was = device ++ (codes ": the device doesn't tell " ++ (that_text was ++ 10 ∷ []))
+
+-- it has objects whose records aren't kept
+abbrev pub others_line : List ℕ → Others → List ℕ
+others_line device others =
+    device
+    ++ (codes ": not kept: " ++ (decimal others.multiple
+    ++ (codes " Trend Log Multiple, " ++ (decimal others.event ++ codes " Event Log\n"))))
+
+-- none of its questions was answered
+abbrev pub silent_line : List ℕ → List ℕ
+silent_line device = device ++ codes ": no answer\n"
+
+-- ---- its logs
+
+-- one is new
+abbrev pub new_line : List ℕ → List ℕ
+new_line called = called ++ codes " is new\n"
+
+-- no id is left for it
+abbrev pub full_line : List ℕ → List ℕ
+full_line called = called ++ codes " is new, and no id is left for it\n"
+
+-- one isn't asked
+abbrev pub not_asked_line : List ℕ → List ℕ
+not_asked_line called = called ++ codes " not asked\n"

@@ -1,0 +1,232 @@
+//! What a turn of a log brings is put and told.
+
+ghost use Rattle.std.specs.Prelude.{◌≡◌, IfOk, OnOk, Some, map, option_copied, option_map};
+ghost use Rattle.bac_poll.specs.State.{PollState, told_as};
+ghost use Rattle.bac_poll.specs.Turns.{turned};
+ghost use Rattle.bac_device_poll.specs.Turns.{of_log};
+ghost use Rattle.bac_device_poller.specs.Entries.{log_in, without};
+ghost use Rattle.bac_device_poller.specs.Puts.{place_as, put_as};
+ghost use Rattle.bac_device_poller.specs.Turns.{IsPlaced, TakesLog, TakesOf, counts_behind};
+ghost use Rattle.bac_device_poller.specs.Turns.{ending_of, keeping};
+ghost use Rattle.bac_device_poller.specs.Turns.{retelling, telling_any_end, telling_end};
+ghost use Rattle.bac_device_poller.specs.Turns.{telling_line, telling_turn};
+
+use crate::counts::Counts;
+use crate::ending::{Ending, ended_line, is_caught_up, told_line};
+use crate::log_record::LogRecord;
+use crate::putting::{NotPut, put_turn};
+use crate::rows::Rows;
+use bac_archive3::Put;
+use bac_device_poll::Polled;
+use bac_keep::Place;
+use bac_poll::{Line, LogPoll, PollEnd, Told, Turn};
+use std::alloc::{AllocError, Global};
+
+// What a turn puts, from a place on, and where the next row stands then.
+fn placed(
+    alloc: Global,
+    place: Option<Place>,
+    turn: &Turn,
+) -> Result<(Option<Place>, Vec<Put>), AllocError>
+    ensures { IfOk result (λ placed. (p : PollState) → IsPlaced (option_map place_as place)
+        (turned p turn.now) (option_map place_as placed.0) (map put_as placed.1.items)) }
+{
+    let Some(place) = place else {
+        return Ok((None, Vec::new(alloc)));
+    };
+    match put_turn(alloc, place, turn) {
+        Ok((behind, puts)) => Ok((Some(behind), puts)),
+        Err(NotPut::Memory) => Err(AllocError),
+        Err(NotPut::Epochs) => Ok((None, Vec::new(alloc))),
+    }
+}
+
+impl LogRecord {
+    // What a turn of it puts, and where its next row stands then.
+    fn placed(&self, alloc: Global, turn: &Turn) -> Result<(Option<Place>, Vec<Put>), AllocError>
+        ensures { IfOk result (λ placed. (p : PollState) → IsPlaced self.now.place
+            (turned p turn.now) (option_map place_as placed.0) (map put_as placed.1.items)) }
+    {
+        placed(alloc, self.place, turn)
+    }
+
+    // Its next row stands there.
+    fn set_place(&mut self, place: Option<Place>)
+        ensures { self.new ≡ record self.old { place = option_map place_as place } }
+    {
+        self.place = place;
+    }
+
+    // How its lines call it.
+    fn called(&self) -> &[u8]
+        ensures { result.now ≡ self.now.called }
+    {
+        self.called.as_slice()
+    }
+}
+
+// How the poll of a log ended.
+fn ending_of(behind: Option<Place>, why: PollEnd) -> Ending
+    ensures { result ≡ ending_of (option_map place_as behind) why }
+{
+    match behind {
+        Some(_) => Ending::Poll(why),
+        None => Ending::Epochs,
+    }
+}
+
+// What was kept of a log with a turn.
+fn counts_behind(kept: Counts, behind: Option<Place>, turn: &Turn) -> Counts
+    ensures { (p : PollState) → result
+        ≡ counts_behind (option_map place_as behind) (turned p turn.now) kept }
+{
+    match behind {
+        Some(_) => kept.with_turn(turn),
+        None => kept,
+    }
+}
+
+impl Rows {
+    // Rows of a turn are to be put.
+    fn keep(&mut self, behind: Option<Place>, puts: Vec<Put>, turn: &Turn) -> Result<(), AllocError>
+        ensures { OnOk result ((p : PollState) → self.new
+            ≡ keeping self.old (option_map place_as behind) (map put_as puts.items)
+            (turned p turn.now)) }
+    {
+        self.kept = counts_behind(self.kept, behind, turn);
+        let mut puts = puts;
+        self.puts.append(&mut puts)?;
+        Ok(())
+    }
+
+    // A log stands on record so, and its word is this.
+    fn retell(&mut self, alloc: Global, held: LogRecord, word: &Told) -> Result<(), AllocError>
+        ensures { OnOk result (self.new ≡ retelling self.old held (told_as word.now)) }
+    {
+        if held.has_word(word) {
+            return self.add(held);
+        }
+        let mut held = held;
+        held.set_word(alloc, word)?;
+        self.put_log(alloc, held)
+    }
+
+    // What is told while a log is polled.
+    fn tell_line(
+        &mut self,
+        alloc: Global,
+        called: &[u8],
+        line: Option<Line>,
+    ) -> Result<(), AllocError>
+        ensures { OnOk result (self.new ≡ telling_line self.old called.now line) }
+    {
+        match line {
+            Some(line) => {
+                let text = told_line(alloc, called, line)?;
+                self.tell(false, text)
+            }
+            None => Ok(()),
+        }
+    }
+
+    // How that ended.
+    fn tell_end(
+        &mut self,
+        alloc: Global,
+        called: &[u8],
+        why: Ending,
+        next: u32,
+    ) -> Result<(), AllocError>
+        ensures { OnOk result (self.new ≡ telling_end self.old called.now why next) }
+    {
+        let text = ended_line(alloc, called, self.kept, why, next)?;
+        self.kept = Counts::none();
+        self.tell(is_caught_up(why), text)
+    }
+
+    // If it has.
+    fn tell_any_end(
+        &mut self,
+        alloc: Global,
+        called: &[u8],
+        behind: Option<Place>,
+        end: Option<PollEnd>,
+        next: u32,
+    ) -> Result<(), AllocError>
+        ensures { OnOk result (self.new
+            ≡ telling_any_end self.old called.now (option_map place_as behind) end next) }
+    {
+        match end {
+            Some(why) => self.tell_end(alloc, called, ending_of(behind, why), next),
+            None => Ok(()),
+        }
+    }
+
+    // The lines of a turn.
+    fn tell_turn(
+        &mut self,
+        alloc: Global,
+        called: &[u8],
+        behind: Option<Place>,
+        poll: &LogPoll,
+        turn: &Turn,
+    ) -> Result<(), AllocError>
+        ensures { OnOk result (self.new
+            ≡ telling_turn self.old called.now (option_map place_as behind)
+            (turned poll.now turn.now)) }
+    {
+        self.tell_line(alloc, called, turn.line)?;
+        self.tell_any_end(alloc, called, behind, turn.end, poll.next())
+    }
+
+    // A log that is on record has a turn.
+    fn take_turn(
+        &mut self,
+        alloc: Global,
+        held: LogRecord,
+        poll: &LogPoll,
+        turn: &Turn,
+    ) -> Result<(), AllocError>
+        ensures { OnOk result (TakesOf (Some held) self.old (turned poll.now turn.now) self.new) }
+    {
+        let (behind, puts) = held.placed(alloc, turn)?;
+        self.keep(behind, puts, turn)?;
+        self.tell_turn(alloc, held.called(), behind, poll, turn)?;
+        let mut held = held;
+        held.set_place(behind);
+        self.retell(alloc, held, poll.word())?;
+        Ok(())
+    }
+
+    // A log has one, if it is on record.
+    fn turn_of(&mut self, alloc: Global, polled: &Polled, turn: &Turn) -> Result<(), AllocError>
+        ensures { OnOk result (TakesOf (log_in polled.now.log self.old.logs)
+            (without polled.now.log self.old) (turned polled.now.poll turn.now) self.new) }
+    {
+        match self.take(polled.log) {
+            Some(held) => {
+                self.take_turn(alloc, held, &polled.poll, turn)?;
+                Ok(())
+            }
+            None => Ok(()),
+        }
+    }
+
+    /// The log that is polled has a turn, if there is one.
+    pub(crate) fn take_log(
+        &mut self,
+        alloc: Global,
+        polled: Option<&Polled>,
+        turn: &Option<Turn>,
+    ) -> Result<(), AllocError>
+        ensures { OnOk result (TakesLog (of_log turn.now (option_copied polled.entry))
+            (option_copied polled.entry) self.old self.new) }
+    {
+        match (polled, turn) {
+            (Some(polled), Some(turn)) => self.turn_of(alloc, polled, turn),
+            (Some(_), None) => Ok(()),
+            (None, Some(_)) => Ok(()),
+            (None, None) => Ok(()),
+        }
+    }
+}
