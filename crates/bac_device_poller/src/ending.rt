@@ -1,7 +1,8 @@
 //! The lines of a log: what is told while it is polled, and how that ended.
 
 ghost use Rattle.std.specs.Prelude.{◌≡◌, ◌++◌, IfOk, OnOk};
-ghost use Rattle.bac_device_poller.specs.Ending.{counted_text, doubt_line, earlier_text, ended_line};
+ghost use Rattle.bac_device_poller.specs.Ending.{counted_text, doubt_line, earlier_text};
+ghost use Rattle.bac_device_poller.specs.Ending.{ended_line};
 ghost use Rattle.bac_device_poller.specs.Ending.{ending_text, gone_text, hour_text, is_caught_up};
 ghost use Rattle.bac_device_poller.specs.Ending.{later_text};
 ghost use Rattle.bac_device_poller.specs.Ending.{line_text, on_text, summary_text, told_line};

@@ -2,7 +2,8 @@
 
 ghost use Rattle.std.specs.Prelude.{◌≡◌, IfOk, OnOk, Some, false};
 ghost use Rattle.bac_device_poller.specs.Entries.{added_as, adding, log_in, new_log, renaming};
-ghost use Rattle.bac_device_poller.specs.Entries.{putting_device, telling, with_entries, with_entry, without};
+ghost use Rattle.bac_device_poller.specs.Entries.{putting_device, telling, with_entries};
+ghost use Rattle.bac_device_poller.specs.Entries.{with_entry, without};
 ghost use Rattle.bac_device_poller.specs.Ids.{free_id};
 ghost use Rattle.bac_device_poller.specs.Naming.{known_as, offset_of};
 ghost use Rattle.bac_device_poller.specs.Telling.{another_line, full_line, log_called};

@@ -4,7 +4,8 @@ ghost use Rattle.std.specs.Prelude.{◌≡◌, IfOk, OnOk};
 ghost use Rattle.std.specs.Str.{bytes_eq};
 ghost use Rattle.bac_archive3.specs.Put.{log_columns};
 ghost use Rattle.bac_poll.specs.State.{told_as};
-ghost use Rattle.bac_device_poller.specs.Naming.{has_word, is_revision, named_as, source_or, text_or, units_or};
+ghost use Rattle.bac_device_poller.specs.Naming.{has_word, is_revision, named_as, source_or};
+ghost use Rattle.bac_device_poller.specs.Naming.{text_or, units_or};
 ghost use Rattle.bac_device_poller.specs.Naming.{with_word};
 ghost use Rattle.bac_device_poller.specs.Rows.{columns_of_log};
 

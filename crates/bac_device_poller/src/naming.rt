@@ -2,7 +2,8 @@
 
 ghost use Rattle.std.specs.Prelude.{◌≡◌, ◌++◌, IfOk, OnOk};
 ghost use Rattle.bac_query.specs.Sources.{device_text, index_text, object_text};
-ghost use Rattle.bac_device_poller.specs.Naming.{moment_text, offset_of, reference_text, seconds_of};
+ghost use Rattle.bac_device_poller.specs.Naming.{moment_text, offset_of, reference_text};
+ghost use Rattle.bac_device_poller.specs.Naming.{seconds_of};
 ghost use Rattle.bac_device_poller.specs.Naming.{units_text};
 ghost use Rattle.bac_device_poller.specs.Rows.{text_as, text_value};
 

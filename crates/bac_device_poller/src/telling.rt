@@ -3,7 +3,8 @@
 ghost use Rattle.std.specs.Prelude.{◌≡◌, ◌++◌, IfOk, OnOk};
 ghost use Rattle.bac_device_poller.specs.Telling.{IsToldBy, another_line, full_line, log_called};
 ghost use Rattle.bac_device_poller.specs.Telling.{new_line, not_asked_line, not_text, other_text};
-ghost use Rattle.bac_device_poller.specs.Telling.{others_line, silent_line, that_text, untold_line, who_text};
+ghost use Rattle.bac_device_poller.specs.Telling.{others_line, silent_line, that_text, untold_line};
+ghost use Rattle.bac_device_poller.specs.Telling.{who_text};
 
 use bac_device_poll::{Others, Who};
 use bac_drive::Next;
