@@ -107,21 +107,21 @@ impl LogPoller {
     {
         match verdict {
             Verdict::Ack => self.poll.take(alloc, datagram),
-            Verdict::Refused(refusal) => Ok(self.refuse(refusal)),
-            Verdict::BadReply => Ok(Turn::ends(PollEnd::Fault(WalkFault::BadReply))),
+            Verdict::Refused(refusal) => Ok(self.refuse(alloc, refusal)),
+            Verdict::BadReply => Ok(Turn::ends(alloc, PollEnd::Fault(WalkFault::BadReply))),
         }
     }
 
     // What a refusal of records makes of it.
-    fn refuse(&mut self, why: Refusal) -> Turn
+    fn refuse(&mut self, alloc: Global, why: Refusal) -> Turn
         ensures refused { turned self.new.poll result ≡ refused self.old.poll why }
         ensures rest { self.new ≡ record self.old { poll = self.new.poll } }
     {
         if is_too_long(why) && self.poll.count().number() > 1 {
             self.poll.too_many();
-            return asks();
+            return asks(alloc);
         }
-        Turn::ends(PollEnd::Fault(WalkFault::Refused(why)))
+        Turn::ends(alloc, PollEnd::Fault(WalkFault::Refused(why)))
     }
 
     // What one to the question for a count makes of it.
@@ -332,10 +332,10 @@ fn is_too_long(why: Refusal) -> bool
 }
 
 // The next question is asked, and nothing is brought.
-fn asks() -> Turn
+fn asks(alloc: Global) -> Turn
     ensures { (p : PollState) → turned p result ≡ asks p }
 {
-    let mut turn = Turn::ends(PollEnd::CaughtUp);
+    let mut turn = Turn::ends(alloc, PollEnd::CaughtUp);
     turn.end = None;
     turn
 }
