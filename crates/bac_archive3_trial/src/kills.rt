@@ -1,4 +1,4 @@
-//! Files in memory, and what a kill at each call on one of them leaves of a batch, or a full disk.
+//! Files in memory, and what a kill at each call on one of them leaves of a batch.
 //!
 //! A process that is killed leaves what it had written, and a machine that stops what was synced.
 //! Either way the next run has to find what was there before the batch, or all of it; all, once the
@@ -8,7 +8,6 @@ use crate::jobs::{all_of, take};
 use crate::text::failed;
 use crate::why::Why;
 use bac_archive3::{Put, Refused, put};
-use bac_files::Limited;
 use sqlite::{Alter, Connection, Error, Files, Options};
 use sqlite_disk::{Crash, Disk, Fuse, Memory};
 use std::alloc::Global;
@@ -137,14 +136,11 @@ impl Found {
     }
 }
 
-/// What ends a run: its process is killed, or the machine stops, at a call on one of the files; or
-/// one may have only so many octets.
+/// What ends a run: its process is killed, or the machine stops, at a call on one of the files.
 #[derive(Clone, Copy)]
 pub(crate) enum End {
     KilledAtLog,
     KilledAtDatabase,
-    FullLog,
-    FullDatabase,
 }
 
 /// A run whose files fail from these calls on, and what is left where its process was killed, or
@@ -169,23 +165,6 @@ fn fused(
     Ok(done.is_ok())
 }
 
-/// A run whose files may have only so many octets, and what is left. Whether it ended well.
-fn limited(
-    alloc: Global,
-    files: Files<Memory>,
-    batch: &[Put],
-    most: (Option<u64>, Option<u64>),
-    found: &mut Found,
-) -> Result<bool, Why> {
-    let files = Files {
-        log: Limited::new(files.log, most.0),
-        db: Limited::new(files.db, most.1),
-    };
-    let (done, files) = put_over(alloc, files, batch);
-    found.note(stood_over(alloc, files)?.as_str(), done);
-    Ok(done.is_ok())
-}
-
 /// A run that is ended so, at this step.
 fn ended(
     alloc: Global,
@@ -195,12 +174,9 @@ fn ended(
     batch: &[Put],
     found: &mut Found,
 ) -> Result<bool, Why> {
-    let octets = step.saturating_mul(1024);
     match end {
         End::KilledAtLog => fused(alloc, files, batch, (step, u64::MAX), found),
         End::KilledAtDatabase => fused(alloc, files, batch, (u64::MAX, step), found),
-        End::FullLog => limited(alloc, files, batch, (Some(octets), None), found),
-        End::FullDatabase => limited(alloc, files, batch, (None, Some(octets)), found),
     }
 }
 

@@ -101,8 +101,6 @@ fn end_of(word: &str) -> Result<End, Why> {
     match word {
         "killed-at-log" => Ok(End::KilledAtLog),
         "killed-at-database" => Ok(End::KilledAtDatabase),
-        "full-log" => Ok(End::FullLog),
-        "full-database" => Ok(End::FullDatabase),
         _ => Err(Why::Line),
     }
 }
