@@ -7,3 +7,12 @@ pub mod Quiet
 pub mod Losses
 pub mod Came
 pub mod Logged
+pub mod Captured
+pub mod Exchange
+pub mod Statuses
+pub mod Once
+pub mod Finds
+pub mod Serves
+pub mod Jobs
+pub mod Kept
+pub mod Lists

@@ -1,3 +1,9 @@
 pub mod Sends
 pub mod Lost
 pub mod Printed
+pub mod Events
+pub mod Asked
+pub mod Found
+pub mod Served
+pub mod Rows
+pub mod Listed

@@ -1,0 +1,145 @@
+-- What `run` does for the words of a tool, as events.
+use Rattle.std.proofs.Common.{◌≡◌, ◌≢◌, ℕ, Bool, List, [], Option, inl, inr, refl}
+use Rattle.sqlite_disk.specs.declared.Disk as disk
+use Rattle.sqlite_disk.specs.declared.start.Start as start
+use Rattle.bac_fetch.specs.Ahead.{AtOnce}
+use Rattle.bac_files.specs.Files.{FileOf}
+use Rattle.bac_files.specs.Parts.{PartRules}
+use Rattle.bac_files.specs.declared.disk_files.DiskFiles.{DiskFiles}
+use Rattle.bac_heeding.specs.Ports.{Event}
+use Rattle.bac_heeding.specs.declared.notes.Passed.{Passed}
+use Rattle.bac_laws.proofs.Captured.{captured_behind, nothing_captured}
+use Rattle.bac_laws.proofs.Finds.{wi, wi_nothing}
+use Rattle.bac_laws.proofs.Lists.{logs}
+use Rattle.bac_laws.proofs.Once.{rp_all, wp}
+use Rattle.bac_laws.proofs.Serves.{serve, serve_nothing}
+use Rattle.bac_laws.proofs.Statuses.{told_fails}
+use Rattle.bac_laws.specs.Asked.{PrintsWhatCame, ReadsOnce, WritesOnce}
+use Rattle.bac_laws.specs.Events.{IsCaptured}
+use Rattle.bac_laws.specs.Found.{FindsWhatCame}
+use Rattle.bac_laws.specs.Listed.{ListsWhatCame}
+use Rattle.bac_laws.specs.Served.{AnswersOnly}
+use Rattle.bac_ports.specs.Sockets.{SocketRules}
+use Rattle.bac_print.specs.Output.{Held}
+use Rattle.bac_run.specs.Run.{RunsAll}
+use Rattle.bac_tools.specs.Run.{Runs}
+use Rattle.bac_tools.specs.Streams.{Streams, outside_of, pipes_of, streams, with_errors}
+use Rattle.bac_tools.specs.declared.fault.Fault.TheVariants as fault
+use Rattle.bac_wire.specs.Stamp.{CivilTime}
+use Rattle.bac_words.specs.Jobs.{is_traced}
+use Rattle.bac_words.specs.declared.job.Discovery.{Discovery}
+use Rattle.bac_words.specs.declared.job.Job.{Job}
+use Rattle.bac_words.specs.declared.job.Job.TheVariants as job
+use Rattle.bac_words.specs.declared.job.LogListing.{LogListing}
+use Rattle.bac_words.specs.declared.job.PropertyReading.{PropertyReading}
+use Rattle.bac_words.specs.declared.job.PropertyWriting.{PropertyWriting}
+use Rattle.bac_words.specs.declared.job.ServedDevice.{ServedDevice}
+
+module _ {S P : Type 0} (rules : SocketRules S P) (switches : S → Bool → S → Type 0) where
+  -- what a tool does over its sockets and its output, and how it ends
+  abbrev Of : (List Event → Held → Held → ℕ → Type 0) → S → S → Held → Held → ℕ → Type 0
+  Of law old new before after status = (es : List Event) × IsCaptured rules switches old new es × law es before after status
+
+  module _ {C : Type 0} (passes : S → Passed) (tells : C → Option CivilTime → C → Type 0) where
+    wp_runs : (said : PropertyWriting) (old : Streams S C) (status : ℕ) (new : Streams S C) → Runs rules passes tells (job.Wp said) old status new
+        → Of (WritesOnce said) old.sockets new.sockets old.output new.output status
+    wp_runs said old status new (inl (told, keeps, (input, same, clock))) =
+        ([], nothing_captured rules switches old.sockets new.sockets same, inl (refl, keeps, told_fails fault.Memory old.errors new.errors status told))
+    wp_runs said old status new (inr (result, errors, (is, quiet, unread), ends)) =
+        wp rules switches said (passes new.sockets) (outside_of old) result (outside_of (with_errors errors new)) errors new.errors status is ends
+
+    rp_runs : (said : PropertyReading) (old : Streams S C) (status : ℕ) (new : Streams S C) → Runs rules passes tells (job.Rp said) old status new
+        → Of (λ es before after status. ReadsOnce said es before after status × (status ≡ 0 → PrintsWhatCame said es before after))
+        old.sockets new.sockets old.output new.output status
+    rp_runs said old status new (inl (told, keeps, (input, same, clock))) =
+        let more = told_fails fault.Memory old.errors new.errors status told in
+        ([], nothing_captured rules switches old.sockets new.sockets same, (inl (refl, keeps, more), λ is. absurd (more is)))
+    rp_runs said old status new (inr (result, errors, (is, quiet, unread), ends)) =
+        rp_all rules switches said (passes new.sockets) (outside_of old) result (outside_of (with_errors errors new)) errors new.errors status is ends
+
+    wi_runs : (said : Discovery) (old : Streams S C) (status : ℕ) (new : Streams S C) → Runs rules passes tells (job.Wi said) old status new
+        → Of (FindsWhatCame said) old.sockets new.sockets old.output new.output status
+    wi_runs said old status new (inl (told, keeps, (input, same, clock))) = (
+      [],
+      nothing_captured rules switches old.sockets new.sockets same,
+      wi_nothing rules switches said old.output new.output status keeps (told_fails fault.Memory old.errors new.errors status told),
+    )
+    wi_runs said old status new (inr (result, errors, (is, quiet), ends)) =
+        wi rules switches (passes new.sockets) said (pipes_of old) result (pipes_of (with_errors errors new)) errors new.errors status is ends
+
+    serve_runs : (said : ServedDevice) (old : Streams S C) (status : ℕ) (new : Streams S C) → Runs rules passes tells (job.Serve said) old status new
+        → Of (AnswersOnly said) old.sockets new.sockets old.output new.output status
+    serve_runs said old status new (inl (told, keeps, (input, same, clock))) =
+        serve_nothing rules switches tells said old.sockets new.sockets old.output new.output status
+        (nothing_captured rules switches old.sockets new.sockets same) keeps (told_fails fault.Memory old.errors new.errors status told)
+    serve_runs said old status new (inr (result, errors, (is, keeps), ends)) =
+        serve rules switches tells (passes new.sockets) said old result (with_errors errors new) errors new.errors status is keeps ends
+
+    logs_runs : (said : LogListing) → said.instances ≢ [] → (old : Streams S C) (status : ℕ) (new : Streams S C)
+        → Runs rules passes tells (job.Logs said) old status new → status ≡ 0
+        → (es : List Event) × IsCaptured rules switches old.sockets new.sockets es × ListsWhatCame said es old.output new.output
+    logs_runs said named old status new (inl (told, keeps, untouched)) none = absurd (told_fails fault.Memory old.errors new.errors status told none)
+    logs_runs said named old status new (inr (result, errors, (is, quiet, unread), ends)) none =
+        logs rules switches said named (passes new.sockets) (outside_of old) result (outside_of (with_errors errors new)) errors new.errors status is ends none
+
+module _ {S C P F G T Q : Type 0} {s : start.Ghosts F} {t : start.Ghosts G} (g : disk.Ghosts (FileOf s))
+    (h : disk.Ghosts (FileOf t)) (parts : DiskFiles G t) (waits : ℕ → AtOnce S T) (folders : PartRules Q) (p q : Q)
+    (switches : S → Bool → S → Type 0) (rules : SocketRules S P) (passes : S → Passed)
+    (tells : C → Option CivilTime → C → Type 0) where
+  abbrev Ran : Job → Streams S C → DiskFiles F s → ℕ → Streams S C → DiskFiles F s → Type 0
+  Ran asked old files status new left = RunsAll g h parts waits folders p q switches rules passes tells asked old files status new left
+
+  -- the sockets were switched first
+  behind : (law : List Event → Held → Held → ℕ → Type 0) (first old new : S) (on : Bool) (before after : Held) (status : ℕ) → switches first on old
+      → Of rules switches law old new before after status → Of rules switches law first new before after status
+  behind law first old new on before after status switched (es, captured, is) =
+      (es, captured_behind rules switches first old new on es switched captured, is)
+
+  pub wp_ran : (said : PropertyWriting) (old : Streams S C) (files : DiskFiles F s) (status : ℕ) (new : Streams S C) (left : DiskFiles F s)
+      → Ran (job.Wp said) old files status new left → Of rules switches (WritesOnce said) old.sockets new.sockets old.output new.output status
+  wp_ran said old files status new left (inl (told, files', apart)) = wp_runs rules switches passes tells said old status new (inl told)
+  wp_ran said old files status new left (inr (sockets, switched, (ran, files', apart))) =
+      behind (WritesOnce said) old.sockets sockets new.sockets (is_traced (job.Wp said)) old.output new.output status switched
+      (wp_runs rules switches passes tells said (streams old.input old.output old.errors sockets old.clock) status new ran)
+
+  rp_ran : (said : PropertyReading) (old : Streams S C) (files : DiskFiles F s) (status : ℕ) (new : Streams S C) (left : DiskFiles F s)
+      → Ran (job.Rp said) old files status new left
+      → Of rules switches (λ es before after status. ReadsOnce said es before after status × (status ≡ 0 → PrintsWhatCame said es before after))
+      old.sockets new.sockets old.output new.output status
+  rp_ran said old files status new left (inl (told, files', apart)) = rp_runs rules switches passes tells said old status new (inl told)
+  rp_ran said old files status new left (inr (sockets, switched, (ran, files', apart))) =
+      behind (λ es before after status. ReadsOnce said es before after status × (status ≡ 0 → PrintsWhatCame said es before after))
+      old.sockets sockets new.sockets (is_traced (job.Rp said)) old.output new.output status switched
+      (rp_runs rules switches passes tells said (streams old.input old.output old.errors sockets old.clock) status new ran)
+
+  pub rp_asks : (said : PropertyReading) (old : Streams S C) (files : DiskFiles F s) (status : ℕ) (new : Streams S C) (left : DiskFiles F s)
+      → Ran (job.Rp said) old files status new left → Of rules switches (ReadsOnce said) old.sockets new.sockets old.output new.output status
+  rp_asks said old files status new left ran = let it = rp_ran said old files status new left ran in (it.0, it.1, it.2.0)
+
+  pub rp_prints : (said : PropertyReading) (old : Streams S C) (files : DiskFiles F s) (status : ℕ) (new : Streams S C) (left : DiskFiles F s)
+      → Ran (job.Rp said) old files status new left → status ≡ 0
+      → (es : List Event) × IsCaptured rules switches old.sockets new.sockets es × PrintsWhatCame said es old.output new.output
+  rp_prints said old files status new left ran none = let it = rp_ran said old files status new left ran in (it.0, it.1, it.2.1 none)
+
+  pub wi_ran : (said : Discovery) (old : Streams S C) (files : DiskFiles F s) (status : ℕ) (new : Streams S C) (left : DiskFiles F s)
+      → Ran (job.Wi said) old files status new left → Of rules switches (FindsWhatCame said) old.sockets new.sockets old.output new.output status
+  wi_ran said old files status new left (inl (told, files', apart)) = wi_runs rules switches passes tells said old status new (inl told)
+  wi_ran said old files status new left (inr (sockets, switched, (ran, files', apart))) =
+      behind (FindsWhatCame said) old.sockets sockets new.sockets (is_traced (job.Wi said)) old.output new.output status switched
+      (wi_runs rules switches passes tells said (streams old.input old.output old.errors sockets old.clock) status new ran)
+
+  pub serve_ran : (said : ServedDevice) (old : Streams S C) (files : DiskFiles F s) (status : ℕ) (new : Streams S C) (left : DiskFiles F s)
+      → Ran (job.Serve said) old files status new left → Of rules switches (AnswersOnly said) old.sockets new.sockets old.output new.output status
+  serve_ran said old files status new left (inl (told, files', apart)) = serve_runs rules switches passes tells said old status new (inl told)
+  serve_ran said old files status new left (inr (sockets, switched, (ran, files', apart))) =
+      behind (AnswersOnly said) old.sockets sockets new.sockets (is_traced (job.Serve said)) old.output new.output status switched
+      (serve_runs rules switches passes tells said (streams old.input old.output old.errors sockets old.clock) status new ran)
+
+  pub logs_ran : (said : LogListing) → said.instances ≢ [] → (old : Streams S C) (files : DiskFiles F s) (status : ℕ) (new : Streams S C)
+      (left : DiskFiles F s) → Ran (job.Logs said) old files status new left → status ≡ 0
+      → (es : List Event) × IsCaptured rules switches old.sockets new.sockets es × ListsWhatCame said es old.output new.output
+  logs_ran said named old files status new left (inl ((told, keeps, untouched), files', apart)) none =
+      absurd (told_fails fault.Memory old.errors new.errors status told none)
+  logs_ran said named old files status new left (inr (sockets, switched, (ran, files', apart))) none =
+      let it = logs_runs rules switches passes tells said named (streams old.input old.output old.errors sockets old.clock) status new ran none in
+      (it.0, captured_behind rules switches old.sockets sockets new.sockets (is_traced (job.Logs said)) it.0 switched it.1, it.2)

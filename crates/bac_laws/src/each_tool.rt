@@ -1,0 +1,237 @@
+//! What each tool does over its sockets and prints, whatever comes.
+
+ghost use Rattle.std.specs.Prelude.{◌≡◌, ◌≢◌, List, [], Ok, None, false, map};
+ghost use Rattle.std.specs.String.{string_bytes};
+ghost use Rattle.sqlite_wal.specs.Files.{image_at};
+ghost use Rattle.bac_files.specs.Parts.{Listing};
+ghost use Rattle.bac_heeding.specs.Ports.{Event};
+ghost use Rattle.bac_ports.specs.Sockets.{socket_rules};
+ghost use Rattle.bac_tools.specs.Run.{AskFor};
+ghost use Rattle.bac_words.specs.declared.job.Discovery.{Discovery as FindWords};
+ghost use Rattle.bac_words.specs.declared.job.Job.TheVariants as job;
+ghost use Rattle.bac_words.specs.declared.job.Kept.{Kept as KeptWords};
+ghost use Rattle.bac_words.specs.declared.job.LogListing.{LogListing as ListWords};
+ghost use Rattle.bac_words.specs.declared.job.PropertyReading.{PropertyReading as ReadWords};
+ghost use Rattle.bac_words.specs.declared.job.PropertyWriting.{PropertyWriting as WriteWords};
+ghost use Rattle.bac_words.specs.declared.job.ServedDevice.{ServedDevice as ServeWords};
+ghost use Rattle.bac_laws.specs.Asked.{PrintsWhatCame, ReadsOnce, WritesOnce};
+ghost use Rattle.bac_laws.specs.Events.{CanBeCaptured, IsCaptured};
+ghost use Rattle.bac_laws.specs.Found.{FindsWhatCame};
+ghost use Rattle.bac_laws.specs.Listed.{ListsWhatCame};
+ghost use Rattle.bac_laws.specs.Rows.{PrintsFileRows};
+ghost use Rattle.bac_laws.specs.Served.{AnswersOnly};
+
+use bac_desks::Clock as WaitClock;
+use bac_files::FileOf;
+use bac_recall::Recalls;
+use bac_run::{Console, Machine, Parts, run};
+use bac_tools::Clock;
+use bac_trace::Tracing;
+use sqlite::Start;
+use sqlite_disk::Disk;
+use std::alloc::Global;
+use std::io::{Read, Write};
+
+/// There are sockets that have a capture, so what is said of each capture is said of something.
+pub fn sockets_can_be_captured()
+    ensures { CanBeCaptured }
+{}
+
+/// `wp` makes one WriteProperty, with the object, property, index, value and priority of its words,
+/// of the device that they name, the same octets each time, and sends nothing else. It prints
+/// `written` and ends with 0 only where a SimpleACK of it came from that device.
+pub fn wp_writes_once<
+    S: Tracing + Recalls,
+    F: Start,
+    G: Start,
+    Q: Parts,
+    I: Read,
+    O: Write,
+    E: Write,
+    C: Clock,
+    W: WaitClock + Copy,
+>(
+    machine: &mut Machine<'_, S, F, G, Q, C>,
+    console: &mut Console<I, O, E>,
+    alloc: Global,
+    waits: W,
+    words: &[String],
+    counts: bool,
+) -> u8
+where
+    W: Drop,
+    ensures { (said : WriteWords) → AskFor (map string_bytes words.now) (job.Wp said)
+        → (es : List Event) × IsCaptured (socket_rules S.opens S.closes S.Socket.sends
+        S.Socket.receives S.Socket.receives_within) S.traces machine.old.sockets
+        machine.new.sockets es
+        × WritesOnce said es (O.contents console.old.output)
+        (O.contents console.new.output) result }
+{
+    run(machine, console, alloc, waits, words, counts)
+}
+
+/// `rp` makes one ReadProperty of the device that its words name, and sends nothing else. What it
+/// prints, where it ends with 0, are the values of the ACK that came from that device last.
+pub fn rp_prints_what_came<
+    S: Tracing + Recalls,
+    F: Start,
+    G: Start,
+    Q: Parts,
+    I: Read,
+    O: Write,
+    E: Write,
+    C: Clock,
+    W: WaitClock + Copy,
+>(
+    machine: &mut Machine<'_, S, F, G, Q, C>,
+    console: &mut Console<I, O, E>,
+    alloc: Global,
+    waits: W,
+    words: &[String],
+    counts: bool,
+) -> u8
+where
+    W: Drop,
+    ensures asks { (said : ReadWords) → AskFor (map string_bytes words.now) (job.Rp said)
+        → (es : List Event) × IsCaptured (socket_rules S.opens S.closes S.Socket.sends
+        S.Socket.receives S.Socket.receives_within) S.traces machine.old.sockets
+        machine.new.sockets es
+        × ReadsOnce said es (O.contents console.old.output)
+        (O.contents console.new.output) result }
+    ensures prints { (said : ReadWords) → AskFor (map string_bytes words.now) (job.Rp said)
+        → result ≡ 0 → (es : List Event) × IsCaptured (socket_rules S.opens S.closes S.Socket.sends
+        S.Socket.receives S.Socket.receives_within) S.traces machine.old.sockets
+        machine.new.sockets es
+        × PrintsWhatCame said es (O.contents console.old.output)
+        (O.contents console.new.output) }
+{
+    run(machine, console, alloc, waits, words, counts)
+}
+
+/// `wi` sends the Who-Is of its words alone, once to each station, and prints a line for each I-Am
+/// that comes, in the order in which they came.
+pub fn wi_prints_what_came<
+    S: Tracing + Recalls,
+    F: Start,
+    G: Start,
+    Q: Parts,
+    I: Read,
+    O: Write,
+    E: Write,
+    C: Clock,
+    W: WaitClock + Copy,
+>(
+    machine: &mut Machine<'_, S, F, G, Q, C>,
+    console: &mut Console<I, O, E>,
+    alloc: Global,
+    waits: W,
+    words: &[String],
+    counts: bool,
+) -> u8
+where
+    W: Drop,
+    ensures { (said : FindWords) → AskFor (map string_bytes words.now) (job.Wi said)
+        → (es : List Event) × IsCaptured (socket_rules S.opens S.closes S.Socket.sends
+        S.Socket.receives S.Socket.receives_within) S.traces machine.old.sockets
+        machine.new.sockets es
+        × FindsWhatCame said es (O.contents console.old.output)
+        (O.contents console.new.output) result }
+{
+    run(machine, console, alloc, waits, words, counts)
+}
+
+/// `serve` sends answers alone: each right behind the datagram that it answers, to who asked, and
+/// one at most.
+pub fn serve_answers_only<
+    S: Tracing + Recalls,
+    F: Start,
+    G: Start,
+    Q: Parts,
+    I: Read,
+    O: Write,
+    E: Write,
+    C: Clock,
+    W: WaitClock + Copy,
+>(
+    machine: &mut Machine<'_, S, F, G, Q, C>,
+    console: &mut Console<I, O, E>,
+    alloc: Global,
+    waits: W,
+    words: &[String],
+    counts: bool,
+) -> u8
+where
+    W: Drop,
+    ensures { (said : ServeWords) → AskFor (map string_bytes words.now) (job.Serve said)
+        → (es : List Event) × IsCaptured (socket_rules S.opens S.closes S.Socket.sends
+        S.Socket.receives S.Socket.receives_within) S.traces machine.old.sockets
+        machine.new.sockets es
+        × AnswersOnly said es (O.contents console.old.output)
+        (O.contents console.new.output) result }
+{
+    run(machine, console, alloc, waits, words, counts)
+}
+
+/// `logs` of logs that its words name, where it ends with 0, prints a line for each; each cell is
+/// what came from the device to the question for it, and nothing else is sent.
+pub fn logs_prints_what_came<
+    S: Tracing + Recalls,
+    F: Start,
+    G: Start,
+    Q: Parts,
+    I: Read,
+    O: Write,
+    E: Write,
+    C: Clock,
+    W: WaitClock + Copy,
+>(
+    machine: &mut Machine<'_, S, F, G, Q, C>,
+    console: &mut Console<I, O, E>,
+    alloc: Global,
+    waits: W,
+    words: &[String],
+    counts: bool,
+) -> u8
+where
+    W: Drop,
+    ensures { (said : ListWords) → AskFor (map string_bytes words.now) (job.Logs said)
+        → said.instances ≢ [] → result ≡ 0
+        → (es : List Event) × IsCaptured (socket_rules S.opens S.closes S.Socket.sends
+        S.Socket.receives S.Socket.receives_within) S.traces machine.old.sockets
+        machine.new.sockets es
+        × ListsWhatCame said es (O.contents console.old.output)
+        (O.contents console.new.output) }
+{
+    run(machine, console, alloc, waits, words, counts)
+}
+
+/// `kept` of a file, in lines, that ends with 0 prints what the file holds: of each log that is
+/// chosen the line that names it, and a line for each row of its items.
+pub fn kept_prints_its_rows<
+    S: Tracing + Recalls,
+    F: Start,
+    G: Start,
+    Q: Parts,
+    I: Read,
+    O: Write,
+    E: Write,
+    C: Clock,
+    W: WaitClock + Copy,
+>(
+    machine: &mut Machine<'_, S, F, G, Q, C>,
+    console: &mut Console<I, O, E>,
+    alloc: Global,
+    waits: W,
+    words: &[String],
+    counts: bool,
+) -> u8
+where
+    W: Drop,
+    ensures { (said : KeptWords) → AskFor (map string_bytes words.now) (job.Kept said)
+        → said.csv ≡ false → result ≡ 0
+        → (listing : Listing) × (listed : Q) × Q.lists machine.old.folders said.file listing listed
+        × (listing ≡ Ok None → PrintsFileRows ⟦<FileOf<F> as Disk>⟧ (image_at F.Start) said
+        (O.contents console.old.output) (O.contents console.new.output) machine.new.files.closed) }
+{
+    run(machine, console, alloc, waits, words, counts)
+}
