@@ -10,7 +10,7 @@ from kept_parts import BEGINNINGS, LOGS, begun, copied, fill, names, read, toget
 ITEMS = "SELECT id, last FROM items ORDER BY id"
 HOLES = "numbers are missing in it"
 APART = "it doesn't begin where the part before it ends"
-FOREIGN = "it isn't a bac archive, or someone added a trigger, foreign key or UNIQUE index to it"
+FOREIGN = "it isn't a bac archive, or it has an added trigger, foreign key or UNIQUE index"
 # A part that has a row is full.
 FULL = ("--part=1",)
 

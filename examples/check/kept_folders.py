@@ -109,7 +109,7 @@ def folders_damaged(judge, _runs):
     with contextlib.closing(sqlite3.connect(second)) as base:
         base.execute("CREATE TABLE other (id INTEGER PRIMARY KEY)")
         base.commit()
-    printed("the second is another's", no_use(second, "it isn't a bac archive, or someone added a trigger, foreign key or UNIQUE index to it")[2])
+    printed("the second is another's", no_use(second, "it isn't a bac archive, or it has an added trigger, foreign key or UNIQUE index")[2])
     shutil.move(f"{folder}/away", second)
     with contextlib.closing(sqlite3.connect(second, isolation_level=None)) as base:
         base.execute("BEGIN EXCLUSIVE")

@@ -16,7 +16,7 @@ obstacle_text barred.TooManyOpen = codes "too many files are open"
 -- the reason, in the words that tell it
 abbrev pub file_reason : FileFault → List ℕ
 file_reason (file.Barred obstacle) = obstacle_text obstacle
-file_reason file.Foreign = codes "it isn't a bac archive, or someone added a trigger, foreign key or UNIQUE index to it"
+file_reason file.Foreign = codes "it isn't a bac archive, or it has an added trigger, foreign key or UNIQUE index"
 file_reason file.First = codes "it is an archive of version 1, and version 2 is read"
 file_reason file.Version = codes "it is an archive of another version"
 file_reason file.Memory = codes "out of memory"

@@ -171,7 +171,7 @@ impl FileFault {
         match self {
             FileFault::Barred(obstacle) => obstacle_text(obstacle),
             FileFault::Foreign =>
-                "it isn't a bac archive, or someone added a trigger, foreign key or UNIQUE index to it",
+                "it isn't a bac archive, or it has an added trigger, foreign key or UNIQUE index",
             FileFault::First => "it is an archive of version 1, and version 2 is read",
             FileFault::Version => "it is an archive of another version",
             FileFault::Memory => "out of memory",
