@@ -90,7 +90,7 @@ def page(of):
         before = spent.pop((name, "edits"), 0) if is_program else 0
         spent[name, "check"] = before + sum(all_of_it[-1 - is_program :])
     uses, sums, counts, chain = below(TOP), collections.Counter(), collections.Counter(), {}
-    print("| Crate | Check, s | Tests, s | Wrong bodies, s | Peak, GB |\n|---|---|---|---|---|")
+    print("Crate | Check, s | Tests, s | Wrong bodies, s | Peak, GB\n---|---|---|---|---")
 
     def longest(name):
         if name not in chain:
@@ -105,9 +105,9 @@ def page(of):
             counts[kind] += count[kind]
         for kind in ("check", "tests", "edits"):
             sums[kind] += spent[name, kind]
-        print(f"| `{name}` | {' | '.join(cells)} | {peaks[name]:.1f} |")
-    print(f"| all | {sums['check']:.0f} | {sums['tests']:.0f} ({counts['tests']}) | {sums['edits']:.0f} ({counts['edits']}) | "
-          f"{max(peaks.values()):.1f} |")
+        print(f"`{name}` | {' | '.join(cells)} | {peaks[name]:.1f}")
+    print(f"all | {sums['check']:.0f} | {sums['tests']:.0f} ({counts['tests']}) | {sums['edits']:.0f} ({counts['edits']}) | "
+          f"{max(peaks.values()):.1f}")
     seconds, names = max(longest(name) for name in uses)
     print(f"\nIn all {sum(sums.values()) / 60:.0f} processor minutes. The longest chain of crates, for which the gate waits however many processors")
     print(f"there are, {seconds / 60:.0f} minutes of checks: {', '.join(names)}.")
