@@ -105,6 +105,11 @@ asking_from p number = record p { stage = Joins; reference = number; alone = tru
 abbrev pub standing_on : PollState → KeptAs → PollState
 standing_on p kept = asking_from (record p { newest = Some kept }) kept.number
 
+-- The same, and none before it is known: those were asked for alone, and a record that is at another hour each time it
+-- is shown would have them asked for without end.
+abbrev pub standing_alone : PollState → KeptAs → PollState
+standing_alone p kept = record (standing_on p kept) { earlier = None; earliest = None }
+
 -- the record so many before the last of these, if there is one
 abbrev pub before_last : List Numbered → ℕ → Option Numbered
 before_last records back =

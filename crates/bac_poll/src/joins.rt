@@ -366,13 +366,13 @@ impl LogPoll {
         match means {
             Means::Same => {
                 let kept = Kept::of(alloc, held)?;
-                self.stand_on(kept);
+                self.stand_alone(kept);
                 Ok(self.asks(alloc))
             }
             Means::Shifted(by) => {
                 let line = self.hour(by);
                 let kept = Kept::of(alloc, held)?;
-                self.stand_on(kept);
+                self.stand_alone(kept);
                 let turn = self.asks(alloc);
                 Ok(self.at_hour(by, line, turn))
             }

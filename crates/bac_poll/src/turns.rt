@@ -11,7 +11,7 @@ ghost use Rattle.bac_poll.specs.Turns.{end_of, ends, first_in, first_number, kep
 ghost use Rattle.bac_poll.specs.Turns.{last_in};
 ghost use Rattle.bac_poll.specs.Turns.{third_known};
 ghost use Rattle.bac_poll.specs.Turns.{next_life, number_before, number_or, renewed, standing_at};
-ghost use Rattle.bac_poll.specs.Turns.{standing_on, turned};
+ghost use Rattle.bac_poll.specs.Turns.{standing_alone, standing_on, turned};
 ghost use Rattle.bac_poll.specs.Known.{heeding, is_steady, means_in};
 
 use crate::date_time::DateTime;
@@ -76,6 +76,15 @@ impl LogPoll {
         let number = kept.number;
         self.newest = Some(kept);
         self.ask_from(number);
+    }
+
+    /// The same, and none before it is known.
+    pub(crate) fn stand_alone(&mut self, kept: Kept)
+        ensures { self.new ≡ standing_alone self.old (kept_as kept) }
+    {
+        self.stand_on(kept);
+        self.earlier = None;
+        self.earliest = None;
     }
 
     /// No record right before this number is known.

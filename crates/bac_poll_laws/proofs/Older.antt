@@ -105,7 +105,8 @@ module _ (P : Numbered → Type 0) (Z : List Numbered → ℕ → Type 0) (c : �
   sees_newest_steps : (p : PollState) (kept : KeptAs) (records : List Numbered) (at : Option Numbered) → Steps Z c (sees_newest p kept false records at)
   sees_newest_steps p kept records None = pick p.alone _ _ (λ alone. another_by_steps p records) (λ other. λ going sure. tt)
   sees_newest_steps p kept records (Some held) =
-      pick ((length (records_behind kept.number records) == 0) && not p.alone) _ _ (λ none. λ going sure. tt) (λ some. brings_steps (found p held) (records_behind kept.number records))
+      pick ((length (records_behind kept.number records) == 0) && not p.alone) _ _ (λ none. λ going sure. tt)
+      (λ some. pick ((length (records_behind kept.number records) == 0) && false) _ _ (λ short. λ going sure. tt) (λ more. brings_steps (found p held) (records_behind kept.number records)))
 
   sees_same_steps : (p : PollState) (records : List Numbered) (newest : Option KeptAs) → Steps Z c (sees_same p false records newest)
   sees_same_steps p records None = another_by_steps p records
