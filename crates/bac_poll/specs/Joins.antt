@@ -9,10 +9,10 @@ use Rattle.bac_poll.specs.Known.{is_retold, is_steady, means_in, number_in, reco
 use Rattle.bac_poll.specs.State.{KeptAs, PollState, Reply, kept_of}
 use Rattle.bac_poll.specs.Turns.{Turned, asking_from, asks, asks_at, behind, brings, confirmed, end_of, ends, first_in}
 use Rattle.bac_poll.specs.Turns.{first_number, gap_up_to, last_in, standing_alone, standing_at, standing_on}
-use Rattle.bac_poll.specs.declared.known.Means.{Means}
-use Rattle.bac_poll.specs.declared.known.Means.TheVariants.{Shifted, Partly, Same, Unshown, Another}
-use Rattle.bac_poll.specs.declared.known.Shown.{Shown}
-use Rattle.bac_poll.specs.declared.known.Shown.TheVariants as shown
+use Rattle.bac_known.specs.declared.known.Means.{Means}
+use Rattle.bac_known.specs.declared.known.Means.TheVariants.{Shifted, Partly, Same, Unshown, Another}
+use Rattle.bac_known.specs.declared.known.Shown.{Shown}
+use Rattle.bac_known.specs.declared.known.Shown.TheVariants as shown
 use Rattle.bac_poll.specs.declared.stage.Aim.TheVariants.{Finds}
 use Rattle.bac_poll.specs.declared.stage.Stage.TheVariants.{Ahead, Again, Each}
 use Rattle.bac_poll.specs.declared.turn.Line.{Line}

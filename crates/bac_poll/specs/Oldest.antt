@@ -10,8 +10,8 @@ use Rattle.bac_poll.specs.Known.{means_in, number_in, record_at, records_behind}
 use Rattle.bac_poll.specs.State.{KeptAs, PollState, Reply}
 use Rattle.bac_poll.specs.Turns.{Turned, asks, asks_at, brings, confirmed, ends, first_number, last_in}
 use Rattle.bac_poll.specs.Turns.{number_before, number_or}
-use Rattle.bac_poll.specs.declared.known.Means.{Means}
-use Rattle.bac_poll.specs.declared.known.Means.TheVariants.{Shifted, Partly, Same, Unshown, Another}
+use Rattle.bac_known.specs.declared.known.Means.{Means}
+use Rattle.bac_known.specs.declared.known.Means.TheVariants.{Shifted, Partly, Same, Unshown, Another}
 use Rattle.bac_poll.specs.declared.stage.Aim.TheVariants.{Finds}
 use Rattle.bac_poll.specs.declared.stage.Stage.TheVariants.{ByNumber, UpTo}
 use Rattle.bac_poll.specs.declared.turn.PollEnd.TheVariants.{CaughtUp, NoneByNumber, ShowsNone}

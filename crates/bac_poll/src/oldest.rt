@@ -9,12 +9,13 @@ ghost use Rattle.bac_poll.specs.Oldest.{logged, sees, sees_before, sees_by, sees
 ghost use Rattle.bac_poll.specs.Oldest.{sees_news, sees_none, sees_same};
 ghost use Rattle.bac_poll.specs.Oldest.{weighed};
 
-use crate::ack::Reply;
-use crate::known::{Means, number_in, record_at, records_behind};
 use crate::poll::LogPoll;
 use crate::stage::{Aim, Stage};
 use crate::turn::{PollEnd, Turn};
-use crate::turns::{first_number, is_ahead, is_none, last_in, number_before, number_or};
+use bac_known::{
+    Means, Reply, first_number, is_ahead, is_none, last_in, number_before, number_in, number_or,
+    record_at, records_behind,
+};
 use bac_walk::Numbered;
 use std::alloc::{AllocError, Global};
 

@@ -15,10 +15,10 @@ use Rattle.bac_poll.specs.State.{KeptAs, PollState, Reply}
 use Rattle.bac_poll.specs.Turns.{Turned, brings, brings_to, confirmed, ends, first_in, first_number, last_in, renewed, standing_at}
 use Rattle.bac_poll.specs.declared.gone.Gone.{Gone}
 use Rattle.bac_poll.specs.declared.gone.Gone.TheVariants.{Dropped, Doubtful, Both}
-use Rattle.bac_poll.specs.declared.known.Means.{Means}
-use Rattle.bac_poll.specs.declared.known.Means.TheVariants.{Shifted, Partly, Same, Unshown, Another}
-use Rattle.bac_poll.specs.declared.known.Shown.{Shown}
-use Rattle.bac_poll.specs.declared.known.Shown.TheVariants as shown
+use Rattle.bac_known.specs.declared.known.Means.{Means}
+use Rattle.bac_known.specs.declared.known.Means.TheVariants.{Shifted, Partly, Same, Unshown, Another}
+use Rattle.bac_known.specs.declared.known.Shown.{Shown}
+use Rattle.bac_known.specs.declared.known.Shown.TheVariants as shown
 use Rattle.bac_poll.specs.declared.stage.Aim.{Aim}
 use Rattle.bac_poll.specs.declared.stage.Aim.TheVariants.{Finds, Renews, Starts}
 use Rattle.bac_poll.specs.declared.stage.Stage.{Stage}

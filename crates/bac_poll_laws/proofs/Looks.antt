@@ -13,10 +13,10 @@ use Rattle.bac_poll.specs.Oldest.{is_cut}
 use Rattle.bac_poll.specs.Starts.{starts, starts_at, starts_by, starts_from, starts_none, starts_refused, starts_told}
 use Rattle.bac_poll.specs.State.{KeptAs, PollState, Reply}
 use Rattle.bac_poll.specs.Turns.{Turned, asks, confirmed, end_of, first_in, first_number, last_in, standing_at}
-use Rattle.bac_poll.specs.declared.known.Means.{Means}
-use Rattle.bac_poll.specs.declared.known.Means.TheVariants.{Shifted, Partly, Same, Unshown, Another}
-use Rattle.bac_poll.specs.declared.known.Shown.{Shown}
-use Rattle.bac_poll.specs.declared.known.Shown.TheVariants as shown
+use Rattle.bac_known.specs.declared.known.Means.{Means}
+use Rattle.bac_known.specs.declared.known.Means.TheVariants.{Shifted, Partly, Same, Unshown, Another}
+use Rattle.bac_known.specs.declared.known.Shown.{Shown}
+use Rattle.bac_known.specs.declared.known.Shown.TheVariants as shown
 use Rattle.bac_poll.specs.declared.stage.Aim.{Aim}
 use Rattle.bac_poll.specs.declared.stage.Aim.TheVariants.{Finds, Renews, Starts}
 use Rattle.bac_poll.specs.declared.turn.PollEnd.TheVariants.{CaughtUp, NoneByNumber, ShowsNone}

@@ -11,10 +11,10 @@ use Rattle.bac_poll.specs.Known.{heeding, maybe_shown, means_in, means_of, numbe
 use Rattle.bac_poll.specs.Poll.{kept_number}
 use Rattle.bac_poll.specs.State.{KeptAs, PollState, Reply, kept_of}
 use Rattle.bac_poll.specs.Turns.{Turned, asks, brings, end_of, first_in, first_number, last_in, number_or, standing_alone, standing_at}
-use Rattle.bac_poll.specs.declared.known.Means.{Means}
-use Rattle.bac_poll.specs.declared.known.Means.TheVariants.{Shifted, Partly, Same, Unshown, Another}
-use Rattle.bac_poll.specs.declared.known.Shown.{Shown}
-use Rattle.bac_poll.specs.declared.known.Shown.TheVariants as shown
+use Rattle.bac_known.specs.declared.known.Means.{Means}
+use Rattle.bac_known.specs.declared.known.Means.TheVariants.{Shifted, Partly, Same, Unshown, Another}
+use Rattle.bac_known.specs.declared.known.Shown.{Shown}
+use Rattle.bac_known.specs.declared.known.Shown.TheVariants as shown
 use Rattle.bac_poll.specs.declared.stage.Aim.TheVariants.{Finds}
 use Rattle.bac_poll.specs.declared.stage.Stage.TheVariants as stage
 use Rattle.bac_poll.specs.declared.turn.Line.{Line}
