@@ -272,6 +272,8 @@ class LogPoll(Machine):
         if means not in ("same", "moved"):
             return (yield from self.another_life())
         self.known_as_shown(means, records)
+        # A record that is at another hour each time it is shown would have those before it asked for without end.
+        self.stand(self.known[-1:])
         return True
 
     def ahead(self):
@@ -322,7 +324,10 @@ class LogPoll(Machine):
             self.known_as_shown(means, records)
             self.confirmed()
             news = records[numbers.index(self.newest()) + 1:]
-            return self.keep(news) if news or asked else True
+            if news or not asked:
+                return self.keep(news) if news else True
+            # Others may follow that nobody finds.
+            return self.end(4, "shows no record by number") if cut else self.end()
         if means == "same" and not asked:
             self.reference = self.newest()
             return True

@@ -11,7 +11,7 @@ use Rattle.bac_link.specs.declared.exchanges.Verdict.{Verdict}
 use Rattle.bac_link.specs.declared.exchanges.Verdict.TheVariants.{BadReply}
 use Rattle.bac_link.specs.declared.request.Request.TheVariants as request
 use Rattle.bac_poll.specs.Poll.{asked_by_poll, nothing_told}
-use Rattle.bac_poll.specs.declared.date_time.DateTime.{DateTime}
+use Rattle.bac_known.specs.declared.date_time.DateTime.{DateTime}
 use Rattle.bac_device_poll.specs.Clock.{IsOffset, after_clock, after_date, clocks}
 use Rattle.bac_device_poll.specs.Identity.{after_i_am, after_instance, after_name, device_of, itself, own_device}
 use Rattle.bac_device_poll.specs.Listing.{after_count, after_element, after_objects}

@@ -4,7 +4,7 @@ use Rattle.std.specs.List.{list_any}
 use Rattle.hex.specs.Hex.{encode_lower}
 use Rattle.bac_poll.specs.DateTime.{undated}
 use Rattle.bac_poll.specs.Stamps.{stamped}
-use Rattle.bac_poll.specs.declared.date_time.DateTime.{DateTime}
+use Rattle.bac_known.specs.declared.date_time.DateTime.{DateTime}
 
 -- an octet of 255 says that its part is unspecified
 abbrev pub is_unspecified : List ℕ → Bool

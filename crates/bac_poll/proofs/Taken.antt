@@ -1,67 +1,21 @@
--- Records that are read one after the other, and whether a reply is taken.
-use Rattle.std.proofs.Common.{◌≡◌, ℕ, zero, suc, ◌+◌, ◌==◌, ◌&&◌, ◌||◌, Bool, true, false, if◌then◌else◌, Option, Some, None, Result, Ok, Err, List, [], ◌∷◌, ◌++◌, length, refl, sym, ap, ◌∙◌, nat_le, append_assoc, append-nil, arith}
+-- Whether a reply is taken.
+use Rattle.std.proofs.Common.{◌≡◌, ℕ, suc, ◌==◌, ◌&&◌, ◌||◌, Bool, true, false, if◌then◌else◌, Option, Some, None, List, [], ◌∷◌, length, refl, sym, ap, ◌∙◌, nat_le, arith}
 use Rattle.std.proofs.lemmas.Bool.{eqb-true}
 use Rattle.std.specs.Option.{option_map}
 use Rattle.std.specs.Result.{result_ok}
 use Rattle.bac_wire.specs.Primitive.{Id}
-use Rattle.bac_wire.specs.declared.fault.WireFault.{WireFault}
-use Rattle.bac_apdu.specs.Service.ReadRangeAck.{RangeAck, read_range_ack_at}
+use Rattle.bac_apdu.specs.Service.ReadRangeAck.{RangeAck}
 use Rattle.bac_log.specs.declared.entry.Entry.{Entry}
-use Rattle.bac_log.specs.RecordReading.{entry_at, entries_at}
 use Rattle.bac_link.specs.Datagrams.{apdu_in}
-use Rattle.bac_link.specs.Heard.{heard_at, heard_from, heard_if, heard_in, heard_of, heard_with, is_of_log, parameters_in, records_in}
-use Rattle.bac_link.specs.Ordinals.{number_after}
+use Rattle.bac_link.specs.Heard.{heard_at, heard_from, heard_if, heard_of, heard_with, is_of_log, parameters_in, records_in}
 use Rattle.bac_walk.specs.Place.{WalkPlace, asking, walk_from_oldest}
 use Rattle.bac_walk.specs.Walks.{Ask, Bring, End, NextAct, Refuse, asks_oldest_now, fits, verdict, with_numbers}
 use Rattle.bac_walk.specs.declared.batch.Numbered.{Numbered}
-use Rattle.bac_walk.proofs.Counting.{empty_read, next_ok, next_err, none_read, too_many}
 use Rattle.bac_walk.proofs.Numbers.{length-with_numbers}
-use Rattle.bac_poll.specs.Poll.{ack_at, ack_in, are_asked, has_last, has_more, reply_from, reply_in, reply_of, reply_with}
+use Rattle.bac_poll.specs.Poll.{ack_at, ack_in, are_asked, has_last, has_more, reply_from, reply_in, reply_of}
 use Rattle.bac_poll.specs.Reading.{is_taken, number_told, numbered_in}
 use Rattle.bac_poll.specs.State.{PollState, Reply}
 use Rattle.bac_poll.specs.Turns.{first_number}
-
--- ---- records
-
--- those that came, and those that are still to be read
-abbrev pub joined : List Numbered → ℕ → Option (List Entry) → Option (List Numbered)
-joined came number es = option_map (λ (others : List Entry). came ++ with_numbers number others) es
-
-pub one_more : (n most : ℕ) (rest : List ℕ) (x : Entry) (after : List ℕ) (came : List Numbered) (number : ℕ) →
-    n ≡ suc most → (length rest == 0) ≡ false → result_ok (entry_at rest) ≡ Some (x, after) →
-    joined came number (result_ok (entries_at n rest))
-    ≡ joined (came ++ record { number = number; entry = x } ∷ []) (number_after number 1) (result_ok (entries_at most after))
-one_more n most rest x after came number is some read = by_rest (entries_at most after) refl
-  where
-    one : Numbered
-    one = record { number = number; entry = x }
-
-    by_rest : (r : Result (List Entry) WireFault) → entries_at most after ≡ r →
-        joined came number (result_ok (entries_at n rest)) ≡ joined (came ++ one ∷ []) (number_after number 1) (result_ok (entries_at most after))
-    by_rest (Ok es) e =
-        ap (λ (r : Result (List Entry) WireFault). joined came number (result_ok r)) (next_ok n most rest x after es is some read e)
-        ∙ ap (λ (l : List Numbered). Some l) (sym (append_assoc came (one ∷ []) (with_numbers (number_after number 1) es)))
-        ∙ sym (ap (λ (r : Result (List Entry) WireFault). joined (came ++ one ∷ []) (number_after number 1) (result_ok r)) e)
-    by_rest (Err f) e =
-        ap (λ (r : Result (List Entry) WireFault). joined came number (result_ok r)) (next_err n most rest x after f is some read e)
-        ∙ sym (ap (λ (r : Result (List Entry) WireFault). joined (came ++ one ∷ []) (number_after number 1) (result_ok r)) e)
-
-pub no_more : (n : ℕ) (rest : List ℕ) (came : List Numbered) (number : ℕ) → (length rest == 0) ≡ true →
-    joined came number (result_ok (entries_at n rest)) ≡ Some came
-no_more n rest came number none =
-    ap (λ (r : Result (List Entry) WireFault). joined came number (result_ok r)) (empty_read n rest none)
-    ∙ ap (λ (l : List Numbered). Some l) (append-nil came)
-
-pub no_record : (n most : ℕ) (rest : List ℕ) (came : List Numbered) (number : ℕ) → n ≡ suc most → (length rest == 0) ≡ false →
-    result_ok (entry_at rest) ≡ None → joined came number (result_ok (entries_at n rest)) ≡ None
-no_record n most rest came number is some read =
-    let f = none_read n most rest is some read in
-    ap (λ (r : Result (List Entry) WireFault). joined came number (result_ok r)) f.1
-
-pub no_turns : (n : ℕ) (rest : List ℕ) (came : List Numbered) (number : ℕ) → n ≡ 0 → (length rest == 0) ≡ false →
-    joined came number (result_ok (entries_at n rest)) ≡ None
-no_turns n rest came number is some =
-    ap (λ (r : Result (List Entry) WireFault). joined came number (result_ok r)) (too_many n rest is some)
 
 -- ---- a reply
 

@@ -9,10 +9,10 @@ use Rattle.bac_poll.specs.Oldest.{is_first, sees}
 use Rattle.bac_poll.specs.Starts.{starts}
 use Rattle.bac_poll.specs.State.{PollState, kept_of}
 use Rattle.bac_poll.specs.Turns.{Turned, asks, asks_at, ends, first_in, first_number, last_in, number_before, number_or}
-use Rattle.bac_poll.specs.declared.known.Means.{Means}
-use Rattle.bac_poll.specs.declared.known.Means.TheVariants.{Shifted, Partly, Same, Unshown, Another}
-use Rattle.bac_poll.specs.declared.known.Shown.{Shown}
-use Rattle.bac_poll.specs.declared.known.Shown.TheVariants as shown
+use Rattle.bac_known.specs.declared.known.Means.{Means}
+use Rattle.bac_known.specs.declared.known.Means.TheVariants.{Shifted, Partly, Same, Unshown, Another}
+use Rattle.bac_known.specs.declared.known.Shown.{Shown}
+use Rattle.bac_known.specs.declared.known.Shown.TheVariants as shown
 use Rattle.bac_poll.specs.declared.stage.Aim.{Aim}
 use Rattle.bac_poll.specs.declared.stage.Aim.TheVariants.{Finds, Renews, Starts}
 use Rattle.bac_poll.specs.declared.stage.Stage.TheVariants.{Back, Counts}

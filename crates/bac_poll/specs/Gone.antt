@@ -9,14 +9,14 @@ use Rattle.bac_poll.specs.Known.{word_of}
 use Rattle.bac_poll.specs.State.{PollState, ToldAs}
 use Rattle.bac_poll.specs.Turns.{Turned, anew, asks_at, brings, confirmed, first_in, gap_up_to, number_or}
 use Rattle.bac_poll.specs.Turns.{renewed, standing_at}
-use Rattle.bac_poll.specs.declared.date_time.DateTime.{DateTime}
+use Rattle.bac_known.specs.declared.date_time.DateTime.{DateTime}
 use Rattle.bac_poll.specs.declared.gone.Gone.{Gone}
 use Rattle.bac_poll.specs.declared.gone.Gone.TheVariants.{Dropped, Doubtful, Both}
 use Rattle.bac_poll.specs.declared.stage.Stage.TheVariants.{Revision, Restart}
 use Rattle.bac_poll.specs.declared.turn.Line.{Line}
 use Rattle.bac_poll.specs.declared.turn.Line.TheVariants.{BeganOrDropped, DroppedOrBegan}
-use Rattle.bac_poll.specs.declared.word.Word.{Word}
-use Rattle.bac_poll.specs.declared.word.Word.TheVariants.{Same, Changed, Untold}
+use Rattle.bac_known.specs.declared.word.Word.{Word}
+use Rattle.bac_known.specs.declared.word.Word.TheVariants.{Same, Changed, Untold}
 
 -- the newest that is kept of the epoch, if there is one, is dated before the oldest
 abbrev pub is_behind : Option DateTime → DateTime → Bool

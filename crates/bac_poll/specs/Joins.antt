@@ -8,11 +8,11 @@ use Rattle.bac_poll.specs.Epochs.{another, asks_oldest}
 use Rattle.bac_poll.specs.Known.{is_retold, is_steady, means_in, number_in, record_at, records_behind, shown_in}
 use Rattle.bac_poll.specs.State.{KeptAs, PollState, Reply, kept_of}
 use Rattle.bac_poll.specs.Turns.{Turned, asking_from, asks, asks_at, behind, brings, confirmed, end_of, ends, first_in}
-use Rattle.bac_poll.specs.Turns.{first_number, gap_up_to, last_in, standing_at, standing_on}
-use Rattle.bac_poll.specs.declared.known.Means.{Means}
-use Rattle.bac_poll.specs.declared.known.Means.TheVariants.{Shifted, Partly, Same, Unshown, Another}
-use Rattle.bac_poll.specs.declared.known.Shown.{Shown}
-use Rattle.bac_poll.specs.declared.known.Shown.TheVariants as shown
+use Rattle.bac_poll.specs.Turns.{first_number, gap_up_to, last_in, standing_alone, standing_at, standing_on}
+use Rattle.bac_known.specs.declared.known.Means.{Means}
+use Rattle.bac_known.specs.declared.known.Means.TheVariants.{Shifted, Partly, Same, Unshown, Another}
+use Rattle.bac_known.specs.declared.known.Shown.{Shown}
+use Rattle.bac_known.specs.declared.known.Shown.TheVariants as shown
 use Rattle.bac_poll.specs.declared.stage.Aim.TheVariants.{Finds}
 use Rattle.bac_poll.specs.declared.stage.Stage.TheVariants.{Ahead, Again, Each}
 use Rattle.bac_poll.specs.declared.turn.Line.{Line}
@@ -152,10 +152,10 @@ again p held records = again_from p held records p.newest
 
 -- ---- the known ones, one by one
 
--- by what they mean, the newest shown as this one
+-- by what they mean, the newest shown as this one: where the log is found at its place again, it alone is known
 abbrev pub each_means : PollState → Numbered → Means → Turned
-each_means p held Same = asks (standing_on p (kept_of held))
-each_means p held (Shifted by) = at_hour by (hour p by) (asks (standing_on p (kept_of held)))
+each_means p held Same = asks (standing_alone p (kept_of held))
+each_means p held (Shifted by) = at_hour by (hour p by) (asks (standing_alone p (kept_of held)))
 each_means p held Unshown = another p
 each_means p held Partly = another p
 each_means p held Another = another p

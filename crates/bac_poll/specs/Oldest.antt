@@ -10,8 +10,8 @@ use Rattle.bac_poll.specs.Known.{means_in, number_in, record_at, records_behind}
 use Rattle.bac_poll.specs.State.{KeptAs, PollState, Reply}
 use Rattle.bac_poll.specs.Turns.{Turned, asks, asks_at, brings, confirmed, ends, first_number, last_in}
 use Rattle.bac_poll.specs.Turns.{number_before, number_or}
-use Rattle.bac_poll.specs.declared.known.Means.{Means}
-use Rattle.bac_poll.specs.declared.known.Means.TheVariants.{Shifted, Partly, Same, Unshown, Another}
+use Rattle.bac_known.specs.declared.known.Means.{Means}
+use Rattle.bac_known.specs.declared.known.Means.TheVariants.{Shifted, Partly, Same, Unshown, Another}
 use Rattle.bac_poll.specs.declared.stage.Aim.TheVariants.{Finds}
 use Rattle.bac_poll.specs.declared.stage.Stage.TheVariants.{ByNumber, UpTo}
 use Rattle.bac_poll.specs.declared.turn.PollEnd.TheVariants.{CaughtUp, NoneByNumber, ShowsNone}
@@ -46,16 +46,22 @@ abbrev pub sees_none : PollState → (back : Bool) → (cut : Bool) → List Num
 sees_none p back cut records =
     if is_ahead p.next (first_number records) then drops p back records else sees_before p cut records
 
+-- They end with the newest, which wasn't found by number: where they may be cut off, others may follow that nobody
+-- finds.
+abbrev pub sees_last : PollState → (cut : Bool) → List Numbered → Turned
+sees_last p cut news = if (length news == 0) && cut then ends p NoneByNumber else brings p news
+
 -- What follows the newest is kept. Nothing follows, and it wasn't asked for by number yet, but an earlier one was: it
 -- is.
-abbrev pub sees_news : PollState → (asked : Bool) → List Numbered → Turned
-sees_news p asked news = if (length news == 0) && not asked then asks p else brings p news
+abbrev pub sees_news : PollState → (asked : Bool) → (cut : Bool) → List Numbered → Turned
+sees_news p asked cut news = if (length news == 0) && not asked then asks p else sees_last p cut news
 
 -- They show known ones as they are known: what follows the newest is kept, if that is among them. A short reply may not
 -- come to it: it is asked for, if it wasn't yet.
 abbrev pub sees_newest : PollState → KeptAs → (cut : Bool) → List Numbered → Option Numbered → Turned
 sees_newest p kept cut records None = if p.alone then sees_before p cut records else asks_newest p kept.number
-sees_newest p kept cut records (Some held) = sees_news (found p held) p.alone (records_behind kept.number records)
+sees_newest p kept cut records (Some held) =
+    sees_news (found p held) p.alone cut (records_behind kept.number records)
 
 -- the same where the newest is known
 abbrev pub sees_same : PollState → (cut : Bool) → List Numbered → Option KeptAs → Turned

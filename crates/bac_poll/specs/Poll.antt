@@ -4,11 +4,9 @@ use Rattle.std.specs.Prelude.{if◌then◌else◌}
 use Rattle.std.specs.Prelude.{List, [], length, Option, None, Some}
 use Rattle.std.specs.Option.{is_none}
 use Rattle.bac_wire.specs.Primitive.{Id}
-use Rattle.bac_apdu.specs.Service.ReadRangeAck.{RangeAck, read_range_ack_at}
 use Rattle.bac_apdu.specs.declared.service.extent.Extent.TheVariants.{ByNumber}
 use Rattle.bac_log.specs.declared.entry.Entry.{Entry}
-use Rattle.bac_link.specs.Datagrams.{apdu_in}
-use Rattle.bac_link.specs.Heard.{AckParameters, heard_in, parameters_in}
+use Rattle.bac_link.specs.Heard.{AckParameters, heard_in}
 use Rattle.bac_link.specs.Links.{question}
 use Rattle.bac_link.specs.Ordinals.{distance}
 use Rattle.bac_link.specs.declared.request.Request.{Request}
@@ -26,13 +24,14 @@ use Rattle.bac_poll.specs.Oldest.{by_count, by_number, is_cut, sees}
 use Rattle.bac_poll.specs.Starts.{starts, starts_by, starts_from, starts_none}
 use Rattle.bac_poll.specs.State.{KeptAs, PollState, Reply, StandingAs, ToldAs}
 use Rattle.bac_poll.specs.Turns.{Turned, asks_at, end_of, ends, first_number, number_before}
-use Rattle.bac_poll.specs.declared.date_time.DateTime.{DateTime}
+use Rattle.bac_known.specs.declared.date_time.DateTime.{DateTime}
 use Rattle.bac_poll.specs.declared.stage.Aim.{Aim}
 use Rattle.bac_poll.specs.declared.stage.Aim.TheVariants.{Finds, Renews, Starts}
 use Rattle.bac_poll.specs.declared.stage.Stage.{Stage}
 use Rattle.bac_poll.specs.declared.stage.Stage.TheVariants.{Joins, Prior, Ahead, Again, Each, Oldest, ByNumber, Counts}
 use Rattle.bac_poll.specs.declared.stage.Stage.TheVariants.{UpTo, Back, Revision, Restart}
 use Rattle.bac_poll.specs.declared.turn.PollEnd.TheVariants.{Fault}
+pub use Rattle.bac_known.specs.Ack.{has_last, has_more, ack_at, ack_in}
 
 -- ---- what is asked
 
@@ -107,25 +106,6 @@ reply_of p Refuse es last more = None
 reply_of p Ask es last more = Some (record { records = []; last = last; more = more })
 reply_of p End es last more = Some (record { records = []; last = last; more = more })
 reply_of p (Bring first) es last more = reply_with p (with_numbers first es) last more
-
--- whether an ACK has LAST_ITEM set (clause 15.8.1.1)
-abbrev pub has_last : Option RangeAck → Bool
-has_last None = false
-has_last (Some ack) = ack.last_item
-
--- whether it has MORE_ITEMS set
-abbrev pub has_more : Option RangeAck → Bool
-has_more None = false
-has_more (Some ack) = ack.more_items
-
--- the ACK of ReadRange in a datagram
-abbrev pub ack_at : Option (List ℕ) → Option RangeAck
-ack_at None = None
-ack_at (Some parameters) = read_range_ack_at parameters
-
--- the same of a datagram
-abbrev pub ack_in : List ℕ → Option RangeAck
-ack_in datagram = ack_at (parameters_in (apdu_in datagram))
 
 -- what is heard as a reply
 abbrev pub reply_from : PollState → Option AckParameters → (last : Bool) → (more : Bool) → Option Reply

@@ -12,8 +12,8 @@ use Rattle.bac_poll.specs.Turns.{standing_at}
 use Rattle.bac_poll.specs.declared.stage.Aim.TheVariants.{Starts}
 use Rattle.bac_poll.specs.declared.turn.Beginning.{Beginning}
 use Rattle.bac_poll.specs.declared.turn.PollEnd.TheVariants.{ShowsNone}
-use Rattle.bac_poll.specs.declared.word.Word.{Word}
-use Rattle.bac_poll.specs.declared.word.Word.TheVariants.{Same, Changed, Untold}
+use Rattle.bac_known.specs.declared.word.Word.{Word}
+use Rattle.bac_known.specs.declared.word.Word.TheVariants.{Same, Changed, Untold}
 
 -- where the first epoch begins, and whether that is known by the count alone
 abbrev pub beginning : ℕ → Bool → Option Beginning

@@ -1,6 +1,6 @@
 -- What an answer makes of a poll, and the steps of which the rule is made.
-use Rattle.std.specs.Prelude.{ℕ, ◌+◌, ◌-◌, ◌==◌, nat_lt, Bool, true, false, if◌then◌else◌, List, [], ◌∷◌, length}
-use Rattle.std.specs.Prelude.{Option, None, Some, slice_get}
+use Rattle.std.specs.Prelude.{ℕ, ◌+◌, ◌==◌, nat_lt, Bool, true, false, if◌then◌else◌, List, [], ◌∷◌}
+use Rattle.std.specs.Prelude.{Option, None, Some}
 use Rattle.std.specs.Option.{option_map}
 use Rattle.bac_link.specs.Ordinals.{number_after}
 use Rattle.bac_link.specs.declared.item.Item.{Item}
@@ -9,7 +9,6 @@ use Rattle.bac_walk.specs.Walks.{gap_items}
 use Rattle.bac_walk.specs.declared.batch.Numbered.{Numbered}
 use Rattle.bac_poll.specs.DateTime.{dated}
 use Rattle.bac_poll.specs.State.{KeptAs, PollState, ToldAs, kept_of}
-use Rattle.bac_poll.specs.declared.date_time.DateTime.{DateTime}
 use Rattle.bac_poll.specs.declared.stage.Stage.{Stage}
 use Rattle.bac_poll.specs.declared.stage.Stage.TheVariants.{Joins}
 use Rattle.bac_poll.specs.declared.turn.Beginning.{Beginning}
@@ -17,6 +16,9 @@ use Rattle.bac_poll.specs.declared.turn.Line.{Line}
 use Rattle.bac_poll.specs.declared.turn.PollEnd.{PollEnd}
 use Rattle.bac_poll.specs.declared.turn.PollEnd.TheVariants.{CaughtUp, SaysMore}
 use Rattle.bac_poll.specs.declared.turn.Turn.{Turn}
+pub use Rattle.bac_known.specs.Known.{with_restart, revision_or, word_with}
+pub use Rattle.bac_known.specs.Kept.{kept_or}
+pub use Rattle.bac_known.specs.Numbers.{number_before, first_in, last_in, number_or, first_number, before_last}
 
 -- What an answer makes of a poll, to be committed in one transaction, in this order.
 pub record Turned : Type 0 where
@@ -74,27 +76,6 @@ end_of p = if p.more then SaysMore else CaughtUp
 abbrev pub gap_up_to : ℕ → ℕ → List Item
 gap_up_to first before = if first == before then [] else Gap first before ∷ []
 
--- the number before this one: the last that there is before 1
-abbrev pub number_before : ℕ → ℕ
-number_before number = if number == 1 then 4294967295 else number - 1
-
--- the first of these records, if there is one
-abbrev pub first_in : List Numbered → Option Numbered
-first_in records = slice_get records 0
-
--- the last of them
-abbrev pub last_in : List Numbered → Option Numbered
-last_in records = slice_get records (length records - 1)
-
--- the number of a record, or that one if there is none
-abbrev pub number_or : ℕ → Option Numbered → ℕ
-number_or number None = number
-number_or number (Some held) = held.number
-
--- the number of the first of them; 0, which is none, if there is none
-abbrev pub first_number : List Numbered → ℕ
-first_number records = number_or 0 (first_in records)
-
 -- ---- where the log stands
 
 -- what follows the newest known record is asked for, from that one on
@@ -105,15 +86,10 @@ asking_from p number = record p { stage = Joins; reference = number; alone = tru
 abbrev pub standing_on : PollState → KeptAs → PollState
 standing_on p kept = asking_from (record p { newest = Some kept }) kept.number
 
--- the record so many before the last of these, if there is one
-abbrev pub before_last : List Numbered → ℕ → Option Numbered
-before_last records back =
-    if nat_lt back (length records) then slice_get records (length records - 1 - back) else None
-
--- this record, or that where there is none
-abbrev pub kept_or : Option KeptAs → Option KeptAs → Option KeptAs
-kept_or None other = other
-kept_or (Some kept) other = Some kept
+-- The same, and none before it is known: those were asked for alone, and a record that is at another hour each time it
+-- is shown would have them asked for without end.
+abbrev pub standing_alone : PollState → KeptAs → PollState
+standing_alone p kept = record (standing_on p kept) { earlier = None; earliest = None }
 
 -- the third of the records that are known then
 abbrev pub third_known : PollState → (earlier : Option KeptAs) → (earliest : Option KeptAs) → Option KeptAs
@@ -149,21 +125,6 @@ abbrev pub standing_at : PollState → ℕ → PollState
 standing_at p next = record p { next = next; newest = None; earlier = None; earliest = None }
 
 -- ---- the word
-
--- the word on record with the restart that is told, if one is
-abbrev pub with_restart : ToldAs → (restart : List ℕ) → (moment : DateTime) → ToldAs
-with_restart was [] moment = was
-with_restart was (octet ∷ octets) moment = record was { restart = octet ∷ octets; moment = moment }
-
--- a revision that is told, else the one on record
-abbrev pub revision_or : Option ℕ → Option ℕ → Option ℕ
-revision_or was None = was
-revision_or was (Some now) = Some now
-
--- the word on record, with each part that is told
-abbrev pub word_with : ToldAs → ToldAs → ToldAs
-word_with was now =
-    record (with_restart was now.restart now.moment) { revision = revision_or was.revision now.revision }
 
 -- the log was found at its place: the word that is told is on record
 abbrev pub confirmed : PollState → PollState

@@ -6,12 +6,13 @@ ghost use Rattle.bac_poll.specs.Back.{back, back_alone, back_by, back_done, back
 ghost use Rattle.bac_poll.specs.Back.{back_shown};
 ghost use Rattle.bac_poll.specs.Back.{is_front, shown_last};
 
-use crate::kept::Kept;
-use crate::known::{Means, Shown, shown_as};
 use crate::poll::LogPoll;
 use crate::stage::{Aim, Stage};
 use crate::turn::{PollEnd, Turn};
-use crate::turns::{distance, first_in, first_number, is_one, last_in, number_before, number_or};
+use bac_known::{
+    Kept, Means, Shown, distance, first_in, first_number, is_one, last_in, number_before,
+    number_or, shown_as,
+};
 use bac_walk::Numbered;
 use std::alloc::{AllocError, Global};
 

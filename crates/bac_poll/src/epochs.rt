@@ -8,7 +8,7 @@ ghost use Rattle.bac_poll.specs.Epochs.{brings_behind, renews, renews_none, rene
 use crate::poll::LogPoll;
 use crate::stage::{Aim, Stage};
 use crate::turn::{Line, PollEnd, Turn, gap_up_to};
-use crate::turns::{first_in, first_number, number_behind, number_or};
+use bac_known::{first_in, first_number, number_behind, number_or};
 use bac_walk::Numbered;
 use std::alloc::{AllocError, Global};
 

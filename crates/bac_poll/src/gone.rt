@@ -8,12 +8,10 @@ ghost use Rattle.bac_poll.specs.Gone.{brings_doubtful, brings_gone, by_gone, by_
 ghost use Rattle.bac_poll.specs.Gone.{gone_by, gone_of, gone_of_none, has_logged, is_behind};
 ghost use Rattle.bac_poll.specs.Gone.{is_earlier, is_outlived, retold};
 
-use crate::date_time::DateTime;
 use crate::poll::LogPoll;
 use crate::stage::Stage;
 use crate::turn::{Line, Turn, gap_up_to};
-use crate::turns::{first_in, is_known, number_behind, number_or};
-use crate::word::{Told, Word, word_of};
+use bac_known::{DateTime, Told, Word, first_in, is_known, number_behind, number_or, word_of};
 use bac_walk::Numbered;
 use std::alloc::{AllocError, Global};
 

@@ -13,14 +13,13 @@ ghost use Rattle.bac_poll.specs.Joins.{goes_on, hour};
 ghost use Rattle.bac_poll.specs.Joins.{joined, joins, joins_by, joins_from, lost, lost_ahead};
 ghost use Rattle.bac_poll.specs.Joins.{moved_ahead, prior};
 
-use crate::ack::Reply;
-use crate::kept::Kept;
-use crate::known::{Means, Shown, number_in, record_at, records_behind, shown_in};
 use crate::poll::LogPoll;
 use crate::stage::{Aim, Stage};
 use crate::turn::{Line, PollEnd, Turn, gap_up_to};
-use crate::turns::{first_in, first_number, is_known, is_none, is_one, last_in, number_behind};
-use crate::word::is_retold;
+use bac_known::{
+    Kept, Means, Reply, Shown, first_in, first_number, is_known, is_none, is_one, is_retold,
+    last_in, number_behind, number_in, record_at, records_behind, shown_in,
+};
 use bac_walk::Numbered;
 use std::alloc::{AllocError, Global};
 
@@ -366,13 +365,13 @@ impl LogPoll {
         match means {
             Means::Same => {
                 let kept = Kept::of(alloc, held)?;
-                self.stand_on(kept);
+                self.stand_alone(kept);
                 Ok(self.asks(alloc))
             }
             Means::Shifted(by) => {
                 let line = self.hour(by);
                 let kept = Kept::of(alloc, held)?;
-                self.stand_on(kept);
+                self.stand_alone(kept);
                 let turn = self.asks(alloc);
                 Ok(self.at_hour(by, line, turn))
             }

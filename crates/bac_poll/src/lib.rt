@@ -9,31 +9,21 @@
 //! to the newest.
 #![tactic(auto)]
 
-mod ack;
 mod back;
-mod date_time;
 mod epochs;
 mod gone;
 mod joins;
-mod kept;
-mod known;
 mod oldest;
 mod poll;
 mod question;
 mod reading;
 mod stage;
-mod stamps;
 mod starts;
 mod turn;
 mod turns;
-mod word;
 
-pub use ack::Reply;
-pub use date_time::DateTime;
+pub use bac_known::{DateTime, Kept, Means, Reply, Shown, Told, Word};
 pub use gone::Gone;
-pub use kept::Kept;
-pub use known::{Means, Shown};
 pub use poll::{LogPoll, Standing};
 pub use stage::{Aim, Stage};
 pub use turn::{Beginning, Line, PollEnd, Turn};
-pub use word::{Told, Word};

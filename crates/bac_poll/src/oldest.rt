@@ -5,16 +5,17 @@ ghost use Rattle.bac_poll.specs.Known.{record_at};
 ghost use Rattle.bac_poll.specs.State.{KeptAs, reply_as};
 ghost use Rattle.bac_poll.specs.Turns.{turned};
 ghost use Rattle.bac_poll.specs.Oldest.{by_count, by_number, drops, is_cut, is_first, is_since};
-ghost use Rattle.bac_poll.specs.Oldest.{logged, sees, sees_before, sees_by, sees_newest, sees_news};
-ghost use Rattle.bac_poll.specs.Oldest.{sees_none, sees_same};
+ghost use Rattle.bac_poll.specs.Oldest.{logged, sees, sees_before, sees_by, sees_last, sees_newest};
+ghost use Rattle.bac_poll.specs.Oldest.{sees_news, sees_none, sees_same};
 ghost use Rattle.bac_poll.specs.Oldest.{weighed};
 
-use crate::ack::Reply;
-use crate::known::{Means, number_in, record_at, records_behind};
 use crate::poll::LogPoll;
 use crate::stage::{Aim, Stage};
 use crate::turn::{PollEnd, Turn};
-use crate::turns::{first_number, is_ahead, is_none, last_in, number_before, number_or};
+use bac_known::{
+    Means, Reply, first_number, is_ahead, is_none, last_in, number_before, number_in, number_or,
+    record_at, records_behind,
+};
 use bac_walk::Numbered;
 use std::alloc::{AllocError, Global};
 
@@ -106,19 +107,37 @@ impl LogPoll {
         }
     }
 
+    // They end with the newest, which wasn't found by number.
+    fn see_last(
+        &mut self,
+        alloc: Global,
+        cut: bool,
+        news: Vec<Numbered>,
+    ) -> Result<Turn, AllocError>
+        ensures { IfOk result (λ turn. turned self.new turn ≡ sees_last self.old cut news.items) }
+    {
+        if is_none(&news) && cut {
+            Ok(self.ends(alloc, PollEnd::NoneByNumber))
+        } else {
+            self.bring(alloc, news)
+        }
+    }
+
     // What follows the newest is kept.
     fn see_news(
         &mut self,
         alloc: Global,
         asked: bool,
+        cut: bool,
         news: Vec<Numbered>,
     ) -> Result<Turn, AllocError>
-        ensures { IfOk result (λ turn. turned self.new turn ≡ sees_news self.old asked news.items) }
+        ensures { IfOk result (λ turn. turned self.new turn
+            ≡ sees_news self.old asked cut news.items) }
     {
         if is_none(&news) && !asked {
             Ok(self.asks(alloc))
         } else {
-            self.bring(alloc, news)
+            self.see_last(alloc, cut, news)
         }
     }
 
@@ -138,7 +157,7 @@ impl LogPoll {
             Some(held) => {
                 let asked = self.alone;
                 self.find(alloc, held)?;
-                self.see_news(alloc, asked, records_behind(number, records))
+                self.see_news(alloc, asked, cut, records_behind(number, records))
             }
             None => {
                 if self.alone {

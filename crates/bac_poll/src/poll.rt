@@ -10,14 +10,10 @@ ghost use Rattle.bac_poll.specs.Poll.{up_to_none};
 ghost use Rattle.bac_poll.specs.State.{PollState, maybe_kept, reply_as, standing_as, told_as};
 ghost use Rattle.bac_poll.specs.Turns.{turned};
 
-use crate::ack::Reply;
-use crate::date_time::DateTime;
-use crate::kept::Kept;
 use crate::stage::{Aim, Stage};
 use crate::turn::{PollEnd, Turn};
-use crate::turns::{is_none, number_before};
-use crate::word::Told;
 use bac_apdu::object_type::TREND_LOG;
+use bac_known::{DateTime, Kept, Reply, Told, is_none, number_before};
 use bac_walk::{Count, Numbered, WalkFault};
 use bac_wire::{Datagram, ObjectId};
 use std::alloc::{AllocError, Global};

@@ -1,26 +1,19 @@
 //! What is heard of a trend log, as a reply. It is read once.
 
 ghost use Rattle.std.specs.Prelude.{◌≡◌, ◌≤◌, true, IfOk};
-ghost use Rattle.std.specs.Option.{option_map};
 ghost use Rattle.bac_apdu.specs.Service.ReadRangeAck.{range_ack_of};
 ghost use Rattle.bac_link.specs.Heard.{heard_of};
 ghost use Rattle.bac_walk.specs.Walks.{fits};
-ghost use Rattle.bac_wire.specs.OptionChain.{GivesSome};
 ghost use Rattle.bac_poll.specs.State.{maybe_reply};
 ghost use Rattle.bac_poll.specs.Poll.{are_asked, are_from, are_up_to, reply_from, reply_in};
-ghost use Rattle.bac_poll.specs.Reading.{is_taken, number_told, numbered_in};
+ghost use Rattle.bac_poll.specs.Reading.{is_taken};
 
-use crate::ack::{Reply, ack_of, is_of, says_last, says_more};
 use crate::poll::LogPoll;
 use crate::stage::Stage;
-use crate::turns::{distance, number_behind};
 use bac_apdu::ReadRangeAck;
-use bac_log::read_entry;
+use bac_known::{Reply, ack_of, distance, is_of, number_told, records_in, says_last, says_more};
 use bac_walk::Numbered;
 use std::alloc::{AllocError, Global};
-
-/// A record has so many octets at least.
-const LEAST: usize = 15;
 
 impl LogPoll {
     /// A datagram as a reply, if it is one by the question.
@@ -98,42 +91,6 @@ impl LogPoll {
             Stage::Revision => false,
             Stage::Restart => false,
         }
-    }
-}
-
-// The number of the first record that a reply tells; 0, which is none, if it tells none.
-fn number_told(first: Option<u32>) -> u32
-    ensures { result ≡ number_told first }
-{
-    match first {
-        Some(first) => first,
-        None => 0,
-    }
-}
-
-// Octets as records, the first of which has this number; none, if they aren't records all through.
-fn records_in(alloc: Global, first: u32, octets: &[u8]) -> Result<Option<Vec<Numbered>>, AllocError>
-    ensures { IfOk result (λ records. GivesSome (λ r. r.items) records
-        (numbered_in first octets.now)) }
-{
-    let mut records = Vec::with_capacity(alloc, octets.len() / LEAST)?;
-    let mut number = first;
-    let mut rest = octets;
-    for taken in 0..octets.len() {
-        if rest.is_empty() {
-            return Ok(Some(records));
-        }
-        let Some((entry, len)) = read_entry(rest) else {
-            return Ok(None);
-        };
-        records.push(Numbered { number, entry })?;
-        number = number_behind(number);
-        rest = &rest[len..];
-    }
-    if rest.is_empty() {
-        Ok(Some(records))
-    } else {
-        Ok(None)
     }
 }
 

@@ -11,8 +11,7 @@ ghost use Rattle.bac_poll.specs.Starts.{starts_refused, starts_told};
 use crate::poll::LogPoll;
 use crate::stage::Aim;
 use crate::turn::{Beginning, PollEnd, Turn, gap_up_to};
-use crate::turns::{first_in, first_number, is_ahead, number_behind, number_or};
-use crate::word::{Word, word_of};
+use bac_known::{Word, first_in, first_number, is_ahead, number_behind, number_or, word_of};
 use bac_walk::Numbered;
 use std::alloc::{AllocError, Global};
 

@@ -17,7 +17,7 @@ pub enum PollEnd {
     SaysMore,
     /// It shows no record, and refuses its count.
     ShowsNone,
-    /// It shows its oldest records, which aren't all that it holds, and none by number.
+    /// It shows its oldest records, which need not be all that it holds, and none by number.
     NoneByNumber,
     /// It contradicts itself: it would begin a third life in one poll, or holds more records before
     /// one than there are numbers before it.

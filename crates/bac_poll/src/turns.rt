@@ -1,26 +1,24 @@
 //! The steps of which the rule is made.
 
-ghost use Rattle.std.specs.Prelude.{◌≡◌, ◌+◌, ◌<◌, ◌==◌, IfOk, Some, length};
-ghost use Rattle.std.specs.Option.{is_some, option_map};
-ghost use Rattle.bac_link.specs.Ordinals.{distance, is_ahead, number_after};
+ghost use Rattle.std.specs.Prelude.{◌≡◌, ◌+◌, ◌<◌, IfOk, Some};
 ghost use Rattle.bac_walk.specs.Walks.{gap_items};
 ghost use Rattle.bac_poll.specs.State.{kept_as, kept_of, maybe_kept, told_as};
 ghost use Rattle.bac_poll.specs.Turns.{asking_from, asks, asks_at, before_last, behind, brings};
 ghost use Rattle.bac_poll.specs.Turns.{confirmed};
-ghost use Rattle.bac_poll.specs.Turns.{end_of, ends, first_in, first_number, kept_or, knowing};
+ghost use Rattle.bac_poll.specs.Turns.{end_of, ends, kept_or, knowing};
 ghost use Rattle.bac_poll.specs.Turns.{last_in};
 ghost use Rattle.bac_poll.specs.Turns.{third_known};
-ghost use Rattle.bac_poll.specs.Turns.{next_life, number_before, number_or, renewed, standing_at};
-ghost use Rattle.bac_poll.specs.Turns.{standing_on, turned};
+ghost use Rattle.bac_poll.specs.Turns.{next_life, renewed, standing_at};
+ghost use Rattle.bac_poll.specs.Turns.{standing_alone, standing_on, turned};
 ghost use Rattle.bac_poll.specs.Known.{heeding, is_steady, means_in};
 
-use crate::date_time::DateTime;
-use crate::kept::Kept;
-use crate::known::{Means, is_steady_with, means_of, shown_in};
 use crate::poll::LogPoll;
 use crate::stage::Stage;
 use crate::turn::{PollEnd, Turn};
-use crate::word::{Told, is_other_word};
+use bac_known::{
+    DateTime, Kept, Means, Told, before_last, is_known, is_other_word, is_steady_with, kept_of,
+    kept_or, last_in, means_of, number_behind, shown_in,
+};
 use bac_walk::Numbered;
 use std::alloc::{AllocError, Global};
 use std::mem::replace;
@@ -76,6 +74,15 @@ impl LogPoll {
         let number = kept.number;
         self.newest = Some(kept);
         self.ask_from(number);
+    }
+
+    /// The same, and none before it is known.
+    pub(crate) fn stand_alone(&mut self, kept: Kept)
+        ensures { self.new ≡ standing_alone self.old (kept_as kept) }
+    {
+        self.stand_on(kept);
+        self.earlier = None;
+        self.earliest = None;
     }
 
     /// No record right before this number is known.
@@ -211,126 +218,6 @@ impl LogPoll {
         let earliest = shown_in(alloc, &self.earliest, records)?;
         Ok(self.heed(means_of(is_known(&self.earliest), newest, earlier, earliest)))
     }
-}
-
-/// Whether a record is known.
-pub(crate) fn is_known(kept: &Option<Kept>) -> bool
-    ensures { result ≡ is_some (maybe_kept kept.now) }
-{
-    match kept {
-        Some(_) => true,
-        None => false,
-    }
-}
-
-/// Whether there are no records.
-pub(crate) fn is_none(records: &Vec<Numbered>) -> bool
-    ensures { result ≡ (length records.now.items == 0) }
-{
-    records.len() == 0
-}
-
-/// Whether there is one.
-pub(crate) fn is_one(records: &Vec<Numbered>) -> bool
-    ensures { result ≡ (length records.now.items == 1) }
-{
-    records.len() == 1
-}
-
-/// The first of these records, if there is one.
-pub(crate) fn first_in(records: &Vec<Numbered>) -> Option<Numbered>
-    ensures { result ≡ first_in records.now.items }
-{
-    records.as_slice().first().copied()
-}
-
-/// The last of them.
-pub(crate) fn last_in(records: &Vec<Numbered>) -> Option<Numbered>
-    ensures { result ≡ last_in records.now.items }
-{
-    records.as_slice().last().copied()
-}
-
-// The record so many before the last of them, if there is one.
-fn before_last(records: &Vec<Numbered>, back: usize) -> Option<Numbered>
-    ensures { result ≡ before_last records.now.items back }
-{
-    let records = records.as_slice();
-    if back < records.len() {
-        records.get(records.len() - 1 - back).copied()
-    } else {
-        None
-    }
-}
-
-// This record, or that where there is none.
-fn kept_or(kept: Option<Kept>, other: Option<Kept>) -> Option<Kept>
-    ensures { maybe_kept result ≡ kept_or (maybe_kept kept) (maybe_kept other) }
-{
-    match kept {
-        Some(kept) => Some(kept),
-        None => other,
-    }
-}
-
-// One that there may be, as it would be kept.
-fn kept_of(alloc: Global, held: Option<Numbered>) -> Result<Option<Kept>, AllocError>
-    ensures { IfOk result (λ kept. maybe_kept kept ≡ option_map kept_of held) }
-{
-    match held {
-        Some(held) => Ok(Some(Kept::of(alloc, held)?)),
-        None => Ok(None),
-    }
-}
-
-/// The number of a record, or that one if there is none.
-pub(crate) fn number_or(number: u32, held: Option<Numbered>) -> u32
-    ensures { result ≡ number_or number held }
-{
-    match held {
-        Some(held) => held.number,
-        None => number,
-    }
-}
-
-/// The number of the first of them; 0 if there is none.
-pub(crate) fn first_number(records: &Vec<Numbered>) -> u32
-    ensures { result ≡ first_number records.now.items }
-{
-    number_or(0, first_in(records))
-}
-
-/// The number behind this one: 1 behind the last that there is.
-pub(crate) fn number_behind(number: u32) -> u32
-    ensures { result ≡ number_after number 1 }
-{
-    if number == 4294967295 { 1 } else { number + 1 }
-}
-
-/// The number before this one: the last that there is before 1.
-pub(crate) fn number_before(number: u32) -> u32
-    ensures { result ≡ number_before number }
-{
-    if number == 1 {
-        4294967295
-    } else {
-        number.saturating_sub(1)
-    }
-}
-
-/// How many numbers lie from one up to another, round the count.
-pub(crate) fn distance(first: u32, before: u32) -> u64
-    ensures value { result ≡ distance first before }
-    ensures bound { result < 4294967296 }
-{
-    (u64::from(before) + 4294967295 - u64::from(first)) % 4294967295
-}
-
-/// Whether a number is another one or lies behind it: half of the numbers do.
-pub(crate) fn is_ahead(number: u32, held: u32) -> bool
-    ensures { result ≡ is_ahead number held }
-{
-    (u64::from(held) + 4294967295 - u64::from(number)) % 4294967295 < 2147483648
 }
 
 // One more epoch.

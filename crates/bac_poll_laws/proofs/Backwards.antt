@@ -8,9 +8,9 @@ use Rattle.bac_poll_laws.specs.Laws.{Goes, IsAimed, IsBefore, HasSome, IsBegun, 
 use Rattle.bac_poll.specs.Oldest.{is_first}
 use Rattle.bac_poll.specs.State.{KeptAs, PollState}
 use Rattle.bac_poll.specs.Turns.{first_in, first_number, last_in, number_before}
-use Rattle.bac_poll.specs.declared.known.Means.TheVariants.{Unshown}
-use Rattle.bac_poll.specs.declared.known.Shown.{Shown}
-use Rattle.bac_poll.specs.declared.known.Shown.TheVariants as shown
+use Rattle.bac_known.specs.declared.known.Means.TheVariants.{Unshown}
+use Rattle.bac_known.specs.declared.known.Shown.{Shown}
+use Rattle.bac_known.specs.declared.known.Shown.TheVariants as shown
 use Rattle.bac_poll.specs.declared.stage.Aim.{Aim}
 use Rattle.bac_poll.specs.declared.stage.Aim.TheVariants.{Finds, Renews, Starts}
 use Rattle.bac_poll.specs.declared.stage.Stage.TheVariants.{Back}

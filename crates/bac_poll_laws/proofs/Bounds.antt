@@ -16,12 +16,13 @@ use Rattle.bac_poll.specs.declared.stage.Aim.TheVariants.{Finds, Renews, Starts}
 use Rattle.bac_poll.specs.declared.stage.Stage.{Stage}
 use Rattle.bac_poll.specs.declared.stage.Stage.TheVariants as stage
 use Rattle.bac_poll.specs.declared.stage.Stage.TheVariants.{Oldest}
-use Rattle.bac_poll_laws.specs.Bounds.{AnswerIt, AreBounded, AreInRow, FollowsOn, QuestionsAreBounded, WhicheverRecord, again_one, back_one, count_of, each_one, hour_one, kept_one, lost_one}
+use Rattle.bac_poll_laws.specs.Bounds.{AnswerIt, AreBounded, AreInRow, FollowsOn, QuestionsAreBounded, WhicheverRecord, again_one, back_one, count_of, kept_one, lost_one}
 use Rattle.bac_poll_laws.specs.Delivers.{Given, after_given, asking_less}
 use Rattle.bac_poll_laws.specs.Laws.{Answer, Answers, Counted, HasSome, IsAimed, IsAt, IsBefore, IsRun, IsStanding, Replied, Restarted, Revised, Whichever, after_answer}
 use Rattle.bac_poll_laws.specs.Questions.{one_if_kept}
 use Rattle.bac_poll_laws.proofs.Delivered.{less_at, less_stage}
-use Rattle.bac_poll_laws.proofs.Lefts.{Costs, Refers, Row, by_word_costs, each_cost, left, left_at, left_back, restart_costs}
+use Rattle.bac_poll_laws.proofs.Hours.{answer_spends, hours, hours_low, less_hours}
+use Rattle.bac_poll_laws.proofs.Lefts.{Costs, Refers, Row, by_word_costs, each_cost, each_one, hour_one, left, left_at, left_back, restart_costs}
 use Rattle.bac_poll_laws.proofs.Looks.{back_takes, by_number_costs, counted_costs, oldest_takes, renewed_costs, starts_from_costs, up_to_takes}
 use Rattle.bac_poll_laws.proofs.Once.{IsRunReply, aimed_so, any_answer, begins_standing, heard_run, one_answer}
 use Rattle.bac_poll_laws.proofs.Takes.{again_costs, ahead_costs, each_costs, joins_costs, prior_costs}
@@ -305,7 +306,7 @@ one_back stage.Restart t = omega arith
 -- all of it
 abbrev Within : ℕ → ℕ → PollState → List Given → Type 0
 Within n m p given =
-    (length given ≤ n + count_of back_one p given + 3 * count_of lost_one p given + 8 * count_of kept_one p given + 9 * count_of hour_one p given)
+    (length given ≤ n + count_of back_one p given + 3 * count_of lost_one p given + 17 * count_of kept_one p given)
     × (count_of back_one p given ≤ m)
 
 step_inv : (p : PollState) (given : Given) → Inv p → Answers WhicheverRecord (asking_less given.less p) given.answer → (after_given p given).end ≡ None → Inv (after_given p given).poll
@@ -316,7 +317,7 @@ step_inv p given is shows going =
     let stands = (one_answer WhicheverRecord Whichever tt q given.answer here.0 shows (any_answer WhicheverRecord q given.answer)).1 going in
     (stands, paid.1, paid.2, subst (λ w. w.count ≤ 100) (sym paid.3) here.3)
 
-last_within : (p : PollState) (given : Given) (others : List Given) → others ≡ [] → Within (left p) (2147483648 - p.back + 1) p (given ∷ others)
+last_within : (p : PollState) (given : Given) (others : List Given) → others ≡ [] → Within (left p + 9 * hours p) (2147483648 - p.back + 1) p (given ∷ others)
 last_within p given [] none =
     let t = after_given p given in
     let one = one_left p.alone (length p.held) p.stage t in
@@ -324,20 +325,28 @@ last_within p given [] none =
     (omega (arith, one), omega (arith, back))
 last_within p given (next ∷ rest) none = absurd (cc)
 
-all_within : (p : PollState) (given : List Given) → Inv p → AnswerIt p given → Within (left p) (2147483648 - p.back + 1) p given
+-- A question is paid of what is left, also of what may be asked for alone.
+paid_with : (l n b x k h u v : ℕ) → 1 + l ≤ n + (b + 3 * x + 8 * k + 9 * h) → h + u ≤ v + k → 1 + (l + 9 * u) ≤ n + 9 * v + (b + 3 * x + 17 * k)
+paid_with l n b x k h u v paid spent = omega (arith, paid, spent)
+
+all_within : (p : PollState) (given : List Given) → Inv p → AnswerIt p given → Within (left p + 9 * hours p) (2147483648 - p.back + 1) p given
 all_within p [] is answers = (omega arith, omega arith)
 all_within p (given ∷ []) is answers = last_within p given [] refl
 all_within p (given ∷ next ∷ rest) is answers =
     let q = asking_less given.less p in
     let t = after_given p given in
     let here = less_inv given.less p is in
+    let spent : hour_one p.stage t + hours t.poll ≤ hours p + one_if_kept t.records =
+    subst (λ (n : ℕ). hour_one p.stage t + hours t.poll ≤ n + one_if_kept t.records) (less_hours given.less p)
+    (subst (λ (s : Stage). hour_one s t + hours t.poll ≤ hours q + one_if_kept t.records) (less_stage given.less p) (answer_spends q given.answer answers.0 answers.1)) in
     let paid = subst (λ (s : Stage). (1 + left t.poll ≤ left q + (back_one s t + 3 * lost_one s t + 8 * one_if_kept t.records + 9 * hour_one s t))
     × ((2147483648 - t.poll.back) + back_one s t ≤ 2147483648 - q.back)) (less_stage given.less p)
     (let all = answer_paid q given.answer here answers.0 answers.1 in (all.0, all.4)) in
+    let all_paid = paid_with (left t.poll) (left q) _ _ _ _ (hours t.poll) (hours p) paid.0 spent in
     let others = all_within t.poll (next ∷ rest) (step_inv p given is answers.0 answers.1) answers.2 in
     let same = less_left given.less p in
     let went = less_back given.less p in
-    (omega (arith, paid.0, others.0, same), omega (arith, paid.1, others.1, went))
+    (omega (arith, all_paid, others.0, same), omega (arith, paid.1, others.1, went))
 
 -- ---- from where it begins
 
@@ -372,7 +381,7 @@ first_left alone held None next = by alone (next == 1)
     by false true = omega arith
     by false false = omega arith
 
-bounded : (n : ℕ) (p : PollState) (given : List Given) → Inv p → AnswerIt p given → left p ≤ n → p.back ≡ 0 → AreBounded n p given
+bounded : (n : ℕ) (p : PollState) (given : List Given) → Inv p → AnswerIt p given → left p + 9 * hours p ≤ n → p.back ≡ 0 → AreBounded n p given
 bounded n p given is answers low none =
     let all = all_within p given is answers in
     (omega (arith, all.0, low), omega (arith, all.1, none))
@@ -382,8 +391,11 @@ questions_bounded log device many told given low =
     let begins = begins_standing WhicheverRecord Whichever log device many told in (
       λ at row answers.
           let p : PollState = joining log device many at told in
-          bounded 12 p given (begins.0 at row.0, (row.1, row.2), first_refers p at refl refl refl row, low) answers (first_left p.alone 0 at.newest at.next) refl,
+          let once = hours_low p.stage p.earliest in
+          let most = first_left p.alone 0 at.newest at.next in
+          bounded 21 p given (begins.0 at row.0, (row.1, row.2), first_refers p at refl refl refl row, low) answers (omega (arith, once, most)) refl,
       λ counted word answers.
           let p : PollState = starting log device many counted word told in
-          bounded 3 p given (begins.1 counted word, (tt, tt), tt, low) answers (omega arith) refl,
+          let no_more : hours p ≡ 0 = refl in
+          bounded 3 p given (begins.1 counted word, (tt, tt), tt, low) answers (omega (arith, no_more)) refl,
     )

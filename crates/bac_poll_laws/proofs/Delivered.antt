@@ -159,7 +159,9 @@ module _ (P : Numbered → Type 0) (F U V : ℕ → Type 0) where
     again = λ at l last here many whole.
         newest l last many (sym (more_some p.more reply.more reply.records l last) ∙ whole)
         (ap (ends_newest p reply l) at ∙ eq-eqb (number_after l.number 1) p.next here);
-    oldest = λ aim at l last here alone many whole. seen l last here alone many whole (ap (ends_newest p reply l) at);
+    oldest = λ aim at uncut l last here alone many whole.
+        seen l last here alone many whole
+        (ap (ends_newest p reply l) at ∙ ap (λ (b : Bool). not b && (p.alone && (number_after l.number 1 == p.next))) uncut);
     up_to = λ aim at l last here alone many whole. seen l last here alone many whole (ap (ends_newest p reply l) at);
     back = λ aim at l last here alone many whole. seen l last here alone many whole (ap (ends_newest p reply l) at);
   }

@@ -12,13 +12,13 @@ use Rattle.bac_poll.specs.Joins.{ahead, asks_again, asks_each, at_hour, each, ea
 use Rattle.bac_poll.specs.Known.{means_in, number_in, record_at, records_behind, shown_in, maybe_shown, word_of}
 use Rattle.bac_poll_laws.specs.Laws.{Covers, HasSome, IsBefore, IsRun}
 use Rattle.bac_poll.specs.State.{KeptAs, PollState, Reply, kept_of}
-use Rattle.bac_poll.specs.Turns.{Turned, anew, asks, behind, brings, brings_to, confirmed, end_of, ends, first_in, first_number, gap_up_to, last_in, number_or, renewed, standing_at, standing_on}
+use Rattle.bac_poll.specs.Turns.{Turned, anew, asks, behind, brings, brings_to, confirmed, end_of, ends, first_in, first_number, gap_up_to, last_in, number_or, renewed, standing_alone, standing_at}
 use Rattle.bac_poll.specs.declared.gone.Gone.{Gone}
 use Rattle.bac_poll.specs.declared.gone.Gone.TheVariants.{Dropped, Doubtful, Both}
-use Rattle.bac_poll.specs.declared.known.Means.{Means}
-use Rattle.bac_poll.specs.declared.known.Means.TheVariants.{Shifted, Partly, Same, Unshown, Another}
-use Rattle.bac_poll.specs.declared.known.Shown.{Shown}
-use Rattle.bac_poll.specs.declared.known.Shown.TheVariants as shown
+use Rattle.bac_known.specs.declared.known.Means.{Means}
+use Rattle.bac_known.specs.declared.known.Means.TheVariants.{Shifted, Partly, Same, Unshown, Another}
+use Rattle.bac_known.specs.declared.known.Shown.{Shown}
+use Rattle.bac_known.specs.declared.known.Shown.TheVariants as shown
 use Rattle.bac_poll.specs.declared.stage.Aim.{Aim}
 use Rattle.bac_poll.specs.declared.stage.Aim.TheVariants.{Finds}
 use Rattle.bac_poll.specs.declared.stage.Stage.{Stage}
@@ -413,7 +413,7 @@ module _ (P : Numbered → Type 0) (F U V : ℕ → Type 0) where
   each_means_says : (p : PollState) (held : Numbered) (means : Means) → Says p.next p.walk (each_means p held means)
   each_means_says p held Same = (refl, inl refl, inl refl, refl, λ up. absurd (cc), λ none finding. (tt, λ begun. absurd (cc), inl refl))
   each_means_says p held (Shifted by) =
-      hour_says p.next p.walk by (hour p by) (asks (standing_on p (kept_of held)))
+      hour_says p.next p.walk by (hour p by) (asks (standing_alone p (kept_of held)))
       (refl, inl refl, inl refl, refl, λ up. absurd (cc), λ none finding. (tt, λ begun. absurd (cc), inl refl))
   each_means_says p held Unshown = another_says p
   each_means_says p held Partly = another_says p

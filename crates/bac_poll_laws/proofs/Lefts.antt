@@ -89,6 +89,25 @@ Refers p stage.Restart = Unit {0}
 abbrev pub Row : PollState → Type 0
 Row p = FollowsOn p.newest p.earlier × FollowsOn p.earlier p.earliest
 
+-- behind which a known record is asked for alone
+abbrev pub each_one : Stage → ℕ
+each_one stage.Joins = 0
+each_one stage.Prior = 0
+each_one stage.Ahead = 0
+each_one stage.Again = 0
+each_one stage.Each = 1
+each_one stage.ByNumber = 0
+each_one (stage.Oldest aim) = 0
+each_one (stage.Counts aim) = 0
+each_one (stage.UpTo aim) = 0
+each_one (stage.Back aim) = 0
+each_one stage.Revision = 0
+each_one stage.Restart = 0
+
+-- the first of three behind which it is: they are shown at another hour
+abbrev pub hour_one : Stage → Turned → ℕ
+hour_one s t = each_one t.poll.stage - each_one s
+
 -- what a turn may cost more where it asks for known records one by one
 abbrev pub each_cost : (e : ℕ) → Stage → ℕ
 each_cost e stage.Joins = 0

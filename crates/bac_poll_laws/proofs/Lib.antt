@@ -13,10 +13,12 @@ mod Polls
 mod Questions
 mod Keeps
 mod Lefts
+mod Hours
 mod Takes
 mod Looks
 mod Bounds
 mod Older
 mod Backs
+mod ByRecords
 mod Firsts
 mod FirstRuns

@@ -13,10 +13,10 @@ use Rattle.bac_poll.specs.Oldest.{is_cut}
 use Rattle.bac_poll.specs.Starts.{starts, starts_at, starts_by, starts_from, starts_none, starts_refused, starts_told}
 use Rattle.bac_poll.specs.State.{KeptAs, PollState, Reply}
 use Rattle.bac_poll.specs.Turns.{Turned, asks, confirmed, end_of, first_in, first_number, last_in, standing_at}
-use Rattle.bac_poll.specs.declared.known.Means.{Means}
-use Rattle.bac_poll.specs.declared.known.Means.TheVariants.{Shifted, Partly, Same, Unshown, Another}
-use Rattle.bac_poll.specs.declared.known.Shown.{Shown}
-use Rattle.bac_poll.specs.declared.known.Shown.TheVariants as shown
+use Rattle.bac_known.specs.declared.known.Means.{Means}
+use Rattle.bac_known.specs.declared.known.Means.TheVariants.{Shifted, Partly, Same, Unshown, Another}
+use Rattle.bac_known.specs.declared.known.Shown.{Shown}
+use Rattle.bac_known.specs.declared.known.Shown.TheVariants as shown
 use Rattle.bac_poll.specs.declared.stage.Aim.{Aim}
 use Rattle.bac_poll.specs.declared.stage.Aim.TheVariants.{Finds, Renews, Starts}
 use Rattle.bac_poll.specs.declared.turn.PollEnd.TheVariants.{CaughtUp, NoneByNumber, ShowsNone}
@@ -60,7 +60,9 @@ module _ (P : Numbered → Type 0) (e : ℕ) (w : WalkPlace) (b : ℕ) where
       let number : held.number ≡ kept.number = found_number P Whichever kept.number records held at in
       pick P e w b n ((length (records_behind kept.number records) == 0) && not p.alone) _ _
       (λ none. found_costs n p kept held is number row same (nine (not_true p.alone (and_parts _ _ none).1)))
-      (λ some. news_costs P e w b n p kept held (first_number records) records is number row same run (omega (arith, three)))
+      (λ some. pick P e w b n ((length (records_behind kept.number records) == 0) && cut) _ _
+      (λ short. ends_costs P e w b n (found p held) NoneByNumber)
+      (λ more. news_costs P e w b n p kept held (first_number records) records is number row same run (omega (arith, three))))
 
   sees_same_costs : (n : ℕ) (p : PollState) (cut : Bool) (records : List Numbered) (newest : Option KeptAs) → p.newest ≡ newest → Row p → IsSame w b p → IsRun P (first_number records) records → 3 ≤ n →
       (p.alone ≡ false → 9 ≤ n) → Costs e w b n (sees_same p cut records newest)

@@ -23,13 +23,13 @@ use Rattle.bac_poll.specs.Oldest.{sees_by, sees_newest, sees_none, sees_same}
 use Rattle.bac_poll.specs.Starts.{starts_at}
 use Rattle.bac_poll.specs.State.{KeptAs, PollState, kept_of}
 use Rattle.bac_poll.specs.Turns.{Turned, brings, brings_to, confirmed, first_in, first_number, last_in, number_before, number_or, standing_at}
-use Rattle.bac_poll.specs.declared.date_time.DateTime.{DateTime}
+use Rattle.bac_known.specs.declared.date_time.DateTime.{DateTime}
 use Rattle.bac_poll.specs.declared.gone.Gone.{Gone}
 use Rattle.bac_poll.specs.declared.gone.Gone.TheVariants.{Dropped, Doubtful, Both}
-use Rattle.bac_poll.specs.declared.known.Means.{Means}
-use Rattle.bac_poll.specs.declared.known.Means.TheVariants.{Shifted, Partly, Same, Unshown, Another}
-use Rattle.bac_poll.specs.declared.known.Shown.{Shown}
-use Rattle.bac_poll.specs.declared.known.Shown.TheVariants as shown
+use Rattle.bac_known.specs.declared.known.Means.{Means}
+use Rattle.bac_known.specs.declared.known.Means.TheVariants.{Shifted, Partly, Same, Unshown, Another}
+use Rattle.bac_known.specs.declared.known.Shown.{Shown}
+use Rattle.bac_known.specs.declared.known.Shown.TheVariants as shown
 use Rattle.bac_poll.specs.declared.stage.Aim.{Aim}
 use Rattle.bac_poll.specs.declared.stage.Aim.TheVariants.{Finds, Renews, Starts}
 use Rattle.bac_poll.specs.declared.stage.Stage.{Stage}
@@ -105,7 +105,8 @@ module _ (P : Numbered → Type 0) (Z : List Numbered → ℕ → Type 0) (c : �
   sees_newest_steps : (p : PollState) (kept : KeptAs) (records : List Numbered) (at : Option Numbered) → Steps Z c (sees_newest p kept false records at)
   sees_newest_steps p kept records None = pick p.alone _ _ (λ alone. another_by_steps p records) (λ other. λ going sure. tt)
   sees_newest_steps p kept records (Some held) =
-      pick ((length (records_behind kept.number records) == 0) && not p.alone) _ _ (λ none. λ going sure. tt) (λ some. brings_steps (found p held) (records_behind kept.number records))
+      pick ((length (records_behind kept.number records) == 0) && not p.alone) _ _ (λ none. λ going sure. tt)
+      (λ some. pick ((length (records_behind kept.number records) == 0) && false) _ _ (λ short. λ going sure. tt) (λ more. brings_steps (found p held) (records_behind kept.number records)))
 
   sees_same_steps : (p : PollState) (records : List Numbered) (newest : Option KeptAs) → Steps Z c (sees_same p false records newest)
   sees_same_steps p records None = another_by_steps p records

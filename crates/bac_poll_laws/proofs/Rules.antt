@@ -14,13 +14,13 @@ use Rattle.bac_poll_laws.specs.Laws.{EndAt, Goes, IsAimed, IsAt, IsBefore, IsEac
 use Rattle.bac_poll.specs.Oldest.{by_count, by_number, drops, is_first, logged, sees, sees_before, sees_by, sees_newest, sees_none, sees_same}
 use Rattle.bac_poll.specs.Starts.{beginning, is_doubted, starts, starts_at, starts_behind, starts_by, starts_from, starts_here, starts_none, starts_refused, starts_told}
 use Rattle.bac_poll.specs.State.{KeptAs, PollState, Reply, kept_of}
-use Rattle.bac_poll.specs.Turns.{Turned, anew, asks, brings, confirmed, end_of, first_in, first_number, gap_up_to, last_in, renewed, standing_at, standing_on}
+use Rattle.bac_poll.specs.Turns.{Turned, anew, asks, brings, confirmed, end_of, first_in, first_number, gap_up_to, last_in, renewed, standing_alone, standing_at}
 use Rattle.bac_poll.specs.declared.gone.Gone.{Gone}
 use Rattle.bac_poll.specs.declared.gone.Gone.TheVariants.{Dropped, Doubtful, Both}
-use Rattle.bac_poll.specs.declared.known.Means.{Means}
-use Rattle.bac_poll.specs.declared.known.Means.TheVariants.{Shifted, Partly, Same, Unshown, Another}
-use Rattle.bac_poll.specs.declared.known.Shown.{Shown}
-use Rattle.bac_poll.specs.declared.known.Shown.TheVariants as shown
+use Rattle.bac_known.specs.declared.known.Means.{Means}
+use Rattle.bac_known.specs.declared.known.Means.TheVariants.{Shifted, Partly, Same, Unshown, Another}
+use Rattle.bac_known.specs.declared.known.Shown.{Shown}
+use Rattle.bac_known.specs.declared.known.Shown.TheVariants as shown
 use Rattle.bac_poll.specs.declared.stage.Aim.{Aim}
 use Rattle.bac_poll.specs.declared.stage.Aim.TheVariants.{Finds, Renews, Starts}
 use Rattle.bac_poll.specs.declared.stage.Stage.TheVariants.{Back}
@@ -275,7 +275,7 @@ module _ (P : Numbered → Type 0) (F : ℕ → Type 0) where
   each_means_goes : (p : PollState) (held : Numbered) (means : Means) → p.next ≡ number_after held.number 1 → Goes P F p.next (each_means p held means)
   each_means_goes p held Same here = (record { mid = p.next; before = refl; behind = refl; fronts = λ sure. (tt, tt) }, λ none. (here, tt))
   each_means_goes p held (Shifted by) here =
-      hour_goes p.next by (hour p by) (asks (standing_on p (kept_of held))) (record { mid = p.next; before = refl; behind = refl; fronts = λ sure. (tt, tt) }, λ none. (here, tt))
+      hour_goes p.next by (hour p by) (asks (standing_alone p (kept_of held))) (record { mid = p.next; before = refl; behind = refl; fronts = λ sure. (tt, tt) }, λ none. (here, tt))
   each_means_goes p held Unshown here = another_goes p
   each_means_goes p held Partly here = another_goes p
   each_means_goes p held Another here = another_goes p
@@ -351,7 +351,9 @@ module _ (P : Numbered → Type 0) (F : ℕ → Type 0) where
       subst (λ k. IsRun P k (records_behind kept.number records)) (sym here) (run_behind P F kept.number (first_number records) records run.0) in
       split P F (Goes P F p.next) ((length (records_behind kept.number records) == 0) && not p.alone) _ _
       (λ none. (record { mid = p.next; before = refl; behind = refl; fronts = λ sure. (tt, tt) }, λ none. (shown_here, tt)))
-      (λ some. brings_goes P F (found p held) (records_behind kept.number records) behind)
+      (λ some. split P F (Goes P F p.next) ((length (records_behind kept.number records) == 0) && cut) _ _
+      (λ short. ends_goes P F (found p held) NoneByNumber)
+      (λ more. brings_goes P F (found p held) (records_behind kept.number records) behind))
 
   sees_same_goes : (p : PollState) (cut : Bool) (records : List Numbered) (newest : Option KeptAs) → IsBefore newest p.next → IsBefore p.newest p.next → FullRun records →
       Goes P F p.next (sees_same p cut records newest)

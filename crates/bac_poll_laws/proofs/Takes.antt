@@ -10,11 +10,11 @@ use Rattle.bac_poll.specs.Joins.{again, again_by, again_equal, again_from, ahead
 use Rattle.bac_poll.specs.Known.{heeding, maybe_shown, means_in, means_of, number_in, record_at, records_behind, shown_in}
 use Rattle.bac_poll.specs.Poll.{kept_number}
 use Rattle.bac_poll.specs.State.{KeptAs, PollState, Reply, kept_of}
-use Rattle.bac_poll.specs.Turns.{Turned, asks, brings, end_of, first_in, first_number, last_in, number_or, standing_at, standing_on}
-use Rattle.bac_poll.specs.declared.known.Means.{Means}
-use Rattle.bac_poll.specs.declared.known.Means.TheVariants.{Shifted, Partly, Same, Unshown, Another}
-use Rattle.bac_poll.specs.declared.known.Shown.{Shown}
-use Rattle.bac_poll.specs.declared.known.Shown.TheVariants as shown
+use Rattle.bac_poll.specs.Turns.{Turned, asks, brings, end_of, first_in, first_number, last_in, number_or, standing_alone, standing_at}
+use Rattle.bac_known.specs.declared.known.Means.{Means}
+use Rattle.bac_known.specs.declared.known.Means.TheVariants.{Shifted, Partly, Same, Unshown, Another}
+use Rattle.bac_known.specs.declared.known.Shown.{Shown}
+use Rattle.bac_known.specs.declared.known.Shown.TheVariants as shown
 use Rattle.bac_poll.specs.declared.stage.Aim.TheVariants.{Finds}
 use Rattle.bac_poll.specs.declared.stage.Stage.TheVariants as stage
 use Rattle.bac_poll.specs.declared.turn.Line.{Line}
@@ -349,20 +349,15 @@ module _ (P : Numbered → Type 0) (e : ℕ) (w : WalkPlace) (b : ℕ) where
       Costs e w b n (each_means p first means)
   each_means_costs n p first means refers row same nine = at means
     where
-      stands : Costs e w b n (asks (standing_on p (kept_of first)))
-      stands = λ none. (omega (arith, nine), (first_row p.newest p.earlier refl row.0, row.1), (λ asked kept is. ap (λ (o : Option KeptAs). kept_number o 0) is), same)
-        where
-          first_row : (newest earlier : Option KeptAs) → p.newest ≡ newest → FollowsOn newest earlier → FollowsOn (Some (kept_of first)) earlier
-          first_row newest None is follows = tt
-          first_row None (Some m) is follows = absurd follows
-          first_row (Some kept) (Some m) is follows = refers kept is ∙ follows
+      stands : Costs e w b n (asks (standing_alone p (kept_of first)))
+      stands = λ none. (omega (arith, nine), (tt, tt), (λ asked kept is. ap (λ (o : Option KeptAs). kept_number o 0) is), same)
 
       other : Costs e w b n (another p)
       other = another_costs P e w b n p same (omega (arith, nine))
 
       at : (means : Means) → Costs e w b n (each_means p first means)
       at Same = stands
-      at (Shifted by) = hour_costs n by (hour p by) (asks (standing_on p (kept_of first))) stands
+      at (Shifted by) = hour_costs n by (hour p by) (asks (standing_alone p (kept_of first))) stands
       at Unshown = other
       at Partly = other
       at Another = other

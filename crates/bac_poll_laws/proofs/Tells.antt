@@ -14,10 +14,10 @@ use Rattle.bac_poll.specs.Oldest.{by_count, by_number, drops, is_cut, is_first, 
 use Rattle.bac_poll.specs.Poll.{at_stage, count_at, oldest, up_to}
 use Rattle.bac_poll.specs.State.{KeptAs, PollState, Reply}
 use Rattle.bac_poll.specs.Turns.{confirmed, first_in, first_number, last_in, number_before}
-use Rattle.bac_poll.specs.declared.known.Means.{Means}
-use Rattle.bac_poll.specs.declared.known.Means.TheVariants.{Shifted, Partly, Same, Unshown, Another}
-use Rattle.bac_poll.specs.declared.known.Shown.{Shown}
-use Rattle.bac_poll.specs.declared.known.Shown.TheVariants as shown
+use Rattle.bac_known.specs.declared.known.Means.{Means}
+use Rattle.bac_known.specs.declared.known.Means.TheVariants.{Shifted, Partly, Same, Unshown, Another}
+use Rattle.bac_known.specs.declared.known.Shown.{Shown}
+use Rattle.bac_known.specs.declared.known.Shown.TheVariants as shown
 use Rattle.bac_poll.specs.declared.stage.Aim.{Aim}
 use Rattle.bac_poll.specs.declared.stage.Aim.TheVariants.{Finds, Renews, Starts}
 use Rattle.bac_poll.specs.declared.stage.Stage.{Stage}
@@ -84,8 +84,12 @@ module _ (P : Numbered → Type 0) (F U V : ℕ → Type 0) where
   was_alone true false is none = absurd (cc)
   was_alone false b is none = absurd (cc)
 
+  not_cut : (a b : Bool) → a ≡ true → (a && b) ≡ false → b ≡ false
+  not_cut true b is none = none
+  not_cut false b is none = absurd (cc)
+
   sees_newest_says : (p : PollState) (kept : KeptAs) (cut : Bool) (records : List Numbered) (at : Option Numbered) → record_at kept.number records ≡ at →
-      p.next ≡ number_after kept.number 1 → HasSome records → SeesUp p records → Says P F U V p.next p.walk (sees_newest p kept cut records at)
+      p.next ≡ number_after kept.number 1 → HasSome records → (cut ≡ false → SeesUp p records) → Says P F U V p.next p.walk (sees_newest p kept cut records at)
   sees_newest_says p kept cut records None is here some up =
       pick (Says P F U V p.next p.walk) p.alone _ _ (λ asked. sees_before_says p cut records some)
       (λ other. (refl, inl refl, inl refl, refl, λ caught. absurd (cc), λ go finding. (tt, λ begun. absurd (cc), inl refl)))
@@ -93,17 +97,19 @@ module _ (P : Numbered → Type 0) (F U V : ℕ → Type 0) where
       let news = records_behind kept.number records in
       pick (Says P F U V p.next p.walk) ((length news == 0) && not p.alone) _ _
       (λ none. (refl, inl refl, inl refl, refl, λ caught. absurd (cc), λ go finding. (tt, λ begun. absurd (cc), inl refl)))
-      (λ more. brings_says P F U V (found p held) news
+      (λ more. pick (Says P F U V p.next p.walk) ((length news == 0) && cut) _ _ (λ short. ends_says P F U V (found p held) NoneByNumber (λ up. absurd (cc)))
+      (λ other. brings_says P F U V (found p held) news
       (λ empty many no. let l = last_known kept.number records held is empty in
-      up l.0 l.1 (ap (λ (k : ℕ). number_after k 1) l.2 ∙ sym here) (was_alone (length news == 0) p.alone (none_at news empty) more) many no))
+      up (not_cut (length news == 0) cut (none_at news empty) other) l.0 l.1 (ap (λ (k : ℕ). number_after k 1) l.2 ∙ sym here)
+      (was_alone (length news == 0) p.alone (none_at news empty) more) many no)))
 
-  sees_same_says : (p : PollState) (cut : Bool) (records : List Numbered) (newest : Option KeptAs) → IsBefore newest p.next → HasSome records → SeesUp p records →
+  sees_same_says : (p : PollState) (cut : Bool) (records : List Numbered) (newest : Option KeptAs) → IsBefore newest p.next → HasSome records → (cut ≡ false → SeesUp p records) →
       Says P F U V p.next p.walk (sees_same p cut records newest)
   sees_same_says p cut records None here some up = another_by_says P F U V p records some
   sees_same_says p cut records (Some kept) here some up = sees_newest_says p kept cut records (record_at kept.number records) refl here some up
 
   sees_by_says : (p : PollState) (back cut : Bool) (records : List Numbered) (means : Means) → means_in p records ≡ means → IsBefore p.newest p.next → HasSome records →
-      (means ≡ Unshown → IsDone p back records) → ((means ≡ Unshown → ⊥) → SeesUp p records) → Says P F U V p.next p.walk (sees_by p back cut records means)
+      (means ≡ Unshown → IsDone p back records) → ((means ≡ Unshown → ⊥) → cut ≡ false → SeesUp p records) → Says P F U V p.next p.walk (sees_by p back cut records means)
   sees_by_says p back cut records Unshown is here some done up = sees_none_says p back cut records some is (done refl)
   sees_by_says p back cut records Same is here some done up = sees_same_says p cut records p.newest here some (up (λ no. absurd (cc)))
   sees_by_says p back cut records (Shifted by) is here some done up =
@@ -113,7 +119,7 @@ module _ (P : Numbered → Type 0) (F U V : ℕ → Type 0) where
 
   -- records came, or were held back of which none is known
   sees_says : (p : PollState) (back cut : Bool) (records : List Numbered) → IsBefore p.newest p.next → HasSome records →
-      (means_in p records ≡ Unshown → IsDone p back records) → ((means_in p records ≡ Unshown → ⊥) → SeesUp p records) →
+      (means_in p records ≡ Unshown → IsDone p back records) → ((means_in p records ≡ Unshown → ⊥) → cut ≡ false → SeesUp p records) →
       Says P F U V p.next p.walk (sees p back cut records)
   sees_says p back cut records here some done up = sees_by_says p back cut records (means_in p records) refl here some done up
 
@@ -122,12 +128,12 @@ module _ (P : Numbered → Type 0) (F U V : ℕ → Type 0) where
   not_false false is = absurd (cc)
 
   -- by time, or up to a count
-  came_says : (p : PollState) (cut : Bool) (records : List Numbered) → IsBefore p.newest p.next → HasSome records → SeesUp p records →
+  came_says : (p : PollState) (cut : Bool) (records : List Numbered) → IsBefore p.newest p.next → HasSome records → (cut ≡ false → SeesUp p records) →
       Says P F U V p.next p.walk (sees p true cut records)
   came_says p cut records here some up =
       sees_says p true cut records here some (λ none done. inl (not_false (is_first p (first_number records)) done)) (λ shown. up)
 
-  oldest_takes : (p : PollState) (reply : Reply) → IsBefore p.newest p.next → SeesUp p reply.records → Says P F U V p.next p.walk (oldest p Finds reply)
+  oldest_takes : (p : PollState) (reply : Reply) → IsBefore p.newest p.next → (is_cut p reply ≡ false → SeesUp p reply.records) → Says P F U V p.next p.walk (oldest p Finds reply)
   oldest_takes p reply here up =
       pick (Says P F U V p.next p.walk) (length reply.records == 0) _ _
       (λ none. (refl, inl refl, inl refl, refl, λ caught. absurd (cc), λ go finding. (tt, λ begun. absurd (cc), inl refl)))
@@ -172,7 +178,7 @@ module _ (P : Numbered → Type 0) (F U V : ℕ → Type 0) where
   up_to_takes p records here knows none up =
       pick (Says P F U V p.next p.walk) (length records == 0) _ _
       (λ empty. word_says P F U V p [] (inr (none (none_of records empty), inr (p.total, refl, knows.0)), λ e. knows.1))
-      (λ some. came_says p false records here (some_of records some) up)
+      (λ some. came_says p false records here (some_of records some) (λ whole. up))
 
   -- ---- before the first of the records that are held back
 
@@ -186,7 +192,7 @@ module _ (P : Numbered → Type 0) (F U V : ℕ → Type 0) where
   done_says : (p : PollState) (records : List Numbered) → IsBefore p.newest p.next → HasSome records →
       (means_in p records ≡ Unshown → (is_first p (first_number records) ≡ true) ⊎ F (first_number records)) → ((means_in p records ≡ Unshown → ⊥) → SeesUp p records) →
       Says P F U V p.next p.walk (back_done p Finds records)
-  done_says p records here some front up = sees_says p false false records here some (λ none done. front none) up
+  done_says p records here some front up = sees_says p false false records here some (λ none done. front none) (λ shown whole. up shown)
 
   more_says : (p : PollState) (records : List Numbered) → IsBefore p.newest p.next → HasSome records → SeesUp p records → Says P F U V p.next p.walk (back_more p Finds records)
   more_says p records here some up =
@@ -265,7 +271,7 @@ module _ (P : Numbered → Type 0) (F U V : ℕ → Type 0) where
   pub record Ups (p : PollState) (what : Stage) (reply : Reply) : Type 0 where
     pub joins : what ≡ stage.Joins → JoinsUp P F U V p reply
     pub again : what ≡ stage.Again → AgainUp P F U V p reply.records
-    pub oldest : (aim : Aim) → what ≡ stage.Oldest aim → SeesUp p reply.records
+    pub oldest : (aim : Aim) → what ≡ stage.Oldest aim → is_cut p reply ≡ false → SeesUp p reply.records
     pub up_to : (aim : Aim) → what ≡ stage.UpTo aim → SeesUp p reply.records
     pub back : (aim : Aim) → what ≡ stage.Back aim → SeesUp p reply.records
 

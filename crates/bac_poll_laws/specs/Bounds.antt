@@ -1,6 +1,6 @@
 -- How many questions a poll asks at most, whatever is answered: so many for each answer by which records are kept, and
 -- for each question backwards. What these cost is in Backwards.
-use Rattle.std.specs.Prelude.{ℕ, ◌+◌, ◌-◌, ◌*◌, ◌≡◌, ◌≤◌, Bool, true, false, List, [], ◌∷◌, Option, None, Some, length}
+use Rattle.std.specs.Prelude.{ℕ, ◌+◌, ◌*◌, ◌≡◌, ◌≤◌, Bool, true, false, List, [], ◌∷◌, Option, None, Some, length}
 use Rattle.bac_wire.specs.Primitive.{Id}
 use Rattle.bac_link.specs.Ordinals.{number_after}
 use Rattle.bac_walk.specs.declared.batch.Numbered.{Numbered}
@@ -78,35 +78,14 @@ again_one (Some why) anew stage = 0
 abbrev pub lost_one : Stage → Turned → ℕ
 lost_one stage t = back_one stage t * again_one t.end t.anew t.poll.stage
 
--- behind which a known record is asked for alone
-abbrev pub each_one : Stage → ℕ
-each_one Joins = 0
-each_one Prior = 0
-each_one Ahead = 0
-each_one Again = 0
-each_one Each = 1
-each_one ByNumber = 0
-each_one (Oldest aim) = 0
-each_one (Counts aim) = 0
-each_one (UpTo aim) = 0
-each_one (Back aim) = 0
-each_one Revision = 0
-each_one Restart = 0
-
--- the first of three behind which it is: they are shown at another hour
-abbrev pub hour_one : Stage → Turned → ℕ
-hour_one stage t = each_one t.poll.stage - each_one stage
-
 -- ---- the bound
 
--- So many questions are asked at most, and one more for each that is backwards, three where that is begun again, eight
--- for each answer by which records are kept, and nine where known records are asked for one by one. Backwards no more
--- are asked than half of all numbers, and one.
+-- So many questions are asked at most, and one more for each that is backwards, three where that is begun again, and
+-- seventeen for each answer by which records are kept. Backwards no more are asked than half of all numbers, and one.
 abbrev pub AreBounded : ℕ → PollState → List Given → Type 0
 AreBounded many p answers =
     (length answers
-    ≤ many + count_of back_one p answers + 3 * count_of lost_one p answers + 8 * count_of kept_one p answers
-    + 9 * count_of hour_one p answers)
+    ≤ many + count_of back_one p answers + 3 * count_of lost_one p answers + 17 * count_of kept_one p answers)
     × (count_of back_one p answers ≤ 2147483649)
 
 -- a known record is right before the one behind it, which is known, too
@@ -119,12 +98,12 @@ FollowsOn (Some later) (Some kept) = later.number ≡ number_after kept.number 1
 abbrev pub AreInRow : StandingAs → Type 0
 AreInRow at = IsBefore at.newest at.next × FollowsOn at.newest at.earlier × FollowsOn at.earlier at.earliest
 
--- Whatever is answered, a log that stands in its rows costs twelve questions, if none of those come to pass; and three,
--- if nothing is kept of it yet.
+-- Whatever is answered, a log that stands in its rows costs twenty-one questions, if none of those come to pass; and
+-- three, if nothing is kept of it yet.
 abbrev pub QuestionsAreBounded : Type 0
 QuestionsAreBounded =
     (log device : Id) (many : ℕ) (told : ToldAs) (answers : List Given) → many ≤ 100 →
     ((at : StandingAs) → AreInRow at → AnswerIt (joining log device many at told) answers →
-    AreBounded 12 (joining log device many at told) answers)
+    AreBounded 21 (joining log device many at told) answers)
     × ((begins : Option ℕ) (word : ToldAs) → AnswerIt (starting log device many begins word told) answers →
     AreBounded 3 (starting log device many begins word told) answers)

@@ -1,7 +1,7 @@
 -- Where a poll ends as caught up: at the moment of the answer that brought the last record, or of one behind it, the
 -- log held nothing newer.
-use Rattle.std.specs.Prelude.{◌≡◌, ℕ, ◌<◌, ◌==◌, ◌&&◌, ◌||◌, ◌⊎◌, Bool, true, false, Option, None, Some, List, [], ◌∷◌}
-use Rattle.std.specs.Prelude.{length}
+use Rattle.std.specs.Prelude.{◌≡◌, ℕ, ◌<◌, ◌==◌, ◌&&◌, ◌||◌, not, ◌⊎◌, Bool, true, false, Option, None, Some}
+use Rattle.std.specs.Prelude.{List, [], ◌∷◌, length}
 use Rattle.bac_log.specs.TrendLog.{sequence_number}
 use Rattle.bac_link.specs.Delivery.{History, Moment}
 use Rattle.bac_link.specs.Ordinals.{number_after}
@@ -9,6 +9,7 @@ use Rattle.bac_walk.specs.Delivers.{NoneFrom}
 use Rattle.bac_walk.specs.declared.batch.Numbered.{Numbered}
 use Rattle.bac_poll_laws.specs.Delivers.{Delivers, Given, IsJoined, LiesIn, ShowHeld, after_given, asking_less}
 use Rattle.bac_poll_laws.specs.Laws.{Answer, Counted, Replied, Restarted, Revised}
+use Rattle.bac_poll.specs.Oldest.{is_cut}
 use Rattle.bac_poll.specs.Poll.{reply_in}
 use Rattle.bac_poll.specs.State.{PollState, Reply}
 use Rattle.bac_poll.specs.Turns.{Turned, asks, last_in}
@@ -25,7 +26,8 @@ NoneBehind low m n = (k : ℕ) × (n ≡ sequence_number k) × LiesIn low k × N
 
 -- Whether a reply that doesn't say that more is there (MORE_ITEMS) ends with the newest record that is held: it says
 -- so (LAST_ITEM), or shows one alone, though more were asked for from there on; or it ends with the newest known one,
--- where that was asked for with what follows it, or the oldest were, since it wasn't shown by its number.
+-- where that was asked for with what follows it, or the oldest were, since it wasn't shown by its number, and it isn't
+-- cut off: fewer came than were asked for, or it has LAST_ITEM.
 abbrev pub ends_newest : PollState → Reply → (last : Numbered) → Stage → Bool
 ends_newest p reply last Joins = reply.last || (length reply.records == 1)
 ends_newest p reply last Prior = false
@@ -33,7 +35,8 @@ ends_newest p reply last Ahead = false
 ends_newest p reply last Again = number_after last.number 1 == p.next
 ends_newest p reply last Each = false
 ends_newest p reply last ByNumber = false
-ends_newest p reply last (Oldest aim) = p.alone && (number_after last.number 1 == p.next)
+ends_newest p reply last (Oldest aim) =
+    not (is_cut p reply) && (p.alone && (number_after last.number 1 == p.next))
 ends_newest p reply last (Counts aim) = false
 ends_newest p reply last (UpTo aim) = p.alone && (number_after last.number 1 == p.next)
 ends_newest p reply last (Back aim) = p.alone && (number_after last.number 1 == p.next)

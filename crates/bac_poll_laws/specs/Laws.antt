@@ -11,7 +11,7 @@ use Rattle.bac_walk.specs.declared.batch.Numbered.{Numbered}
 use Rattle.bac_poll.specs.Poll.{after, after_count, after_restart, after_revision, joining, more_of, reply_in, starting}
 use Rattle.bac_poll.specs.State.{KeptAs, PollState, Reply, StandingAs, ToldAs}
 use Rattle.bac_poll.specs.Turns.{Turned, first_in, first_number, number_or}
-use Rattle.bac_poll.specs.declared.date_time.DateTime.{DateTime}
+use Rattle.bac_known.specs.declared.date_time.DateTime.{DateTime}
 use Rattle.bac_poll.specs.declared.stage.Aim.{Aim}
 use Rattle.bac_poll.specs.declared.stage.Aim.TheVariants.{Finds, Renews, Starts}
 use Rattle.bac_poll.specs.declared.stage.Stage.{Stage}

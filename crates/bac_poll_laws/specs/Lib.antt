@@ -8,4 +8,5 @@ pub mod Questions
 pub mod Bounds
 pub mod Backwards
 pub mod Held
+pub mod ByRecords
 pub mod Firsts

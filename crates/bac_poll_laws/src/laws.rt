@@ -3,6 +3,7 @@
 ghost use Rattle.bac_poll_laws.specs.Asks.{AsksOnceMore};
 ghost use Rattle.bac_poll_laws.specs.Backwards.{BackwardsAreFew, NoneIsBegunAgain};
 ghost use Rattle.bac_poll_laws.specs.Bounds.{QuestionsAreBounded};
+ghost use Rattle.bac_poll_laws.specs.ByRecords.{QuestionsByRecords};
 ghost use Rattle.bac_poll_laws.specs.Caught.{PollsDeliver};
 ghost use Rattle.bac_poll_laws.specs.Firsts.{FirstsDeliver};
 ghost use Rattle.bac_poll_laws.specs.Gaps.{GapsAreGone};
@@ -66,12 +67,18 @@ pub fn questions_are_few()
     ensures { QuestionsAreFew }
 {}
 
-/// Whatever is answered, a log that stands in its rows costs twelve questions at most, one of which
-/// nothing is kept yet three; and one more for each question backwards, three where that is begun
-/// again, eight for each answer by which records are kept, and nine where known records are asked
-/// for one by one, since they are shown at another hour.
+/// Whatever is answered, a log that stands in its rows costs twenty-one questions at most, one of
+/// which nothing is kept yet three; and one more for each question backwards, three where that is
+/// begun again, and seventeen for each answer by which records are kept.
 pub fn questions_are_bounded()
     ensures { QuestionsAreBounded }
+{}
+
+/// Where a device says what its log holds, of a log that goes on, a poll from where its rows stand
+/// costs twenty-one questions at most, one more for each that is backwards, and seventeen for each
+/// record that is kept.
+pub fn questions_by_records()
+    ensures { QuestionsByRecords }
 {}
 
 /// Where a device says what its log holds, of a log that goes on, each two questions backwards, one

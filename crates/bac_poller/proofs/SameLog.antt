@@ -12,19 +12,19 @@ use Rattle.bac_poll.specs.Epochs.{another, another_by, another_of, renews, renew
 use Rattle.bac_poll.specs.Gone.{asks_restart, asks_revision, asks_word, by_gone, by_word, gone_of, retold}
 use Rattle.bac_poll.specs.Joins.{again_by, again_equal, again_from, ahead, ahead_none, asks_again, asks_each, at_hour, brings_ahead, each_all, each_by, each_means, each_next, found, goes_nowhere, goes_on, hour, joined, joins_by, joins_from, lost, lost_ahead, moved_ahead, prior}
 use Rattle.bac_poll.specs.Known.{means_in, number_in, record_at, records_behind, shown_in, word_of}
-use Rattle.bac_poll.specs.Oldest.{by_count, by_number, drops, logged, sees, sees_before, sees_by, sees_newest, sees_news, sees_none, sees_same, weighed}
+use Rattle.bac_poll.specs.Oldest.{by_count, by_number, drops, logged, sees, sees_before, sees_by, sees_last, sees_newest, sees_news, sees_none, sees_same, weighed}
 use Rattle.bac_poll.specs.DateTime.{undated}
-use Rattle.bac_poll.specs.declared.date_time.DateTime.{DateTime}
+use Rattle.bac_known.specs.declared.date_time.DateTime.{DateTime}
 use Rattle.bac_poll.specs.Poll.{after, after_count, after_heard, after_restart, after_revision, after_too_many, at_stage, came, count_at, half_of, more_of, oldest_none, renews_by, reply_in, up_to_none}
 use Rattle.bac_poll.specs.Starts.{starts, starts_at, starts_by, starts_from, starts_none, starts_refused, starts_told}
 use Rattle.bac_poll.specs.State.{KeptAs, PollState, Reply}
 use Rattle.bac_poll.specs.Turns.{Turned, asks, asks_at, brings_to, confirmed, ends, first_in, last_in, renewed, standing_at}
 use Rattle.bac_poll.specs.declared.gone.Gone.{Gone}
 use Rattle.bac_poll.specs.declared.gone.Gone.TheVariants.{Dropped, Doubtful, Both}
-use Rattle.bac_poll.specs.declared.known.Means.{Means}
-use Rattle.bac_poll.specs.declared.known.Means.TheVariants.{Shifted, Partly, Same, Unshown, Another}
-use Rattle.bac_poll.specs.declared.known.Shown.{Shown}
-use Rattle.bac_poll.specs.declared.known.Shown.TheVariants as shown
+use Rattle.bac_known.specs.declared.known.Means.{Means}
+use Rattle.bac_known.specs.declared.known.Means.TheVariants.{Shifted, Partly, Same, Unshown, Another}
+use Rattle.bac_known.specs.declared.known.Shown.{Shown}
+use Rattle.bac_known.specs.declared.known.Shown.TheVariants as shown
 use Rattle.bac_poll.specs.declared.stage.Aim.{Aim}
 use Rattle.bac_poll.specs.declared.stage.Aim.TheVariants.{Finds, Renews, Starts}
 use Rattle.bac_poll.specs.declared.stage.Stage.{Stage}
@@ -101,12 +101,15 @@ by_number_same p held rs = either p _ _ _ refl (another_by_same p held)
 none_same : (p : PollState) (go cut : Bool) (rs : List Numbered) → IsSame p (sees_none p go cut rs)
 none_same p go cut rs = either p _ _ _ (drops_same p go rs) (before_same p cut rs)
 
-news_same : (p : PollState) (asked : Bool) (rs : List Numbered) → IsSame p (sees_news p asked rs)
-news_same p asked rs = either p _ _ _ refl (brings_same p rs (last_in rs))
+last_same : (p : PollState) (cut : Bool) (rs : List Numbered) → IsSame p (sees_last p cut rs)
+last_same p cut rs = either p _ _ _ refl (brings_same p rs (last_in rs))
+
+news_same : (p : PollState) (asked cut : Bool) (rs : List Numbered) → IsSame p (sees_news p asked cut rs)
+news_same p asked cut rs = either p _ _ _ refl (last_same p cut rs)
 
 newest_same : (p : PollState) (kept : KeptAs) (cut : Bool) (rs : List Numbered) (o : Option Numbered) → IsSame p (sees_newest p kept cut rs o)
 newest_same p kept cut rs None = either p p.alone _ _ (before_same p cut rs) refl
-newest_same p kept cut rs (Some held) = news_same (found p held) p.alone (records_behind kept.number rs)
+newest_same p kept cut rs (Some held) = news_same (found p held) p.alone cut (records_behind kept.number rs)
 
 same_same : (p : PollState) (cut : Bool) (rs : List Numbered) (o : Option KeptAs) → IsSame p (sees_same p cut rs o)
 same_same p cut rs None = another_by_same p rs

@@ -10,7 +10,7 @@ use Rattle.bac_walk.specs.declared.batch.Numbered.{Numbered}
 use Rattle.bac_poll.specs.DateTime.{dated}
 use Rattle.bac_poll.specs.State.{KeptAs, PollState, StandingAs, kept_of}
 use Rattle.bac_poll.specs.Turns.{before_last, behind, kept_or, last_in, number_before, third_known}
-use Rattle.bac_poll.specs.declared.date_time.DateTime.{DateTime}
+use Rattle.bac_known.specs.declared.date_time.DateTime.{DateTime}
 use Rattle.bac_resume.specs.Laws.{GoesOnAnew, GoesOnBehindGap, GoesOnBehindRecords, JoinsThere, SayRun, SaysRecord, kept_undayed, place_of, undayed, with_rows}
 use Rattle.bac_resume.specs.Resumed.{Agree, IsKept, IsStamped, StandsBy}
 use Rattle.bac_resume.specs.Stands.{known_at, known_before}

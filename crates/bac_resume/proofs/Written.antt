@@ -12,7 +12,7 @@ use Rattle.bac_wire.specs.Stamp.{date_octets, time_octets}
 use Rattle.bac_wire.specs.declared.stamp.Date4.{Date4}
 use Rattle.bac_wire.specs.declared.stamp.Time4.{Time4}
 use Rattle.bac_poll.specs.Stamps.{IsDate4, IsTime4, stamp_text}
-use Rattle.bac_poll.specs.declared.date_time.DateTime.{DateTime}
+use Rattle.bac_known.specs.declared.date_time.DateTime.{DateTime}
 use Rattle.bac_resume.specs.Texts.{IsNoStamp, IsRead}
 
 -- a text has no weekday

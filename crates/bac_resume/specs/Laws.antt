@@ -21,7 +21,7 @@ use Rattle.bac_poll.specs.Poll.{joining}
 use Rattle.bac_poll.specs.Stamps.{stamp_text, stamped}
 use Rattle.bac_poll.specs.State.{KeptAs, PollState, StandingAs, ToldAs, kept_of}
 use Rattle.bac_poll.specs.Turns.{behind, last_in, number_before, renewed, standing_at}
-use Rattle.bac_poll.specs.declared.date_time.DateTime.{DateTime}
+use Rattle.bac_known.specs.declared.date_time.DateTime.{DateTime}
 use Rattle.bac_resume.specs.Met.{log_in}
 use Rattle.bac_resume.specs.Resumed.{IsStamped, StandsBy}
 use Rattle.bac_resume.specs.Rows.{LogTold, told_of}

@@ -9,7 +9,7 @@ use Rattle.bac_archive3.specs.Items.{last_at, text_at}
 use Rattle.bac_poll.specs.DateTime.{undated}
 use Rattle.bac_poll.specs.Stamps.{IsDate4, IsTime4, stamp_text, stamped}
 use Rattle.bac_poll.specs.State.{ToldAs}
-use Rattle.bac_poll.specs.declared.date_time.DateTime.{DateTime}
+use Rattle.bac_known.specs.declared.date_time.DateTime.{DateTime}
 
 -- no date and time is written so
 abbrev pub IsNoStamp : List ℕ → Type 0
