@@ -51,7 +51,7 @@ abbrev pub ending_text : Ending → List ℕ
 ending_text (Poll CaughtUp) = codes "caught up"
 ending_text (Poll SaysMore) = codes "shows no more, though it says that more is there"
 ending_text (Poll ShowsNone) = codes "shows no record, and refuses its count"
-ending_text (Poll NoneByNumber) = codes "shows no record by number, and more by time than it can send at once"
+ending_text (Poll NoneByNumber) = codes "shows no record by number, and by time perhaps not all that it holds"
 ending_text (Poll Contradicts) = codes "its records contradict each other"
 ending_text (Poll (Fault Lost)) = codes "lost"
 ending_text (Poll (Fault (Refused refusal))) = refusal_text refusal

@@ -122,7 +122,7 @@ fn push_ending(text: &mut Vec<u8>, why: Ending) -> Result<(), AllocError>
             text.extend_from_slice(b"shows no record, and refuses its count")
         }
         Ending::Poll(PollEnd::NoneByNumber) => text.extend_from_slice(
-            b"shows no record by number, and more by time than it can send at once",
+            b"shows no record by number, and by time perhaps not all that it holds",
         ),
         Ending::Poll(PollEnd::Contradicts) => {
             text.extend_from_slice(b"its records contradict each other")
