@@ -340,6 +340,8 @@ counted ./replay.sh
 counted ./vectors.sh ../../crates/bac_vectors/out/bac_vectors
 # How a log is polled, by a second program of the rule.
 counted ./polls.py ../../crates/bac_poll_rows/out/bac_poll_rows
+# Archives of format 3 in files: runs that are killed, full disks, and files that are none.
+counted ./archive3.py ../../crates/bac_archive3_trial/out/bac_archive3_trial
 
 echo "$passed passed, $failed failed"
 [ "$failed" -eq 0 ]

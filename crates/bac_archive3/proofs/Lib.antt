@@ -9,6 +9,7 @@ mod EndLemmas
 pub mod ReplaceLemmas
 pub mod LeftLemmas
 mod InsertLemmas
+mod EightLemmas
 mod ChangeLemmas
 pub mod PutLemmas
 mod LawLemmas

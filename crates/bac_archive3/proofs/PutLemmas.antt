@@ -1,8 +1,7 @@
 -- What puts come to, one after the other.
-use Rattle.std.proofs.Common.{◌≡◌, ◌≢◌, ℕ, Bool, true, false, if◌then◌else◌, ◌==◌, ◌<◌, ◌+◌, List, [], ◌∷◌, ◌++◌, take, get_or, length, Ok, Err, Result, OnOk, IsTrue, eq-eqb, refl, sym, ap, subst, ◌∙◌}
+use Rattle.std.proofs.Common.{◌≡◌, ◌≢◌, ℕ, Bool, true, false, if◌then◌else◌, ◌==◌, List, [], ◌∷◌, ◌++◌, flat_map, append-nil, inl, inr, Ok, Err, Result, OnOk, IsTrue, eq-eqb, refl, sym, ap, subst, ◌∙◌}
 use Rattle.std.specs.List.{AllByRecursion}
 use Rattle.std.proofs.lemmas.Bool.{eqb-true, both_ways}
-use Rattle.std.proofs.lemmas.List.{take_more}
 use Rattle.sqlite_value.specs.Order.{Row as Values}
 use Rattle.sqlite_schema.specs.declared.schema.Table.{Table}
 use Rattle.sqlite_schema.specs.declared.schema.Schema.{Schema}
@@ -13,9 +12,10 @@ use Rattle.sqlite.specs.Effect.{Database}
 use Rattle.sqlite.specs.State.{State, ExecutesInside, Executes}
 use Rattle.bac_archive3.specs.Schema.{HasArchive}
 use Rattle.bac_archive3.specs.Making.{IsFilled, IsMade}
-use Rattle.bac_archive3.specs.Put.{AreFree, IsPut, Puts, after, given, is_new, left, row_of, table_of, text_of, with_row}
+use Rattle.bac_archive3.specs.Put.{AreAtOnce, AreFree, IsPut, Puts, after, given, is_new, left, row_of, table_of, text_of, text_of_all, with_row}
 use Rattle.bac_archive3.specs.declared.row.Put.{Put}
 use Rattle.bac_archive3.specs.declared.row.Put.TheVariants.{NewDevice, Device, NewLog, Log, Beginning, Lowered, Item}
+use Rattle.bac_archive3.proofs.EightLemmas.{puts_eight}
 use Rattle.bac_archive3.proofs.InsertLemmas.{Sets, Adds, adds_device, adds_log, adds_item, adds_beginning}
 use Rattle.bac_archive3.proofs.ChangeLemmas.{changes_device, changes_log, lowers}
 
@@ -61,6 +61,15 @@ is_put (Item i) old new count has ran = adds_put old.now new.now (Item i) (adds_
 pub puts_one : (put : Put) (old new : State) (count : ℕ) → HasArchive old.now.schema → ExecutesInside 0 (text_of put) (given put) old new (Ok count) → Puts old new (put ∷ [])
 puts_one put old new count has ran = record { put = is_put put old new count has ran.0; mode = ran.1.mode; committed = ran.1.committed_is }
 
+-- what one statement puts
+pub puts_these : (these : List Put) (old new : State) (count : ℕ) → AreAtOnce these → HasArchive old.now.schema → ExecutesInside 0 (text_of_all these) (flat_map given these) old new (Ok count) → Puts old new these
+puts_these these old new count (inl one) has ran =
+    let alone = subst (λ p. ExecutesInside 0 (text_of one.0) p old new (Ok count)) (append-nil (given one.0)) (subst (λ t. ExecutesInside 0 (text_of_all t) (flat_map given t) old new (Ok count)) one.1 ran) in
+    subst (Puts old new) (sym one.1) (puts_one one.0 old new count has alone)
+puts_these these old new count (inr eight) has ran =
+    let all = subst (λ t. ExecutesInside 0 (text_of_all t) (flat_map given t) old new (Ok count)) eight.8 ran in
+    subst (Puts old new) (sym eight.8) (record { put = puts_eight _ _ _ _ _ _ _ _ old new count has all.0; mode = all.1.mode; committed = all.1.committed_is })
+
 -- ---- one after the other
 
 left_both : (tree : ℕ) (xs ys : List Put) (rows : List Values) → left tree rows (xs ++ ys) ≡ left tree (left tree rows xs) ys
@@ -96,9 +105,6 @@ puts_nothing old inside = record { put = put_nothing old.now; mode = inside; com
 
 pub puts_then : (a b c : State) (xs ys : List Put) → Puts a b xs → Puts b c ys → Puts a c (xs ++ ys)
 puts_then a b c xs ys p q = record { put = put_then a.now b.now c.now xs ys p.put q.put; mode = q.mode; committed = q.committed ∙ p.committed }
-
-pub one_more : (all : List Put) (at : ℕ) (x : Put) → at < length all → x ≡ get_or all at x → take at all ++ x ∷ [] ≡ take (at + 1) all
-one_more all at x lt is = sym (take_more all at x lt ∙ ap (λ z. take at all ++ z ∷ []) (sym is))
 
 -- rows that are put into a new archive
 pub filled : {A : Type 0} (moment : List ℕ) (old made new : State) (puts : List Put) (r : Result A Error) → IsMade moment old made → OnOk r (Puts made new puts) → OnOk r (IsFilled moment old new puts)

@@ -113,7 +113,7 @@ pub record IsArchive (db : Database) : Type 0 where
   pub apart : LieApart (db.trees 5)
   pub begun : AreBegun db.trees
 
--- the tables are named as those of formats 1 and 2
+-- the first three tables are named, in this order, as those that files of formats 1 and 2 have first
 abbrev pub IsEarlier : List Table → Type 0
 IsEarlier (a ∷ b ∷ c ∷ more) =
     (a.name ≡ codes "archive") × (b.name ≡ codes "logs") × (c.name ≡ codes "items")

@@ -1,7 +1,7 @@
 -- Rows are put: all of a batch, or none.
 use Rattle.std.specs.Prelude.{◌≡◌, ◌⊎◌, ⊤, ℕ, ℤ, pos, Bool, true, false, if◌then◌else◌, ◌==◌, ◌&&◌}
-use Rattle.std.specs.Prelude.{List, [], ◌∷◌, ◌++◌, map, fold, drop, take}
-use Rattle.std.specs.Prelude.{codes, Some, Err, IsTrue, slice_get}
+use Rattle.std.specs.Prelude.{List, [], ◌∷◌, ◌++◌, map, flat_map, fold, drop, take}
+use Rattle.std.specs.Prelude.{codes, Err, IsTrue}
 use Rattle.std.specs.List.{AllByRecursion, Contains, list_any}
 use Rattle.std.specs.Ordering.{is_eq}
 use Rattle.std.specs.String.{string_bytes}
@@ -200,16 +200,36 @@ text_of (Beginning b) = beginning_text
 text_of (Lowered b) = lower_text
 text_of (Item i) = item_text
 
+-- the one that puts eight items, one after the other
+abbrev pub eight_text : List ℕ
+eight_text =
+    codes "INSERT INTO items (id, last, stamp, value, datum, flags) VALUES (?, ?, ?, ?, ?, ?), "
+    ++ codes "(?, ?, ?, ?, ?, ?), (?, ?, ?, ?, ?, ?), (?, ?, ?, ?, ?, ?), (?, ?, ?, ?, ?, ?), "
+    ++ codes "(?, ?, ?, ?, ?, ?), (?, ?, ?, ?, ?, ?), (?, ?, ?, ?, ?, ?)"
+
+-- one row, or as many items as one statement puts
+abbrev pub AreAtOnce : List Put → Type 0
+AreAtOnce these =
+    ((put : Put) × (these ≡ put ∷ []))
+    ⊎ ((a b c d e f g h : ItemRow)
+    × (these ≡ map Item (a ∷ b ∷ c ∷ d ∷ e ∷ f ∷ g ∷ h ∷ [])))
+
+-- the one that these rows are put by: that of the row itself, or of several items
+abbrev pub text_of_all : List Put → List ℕ
+text_of_all (put ∷ []) = text_of put
+text_of_all puts = eight_text
+
 -- ---- why it is not done
 
--- it gives up on one of these, when those before it are put
+-- it gives up on some of these, which one statement puts, when those before them are put
 pub record GivesUp {S : Type 0} (g : Ghosts S) (old new : Held S) (puts : List Put) (e : Error) : Type 0 where
-  pub before : ℕ
-  pub put : Put
-  pub at : slice_get puts before ≡ Some put
+  pub before : List Put
+  pub these : List Put
+  pub behind : List Put
+  pub at : puts ≡ before ++ these ++ behind
   pub mid : Held S
-  pub done : Puts (state g old) (state g mid) (take before puts)
-  pub why : ExecutesInside 0 (text_of put) (given put) (state g mid) (state g new) (Err e)
+  pub done : Puts (state g old) (state g mid) before
+  pub why : ExecutesInside 0 (text_of_all these) (flat_map given these) (state g mid) (state g new) (Err e)
 
 -- Why a batch isn't put: a transaction is open already; or the database gives up on one of its rows, or on the commit.
 abbrev pub FailsToPut : {S : Type 0} → Ghosts S → Held S → List Put → Error → Type 0

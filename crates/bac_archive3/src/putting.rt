@@ -1,18 +1,24 @@
 //! Rows are put: all of a batch, or none.
 
-ghost use Rattle.std.specs.Prelude.{◌≡◌, ◌∷◌, ◌≤◌, [], OnOk, OnErr, IfErr, IsTrue, take};
+ghost use Rattle.std.specs.Prelude.{◌≡◌, ◌≢◌, ◌∷◌, ◌≤◌, ◌<◌, [], OnOk, OnErr, IfErr, IsTrue};
+ghost use Rattle.std.specs.Prelude.{flat_map, length, take};
 ghost use Rattle.sqlite.specs.State.{HasCleanDisk, Survives, KeepsCommit, ExecutesInside};
 ghost use Rattle.sqlite.specs.Held.{state};
 ghost use Rattle.sqlite.specs.Values.{bound};
 ghost use Rattle.bac_archive3.specs.Schema.{HasArchive, OverArchive};
-ghost use Rattle.bac_archive3.specs.Put.{FailsToPut, GivesUp, IsPut, Puts};
-ghost use Rattle.bac_archive3.specs.Put.{given, text_of, PutsJoin, PutsKeepVersion};
+ghost use Rattle.bac_archive3.specs.Put.{AreAtOnce, FailsToPut, GivesUp, IsPut, Puts};
+ghost use Rattle.bac_archive3.specs.Put.{given, text_of, text_of_all, PutsJoin, PutsKeepVersion};
 ghost use Rattle.bac_archive3.specs.Put.{PutsLoseNothing};
 
 use crate::ending::finish;
-use crate::row::{Put, beginning_bound, device_bound, item_bound, log_bound};
+use crate::row::{Put, beginning_bound, device_bound, item_bound, item_values, log_bound};
 use sqlite::{Alter, Connection, Error, ErrorCode, Transaction};
 use sqlite_value::value::ValueRef;
+
+/// The statement that puts eight items.
+const EIGHT: &str = "INSERT INTO items (id, last, stamp, value, datum, flags) VALUES \
+    (?, ?, ?, ?, ?, ?), (?, ?, ?, ?, ?, ?), (?, ?, ?, ?, ?, ?), (?, ?, ?, ?, ?, ?), \
+    (?, ?, ?, ?, ?, ?), (?, ?, ?, ?, ?, ?), (?, ?, ?, ?, ?, ?), (?, ?, ?, ?, ?, ?)";
 
 /// The statement that puts a row.
 fn text_of(put: &Put) -> &'static str
@@ -59,6 +65,29 @@ fn bound_of(put: &Put) -> ([ValueRef<'_>; 11], usize)
     }
 }
 
+/// How many of these rows, from the first on, one statement puts: eight items, or one row.
+fn at_once(puts: &[Put]) -> usize
+    requires { puts.now ≢ [] }
+    ensures some { 0 < result }
+    ensures among { result ≤ length puts.now }
+    ensures so_many { AreAtOnce (take result puts.now) }
+{
+    match puts {
+        [
+            Put::Item(_a),
+            Put::Item(_b),
+            Put::Item(_c),
+            Put::Item(_d),
+            Put::Item(_e),
+            Put::Item(_f),
+            Put::Item(_g),
+            Put::Item(_h),
+            ..
+        ] => 8,
+        _ => 1,
+    }
+}
+
 /// Puts one row.
 fn put_one<S: Alter>(tx: &mut Transaction<'_, S>, put: &Put) -> Result<usize, Error>
     ensures same_reference { tx.new.conn.ghost_name ≡ tx.old.conn.ghost_name }
@@ -71,6 +100,45 @@ fn put_one<S: Alter>(tx: &mut Transaction<'_, S>, put: &Put) -> Result<usize, Er
 {
     let (values, count) = bound_of(put);
     tx.execute(text_of(put), &values[..count])
+}
+
+/// Puts rows by one statement.
+fn put_these<S: Alter>(tx: &mut Transaction<'_, S>, these: &[Put]) -> Result<usize, Error>
+    requires { AreAtOnce these.now }
+    ensures same_reference { tx.new.conn.ghost_name ≡ tx.old.conn.ghost_name }
+    ensures runs { HasCleanDisk (state S.Store tx.new.conn.now)
+        → IsTrue (state S.Store tx.old.conn.now).in_transaction
+        → ExecutesInside 0 (text_of_all these.now) (flat_map given these.now)
+        (state S.Store tx.old.conn.now) (state S.Store tx.new.conn.now) result }
+    ensures crash { Survives (state S.Store tx.old.conn.now) (state S.Store tx.new.conn.now)
+        (λ _. ⊥) }
+{
+    match these {
+        [
+            Put::Item(a),
+            Put::Item(b),
+            Put::Item(c),
+            Put::Item(d),
+            Put::Item(e),
+            Put::Item(f),
+            Put::Item(g),
+            Put::Item(h),
+        ] => {
+            let rows = [
+                item_values(a),
+                item_values(b),
+                item_values(c),
+                item_values(d),
+                item_values(e),
+                item_values(f),
+                item_values(g),
+                item_values(h),
+            ];
+            tx.execute(EIGHT, rows.as_flattened())
+        }
+        [put] => put_one(tx, put),
+        _ => unreachable!(),
+    }
 }
 
 /// Puts each row in turn.
@@ -92,8 +160,11 @@ pub(crate) fn put_each<S: Alter>(tx: &mut Transaction<'_, S>, puts: &[Put]) -> R
         → HasArchive (state S.Store tx.old.conn.now).now.schema
         → KeepsCommit (state S.Store tx.old.conn.now) (state S.Store tx.new.conn.now) }
 {
-    for put in puts {
-        put_one(tx, put)?;
+    let mut behind = puts;
+    while !behind.is_empty() {
+        let (these, more) = behind.split_at(at_once(behind));
+        put_these(tx, these)?;
+        behind = more;
     }
     Ok(())
 }

@@ -203,9 +203,9 @@ pub(crate) fn log_bound(row: &LogRow) -> [ValueRef<'_>; 11]
     ]
 }
 
-/// What is bound for a record or a gap: the first six.
-pub(crate) fn item_bound(row: &ItemRow) -> [ValueRef<'_>; 11]
-    ensures { bound (take 6 result) ≡ bound_columns (item_columns row.now) }
+/// What is bound for a record or a gap.
+pub(crate) fn item_values(row: &ItemRow) -> [ValueRef<'_>; 6]
+    ensures { bound result ≡ bound_columns (item_columns row.now) }
 {
     [
         ValueRef::Int(row.id),
@@ -214,6 +214,21 @@ pub(crate) fn item_bound(row: &ItemRow) -> [ValueRef<'_>; 11]
         real_or_null(row.value),
         octets_or_null(&row.datum),
         octets_or_null(&row.flags),
+    ]
+}
+
+/// The same, as the first six.
+pub(crate) fn item_bound(row: &ItemRow) -> [ValueRef<'_>; 11]
+    ensures { bound (take 6 result) ≡ bound_columns (item_columns row.now) }
+{
+    let [id, last, stamp, value, datum, flags] = item_values(row);
+    [
+        id,
+        last,
+        stamp,
+        value,
+        datum,
+        flags,
         ValueRef::Null,
         ValueRef::Null,
         ValueRef::Null,
