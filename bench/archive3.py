@@ -3,7 +3,8 @@
 
 A batch of 64 replies with 64 records each is put, by turns with sqlite3's own INSERTs of the same rows by a prepared statement in
 one transaction (archive3.c), both into a file of 100,000 rows in WAL mode with synchronous FULL on the same disk: the time from
-BEGIN to COMMIT, medians. And a file of ROWS rows, 1,000,000 where none is given, is opened and told what it holds."""
+BEGIN to COMMIT, medians. The C library lets go what the open freed as it is freed: else the first statement behind an open pays for
+that, where a run has asked the file before it puts anything. And a file of ROWS rows, 1,000,000 where none is given, is opened and told what it holds."""
 import os
 import re
 import sqlite3
@@ -61,7 +62,8 @@ def stamp(n):
 
 def asked(lines):
     """What the program answers."""
-    return subprocess.run([PROGRAM], input=lines, capture_output=True, text=True, check=True, cwd=ROOM).stdout.strip()
+    at_once = {**os.environ, "GLIBC_TUNABLES": "glibc.malloc.mxfast=0"}
+    return subprocess.run([PROGRAM], input=lines, capture_output=True, text=True, check=True, cwd=ROOM, env=at_once).stdout.strip()
 
 
 def put_by_program(first):
