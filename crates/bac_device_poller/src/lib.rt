@@ -36,4 +36,5 @@ pub use log_record::LogRecord;
 pub use poller::DevicePoller;
 pub use putting::{NotPut, put_turn};
 pub use rows::Rows;
+pub use telling::told_by;
 pub use transacting::{awaits, close};

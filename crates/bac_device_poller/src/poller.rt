@@ -3,7 +3,7 @@
 ghost use Rattle.std.specs.Prelude.{◌≡◌, IfOk, OnOk, false, is_some};
 ghost use Rattle.bac_link.specs.Path.{towards};
 ghost use Rattle.bac_link.specs.Requests.{next_invoke, request_octets};
-ghost use Rattle.bac_link.specs.Transactions.{begun_with};
+ghost use Rattle.bac_link.specs.Transactions.{begun_with, is_awaited};
 ghost use Rattle.bac_device_poll.specs.Poll.{IsFit};
 ghost use Rattle.bac_device_poll.specs.Turns.{of_log};
 ghost use Rattle.bac_device_poll.specs.Turns.{turned};
@@ -181,6 +181,13 @@ impl DevicePoller {
             return self.is_waiting() && self.way.i_am(from, datagram.octets()).is_some();
         }
         from == self.way.peer && awaits(&self.transactions, datagram.octets())
+    }
+
+    /// Whether a datagram answers its open request, from wherever it comes.
+    pub fn awaits(&self, datagram: &Datagram) -> bool
+        ensures { result ≡ is_awaited self.now.transactions.pending datagram.now }
+    {
+        awaits(&self.transactions, datagram.octets())
     }
 
     /// A datagram came from an address, at this moment of this machine's clock. It is taken if it
