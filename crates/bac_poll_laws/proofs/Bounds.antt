@@ -237,7 +237,7 @@ less_refers p stage.ByNumber is = tt
 less_refers p (stage.Oldest aim) is = tt
 less_refers p (stage.Counts aim) is = tt
 less_refers p (stage.UpTo aim) is = tt
-less_refers p (stage.Back aim) is = tt
+less_refers p (stage.Back aim) is = is
 less_refers p stage.Revision is = tt
 less_refers p stage.Restart is = tt
 
