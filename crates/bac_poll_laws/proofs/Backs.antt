@@ -127,7 +127,7 @@ less_many zero p many = many
 less_many (suc n) p many = less_many n (after_too_many p) (half_low p.walk.count (nat_le p.walk.count 1) many)
 
 module _ (H : History) (low : ℕ) where
-  left_some : (n : ℕ) (held : List Numbered) (reference : ℕ) → Left H low n held reference → 1 ≤ n
+  pub left_some : (n : ℕ) (held : List Numbered) (reference : ℕ) → Left H low n held reference → 1 ≤ n
   left_some n held reference left = by left.3
     where
       by : Refers H low n left.0 (first_number held) reference → 1 ≤ n

@@ -10,3 +10,4 @@ pub mod Backwards
 pub mod Held
 pub mod ByRecords
 pub mod Firsts
+pub mod ByHeld

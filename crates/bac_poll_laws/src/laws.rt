@@ -3,6 +3,7 @@
 ghost use Rattle.bac_poll_laws.specs.Asks.{AsksOnceMore};
 ghost use Rattle.bac_poll_laws.specs.Backwards.{BackwardsAreFew, NoneIsBegunAgain};
 ghost use Rattle.bac_poll_laws.specs.Bounds.{QuestionsAreBounded};
+ghost use Rattle.bac_poll_laws.specs.ByHeld.{QuestionsByHeld};
 ghost use Rattle.bac_poll_laws.specs.ByRecords.{QuestionsByRecords};
 ghost use Rattle.bac_poll_laws.specs.Caught.{PollsDeliver};
 ghost use Rattle.bac_poll_laws.specs.Firsts.{FirstsDeliver};
@@ -79,6 +80,14 @@ pub fn questions_are_bounded()
 /// record that is kept.
 pub fn questions_by_records()
     ensures { QuestionsByRecords }
+{}
+
+/// Where replies show none but records that a log holds, which goes on, it costs twenty-one questions
+/// at most from where its rows stand, and three in a first run; seventeen more for each record that
+/// is kept; and two for each record that was held, six times (twice in a first run), and six times
+/// more for each that is kept.
+pub fn questions_by_held()
+    ensures { QuestionsByHeld }
 {}
 
 /// Where a device says what its log holds, of a log that goes on, each two questions backwards, one
