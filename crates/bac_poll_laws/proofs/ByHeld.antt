@@ -3,7 +3,7 @@ use Rattle.std.proofs.Common.{arith, ◌≡◌, ℕ, ◌+◌, ◌*◌, ◌-◌, 
 use Rattle.bac_link.specs.Delivery.{History, Moment}
 use Rattle.bac_walk.specs.declared.batch.Numbered.{Numbered}
 use Rattle.bac_poll.specs.Poll.{first_stage, joining, reply_in, starting}
-use Rattle.bac_poll.specs.State.{KeptAs, PollState, Reply, StandingAs}
+use Rattle.bac_poll.specs.State.{KeptAs, PollState, Reply}
 use Rattle.bac_poll.specs.Turns.{Turned, asks, first_number, number_before}
 use Rattle.bac_poll.specs.declared.stage.Aim.{Aim}
 use Rattle.bac_poll.specs.declared.stage.Aim.TheVariants.{Finds, Renews}
@@ -12,7 +12,7 @@ use Rattle.bac_poll.specs.declared.stage.Stage.TheVariants as stage
 use Rattle.bac_poll_laws.specs.Backwards.{IsLoggedIn}
 use Rattle.bac_poll_laws.specs.Bounds.{AnswerIt, AreBounded, WhicheverRecord, back_one, count_of, kept_one, lost_one}
 use Rattle.bac_poll_laws.specs.ByHeld.{AreFew, QuestionsByHeld, ShowHolding, ShowsHolding}
-use Rattle.bac_poll_laws.specs.Delivers.{Given, IsWithin, after_given, asking_less}
+use Rattle.bac_poll_laws.specs.Delivers.{Given, after_given, asking_less}
 use Rattle.bac_poll_laws.specs.Delivers.{WasHeld}
 use Rattle.bac_poll_laws.specs.Held.{kept_by}
 use Rattle.bac_poll_laws.specs.Laws.{Answer, Answers, Counted, HasSome, HoldsOfEach, IsAt, IsRun, IsStanding, Replied, Restarted, Revised, ShowsOnly, Whichever}
