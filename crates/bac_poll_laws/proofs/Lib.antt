@@ -24,3 +24,4 @@ mod Runs
 mod ByHeld
 mod Firsts
 mod FirstRuns
+mod Empty

@@ -11,3 +11,4 @@ pub mod Held
 pub mod ByRecords
 pub mod Firsts
 pub mod ByHeld
+pub mod Empty

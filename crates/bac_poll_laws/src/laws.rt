@@ -6,6 +6,7 @@ ghost use Rattle.bac_poll_laws.specs.Bounds.{QuestionsAreBounded};
 ghost use Rattle.bac_poll_laws.specs.ByHeld.{QuestionsByHeld};
 ghost use Rattle.bac_poll_laws.specs.ByRecords.{QuestionsByRecords};
 ghost use Rattle.bac_poll_laws.specs.Caught.{PollsDeliver};
+ghost use Rattle.bac_poll_laws.specs.Empty.{EmptyEnds};
 ghost use Rattle.bac_poll_laws.specs.Firsts.{FirstsDeliver};
 ghost use Rattle.bac_poll_laws.specs.Gaps.{GapsAreGone};
 ghost use Rattle.bac_poll_laws.specs.Held.{HeldIsKept};
@@ -113,4 +114,11 @@ pub fn held_is_kept()
 /// it, in a first run or of a new epoch, delivers it from the beginning of the epoch on.
 pub fn firsts_deliver()
     ensures { FirstsDeliver }
+{}
+
+/// A first run of a log that shows no record keeps none, and ends behind two questions, if nothing
+/// was logged, and else behind three: as caught up, at the number behind the count; where the count
+/// is refused, and a run before put a beginning on record by it, as a log that shows none.
+pub fn empty_ends()
+    ensures { EmptyEnds }
 {}
