@@ -408,15 +408,14 @@ bounded n p given is answers low none =
     (omega (arith, all.0, low), omega (arith, all.1, none))
 
 pub questions_bounded : QuestionsAreBounded
-questions_bounded log device many told given low =
-    (
-      λ at row answers.
-          let p : PollState = joining log device many at told in
-          let once = hours_low p.stage p.earliest in
-          let most = first_left p.alone 0 at.newest at.next in
-          bounded 21 p given (first_inv log device many told at low row) answers (omega (arith, once, most)) refl,
-      λ counted word answers.
-          let p : PollState = starting log device many counted word told in
-          let no_more : hours p ≡ 0 = refl in
-          bounded 3 p given (start_inv log device many told counted word low) answers (omega (arith, no_more)) refl,
-    )
+questions_bounded log device many told given low = (
+  λ at row answers.
+      let p : PollState = joining log device many at told in
+      let once = hours_low p.stage p.earliest in
+      let most = first_left p.alone 0 at.newest at.next in
+      bounded 21 p given (first_inv log device many told at low row) answers (omega (arith, once, most)) refl,
+  λ counted word answers.
+      let p : PollState = starting log device many counted word told in
+      let no_more : hours p ≡ 0 = refl in
+      bounded 3 p given (start_inv log device many told counted word low) answers (omega (arith, no_more)) refl,
+)

@@ -279,23 +279,22 @@ first_kind None next t = by (next == 1)
     by false = refl
 
 pub by_held : QuestionsByHeld
-by_held H low high log device many told given some wide few =
-    (
-      λ at row says.
-          let p : PollState = joining log device many at told in
-          let inv = first_inv log device many told at few row in
-          let logged = (begins_standing (IsLoggedIn H low) Whichever log device many told).0 at row.0 in
-          let under = (begins_standing (LiesBelow H low high) Whichever log device many told).0 at row.0 in
-          let once = hours_low p.stage p.earliest in
-          let three = runs_low (left p) in
-          few_of H low high 21 6 p given some wide (inv, logged, under) (none_left H low high p (first_kind at.newest at.next))
-          ((questions_bounded log device many told given few).0 at row (answer_it H low high wide p given says)) (omega (arith, once, three)) says,
-      λ counted word says.
-          let p : PollState = starting log device many counted word told in
-          let inv = start_inv log device many told counted word few in
-          let logged = (begins_standing (IsLoggedIn H low) Whichever log device many told).1 counted word in
-          let under = (begins_standing (LiesBelow H low high) Whichever log device many told).1 counted word in
-          let two = runs_start in
-          few_of H low high 3 2 p given some wide (inv, logged, under) (none_left H low high p (λ t. refl))
-          ((questions_bounded log device many told given few).1 counted word (answer_it H low high wide p given says)) (omega (arith, two)) says,
-    )
+by_held H low high log device many told given some wide few = (
+  λ at row says.
+      let p : PollState = joining log device many at told in
+      let inv = first_inv log device many told at few row in
+      let logged = (begins_standing (IsLoggedIn H low) Whichever log device many told).0 at row.0 in
+      let under = (begins_standing (LiesBelow H low high) Whichever log device many told).0 at row.0 in
+      let once = hours_low p.stage p.earliest in
+      let three = runs_low (left p) in
+      few_of H low high 21 6 p given some wide (inv, logged, under) (none_left H low high p (first_kind at.newest at.next))
+      ((questions_bounded log device many told given few).0 at row (answer_it H low high wide p given says)) (omega (arith, once, three)) says,
+  λ counted word says.
+      let p : PollState = starting log device many counted word told in
+      let inv = start_inv log device many told counted word few in
+      let logged = (begins_standing (IsLoggedIn H low) Whichever log device many told).1 counted word in
+      let under = (begins_standing (LiesBelow H low high) Whichever log device many told).1 counted word in
+      let two = runs_start in
+      few_of H low high 3 2 p given some wide (inv, logged, under) (none_left H low high p (λ t. refl))
+      ((questions_bounded log device many told given few).1 counted word (answer_it H low high wide p given says)) (omega (arith, two)) says,
+)

@@ -10,7 +10,6 @@ use Rattle.bac_poll.specs.State.{PollState, Reply, ToldAs}
 use Rattle.bac_poll.specs.Turns.{Turned, asks_at}
 use Rattle.bac_poll.specs.declared.stage.Aim.TheVariants.{Starts}
 use Rattle.bac_poll.specs.declared.stage.Stage.TheVariants.{UpTo}
-use Rattle.bac_poll.specs.declared.turn.PollEnd.{PollEnd}
 use Rattle.bac_poll.specs.declared.turn.PollEnd.TheVariants.{CaughtUp, SaysMore}
 use Rattle.bac_poll_laws.specs.Bounds.{WhicheverRecord}
 use Rattle.bac_poll_laws.specs.Empty.{EmptyEnds, EndsAt, LooksOn, end_of_none}

@@ -83,10 +83,10 @@ pub fn questions_by_records()
     ensures { QuestionsByRecords }
 {}
 
-/// Where replies show none but records that a log holds, which goes on, it costs twenty-one questions
-/// at most from where its rows stand, and three in a first run; seventeen more for each record that
-/// is kept; and two for each record that was held, six times (twice in a first run), and six times
-/// more for each that is kept.
+/// Where replies show none but records that the log holds, a log that goes on costs
+/// 21 + 17 k + 12 (k + 1) h questions at most from where its rows stand, and
+/// 3 + 17 k + 4 (3 k + 1) h in a first run: k records are kept, and h ordinals lie from the oldest
+/// to the newest that it held.
 pub fn questions_by_held()
     ensures { QuestionsByHeld }
 {}
