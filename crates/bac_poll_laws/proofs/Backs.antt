@@ -10,19 +10,19 @@ use Rattle.bac_walk.specs.declared.batch.Numbered.{Numbered}
 use Rattle.bac_poll.specs.Back.{back}
 use Rattle.bac_poll.specs.Poll.{ack_in, after_heard, after_too_many, are_asked, at_stage, count_at, has_last, has_more, more_of, reply_from, reply_in, reply_of}
 use Rattle.bac_poll.specs.State.{PollState, Reply}
-use Rattle.bac_poll.specs.Turns.{first_number, last_in}
+use Rattle.bac_poll.specs.Turns.{Turned, first_number, last_in}
 use Rattle.bac_poll.specs.declared.stage.Aim.{Aim}
 use Rattle.bac_poll.specs.declared.stage.Stage.{Stage}
 use Rattle.bac_poll.specs.declared.stage.Stage.TheVariants as stage
 use Rattle.bac_poll_laws.specs.Backwards.{BackwardsAreFew, IsLoggedIn, NoneIsBegunAgain, SayBack}
 use Rattle.bac_poll_laws.specs.Bounds.{again_one, count_of, lost_one, oldest_one}
-use Rattle.bac_poll_laws.specs.Delivers.{Given, IsWithin, ShowHeld, ShowsHeld, after_given, asking_less}
-use Rattle.bac_poll_laws.specs.Laws.{Answer, Answers, Counted, HasSome, HoldsOfEach, IsAt, IsRun, IsStanding, Replied, Restarted, Revised, ShowsOnly, Whichever, after_answer}
+use Rattle.bac_poll_laws.specs.Delivers.{Given, GoesOn, IsWithin, ShowHeld, ShowsHeld, after_given, asking_less}
+use Rattle.bac_poll_laws.specs.Laws.{Answer, Answers, Counted, HasSome, HoldsOfEach, IsAt, IsLast, IsRun, IsStanding, Replied, Restarted, Revised, ShowsOnly, Whichever, after_answer}
 use Rattle.bac_poll_laws.proofs.Bounds.{half_low}
 use Rattle.bac_poll_laws.proofs.Delivered.{less_stage, less_standing, shows_of}
 use Rattle.bac_poll_laws.proofs.Once.{IsRunReply, any_answer, begins_standing, heard_run, one_answer}
 use Rattle.bac_poll_laws.proofs.Ordered.{IsOf}
-use Rattle.bac_poll_laws.proofs.Older.{AtBack, Below, Ends, Left, Refers, Steps, back_steps, first_same, from_before, from_first, last_logged, none_again}
+use Rattle.bac_poll_laws.proofs.Older.{AtBack, BackAt, Below, Ends, Left, Refers, Steps, back_steps, first_same, from_before, from_first, last_logged, none_again}
 use Rattle.bac_poll.specs.declared.turn.PollEnd.{PollEnd}
 
 -- ---- a reply to a question backwards
@@ -94,21 +94,21 @@ module _ (H : History) (low : ℕ) where
       (l : Numbered) → last_in rs ≡ Some l → Ends (IsLoggedIn H low) Z p.walk.count p.held rs l
 
   heard_steps : (Z : List Numbered → ℕ → Type 0) (p : PollState) (reply : Option Reply) (aim : Aim) → p.stage ≡ stage.Back aim → ((rs : List Numbered) → Shows Z p rs) →
-      IsRunReply (IsLoggedIn H low) Whichever reply → IsUpTo p reply → Steps Z p.walk.count (after_heard p reply)
-  heard_steps Z p None aim at ends run up = λ going sure. absurd (cc)
+      IsRunReply (IsLoggedIn H low) Whichever reply → IsUpTo p reply → Steps Z p.walk.count aim (after_heard p reply)
+  heard_steps Z p None aim at ends run up = λ going. absurd (cc)
   heard_steps Z p (Some reply) aim at ends run up =
       let q : PollState = record p { more = more_of p reply; held = [] } in
-      subst (λ (s : Stage). Steps Z p.walk.count (at_stage q s p.held reply)) (sym at)
+      subst (λ (s : Stage). Steps Z p.walk.count aim (at_stage q s p.held reply)) (sym at)
       (back_steps (IsLoggedIn H low) Z p.walk.count q aim p.held reply.records refl (λ l last. ends reply.records run (up aim at) l last))
 
   answer_steps : (Z : List Numbered → ℕ → Type 0) (p : PollState) (answer : Answer) (aim : Aim) → p.stage ≡ stage.Back aim → ((rs : List Numbered) → Shows Z p rs) → Answers (IsLoggedIn H low) p answer →
-      Steps Z p.walk.count (after_answer p answer)
+      Steps Z p.walk.count aim (after_answer p answer)
   answer_steps Z p (Replied datagram) aim at ends shows =
       let heard = heard_in p.walk.log datagram in
       let last = has_last (ack_in datagram) in
       let more = has_more (ack_in datagram) in
       heard_steps Z p (reply_in p datagram) aim at ends (heard_run (IsLoggedIn H low) Whichever p heard last more shows) (heard_up p heard last more)
-  answer_steps Z p (Counted count) aim at ends shows = subst (λ (s : Stage). Steps Z p.walk.count (count_at p s count)) (sym at) (λ going sure. absurd (cc))
+  answer_steps Z p (Counted count) aim at ends shows = subst (λ (s : Stage). Steps Z p.walk.count aim (count_at p s count)) (sym at) (λ going. absurd (cc))
   answer_steps Z p (Revised revision) aim at ends shows = let never : stage.Revision ≡ stage.Back aim = sym shows ∙ at in absurd (cc)
   answer_steps Z p (Restarted restart moment) aim at ends shows = let never : stage.Restart ≡ stage.Back aim = sym shows ∙ at in absurd (cc)
 
@@ -127,7 +127,7 @@ less_many zero p many = many
 less_many (suc n) p many = less_many n (after_too_many p) (half_low p.walk.count (nat_le p.walk.count 1) many)
 
 module _ (H : History) (low : ℕ) where
-  left_some : (n : ℕ) (held : List Numbered) (reference : ℕ) → Left H low n held reference → 1 ≤ n
+  pub left_some : (n : ℕ) (held : List Numbered) (reference : ℕ) → Left H low n held reference → 1 ≤ n
   left_some n held reference left = by left.3
     where
       by : Refers H low n left.0 (first_number held) reference → 1 ≤ n
@@ -135,20 +135,23 @@ module _ (H : History) (low : ℕ) where
       by (inr at) = omega (arith, at.1)
 
   -- what one answer is behind so many questions that are left
-  one_older : (n : ℕ) (p : PollState) (given : Given) (aim : Aim) → 0 < low → p.stage ≡ stage.Back aim → IsStanding (IsLoggedIn H low) Whichever p → Left H low n p.held p.reference →
-      p.walk.count ≤ 100 → IsWithin low given.moment → ShowsHeld low given.moment H (asking_less given.less p) given.answer →
-      Steps (Below H low n) (asking_less given.less p).walk.count (after_given p given) × ((after_given p given).end ≡ None → IsStanding (IsLoggedIn H low) Whichever (after_given p given).poll)
-  one_older n p given aim some at is left many within says =
+  pub one_older : (n : ℕ) (p : PollState) (given : Given) (aim : Aim) → 0 < low → p.stage ≡ stage.Back aim → IsStanding (IsLoggedIn H low) Whichever p → Left H low n p.held p.reference →
+      p.walk.count ≤ 100 → Answers (IsLoggedIn H low) (asking_less given.less p) given.answer → Steps (Below H low n) (asking_less given.less p).walk.count aim (after_given p given)
+  one_older n p given aim some at is left many shows =
       let q = asking_less given.less p in
-      let shows = one_shown H low given.moment q given.answer within says in
       let still : Left H low n q.held q.reference =
       subst (λ (held : List Numbered). Left H low n held q.reference) (sym (less_held given.less p)) (subst (Left H low n p.held) (sym (less_reference given.less p)) left) in
       let stands = less_standing (IsLoggedIn H low) Whichever given.less p is in
       let back : q.stage ≡ stage.Back aim = less_stage given.less p ∙ at in
-      let held = subst (IsAt (IsLoggedIn H low) Whichever q) back stands.1 in (
-        answer_steps H low (Below H low n) q given.answer aim back (λ rs run up l last. ends_by H low n q.held q.reference q.walk.count some still (less_many given.less p many) held.1 held.2 rs run up l last) shows,
-        (one_answer (IsLoggedIn H low) Whichever tt q given.answer stands shows (any_answer (IsLoggedIn H low) q given.answer)).1,
-      )
+      let held = subst (IsAt (IsLoggedIn H low) Whichever q) back stands.1 in
+      answer_steps H low (Below H low n) q given.answer aim back (λ rs run up l last. ends_by H low n q.held q.reference q.walk.count some still (less_many given.less p many) held.1 held.2 rs run up l last) shows
+
+  -- a poll that goes on stands
+  pub one_stands : (P : Numbered → Type 0) (p : PollState) (given : Given) → IsStanding P Whichever p → Answers P (asking_less given.less p) given.answer → (after_given p given).end ≡ None →
+      IsStanding P Whichever (after_given p given).poll
+  one_stands P p given is shows going =
+      let q = asking_less given.less p in
+      (one_answer P Whichever tt q given.answer (less_standing P Whichever given.less p is) shows (any_answer P q given.answer)).1 going
 
   all_older : (n : ℕ) (p : PollState) (given : List Given) (aim : Aim) → 0 < low → p.stage ≡ stage.Back aim → IsStanding (IsLoggedIn H low) Whichever p → Left H low n p.held p.reference →
       p.walk.count ≤ 100 → SayBack low H p given → length given ≤ n
@@ -157,10 +160,14 @@ module _ (H : History) (low : ℕ) where
   all_older n p (given ∷ next ∷ rest) aim some at is left many says =
       let q = asking_less given.less p in
       let t = after_given p given in
-      let steps = one_older n p given aim some at is left many says.0 says.1 in
-      let on = subst (AtBack (Below H low n) q.walk.count t.poll) says.2.2.1 (steps.0 says.2.0 says.2.1) in
+      let Z = Below H low n in
+      let shows = one_shown H low given.moment q given.answer says.0 says.1 in
+      let steps = one_older n p given aim some at is left many shows says.2.0 in
+      let there = subst (AtBack Z q.walk.count aim t.anew t.poll) says.2.2.1 steps in
+      let on = subst (λ (anew : Bool). BackAt Z q.walk.count aim anew t.poll says.2.2.0) says.2.1 there in
       let fewer = less_many given.less p many in
-      let others = all_older on.0.0 t.poll (next ∷ rest) says.2.2.0 some says.2.2.1 (steps.1 says.2.0) on.0.2 (omega (arith, on.1, fewer)) says.3 in
+      let stands = one_stands (IsLoggedIn H low) p given is shows says.2.0 in
+      let others = all_older on.0.0 t.poll (next ∷ rest) says.2.2.0 some says.2.2.1 stands on.0.2 (omega (arith, on.1, fewer)) says.3 in
       omega (arith, others, on.0.1)
 
   -- ---- none is begun again
@@ -183,9 +190,9 @@ module _ (H : History) (low : ℕ) where
       let held = subst (IsAt (IsLoggedIn H low) Whichever q) back (less_standing (IsLoggedIn H low) Whichever given.less p is).1 in
       let steps = answer_steps H low Whatever q given.answer aim back
       (λ rs run up l last. ((λ ended. (first_same H low q.held l held.1 held.2 (last_logged H low (first_number rs) rs l run last) ended, (λ alone. tt), (λ more. tt))), (λ short. tt))) shows in
-      again_none t.end t.anew t.poll.stage (λ going sure. none_again Whatever q.walk.count t.poll t.poll.stage (steps going sure))
+      again_none t.end t.anew t.poll.stage (λ going sure. none_again Whatever q.walk.count aim t.anew t.poll t.poll.stage (steps going) sure)
 
-  one_found : (p : PollState) (given : Given) (s : Stage) → p.stage ≡ s → IsStanding (IsLoggedIn H low) Whichever p → Answers (IsLoggedIn H low) (asking_less given.less p) given.answer →
+  pub one_found : (p : PollState) (given : Given) (s : Stage) → p.stage ≡ s → IsStanding (IsLoggedIn H low) Whichever p → Answers (IsLoggedIn H low) (asking_less given.less p) given.answer →
       lost_one s (after_given p given) ≡ 0
   one_found p given stage.Joins at is shows = omega arith
   one_found p given stage.Prior at is shows = omega arith
@@ -200,17 +207,28 @@ module _ (H : History) (low : ℕ) where
   one_found p given stage.Revision at is shows = omega arith
   one_found p given stage.Restart at is shows = omega arith
 
-  all_found : (p : PollState) (given : List Given) → IsStanding (IsLoggedIn H low) Whichever p → ShowHeld low H p given → count_of lost_one p given ≡ 0
+  -- answers, one after the other, show none but such records
+  abbrev pub SayLogged : PollState → List Given → Type 0
+  SayLogged p [] = Unit {0}
+  SayLogged p (given ∷ others) =
+      Answers (IsLoggedIn H low) (asking_less given.less p) given.answer × IsLast (after_given p given) others × SayLogged (after_given p given).poll others
+
+  pub all_found : (p : PollState) (given : List Given) → IsStanding (IsLoggedIn H low) Whichever p → SayLogged p given → count_of lost_one p given ≡ 0
   all_found p [] is says = refl
-  all_found p (given ∷ []) is says =
-      let shows = one_shown H low given.moment (asking_less given.less p) given.answer says.0 says.1 in
-      let one = one_found p given p.stage refl is shows in omega (arith, one)
+  all_found p (given ∷ []) is says = let one = one_found p given p.stage refl is says.0 in omega (arith, one)
   all_found p (given ∷ next ∷ rest) is says =
-      let q = asking_less given.less p in
-      let shows = one_shown H low given.moment q given.answer says.0 says.1 in
-      let one = one_found p given p.stage refl is shows in
-      let stands = (one_answer (IsLoggedIn H low) Whichever tt q given.answer (less_standing (IsLoggedIn H low) Whichever given.less p is) shows (any_answer (IsLoggedIn H low) q given.answer)).1 says.2.0 in
-      let others = all_found (after_given p given).poll (next ∷ rest) stands says.3 in omega (arith, one, others)
+      let one = one_found p given p.stage refl is says.0 in
+      let stands = one_stands (IsLoggedIn H low) p given is says.0 says.1 in
+      let others = all_found (after_given p given).poll (next ∷ rest) stands says.2 in omega (arith, one, others)
+
+  going_on : (t : Turned) (others : List Given) → GoesOn t others → IsLast t others
+  going_on t [] goes = tt
+  going_on t (given ∷ others) goes = goes.0
+
+  say_logged : (p : PollState) (given : List Given) → ShowHeld low H p given → SayLogged p given
+  say_logged p [] says = tt
+  say_logged p (given ∷ others) says =
+      (one_shown H low given.moment (asking_less given.less p) given.answer says.0 says.1, going_on (after_given p given) others says.2, say_logged (after_given p given).poll others says.3)
 
 pub backwards_few : BackwardsAreFew
 backwards_few H low k p answers back says =
@@ -220,4 +238,4 @@ pub none_again_begun : NoneIsBegunAgain
 none_again_begun H low s p answers joined says =
     all_found H low p answers
     (subst (IsStanding (IsLoggedIn H low) Whichever) (sym joined.is)
-    ((begins_standing (IsLoggedIn H low) Whichever joined.log joined.device joined.many joined.told).0 joined.at joined.known)) says
+    ((begins_standing (IsLoggedIn H low) Whichever joined.log joined.device joined.many joined.told).0 joined.at joined.known)) (say_logged H low p answers says)

@@ -2,6 +2,7 @@
 use Rattle.std.proofs.Common.{arith, ◌≡◌, ℕ, zero, suc, ◌+◌, ◌*◌, ◌-◌, ◌/◌, ◌≤◌, ◌<◌, ◌==◌, nat_le, nat_lt, Bool, true, false, if◌then◌else◌, Option, None, Some, List, [], ◌∷◌, length, refl, sym, ap, subst, ◌∙◌}
 use Rattle.std.proofs.lemmas.Bool.{leb-true, ltb-true}
 use Rattle.std.specs.Option.{is_none}
+use Rattle.bac_wire.specs.Primitive.{Id}
 use Rattle.bac_link.specs.Heard.{AckParameters, heard_in}
 use Rattle.bac_link.specs.Ordinals.{distance}
 use Rattle.bac_log.specs.declared.entry.Entry.{Entry}
@@ -9,7 +10,7 @@ use Rattle.bac_walk.specs.Walks.{Ask, Bring, End, NextAct, Refuse, verdict, with
 use Rattle.bac_walk.specs.declared.batch.Numbered.{Numbered}
 use Rattle.bac_poll.specs.Back.{back_by, went_back}
 use Rattle.bac_poll.specs.Poll.{ack_in, after_heard, after_too_many, are_asked, at_stage, count_at, first_reference, first_stage, has_last, has_more, joining, kept_number, more_of, reply_from, reply_in, reply_of, starting}
-use Rattle.bac_poll.specs.State.{KeptAs, PollState, Reply, StandingAs}
+use Rattle.bac_poll.specs.State.{KeptAs, PollState, Reply, StandingAs, ToldAs}
 use Rattle.bac_poll.specs.Turns.{Turned, first_number, last_in, number_before}
 use Rattle.bac_poll.specs.declared.stage.Aim.{Aim}
 use Rattle.bac_poll.specs.declared.stage.Aim.TheVariants.{Finds, Renews, Starts}
@@ -148,7 +149,7 @@ back_aimed p records Renews aimed = aimed
 back_aimed p records Starts aimed = aimed
 
 -- what is known of a poll: where it stands, and that the known records follow one another
-abbrev Inv : PollState → Type 0
+abbrev pub Inv : PollState → Type 0
 Inv p = IsStanding WhicheverRecord Whichever p × Row p × Refers p p.stage × (p.walk.count ≤ 100)
 
 stage_paid : (p : PollState) (more : Bool) (s : Stage) (reply : Reply) → IsBefore p.newest p.next → IsAt WhicheverRecord Whichever p s → Row p → Refers p s →
@@ -237,7 +238,7 @@ less_refers p stage.ByNumber is = tt
 less_refers p (stage.Oldest aim) is = tt
 less_refers p (stage.Counts aim) is = tt
 less_refers p (stage.UpTo aim) is = tt
-less_refers p (stage.Back aim) is = tt
+less_refers p (stage.Back aim) is = is
 less_refers p stage.Revision is = tt
 less_refers p stage.Restart is = tt
 
@@ -289,7 +290,7 @@ one_left a h (stage.Back aim) t = omega arith
 one_left a h stage.Revision t = omega arith
 one_left a h stage.Restart t = omega arith
 
-one_back : (s : Stage) (t : Turned) → back_one s t ≤ 1
+pub one_back : (s : Stage) (t : Turned) → back_one s t ≤ 1
 one_back stage.Joins t = omega arith
 one_back stage.Prior t = omega arith
 one_back stage.Ahead t = omega arith
@@ -309,7 +310,7 @@ Within n m p given =
     (length given ≤ n + count_of back_one p given + 3 * count_of lost_one p given + 17 * count_of kept_one p given)
     × (count_of back_one p given ≤ m)
 
-step_inv : (p : PollState) (given : Given) → Inv p → Answers WhicheverRecord (asking_less given.less p) given.answer → (after_given p given).end ≡ None → Inv (after_given p given).poll
+pub step_inv : (p : PollState) (given : Given) → Inv p → Answers WhicheverRecord (asking_less given.less p) given.answer → (after_given p given).end ≡ None → Inv (after_given p given).poll
 step_inv p given is shows going =
     let q = asking_less given.less p in
     let here = less_inv given.less p is in
@@ -325,6 +326,27 @@ last_within p given [] none =
     (omega (arith, one), omega (arith, back))
 last_within p given (next ∷ rest) none = absurd (cc)
 
+-- What one answer costs, and what it spends of what may be asked for alone.
+pub one_paid : (p : PollState) (given : Given) → Inv p → Answers WhicheverRecord (asking_less given.less p) given.answer → (after_given p given).end ≡ None →
+    (1 + left (after_given p given).poll
+    ≤ left p
+    + (back_one p.stage (after_given p given) + 3 * lost_one p.stage (after_given p given) + 8 * one_if_kept (after_given p given).records + 9 * hour_one p.stage (after_given p given)))
+    × (hour_one p.stage (after_given p given) + hours (after_given p given).poll ≤ hours p + one_if_kept (after_given p given).records)
+    × ((2147483648 - (after_given p given).poll.back) + back_one p.stage (after_given p given) ≤ 2147483648 - p.back)
+one_paid p given is shows going =
+    let q = asking_less given.less p in
+    let t = after_given p given in
+    let here = less_inv given.less p is in
+    let spent : hour_one p.stage t + hours t.poll ≤ hours p + one_if_kept t.records =
+    subst (λ (n : ℕ). hour_one p.stage t + hours t.poll ≤ n + one_if_kept t.records) (less_hours given.less p)
+    (subst (λ (s : Stage). hour_one s t + hours t.poll ≤ hours q + one_if_kept t.records) (less_stage given.less p) (answer_spends q given.answer shows going)) in
+    let paid = subst (λ (s : Stage). (1 + left t.poll ≤ left q + (back_one s t + 3 * lost_one s t + 8 * one_if_kept t.records + 9 * hour_one s t))
+    × ((2147483648 - t.poll.back) + back_one s t ≤ 2147483648 - q.back)) (less_stage given.less p)
+    (let all = answer_paid q given.answer here shows going in (all.0, all.4)) in
+    let same = less_left given.less p in
+    let went = less_back given.less p in
+    (omega (arith, paid.0, same), spent, omega (arith, paid.1, went))
+
 -- A question is paid of what is left, also of what may be asked for alone.
 paid_with : (l n b x k h u v : ℕ) → 1 + l ≤ n + (b + 3 * x + 8 * k + 9 * h) → h + u ≤ v + k → 1 + (l + 9 * u) ≤ n + 9 * v + (b + 3 * x + 17 * k)
 paid_with l n b x k h u v paid spent = omega (arith, paid, spent)
@@ -333,20 +355,11 @@ all_within : (p : PollState) (given : List Given) → Inv p → AnswerIt p given
 all_within p [] is answers = (omega arith, omega arith)
 all_within p (given ∷ []) is answers = last_within p given [] refl
 all_within p (given ∷ next ∷ rest) is answers =
-    let q = asking_less given.less p in
     let t = after_given p given in
-    let here = less_inv given.less p is in
-    let spent : hour_one p.stage t + hours t.poll ≤ hours p + one_if_kept t.records =
-    subst (λ (n : ℕ). hour_one p.stage t + hours t.poll ≤ n + one_if_kept t.records) (less_hours given.less p)
-    (subst (λ (s : Stage). hour_one s t + hours t.poll ≤ hours q + one_if_kept t.records) (less_stage given.less p) (answer_spends q given.answer answers.0 answers.1)) in
-    let paid = subst (λ (s : Stage). (1 + left t.poll ≤ left q + (back_one s t + 3 * lost_one s t + 8 * one_if_kept t.records + 9 * hour_one s t))
-    × ((2147483648 - t.poll.back) + back_one s t ≤ 2147483648 - q.back)) (less_stage given.less p)
-    (let all = answer_paid q given.answer here answers.0 answers.1 in (all.0, all.4)) in
-    let all_paid = paid_with (left t.poll) (left q) _ _ _ _ (hours t.poll) (hours p) paid.0 spent in
+    let paid = one_paid p given is answers.0 answers.1 in
+    let all_paid = paid_with (left t.poll) (left p) _ _ _ _ (hours t.poll) (hours p) paid.0 paid.1 in
     let others = all_within t.poll (next ∷ rest) (step_inv p given is answers.0 answers.1) answers.2 in
-    let same = less_left given.less p in
-    let went = less_back given.less p in
-    (omega (arith, all_paid, others.0, same), omega (arith, paid.1, others.1, went))
+    (omega (arith, all_paid, others.0), omega (arith, paid.2, others.1))
 
 -- ---- from where it begins
 
@@ -381,21 +394,28 @@ first_left alone held None next = by alone (next == 1)
     by false true = omega arith
     by false false = omega arith
 
+-- what is known of a poll where it begins
+pub first_inv : (log device : Id) (many : ℕ) (told : ToldAs) (at : StandingAs) → many ≤ 100 → AreInRow at → Inv (joining log device many at told)
+first_inv log device many told at low row =
+    ((begins_standing WhicheverRecord Whichever log device many told).0 at row.0, (row.1, row.2), first_refers (joining log device many at told) at refl refl refl row, low)
+
+pub start_inv : (log device : Id) (many : ℕ) (told : ToldAs) (counted : Option ℕ) (word : ToldAs) → many ≤ 100 → Inv (starting log device many counted word told)
+start_inv log device many told counted word low = ((begins_standing WhicheverRecord Whichever log device many told).1 counted word, (tt, tt), tt, low)
+
 bounded : (n : ℕ) (p : PollState) (given : List Given) → Inv p → AnswerIt p given → left p + 9 * hours p ≤ n → p.back ≡ 0 → AreBounded n p given
 bounded n p given is answers low none =
     let all = all_within p given is answers in
     (omega (arith, all.0, low), omega (arith, all.1, none))
 
 pub questions_bounded : QuestionsAreBounded
-questions_bounded log device many told given low =
-    let begins = begins_standing WhicheverRecord Whichever log device many told in (
-      λ at row answers.
-          let p : PollState = joining log device many at told in
-          let once = hours_low p.stage p.earliest in
-          let most = first_left p.alone 0 at.newest at.next in
-          bounded 21 p given (begins.0 at row.0, (row.1, row.2), first_refers p at refl refl refl row, low) answers (omega (arith, once, most)) refl,
-      λ counted word answers.
-          let p : PollState = starting log device many counted word told in
-          let no_more : hours p ≡ 0 = refl in
-          bounded 3 p given (begins.1 counted word, (tt, tt), tt, low) answers (omega (arith, no_more)) refl,
-    )
+questions_bounded log device many told given low = (
+  λ at row answers.
+      let p : PollState = joining log device many at told in
+      let once = hours_low p.stage p.earliest in
+      let most = first_left p.alone 0 at.newest at.next in
+      bounded 21 p given (first_inv log device many told at low row) answers (omega (arith, once, most)) refl,
+  λ counted word answers.
+      let p : PollState = starting log device many counted word told in
+      let no_more : hours p ≡ 0 = refl in
+      bounded 3 p given (start_inv log device many told counted word low) answers (omega (arith, no_more)) refl,
+)

@@ -21,7 +21,7 @@ any_records : (rs : List Numbered) → HoldsOfEach WhicheverRecord rs
 any_records [] = tt
 any_records (r ∷ rs) = (tt, any_records rs)
 
-any_reply : (reply : Option Reply) → ShowsOnly WhicheverRecord reply
+pub any_reply : (reply : Option Reply) → ShowsOnly WhicheverRecord reply
 any_reply None = tt
 any_reply (Some reply) = any_records reply.records
 
@@ -45,7 +45,7 @@ one_at_least : (rs : List Numbered) → one_if_kept rs ≤ length rs
 one_at_least [] = omega arith
 one_at_least (r ∷ rs) = omega arith
 
-kept_count : (p : PollState) (given : List Given) → count_of kept_one p given ≤ length (kept_by p given)
+pub kept_count : (p : PollState) (given : List Given) → count_of kept_one p given ≤ length (kept_by p given)
 kept_count p [] = omega arith
 kept_count p (given ∷ others) =
     let rs = (after_given p given).records in

@@ -6,7 +6,7 @@ use Rattle.bac_walk.specs.declared.batch.Numbered.{Numbered}
 use Rattle.bac_poll.specs.Back.{back, back_alone, back_by, back_done, back_lost, back_more, back_shown, is_front, went_back}
 use Rattle.bac_poll.specs.Epochs.{another, another_by, another_of, renews, renews_of}
 use Rattle.bac_poll.specs.Gone.{asks_restart, asks_revision, asks_word, by_gone, by_word, retold}
-use Rattle.bac_poll.specs.Joins.{again, again_by, again_equal, again_from, ahead, asks_again, asks_each, at_hour, brings_ahead, each, each_all, each_by, each_means, each_next, found, goes_nowhere, joined, joins, joins_by, joins_from, lost, lost_ahead, moved_ahead, prior}
+use Rattle.bac_poll.specs.Joins.{again_by, again_equal, again_from, ahead, asks_again, asks_each, at_hour, brings_ahead, each, each_all, each_by, each_means, each_next, found, goes_nowhere, joined, joins, joins_by, joins_from, lost, lost_ahead, moved_ahead, prior}
 use Rattle.bac_poll.specs.Known.{heeding, is_another, is_equal, is_other_word, is_steady, is_unshown, means_in, means_of, number_in, record_at, records_behind, shift_in, shown_in}
 use Rattle.bac_poll.specs.Oldest.{by_count, by_number, drops, is_first, logged, sees, sees_before, sees_by, sees_newest, sees_news, sees_none, sees_same}
 use Rattle.bac_poll.specs.Poll.{after_heard, after_too_many, at_stage, came, count_at, more_of, oldest, oldest_none, renews_by, reply_in, up_to, up_to_none}

@@ -1,5 +1,5 @@
 -- How many questions may follow a turn: what is left at each stage, and what the steps of the rule take of it.
-use Rattle.std.proofs.Common.{arith, ◌≡◌, ℕ, suc, ◌+◌, ◌*◌, ◌-◌, ◌≤◌, ◌<◌, ◌==◌, Bool, true, false, if◌then◌else◌, Option, None, Some, List, [], ◌∷◌, length, slice_get, refl, sym, ap, subst, ◌∙◌}
+use Rattle.std.proofs.Common.{arith, ◌≡◌, ℕ, suc, ◌+◌, ◌*◌, ◌-◌, ◌≤◌, ◌<◌, ◌==◌, Bool, true, false, if◌then◌else◌, Option, None, Some, List, [], ◌∷◌, length, slice_get, refl, sym, ap, subst, ◌∙◌, ◌⊎◌, inl}
 use Rattle.std.proofs.lemmas.Bool.{lt-ltb}
 use Rattle.std.specs.Option.{option_map}
 use Rattle.bac_link.specs.Ordinals.{number_after}
@@ -9,7 +9,7 @@ use Rattle.bac_poll.specs.Epochs.{another, another_by, another_of, asks_back, as
 use Rattle.bac_poll.specs.Gone.{asks_restart, asks_revision, asks_word, by_gone, by_word, retold}
 use Rattle.bac_poll.specs.Poll.{kept_number}
 use Rattle.bac_poll.specs.State.{KeptAs, PollState, kept_of}
-use Rattle.bac_poll.specs.Turns.{Turned, before_last, brings, brings_to, confirmed, end_of, ends, first_in, first_number, kept_or, knowing, last_in, number_or, renewed, standing_at, third_known}
+use Rattle.bac_poll.specs.Turns.{Turned, before_last, brings, brings_to, confirmed, end_of, ends, first_in, first_number, kept_or, knowing, last_in, number_before, number_or, renewed, standing_at, third_known}
 use Rattle.bac_poll.specs.declared.gone.Gone.{Gone}
 use Rattle.bac_poll.specs.declared.gone.Gone.TheVariants.{Dropped, Doubtful, Both}
 use Rattle.bac_poll.specs.declared.stage.Aim.{Aim}
@@ -70,7 +70,7 @@ abbrev pub left : PollState → ℕ
 left p = left_at p.alone (length p.held) p.stage
 
 -- What is asked for from the newest known record on is asked for from its number on; and of the known ones that are
--- asked for one by one it is the first.
+-- asked for one by one it is the first. Backwards is asked up to the first that is held back, or before it.
 abbrev pub Refers : PollState → Stage → Type 0
 Refers p stage.Joins = p.alone ≡ true → (kept : KeptAs) → p.newest ≡ Some kept → p.reference ≡ kept.number
 Refers p stage.Prior = Unit {0}
@@ -81,7 +81,7 @@ Refers p stage.ByNumber = Unit {0}
 Refers p (stage.Oldest aim) = Unit {0}
 Refers p (stage.Counts aim) = Unit {0}
 Refers p (stage.UpTo aim) = Unit {0}
-Refers p (stage.Back aim) = Unit {0}
+Refers p (stage.Back aim) = (p.reference ≡ first_number p.held) ⊎ (p.reference ≡ number_before (first_number p.held))
 Refers p stage.Revision = Unit {0}
 Refers p stage.Restart = Unit {0}
 
@@ -210,7 +210,7 @@ module _ (P : Numbered → Type 0) (e : ℕ) (w : WalkPlace) (b : ℕ) where
   oldest_costs n p aim row same enough = λ none. (omega (arith, enough), row, tt, same)
 
   pub back_costs : (n : ℕ) (p : PollState) (aim : Aim) (rs : List Numbered) → Row p → IsSame w b p → 1 + left_back p.alone aim ≤ n → Costs e w b n (asks_back p aim rs)
-  back_costs n p aim rs row same enough = λ none. (omega (arith, enough), row, tt, same)
+  back_costs n p aim rs row same enough = λ none. (omega (arith, enough), row, inl refl, same)
 
   -- records are kept behind the newest known one
   pub brings_costs : (n : ℕ) (q : PollState) (s : ℕ) (rs : List Numbered) → IsRun P s rs → IsBefore q.newest s → FollowsOn q.newest q.earlier → IsSame w b q → 1 ≤ n →

@@ -20,5 +20,8 @@ mod Bounds
 mod Older
 mod Backs
 mod ByRecords
+mod Runs
+mod ByHeld
 mod Firsts
 mod FirstRuns
+mod Empty

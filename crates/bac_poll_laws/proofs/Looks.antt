@@ -1,5 +1,5 @@
 -- How many questions may follow the turns of the rule: the oldest records, the count, first runs, and backwards.
-use Rattle.std.proofs.Common.{arith, is_some, ◌≡◌, ℕ, ◌+◌, ◌*◌, ◌≤◌, ◌==◌, ◌&&◌, ◌||◌, not, nat_lt, Bool, true, false, if◌then◌else◌, Option, None, Some, List, [], length, refl}
+use Rattle.std.proofs.Common.{arith, is_some, ◌≡◌, ℕ, ◌+◌, ◌*◌, ◌≤◌, ◌==◌, ◌&&◌, ◌||◌, not, nat_lt, Bool, true, false, if◌then◌else◌, Option, None, Some, List, [], length, refl, inr}
 use Rattle.std.proofs.lemmas.Bool.{and_parts}
 use Rattle.bac_link.specs.Ordinals.{is_ahead, number_after}
 use Rattle.bac_walk.specs.Place.{WalkPlace}
@@ -256,7 +256,7 @@ module _ (P : Numbered → Type 0) (e : ℕ) (w : WalkPlace) (b : ℕ) where
   alone_costs : (p : PollState) (aim : Aim) (held : List Numbered) → Row p → IsSame w b p → IsAimed p aim → IsRun P (first_number held) held → 9 ≤ e →
       Costs e w b (1 + left_back p.alone aim) (back_alone p aim held)
   alone_costs p aim held row same aimed run nine =
-      pick P e w b (1 + left_back p.alone aim) (p.more || (p.walk.count == 1)) _ _ (λ more. λ none. (omega arith, row, tt, same))
+      pick P e w b (1 + left_back p.alone aim) (p.more || (p.walk.count == 1)) _ _ (λ more. λ none. (omega arith, row, inr refl, same))
       (λ done. done_costs p aim held row same aimed run nine)
 
   back_shown_costs : (p : PollState) (aim : Aim) (held records : List Numbered) (seen : Shown) → Row p → IsSame w b p → IsAimed p aim → IsRun P (first_number held) held →

@@ -15,14 +15,14 @@ use Rattle.bac_walk.specs.declared.batch.Numbered.{Numbered}
 use Rattle.bac_walk.proofs.Shown.{after-number, distance-behind, distance-number}
 use Rattle.bac_poll.specs.Back.{back, back_alone, back_by, back_done, back_more, back_shown, is_front, shown_last, went_back}
 use Rattle.bac_poll.specs.DateTime.{is_same_time}
-use Rattle.bac_poll.specs.Epochs.{another, another_by}
+use Rattle.bac_poll.specs.Epochs.{another, another_by, renews}
 use Rattle.bac_poll.specs.Gone.{asks_restart, asks_revision, asks_word, by_gone, by_word, retold}
 use Rattle.bac_poll.specs.Joins.{asks_each, found}
 use Rattle.bac_poll.specs.Known.{is_same_value, means_in, number_in, record_at, records_behind, shift_of, shown_as}
 use Rattle.bac_poll.specs.Oldest.{sees_by, sees_newest, sees_none, sees_same}
 use Rattle.bac_poll.specs.Starts.{starts_at}
 use Rattle.bac_poll.specs.State.{KeptAs, PollState, kept_of}
-use Rattle.bac_poll.specs.Turns.{Turned, brings, brings_to, confirmed, first_in, first_number, last_in, number_before, number_or, standing_at}
+use Rattle.bac_poll.specs.Turns.{Turned, anew, brings, brings_to, confirmed, first_in, first_number, last_in, number_before, number_or, renewed, standing_at}
 use Rattle.bac_known.specs.declared.date_time.DateTime.{DateTime}
 use Rattle.bac_poll.specs.declared.gone.Gone.{Gone}
 use Rattle.bac_poll.specs.declared.gone.Gone.TheVariants.{Dropped, Doubtful, Both}
@@ -33,6 +33,8 @@ use Rattle.bac_known.specs.declared.known.Shown.TheVariants as shown
 use Rattle.bac_poll.specs.declared.stage.Aim.{Aim}
 use Rattle.bac_poll.specs.declared.stage.Aim.TheVariants.{Finds, Renews, Starts}
 use Rattle.bac_poll.specs.declared.stage.Stage.{Stage}
+use Rattle.bac_poll.specs.declared.turn.Line.{Line}
+use Rattle.bac_poll.specs.declared.turn.Line.TheVariants.{BeganAnew, BeganOrDropped}
 use Rattle.bac_poll.specs.declared.stage.Stage.TheVariants as stage
 use Rattle.bac_poll_laws.specs.Backwards.{IsLoggedIn}
 use Rattle.bac_poll_laws.specs.Bounds.{oldest_one}
@@ -43,106 +45,121 @@ use Rattle.bac_poll_laws.proofs.Wholes.{last_step, split}
 
 -- ---- where a turn goes on backwards
 
--- This holds of what is held back, and of the number up to which is asked, for so many records. It isn't begun again.
-abbrev pub AtBack : (List Numbered → ℕ → Type 0) → (c : ℕ) → PollState → Stage → Type 0
-AtBack Z c p stage.Joins = Unit {0}
-AtBack Z c p stage.Prior = Unit {0}
-AtBack Z c p stage.Ahead = Unit {0}
-AtBack Z c p stage.Again = Unit {0}
-AtBack Z c p stage.Each = Unit {0}
-AtBack Z c p stage.ByNumber = Unit {0}
-AtBack Z c p (stage.Oldest aim) = ⊥
-AtBack Z c p (stage.Counts aim) = ⊥
-AtBack Z c p (stage.UpTo aim) = Unit {0}
-AtBack Z c p (stage.Back aim) = Z p.held p.reference × (p.walk.count ≡ c)
-AtBack Z c p stage.Revision = Unit {0}
-AtBack Z c p stage.Restart = Unit {0}
+-- A turn that begins an epoch goes on backwards only for its oldest, and from what was looked for in the old one. Else
+-- this holds of what is held back, and of the number up to which is asked, for so many records.
+abbrev pub BackAt : (List Numbered → ℕ → Type 0) → (c : ℕ) → Aim → (anew : Bool) → PollState → Aim → Type 0
+BackAt Z c from false p aim = Z p.held p.reference × (p.walk.count ≡ c)
+BackAt Z c from true p aim = (aim ≡ Renews) × (from ≡ Finds)
 
--- where a turn goes on backwards, and begins no epoch
-abbrev pub Steps : (List Numbered → ℕ → Type 0) → ℕ → Turned → Type 0
-Steps Z c t = t.end ≡ None → t.anew ≡ false → AtBack Z c t.poll t.poll.stage
+-- the same by the stage; it isn't begun again
+abbrev pub AtBack : (List Numbered → ℕ → Type 0) → (c : ℕ) → Aim → (anew : Bool) → PollState → Stage → Type 0
+AtBack Z c from anew p stage.Joins = Unit {0}
+AtBack Z c from anew p stage.Prior = Unit {0}
+AtBack Z c from anew p stage.Ahead = Unit {0}
+AtBack Z c from anew p stage.Again = Unit {0}
+AtBack Z c from anew p stage.Each = Unit {0}
+AtBack Z c from anew p stage.ByNumber = Unit {0}
+AtBack Z c from anew p (stage.Oldest aim) = anew ≡ true
+AtBack Z c from anew p (stage.Counts aim) = anew ≡ true
+AtBack Z c from anew p (stage.UpTo aim) = Unit {0}
+AtBack Z c from anew p (stage.Back aim) = BackAt Z c from anew p aim
+AtBack Z c from anew p stage.Revision = Unit {0}
+AtBack Z c from anew p stage.Restart = Unit {0}
+
+-- where a turn goes on backwards, from this aim
+abbrev pub Steps : (List Numbered → ℕ → Type 0) → ℕ → Aim → Turned → Type 0
+Steps Z c from t = t.end ≡ None → AtBack Z c from t.anew t.poll t.poll.stage
 
 module _ (P : Numbered → Type 0) (Z : List Numbered → ℕ → Type 0) (c : ℕ) where
-  pick : (b : Bool) (x y : Turned) → (b ≡ true → Steps Z c x) → (b ≡ false → Steps Z c y) → Steps Z c (if b then x else y)
-  pick b x y f g = split P Whichever (Steps Z c) b x y f g
+  pick : (o : Aim) (b : Bool) (x y : Turned) → (b ≡ true → Steps Z c o x) → (b ≡ false → Steps Z c o y) → Steps Z c o (if b then x else y)
+  pick o b x y f g = split P Whichever (Steps Z c o) b x y f g
 
-  brings_steps_to : (p : PollState) (rs : List Numbered) (last : Option Numbered) → Steps Z c (brings_to p rs last)
-  brings_steps_to p rs None = λ going sure. absurd (cc)
-  brings_steps_to p rs (Some l) = λ going sure. tt
+  brings_steps_to : (o : Aim) (p : PollState) (rs : List Numbered) (last : Option Numbered) → Steps Z c o (brings_to p rs last)
+  brings_steps_to o p rs None = λ going. absurd (cc)
+  brings_steps_to o p rs (Some l) = λ going. tt
 
-  brings_steps : (p : PollState) (rs : List Numbered) → Steps Z c (brings p rs)
-  brings_steps p rs = brings_steps_to p rs (last_in rs)
+  brings_steps : (o : Aim) (p : PollState) (rs : List Numbered) → Steps Z c o (brings p rs)
+  brings_steps o p rs = brings_steps_to o p rs (last_in rs)
 
-  another_steps : (p : PollState) → Steps Z c (another p)
-  another_steps p = pick (p.lives == 2) _ _ (λ third. λ going sure. absurd (cc)) (λ more. λ going sure. absurd (cc))
+  -- records are kept of a new epoch
+  anew_steps_to : (p : PollState) (rs : List Numbered) (last : Option Numbered) (why : Line) → Steps Z c Finds (anew (brings_to p rs last) why)
+  anew_steps_to p rs None why = λ going. absurd (cc)
+  anew_steps_to p rs (Some l) why = λ going. tt
 
-  another_by_steps : (p : PollState) (rs : List Numbered) → Steps Z c (another_by p rs)
-  another_by_steps p rs = pick (p.lives == 2) _ _ (λ third. λ going sure. absurd (cc)) (λ more. λ going sure. absurd (cc))
+  another_steps : (p : PollState) → Steps Z c Finds (another p)
+  another_steps p = pick Finds (p.lives == 2) _ _ (λ third. λ going. absurd (cc)) (λ more. λ going. refl)
 
-  gone_steps : (p : PollState) (first : ℕ) (held : List Numbered) (gone : Gone) → Steps Z c (by_gone p first held gone)
-  gone_steps p first held Dropped = brings_steps (standing_at (confirmed (retold p)) first) held
-  gone_steps p first held Doubtful = brings_steps (standing_at (confirmed (retold p)) first) held
-  gone_steps p first held Both = λ going sure. absurd (cc)
+  renews_steps : (p : PollState) (rs : List Numbered) → Steps Z c Finds (anew (renews p rs) BeganAnew)
+  renews_steps p rs =
+      split P Whichever (λ t. Steps Z c Finds (anew t BeganAnew)) (first_number rs == 1) _ _ (λ first. anew_steps_to p rs (last_in rs) BeganAnew) (λ later. λ going. (refl, refl))
 
-  by_word_steps : (p : PollState) (held : List Numbered) → Steps Z c (by_word p held)
+  another_by_steps : (p : PollState) (rs : List Numbered) → Steps Z c Finds (another_by p rs)
+  another_by_steps p rs = pick Finds (p.lives == 2) _ _ (λ third. λ going. absurd (cc)) (λ more. renews_steps (renewed p p.told) rs)
+
+  gone_steps : (p : PollState) (first : ℕ) (held : List Numbered) (gone : Gone) → Steps Z c Finds (by_gone p first held gone)
+  gone_steps p first held Dropped = brings_steps Finds (standing_at (confirmed (retold p)) first) held
+  gone_steps p first held Doubtful = brings_steps Finds (standing_at (confirmed (retold p)) first) held
+  gone_steps p first held Both = anew_steps_to (standing_at (renewed (retold p) p.told) first) held (last_in held) BeganOrDropped
+
+  by_word_steps : (p : PollState) (held : List Numbered) → Steps Z c Finds (by_word p held)
   by_word_steps p held = gone_steps p _ held _
 
-  restart_steps : (p : PollState) (held : List Numbered) (restart : List ℕ) → Steps Z c (asks_restart p held restart)
+  restart_steps : (p : PollState) (held : List Numbered) (restart : List ℕ) → Steps Z c Finds (asks_restart p held restart)
   restart_steps p held [] = by_word_steps p held
-  restart_steps p held (octet ∷ octets) = λ going sure. tt
+  restart_steps p held (octet ∷ octets) = λ going. tt
 
-  revision_steps : (p : PollState) (held : List Numbered) (revision : Option ℕ) → Steps Z c (asks_revision p held revision)
+  revision_steps : (p : PollState) (held : List Numbered) (revision : Option ℕ) → Steps Z c Finds (asks_revision p held revision)
   revision_steps p held None = restart_steps p held p.word.restart
-  revision_steps p held (Some was) = λ going sure. tt
+  revision_steps p held (Some was) = λ going. tt
 
-  word_steps : (p : PollState) (held : List Numbered) → Steps Z c (asks_word p held)
+  word_steps : (p : PollState) (held : List Numbered) → Steps Z c Finds (asks_word p held)
   word_steps p held = revision_steps (record p { again = p.told }) held p.word.revision
 
   -- records that are seen, where those before them were looked for
-  sees_none_steps : (p : PollState) (records : List Numbered) → Steps Z c (sees_none p false false records)
-  sees_none_steps p records = pick (is_ahead p.next (first_number records)) _ _ (λ behind. word_steps p records) (λ before. another_by_steps p records)
+  sees_none_steps : (p : PollState) (records : List Numbered) → Steps Z c Finds (sees_none p false false records)
+  sees_none_steps p records = pick Finds (is_ahead p.next (first_number records)) _ _ (λ behind. word_steps p records) (λ before. another_by_steps p records)
 
-  sees_newest_steps : (p : PollState) (kept : KeptAs) (records : List Numbered) (at : Option Numbered) → Steps Z c (sees_newest p kept false records at)
-  sees_newest_steps p kept records None = pick p.alone _ _ (λ alone. another_by_steps p records) (λ other. λ going sure. tt)
+  sees_newest_steps : (p : PollState) (kept : KeptAs) (records : List Numbered) (at : Option Numbered) → Steps Z c Finds (sees_newest p kept false records at)
+  sees_newest_steps p kept records None = pick Finds p.alone _ _ (λ alone. another_by_steps p records) (λ other. λ going. tt)
   sees_newest_steps p kept records (Some held) =
-      pick ((length (records_behind kept.number records) == 0) && not p.alone) _ _ (λ none. λ going sure. tt)
-      (λ some. pick ((length (records_behind kept.number records) == 0) && false) _ _ (λ short. λ going sure. tt) (λ more. brings_steps (found p held) (records_behind kept.number records)))
+      pick Finds ((length (records_behind kept.number records) == 0) && not p.alone) _ _ (λ none. λ going. tt)
+      (λ some. pick Finds ((length (records_behind kept.number records) == 0) && false) _ _ (λ short. λ going. tt) (λ more. brings_steps Finds (found p held) (records_behind kept.number records)))
 
-  sees_same_steps : (p : PollState) (records : List Numbered) (newest : Option KeptAs) → Steps Z c (sees_same p false records newest)
+  sees_same_steps : (p : PollState) (records : List Numbered) (newest : Option KeptAs) → Steps Z c Finds (sees_same p false records newest)
   sees_same_steps p records None = another_by_steps p records
   sees_same_steps p records (Some kept) = sees_newest_steps p kept records (record_at kept.number records)
 
-  each_steps : (p : PollState) (held : List Numbered) (number : Option ℕ) → Steps Z c (asks_each p held number)
+  each_steps : (p : PollState) (held : List Numbered) (number : Option ℕ) → Steps Z c Finds (asks_each p held number)
   each_steps p held None = another_steps p
-  each_steps p held (Some number) = λ going sure. tt
+  each_steps p held (Some number) = λ going. tt
 
-  sees_steps : (p : PollState) (records : List Numbered) (means : Means) → Steps Z c (sees_by p false false records means)
+  sees_steps : (p : PollState) (records : List Numbered) (means : Means) → Steps Z c Finds (sees_by p false false records means)
   sees_steps p records Unshown = sees_none_steps p records
   sees_steps p records Same = sees_same_steps p records p.newest
-  sees_steps p records (Shifted by) = pick (by == 100) _ _ (λ same. sees_same_steps p records p.newest) (λ moved. sees_same_steps p records p.newest)
+  sees_steps p records (Shifted by) = pick Finds (by == 100) _ _ (λ same. sees_same_steps p records p.newest) (λ moved. sees_same_steps p records p.newest)
   sees_steps p records Partly = each_steps p [] (number_in p.newest)
   sees_steps p records Another = another_by_steps p records
 
-  starts_steps : (p : PollState) (first : ℕ) (held : List Numbered) (counted : Option ℕ) → Steps Z c (starts_at p first held counted)
-  starts_steps p first held None = brings_steps (standing_at (confirmed p) first) held
-  starts_steps p first held (Some counted) =
-      pick (is_ahead counted first) _ _ (λ behind. brings_steps (standing_at (confirmed p) first) held) (λ before. brings_steps (standing_at (confirmed p) first) held)
+  starts_steps : (o : Aim) (p : PollState) (first : ℕ) (held : List Numbered) (counted : Option ℕ) → Steps Z c o (starts_at p first held counted)
+  starts_steps o p first held None = brings_steps o (standing_at (confirmed p) first) held
+  starts_steps o p first held (Some counted) =
+      pick o (is_ahead counted first) _ _ (λ behind. brings_steps o (standing_at (confirmed p) first) held) (λ before. brings_steps o (standing_at (confirmed p) first) held)
 
-  done_steps : (p : PollState) (aim : Aim) (records : List Numbered) → Steps Z c (back_done p aim records)
+  done_steps : (p : PollState) (aim : Aim) (records : List Numbered) → Steps Z c aim (back_done p aim records)
   done_steps p Finds records = sees_steps p records (means_in p records)
-  done_steps p Renews records = brings_steps p records
-  done_steps p Starts records = starts_steps p _ records p.counted
+  done_steps p Renews records = brings_steps Renews p records
+  done_steps p Starts records = starts_steps Starts p _ records p.counted
 
-  more_steps : (p : PollState) (aim : Aim) (records : List Numbered) → p.walk.count ≡ c → Z records (first_number records) → Steps Z c (back_more p aim records)
-  more_steps p aim records many older = pick (is_front p records (means_in p records)) _ _ (λ front. done_steps p aim records) (λ back. λ going sure. (older, many))
+  more_steps : (p : PollState) (aim : Aim) (records : List Numbered) → p.walk.count ≡ c → Z records (first_number records) → Steps Z c aim (back_more p aim records)
+  more_steps p aim records many older = pick aim (is_front p records (means_in p records)) _ _ (λ front. done_steps p aim records) (λ back. λ going. (older, many))
 
-  alone_steps : (p : PollState) (aim : Aim) (held : List Numbered) → p.walk.count ≡ c → Z held (number_before (first_number held)) → Steps Z c (back_alone p aim held)
-  alone_steps p aim held many before = pick (p.more || (p.walk.count == 1)) _ _ (λ more. λ going sure. (before, many)) (λ none. done_steps p aim held)
+  alone_steps : (p : PollState) (aim : Aim) (held : List Numbered) → p.walk.count ≡ c → Z held (number_before (first_number held)) → Steps Z c aim (back_alone p aim held)
+  alone_steps p aim held many before = pick aim (p.more || (p.walk.count == 1)) _ _ (λ more. λ going. (before, many)) (λ none. done_steps p aim held)
 
   -- the first that is held back is shown as it was
   shown_steps : (p : PollState) (aim : Aim) (held records : List Numbered) → p.walk.count ≡ c → ((length records == 1) ≡ true → Z held (number_before (first_number held))) →
-      ((length records == 1) ≡ false → Z records (first_number records)) → Steps Z c (back_shown p aim held records shown.Equal)
-  shown_steps p aim held records many before older = pick (length records == 1) _ _ (λ alone. alone_steps p aim held many (before alone)) (λ more. more_steps p aim records many (older more))
+      ((length records == 1) ≡ false → Z records (first_number records)) → Steps Z c aim (back_shown p aim held records shown.Equal)
+  shown_steps p aim held records many before older = pick aim (length records == 1) _ _ (λ alone. alone_steps p aim held many (before alone)) (λ more. more_steps p aim records many (older more))
 
   -- by the last record of the reply
   abbrev pub Ends : List Numbered → List Numbered → Numbered → Type 0
@@ -151,17 +168,17 @@ module _ (P : Numbered → Type 0) (Z : List Numbered → ℕ → Type 0) (c : �
       × ((length records == 1) ≡ false → Z records (first_number records)))
       × ((last.number == first_number held) ≡ false → Z records (first_number records))
 
-  by_steps : (p : PollState) (aim : Aim) (held records : List Numbered) (last : Option Numbered) → p.walk.count ≡ c → ((l : Numbered) → last ≡ Some l → Ends held records l) → Steps Z c (back_by p aim held records last)
+  by_steps : (p : PollState) (aim : Aim) (held records : List Numbered) (last : Option Numbered) → p.walk.count ≡ c → ((l : Numbered) → last ≡ Some l → Ends held records l) → Steps Z c aim (back_by p aim held records last)
   by_steps p aim held records None many ends = done_steps p aim held
   by_steps p aim held records (Some l) many ends =
       let all = ends l refl in
-      pick (l.number == first_number held) _ _ (λ ended. let both = all.0 ended in
-      subst (λ (seen : Shown). Steps Z c (back_shown p aim held records seen)) (sym both.0) (shown_steps p aim held records many both.1 both.2))
+      pick aim (l.number == first_number held) _ _ (λ ended. let both = all.0 ended in
+      subst (λ (seen : Shown). Steps Z c aim (back_shown p aim held records seen)) (sym both.0) (shown_steps p aim held records many both.1 both.2))
       (λ short. more_steps p aim records many (all.1 short))
 
-  pub back_steps : (p : PollState) (aim : Aim) (held records : List Numbered) → p.walk.count ≡ c → ((l : Numbered) → last_in records ≡ Some l → Ends held records l) → Steps Z c (back p aim held records)
+  pub back_steps : (p : PollState) (aim : Aim) (held records : List Numbered) → p.walk.count ≡ c → ((l : Numbered) → last_in records ≡ Some l → Ends held records l) → Steps Z c aim (back p aim held records)
   back_steps p aim held records many ends =
-      pick (nat_lt p.back 2147483648) _ _ (λ near. by_steps (went_back p records) aim held records (last_in records) many ends) (λ far. λ going sure. absurd (cc))
+      pick aim (nat_lt p.back 2147483648) _ _ (λ near. by_steps (went_back p records) aim held records (last_in records) many ends) (λ far. λ going. absurd (cc))
 
 -- ---- an entry is shown as it was
 
@@ -192,19 +209,19 @@ same_entry f l same =
     subst (λ (e : Entry). shown_as (kept_of f) (kept_of (record { number = l.number; entry = e })) ≡ shown.Equal) same (same_self (kept_of f) l.number)
 
 -- a turn that goes on so asks for no oldest again
-pub none_again : (Z : List Numbered → ℕ → Type 0) (c : ℕ) (p : PollState) (s : Stage) → AtBack Z c p s → oldest_one s ≡ 0
-none_again Z c p stage.Joins at = refl
-none_again Z c p stage.Prior at = refl
-none_again Z c p stage.Ahead at = refl
-none_again Z c p stage.Again at = refl
-none_again Z c p stage.Each at = refl
-none_again Z c p stage.ByNumber at = refl
-none_again Z c p (stage.Oldest aim) at = absurd at
-none_again Z c p (stage.Counts aim) at = absurd at
-none_again Z c p (stage.UpTo aim) at = refl
-none_again Z c p (stage.Back aim) at = refl
-none_again Z c p stage.Revision at = refl
-none_again Z c p stage.Restart at = refl
+pub none_again : (Z : List Numbered → ℕ → Type 0) (c : ℕ) (o : Aim) (anew : Bool) (p : PollState) (s : Stage) → AtBack Z c o anew p s → anew ≡ false → oldest_one s ≡ 0
+none_again Z c o anew p stage.Joins at sure = refl
+none_again Z c o anew p stage.Prior at sure = refl
+none_again Z c o anew p stage.Ahead at sure = refl
+none_again Z c o anew p stage.Again at sure = refl
+none_again Z c o anew p stage.Each at sure = refl
+none_again Z c o anew p stage.ByNumber at sure = refl
+none_again Z c o anew p (stage.Oldest aim) at sure = absurd (cc)
+none_again Z c o anew p (stage.Counts aim) at sure = absurd (cc)
+none_again Z c o anew p (stage.UpTo aim) at sure = refl
+none_again Z c o anew p (stage.Back aim) at sure = refl
+none_again Z c o anew p stage.Revision at sure = refl
+none_again Z c o anew p stage.Restart at sure = refl
 
 -- ---- numbers of older records
 

@@ -1,5 +1,5 @@
 -- How many questions a poll asks at most of a log that goes on, and whose device says what it holds: by the records
--- that it keeps, each of which the log held. What those backwards cost is in Backwards.
+-- that it keeps, each of which the log held. What those backwards cost is in Backwards, and of a whole poll in ByHeld.
 use Rattle.std.specs.Prelude.{ℕ, ◌+◌, ◌*◌, ◌≤◌, List, length}
 use Rattle.bac_link.specs.Delivery.{History}
 use Rattle.bac_poll.specs.State.{PollState}

@@ -10,3 +10,5 @@ pub mod Backwards
 pub mod Held
 pub mod ByRecords
 pub mod Firsts
+pub mod ByHeld
+pub mod Empty

@@ -3,8 +3,10 @@
 ghost use Rattle.bac_poll_laws.specs.Asks.{AsksOnceMore};
 ghost use Rattle.bac_poll_laws.specs.Backwards.{BackwardsAreFew, NoneIsBegunAgain};
 ghost use Rattle.bac_poll_laws.specs.Bounds.{QuestionsAreBounded};
+ghost use Rattle.bac_poll_laws.specs.ByHeld.{QuestionsByHeld};
 ghost use Rattle.bac_poll_laws.specs.ByRecords.{QuestionsByRecords};
 ghost use Rattle.bac_poll_laws.specs.Caught.{PollsDeliver};
+ghost use Rattle.bac_poll_laws.specs.Empty.{EmptyEnds};
 ghost use Rattle.bac_poll_laws.specs.Firsts.{FirstsDeliver};
 ghost use Rattle.bac_poll_laws.specs.Gaps.{GapsAreGone};
 ghost use Rattle.bac_poll_laws.specs.Held.{HeldIsKept};
@@ -81,6 +83,14 @@ pub fn questions_by_records()
     ensures { QuestionsByRecords }
 {}
 
+/// Where replies show none but records that the log holds, a log that goes on costs
+/// 21 + 17 k + 12 (k + 1) h questions at most from where its rows stand, and
+/// 3 + 17 k + 4 (3 k + 1) h in a first run: k records are kept, and h ordinals lie from the oldest
+/// to the newest that it held.
+pub fn questions_by_held()
+    ensures { QuestionsByHeld }
+{}
+
 /// Where a device says what its log holds, of a log that goes on, each two questions backwards, one
 /// after the other, bring an older record, down to the oldest that was held.
 pub fn backwards_are_few()
@@ -104,4 +114,11 @@ pub fn held_is_kept()
 /// it, in a first run or of a new epoch, delivers it from the beginning of the epoch on.
 pub fn firsts_deliver()
     ensures { FirstsDeliver }
+{}
+
+/// A first run of a log that shows no record keeps none, and ends behind two questions, if nothing
+/// was logged, and else behind three: as caught up, at the number behind the count; where the count
+/// is refused, and a run before put a beginning on record by it, as a log that shows none.
+pub fn empty_ends()
+    ensures { EmptyEnds }
 {}

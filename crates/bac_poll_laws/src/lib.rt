@@ -5,7 +5,8 @@
 mod laws;
 
 pub use laws::{
-    asks_once_more, backwards_are_few, begins_standing, each_shown_once, epochs_are_whole,
-    firsts_deliver, gaps_are_gone, held_is_kept, kept_is_logged, none_is_begun_again,
-    polls_deliver, questions_are_bounded, questions_are_few, said_is_shown,
+    asks_once_more, backwards_are_few, begins_standing, each_shown_once, empty_ends,
+    epochs_are_whole, firsts_deliver, gaps_are_gone, held_is_kept, kept_is_logged,
+    none_is_begun_again, polls_deliver, questions_are_bounded, questions_are_few,
+    questions_by_held, questions_by_records, said_is_shown,
 };
