@@ -7,8 +7,9 @@ use Rattle.bac_heeding.specs.Ports as event
 use Rattle.bac_heeding.specs.declared.notes.Passed.{Passed}
 use Rattle.bac_laws.proofs.Captured.{Goes, captured_over, captured_unopened, nothing_captured}
 use Rattle.bac_laws.proofs.Statuses.{failed, kept_part, same_keeps}
+use Rattle.bac_laws.proofs.Taken.{AllTaken, seeks_taken}
 use Rattle.bac_laws.specs.Events.{IsCaptured, sent_in}
-use Rattle.bac_laws.specs.Found.{AreStations, FindsWhatCame}
+use Rattle.bac_laws.specs.Found.{AreStations, AreTaken, FindsWhatCame}
 use Rattle.bac_ports.specs.Sockets.{SocketRules, own_address}
 use Rattle.bac_ports.specs.declared.port.Heard.{Heard}
 use Rattle.bac_print.specs.Output.{AppendsPart, Held}
@@ -48,6 +49,12 @@ came_turns octets [] = refl
 came_turns octets (turn.Sent address sent ∷ turns) = came_turns octets turns
 came_turns octets (turn.Received wait (Ok heard) ∷ turns) = ap (λ (xs : List Heard). heard ∷ xs) (came_turns octets turns)
 came_turns octets (turn.Received wait (Err why) ∷ turns) = came_turns octets turns
+
+taken_turns : (octets : List ℕ) (turns : List Turn) → AllTaken turns → AreTaken (events octets turns)
+taken_turns octets [] is = tt
+taken_turns octets (turn.Sent address (Ok done) ∷ turns) is = taken_turns octets turns is
+taken_turns octets (turn.Sent address (Err fault) ∷ turns) is = absurd is
+taken_turns octets (turn.Received wait heard ∷ turns) is = taken_turns octets turns is
 
 module _ {S P : Type 0} (rules : SocketRules S P) where
   abbrev By : PortRules P
@@ -108,7 +115,7 @@ record IsFound (octets : List ℕ) (addresses : List (List ℕ)) (es : List Even
   pub stations : addresses ≡ asked ++ rest
   pub sent : sent_in es ≡ map (λ to. (octets, to)) asked
   pub lines : AppendsPart before after (lines_of (came_in es))
-  pub done : status ≡ 0 → (rest ≡ []) × (has_device (came_in es) ≡ true) × Appends before after (lines_of (came_in es))
+  pub done : status ≡ 0 → (rest ≡ []) × AreTaken es × (has_device (came_in es) ≡ true) × Appends before after (lines_of (came_in es))
 
 nothing_found : (octets : List ℕ) (addresses : List (List ℕ)) (before after : Held) (status : ℕ) → Keeps before after → status ≢ 0
     → IsFound octets addresses [] before after status
@@ -122,18 +129,20 @@ nothing_found octets addresses before after status keeps more = record {
 }
 
 told_zero : (passed : Passed) (asked left : ℕ) (refused : Option (List ℕ)) (taken : Bool) (result : Ending) (said now : Held) (status : ℕ)
-    → result ≡ of_found asked (told_of (Ok left) refused taken) → Ends passed result said now status → status ≡ 0 → taken ≡ true
+    → result ≡ of_found asked (told_of (Ok left) refused taken) → Ends passed result said now status → status ≡ 0
+    → (refused ≡ None) × (taken ≡ true)
 told_zero passed asked left (Some address) taken result said now status is ends none =
     absurd (failed passed result (fault.Refused address) said now status is ends none)
-told_zero passed asked left None true result said now status is ends none = refl
+told_zero passed asked left None true result said now status is ends none = (refl, refl)
 told_zero passed asked left None false result said now status is ends none =
     absurd (failed passed result (fault.NoAnswer asked) said now status is ends none)
 
 found_by : (passed : Passed) (octets : List ℕ) (addresses : List (List ℕ)) (turns : List Turn) (before : Held) (sought : Left) (then : Standing)
     (result : Ending) (said now : Held) (status asked : ℕ) → ComesTo 4096 addresses turns (unasked before) sought then
+    → (then.refused ≡ None → AllTaken turns)
     → result ≡ of_found asked (told_of sought then.refused then.taken) → Ends passed result said now status
     → IsFound octets addresses (events octets turns) before then.held status
-found_by passed octets addresses turns before (Ok left) then result said now status asked (all, count, taken, appends) is ends =
+found_by passed octets addresses turns before (Ok left) then result said now status asked (all, count, taken, appends) went is ends =
     let came = came_turns octets turns in
     let text : Appends before then.held (lines_of (came_in (events octets turns))) =
     subst (λ (l : List Heard). Appends before then.held (lines_of l)) (sym came) appends in
@@ -143,9 +152,10 @@ found_by passed octets addresses turns before (Ok left) then result said now sta
       stations = sym all ∙ sym (append-nil (asked_in turns));
       sent = sent_turns octets turns;
       lines = part_all before then.held (lines_of (came_in (events octets turns))) text;
-      done = λ none. (refl, ap has_device came ∙ sym taken ∙ told_zero passed asked left then.refused then.taken result said now status is ends none, text);
+      done = λ none. let told = told_zero passed asked left then.refused then.taken result said now status is ends none in
+          (refl, taken_turns octets turns (went told.0), ap has_device came ∙ sym taken ∙ told.1, text);
     }
-found_by passed octets addresses turns before (Err why) then result said now status asked ((rest, shape), few, fails) is ends = record {
+found_by passed octets addresses turns before (Err why) then result said now status asked ((rest, shape), few, fails) went is ends = record {
   asked = asked_in turns;
   rest = rest;
   stations = shape;
@@ -165,13 +175,14 @@ module _ {S P : Type 0} (rules : SocketRules S P) (traces : S → Bool → S →
     nothing_found (who_is_octets (search_of said)) addresses old.output new.output status keeps (failed passed result (fault.Unopened why) told now status is ends),
   )
   searched passed said addresses old result new told now status
-      (inr (port, between, last, opens, (found, (sought, then, seeks, (turns, along, comes), held, is), how), closes)) ends =
-      let octets = who_is_octets (search_of said) in (
+      (inr (port, between, last, opens, (found, (sought, then, seeks, tells, held, is), how), closes)) ends =
+      let octets = who_is_octets (search_of said) in
+      let (turns, along, comes, went) = seeks_taken (By rules) octets addresses 4096 port last (unasked old.output) then sought seeks in (
         events octets turns,
         captured_over rules traces (events octets turns) old.sockets between new.sockets (own_address said.local) said.timeout port last opens
             (along_goes rules octets turns port last along) closes,
         subst (λ (h : Held). IsFound octets addresses (events octets turns) old.output h status) (sym held)
-            (found_by passed octets addresses turns old.output sought then result told now status (length addresses) comes
+            (found_by passed octets addresses turns old.output sought then result told now status (length addresses) comes went
             (how ∙ ap (of_found (length addresses)) is) ends),
       )
 

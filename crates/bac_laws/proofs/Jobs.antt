@@ -9,11 +9,12 @@ use Rattle.bac_files.specs.declared.disk_files.DiskFiles.{DiskFiles}
 use Rattle.bac_heeding.specs.Ports.{Event}
 use Rattle.bac_heeding.specs.declared.notes.Passed.{Passed}
 use Rattle.bac_laws.proofs.Captured.{captured_behind, nothing_captured}
+use Rattle.bac_laws.proofs.Few.{Few, few_none, said_few}
 use Rattle.bac_laws.proofs.Finds.{wi, wi_nothing}
 use Rattle.bac_laws.proofs.Lists.{logs}
 use Rattle.bac_laws.proofs.Once.{rp_all, wp}
 use Rattle.bac_laws.proofs.Serves.{serve, serve_nothing}
-use Rattle.bac_laws.proofs.Statuses.{told_fails}
+use Rattle.bac_laws.proofs.Statuses.{told_fails, unasked_memory}
 use Rattle.bac_laws.specs.Asked.{PrintsWhatCame, ReadsOnce, WritesOnce}
 use Rattle.bac_laws.specs.Events.{IsCaptured}
 use Rattle.bac_laws.specs.Found.{FindsWhatCame}
@@ -23,7 +24,7 @@ use Rattle.bac_ports.specs.Sockets.{SocketRules}
 use Rattle.bac_print.specs.Output.{Held}
 use Rattle.bac_run.specs.Run.{RunsAll}
 use Rattle.bac_tools.specs.Run.{Runs}
-use Rattle.bac_tools.specs.Streams.{Streams, outside_of, pipes_of, streams, with_errors}
+use Rattle.bac_tools.specs.Streams.{Streams, outlets_of, outside_of, pipes_of, streams, with_errors}
 use Rattle.bac_tools.specs.declared.fault.Fault.TheVariants as fault
 use Rattle.bac_wire.specs.Stamp.{CivilTime}
 use Rattle.bac_words.specs.Jobs.{is_traced}
@@ -31,6 +32,7 @@ use Rattle.bac_words.specs.declared.job.Discovery.{Discovery}
 use Rattle.bac_words.specs.declared.job.Job.{Job}
 use Rattle.bac_words.specs.declared.job.Job.TheVariants as job
 use Rattle.bac_words.specs.declared.job.LogListing.{LogListing}
+use Rattle.bac_words.specs.declared.job.LogReading.{LogReading}
 use Rattle.bac_words.specs.declared.job.PropertyReading.{PropertyReading}
 use Rattle.bac_words.specs.declared.job.PropertyWriting.{PropertyWriting}
 use Rattle.bac_words.specs.declared.job.ServedDevice.{ServedDevice}
@@ -44,7 +46,7 @@ module _ {S P : Type 0} (rules : SocketRules S P) (switches : S → Bool → S �
     wp_runs : (said : PropertyWriting) (old : Streams S C) (status : ℕ) (new : Streams S C) → Runs rules passes tells (job.Wp said) old status new
         → Of (WritesOnce said) old.sockets new.sockets old.output new.output status
     wp_runs said old status new (inl (told, keeps, (input, same, clock))) =
-        ([], nothing_captured rules switches old.sockets new.sockets same, inl (refl, keeps, told_fails fault.Memory old.errors new.errors status told))
+        ([], nothing_captured rules switches old.sockets new.sockets same, inl (refl, keeps, unasked_memory old.errors new.errors status told))
     wp_runs said old status new (inr (result, errors, (is, quiet, unread), ends)) =
         wp rules switches said (passes new.sockets) (outside_of old) result (outside_of (with_errors errors new)) errors new.errors status is ends
 
@@ -53,7 +55,7 @@ module _ {S P : Type 0} (rules : SocketRules S P) (switches : S → Bool → S �
         old.sockets new.sockets old.output new.output status
     rp_runs said old status new (inl (told, keeps, (input, same, clock))) =
         let more = told_fails fault.Memory old.errors new.errors status told in
-        ([], nothing_captured rules switches old.sockets new.sockets same, (inl (refl, keeps, more), λ is. absurd (more is)))
+        ([], nothing_captured rules switches old.sockets new.sockets same, (inl (refl, keeps, unasked_memory old.errors new.errors status told), λ is. absurd (more is)))
     rp_runs said old status new (inr (result, errors, (is, quiet, unread), ends)) =
         rp_all rules switches said (passes new.sockets) (outside_of old) result (outside_of (with_errors errors new)) errors new.errors status is ends
 
@@ -74,6 +76,12 @@ module _ {S P : Type 0} (rules : SocketRules S P) (switches : S → Bool → S �
         (nothing_captured rules switches old.sockets new.sockets same) keeps (told_fails fault.Memory old.errors new.errors status told)
     serve_runs said old status new (inr (result, errors, (is, keeps), ends)) =
         serve rules switches tells (passes new.sockets) said old result (with_errors errors new) errors new.errors status is keeps ends
+
+    log_runs : (said : LogReading) (old : Streams S C) (status : ℕ) (new : Streams S C) → Runs rules passes tells (job.Log said) old status new
+        → Few rules switches said old.sockets new.sockets
+    log_runs said old status new (inl (told, keeps, (input, same, clock))) = few_none rules switches said old.sockets new.sockets same
+    log_runs said old status new (inr (result, errors, (is, quiet, unread), ends)) =
+        said_few rules switches said (outlets_of old) result (outlets_of (with_errors errors new)) is
 
     logs_runs : (said : LogListing) → said.instances ≢ [] → (old : Streams S C) (status : ℕ) (new : Streams S C)
         → Runs rules passes tells (job.Logs said) old status new → status ≡ 0
@@ -134,6 +142,13 @@ module _ {S C P F G T Q : Type 0} {s : start.Ghosts F} {t : start.Ghosts G} (g :
   serve_ran said old files status new left (inr (sockets, switched, (ran, files', apart))) =
       behind (AnswersOnly said) old.sockets sockets new.sockets (is_traced (job.Serve said)) old.output new.output status switched
       (serve_runs rules switches passes tells said (streams old.input old.output old.errors sockets old.clock) status new ran)
+
+  pub log_ran : (said : LogReading) (old : Streams S C) (files : DiskFiles F s) (status : ℕ) (new : Streams S C) (left : DiskFiles F s)
+      → Ran (job.Log said) old files status new left → Few rules switches said old.sockets new.sockets
+  log_ran said old files status new left (inl (told, files', apart)) = log_runs rules switches passes tells said old status new (inl told)
+  log_ran said old files status new left (inr (sockets, switched, (ran, files', apart))) =
+      let it = log_runs rules switches passes tells said (streams old.input old.output old.errors sockets old.clock) status new ran in
+      (it.0, captured_behind rules switches old.sockets sockets new.sockets (is_traced (job.Log said)) it.0 switched it.1, it.2)
 
   pub logs_ran : (said : LogListing) → said.instances ≢ [] → (old : Streams S C) (files : DiskFiles F s) (status : ℕ) (new : Streams S C)
       (left : DiskFiles F s) → Ran (job.Logs said) old files status new left → status ≡ 0

@@ -11,8 +11,13 @@ pub mod Captured
 pub mod Exchange
 pub mod Statuses
 pub mod Once
+pub mod Taken
 pub mod Finds
 pub mod Serves
+pub mod Few
 pub mod Jobs
 pub mod Kept
 pub mod Lists
+pub mod Epochs
+pub mod Checks
+pub mod Played

@@ -1,5 +1,5 @@
 -- What `bac log` printed came, and has each number once.
-use Rattle.std.proofs.Common.{◌≡◌, ◌⊎◌, ◌++◌, ◌&&◌, ℕ, zero, suc, Bool, true, false, List, [], ◌∷◌, Option, None, Some, Result, Ok, Err, inl, inr, refl, sym, subst, ap, append-nil, append_assoc, ◌∙◌, if◌then◌else◌}
+use Rattle.std.proofs.Common.{◌≡◌, ◌⊎◌, ◌++◌, ◌&&◌, ◌≤◌, ℕ, zero, suc, Bool, true, false, List, [], ◌∷◌, length, Option, None, Some, Result, Ok, Err, inl, inr, refl, sym, subst, ap, append-nil, append_assoc, ◌∙◌, if◌then◌else◌}
 use Rattle.std.specs.List.{Contains}
 use Rattle.std.specs.Str.{bytes_eq}
 use Rattle.std.specs.Io.KnownBytes.{Appends, Keeps}
@@ -12,16 +12,18 @@ use Rattle.bac_files.specs.Parts.{PartRules}
 use Rattle.bac_files.specs.declared.disk_files.DiskFiles.{DiskFiles}
 use Rattle.bac_laws.specs.Sends.{IsReadRange}
 use Rattle.bac_link.specs.Requests.{request_octets}
-use Rattle.bac_link.specs.declared.exchanges.ExchangeFault.TheVariants as exchange
 use Rattle.bac_query.specs.declared.fetching.Fetched.{Fetched}
 use Rattle.bac_run.specs.Run.{RunsAll}
 use Rattle.bac_tools.specs.Faults.{of_query}
+use Rattle.bac_tools.specs.LogEnds.{of_why}
+use Rattle.bac_tools.specs.Status.{exit_status}
 use Rattle.bac_tools.specs.declared.fault.Fault.{Fault}
 use Rattle.bac_laws.proofs.Asked.{Leads, alike}
-use Rattle.bac_laws.proofs.Came.{Any, Hears, Known, run_known}
+use Rattle.bac_laws.proofs.Came.{Any, Hears, Known, run_caught_up, run_known, run_limited}
+use Rattle.bac_laws.proofs.Statuses.{Ended as HasStatus, ended, failed, unasked_memory, unasked_one, unasked_two}
 use Rattle.bac_laws.proofs.Tools.{is_left, left_so}
 use Rattle.bac_laws.proofs.Walked.{brought}
-use Rattle.bac_laws.specs.Printed.{BeginAt, CameFrom, HasRecord, HaveEachOnce, Ledger, PrintsLog}
+use Rattle.bac_laws.specs.Printed.{BeginAt, CameFrom, EndsWell, HasNoMore, HasRecord, HaveEachOnce, Ledger, PrintsLog}
 use Rattle.bac_link.specs.Datagrams.{answers_to}
 use Rattle.bac_link.specs.Exchanges.{Ask}
 use Rattle.bac_link.specs.Laws.{CoversEach}
@@ -44,7 +46,6 @@ use Rattle.bac_query.specs.Fetching.{Course, Fetching, TellsRun, course}
 use Rattle.bac_query.specs.Items.{items_text}
 use Rattle.bac_query.specs.Reading.{Printing, Session, printing}
 use Rattle.bac_query.specs.Tables.{client}
-use Rattle.bac_query.specs.declared.fault.QueryFault.{QueryFault}
 use Rattle.bac_query.specs.declared.fault.QueryFault.TheVariants.{Exchange, Write, Memory}
 use Rattle.bac_query.specs.declared.layout.Layout.{Layout}
 use Rattle.bac_query.specs.declared.layout.Layout.TheVariants.{Lines, Csv}
@@ -52,16 +53,18 @@ use Rattle.bac_tools.specs.Asking.{Fetches, FetchesOver, of_fetching}
 use Rattle.bac_tools.specs.Ending.{Ending}
 use Rattle.bac_tools.specs.Run.{Ends, IsNoWalk, Runs, Works, layout_of, trend_log, walk_from}
 use Rattle.bac_tools.specs.Sockets.{IsDoneOver, Outlets, binding, outside, transactions_with}
-use Rattle.bac_tools.specs.Status.{exit_status}
 use Rattle.bac_tools.specs.Streams.{Streams, outlets_of, streams, with_errors}
 use Rattle.bac_tools.specs.declared.fault.Fault.TheVariants as fault
 use Rattle.bac_walk.proofs.Follows.{brought_goes}
 use Rattle.bac_walk.proofs.Transacted.{brought_plain}
 use Rattle.bac_walk.specs.Came.{Came}
 use Rattle.bac_walk.specs.Collects.{Goes}
+use Rattle.bac_walk.specs.Outcomes.{IsRunOf}
 use Rattle.bac_walk.specs.Place.{WalkPlace}
-use Rattle.bac_walk.specs.Transacted.{walk_by}
+use Rattle.bac_walk.specs.Transacted.{BroughtBy, WalkBy, walk_by}
+use Rattle.bac_walk.specs.declared.flaw.ReplyFlaw.{ReplyFlaw}
 use Rattle.bac_walk.specs.declared.outcome.Ended.{Ended}
+use Rattle.bac_walk.specs.declared.outcome.WalkFault.TheVariants as walk
 use Rattle.bac_walk.specs.declared.outcome.Why.{Why}
 use Rattle.bac_walk.specs.declared.outcome.Why.TheVariants as why
 use Rattle.bac_wire.specs.Primitive.{Id}
@@ -177,10 +180,16 @@ longer old new text more (written, rest, is, appends) =
 pub tells_text : (left : Why → Type 0) (steps : ℕ) (run : Course) (fetching : Fetching) (old new : Held)
     → TellsRun Lines left steps run fetching old new
     → (why : Why) × (next : ℕ) × AppendsPart old new (items_text run.items ++ end_line why next)
-    × ((done : Fetched) → fetching ≡ Ok done → Appends old new (items_text run.items ++ end_line why next))
+    × ((done : Fetched) → fetching ≡ Ok done
+    → Appends old new (items_text run.items ++ end_line why next) × (done.why ≡ why) × IsRunOf why steps run.steps run.ended)
     × (next ≡ run.place.next)
-tells_text left steps run (Ok fetched) old new (end, is, text) =
-    (fetched.why, fetched.next, part_of run.items fetched.why fetched.next old new text, λ done same. text, end.1)
+tells_text left steps run (Ok fetched) old new (end, is, text) = (
+  fetched.why,
+  fetched.next,
+  part_of run.items fetched.why fetched.next old new text,
+  λ done same. (text, (let e : Ok fetched ≡ Ok done = same in let f : fetched ≡ done = cc in sym (ap (λ (x : Fetched). x.why) f)), end.0),
+  end.1,
+)
 tells_text left steps run (Err Write) old new (inl (few, is, text)) =
     (why.StepLimit, run.place.next, longer old new (items_text run.items) _ text, λ done same. absurd (let e : Err Write ≡ Ok done = same in cc), refl)
 tells_text left steps run (Err Write) old new (inr (cause, next, end, is, text)) =
@@ -214,6 +223,14 @@ as_range leads = record {
   ask = λ a b path invoke r answer of is. leads.ask a b path invoke r answer tt is;
 }
 
+-- how a run that is done may have ended, by the link that it leaves
+abbrev pub EndsSo : {L : Type 0} {asks : Ask L} {leads : Leads asks Any} → Hears leads → LogReading → List Item → L → Why → ℕ → Type 0
+EndsSo {L = L} ears said items link why.CaughtUp next =
+    (datagram : List ℕ) × ears.had link datagram × HasNoMore (trend_log said.instance) datagram next
+EndsSo ears said items link why.StepLimit next = said.steps ≤ length items
+EndsSo ears said items link (why.Fault fault) next = Unit {0}
+EndsSo ears said items link why.Memory next = Unit {0}
+
 -- what is told of a run in lines
 pub record IsPrinted {L : Type 0} {asks : Ask L} {leads : Leads asks Any} (ears : Hears leads) (said : LogReading)
     (first link : L) (fetching : Fetching) (old new : Held) : Type 0 where
@@ -222,12 +239,25 @@ pub record IsPrinted {L : Type 0} {asks : Ask L} {leads : Leads asks Any} (ears 
   pub why : Why
   pub next : ℕ
   pub part : AppendsPart old new (items_text items ++ end_line why next)
-  pub whole : (done : Fetched) → fetching ≡ Ok done → Appends old new (items_text items ++ end_line why next)
+  pub whole : (done : Fetched) → fetching ≡ Ok done
+      → Appends old new (items_text items ++ end_line why next) × (done.why ≡ why) × EndsSo ears said items link why next
   pub once : HaveEachOnce said.from items next
   pub came : (number : ℕ) (entry : Entry) → Contains items (Logged number entry)
       → Known ears link (record { kind = 20; instance = said.instance }) number entry
 
 module _ {L : Type 0} {asks : Ask L} {leads : Leads asks Any} (ears : Hears leads) where
+  ends_so : (said : LogReading) (before : WalkBy L) (came : List Came) (items : List Item) (n : ℕ) (ended : Ended) (after : WalkBy L) (link : L)
+      → before.place.log ≡ trend_log said.instance → leads.to after.link link
+      → BroughtBy asks before n came items ended after → (why : Why) → IsRunOf why said.steps n ended → EndsSo ears said items link why after.place.next
+  ends_so said before came items n ended after link log on is why.CaughtUp (count, up) =
+      let it = run_caught_up ears before n came items after (subst (λ (e : Ended). BroughtBy asks before n came items e after) up is) in
+      (it.0, ears.keeps after.link link it.0 on it.1, subst (λ (l : Id). HasNoMore l it.0 after.place.next) log it.2)
+  ends_so said before came items n ended after link log on is why.StepLimit (count, limited) =
+      subst (λ (k : ℕ). k ≤ length items) count
+      (run_limited ears before n came items after (subst (λ (e : Ended). BroughtBy asks before n came items e after) limited is))
+  ends_so said before came items n ended after link log on is (why.Fault fault) run = tt
+  ends_so said before came items n ended after link log on is why.Memory run = tt
+
   run_printed : (said : LogReading) (old : Session L) (fetching : Fetching) (new : Session L)
       → FetchesAhead (errand Lines (walk_from said.instance said.from said.count) said.steps) asks old fetching new
       → IsPrinted ears said old.asker.link new.asker.link fetching old.printed new.printed
@@ -244,7 +274,14 @@ module _ {L : Type 0} {asks : Ask L} {leads : Leads asks Any} (ears : Hears lead
         why = text.0;
         next = text.1;
         part = text.2;
-        whole = text.3;
+        whole = λ done same.
+            let it = text.3 done same in (
+              it.0,
+              it.1,
+              subst (λ (m : ℕ). EndsSo ears said items new.asker.link text.0 m) (sym text.4)
+                  (ends_so said (walk_by old.asker.link old.asker.transactions walk) came items n ended (walk_by mid half after) new.asker.link
+                  (log_of said.instance said.count said.from) on is text.0 it.2),
+            );
         once = subst (λ (m : ℕ). HaveEachOnce said.from items m) (sym text.4) (goes_each said.instance said.count said.from items after.fresh after.next goes);
         came = λ number entry has.
             let it = run_known ears (walk_by old.asker.link old.asker.transactions walk) n came items ended (walk_by mid half after) is number entry has in
@@ -253,28 +290,47 @@ module _ {L : Type 0} {asks : Ask L} {leads : Leads asks Any} (ears : Hears lead
 
 -- ---- the tool
 
-not_zero : (address : List ℕ) (f : QueryFault) → exit_status (of_query address f) ≡ 0 → ⊥
-not_zero address (Exchange exchange.TooLong) is = absurd (cc)
-not_zero address (Exchange exchange.Lost) is = absurd (cc)
-not_zero address (Exchange (exchange.Refused refusal)) is = absurd (cc)
-not_zero address (Exchange exchange.BadReply) is = absurd (cc)
-not_zero address Write is = absurd (cc)
-not_zero address Memory is = absurd (cc)
+-- a word's value is told
+no_walk : (instance : ℕ) (from : Option ℕ) (count : ℕ) (why : Fault) → IsNoWalk instance from count why → exit_status why ≡ 1
+no_walk instance from count why (inl (outside, is)) = ap exit_status is
+no_walk instance from count why (inr (inl (few, is))) = ap exit_status is
+no_walk instance from count why (inr (inr (zeroth, is))) = ap exit_status is
 
-ended_err : (passed : Passed) (result : Ending) (fault : Fault) (old new : Held) (status : ℕ) → result ≡ Err fault → (exit_status fault ≡ 0 → ⊥)
-    → Ends passed result old new status → status ≡ 0 → ⊥
-ended_err passed (Ok done) fault old new status is some ends none = absurd (let e : Ok done ≡ Err fault = is in cc)
-ended_err passed (Err why) fault old new status is some (inl (same, text)) none =
-    some (ap exit_status (let e : Err why ≡ Err fault = is in let f : fault ≡ why = cc in f) ∙ sym same ∙ none)
-ended_err passed (Err why) fault old new status is some (inr (same, text)) none = absurd (let e : 5 ≡ 0 = sym same ∙ none in cc)
+-- why a run ended that has no fault and the status 0
+abbrev Well : Why → Type 0
+Well why.CaughtUp = Unit {0}
+Well why.StepLimit = Unit {0}
+Well (why.Fault fault) = ⊥
+Well why.Memory = ⊥
 
--- all of the text is there where the status is 0
-whole_if : (address : List ℕ) (passed : Passed) (fetching : Fetching) (result : Ending) (errors now : Held) (status : ℕ) (before after : Held) (text : List ℕ)
-    → ((done : Fetched) → fetching ≡ Ok done → Appends before after text) → result ≡ of_fetching Lines address fetching
-    → Ends passed result errors now status → status ≡ 0 → Appends before after text
-whole_if address passed (Ok done) result errors now status before after text whole how ends none = whole done refl
-whole_if address passed (Err f) result errors now status before after text whole how ends none =
-    absurd (ended_err passed result (of_query address f) errors now status how (not_zero address f) ends none)
+ok_zero : (passed : Passed) (result : Ending) (ending : ℕ) (errors now : Held) (status : ℕ) → result ≡ Ok ending → Ends passed result errors now status
+    → status ≡ 0 → ending ≡ 0
+ok_zero passed (Ok done) ending errors now status is (same, keeps) none =
+    (let e : Ok done ≡ Ok ending = is in let f : ending ≡ done = cc in f) ∙ sym same ∙ none
+ok_zero passed (Err why) ending errors now status is told none = absurd (let e : Err why ≡ Ok ending = is in cc)
+
+zero_well : (address : List ℕ) (passed : Passed) (result : Ending) (errors now : Held) (status : ℕ) (cause : Why) (flaw : Option ReplyFlaw)
+    → result ≡ of_why address cause flaw → Ends passed result errors now status → status ≡ 0 → Well cause
+zero_well address passed result errors now status cause (Some flaw) is ends none = absurd (failed passed result (fault.Flawed flaw) errors now status is ends none)
+zero_well address passed result errors now status why.CaughtUp None is ends none = tt
+zero_well address passed result errors now status why.StepLimit None is ends none = tt
+zero_well address passed result errors now status (why.Fault walk.Lost) None is ends none =
+    absurd (failed passed result (fault.Silent address) errors now status is ends none)
+zero_well address passed result errors now status (why.Fault (walk.Refused refusal)) None is ends none =
+    absurd (failed passed result (fault.Declined refusal) errors now status is ends none)
+zero_well address passed result errors now status (why.Fault walk.BadReply) None is ends none =
+    absurd (let e : 4 ≡ 0 = ok_zero passed result 4 errors now status is ends none in cc)
+zero_well address passed result errors now status why.Memory None is ends none =
+    absurd (let e : 5 ≡ 0 = ok_zero passed result 5 errors now status is ends none in cc)
+
+-- what holds of what was fetched, and that it ended well, where the status is 0
+done_if : {A : Why → Type 0} (address : List ℕ) (passed : Passed) (fetching : Fetching) (result : Ending) (errors now : Held) (status : ℕ)
+    → ((done : Fetched) → fetching ≡ Ok done → A done.why) → result ≡ of_fetching Lines address fetching
+    → Ends passed result errors now status → status ≡ 0 → (cause : Why) × A cause × Well cause
+done_if address passed (Ok done) result errors now status whole how ends none =
+    (done.why, whole done refl, zero_well address passed result errors now status done.why done.flaw how ends none)
+done_if address passed (Err f) result errors now status whole how ends none =
+    absurd (failed passed result (of_query address f) errors now status how ends none)
 
 module _ {S P : Type 0} (rules : SocketRules S P) (changes : S → S → Type 0) where
   over : (said : LogReading) (csv : Bool) → csv ≡ false
@@ -287,11 +343,20 @@ module _ {S P : Type 0} (rules : SocketRules S P) (changes : S → S → Type 0)
       subst (λ (h : Held). IsPrinted (link_hears rules changes) said before.asker after.asker fetching h after.printed) same
       (run_printed (link_hears rules changes) said (printing (client before.asker (transactions_with said.asked)) mid) fetching (printing (client after.asker last) after.printed) run)
 
+  well : (said : LogReading) (items : List Item) (sockets : S) (left : UdpLink P) (cause : Why) (next : ℕ)
+      → ((datagram : List ℕ) → (link_hears rules changes).had left datagram → CameFrom rules changes sockets said.asked.address datagram)
+      → Well cause → EndsSo (link_hears rules changes) said items left cause next → EndsWell rules changes sockets said items cause next
+  well said items sockets left why.CaughtUp next stands ok (datagram, had, more) = (datagram, stands datagram had, more)
+  well said items sockets left why.StepLimit next stands ok enough = enough
+  well said items sockets left (why.Fault fault) next stands ok is = absurd ok
+  well said items sockets left why.Memory next stands ok is = absurd ok
+
   -- the peer of a link that was just made is the device's
   pub logged : (said : LogReading) → said.csv ≡ false → (passed : Passed) (old : Outlets S) (result : Ending) (new : Outlets S) (errors now : Held) (status : ℕ)
       → Fetches rules said.asked (errand (layout_of said.csv) (walk_from said.instance said.from said.count) said.steps) old result new
       → Ends passed result errors now status → PrintsLog rules changes new.sockets said old.output new.output status
-  logged said lines passed old result new errors now status (inl (why, opens, is, quiet)) ends = inl quiet
+  logged said lines passed old result new errors now status (inl (why, opens, is, quiet)) ends =
+      inl (quiet, unasked_two status (ended passed result (fault.Unopened why) errors now status is ends))
   logged said lines passed old result new errors now status (inr (port, between, last, opens, (fetching, left, (is, says), same, how), closes)) ends =
       let it = over said said.csv lines (printing (link_over said.asked.address port) old.output) fetching (printing left new.output) is in
       let stands : (ledger : Ledger rules changes) (datagram : List ℕ) → ledger.port left.port left.peer datagram ≡ true → ledger.port last said.asked.address datagram ≡ true =
@@ -301,8 +366,15 @@ module _ {S P : Type 0} (rules : SocketRules S P) (changes : S → S → Type 0)
         it.why,
         it.next,
         it.part,
-        whole_if said.asked.address passed fetching result errors now status old.output new.output (items_text it.items ++ end_line it.why it.next) it.whole
-            (subst (λ (b : Bool). result ≡ of_fetching (layout_of b) said.asked.address fetching) lines how) ends,
+        λ none.
+            let done = done_if {A = λ cause. Appends old.output new.output (items_text it.items ++ end_line it.why it.next) × (cause ≡ it.why)
+            × EndsSo (link_hears rules changes) said it.items left it.why it.next} said.asked.address passed fetching result errors now status it.whole
+            (subst (λ (b : Bool). result ≡ of_fetching (layout_of b) said.asked.address fetching) lines how) ends none in (
+              done.1.0,
+              well said it.items new.sockets left it.why it.next
+                  (λ datagram had ledger. ledger.closes between new.sockets last said.asked.address datagram (inr (stands ledger datagram (had ledger))) closes)
+                  (subst Well done.1.1 done.2) done.1.2,
+            ),
         it.once,
         λ number entry has. let known = it.came number entry has in
             (known.0, (λ ledger. ledger.closes between new.sockets last said.asked.address known.0 (inr (stands ledger known.0 (known.1 ledger))) closes), known.2),
@@ -312,14 +384,20 @@ module _ {S P : Type 0} (rules : SocketRules S P) (changes : S → S → Type 0)
       (old : Streams S C) (result : Ending) (new : Streams S C) (errors now : Held) (status : ℕ)
       → Works rules tells (job.Log said) old result new → Ends passed result errors now status
       → PrintsLog rules changes new.sockets said old.output new.output status
-  works tells said lines passed old result new errors now status (inl (fault, none, keeps, same), quiet, unread) ends = inl keeps
+  works tells said lines passed old result new errors now status (inl (fault, (none, is), keeps, same), quiet, unread) ends =
+      inl (
+        keeps,
+        unasked_one status (subst (λ (n : ℕ). HasStatus n status) (no_walk said.instance said.from said.count fault none)
+            (ended passed result fault errors now status is ends)),
+      )
   works tells said lines passed old result new errors now status (inr is, quiet, unread) ends =
       logged said lines passed (outlets_of old) result (outlets_of new) errors now status is ends
 
   runs : {C : Type 0} (passes : S → Passed) (tells : C → Option CivilTime → C → Type 0) (said : LogReading) → said.csv ≡ false
       → (old : Streams S C) (status : ℕ) (new : Streams S C) → Runs rules passes tells (job.Log said) old status new
       → PrintsLog rules changes new.sockets said old.output new.output status
-  runs passes tells said lines old status new (inl (told, keeps, untouched)) = inl keeps
+  runs passes tells said lines old status new (inl (told, keeps, untouched)) =
+      inl (keeps, unasked_memory old.errors new.errors status told)
   runs passes tells said lines old status new (inr (result, errors, is, ends)) =
       works tells said lines (passes new.sockets) old result (with_errors errors new) errors new.errors status is ends
 
@@ -331,6 +409,7 @@ module _ {S C P F G T Q : Type 0} {s : start.Ghosts F} {t : start.Ghosts G} (g :
       (new : Streams S C) (left : DiskFiles F s)
       → RunsAll g h parts waits folders p q switches rules passes tells (job.Log said) old files status new left
       → PrintsLog rules changes new.sockets said old.output new.output status
-  prints_log said lines old files status new left (inl ((told, keeps, untouched), files', apart)) = inl keeps
+  prints_log said lines old files status new left (inl ((told, keeps, untouched), files', apart)) =
+      inl (keeps, unasked_memory old.errors new.errors status told)
   prints_log said lines old files status new left (inr (sockets, switched, (ran, files', apart))) =
       runs rules changes passes tells said lines (streams old.input old.output old.errors sockets old.clock) status new ran

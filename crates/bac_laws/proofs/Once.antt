@@ -8,8 +8,8 @@ use Rattle.bac_heeding.specs.Ports.{Event}
 use Rattle.bac_heeding.specs.declared.notes.Passed.{Passed}
 use Rattle.bac_laws.proofs.Captured.{captured_over, captured_unopened, nothing_captured}
 use Rattle.bac_laws.proofs.Exchange.{Comes, Runs, exchanged}
-use Rattle.bac_laws.proofs.Statuses.{Ended, done_so, ended, failed}
-use Rattle.bac_laws.specs.Asked.{AsksOnce, ComesTo, PrintsWhatCame, ReadsOnce, WritesOnce}
+use Rattle.bac_laws.proofs.Statuses.{Ended, done_so, ended, failed, unasked_one, unasked_two}
+use Rattle.bac_laws.specs.Asked.{AsksOnce, ComesTo, IsUnasked, PrintsWhatCame, ReadsOnce, WritesOnce}
 use Rattle.bac_laws.specs.Events.{IsCaptured}
 use Rattle.bac_link.specs.Datagrams.{apdu_in}
 use Rattle.bac_link.specs.declared.exchanges.ExchangeFault.{ExchangeFault}
@@ -84,7 +84,7 @@ module _ {S P : Type 0} (rules : SocketRules S P) where
       inr (r, ok, None, shape, 2, ended passed result (fault.Exchange asked.address exchange.Lost) said now status it.0 ends, (it.1, refl))
   once asked is r ok done es before after passed result said now status (Err exchange.TooLong) shape ends not got =
       let it = not exchange.TooLong refl in
-      inl (shape, it.1, failed passed result (fault.Exchange asked.address exchange.TooLong) said now status it.0 ends)
+      inl (shape, it.1, unasked_one status (ended passed result (fault.Exchange asked.address exchange.TooLong) said now status it.0 ends))
 
 -- ---- bac wp
 
@@ -106,7 +106,7 @@ module _ {S P : Type 0} (rules : SocketRules S P) (traces : S → Bool → S →
 
   -- nothing was sent or printed
   pub nothing : (asked : Asked) (is : Request → Type 0) (done : ℕ → Type 0) (before after : Held) (old new : S) (status : ℕ)
-      → IsCaptured rules traces old new [] → Keeps before after → status ≢ 0
+      → IsCaptured rules traces old new [] → Keeps before after → IsUnasked status
       → Does (λ es. AsksOnce asked is done es before after status) old new
   nothing asked is done before after old new status same keeps more = ([], same, inl (refl, keeps, more))
 
@@ -137,11 +137,11 @@ module _ {S P : Type 0} (rules : SocketRules S P) (traces : S → Bool → S →
       → Does (λ es. WritesOnce said es old.output new.output status) old.sockets new.sockets
   wp said passed old result new told now status (inl (none, (why, keeps, same))) ends =
       nothing said.asked _ _ old.output new.output old.sockets new.sockets status (nothing_captured rules traces old.sockets new.sockets same) keeps
-      (failed passed result (fault.BadValue word.Instance) told now status why ends)
+      (unasked_one status (ended passed result (fault.BadValue word.Instance) told now status why ends))
   wp said passed old result new told now status (inr (w, same, inl (why, opens, is, keeps))) ends =
       nothing said.asked _ _ old.output new.output old.sockets new.sockets status
       (captured_unopened rules traces old.sockets new.sockets (own_address said.asked.local) said.asked.timeout why opens) keeps
-      (failed passed result (fault.Unopened why) told now status is ends)
+      (unasked_two status (ended passed result (fault.Unopened why) told now status is ends))
   wp said passed old result new told now status
       (inr (w, same, inr (port, between, last, opens, (answer, left, (came_so, exchanges, prints), at, how), closes))) ends =
       let it = exchanged rules (next_way (transactions_with said.asked)) (request.WriteProperty w) (link_over said.asked.address port) came_so left exchanges in (
@@ -227,12 +227,14 @@ module _ {S P : Type 0} (rules : SocketRules S P) (traces : S → Bool → S →
       old.sockets new.sockets
   rp_all said passed old result new told now status (inl (none, (why, keeps, same))) ends =
       let more = failed passed result (fault.BadValue word.Instance) told now status why ends in
-      ([], nothing_captured rules traces old.sockets new.sockets same, (inl (refl, keeps, more), λ is. absurd (more is)))
+      let so = unasked_one status (ended passed result (fault.BadValue word.Instance) told now status why ends) in
+      ([], nothing_captured rules traces old.sockets new.sockets same, (inl (refl, keeps, so), λ is. absurd (more is)))
   rp_all said passed old result new told now status (inr (inl (why, opens, is, keeps))) ends =
-      let more = failed passed result (fault.Unopened why) told now status is ends in (
+      let more = failed passed result (fault.Unopened why) told now status is ends in
+      let so = unasked_two status (ended passed result (fault.Unopened why) told now status is ends) in (
         [],
         captured_unopened rules traces old.sockets new.sockets (own_address said.asked.local) said.asked.timeout why opens,
-        (inl (refl, keeps, more), λ is. absurd (more is)),
+        (inl (refl, keeps, so), λ is. absurd (more is)),
       )
   rp_all said passed old result new told now status
       (inr (inr (port, between, last, opens, (answer, left, (came_so, exchanges, prints), at, how), closes))) ends =

@@ -2,6 +2,7 @@
 use Rattle.std.proofs.Common.{◌≡◌, ◌≢◌, ◌⊎◌, ℕ, suc, Ok, Err, None, Some, List, [], inl, inr, refl, sym, ap, ◌∙◌, append-nil}
 use Rattle.std.specs.Io.KnownBytes.{Appends, Keeps}
 use Rattle.bac_heeding.specs.declared.notes.Passed.{Passed}
+use Rattle.bac_laws.specs.Asked.{IsUnasked}
 use Rattle.bac_link.specs.declared.exchanges.ExchangeFault.TheVariants as exchange
 use Rattle.bac_print.specs.Output.{AppendsPart, Held}
 use Rattle.bac_script.specs.declared.replay.fault.ReplayFault.{ReplayFault}
@@ -80,6 +81,20 @@ told_fails why old new status (inr (is, text)) none = some 4 (sym is ∙ none)
 pub done_so : (passed : Passed) (result : Ending) (said now : Held) (status : ℕ) → result ≡ Ok 0 → Ends passed result said now status → status ≡ 0
 done_so passed (Ok done) said now status is (same, keeps) = same ∙ (let e : Ok done ≡ Ok 0 = is in let f : done ≡ 0 = cc in f)
 done_so passed (Err why) said now status is told = absurd (let e : Err why ≡ Ok 0 = is in cc)
+
+-- ---- nothing asked
+
+pub unasked_one : (status : ℕ) → Ended 1 status → IsUnasked status
+unasked_one status (inl is) = inl is
+unasked_one status (inr (more, five)) = inr (inr five)
+
+pub unasked_two : (status : ℕ) → Ended 2 status → IsUnasked status
+unasked_two status (inl is) = inr (inl is)
+unasked_two status (inr (more, five)) = inr (inr five)
+
+pub unasked_memory : (old new : Held) (status : ℕ) → IsTold fault.Memory old new status → IsUnasked status
+unasked_memory old new status (inl (five, text)) = inr (inr five)
+unasked_memory old new status (inr (five, text)) = inr (inr five)
 
 -- ---- nothing printed
 

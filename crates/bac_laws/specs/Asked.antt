@@ -31,12 +31,16 @@ ComesTo (Some (Refused refusal)) done before after status = Keeps before after �
 ComesTo (Some BadReply) done before after status = Keeps before after × (status ≡ 4)
 ComesTo None done before after status = Keeps before after × (status ≡ 2)
 
+-- The status where nothing is asked: 1, the words are wrong; 2, there is no socket; 5, there is no memory.
+abbrev pub IsUnasked : ℕ → Type 0
+IsUnasked status = (status ≡ 1) ⊎ ((status ≡ 2) ⊎ (status ≡ 5))
+
 -- One such request is made, by invoke ID 1, of the device that the words name, and nothing else is sent; and what its
 -- answer comes to is the end, but that the status of a fault is 5 where there is no memory to tell of it. Or nothing is
--- sent, and nothing printed, and the status isn't 0.
+-- sent, and nothing printed, and the status says so.
 abbrev pub AsksOnce : Asked → (Request → Type 0) → (ℕ → Type 0) → List Event → Held → Held → ℕ → Type 0
 AsksOnce asked is done es before after status =
-    ((es ≡ []) × Keeps before after × (status ≢ 0))
+    ((es ≡ []) × Keeps before after × IsUnasked status)
     ⊎ ((r : Request) × is r × (answer : Option (List ℕ))
     × Exchanged (request_octets (record { dest = asked.route; source = None }) 1 r) asked.address asked.retries es
     answer

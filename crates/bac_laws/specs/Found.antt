@@ -1,7 +1,7 @@
 -- What `bac wi` asks, and what it prints of what comes. Read `FindsWhatCame`.
-use Rattle.std.specs.Prelude.{◌≡◌, ℕ, true, List, ◌++◌, [], map}
+use Rattle.std.specs.Prelude.{◌≡◌, ℕ, true, List, ◌++◌, [], ◌∷◌, map, Ok, Err}
 use Rattle.std.specs.Io.KnownBytes.{Appends}
-use Rattle.bac_heeding.specs.Ports.{Event, came_in}
+use Rattle.bac_heeding.specs.Ports.{Event, Sent, Received, came_in}
 use Rattle.bac_laws.specs.Events.{sent_in}
 use Rattle.bac_print.specs.Output.{AppendsPart, Held}
 use Rattle.bac_query.specs.Requests.{who_is_octets}
@@ -16,14 +16,22 @@ abbrev pub AreStations : Stations → List (List ℕ) → Type 0
 AreStations (Listed addresses) all = all ≡ addresses
 AreStations Input all = Unit {0}
 
+-- no send was refused
+abbrev pub AreTaken : List Event → Type 0
+AreTaken [] = Unit {0}
+AreTaken (Sent octets to (Ok done) ∷ es) = AreTaken es
+AreTaken (Sent octets to (Err fault) ∷ es) = ⊥
+AreTaken (Received received ∷ es) = AreTaken es
+
 -- Only the Who-Is of the words is sent, once to each station, in order, up to the last or to an earlier one. Of what
 -- comes each datagram with an I-Am has its line, in the order in which they came; these lines are printed, or a front
--- part of their text. With the status 0 each station was asked, a device announced itself, and each line is there.
+-- part of their text. With the status 0 each station was asked, no send was refused, a device announced itself, and
+-- each line is there.
 pub record FindsWhatCame (said : Discovery) (es : List Event) (before after : Held) (status : ℕ) : Type 0 where
   pub asked : List (List ℕ)
   pub rest : List (List ℕ)
   pub stations : AreStations said.stations (asked ++ rest)
   pub sent : sent_in es ≡ map (λ to. (who_is_octets (search_of said), to)) asked
   pub lines : AppendsPart before after (lines_of (came_in es))
-  pub done : status ≡ 0 → (rest ≡ []) × (has_device (came_in es) ≡ true)
+  pub done : status ≡ 0 → (rest ≡ []) × AreTaken es × (has_device (came_in es) ≡ true)
       × Appends before after (lines_of (came_in es))

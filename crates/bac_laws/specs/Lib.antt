@@ -7,3 +7,5 @@ pub mod Found
 pub mod Served
 pub mod Rows
 pub mod Listed
+pub mod Checked
+pub mod Played

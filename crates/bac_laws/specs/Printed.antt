@@ -1,9 +1,14 @@
--- What `bac log` prints of a log is what came, each number once. Read `PrintsLog`.
-use Rattle.std.specs.Prelude.{◌≡◌, ◌⊎◌, ℕ, Bool, true, List, [], ◌∷◌, ◌++◌, Option, None, Some, Ok}
+-- What `bac log` prints of a log is what came, each number once. Read `PrintsLog`; how often is asked, `AsksFew`.
+use Rattle.std.specs.Prelude.{◌≡◌, ◌⊎◌, ◌≤◌, ◌+◌, ◌*◌, ℕ, Bool, true, false, List, [], ◌∷◌, ◌++◌, length}
+use Rattle.std.specs.Prelude.{Option, None, Some, Ok}
 use Rattle.std.specs.Io.KnownBytes.{Appends, Keeps}
 use Rattle.std.specs.List.{Contains}
+use Rattle.bac_heeding.specs.Ports.{Event}
+use Rattle.bac_laws.specs.Asked.{IsUnasked}
+use Rattle.bac_laws.specs.Events.{sent_in}
 use Rattle.bac_link.specs.Heard.{AckParameters, heard_in}
 use Rattle.bac_link.specs.Laws.{CoversEach}
+use Rattle.bac_link.specs.Ordinals.{is_ahead}
 use Rattle.bac_link.specs.declared.item.Item.{Item}
 use Rattle.bac_link.specs.declared.item.Item.TheVariants.{Gap, Logged}
 use Rattle.bac_log.specs.TrendLog.{sequence_number}
@@ -14,8 +19,10 @@ use Rattle.bac_ports.specs.declared.port.Heard.{Heard}
 use Rattle.bac_print.specs.Output.{AppendsPart, Held}
 use Rattle.bac_query.specs.Ends.{end_line}
 use Rattle.bac_query.specs.Items.{items_text}
+use Rattle.bac_tools.specs.Run.{trend_log}
 use Rattle.bac_walk.specs.Walks.{shown_from}
 use Rattle.bac_walk.specs.declared.outcome.Why.{Why}
+use Rattle.bac_walk.specs.declared.outcome.Why.TheVariants.{CaughtUp, StepLimit}
 use Rattle.bac_wire.specs.Primitive.{Id}
 use Rattle.bac_words.specs.declared.job.LogReading.{LogReading}
 
@@ -50,6 +57,17 @@ abbrev pub HasRecord : Id → List ℕ → ℕ → Entry → Type 0
 HasRecord log datagram number entry = (said : AckParameters) × (heard_in log datagram ≡ Some said)
     × (first : ℕ) × (said.first ≡ Some first) × Contains (shown_from first said.entries) (Logged number entry)
 
+-- no record is behind this number: there is none, or the first isn't ahead of it
+abbrev pub AreBehind : ℕ → Option ℕ → List Entry → Type 0
+AreBehind next first [] = Unit {0}
+AreBehind next None (entry ∷ entries) = ⊥
+AreBehind next (Some first) (entry ∷ entries) = is_ahead next first ≡ false
+
+-- a datagram is such an ACK, and has no record from this number on
+abbrev pub HasNoMore : Id → List ℕ → ℕ → Type 0
+HasNoMore log datagram next =
+    (said : AckParameters) × (heard_in log datagram ≡ Some said) × AreBehind next said.first said.entries
+
 -- ---- what is printed
 
 -- items begin at this ordinal: at the number of the words, or if they have none, at that of the first item
@@ -64,15 +82,33 @@ abbrev pub HaveEachOnce : Option ℕ → List Item → ℕ → Type 0
 HaveEachOnce from items next =
     (s : ℕ) → BeginAt from items s → (t : ℕ) × (next ≡ sequence_number t) × CoversEach s items t
 
--- Nothing is printed; or a line for each of these items, and the line of the end, or a front part of that text, and
--- all of it where the status is 0. Each number from where they begin is in one item, a record or a gap; and each record
--- came in this run from the device of the words.
+-- How a run may end with the status 0: caught up, where in this run the device of the words said that it has no more;
+-- or at the limit of steps of the words, behind as many items.
+abbrev pub EndsWell : {S P : Type 0} → SocketRules S P → (S → S → Type 0) → S → LogReading → List Item → Why → ℕ
+    → Type 0
+EndsWell rules changes sockets said items CaughtUp next =
+    (datagram : List ℕ) × CameFrom rules changes sockets said.asked.address datagram
+    × HasNoMore (trend_log said.instance) datagram next
+EndsWell rules changes sockets said items StepLimit next = said.steps ≤ length items
+EndsWell rules changes sockets said items other next = ⊥
+
+-- Nothing is printed, and the status is that of a run that asks nothing; or a line for each of these items, and the
+-- line of the end, or a front part of that text. With the status 0 all of it is there, and that line is right. Each
+-- number from where they begin is in one item, a record or a gap; and each record came in this run from the device of
+-- the words.
 abbrev pub PrintsLog : {S P : Type 0} → SocketRules S P → (S → S → Type 0) → S → LogReading → Held → Held → ℕ → Type 0
-PrintsLog rules changes sockets said before after status = Keeps before after
+PrintsLog rules changes sockets said before after status = (Keeps before after × IsUnasked status)
     ⊎ ((items : List Item) × (why : Why) × (next : ℕ)
     × AppendsPart before after (items_text items ++ end_line why next)
-    × (status ≡ 0 → Appends before after (items_text items ++ end_line why next))
+    × (status ≡ 0 → Appends before after (items_text items ++ end_line why next)
+    × EndsWell rules changes sockets said items why next)
     × HaveEachOnce said.from items next
     × ((number : ℕ) (entry : Entry) → Contains items (Logged number entry) → (datagram : List ℕ)
     × CameFrom rules changes sockets said.asked.address datagram
-    × HasRecord (record { kind = 20; instance = said.instance }) datagram number entry))
+    × HasRecord (trend_log said.instance) datagram number entry))
+
+-- ---- how often is asked
+
+-- No more is sent than twice for each step that the words allow, and twice more, each as often again as they say.
+abbrev pub AsksFew : LogReading → List Event → Type 0
+AsksFew said es = length (sent_in es) ≤ (2 * said.steps + 2) * (said.asked.retries + 1)

@@ -1,23 +1,29 @@
 //! What each tool does over its sockets and prints, whatever comes.
 
-ghost use Rattle.std.specs.Prelude.{◌≡◌, ◌≢◌, List, [], Ok, None, false, map};
+ghost use Rattle.std.specs.Prelude.{◌≡◌, ◌≢◌, ℕ, List, [], Ok, None, Some, false, map};
 ghost use Rattle.std.specs.String.{string_bytes};
+ghost use Rattle.sqlite_trees.specs.View.{doubt};
 ghost use Rattle.sqlite_wal.specs.Files.{image_at};
-ghost use Rattle.bac_files.specs.Parts.{Listing};
+ghost use Rattle.bac_files.specs.Parts.{Listing, Reading};
 ghost use Rattle.bac_heeding.specs.Ports.{Event};
 ghost use Rattle.bac_ports.specs.Sockets.{socket_rules};
 ghost use Rattle.bac_tools.specs.Run.{AskFor};
+ghost use Rattle.bac_words.specs.declared.job.Check.{Check as CheckWords};
 ghost use Rattle.bac_words.specs.declared.job.Discovery.{Discovery as FindWords};
 ghost use Rattle.bac_words.specs.declared.job.Job.TheVariants as job;
 ghost use Rattle.bac_words.specs.declared.job.Kept.{Kept as KeptWords};
 ghost use Rattle.bac_words.specs.declared.job.LogListing.{LogListing as ListWords};
+ghost use Rattle.bac_words.specs.declared.job.LogReading.{LogReading as LogWords};
 ghost use Rattle.bac_words.specs.declared.job.PropertyReading.{PropertyReading as ReadWords};
 ghost use Rattle.bac_words.specs.declared.job.PropertyWriting.{PropertyWriting as WriteWords};
 ghost use Rattle.bac_words.specs.declared.job.ServedDevice.{ServedDevice as ServeWords};
 ghost use Rattle.bac_laws.specs.Asked.{PrintsWhatCame, ReadsOnce, WritesOnce};
+ghost use Rattle.bac_laws.specs.Checked.{IsWhole, PrintsCounts};
 ghost use Rattle.bac_laws.specs.Events.{CanBeCaptured, IsCaptured};
 ghost use Rattle.bac_laws.specs.Found.{FindsWhatCame};
 ghost use Rattle.bac_laws.specs.Listed.{ListsWhatCame};
+ghost use Rattle.bac_laws.specs.Played.{PlaysScript};
+ghost use Rattle.bac_laws.specs.Printed.{AsksFew};
 ghost use Rattle.bac_laws.specs.Rows.{PrintsFileRows};
 ghost use Rattle.bac_laws.specs.Served.{AnswersOnly};
 
@@ -109,7 +115,7 @@ where
 }
 
 /// `wi` sends the Who-Is of its words alone, once to each station, and prints a line for each I-Am
-/// that comes, in the order in which they came.
+/// that comes, in the order in which they came. It ends with 0 only where no send was refused.
 pub fn wi_prints_what_came<
     S: Tracing + Recalls,
     F: Start,
@@ -168,6 +174,36 @@ where
         machine.new.sockets es
         × AnswersOnly said es (O.contents console.old.output)
         (O.contents console.new.output) result }
+{
+    run(machine, console, alloc, waits, words, counts)
+}
+
+/// `log` asks twice for each of its steps at most, and twice more, each as often again as its
+/// retries say.
+pub fn log_asks_few<
+    S: Tracing + Recalls,
+    F: Start,
+    G: Start,
+    Q: Parts,
+    I: Read,
+    O: Write,
+    E: Write,
+    C: Clock,
+    W: WaitClock + Copy,
+>(
+    machine: &mut Machine<'_, S, F, G, Q, C>,
+    console: &mut Console<I, O, E>,
+    alloc: Global,
+    waits: W,
+    words: &[String],
+    counts: bool,
+) -> u8
+where
+    W: Drop,
+    ensures { (said : LogWords) → AskFor (map string_bytes words.now) (job.Log said)
+        → (es : List Event) × IsCaptured (socket_rules S.opens S.closes S.Socket.sends
+        S.Socket.receives S.Socket.receives_within) S.traces machine.old.sockets
+        machine.new.sockets es × AsksFew said es }
 {
     run(machine, console, alloc, waits, words, counts)
 }
@@ -232,6 +268,72 @@ where
         → (listing : Listing) × (listed : Q) × Q.lists machine.old.folders said.file listing listed
         × (listing ≡ Ok None → PrintsFileRows ⟦<FileOf<F> as Disk>⟧ (image_at F.Start) said
         (O.contents console.old.output) (O.contents console.new.output) machine.new.files.closed) }
+{
+    run(machine, console, alloc, waits, words, counts)
+}
+
+/// `check` of a file that ends with 0 found an archive in it, left it as it is, and of each epoch
+/// of its logs each number is in one row, and in no other; what it prints is what is counted there.
+pub fn check_finds_each_number<
+    S: Tracing + Recalls,
+    F: Start,
+    G: Start,
+    Q: Parts,
+    I: Read,
+    O: Write,
+    E: Write,
+    C: Clock,
+    W: WaitClock + Copy,
+>(
+    machine: &mut Machine<'_, S, F, G, Q, C>,
+    console: &mut Console<I, O, E>,
+    alloc: Global,
+    waits: W,
+    words: &[String],
+    counts: bool,
+) -> u8
+where
+    W: Drop,
+    ensures { (said : CheckWords) → AskFor (map string_bytes words.now) (job.Check said)
+        → result ≡ 0
+        → (listing : Listing) × (listed : Q) × Q.lists machine.old.folders said.file listing listed
+        × (listing ≡ Ok None → (found : Reading)
+        × Q.holds listed said.file found machine.new.folders
+        × (doubt found.is_clean ≡ 0 → (found.left ≡ found.found) × IsWhole found.found
+        × PrintsCounts found.found (O.contents console.old.output)
+        (O.contents console.new.output))) }
+{
+    run(machine, console, alloc, waits, words, counts)
+}
+
+/// `replay` prints the text of the script on its input, or a front part of it, and leaves files
+/// alone.
+pub fn replay_prints_its_script<
+    S: Tracing + Recalls,
+    F: Start,
+    G: Start,
+    Q: Parts,
+    I: Read,
+    O: Write,
+    E: Write,
+    C: Clock,
+    W: WaitClock + Copy,
+>(
+    machine: &mut Machine<'_, S, F, G, Q, C>,
+    console: &mut Console<I, O, E>,
+    alloc: Global,
+    waits: W,
+    words: &[String],
+    counts: bool,
+) -> u8
+where
+    W: Drop,
+    ensures prints { AskFor (map string_bytes words.now) job.Replay → (script : List ℕ)
+        → I.remaining console.old.input ≡ Some script
+        → PlaysScript script (O.contents console.old.output)
+        (O.contents console.new.output) result }
+    ensures leaves { AskFor (map string_bytes words.now) job.Replay
+        → (machine.new.files ≡ machine.old.files) × (machine.new.folders ≡ machine.old.folders) }
 {
     run(machine, console, alloc, waits, words, counts)
 }

@@ -81,7 +81,8 @@ where
     run(machine, console, alloc, waits, words, counts)
 }
 
-/// `log` prints in lines what came in this run from the device of its words, each number once.
+/// `log` prints in lines what came in this run from the device of its words, each number once. It
+/// ends with 0 only where the device said that it has no more, or at the limit of its steps.
 pub fn log_prints_what_came<
     S: Tracing + Recalls,
     F: Start,

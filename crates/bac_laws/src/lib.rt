@@ -6,7 +6,8 @@ mod each_tool;
 mod laws;
 
 pub use each_tool::{
-    kept_prints_its_rows, logs_prints_what_came, rp_prints_what_came, serve_answers_only,
-    sockets_can_be_captured, wi_prints_what_came, wp_writes_once,
+    check_finds_each_number, kept_prints_its_rows, log_asks_few, logs_prints_what_came,
+    replay_prints_its_script, rp_prints_what_came, serve_answers_only, sockets_can_be_captured,
+    wi_prints_what_came, wp_writes_once,
 };
 pub use laws::{log_prints_what_came, loses_none, sends_only};
