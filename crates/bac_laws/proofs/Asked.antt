@@ -1,5 +1,5 @@
 -- What an exchange over any link leaves so, if each ask of its request does.
-use Rattle.std.proofs.Common.{◌≡◌, ◌⊎◌, ℕ, zero, suc, ◌+◌, List, Result, Ok, Err, inl, inr, sym, subst}
+use Rattle.std.proofs.Common.{◌≡◌, ℕ, zero, suc, ◌+◌, List, Result, Ok, Err, sym, subst}
 use Rattle.bac_link.specs.Exchanges.{Answers, Ask, Exchanges, Unanswered, Way}
 use Rattle.bac_link.specs.Path.{Path}
 use Rattle.bac_link.specs.Requests.{request_octets}

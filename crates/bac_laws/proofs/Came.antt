@@ -1,31 +1,25 @@
 -- What came over a link stands in its ledger, and brought the records.
-use Rattle.std.proofs.Common.{◌≡◌, ◌⊎◌, ◌++◌, ◌&&◌, ◌==◌, ℕ, ◌≤◌, zero, suc, Bool, true, false, List, [], ◌∷◌, map, Option, None, Some, Result, Ok, Err, inl, inr, refl, sym, subst, ap, ◌∙◌, if◌then◌else◌, length, nat_lt, not, arith}
-use Rattle.std.specs.List.{Contains, flat_map}
-use Rattle.std.specs.Str.{bytes_eq}
+use Rattle.std.proofs.Common.{◌≡◌, ◌++◌, ◌&&◌, ◌==◌, ℕ, ◌≤◌, zero, suc, Bool, true, false, List, [], ◌∷◌, Option, None, Some, Ok, inl, inr, refl, sym, subst, ap, ◌∙◌, if◌then◌else◌, length, nat_lt, not, arith}
+use Rattle.std.specs.List.{Contains}
 use Rattle.std.proofs.lemmas.List.{length-append}
 use Rattle.std.proofs.lemmas.List.Elements.{Contains-append_cases, Contains-append_left}
-use Rattle.std.proofs.lemmas.Slice.Eq.{bytes_eq-Decides}
-use Rattle.bac_laws.proofs.Asked.{Leads, alike, tried}
-use Rattle.bac_laws.proofs.Walked.{brought, come, ends}
-use Rattle.bac_laws.specs.Printed.{AreBehind, HasNoMore, HasRecord, Ledger}
+use Rattle.bac_laws.proofs.Asked.{Leads}
+use Rattle.bac_laws.proofs.Walked.{come, ends}
+use Rattle.bac_laws.specs.Printed.{AreBehind, HasNoMore, HasRecord}
 use Rattle.bac_link.specs.Delivery.{items_of}
 use Rattle.bac_link.specs.Exchanges.{Ask, Exchanges, Way, next_way}
 use Rattle.bac_link.specs.Heard.{AckParameters, heard_in}
-use Rattle.bac_link.specs.Links.{question}
 use Rattle.bac_link.specs.Requests.{request_octets}
 use Rattle.bac_link.specs.declared.item.Item.{Item}
 use Rattle.bac_link.specs.declared.item.Item.TheVariants.{Gap, Logged}
-use Rattle.bac_link.specs.declared.link.Lost.{Lost}
 use Rattle.bac_link.specs.declared.request.Request.{Request}
 use Rattle.bac_log.specs.declared.entry.Entry.{Entry}
 use Rattle.bac_walk.specs.Came.{AreOf, Came, EndsEmpty, answers_of, restarted}
 use Rattle.bac_walk.specs.Collects.{batches, turn_items}
 use Rattle.bac_walk.specs.Place.{WalkPlace}
-use Rattle.bac_walk.specs.Transacted.{AsksBy, BroughtBy, ComesBy, WalkBy, asked, walk_by}
+use Rattle.bac_walk.specs.Transacted.{BroughtBy, ComesBy, WalkBy, asked, walk_by}
 use Rattle.bac_link.specs.Ordinals.{distance, is_ahead, number_after}
-use Rattle.bac_walk.specs.Walks.{Ask as AskNext, Bring, End, IsTaken, IsTakenFrom, NextAct, Refuse, asks_oldest_now, fits, gap_of, is_past, items_in, question_of, shown_from, verdict}
-use Rattle.bac_walk.specs.declared.batch.Batch.{Batch}
-use Rattle.bac_walk.specs.declared.outcome.BadReply.{BadReply}
+use Rattle.bac_walk.specs.Walks.{Ask as AskNext, Bring, End, IsTaken, IsTakenFrom, NextAct, Refuse, asks_oldest_now, fits, gap_of, is_past, shown_from, verdict}
 use Rattle.bac_walk.specs.declared.outcome.Ended.{Ended}
 use Rattle.bac_walk.specs.declared.outcome.Ended.TheVariants.{CaughtUp, StepLimit, Stopped, Fault}
 use Rattle.bac_walk.specs.declared.outcome.Progress.{Progress}

@@ -1,5 +1,5 @@
 -- The epochs that are counted of one file are those that have begun, and a row covers the numbers of its span.
-use Rattle.std.proofs.Common.{◌≡◌, ◌⊎◌, inl, inr, refl, sym, ap, subst, ◌∙◌, ℕ, ℤ, zero, suc, pos, ◌+◌, ◌-◌, ◌*◌, ◌%◌, ◌<◌, ◌≤◌, ◌==◌, ◌&&◌, ◌||◌, cond, int_cmp, Bool, true, false, if◌then◌else◌, List, [], ◌∷◌, ◌++◌, append-nil, flat_map, map, fold, length, get_or, subst₂, All, Option, None, Some, arith}
+use Rattle.std.proofs.Common.{◌≡◌, ◌⊎◌, inl, inr, refl, sym, ap, subst, ◌∙◌, ℕ, pos, ◌+◌, ◌-◌, ◌*◌, ◌%◌, ◌<◌, ◌≤◌, ◌==◌, ◌||◌, cond, int_cmp, Bool, true, false, if◌then◌else◌, List, [], ◌∷◌, ◌++◌, append-nil, flat_map, map, fold, length, get_or, subst₂, Option, None, Some, arith}
 use Rattle.std.specs.List.{Contains, filter, list_all, list_any}
 use Rattle.std.specs.Ordering.{is_ge, is_le}
 use Rattle.std.proofs.lemmas.Bool.{and_from, and_parts}
@@ -24,7 +24,7 @@ use Rattle.bac_asked.specs.Lines.{source_text}
 use Rattle.bac_check.specs.Checked.{is_complete, lines_of}
 use Rattle.bac_check.specs.Counted.{course_of, is_epoch, with_begun}
 use Rattle.bac_check.specs.Epochs.{AreItemsIn, CountsEach, first_id, is_behind, is_in, last_id, span_of}
-use Rattle.bac_check.specs.Holes.{Has, Have, HasOne, end_of}
+use Rattle.bac_check.specs.Holes.{Has, HasOne, end_of}
 use Rattle.bac_check.specs.Lines.{course_text, epoch_line, holes_of, holes_text, is_none_of, is_whole, text_in}
 use Rattle.bac_check.specs.Tallies.{IsTallied}
 use Rattle.bac_check.specs.declared.course.Course.{Course}

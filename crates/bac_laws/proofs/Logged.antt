@@ -1,8 +1,8 @@
 -- What `bac log` printed came, and has each number once.
-use Rattle.std.proofs.Common.{◌≡◌, ◌⊎◌, ◌++◌, ◌&&◌, ◌≤◌, ℕ, zero, suc, Bool, true, false, List, [], ◌∷◌, length, Option, None, Some, Result, Ok, Err, inl, inr, refl, sym, subst, ap, append-nil, append_assoc, ◌∙◌, if◌then◌else◌}
+use Rattle.std.proofs.Common.{◌≡◌, ◌++◌, ◌&&◌, ◌≤◌, ℕ, zero, suc, Bool, true, false, List, [], ◌∷◌, length, Option, None, Some, Result, Ok, Err, inl, inr, refl, sym, subst, ap, append-nil, append_assoc, ◌∙◌, if◌then◌else◌}
 use Rattle.std.specs.List.{Contains}
 use Rattle.std.specs.Str.{bytes_eq}
-use Rattle.std.specs.Io.KnownBytes.{Appends, Keeps}
+use Rattle.std.specs.Io.KnownBytes.{Appends}
 use Rattle.std.proofs.lemmas.Slice.Eq.{bytes_eq-Decides}
 use Rattle.sqlite_disk.specs.declared.Disk as disk
 use Rattle.sqlite_disk.specs.declared.start.Start as start
@@ -18,41 +18,37 @@ use Rattle.bac_tools.specs.Faults.{of_query}
 use Rattle.bac_tools.specs.LogEnds.{of_why}
 use Rattle.bac_tools.specs.Status.{exit_status}
 use Rattle.bac_tools.specs.declared.fault.Fault.{Fault}
-use Rattle.bac_laws.proofs.Asked.{Leads, alike}
+use Rattle.bac_laws.proofs.Asked.{Leads}
 use Rattle.bac_laws.proofs.Came.{Any, Hears, Known, run_caught_up, run_known, run_limited}
 use Rattle.bac_laws.proofs.Statuses.{Ended as HasStatus, ended, failed, unasked_memory, unasked_one, unasked_two}
 use Rattle.bac_laws.proofs.Tools.{is_left, left_so}
 use Rattle.bac_laws.proofs.Walked.{brought}
-use Rattle.bac_laws.specs.Printed.{BeginAt, CameFrom, EndsWell, HasNoMore, HasRecord, HaveEachOnce, Ledger, PrintsLog}
+use Rattle.bac_laws.specs.Printed.{CameFrom, EndsWell, HasNoMore, HasRecord, HaveEachOnce, Ledger, PrintsLog}
 use Rattle.bac_link.specs.Datagrams.{answers_to}
 use Rattle.bac_link.specs.Exchanges.{Ask}
-use Rattle.bac_link.specs.Laws.{CoversEach}
 use Rattle.bac_link.specs.declared.item.Item.{Item}
 use Rattle.bac_link.specs.declared.item.Item.TheVariants.{Gap, Logged}
 use Rattle.bac_link.specs.declared.link.Lost.{Lost}
-use Rattle.bac_link.specs.declared.transactions.Transactions.{Transactions}
-use Rattle.bac_log.specs.TrendLog.{sequence_number}
 use Rattle.bac_log.specs.declared.entry.Entry.{Entry}
 use Rattle.bac_heeding.specs.declared.notes.Passed.{Passed}
-use Rattle.bac_ports.specs.Asking.{Asks, Awaits, IsHeard, IsSent, IsTaken, fitting, fitting_of, to_peer}
-use Rattle.bac_ports.specs.Port.{Receiving, Sending}
-use Rattle.bac_ports.specs.Sockets.{SocketRules, UsesSocket, link_over, own_address, socket_asks}
+use Rattle.bac_ports.specs.Asking.{Asks, Awaits, IsSent, IsTaken, fitting, fitting_of, to_peer}
+use Rattle.bac_ports.specs.Port.{Sending}
+use Rattle.bac_ports.specs.Sockets.{SocketRules, link_over, socket_asks}
 use Rattle.bac_ports.specs.declared.port.Heard.{Heard}
 use Rattle.bac_ports.specs.declared.udp_link.UdpLink.{UdpLink}
 use Rattle.bac_print.specs.Output.{AppendsPart, Held}
-use Rattle.bac_query.specs.Ahead.{Errand, FetchesAhead, IsLeftAhead, errand}
+use Rattle.bac_query.specs.Ahead.{FetchesAhead, errand}
 use Rattle.bac_query.specs.Ends.{end_line}
 use Rattle.bac_query.specs.Fetching.{Course, Fetching, TellsRun, course}
 use Rattle.bac_query.specs.Items.{items_text}
 use Rattle.bac_query.specs.Reading.{Printing, Session, printing}
 use Rattle.bac_query.specs.Tables.{client}
 use Rattle.bac_query.specs.declared.fault.QueryFault.TheVariants.{Exchange, Write, Memory}
-use Rattle.bac_query.specs.declared.layout.Layout.{Layout}
-use Rattle.bac_query.specs.declared.layout.Layout.TheVariants.{Lines, Csv}
+use Rattle.bac_query.specs.declared.layout.Layout.TheVariants.{Lines}
 use Rattle.bac_tools.specs.Asking.{Fetches, FetchesOver, of_fetching}
 use Rattle.bac_tools.specs.Ending.{Ending}
 use Rattle.bac_tools.specs.Run.{Ends, IsNoWalk, Runs, Works, layout_of, trend_log, walk_from}
-use Rattle.bac_tools.specs.Sockets.{IsDoneOver, Outlets, binding, outside, transactions_with}
+use Rattle.bac_tools.specs.Sockets.{Outlets, outside, transactions_with}
 use Rattle.bac_tools.specs.Streams.{Streams, outlets_of, streams, with_errors}
 use Rattle.bac_tools.specs.declared.fault.Fault.TheVariants as fault
 use Rattle.bac_walk.proofs.Follows.{brought_goes}
@@ -60,7 +56,6 @@ use Rattle.bac_walk.proofs.Transacted.{brought_plain}
 use Rattle.bac_walk.specs.Came.{Came}
 use Rattle.bac_walk.specs.Collects.{Goes}
 use Rattle.bac_walk.specs.Outcomes.{IsRunOf}
-use Rattle.bac_walk.specs.Place.{WalkPlace}
 use Rattle.bac_walk.specs.Transacted.{BroughtBy, WalkBy, walk_by}
 use Rattle.bac_walk.specs.declared.flaw.ReplyFlaw.{ReplyFlaw}
 use Rattle.bac_walk.specs.declared.outcome.Ended.{Ended}

@@ -1,18 +1,15 @@
 -- What isn't lost, by what `run` leaves.
-use Rattle.std.proofs.Common.{◌≡◌, List, [], ◌∷◌, Option, None, Some, IfSome, sym, ap, ◌∙◌}
+use Rattle.std.proofs.Common.{◌≡◌, [], ◌∷◌, ap, ◌∙◌}
 use Rattle.sqlite_disk.specs.declared.Disk as disk
-use Rattle.sqlite_disk.specs.declared.Files.{Files}
 use Rattle.sqlite_disk.specs.declared.start.Start as start
 use Rattle.sqlite_wal.specs.Files.{image_at}
-use Rattle.sqlite_value.specs.Order.{Row as Columns, column}
+use Rattle.sqlite_value.specs.Order.{column}
 use Rattle.sqlite_value.specs.declared.value.Value.{Value}
 use Rattle.sqlite.specs.Effect.{Database}
-use Rattle.bac_archive.specs.Schema.{HasArchive}
-use Rattle.bac_fetch.specs.Stays.{HasAllOf}
-use Rattle.bac_files.specs.Files.{FileOf, IsDoneTo}
+use Rattle.bac_files.specs.Files.{FileOf}
 use Rattle.bac_files.specs.declared.disk_files.DiskFiles.{DiskFiles}
 use Rattle.bac_keeper.specs.Archives.{LosesNothing}
-use Rattle.bac_laws.specs.Lost.{HasLog, LosesNone}
+use Rattle.bac_laws.specs.Lost.{LosesNone}
 use Rattle.bac_offline.proofs.BegunLemmas.{done_so}
 use Rattle.bac_run.specs.Run.{Leaves}
 

@@ -1,5 +1,5 @@
 -- What `bac rp` and `bac wp` do, as events.
-use Rattle.std.proofs.Common.{◌≡◌, ◌≢◌, ◌⊎◌, ◌++◌, ℕ, Bool, List, [], ◌∷◌, Option, None, Some, Result, Ok, Err, inl, inr, refl, sym, subst, ap, ◌∙◌}
+use Rattle.std.proofs.Common.{◌≡◌, ◌⊎◌, ◌++◌, ℕ, Bool, List, [], ◌∷◌, Option, None, Some, Result, Ok, Err, inl, inr, refl, sym, subst, ap, ◌∙◌}
 use Rattle.std.specs.Prelude.{codes}
 use Rattle.std.specs.Io.KnownBytes.{Appends, Keeps}
 use Rattle.bac_apdu.specs.Service.WriteProperty.{write_of_code}
@@ -15,7 +15,6 @@ use Rattle.bac_link.specs.Datagrams.{apdu_in}
 use Rattle.bac_link.specs.declared.exchanges.ExchangeFault.{ExchangeFault}
 use Rattle.bac_link.specs.declared.exchanges.ExchangeFault.TheVariants as exchange
 use Rattle.bac_link.specs.declared.exchanges.Verdict.{Verdict}
-use Rattle.bac_link.specs.declared.exchanges.Verdict.TheVariants.{Refused, BadReply}
 use Rattle.bac_link.specs.declared.request.Request.{Request}
 use Rattle.bac_link.specs.declared.request.Request.TheVariants as request
 use Rattle.bac_ports.specs.Sockets.{SocketRules, link_over, own_address}

@@ -1,13 +1,12 @@
 -- A seal stays whole over a socket that is asked over for what may be sent.
-use Rattle.std.proofs.Common.{◌≡◌, ◌⊎◌, ◌&&◌, ℕ, zero, suc, Bool, true, List, [], ◌∷◌, Option, None, Some, Result, Ok, Err, inl, inr, refl, sym, subst, ◌∙◌, ap}
+use Rattle.std.proofs.Common.{◌≡◌, ℕ, zero, suc, true, List, Option, None, Some, Result, Ok, Err, refl, sym, subst, ◌∙◌}
 use Rattle.bac_laws.proofs.Asked.{Leads}
 use Rattle.bac_laws.specs.Sends.{Requests, Seal}
-use Rattle.bac_link.specs.Path.{Path}
 use Rattle.bac_link.specs.Requests.{request_octets}
 use Rattle.bac_link.specs.declared.link.Lost.{Lost}
 use Rattle.bac_link.specs.declared.request.Request.{Request}
-use Rattle.bac_ports.specs.Asking.{Asks, Awaits, IsHeard, IsSent, IsTaken, fitting, to_peer}
-use Rattle.bac_ports.specs.Port.{Receiving, Sending}
+use Rattle.bac_ports.specs.Asking.{Asks, Awaits, IsSent, IsTaken, fitting, to_peer}
+use Rattle.bac_ports.specs.Port.{Sending}
 use Rattle.bac_ports.specs.Sockets.{SocketRules, UsesSocket, link_over, socket_asks}
 use Rattle.bac_ports.specs.declared.udp_link.UdpLink.{UdpLink}
 

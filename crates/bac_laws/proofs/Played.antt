@@ -1,5 +1,5 @@
 -- What `replay` prints, by what `run` does for its words.
-use Rattle.std.proofs.Common.{◌≡◌, ◌≢◌, ◌⊎◌, ℕ, suc, Bool, List, [], ◌++◌, Option, None, Some, Result, Ok, Err, inl, inr, refl, sym, ap, subst, ◌∙◌}
+use Rattle.std.proofs.Common.{◌≡◌, ℕ, Bool, List, [], Option, None, Some, Result, Ok, Err, inl, inr, refl, sym, subst, ◌∙◌}
 use Rattle.std.specs.Io.KnownBytes.{Appends, Keeps}
 use Rattle.sqlite_disk.specs.declared.Disk as disk
 use Rattle.sqlite_disk.specs.declared.start.Start as start
@@ -22,8 +22,8 @@ use Rattle.bac_script.specs.declared.replay.fault.ReplayFault.TheVariants as rep
 use Rattle.bac_tools.specs.Ending.{Ending}
 use Rattle.bac_tools.specs.Playing.{Plays, of_replay}
 use Rattle.bac_tools.specs.Run.{Ends, IsTold, Runs}
-use Rattle.bac_tools.specs.Status.{exit_status, script_status}
-use Rattle.bac_tools.specs.Streams.{Streams, streams, with_errors}
+use Rattle.bac_tools.specs.Status.{script_status}
+use Rattle.bac_tools.specs.Streams.{Streams, streams}
 use Rattle.bac_tools.specs.declared.fault.Fault.TheVariants as fault
 use Rattle.bac_wire.specs.Stamp.{CivilTime}
 use Rattle.bac_words.specs.declared.job.Job.TheVariants as job

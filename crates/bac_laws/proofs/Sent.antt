@@ -1,8 +1,7 @@
 -- What the whole program leaves whole.
-use Rattle.std.proofs.Common.{◌≡◌, ◌⊎◌, ℕ, Bool, true, false, List, [], ◌∷◌, ◌++◌, map, Option, None, Some, Result, Ok, Err, inl, inr, refl, sym, subst, ap, ◌∙◌}
+use Rattle.std.proofs.Common.{◌≡◌, ℕ, Bool, true, false, List, [], ◌∷◌, map, Option, None, Some, Ok, Err, inl, inr, refl, sym, subst}
 use Rattle.std.specs.List.{Contains}
 use Rattle.std.proofs.lemmas.List.Elements.{Contains-append_left, Contains-append_right, Contains-push}
-use Rattle.clap.specs.Words.{Text}
 use Rattle.sqlite_disk.specs.declared.Disk as disk
 use Rattle.sqlite_disk.specs.declared.start.Start as start
 use Rattle.bac_fetch.specs.Ahead.{AtOnce}
@@ -10,20 +9,18 @@ use Rattle.bac_files.specs.Files.{FileOf}
 use Rattle.bac_files.specs.Parts.{PartRules}
 use Rattle.bac_files.specs.declared.disk_files.DiskFiles.{DiskFiles}
 use Rattle.bac_heeding.specs.declared.notes.Passed.{Passed}
-use Rattle.bac_laws.proofs.Over.{StaysWhole, still, used}
+use Rattle.bac_laws.proofs.Over.{StaysWhole, still}
 use Rattle.bac_laws.proofs.Tools.{done_over, fetches, lists, reads, writes}
-use Rattle.bac_laws.specs.Sends.{AsksWho, Beside, IsBound, IsStation, MaySend, Seal, SendsOnly}
+use Rattle.bac_laws.specs.Sends.{Beside, IsBound, IsStation, MaySend, Seal, SendsOnly}
 use Rattle.bac_ports.specs.Port.{Receiving}
 use Rattle.bac_ports.specs.Sockets.{SocketRules, own_address}
-use Rattle.bac_print.specs.Output.{Held}
 use Rattle.bac_query.specs.Ahead.{errand}
-use Rattle.bac_query.specs.Finding.{Console, Finds as FindsDevices, console, unasked}
+use Rattle.bac_query.specs.Finding.{unasked}
 use Rattle.bac_query.specs.Hearing.{Left, ReceivesBy, Standing, port_rules}
 use Rattle.bac_query.specs.Requests.{who_is_octets}
 use Rattle.bac_query.specs.Turns.{Along, ComesTo, Received, Sent, Turn, asked_in}
-use Rattle.bac_query.specs.declared.search.Search.{Search}
 use Rattle.bac_recall.specs.declared.conversations.Conversation.{Conversation}
-use Rattle.bac_run.specs.Run.{DoesAll, RunsAll, RunsGroups, RunsKeep, RunsKeepBy}
+use Rattle.bac_run.specs.Run.{DoesAll, RunsAll, RunsGroups, RunsKeepBy}
 use Rattle.bac_tools.specs.Ending.{Ending}
 use Rattle.bac_tools.specs.Finding.{Finds, Inquiry, Searches, inquiry, search_of}
 use Rattle.bac_tools.specs.Run.{Runs, Works, layout_of, question, reals_of, trend_log, walk_from}

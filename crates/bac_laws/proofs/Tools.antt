@@ -1,36 +1,31 @@
 -- What the tools leave whole that ask over one socket.
-use Rattle.std.proofs.Common.{◌≡◌, ◌⊎◌, ℕ, Bool, true, List, [], ◌∷◌, ◌++◌, Option, None, Some, Result, Ok, Err, inl, inr, refl, sym, subst, ap, ◌∙◌}
-use Rattle.std.specs.List.{Contains}
+use Rattle.std.proofs.Common.{◌≡◌, ℕ, true, List, Ok, Err, inl, inr, refl}
 use Rattle.std.specs.Io.KnownBytes.{Keeps}
 use Rattle.bac_apdu.specs.declared.service.read_property.ReadProperty.{ReadProperty}
 use Rattle.bac_apdu.specs.declared.service.write_property.WriteProperty.{WriteProperty}
 use Rattle.bac_laws.proofs.Asked.{Leads, alike, exchanged}
-use Rattle.bac_laws.proofs.Over.{StaysWhole, StaysSo, linked, over_link, still, used}
+use Rattle.bac_laws.proofs.Over.{StaysWhole, StaysSo, linked, over_link, used}
 use Rattle.bac_laws.proofs.Walked.{brought, lists_logs}
 use Rattle.bac_laws.specs.Sends.{IsReadProperty, IsReadRange, IsWriteProperty, Requests, Seal}
 use Rattle.bac_link.specs.Exchanges.{Ask}
-use Rattle.bac_link.specs.declared.item.Item.{Item}
-use Rattle.bac_link.specs.declared.request.Request.{Request}
 use Rattle.bac_link.specs.declared.request.Request.TheVariants as request
 use Rattle.bac_link.specs.declared.transactions.Transactions.{Transactions}
 use Rattle.bac_ports.specs.Sockets.{SocketRules, link_over, own_address, socket_asks}
-use Rattle.bac_ports.specs.declared.port.OpenFault.{OpenFault}
 use Rattle.bac_ports.specs.declared.udp_link.UdpLink.{UdpLink}
 use Rattle.bac_print.specs.Output.{Held}
 use Rattle.bac_query.specs.Ahead.{Errand, FetchesAhead, IsLeftAhead}
 use Rattle.bac_query.specs.Fetching.{Course, Fetching, TellsRun, course}
-use Rattle.bac_query.specs.Reading.{Answer, Printing, ReadsOver, Session, next_way, printing}
+use Rattle.bac_query.specs.Reading.{Printing, ReadsOver, Session, next_way, printing}
 use Rattle.bac_query.specs.Writing.{WritesOver}
 use Rattle.bac_query.specs.Tables.{ListsLogs, client}
 use Rattle.bac_query.specs.declared.fault.QueryFault.TheVariants.{Exchange, Write, Memory}
 use Rattle.bac_query.specs.declared.layout.Layout.{Layout}
 use Rattle.bac_query.specs.declared.reals.Reals.{Reals}
-use Rattle.bac_tools.specs.Asking.{AsksDevice, Fetches, FetchesOn, FetchesOver, Lists, OverLink, Reads, SaysOf, Writes, of_answer, of_fetching}
+use Rattle.bac_tools.specs.Asking.{AsksDevice, Fetches, FetchesOver, Lists, OverLink, Reads, SaysOf, Writes, of_answer, of_fetching}
 use Rattle.bac_tools.specs.Ending.{Ending}
 use Rattle.bac_tools.specs.Sockets.{Binding, IsDoneOver, Outlets, Outside, binding, outside, transactions_with}
 use Rattle.bac_walk.specs.Place.{WalkPlace}
 use Rattle.bac_walk.specs.Transacted.{walk_by}
-use Rattle.bac_walk.specs.declared.outcome.Ended.{Ended}
 use Rattle.bac_walk.specs.declared.outcome.Why.{Why}
 use Rattle.bac_walk.specs.declared.outcome.Why.TheVariants as why
 use Rattle.bac_wire.specs.Primitive.{Id}

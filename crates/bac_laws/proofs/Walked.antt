@@ -1,21 +1,19 @@
 -- What a run of a walk leaves so, and the questions for properties, by what one exchange does.
-use Rattle.std.proofs.Common.{◌≡◌, ◌≢◌, ◌⊎◌, ℕ, zero, suc, ◌+◌, ◌++◌, List, [], ◌∷◌, Result, Ok, Err, inl, inr, refl, sym, subst}
+use Rattle.std.proofs.Common.{◌≡◌, ℕ, zero, suc, ◌+◌, List, [], ◌∷◌, Result, Ok, Err, inl, inr, sym, subst}
 use Rattle.bac_apdu.specs.declared.service.read_property.ReadProperty.{ReadProperty}
 use Rattle.bac_apdu.specs.declared.service.read_range.ReadRange.{ReadRange}
 use Rattle.bac_laws.proofs.Asked.{Leads, alike, exchanged}
-use Rattle.bac_link.specs.Exchanges.{Ask, Client, client, next_way}
+use Rattle.bac_link.specs.Exchanges.{Ask, Client, next_way}
 use Rattle.bac_link.specs.Links.{question}
 use Rattle.bac_link.specs.declared.exchanges.ExchangeFault.{ExchangeFault}
 use Rattle.bac_link.specs.declared.item.Item.{Item}
 use Rattle.bac_link.specs.declared.request.Request.{Request}
 use Rattle.bac_link.specs.declared.request.Request.TheVariants as request
 use Rattle.bac_link.specs.declared.transactions.Transactions.{Transactions}
-use Rattle.bac_print.specs.Output.{Held}
-use Rattle.bac_query.specs.Reading.{Answer, Printing, Session, printing}
+use Rattle.bac_query.specs.Reading.{Answer, Session, printing}
 use Rattle.bac_query.specs.Tables as table
 use Rattle.bac_query.specs.Tables.{Questions, Row}
 use Rattle.bac_query.specs.ObjectList.{list_at, whole_list}
-use Rattle.bac_query.specs.declared.fault.QueryFault.{QueryFault}
 use Rattle.bac_query.specs.declared.fault.QueryFault.TheVariants.{Exchange, Write, Memory}
 use Rattle.bac_walk.specs.Came.{Came, restarted}
 use Rattle.bac_walk.specs.Place.{WalkPlace}

@@ -1,5 +1,5 @@
 -- Nothing that an archive has is lost. Read `LosesNone`.
-use Rattle.std.specs.Prelude.{◌≡◌, ℕ, pos, ◌+◌, ◌*◌, List, [], ◌∷◌}
+use Rattle.std.specs.Prelude.{◌≡◌, ℕ, pos, ◌+◌, ◌*◌, [], ◌∷◌}
 use Rattle.std.specs.List.{Contains}
 use Rattle.sqlite_value.specs.Order.{Row as Columns, column}
 use Rattle.sqlite_value.specs.declared.value.Value.TheVariants.{Null, Int}

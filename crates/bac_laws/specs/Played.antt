@@ -1,5 +1,5 @@
 -- What `bac replay` prints of a script, and with which status it ends. Read `PlaysScript`.
-use Rattle.std.specs.Prelude.{◌≡◌, ℕ, List, Option, None, Some}
+use Rattle.std.specs.Prelude.{◌≡◌, ℕ, List, None, Some}
 use Rattle.std.specs.Io.KnownBytes.{Appends}
 use Rattle.bac_print.specs.Output.{AppendsPart, Held}
 use Rattle.bac_script.specs.Replay.{fault_of_script, text_of}
