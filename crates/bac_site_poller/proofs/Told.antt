@@ -1,0 +1,24 @@
+-- What a site makes of an event, without the port and the clock.
+use Rattle.std.proofs.Common.{◌≡◌, ℕ, List}
+use Rattle.bac_ports.specs.Port.{Receiving, Sending}
+use Rattle.bac_drive.specs.Event.{Event, Kept, Printed, Read, Sent, Waited, Warned}
+use Rattle.bac_drive.specs.Happens.{IsTold}
+use Rattle.bac_site_poller.specs.Site.{SiteHears, SiteState, site_read}
+use Rattle.bac_site_poller.specs.SiteLaws.{site_acts}
+
+abbrev pub ToldSite : SiteState → Event → SiteState → Type 0
+ToldSite old (Waited within heard) new = SiteHears old heard new
+ToldSite old (Read ms) new = new ≡ site_read ms old
+ToldSite old (Sent octets to answer) new = new ≡ old
+ToldSite old (Kept puts) new = new ≡ old
+ToldSite old (Printed text) new = new ≡ old
+ToldSite old (Warned text) new = new ≡ old
+
+pub told_site : {P C : Type 0} (sends : P → List ℕ → List ℕ → Sending → P → Type 0) (receives : P → ℕ → Receiving → P → Type 0) (tells : C → ℕ → C → Type 0)
+    (old new : SiteState) (e : Event) → IsTold (site_acts sends receives tells) old e new → ToldSite old e new
+told_site sends receives tells old new (Waited within heard) is = is
+told_site sends receives tells old new (Read ms) is = is
+told_site sends receives tells old new (Sent octets to answer) is = is
+told_site sends receives tells old new (Kept puts) is = is
+told_site sends receives tells old new (Printed text) is = is
+told_site sends receives tells old new (Warned text) is = is

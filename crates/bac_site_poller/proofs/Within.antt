@@ -1,0 +1,102 @@
+-- What is heard, and what time makes of it, keep the limits.
+use Rattle.std.proofs.Common.{◌≡◌, ◌≤◌, ℕ, Bool, true, false, not, cond, if◌then◌else◌, List, [], ◌∷◌, map, max, take, length, Option, Some, None, Ok, Err, nat_le, refl, ap, arith}
+use Rattle.std.proofs.lemmas.List.{length-map}
+use Rattle.std.proofs.lemmas.List.Sums.{sum_by-cons}
+use Rattle.std.specs.List.{count_by}
+use Rattle.std.specs.Str.{bytes_eq}
+use Rattle.bac_wire.specs.Stamp.{CivilTime}
+use Rattle.bac_ports.specs.Port.{Receiving}
+use Rattle.bac_device_poll.specs.declared.way.Way.{Way}
+use Rattle.bac_device_poller.specs.Poller.{PollerAs, is_answer, missed}
+use Rattle.bac_site_poller.specs.Seat.{is_at, is_due, is_first, is_known, seat_heard, seat_read}
+use Rattle.bac_site_poller.specs.Site.{IsWithin, SiteState, given, site_heard}
+use Rattle.bac_site_poller.specs.SiteLaws.{OthersNotHeeded, StaysWithin}
+use Rattle.bac_site_poller.specs.declared.seat.Seat.{Seat}
+use Rattle.bac_site_poller.proofs.Same.{way_heard, way_missed}
+use Rattle.bac_site_poller.proofs.Strays.{length_heeded, sum_heeded}
+
+-- ---- the address stays
+
+of_both_seats : (peer : List ℕ) (b : Bool) (s t : Seat) → s.poller.way.peer ≡ peer → t.poller.way.peer ≡ peer → (if b then s else t).poller.way.peer ≡ peer
+of_both_seats peer true s t is also = is
+of_both_seats peer false s t is also = also
+
+pub peer_heard : (from datagram : List ℕ) (now : CivilTime) (s : Seat) → (seat_heard from datagram now s).poller.way.peer ≡ s.poller.way.peer
+peer_heard from datagram now s = ap (λ (way : Way). way.peer) (way_heard from datagram now s.poller)
+
+pub peer_read : (now : ℕ) (s : Seat) → (seat_read now s).poller.way.peer ≡ s.poller.way.peer
+peer_read now s = of_both_seats s.poller.way.peer (is_due now s) _ s (ap (λ (way : Way). way.peer) (way_missed s.poller)) refl
+
+-- ---- so do the counts, or they fall
+
+abbrev pub tally : Bool → ℕ
+tally b = cond b 1 0
+
+-- what a step makes of a seat passes no test more
+abbrev pub NoMore : (Seat → Bool) → (Seat → Seat) → Type 0
+NoMore test f = (s : Seat) → tally (test (f s)) ≤ tally (test s)
+
+counted : (test : Seat → Bool) (f : Seat → Seat) → NoMore test f → (seats : List Seat) → count_by test (map f seats) ≤ count_by test seats
+counted test f none [] = omega arith
+counted test f none (s ∷ seats) =
+    let first : tally (test (f s)) ≤ tally (test s) = none s in
+    let rest = counted test f none seats in
+    omega (arith, first, rest, sum_by-cons (λ (x : Seat). tally (test x)) s seats, sum_by-cons (λ (x : Seat). tally (test x)) (f s) (map f seats))
+
+none_at : (f : Seat → Seat) → ((s : Seat) → (f s).poller.way.peer ≡ s.poller.way.peer) → (peer : List ℕ) → NoMore (is_at peer) f
+none_at f same peer s =
+    let e : tally (is_at peer (f s)) ≡ tally (is_at peer s) = ap (λ (q : List ℕ). tally (bytes_eq (take 4 q) (take 4 peer))) (same s) in omega (arith, e)
+
+pub none_heard : (from datagram : List ℕ) (now : CivilTime) → NoMore is_first (seat_heard from datagram now)
+none_heard from datagram now s = omega arith
+
+pub none_read : (now : ℕ) → NoMore is_first (seat_read now)
+none_read now s = by (is_due now s)
+  where
+    by : (b : Bool) → tally (is_first (if b then record s { poller = missed s.poller; is_repeated = true } else s)) ≤ tally (is_first s)
+    by true = omega arith
+    by false = omega arith
+
+mapped : (f : Seat → Seat) → ((s : Seat) → (f s).poller.way.peer ≡ s.poller.way.peer) → NoMore is_first f → (first_most each most : ℕ) (seats : List Seat) →
+    count_by is_first seats ≤ first_most → length seats ≤ most → ((peer : List ℕ) → count_by (is_at peer) seats ≤ each) →
+    (count_by is_first (map f seats) ≤ first_most) × (length (map f seats) ≤ most) × ((peer : List ℕ) → count_by (is_at peer) (map f seats) ≤ each)
+mapped f same none first_most each most seats first few at = (
+  let c = counted is_first f none seats in omega (arith, c, first),
+  omega (arith, few, length-map seats f),
+  λ peer. let c = counted (is_at peer) f (none_at f same peer) seats in let before = at peer in omega (arith, c, before),
+)
+
+-- ---- what nobody asked for
+
+other : (b : Bool) (heard : PollerAs) (s : Seat) → b ≡ false → record s { poller = if b then heard else s.poller } ≡ s
+other true heard s not = absurd (let e : true ≡ false = not in cc)
+other false heard s not = refl
+
+pub others_not_heeded : OthersNotHeeded
+others_not_heeded = λ from datagram now s. (λ not. other (is_answer s.poller from datagram) _ s not, refl)
+
+-- ---- the limits
+
+heard_within : (s : SiteState) → IsWithin s → (now : CivilTime) (heard : Receiving) → IsWithin (site_heard now heard s)
+heard_within s within now (Err fault) = within
+heard_within s within now (Ok heard) = by heard.datagram
+  where
+    by : (o : Option (List ℕ)) → IsWithin (record s { is_stale = true; active = given heard.from o now s.active })
+    by None = within
+    by (Some datagram) =
+        let from = heard.from in
+        let known = is_known from s.active in
+        let seats = map (seat_heard from datagram now) s.active in
+        let more = mapped (seat_heard from datagram now) (peer_heard from datagram now) (none_heard from datagram now) s.limits.at_once s.limits.at_host s.limits.most s.active within.0 within.1 within.2 in (
+          omega (arith, more.0, sum_heeded (λ (x : Seat). tally (is_first x)) from datagram (λ x. refl) known seats),
+          omega (arith, more.1, length_heeded from datagram known seats),
+          λ peer. let e = more.2 peer in omega (arith, e, sum_heeded (λ (x : Seat). tally (is_at peer x)) from datagram (λ x. refl) known seats),
+        )
+
+pub stays_within : StaysWithin
+stays_within = λ s within. (
+  heard_within s within,
+  λ ms.
+      let now = max s.time ms in
+      mapped (seat_read now) (peer_read now) (none_read now) s.limits.at_once s.limits.at_host s.limits.most s.active within.0 within.1 within.2,
+)

@@ -1,0 +1,171 @@
+//! One device of a site.
+
+ghost use Rattle.std.specs.Prelude.{◌≡◌, [], IfNone, IfOk, IfSome, count_by, map};
+ghost use Rattle.bac_device_poller.specs.Poller.{is_waiting};
+ghost use Rattle.bac_site_poller.specs.Seat.{Wants, is_at, is_first, is_known, is_stray, noticed};
+ghost use Rattle.bac_site_poller.specs.Seat.{seat_heard, seat_read};
+ghost use Rattle.bac_site_poller.specs.Site.{IsNearest, MayAct, NoneActs};
+
+use bac_device_poller::{DevicePoller, Doing};
+use bac_drive::Next;
+use bac_wire::{Datagram, Stamp};
+use std::alloc::{AllocError, Global};
+
+/// A device, and its poll.
+#[derive(Drop)]
+pub struct Seat {
+    pub poller: DevicePoller,
+    /// Until when the send of its question is waited for.
+    pub due: u64,
+    /// Whether its question was sent more than once.
+    pub is_repeated: bool,
+    /// From where else an answer to its question came.
+    pub stray: Option<[u8; 6]>,
+}
+
+/// What the poll of a device wants. Of one that has ended nothing is wanted, and the clock is read.
+pub fn want(poller: &mut DevicePoller, alloc: Global) -> Result<Next, AllocError>
+    ensures { IfOk result (λ next. Wants poller.old.doing poller.old next poller.new) }
+{
+    match poller.doing() {
+        Doing::Ended(_) => Ok(Next::Read),
+        Doing::Asks => poller.next(alloc),
+        Doing::Resends(_) => poller.next(alloc),
+        Doing::Waits => poller.next(alloc),
+        Doing::Hears(_) => poller.next(alloc),
+        Doing::Loses => poller.next(alloc),
+        Doing::Tells(_) => poller.next(alloc),
+    }
+}
+
+impl Seat {
+    /// Whether a send of its question is waited for.
+    pub fn is_waiting(&self) -> bool
+        ensures { result ≡ is_waiting self.now.poller.doing }
+    {
+        self.poller.is_waiting()
+    }
+
+    /// A datagram came from an address, at a moment. Its poll takes it, if it answers its open
+    /// question.
+    pub fn hear(&mut self, from: [u8; 6], datagram: &Datagram, now: Stamp)
+        ensures { self.new ≡ seat_heard from datagram.now now self.old }
+    {
+        self.poller.hear(from, datagram, now);
+    }
+
+    /// Whether a datagram would answer its open request, if it came from its device.
+    fn is_stray(&self, from: [u8; 6], datagram: &Datagram) -> bool
+        ensures { result ≡ is_stray from datagram.now self.now }
+    {
+        if from == self.poller.peer() {
+            return false;
+        }
+        self.poller.awaits(datagram)
+    }
+
+    /// A datagram came from an address where no device is asked.
+    pub fn notice(&mut self, from: [u8; 6], datagram: &Datagram)
+        ensures { self.new ≡ noticed from datagram.now self.old }
+    {
+        if self.is_stray(from, datagram) {
+            self.stray = Some(from);
+        }
+    }
+
+    /// The clock tells so many milliseconds.
+    pub fn read(&mut self, now: u64)
+        ensures { self.new ≡ seat_read now self.old }
+    {
+        if self.is_waiting() && self.due <= now {
+            self.poller.miss();
+            self.is_repeated = true;
+        }
+    }
+}
+
+/// The place of one that isn't waiting.
+pub fn acting(seats: &[Seat]) -> Option<usize>
+    ensures some { IfSome result (λ place. MayAct seats.now place) }
+    ensures none { IfNone result (NoneActs seats.now) }
+{
+    for (place, seat) in seats.iter().enumerate() {
+        if !seat.is_waiting() {
+            return Some(place);
+        }
+    }
+    None
+}
+
+/// Until when the next of them is waited for.
+pub fn nearest(seats: &[Seat]) -> Option<u64>
+    ensures some { IfSome result (λ due. IsNearest seats.now due) }
+    ensures none { IfNone result (seats.now ≡ []) }
+{
+    let mut nearest = seats.first()?.due;
+    for seat in seats {
+        nearest = nearest.min(seat.due);
+    }
+    Some(nearest)
+}
+
+/// How many have a question that was sent no more than once.
+pub fn count_first(seats: &[Seat]) -> usize
+    ensures { result ≡ count_by is_first seats.now }
+{
+    let mut count = 0;
+    for seat in seats {
+        if !seat.is_repeated {
+            count += 1;
+        }
+    }
+    count
+}
+
+/// How many are at the host of an address.
+pub fn count_at(seats: &[Seat], peer: [u8; 6]) -> usize
+    ensures { result ≡ count_by (is_at peer) seats.now }
+{
+    let mut count = 0;
+    for seat in seats {
+        let at = seat.poller.peer();
+        if at[..4] == peer[..4] {
+            count += 1;
+        }
+    }
+    count
+}
+
+/// A datagram came from an address, at a moment.
+pub fn hear_all(seats: &mut [Seat], from: [u8; 6], datagram: &Datagram, now: Stamp)
+    ensures { seats.new ≡ map (seat_heard from datagram.now now) seats.old }
+{
+    for seat in seats.iter_mut() {
+        seat.hear(from, datagram, now);
+    }
+}
+
+/// Whether one of them is asked at an address.
+pub fn is_known(seats: &[Seat], from: [u8; 6]) -> bool
+    ensures { result ≡ is_known from seats.now }
+{
+    seats.iter().any(|seat| seat.poller.peer() == from)
+}
+
+/// A datagram came from an address where none of them is asked.
+pub fn notice_all(seats: &mut [Seat], from: [u8; 6], datagram: &Datagram)
+    ensures { seats.new ≡ map (noticed from datagram.now) seats.old }
+{
+    for seat in seats.iter_mut() {
+        seat.notice(from, datagram);
+    }
+}
+
+/// The clock tells so many milliseconds.
+pub fn read_all(seats: &mut [Seat], now: u64)
+    ensures { seats.new ≡ map (seat_read now) seats.old }
+{
+    for seat in seats.iter_mut() {
+        seat.read(now);
+    }
+}
