@@ -13,6 +13,7 @@ mod Polls
 mod Questions
 mod Keeps
 mod Lefts
+mod Quiet
 mod Hours
 mod Takes
 mod Looks

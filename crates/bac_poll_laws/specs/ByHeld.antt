@@ -1,5 +1,5 @@
--- How many questions a poll asks at most of a log that goes on, whose device's replies show none but records that it
--- holds: by the records that it keeps, and those that the log held.
+-- How many questions a poll asks at most of a log whose device shows none but records that it holds: by the records
+-- that it keeps, and those that the log held.
 use Rattle.std.specs.Prelude.{ℕ, ◌+◌, ◌-◌, ◌*◌, ◌<◌, ◌≤◌, ◌≡◌, List, [], ◌∷◌, Option, length}
 use Rattle.bac_wire.specs.Primitive.{Id}
 use Rattle.bac_link.specs.Delivery.{History, Moment}
