@@ -24,7 +24,7 @@ use Rattle.bac_device_poll.specs.Turns.{Turned, asks}
 use Rattle.bac_device_poll.specs.Values.{IsText, date_of, enumerated_of, number_of, object_of, objects_of, time_of}
 use Rattle.bac_device_poll.specs.Values.{told_by, value_by}
 use Rattle.bac_device_poll.specs.Word.{moment_of, restart_of}
-use Rattle.bac_device_poll.specs.declared.entry.Offset.{Offset}
+use Rattle.bac_answers.specs.declared.entry.Offset.{Offset}
 use Rattle.bac_device_poll.specs.declared.poll.Known.{Known}
 use Rattle.bac_device_poll.specs.declared.question.Question.{Question}
 use Rattle.bac_device_poll.specs.declared.question.Question.TheVariants.{Confirmed, Nothing, WhoIs}

@@ -5,12 +5,10 @@ ghost use Rattle.bac_device_poll.specs.Identity.{after_i_am, after_instance, aft
 ghost use Rattle.bac_device_poll.specs.Identity.{goes_on, itself, met, met_as, own_device};
 ghost use Rattle.bac_device_poll.specs.Turns.{turned};
 
-use crate::entry::Entry;
 use crate::poll::DevicePoll;
 use crate::stage::Stage;
-use crate::text::Text;
 use crate::turn::{DeviceEnd, Turn, none, only};
-use crate::who::{Who, Whose, find_whose};
+use bac_answers::{Entry, Text, Who, Whose, find_whose};
 use bac_wire::ObjectId;
 use std::alloc::{AllocError, Global};
 

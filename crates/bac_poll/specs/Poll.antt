@@ -1,35 +1,21 @@
 -- How a trend log is polled: what is asked, and what an answer makes of it. Read `after` from the end.
-use Rattle.std.specs.Prelude.{ℕ, pos, negsuc, ◌+◌, ◌-◌, ◌/◌, ◌==◌, ◌&&◌, nat_le, nat_lt, Bool, true, false}
-use Rattle.std.specs.Prelude.{if◌then◌else◌}
-use Rattle.std.specs.Prelude.{List, [], length, Option, None, Some}
-use Rattle.std.specs.Option.{is_none}
-use Rattle.bac_wire.specs.Primitive.{Id}
-use Rattle.bac_apdu.specs.declared.service.extent.Extent.TheVariants.{ByNumber}
-use Rattle.bac_log.specs.declared.entry.Entry.{Entry}
-use Rattle.bac_link.specs.Heard.{AckParameters, heard_in}
-use Rattle.bac_link.specs.Links.{question}
-use Rattle.bac_link.specs.Ordinals.{distance}
-use Rattle.bac_link.specs.declared.request.Request.{Request}
-use Rattle.bac_link.specs.declared.request.Request.TheVariants as request
-use Rattle.bac_walk.specs.Place.{asking, walk_from_oldest}
-use Rattle.bac_walk.specs.Walks.{Ask, Bring, End, NextAct, Refuse, question_of, verdict, with_numbers}
+use Rattle.std.specs.Prelude.{ℕ, ◌==◌, Bool, true, false, if◌then◌else◌, List, [], length, Option, None, Some}
 use Rattle.bac_walk.specs.declared.batch.Numbered.{Numbered}
 use Rattle.bac_walk.specs.declared.outcome.WalkFault.TheVariants.{BadReply}
+use Rattle.bac_known.specs.declared.date_time.DateTime.{DateTime}
 use Rattle.bac_poll.specs.Back.{back}
-use Rattle.bac_poll.specs.DateTime.{undated}
 use Rattle.bac_poll.specs.Epochs.{renews, renews_none, renews_of}
 use Rattle.bac_poll.specs.Gone.{asks_restart, asks_word, by_word}
 use Rattle.bac_poll.specs.Joins.{ahead, again, each, joins, prior}
 use Rattle.bac_poll.specs.Oldest.{by_count, by_number, is_cut, sees}
 use Rattle.bac_poll.specs.Starts.{starts, starts_by, starts_from, starts_none}
-use Rattle.bac_poll.specs.State.{KeptAs, PollState, Reply, StandingAs, ToldAs}
-use Rattle.bac_poll.specs.Turns.{Turned, asks_at, end_of, ends, first_number, number_before}
-use Rattle.bac_known.specs.declared.date_time.DateTime.{DateTime}
+use Rattle.bac_poll.specs.State.{PollState, Reply}
+use Rattle.bac_poll.specs.Turns.{Turned, asks_at, end_of, ends}
 use Rattle.bac_poll_steps.specs.declared.stage.Aim.{Aim}
 use Rattle.bac_poll_steps.specs.declared.stage.Aim.TheVariants.{Finds, Renews, Starts}
 use Rattle.bac_poll_steps.specs.declared.stage.Stage.{Stage}
-use Rattle.bac_poll_steps.specs.declared.stage.Stage.TheVariants.{Joins, Prior, Ahead, Again, Each, Oldest, ByNumber, Counts}
-use Rattle.bac_poll_steps.specs.declared.stage.Stage.TheVariants.{UpTo, Back, Revision, Restart}
+use Rattle.bac_poll_steps.specs.declared.stage.Stage.TheVariants.{Joins, Prior, Ahead, Again, Each, Oldest, ByNumber}
+use Rattle.bac_poll_steps.specs.declared.stage.Stage.TheVariants.{Counts, UpTo, Back, Revision, Restart}
 use Rattle.bac_poll_steps.specs.declared.turn.PollEnd.TheVariants.{Fault}
 pub use Rattle.bac_poll_steps.specs.Asked.{number_question, back_question, property_question, question_at}
 pub use Rattle.bac_poll_steps.specs.Asked.{asked_by_poll, are_from, are_up_to, are_asked, reply_with, reply_of}

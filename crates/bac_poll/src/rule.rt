@@ -2,7 +2,8 @@
 
 ghost use Rattle.std.specs.Prelude.{◌≡◌, IfOk};
 ghost use Rattle.bac_poll.specs.Poll.{after, after_count, after_reply, after_restart};
-ghost use Rattle.bac_poll.specs.Poll.{after_revision, at_stage, came, oldest, oldest_none, renews_by};
+ghost use Rattle.bac_poll.specs.Poll.{after_revision, at_stage, came, oldest, oldest_none};
+ghost use Rattle.bac_poll.specs.Poll.{renews_by};
 ghost use Rattle.bac_poll.specs.Poll.{up_to, up_to_none};
 ghost use Rattle.bac_poll.specs.State.{reply_as};
 ghost use Rattle.bac_poll.specs.Turns.{turned};
@@ -19,7 +20,11 @@ use std::mem::replace;
 
 /// Takes a datagram with the ACK that answers a question for records: what it brings. After
 /// want of memory the poll is of no use.
-pub(crate) fn take(state: &mut LogState, alloc: Global, datagram: &Datagram) -> Result<Turn, AllocError>
+pub(crate) fn take(
+    state: &mut LogState,
+    alloc: Global,
+    datagram: &Datagram,
+) -> Result<Turn, AllocError>
     ensures { IfOk result (λ turn. turned state.new turn ≡ after state.old datagram.now) }
 {
     match state.read(alloc, datagram.octets())? {
@@ -29,7 +34,11 @@ pub(crate) fn take(state: &mut LogState, alloc: Global, datagram: &Datagram) -> 
 }
 
 /// Takes the count that was asked for, if the device tells one.
-pub(crate) fn weigh(state: &mut LogState, alloc: Global, count: Option<u32>) -> Result<Turn, AllocError>
+pub(crate) fn weigh(
+    state: &mut LogState,
+    alloc: Global,
+    count: Option<u32>,
+) -> Result<Turn, AllocError>
     ensures { IfOk result (λ turn. turned state.new turn ≡ after_count state.old count) }
 {
     match state.stage {
@@ -62,7 +71,7 @@ pub(crate) fn hear_revision(
     ensures { IfOk result (λ turn. turned state.new turn ≡ after_revision state.old revision) }
 {
     state.again.revision = revision;
-    let held = replace(state: &mut LogState.held, Vec::new(alloc));
+    let held = replace(&mut state.held, Vec::new(alloc));
     state.ask_restart(alloc, held)
 }
 
@@ -78,7 +87,7 @@ pub(crate) fn hear_restart(
         ≡ after_restart state.old restart.items moment) }
 {
     retell_restart(state, restart, moment);
-    let held = replace(state: &mut LogState.held, Vec::new(alloc));
+    let held = replace(&mut state.held, Vec::new(alloc));
     state.go_by_word(alloc, held)
 }
 
@@ -99,7 +108,7 @@ fn take_reply(state: &mut LogState, alloc: Global, reply: Reply) -> Result<Turn,
     if !is_none(&reply.records) {
         state.more = reply.more;
     }
-    let held = replace(state: &mut LogState.held, Vec::new(alloc));
+    let held = replace(&mut state.held, Vec::new(alloc));
     go_by_stage(state, alloc, held, reply)
 }
 
@@ -130,7 +139,12 @@ fn go_by_stage(
 }
 
 // The oldest were asked for.
-fn take_oldest(state: &mut LogState, alloc: Global, aim: Aim, reply: Reply) -> Result<Turn, AllocError>
+fn take_oldest(
+    state: &mut LogState,
+    alloc: Global,
+    aim: Aim,
+    reply: Reply,
+) -> Result<Turn, AllocError>
     ensures { IfOk result (λ turn. turned state.new turn
         ≡ oldest state.old aim (reply_as reply)) }
 {

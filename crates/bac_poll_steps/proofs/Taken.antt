@@ -1,5 +1,6 @@
 -- Whether a reply is taken.
-use Rattle.std.proofs.Common.{◌≡◌, ℕ, suc, ◌==◌, ◌&&◌, ◌||◌, Bool, true, false, if◌then◌else◌, Option, Some, None, List, [], ◌∷◌, length, refl, sym, ap, ◌∙◌, nat_le, arith}
+use Rattle.std.proofs.Common.{◌≡◌, ℕ, suc, ◌==◌, ◌&&◌, ◌||◌, Bool, true, false, if◌then◌else◌, Option, Some, None, List}
+use Rattle.std.proofs.Common.{[], ◌∷◌, length, refl, sym, ap, ◌∙◌, nat_le, arith}
 use Rattle.std.proofs.lemmas.Bool.{eqb-true}
 use Rattle.std.specs.Option.{option_map}
 use Rattle.std.specs.Result.{result_ok}
@@ -7,7 +8,8 @@ use Rattle.bac_wire.specs.Primitive.{Id}
 use Rattle.bac_apdu.specs.Service.ReadRangeAck.{RangeAck}
 use Rattle.bac_log.specs.declared.entry.Entry.{Entry}
 use Rattle.bac_link.specs.Datagrams.{apdu_in}
-use Rattle.bac_link.specs.Heard.{heard_at, heard_from, heard_if, heard_of, heard_with, is_of_log, parameters_in, records_in}
+use Rattle.bac_link.specs.Heard.{heard_at, heard_from, heard_if, heard_of, heard_with, is_of_log, parameters_in}
+use Rattle.bac_link.specs.Heard.{records_in}
 use Rattle.bac_walk.specs.Place.{WalkPlace, asking, walk_from_oldest}
 use Rattle.bac_walk.specs.Walks.{Ask, Bring, End, NextAct, Refuse, asks_oldest_now, fits, verdict, with_numbers}
 use Rattle.bac_walk.specs.declared.batch.Numbered.{Numbered}

@@ -3,7 +3,8 @@ use Rattle.std.specs.Prelude.{ℕ, ◌==◌, if◌then◌else◌, List}
 use Rattle.bac_link.specs.Ordinals.{number_after}
 use Rattle.bac_walk.specs.declared.batch.Numbered.{Numbered}
 use Rattle.bac_poll_steps.specs.State.{PollState}
-use Rattle.bac_poll_steps.specs.Turns.{Turned, anew, asks, asks_at, brings, end_of, ends, first_in, first_number, gap_up_to}
+use Rattle.bac_poll_steps.specs.Turns.{Turned, anew, asks, asks_at, brings, end_of, ends, first_in, first_number}
+use Rattle.bac_poll_steps.specs.Turns.{gap_up_to}
 use Rattle.bac_poll_steps.specs.Turns.{number_or, renewed, standing_at}
 use Rattle.bac_poll_steps.specs.declared.stage.Aim.{Aim}
 use Rattle.bac_poll_steps.specs.declared.stage.Aim.TheVariants.{Renews}

@@ -1,11 +1,10 @@
 -- 5. A first run.
-use Rattle.std.specs.Prelude.{ℕ, ◌&&◌, Bool, true, false, if◌then◌else◌, List, [], Option, None, Some}
+use Rattle.std.specs.Prelude.{ℕ, ◌==◌, ◌&&◌, not, Bool, true, false, if◌then◌else◌, List, [], Option, None, Some}
 use Rattle.std.specs.Option.{is_some}
 use Rattle.bac_link.specs.Ordinals.{is_ahead, number_after}
 use Rattle.bac_walk.specs.declared.batch.Numbered.{Numbered}
 use Rattle.bac_poll_steps.specs.Epochs.{asks_back, asks_oldest}
 use Rattle.bac_poll_steps.specs.Known.{word_of}
-use Rattle.bac_poll_steps.specs.Starts.{is_first}
 use Rattle.bac_poll_steps.specs.State.{PollState}
 use Rattle.bac_poll_steps.specs.Turns.{Turned, brings, confirmed, ends, first_in, first_number, number_or, gap_up_to}
 use Rattle.bac_poll_steps.specs.Turns.{standing_at}

@@ -2,7 +2,8 @@
 
 ghost use Rattle.std.specs.Prelude.{◌≡◌, IfOk};
 ghost use Rattle.bac_poll_steps.specs.Turns.{anew, turned};
-ghost use Rattle.bac_poll_steps.specs.Epochs.{another, another_by, another_of, asks_back, asks_oldest};
+ghost use Rattle.bac_poll_steps.specs.Epochs.{another, another_by, another_of, asks_back};
+ghost use Rattle.bac_poll_steps.specs.Epochs.{asks_oldest};
 ghost use Rattle.bac_poll_steps.specs.Epochs.{brings_behind, renews, renews_none, renews_of};
 
 use crate::stage::{Aim, Stage};

@@ -1,6 +1,6 @@
-//! What is known of a trend log that is polled, and the steps of which the rule of its poll is made:
-//! what is asked, how a reply is read, and what is kept of it or told. Each is a function of what is
-//! known of the log.
+//! What is known of a trend log that is polled, and the steps of which the rule of its poll is
+//! made: what is asked, how a reply is read, and what is kept of it or told. Each is a function of
+//! what is known of the log.
 #![tactic(auto)]
 
 mod epochs;

@@ -2,7 +2,8 @@
 
 ghost use Rattle.std.specs.Prelude.{◌≡◌, IfOk};
 ghost use Rattle.bac_poll_steps.specs.Turns.{turned};
-ghost use Rattle.bac_poll_steps.specs.Starts.{beginning, is_doubted, is_first, is_since, stands_from, starts, starts_at};
+ghost use Rattle.bac_poll_steps.specs.Starts.{beginning, is_doubted, is_first, is_since};
+ghost use Rattle.bac_poll_steps.specs.Starts.{stands_from, starts, starts_at};
 ghost use Rattle.bac_poll_steps.specs.Starts.{starts_at_count};
 ghost use Rattle.bac_poll_steps.specs.Starts.{starts_behind, starts_by, starts_from, starts_here};
 ghost use Rattle.bac_poll_steps.specs.Starts.{starts_none};

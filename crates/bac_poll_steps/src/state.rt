@@ -2,7 +2,8 @@
 
 ghost use Rattle.std.specs.Prelude.{◌≡◌, ◌↔◌, IfSome, IsSome};
 ghost use Rattle.bac_poll_steps.specs.Asked.{after_too_many};
-ghost use Rattle.bac_poll_steps.specs.Begins.{first_reference, first_stage, joining, kept_number, starting};
+ghost use Rattle.bac_poll_steps.specs.Begins.{first_reference, first_stage, joining, kept_number};
+ghost use Rattle.bac_poll_steps.specs.Begins.{starting};
 ghost use Rattle.bac_poll_steps.specs.State.{PollState, maybe_kept, standing_as, told_as};
 
 use crate::stage::{Aim, Stage};
@@ -107,8 +108,8 @@ impl Model for LogState {
 }
 
 impl LogState {
-    /// What is known of a log whose rows stand there, which asks for so many records at a time. Its device
-    /// told this before. `None` if the object isn't a trend log.
+    /// What is known of a log whose rows stand there, before it is asked for so many records at a
+    /// time. Its device told this before. `None` if the object isn't a trend log.
     pub fn behind(
         alloc: Global,
         log: ObjectId,

@@ -3,7 +3,8 @@
 ghost use Rattle.std.specs.Prelude.{◌≡◌, ◌+◌, ◌<◌, IfOk, Some};
 ghost use Rattle.bac_walk.specs.Walks.{gap_items};
 ghost use Rattle.bac_poll_steps.specs.State.{kept_as, kept_of, maybe_kept, told_as};
-ghost use Rattle.bac_poll_steps.specs.Turns.{asking_from, asks, asks_at, before_last, behind, brings};
+ghost use Rattle.bac_poll_steps.specs.Turns.{asking_from, asks, asks_at, before_last, behind};
+ghost use Rattle.bac_poll_steps.specs.Turns.{brings};
 ghost use Rattle.bac_poll_steps.specs.Turns.{confirmed};
 ghost use Rattle.bac_poll_steps.specs.Turns.{end_of, ends, kept_or, knowing};
 ghost use Rattle.bac_poll_steps.specs.Turns.{last_in};

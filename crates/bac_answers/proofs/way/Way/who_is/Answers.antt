@@ -2,9 +2,9 @@ use Rattle.std.proofs.Common.{◌∷◌, [], ◌++◌, refl, subst, sym}
 use Rattle.bac_apdu.specs.Frame.{frame_octets}
 use Rattle.bac_apdu.specs.Npdu.{header_octets, maybe_place_of}
 use Rattle.bac_apdu.specs.Route.{IsWay}
-use Rattle.bac_device_poll.specs.Way.{to_place}
-use Rattle.bac_device_poll.proofs.WhoIs.{fits, frame_short}
-use Rattle.bac_device_poll.proofs.way.Way.who_is.Goals as goal
+use Rattle.bac_answers.specs.Way.{to_place}
+use Rattle.bac_answers.proofs.WhoIs.{fits, frame_short}
+use Rattle.bac_answers.proofs.way.Way.who_is.Goals as goal
 
 pub unwrap-requires : goal.unwrap-requires
 unwrap-requires c =

@@ -1,7 +1,7 @@
 -- Object identifiers, one behind the other.
 use Rattle.std.proofs.Common.{◌≡◌, ◌∙◌, ℕ, List, [], ◌∷◌, option_map, Option, Some, ap}
 use Rattle.bac_wire.specs.Primitive.{Id}
-use Rattle.bac_device_poll.specs.Values.{object_in, objects_in, with_object}
+use Rattle.bac_answers.specs.Values.{object_in, objects_in, with_object}
 
 -- the first one
 pub first_is : (octets : List ℕ) (tag a b c d : ℕ) (after : List ℕ) (o : Id) → octets ≡ tag ∷ a ∷ b ∷ c ∷ d ∷ after →

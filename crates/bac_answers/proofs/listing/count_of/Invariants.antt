@@ -1,6 +1,6 @@
 use Rattle.std.proofs.Common.{◌≡◌, ◌≤◌, take}
-use Rattle.bac_device_poll.specs.Listing.{count_of}
-use Rattle.bac_device_poll.proofs.listing.count_of.Given as goal
+use Rattle.bac_answers.specs.Listing.{count_of}
+use Rattle.bac_answers.proofs.listing.count_of.Given as goal
 
 -- those so far are counted
 abbrev pub invariant-loop-object : goal.invariant-loop-object

@@ -1,6 +1,6 @@
 use Rattle.std.proofs.Common.{◌≡◌, map, take}
-use Rattle.bac_device_poll.specs.declared.entry.Entry.TheVariants.{Added}
-use Rattle.bac_device_poll.proofs.listing.added.Given as goal
+use Rattle.bac_answers.specs.declared.entry.Entry.TheVariants.{Added}
+use Rattle.bac_answers.proofs.listing.added.Given as goal
 
 -- the logs so far are told
 abbrev pub invariant-loop-log : goal.invariant-loop-log

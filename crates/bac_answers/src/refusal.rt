@@ -1,7 +1,7 @@
 //! Refusals that are no last word.
 
 ghost use Rattle.std.specs.Prelude.{◌≡◌};
-ghost use Rattle.bac_device_poll.specs.Refusals.{is_busy, is_long, is_passing, is_too_long};
+ghost use Rattle.bac_answers.specs.Refusals.{is_busy, is_long, is_passing, is_too_long};
 
 use bac_link::{Refusal, Verdict};
 
@@ -36,7 +36,7 @@ fn is_passing(refusal: Refusal) -> bool
 }
 
 /// Whether an answer is one.
-pub(crate) fn is_busy(verdict: Verdict) -> bool
+pub fn is_busy(verdict: Verdict) -> bool
     ensures { result ≡ is_busy verdict }
 {
     match verdict {
@@ -60,7 +60,7 @@ fn is_long(refusal: Refusal) -> bool
 }
 
 /// Whether an answer says so.
-pub(crate) fn is_too_long(verdict: Verdict) -> bool
+pub fn is_too_long(verdict: Verdict) -> bool
     ensures { result ≡ is_too_long verdict }
 {
     match verdict {

@@ -7,11 +7,11 @@ ghost use Rattle.bac_wire.specs.OptionChain.{GivesSome};
 ghost use Rattle.bac_wire.specs.Primitive.{Chars};
 ghost use Rattle.bac_wire.specs.View.{view, IsWellFormed};
 ghost use Rattle.bac_link.specs.Datagrams.{apdu_in};
-ghost use Rattle.bac_device_poll.specs.Values.{IsText, date_of, enumerated_of, no_objects};
-ghost use Rattle.bac_device_poll.specs.Values.{number_of};
-ghost use Rattle.bac_device_poll.specs.Values.{object_in, object_of, objects_in, objects_of};
-ghost use Rattle.bac_device_poll.specs.Values.{only_object};
-ghost use Rattle.bac_device_poll.specs.Values.{time_of, told_by, value_by, value_of, values_in};
+ghost use Rattle.bac_answers.specs.Values.{IsText, date_of, enumerated_of, no_objects};
+ghost use Rattle.bac_answers.specs.Values.{number_of};
+ghost use Rattle.bac_answers.specs.Values.{object_in, object_of, objects_in, objects_of};
+ghost use Rattle.bac_answers.specs.Values.{only_object};
+ghost use Rattle.bac_answers.specs.Values.{time_of, told_by, value_by, value_of, values_in};
 
 use crate::text::Text;
 use bac_apdu::{Apdu, ReadPropertyAck};
@@ -37,7 +37,7 @@ fn values_in(datagram: &Datagram) -> Option<&[u8]>
 }
 
 /// The octets that an answer tells; none, if it refuses.
-pub(crate) fn told(verdict: Verdict, datagram: &Datagram) -> Option<&[u8]>
+pub fn told(verdict: Verdict, datagram: &Datagram) -> Option<&[u8]>
     ensures { GivesSome (λ values. values.now) result (told_by verdict datagram.now) }
 {
     match verdict {
@@ -71,8 +71,8 @@ fn value(verdict: Verdict, datagram: &Datagram) -> Option<Value<'_>>
     }
 }
 
-/// A number of 32 bits.
-pub(crate) fn number(verdict: Verdict, datagram: &Datagram) -> Option<u32>
+/// The number of 32 bits that an answer tells, if it tells one.
+pub fn told_number(verdict: Verdict, datagram: &Datagram) -> Option<u32>
     ensures { result ≡ number_of (value_by verdict datagram.now) }
 {
     match value(verdict, datagram) {
@@ -87,8 +87,8 @@ pub(crate) fn number(verdict: Verdict, datagram: &Datagram) -> Option<u32>
     }
 }
 
-/// The number of an Enumerated.
-pub(crate) fn enumerated(verdict: Verdict, datagram: &Datagram) -> Option<u32>
+/// The number of the Enumerated that it tells.
+pub fn told_enumerated(verdict: Verdict, datagram: &Datagram) -> Option<u32>
     ensures { result ≡ enumerated_of (value_by verdict datagram.now) }
 {
     match value(verdict, datagram) {
@@ -97,8 +97,8 @@ pub(crate) fn enumerated(verdict: Verdict, datagram: &Datagram) -> Option<u32>
     }
 }
 
-/// A Date.
-pub(crate) fn date(verdict: Verdict, datagram: &Datagram) -> Option<Date4>
+/// The Date.
+pub fn told_date(verdict: Verdict, datagram: &Datagram) -> Option<Date4>
     ensures { result ≡ date_of (value_by verdict datagram.now) }
 {
     match value(verdict, datagram) {
@@ -107,8 +107,8 @@ pub(crate) fn date(verdict: Verdict, datagram: &Datagram) -> Option<Date4>
     }
 }
 
-/// A Time.
-pub(crate) fn time(verdict: Verdict, datagram: &Datagram) -> Option<Time4>
+/// The Time.
+pub fn told_time(verdict: Verdict, datagram: &Datagram) -> Option<Time4>
     ensures { result ≡ time_of (value_by verdict datagram.now) }
 {
     match value(verdict, datagram) {
@@ -130,8 +130,8 @@ fn unicode(alloc: Global, set: u8, octets: &[u8]) -> Result<Option<Text>, AllocE
     }
 }
 
-/// A Character String in Unicode.
-pub(crate) fn text(
+/// The Character String in Unicode.
+pub fn told_text(
     alloc: Global,
     verdict: Verdict,
     datagram: &Datagram,
@@ -167,9 +167,9 @@ fn only_object(octets: &[u8]) -> Option<ObjectId>
     }
 }
 
-/// An object identifier. It is taken from its octets, since this toolchain doesn't prove a function
+/// The object identifier. It is taken from its octets, since this toolchain doesn't prove a function
 /// that takes it from a `Value`.
-pub(crate) fn object(verdict: Verdict, datagram: &Datagram) -> Option<ObjectId>
+pub fn told_object(verdict: Verdict, datagram: &Datagram) -> Option<ObjectId>
     ensures { result ≡ object_of (told_by verdict datagram.now) }
 {
     match told(verdict, datagram) {
@@ -224,8 +224,8 @@ fn objects_in(alloc: Global, octets: &[u8]) -> Result<Option<Vec<ObjectId>>, All
     Ok(Some(found))
 }
 
-/// Object identifiers.
-pub(crate) fn objects(
+/// The object identifiers, one behind the other.
+pub fn told_objects(
     alloc: Global,
     verdict: Verdict,
     datagram: &Datagram,

@@ -7,10 +7,10 @@ ghost use Rattle.bac_apdu.specs.Npdu.{header_of, maybe_place_of};
 ghost use Rattle.bac_apdu.specs.Route.{IsWay};
 ghost use Rattle.bac_link.specs.Path.{same_place};
 ghost use Rattle.bac_link.specs.Requests.{hops_to};
-ghost use Rattle.bac_device_poll.specs.Way.{device_by, device_from, device_in, i_am_by, is_for_all};
-ghost use Rattle.bac_device_poll.specs.Way.{is_from, who_is_octets};
+ghost use Rattle.bac_answers.specs.Way.{device_by, device_from, device_in, i_am_by, is_for_all};
+ghost use Rattle.bac_answers.specs.Way.{is_from, who_is_octets};
 
-use crate::identity::own_device;
+use crate::who::own_device;
 use bac_apdu::choice::{I_AM, WHO_IS};
 use bac_apdu::{
     Apdu, Far, Frame, IAm, Npdu, Route, read_apdu, read_frame, read_npdu, write_datagram,

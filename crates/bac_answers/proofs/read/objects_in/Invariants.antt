@@ -1,6 +1,6 @@
 use Rattle.std.proofs.Common.{◌≡◌, ◌≤◌, ◌+◌, ◌++◌, length, option_map}
-use Rattle.bac_device_poll.specs.Values.{objects_in}
-use Rattle.bac_device_poll.proofs.read.objects_in.Given as goal
+use Rattle.bac_answers.specs.Values.{objects_in}
+use Rattle.bac_answers.proofs.read.objects_in.Given as goal
 
 -- the objects that are gone from the front were found
 abbrev pub invariant-loop-taken : goal.invariant-loop-taken

@@ -38,7 +38,7 @@ impl Text {
     }
 
     /// The same again.
-    pub(crate) fn copied(&self, alloc: Global) -> Result<Text, AllocError>
+    pub fn copied(&self, alloc: Global) -> Result<Text, AllocError>
         ensures { IfOk result (λ text. text ≡ self.now) }
     {
         Text::of(alloc, self.octets())

@@ -1,11 +1,18 @@
 //! By what a device is known.
 
 ghost use Rattle.std.specs.Prelude.{◌≡◌, IfOk, Some};
-ghost use Rattle.bac_device_poll.specs.Identity.{whose, whose_device, whose_name, whose_address};
+ghost use Rattle.bac_answers.specs.Who.{device_of, itself, own_device, whose, whose_address};
+ghost use Rattle.bac_answers.specs.Who.{whose_device, whose_name};
 
 use crate::text::Text;
 use bac_wire::ObjectId;
 use std::alloc::{AllocError, Global};
+
+/// The type of a Device object (clause 21, BACnetObjectType).
+const DEVICE: u16 = 8;
+
+/// The instance by which each device answers for its own Device object (clause 15.5).
+const ITSELF: u32 = 4_194_303;
 
 /// By what a device is known.
 #[derive(Debug, Drop)]
@@ -35,7 +42,7 @@ pub enum Whose {
 
 impl Who {
     /// The same again.
-    pub(crate) fn copied(&self, alloc: Global) -> Result<Who, AllocError>
+    pub fn copied(&self, alloc: Global) -> Result<Who, AllocError>
         ensures { IfOk result (λ who. who ≡ self.now) }
     {
         match self {
@@ -95,7 +102,7 @@ fn whose_address(now: &Who) -> Whose
 }
 
 /// Whose answers these are, by who answers.
-pub(crate) fn find_whose(was: &Option<Who>, now: &Who) -> Whose
+pub fn find_whose(was: &Option<Who>, now: &Who) -> Whose
     ensures { result ≡ whose was.now now.now }
 {
     match was {
@@ -103,5 +110,43 @@ pub(crate) fn find_whose(was: &Option<Who>, now: &Who) -> Whose
         Some(Who::Device(device)) => whose_device(*device, now),
         Some(Who::Name(name)) => whose_name(name.octets(), now),
         Some(Who::Address) => whose_address(now),
+    }
+}
+
+/// The Device object of whoever answers.
+pub fn itself() -> ObjectId
+    ensures { result ≡ itself }
+{
+    match ObjectId::new(DEVICE, ITSELF) {
+        Some(object) => object,
+        None => unreachable!(),
+    }
+}
+
+/// The Device object of a device that is known so.
+pub fn device_of(who: &Option<Who>) -> ObjectId
+    ensures { result ≡ device_of who.now }
+{
+    match who {
+        Some(Who::Device(device)) => *device,
+        Some(Who::Name(_)) => itself(),
+        Some(Who::Address) => itself(),
+        None => itself(),
+    }
+}
+
+/// A Device object with an instance of its own.
+pub fn own_device(object: Option<ObjectId>) -> Option<ObjectId>
+    ensures { result ≡ own_device object }
+{
+    match object {
+        Some(object) => {
+            if object.kind() == DEVICE && object.instance() < ITSELF {
+                Some(object)
+            } else {
+                None
+            }
+        }
+        None => None,
     }
 }

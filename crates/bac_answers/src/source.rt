@@ -2,9 +2,9 @@
 
 ghost use Rattle.std.specs.Prelude.{◌≡◌, Some};
 ghost use Rattle.bac_wire.specs.Chain.{Gives};
-ghost use Rattle.bac_device_poll.specs.Source.{maybe_device, maybe_index, number_at, object_at};
-ghost use Rattle.bac_device_poll.specs.Source.{property_at, reference_at, source_of};
-ghost use Rattle.bac_device_poll.specs.Values.{told_by};
+ghost use Rattle.bac_answers.specs.Source.{maybe_device, maybe_index, number_at, object_at};
+ghost use Rattle.bac_answers.specs.Source.{property_at, reference_at, source_of};
+ghost use Rattle.bac_answers.specs.Values.{told_by};
 
 use crate::entry::Reference;
 use crate::read::told;
@@ -78,8 +78,8 @@ fn reference_in(octets: &[u8]) -> Result<Reference, WireFault>
     }
 }
 
-/// What an answer tells.
-pub(crate) fn source(verdict: Verdict, datagram: &Datagram) -> Option<Reference>
+/// The reference that an answer tells.
+pub fn told_source(verdict: Verdict, datagram: &Datagram) -> Option<Reference>
     ensures { result ≡ source_of (told_by verdict datagram.now) }
 {
     match told(verdict, datagram) {
