@@ -10,7 +10,7 @@ use bac_wire::ObjectId;
 use std::alloc::AllocError;
 
 /// Whether this is another revision than that on record.
-pub fn is_other(was: Option<u32>, now: u32) -> bool
+pub(crate) fn is_other(was: Option<u32>, now: u32) -> bool
     ensures { result ≡ is_other was now }
 {
     match was {

@@ -37,7 +37,7 @@ fn values_in(datagram: &Datagram) -> Option<&[u8]>
 }
 
 /// The octets that an answer tells; none, if it refuses.
-pub fn told(verdict: Verdict, datagram: &Datagram) -> Option<&[u8]>
+pub(crate) fn told(verdict: Verdict, datagram: &Datagram) -> Option<&[u8]>
     ensures { GivesSome (λ values. values.now) result (told_by verdict datagram.now) }
 {
     match verdict {
@@ -87,8 +87,8 @@ pub fn told_number(verdict: Verdict, datagram: &Datagram) -> Option<u32>
     }
 }
 
-/// The number of the Enumerated that it tells.
-pub fn told_enumerated(verdict: Verdict, datagram: &Datagram) -> Option<u32>
+/// The number of the Enumerated that it tells, such as units (BACnetEngineeringUnits).
+pub fn told_units(verdict: Verdict, datagram: &Datagram) -> Option<u32>
     ensures { result ≡ enumerated_of (value_by verdict datagram.now) }
 {
     match value(verdict, datagram) {
@@ -167,8 +167,8 @@ fn only_object(octets: &[u8]) -> Option<ObjectId>
     }
 }
 
-/// The object identifier. It is taken from its octets, since this toolchain doesn't prove a function
-/// that takes it from a `Value`.
+/// The object identifier. It is taken from its octets, since this toolchain doesn't prove a
+/// function that takes it from a `Value`.
 pub fn told_object(verdict: Verdict, datagram: &Datagram) -> Option<ObjectId>
     ensures { result ≡ object_of (told_by verdict datagram.now) }
 {

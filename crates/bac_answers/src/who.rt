@@ -1,11 +1,14 @@
 //! By what a device is known.
 
 ghost use Rattle.std.specs.Prelude.{◌≡◌, IfOk, Some};
+ghost use Rattle.bac_answers.specs.Values.{object_of, told_by};
 ghost use Rattle.bac_answers.specs.Who.{device_of, itself, own_device, whose, whose_address};
 ghost use Rattle.bac_answers.specs.Who.{whose_device, whose_name};
 
+use crate::read::told_object;
 use crate::text::Text;
-use bac_wire::ObjectId;
+use bac_link::Verdict;
+use bac_wire::{Datagram, ObjectId};
 use std::alloc::{AllocError, Global};
 
 /// The type of a Device object (clause 21, BACnetObjectType).
@@ -136,7 +139,7 @@ pub fn device_of(who: &Option<Who>) -> ObjectId
 }
 
 /// A Device object with an instance of its own.
-pub fn own_device(object: Option<ObjectId>) -> Option<ObjectId>
+pub(crate) fn own_device(object: Option<ObjectId>) -> Option<ObjectId>
     ensures { result ≡ own_device object }
 {
     match object {
@@ -149,4 +152,11 @@ pub fn own_device(object: Option<ObjectId>) -> Option<ObjectId>
         }
         None => None,
     }
+}
+
+/// The same of what an answer tells.
+pub fn told_device(verdict: Verdict, datagram: &Datagram) -> Option<ObjectId>
+    ensures { result ≡ own_device (object_of (told_by verdict datagram.now)) }
+{
+    own_device(told_object(verdict, datagram))
 }

@@ -13,9 +13,9 @@ use crate::stage::Stage;
 use crate::task::{LogTask, Polled};
 use crate::turn::{Step, Turn, none};
 use bac_answers::{
-    Naming, Others, Who, device_of, is_busy, is_too_long, itself, moment_in, offset, own_device,
-    restart_in, subject, told_date, told_enumerated, told_number, told_object, told_objects,
-    told_source, told_text, told_time, unnamed,
+    Naming, Others, Who, device_of, is_busy, is_too_long, itself, moment_in, offset, restart_in,
+    subject, told_date, told_device, told_number, told_object, told_objects, told_source,
+    told_text, told_time, told_units, unnamed,
 };
 use bac_apdu::ReadProperty;
 use bac_link::{Request, Verdict, judge};
@@ -283,10 +283,7 @@ impl DevicePoll {
             (turned self.new turn)) }
     {
         match self.stage() {
-            Stage::Instance => self.hear_instance(
-                alloc,
-                own_device(told_object(verdict, datagram)),
-            ),
+            Stage::Instance => self.hear_instance(alloc, told_device(verdict, datagram)),
             Stage::IAm => Ok(Turn::asks(none(alloc))),
             Stage::Name => {
                 let name = told_text(alloc, verdict, datagram)?;
@@ -316,11 +313,7 @@ impl DevicePoll {
                 Ok(self.hear_log_name(alloc, log, name))
             }
             Stage::Source(log) => Ok(self.hear_source(alloc, log, told_source(verdict, datagram))),
-            Stage::Units(log) => Ok(self.hear_units(
-                alloc,
-                log,
-                told_enumerated(verdict, datagram),
-            )),
+            Stage::Units(log) => Ok(self.hear_units(alloc, log, told_units(verdict, datagram))),
             Stage::Description(log) => {
                 let text = told_text(alloc, verdict, datagram)?;
                 self.hear_description(alloc, log, text)

@@ -3,8 +3,7 @@
 ghost use Rattle.std.specs.Prelude.{◌≡◌, IfOk};
 ghost use Rattle.bac_poll.specs.Poll.{after, after_count, after_reply, after_restart};
 ghost use Rattle.bac_poll.specs.Poll.{after_revision, at_stage, came, oldest, oldest_none};
-ghost use Rattle.bac_poll.specs.Poll.{renews_by};
-ghost use Rattle.bac_poll.specs.Poll.{up_to, up_to_none};
+ghost use Rattle.bac_poll.specs.Poll.{renews_by, up_to, up_to_none};
 ghost use Rattle.bac_poll.specs.State.{reply_as};
 ghost use Rattle.bac_poll.specs.Turns.{turned};
 
