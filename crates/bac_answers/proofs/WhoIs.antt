@@ -1,11 +1,11 @@
 -- A Who-Is fits a datagram.
-use Rattle.std.proofs.Common.{◌≡◌, ℕ, ◌≤◌, List, [], ◌∷◌, ◌++◌, length, Option, None, Some, Result, Ok, Err, refl, ap}
+use Rattle.std.proofs.Common.{◌≡◌, ℕ, ◌≤◌, List, [], ◌∷◌, ◌++◌, length, Option, None, Result, Ok, Err, refl, ap}
 use Rattle.std.proofs.Common.{arith}
 use Rattle.std.specs.Result.{IsOk}
 use Rattle.std.proofs.lemmas.List.{length-append}
 use Rattle.bac_wire.specs.Datagram.{Writes}
 use Rattle.bac_apdu.specs.Frame.{frame_octets}
-use Rattle.bac_apdu.specs.Npdu.{Header, Place, control_of, header_octets, hops_octets, place_octets}
+use Rattle.bac_apdu.specs.Npdu.{Place, control_of, header_octets, hops_octets, place_octets}
 use Rattle.bac_apdu.specs.Route.{IsWay}
 use Rattle.bac_apdu.proofs.Shorts.{length-frame, length-hops, length-no_place, length-place}
 use Rattle.bac_answers.specs.Way.{to_place}

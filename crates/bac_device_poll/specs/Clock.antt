@@ -1,14 +1,11 @@
 -- The clock of a device (clause 12.11).
-use Rattle.std.specs.Prelude.{◌≡◌, ℕ, ◌+◌, ◌/◌, if◌then◌else◌, List, [], ◌∷◌, Option, None, Some}
-use Rattle.bac_wire.specs.Stamp.{CivilTime, IsCivilTime, moment, ticks_of}
+use Rattle.std.specs.Prelude.{if◌then◌else◌, [], ◌∷◌, Option, None, Some}
 use Rattle.bac_wire.specs.declared.stamp.Date4.{Date4}
-use Rattle.bac_wire.specs.declared.stamp.Time4.{Time4}
 use Rattle.bac_device_poll.specs.Listing.{lists}
 use Rattle.bac_device_poll.specs.State.{DeviceState}
 use Rattle.bac_device_poll.specs.Turns.{Turned, asks}
 use Rattle.bac_answers.specs.declared.entry.Entry.TheVariants.{Clock}
 use Rattle.bac_answers.specs.declared.entry.Offset.{Offset}
-use Rattle.bac_answers.specs.declared.entry.Offset.TheVariants.{Ahead, Behind}
 use Rattle.bac_device_poll.specs.declared.stage.Stage.TheVariants.{Date, Time}
 pub use Rattle.bac_answers.specs.Clock.{shown, seconds_of, AreApart, IsOffset}
 

@@ -1,16 +1,15 @@
 -- The Object_List of a device (clause 12.11): which trend logs it has.
-use Rattle.std.specs.Prelude.{ℕ, ◌+◌, ◌==◌, ◌&&◌, ◌||◌, nat_le, not, Bool, true, false, if◌then◌else◌, List, [], ◌∷◌}
+use Rattle.std.specs.Prelude.{ℕ, ◌+◌, ◌==◌, ◌&&◌, ◌||◌, nat_le, not, Bool, true, if◌then◌else◌, List, [], ◌∷◌}
 use Rattle.std.specs.Prelude.{◌++◌, map}
-use Rattle.std.specs.Prelude.{Option, None, Some, count_by}
+use Rattle.std.specs.Prelude.{Option, None, Some}
 use Rattle.std.specs.List.{fold, list_any}
 use Rattle.bac_wire.specs.Primitive.{Id}
 use Rattle.bac_poll.specs.Poll.{nothing_told}
-use Rattle.bac_device_poll.specs.Naming.{is_other, names}
+use Rattle.bac_device_poll.specs.Naming.{names}
 use Rattle.bac_device_poll.specs.State.{DeviceState, LogAs, Starting}
 use Rattle.bac_device_poll.specs.Turns.{Turned, asks}
 use Rattle.bac_answers.specs.declared.entry.Entry.{Entry}
-use Rattle.bac_answers.specs.declared.entry.Entry.TheVariants.{Added, Others as Told}
-use Rattle.bac_answers.specs.declared.entry.Others.{Others}
+use Rattle.bac_answers.specs.declared.entry.Entry.TheVariants.{Added}
 use Rattle.bac_device_poll.specs.declared.stage.Stage.TheVariants.{Count, Element, Objects}
 pub use Rattle.bac_answers.specs.Listing.{may_differ, is_object, count_of, others_in, are_same, told_others}
 

@@ -1,18 +1,14 @@
 -- What the logs of a device are: name, source, units and description (clauses 12.25 and 12.1.5).
-use Rattle.std.specs.Prelude.{◌≡◌, ℕ, ◌==◌, ◌&&◌, not, Bool, true, false, if◌then◌else◌, List, [], ◌∷◌, ◌++◌, map}
-use Rattle.std.specs.Prelude.{Option, None, Some}
-use Rattle.std.specs.Prelude.{Result, Ok, Err}
+use Rattle.std.specs.Prelude.{ℕ, if◌then◌else◌, List, [], ◌∷◌, ◌++◌, map}
+use Rattle.std.specs.Prelude.{Option}
 use Rattle.bac_wire.specs.Primitive.{Id}
 use Rattle.bac_device_poll.specs.Logs.{begins}
 use Rattle.bac_device_poll.specs.State.{DeviceState, LogAs}
 use Rattle.bac_device_poll.specs.Turns.{Turned, asks}
 use Rattle.bac_answers.specs.declared.entry.Entry.{Entry}
-use Rattle.bac_answers.specs.declared.entry.Entry.TheVariants.{Named, Read}
-use Rattle.bac_answers.specs.declared.entry.Naming.{Naming}
+use Rattle.bac_answers.specs.declared.entry.Entry.TheVariants.{Named}
 use Rattle.bac_answers.specs.declared.entry.Reference.{Reference}
 use Rattle.bac_device_poll.specs.declared.stage.Stage.TheVariants.{Description, LogName, Source, Units}
-use Rattle.bac_answers.specs.declared.who.Who.{Who}
-use Rattle.bac_answers.specs.declared.who.Who.TheVariants.{Address, Device, Name}
 pub use Rattle.bac_answers.specs.Naming.{is_other, is_changed, read_at, unnamed, is_of, is_own, subject}
 
 -- ---- whether the device was changed

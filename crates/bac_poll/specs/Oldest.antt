@@ -1,5 +1,5 @@
 -- 2 and 3. The oldest records, and the count where none is shown.
-use Rattle.std.specs.Prelude.{ℕ, ◌==◌, ◌&&◌, ◌||◌, not, nat_lt, Bool, false, if◌then◌else◌, List, [], length}
+use Rattle.std.specs.Prelude.{ℕ, ◌==◌, ◌&&◌, ◌||◌, not, nat_lt, Bool, if◌then◌else◌, List, [], length}
 use Rattle.std.specs.Prelude.{Option, None, Some}
 use Rattle.bac_link.specs.Ordinals.{is_ahead}
 use Rattle.bac_walk.specs.declared.batch.Numbered.{Numbered}

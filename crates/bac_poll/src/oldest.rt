@@ -4,7 +4,7 @@ ghost use Rattle.std.specs.Prelude.{◌≡◌, IfOk};
 ghost use Rattle.bac_poll.specs.Known.{record_at};
 ghost use Rattle.bac_poll.specs.State.{KeptAs, reply_as};
 ghost use Rattle.bac_poll.specs.Turns.{turned};
-ghost use Rattle.bac_poll.specs.Oldest.{by_count, by_number, drops, is_cut, is_first, is_since};
+ghost use Rattle.bac_poll.specs.Oldest.{by_count, by_number, drops, is_cut, is_first};
 ghost use Rattle.bac_poll.specs.Oldest.{logged, sees, sees_before, sees_by, sees_last, sees_newest};
 ghost use Rattle.bac_poll.specs.Oldest.{sees_news, sees_none, sees_same};
 ghost use Rattle.bac_poll.specs.Oldest.{weighed};

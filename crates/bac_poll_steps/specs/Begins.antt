@@ -1,5 +1,5 @@
 -- With what is known of a log its poll begins.
-use Rattle.std.specs.Prelude.{ℕ, ◌==◌, true, false, if◌then◌else◌, [], Option, None, Some}
+use Rattle.std.specs.Prelude.{ℕ, ◌==◌, false, if◌then◌else◌, [], Option, None, Some}
 use Rattle.std.specs.Option.{is_none}
 use Rattle.bac_wire.specs.Primitive.{Id}
 use Rattle.bac_walk.specs.Place.{asking, walk_from_oldest}
