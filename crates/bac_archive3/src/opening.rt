@@ -44,7 +44,7 @@ pub enum Refused {
 }
 
 /// What the items of an archive are found to be.
-#[derive(Clone, Copy, Debug, PartialEq, Eq)]
+#[derive(Clone, Copy)]
 enum Found {
     Whole,
     Overlap,
