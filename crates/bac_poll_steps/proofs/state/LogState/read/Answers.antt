@@ -1,4 +1,4 @@
-use Rattle.std.proofs.Common.{◌≡◌, IfOk, Option, sym, ap, subst, ◌∙◌}
+use Rattle.std.proofs.Common.{◌≡◌, IfOk, None, Option, Some, sym, ap, subst, ◌∙◌}
 use Rattle.bac_apdu.specs.Service.ReadRangeAck.{RangeAck}
 use Rattle.bac_link.specs.Heard.{heard_if}
 use Rattle.bac_poll_steps.specs.Asked.{has_last, has_more, reply_from}
