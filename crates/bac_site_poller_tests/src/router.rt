@@ -63,7 +63,7 @@ fn count_lines(printed: &[u8], end: &[u8]) -> usize {
     let mut count = 0;
     for line in printed.split(|octet| *octet == b'\n') {
         if line.ends_with(end) {
-            count += 1;
+            count = count.saturating_add(1);
         }
     }
     count
