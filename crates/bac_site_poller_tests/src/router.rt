@@ -60,7 +60,7 @@ fn instance_of(puts: &[Put], id: u16) -> Option<u32> {
 
 /// How many lines end so.
 fn count_lines(printed: &[u8], end: &[u8]) -> usize {
-    let mut count = 0;
+    let mut count: usize = 0;
     for line in printed.split(|octet| *octet == b'\n') {
         if line.ends_with(end) {
             count = count.saturating_add(1);
