@@ -1,0 +1,5 @@
+pub mod Parts
+pub mod Ran
+pub mod Given
+pub mod Stepped
+pub mod Inside
