@@ -5,20 +5,18 @@ use Rattle.bac_archive3.specs.declared.row.Put.{Put}
 use Rattle.bac_desks.specs.Chain.{Chain}
 use Rattle.bac_ports.specs.Port.{Receiving}
 use Rattle.bac_drive.specs.Event.{Event}
-use Rattle.bac_drive.specs.Happens.{Steps}
 use Rattle.bac_drive.specs.Laws.{puts_of}
 use Rattle.bac_drive.specs.declared.machine.Next.{Next}
 use Rattle.bac_drive.specs.declared.machine.Next.TheVariants as next
 use Rattle.bac_batch.specs.Batch.{Answers, Batched, GivesBatched, HearsBatched, HoldsRows, IsFilled, ReadsBatched}
-use Rattle.bac_batch.specs.Laws.{AreCutShort, BatchedSteps, EndsWhole, HoldsNothing, Inside, IsAt, IsLine, IsWish, LinesStandBehind, LosesNothing, WaitsWithYoungRows}
-use Rattle.bac_batch.specs.Laws.{is_line, joined, lines_held, lines_of, traffic_of}
+use Rattle.bac_batch.specs.Laws.{BatchedSteps, EndsWhole, HoldsNothing, Inside, IsAt, IsLine, LinesStandBehind, LosesNothing, WaitsWithYoungRows}
+use Rattle.bac_batch.specs.Laws.{is_line, joined, lines_held, lines_of}
 use Rattle.bac_batch.proofs.Given.{is_line_given, line_no_keep, line_no_puts, line_told}
 use Rattle.bac_batch.proofs.Parts.{last_step, puts_append}
 use Rattle.bac_batch.proofs.Ran.{AreReplies, Ran, both_ran, none_ran}
 use Rattle.bac_batch.proofs.Stepped.{cons_parts, no_snoc, stepped}
 
 module _ {M : Type 0} (gives : M → Next → M → Type 0) (hears : M → Receiving → M → Type 0) (reads : M → ℕ → M → Type 0) where
-
   ran : (start : M) (before : List (List Put)) (old new : Batched M) (es : List Event) → IsAt gives start old → AreReplies old before → Chain (BatchedSteps gives hears reads) old es new →
       Ran gives hears reads start before old es new
   ran start before old new [] at replies same =
@@ -32,7 +30,7 @@ module _ {M : Type 0} (gives : M → Next → M → Type 0) (hears : M → Recei
   held_is b held (inl (none, bare)) = ap joined bare ∙ sym none
   held_is b held (inr (holds, of, count, room)) = of
 
-  inside : (old new : Batched M) (es : List Event) → HoldsNothing old → Chain (BatchedSteps gives hears reads) old es new →
+  pub inside : (old new : Batched M) (es : List Event) → HoldsNothing old → Chain (BatchedSteps gives hears reads) old es new →
       (inner : List Event) × (last : M) × Inside gives hears reads old.machine es new inner last
   inside old new es (none, bare) chain =
       let P : List Next → Type 0 = λ l. All IsLine l in
@@ -161,7 +159,7 @@ module _ {M : Type 0} (gives : M → Next → M → Type 0) (hears : M → Recei
         last,
         i,
         i.rows ∙ ap (λ (l : List Put). puts_of (es ++ line ∷ []) ++ l) none ∙ append-nil (puts_of (es ++ line ∷ [])) ∙ puts_append es (line ∷ [])
-        ∙ ap (λ (l : List Put). puts_of es ++ l) (line_no_puts line is) ∙ append-nil (puts_of es),
+            ∙ ap (λ (l : List Put). puts_of es ++ l) (line_no_puts line is) ∙ append-nil (puts_of es),
       )
 
   -- ---- waits

@@ -3,3 +3,4 @@ pub mod Ran
 pub mod Given
 pub mod Stepped
 pub mod Inside
+pub mod Replies

@@ -1,5 +1,5 @@
 -- What the machine inside makes of a run of its batches, from any place.
-use Rattle.std.proofs.Common.{◌≡◌, ◌⊎◌, ◌∙◌, inl, inr, ℕ, ◌+◌, ◌<◌, ◌≤◌, List, [], ◌∷◌, ◌++◌, map, All, length, refl, sym, ap, subst, append-nil}
+use Rattle.std.proofs.Common.{◌≡◌, ◌⊎◌, ◌∙◌, ℕ, ◌+◌, ◌<◌, ◌≤◌, List, [], ◌++◌, map, All, length, refl, sym, ap, subst, append-nil}
 use Rattle.std.proofs.lemmas.List.{map-append}
 use Rattle.std.proofs.lemmas.List.Elements.{All-append, All-nil}
 use Rattle.bac_archive3.specs.declared.row.Put.{Put}
@@ -36,7 +36,6 @@ pub record Ran {M : Type 0} (gives : M → Next → M → Type 0) (hears : M →
   pub is_held : AreReplies new held
 
 module _ {M : Type 0} (gives : M → Next → M → Type 0) (hears : M → Receiving → M → Type 0) (reads : M → ℕ → M → Type 0) where
-
   -- no event
   pub none_ran : (start : M) (before : List (List Put)) (b : Batched M) → IsAt gives start b → AreReplies b before → Ran gives hears reads start before b [] b
   none_ran start before b at replies = record {

@@ -1,5 +1,5 @@
 -- What the machine inside makes of one event of its batches.
-use Rattle.std.proofs.Common.{◌≡◌, ◌⊎◌, ◌∙◌, inl, inr, ℕ, ◌+◌, ◌-◌, ◌<◌, ◌≤◌, max, min, List, [], ◌∷◌, ◌++◌, map, All, Option, None, Some, length, refl, sym, ap, subst, append-nil, length-append, arith}
+use Rattle.std.proofs.Common.{◌≡◌, ◌∙◌, inl, inr, ℕ, ◌+◌, ◌-◌, ◌<◌, ◌≤◌, max, min, List, [], ◌∷◌, ◌++◌, All, Option, length, refl, sym, ap, subst, append-nil, length-append, arith}
 use Rattle.std.specs.List.{cons_option}
 use Rattle.std.proofs.lemmas.List.Elements.{All-cons, All-head, All-nil, All-push, All-tail, filter_map-append}
 use Rattle.bac_archive3.specs.declared.row.Put.{Put}
@@ -9,9 +9,9 @@ use Rattle.bac_drive.specs.Happens.{Does, Learns, Steps}
 use Rattle.bac_drive.specs.Laws.{puts_of}
 use Rattle.bac_drive.specs.declared.machine.Next.{Next}
 use Rattle.bac_drive.specs.declared.machine.Next.TheVariants as next
-use Rattle.bac_batch.specs.Batch.{Answers, Asks, Batched, GivesBatched, HearsBatched, HoldsRows, IsBatchBefore, IsDone, IsFilled, IsFreed, IsHeld}
+use Rattle.bac_batch.specs.Batch.{Answers, Batched, HearsBatched, HoldsRows, IsBatchBefore, IsFilled, IsFreed, IsHeld}
 use Rattle.bac_batch.specs.Batch.{NoneFreed, ReadsBatched, Tells, left}
-use Rattle.bac_batch.specs.Laws.{AreCutShort, BatchedSteps, IsAhead, IsAt, IsLine, IsWish, joined, keeps_of, line_held, lines_held, lines_of, traffic_of}
+use Rattle.bac_batch.specs.Laws.{AreCutShort, BatchedSteps, IsAt, IsLine, IsWish, joined, keeps_of, line_held, lines_held, lines_of, traffic_of}
 use Rattle.bac_batch.proofs.Given.{AsLine, as_line, does_end, does_keep, does_read, does_send, does_wait, keeps_some, line_learns, line_told, wish_no_line}
 use Rattle.bac_batch.proofs.Parts.{joined_append}
 use Rattle.bac_batch.proofs.Ran.{AreReplies, Ran}
@@ -23,7 +23,6 @@ pub cons_parts : {X : Type 0} (x y : X) (xs ys : List X) → x ∷ xs ≡ y ∷ 
 cons_parts x y xs ys is = (cc, cc)
 
 module _ {M : Type 0} (gives : M → Next → M → Type 0) (hears : M → Receiving → M → Type 0) (reads : M → ℕ → M → Type 0) where
-
   -- where one event of the machine inside goes on at once, or is held
   passed : (start last : M) (before : List (List Put)) (old new : Batched M) (e f : Event) → Steps gives hears reads start f last → IsAt gives last new → AreReplies new before →
       new.puts ≡ old.puts → AreCutShort (traffic_of (e ∷ [])) (traffic_of (f ∷ [])) → puts_of (e ∷ []) ≡ [] → puts_of (f ∷ []) ≡ [] →

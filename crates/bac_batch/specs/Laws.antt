@@ -119,8 +119,8 @@ pub record Inside {M : Type 0} (gives : M → Next → M → Type 0) (hears : M 
   pub rows : puts_of inner ≡ puts_of es ++ new.puts
   pub lines : lines_of inner ≡ lines_of es ++ lines_held new.behind
   pub batches : (groups : List (List (List Put))) × (held : List (List Put))
-    × (keeps_of inner ≡ joined groups ++ held) × (keeps_of es ≡ map joined groups) × (joined held ≡ new.puts)
-    × All (λ group. length group ≤ 64) groups
+      × (keeps_of inner ≡ joined groups ++ held) × (keeps_of es ≡ map joined groups) × (joined held ≡ new.puts)
+      × All (λ group. length group ≤ 64) groups
 
 -- ---- laws
 
@@ -160,6 +160,23 @@ LinesStandBehind {M = M} gives hears reads =
     Chain (BatchedSteps gives hears reads) old (es ++ line ∷ []) new →
     (inner : List Event) × (last : M) × Inside gives hears reads old.machine (es ++ line ∷ []) new inner last
     × (puts_of inner ≡ puts_of es)
+
+-- the machine inside wanted these rows to be put; what had gone over the port and the clock by then is the beginning of
+-- what had by the end of these events
+abbrev pub WasWanted : {M : Type 0} → (M → Next → M → Type 0) → (M → Receiving → M → Type 0) → (M → ℕ → M → Type 0) →
+    M → List Event → List Put → Type 0
+WasWanted {M = M} gives hears reads start front rows =
+    (before behind : List Event) × (last : M) × Chain (Steps gives hears reads) start (before ++ Kept rows ∷ behind) last
+    × ((early late : List Event) × (traffic_of front ≡ early ++ late) × AreCutShort early (traffic_of before))
+
+-- A batch is the rows of at most 64 replies, in order, each of which the machine inside wanted to be put before.
+abbrev pub BatchesAreReplies : {M : Type 0} → (M → Next → M → Type 0) → (M → Receiving → M → Type 0) →
+    (M → ℕ → M → Type 0) → Type 0
+BatchesAreReplies {M = M} gives hears reads =
+    (old new : Batched M) (front behind : List Event) (puts : List Put) → HoldsNothing old →
+    Chain (BatchedSteps gives hears reads) old (front ++ Kept puts ∷ behind) new →
+    (replies : List (List Put)) × (puts ≡ joined replies) × (length replies ≤ 64)
+    × All (WasWanted gives hears reads old.machine front) replies
 
 -- Where it waits, rows that are held came less than 100 milliseconds before, by the clock as it was read last, and it
 -- waits no longer than they may be held.

@@ -1,8 +1,8 @@
 //! Laws of batches, whatever machine is inside. Each function does nothing: what it ensures is the
 //! law.
 
-ghost use Rattle.bac_batch.specs.Laws.{EndsWhole, LinesStandBehind, LosesNothing};
-ghost use Rattle.bac_batch.specs.Laws.{WaitsWithYoungRows};
+ghost use Rattle.bac_batch.specs.Laws.{BatchesAreReplies, EndsWhole, LinesStandBehind};
+ghost use Rattle.bac_batch.specs.Laws.{LosesNothing, WaitsWithYoungRows};
 
 use bac_drive::Machine;
 
@@ -16,6 +16,12 @@ pub fn loses_nothing<M: Machine>()
 /// At the end nothing is held.
 pub fn ends_whole<M: Machine>()
     ensures { EndsWhole M.gives M.hears M.reads }
+{}
+
+/// A batch is the rows of at most 64 replies, in order, each of which the machine inside wanted to
+/// be put before.
+pub fn batches_are_replies<M: Machine>()
+    ensures { BatchesAreReplies M.gives M.hears M.reads }
 {}
 
 /// When a line is told, all that the machine inside wanted to be put has been put before.

@@ -1,6 +1,5 @@
 use Rattle.std.proofs.Common.{subst}
 use Rattle.std.proofs.lemmas.Result.{IfOk-weaker}
-use Rattle.bac_drive.specs.declared.machine.Next.{Next}
 use Rattle.bac_batch.specs.Batch.{Answers, Asks, Batched}
 use Rattle.bac_batch.proofs.batching.Batching.ask.Goals as goal
 

@@ -1,4 +1,4 @@
-use Rattle.std.proofs.Common.{◌≡◌, ◌<◌, ◌∙◌, ℕ, inl, inr, [], ap, refl, sym, subst, arith}
+use Rattle.std.proofs.Common.{◌≡◌, inl, inr, ap, refl, arith}
 use Rattle.std.proofs.lemmas.Grind.{common_steps}
 use Rattle.bac_batch.specs.Batch.{Batched}
 use Rattle.bac_batch.proofs.batching.Batching.gather.Goals as goal
