@@ -56,11 +56,21 @@ Does (next.Print text) (Printed all) = all ≡ text.items
 Does (next.Warn text) (Warned all) = all ≡ text.items
 Does other event = ⊥
 
+-- what a machine makes of it that hears and reads so
+abbrev pub Learns : {M : Type 0} → (M → Receiving → M → Type 0) → (M → ℕ → M → Type 0) → M → Event → M → Type 0
+Learns hears reads old (Waited within heard) new = hears old heard new
+Learns hears reads old (Read ms) new = reads old ms new
+Learns hears reads old event new = new ≡ old
+
+-- One event, of a machine alone: it says what is to be done, the event is that, and it is told what came of it.
+abbrev pub Steps : {M : Type 0} → (M → Next → M → Type 0) → (M → Receiving → M → Type 0) → (M → ℕ → M → Type 0) →
+    M → Event → M → Type 0
+Steps {M = M} gives hears reads old event new =
+    (wanted : Next) × (mid : M) × gives old wanted mid × Does wanted event × Learns hears reads mid event new
+
 -- what the machine makes of it
 abbrev pub IsTold : {M P C : Type 0} → Acts M P C → M → Event → M → Type 0
-IsTold acts old (Waited within heard) new = acts.hears old heard new
-IsTold acts old (Read ms) new = acts.reads old ms new
-IsTold acts old event new = new ≡ old
+IsTold acts old event new = Learns acts.hears acts.reads old event new
 
 -- what else changes by it: one thing
 abbrev pub Changes : {M P C : Type 0} → Acts M P C → Scene M P C → Event → Scene M P C → Type 0

@@ -7,7 +7,6 @@ use Rattle.std.proofs.lemmas.List.Elements.{Contains-append_left, Contains-appen
 use Rattle.bac_desks.specs.Chain.{Chain}
 use Rattle.bac_ports.specs.Port.{Receiving, Sending}
 use Rattle.bac_drive.specs.Event.{Event, Kept, Printed, Read, Sent, Waited, Warned}
-use Rattle.bac_drive.specs.Happens.{Happens, Scene}
 use Rattle.bac_drive.specs.declared.machine.Next.{Next}
 use Rattle.bac_wire.specs.Stamp.{CivilTime}
 use Rattle.bac_device_poller.specs.Poller.{PollerAs, is_answer, missed}
@@ -17,7 +16,7 @@ use Rattle.bac_site_poller.specs.Seat.{is_due, is_known, noticed, seat_heard, se
 use Rattle.bac_site_poller.specs.Site.{GivesFrom, GivesNews, GivesSite, GivesWaiting, SiteState, due_from, given, noted}
 use Rattle.bac_site_poller.specs.Site.{put_by, site_heard, site_read}
 use Rattle.bac_site_poller.specs.SiteLaws.{Answered, GoAlone, IsGoneOn, Missed, Own, OwnStep, Wanted, seats_of}
-use Rattle.bac_site_poller.specs.SiteLaws.{site_acts}
+use Rattle.bac_site_poller.specs.SiteLaws.{SiteSteps}
 use Rattle.bac_site_poller.specs.declared.news.News.{News}
 use Rattle.bac_site_poller.specs.declared.seat.Seat.{Seat}
 use Rattle.bac_site_poller.proofs.Places.{at_place, but_one}
@@ -140,13 +139,12 @@ told_gone start (Kept puts) mid new gone is = let P : SiteState → Type 0 = λ 
 told_gone start (Printed text) mid new gone is = let P : SiteState → Type 0 = λ x. Gone start x in subst P (sym is) gone
 told_gone start (Warned text) mid new gone is = let P : SiteState → Type 0 = λ x. Gone start x in subst P (sym is) gone
 
-run : {P C : Type 0} (sends : P → List ℕ → List ℕ → Sending → P → Type 0) (receives : P → ℕ → Receiving → P → Type 0) (tells : C → ℕ → C → Type 0)
-    (start : List Seat) (es : List Event) (old new : Scene SiteState P C) → Gone start old.machine → Chain (Happens (site_acts sends receives tells)) old es new → Gone start new.machine
-run {P = P} {C = C} sends receives tells start [] old new gone same =
-    let Q : Scene SiteState P C → Type 0 = λ s. Gone start s.machine in subst Q (sym same) gone
-run sends receives tells start (e ∷ es) old new gone (mid, (wanted, half, gives, does, is, changes), more) =
-    let one = told_gone start e half mid.machine (wants_gone start old.machine wanted half gone gives) (told_site sends receives tells half mid.machine e is) in
-    run sends receives tells start es mid new one more
+run : (start : List Seat) (es : List Event) (old new : SiteState) → Gone start old → Chain SiteSteps old es new → Gone start new
+run start [] old new gone same =
+    let Q : SiteState → Type 0 = λ s. Gone start s in subst Q (sym same) gone
+run start (e ∷ es) old new gone (mid, (wanted, half, gives, does, is), more) =
+    let one = told_gone start e half mid (wants_gone start old wanted half gone gives) (told_site half mid e is) in
+    run start es mid new one more
 
 -- each is among those that the site has at the beginning
 each_is : (start seats : List Seat) → All (Contains start) seats → All (IsGoneOn start) seats
@@ -161,10 +159,10 @@ begins s = record {
       (All-weaker (Contains s.ended) (Contains (seats_of s)) (λ x within. Contains-append_right s.active (s.waiting ++ s.ended) x (Contains-append_right s.waiting s.ended x within)) s.ended (All-contains_itself s.ended));
 }
 
-pub go_alone : {P C : Type 0} (sends : P → List ℕ → List ℕ → Sending → P → Type 0) (receives : P → ℕ → Receiving → P → Type 0) (tells : C → ℕ → C → Type 0) → GoAlone (site_acts sends receives tells)
-go_alone sends receives tells = λ old new es chain.
-    let start = seats_of old.machine in
-    let gone = run sends receives tells start es old new (begins old.machine) chain in
+pub go_alone : GoAlone
+go_alone = λ old new es chain.
+    let start = seats_of old in
+    let gone = run start es old new (begins old) chain in
     let P : Seat → Type 0 = IsGoneOn start in
-    All-append P new.machine.active (new.machine.waiting ++ new.machine.ended) gone.active
-    (All-append P new.machine.waiting new.machine.ended gone.waiting gone.ended)
+    All-append P new.active (new.waiting ++ new.ended) gone.active
+    (All-append P new.waiting new.ended gone.waiting gone.ended)

@@ -10,7 +10,6 @@ use Rattle.bac_wire.specs.Stamp.{CivilTime}
 use Rattle.bac_desks.specs.Chain.{Chain}
 use Rattle.bac_ports.specs.Port.{Receiving, Sending}
 use Rattle.bac_drive.specs.Event.{Event, Kept, Printed, Read, Sent, Waited, Warned}
-use Rattle.bac_drive.specs.Happens.{Happens, Scene}
 use Rattle.bac_drive.specs.declared.machine.Next.{Next}
 use Rattle.bac_drive.specs.declared.machine.Next.TheVariants as next
 use Rattle.bac_device_poll.specs.Poll.{asked_of_device}
@@ -25,7 +24,7 @@ use Rattle.bac_site_poller.specs.News.{news_line}
 use Rattle.bac_site_poller.specs.Seat.{Wants, is_known, lent, seat_heard, seat_read}
 use Rattle.bac_site_poller.specs.Site.{GivesFrom, GivesNews, GivesSite, GivesWaiting, SiteState, due_from, given, noted}
 use Rattle.bac_site_poller.specs.Site.{put_by, site_heard, site_read}
-use Rattle.bac_site_poller.specs.SiteLaws.{AllHaveEnded, BeginsUnasked, HasEnded, IsNew, IsUnasked, is_of, site_acts}
+use Rattle.bac_site_poller.specs.SiteLaws.{AllHaveEnded, BeginsUnasked, HasEnded, IsNew, IsUnasked, is_of, SiteSteps}
 use Rattle.bac_site_poller.specs.declared.news.News.{News}
 use Rattle.bac_site_poller.specs.declared.seat.Seat.{Seat}
 use Rattle.bac_site_poller.proofs.Seated.{Seated, Stays, unasked_seated}
@@ -113,13 +112,12 @@ told_all peer (Kept puts) mid new is = ap (count_all peer) is
 told_all peer (Printed text) mid new is = ap (count_all peer) is
 told_all peer (Warned text) mid new is = ap (count_all peer) is
 
-run_all : {P C : Type 0} (sends : P → List ℕ → List ℕ → Sending → P → Type 0) (receives : P → ℕ → Receiving → P → Type 0) (tells : C → ℕ → C → Type 0)
-    (peer : List ℕ) (es : List Event) (old new : Scene SiteState P C) → Chain (Happens (site_acts sends receives tells)) old es new → count_all peer new.machine ≡ count_all peer old.machine
-run_all {P = P} {C = C} sends receives tells peer [] old new same = ap (λ (s : Scene SiteState P C). count_all peer s.machine) same
-run_all sends receives tells peer (e ∷ es) old new (mid, (wanted, half, gives, does, is, changes), more) =
-    run_all sends receives tells peer es mid new more
-    ∙ told_all peer e half mid.machine (told_site sends receives tells half mid.machine e is)
-    ∙ news_all peer old.machine.news old.machine wanted half gives
+run_all : (peer : List ℕ) (es : List Event) (old new : SiteState) → Chain SiteSteps old es new → count_all peer new ≡ count_all peer old
+run_all peer [] old new same = ap (λ (s : SiteState). count_all peer s) same
+run_all peer (e ∷ es) old new (mid, (wanted, half, gives, does, is), more) =
+    run_all peer es mid new more
+    ∙ told_all peer e half mid (told_site half mid e is)
+    ∙ news_all peer old.news old wanted half gives
 
 -- ---- the end
 
@@ -166,22 +164,22 @@ news_ends [] old new (inr (none, gives)) = waiting_ends old.is_stale old new giv
 ended_of : (s : Seat) → Stays s → HasEnded s
 ended_of s stays = (stays.why, stays.ended)
 
-pub all_have_ended : {P C : Type 0} (sends : P → List ℕ → List ℕ → Sending → P → Type 0) (receives : P → ℕ → Receiving → P → Type 0) (tells : C → ℕ → C → Type 0) → AllHaveEnded (site_acts sends receives tells)
-all_have_ended sends receives tells = λ old new unasked (es, last, chain, (gives, same)).
-    let start = old.machine.waiting in
-    let (active, waiting, stays) = news_ends last.machine.news last.machine new.machine gives in
-    let seated = seated_run sends receives tells start [] es old last (unasked_seated old.machine unasked) chain in
+pub all_have_ended : AllHaveEnded
+all_have_ended = λ old last new es unasked chain gives.
+    let start = old.waiting in
+    let (active, waiting, stays) = news_ends last.news last new gives in
+    let seated = seated_run start [] es old last (unasked_seated old unasked) chain in
     let E : SiteState → Type 0 = λ s. All (λ x. HasEnded x) s.ended in (
       ap (λ (s : SiteState). s.active) stays ∙ active,
       ap (λ (s : SiteState). s.waiting) stays ∙ waiting,
-      subst E (sym stays) (All-weaker Stays (λ x. HasEnded x) ended_of last.machine.ended seated.ended),
+      subst E (sym stays) (All-weaker Stays (λ x. HasEnded x) ended_of last.ended seated.ended),
       λ peer.
-          let all = run_all sends receives tells peer es old last chain in
-          let ended : count_by (is_of peer) new.machine.ended ≡ count_by (is_of peer) last.machine.ended = ap (λ (s : SiteState). count_by (is_of peer) s.ended) stays in
-          let none : count_by (is_of peer) last.machine.active ≡ 0 = ap (λ (l : List Seat). count_by (is_of peer) l) active in
-          let none' : count_by (is_of peer) last.machine.waiting ≡ 0 = ap (λ (l : List Seat). count_by (is_of peer) l) waiting in
-          let first : count_by (is_of peer) old.machine.active ≡ 0 = ap (λ (l : List Seat). count_by (is_of peer) l) unasked.0 in
-          let first' : count_by (is_of peer) old.machine.ended ≡ 0 = ap (λ (l : List Seat). count_by (is_of peer) l) unasked.2 in
+          let all = run_all peer es old last chain in
+          let ended : count_by (is_of peer) new.ended ≡ count_by (is_of peer) last.ended = ap (λ (s : SiteState). count_by (is_of peer) s.ended) stays in
+          let none : count_by (is_of peer) last.active ≡ 0 = ap (λ (l : List Seat). count_by (is_of peer) l) active in
+          let none' : count_by (is_of peer) last.waiting ≡ 0 = ap (λ (l : List Seat). count_by (is_of peer) l) waiting in
+          let first : count_by (is_of peer) old.active ≡ 0 = ap (λ (l : List Seat). count_by (is_of peer) l) unasked.0 in
+          let first' : count_by (is_of peer) old.ended ≡ 0 = ap (λ (l : List Seat). count_by (is_of peer) l) unasked.2 in
           omega (arith, all, ended, none, none', first, first'),
     )
 

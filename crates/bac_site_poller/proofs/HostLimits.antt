@@ -9,14 +9,13 @@ use Rattle.std.specs.List.{count_by, find}
 use Rattle.std.specs.Str.{bytes_eq}
 use Rattle.bac_ports.specs.Port.{Receiving, Sending}
 use Rattle.bac_drive.specs.Event.{Event, Kept, Printed, Read, Sent, Waited, Warned}
-use Rattle.bac_drive.specs.Happens.{Happens, Scene}
 use Rattle.bac_drive.specs.declared.machine.Next.{Next}
 use Rattle.bac_wire.specs.Stamp.{CivilTime}
 use Rattle.bac_site_poller.specs.Hosts.{limit_of}
 use Rattle.bac_site_poller.specs.Seat.{is_at, is_known, seat_heard, seat_read}
 use Rattle.bac_site_poller.specs.Site.{GivesFrom, GivesNews, GivesWaiting, HasPlaceAt, MayAsk, SiteState, due_from}
 use Rattle.bac_site_poller.specs.Site.{given, limit_at, noted, put_by, site_heard, site_read}
-use Rattle.bac_site_poller.specs.SiteLaws.{KeepsToLimits, site_acts}
+use Rattle.bac_site_poller.specs.SiteLaws.{KeepsToLimits}
 use Rattle.bac_site_poller.specs.declared.news.News.{News}
 use Rattle.bac_device_poller.specs.declared.doing.Doing.{Doing}
 use Rattle.bac_device_poller.specs.declared.doing.Doing.TheVariants as doing
@@ -124,7 +123,7 @@ told_same peer (Kept puts) mid new is = ap (asked peer) is
 told_same peer (Printed text) mid new is = ap (asked peer) is
 told_same peer (Warned text) mid new is = ap (asked peer) is
 
-pub keeps_to_limits : {P C : Type 0} (sends : P → List ℕ → List ℕ → Sending → P → Type 0) (receives : P → ℕ → Receiving → P → Type 0) (tells : C → ℕ → C → Type 0) → KeepsToLimits (site_acts sends receives tells)
-keeps_to_limits sends receives tells = λ old new e peer (wanted, half, gives, does, is, changes).
-    let told = told_same peer e half new.machine (told_site sends receives tells half new.machine e is) in
-    omega (arith, told, news_most peer old.machine.news old.machine wanted half gives)
+pub keeps_to_limits : KeepsToLimits
+keeps_to_limits = λ old new e peer (wanted, half, gives, does, is).
+    let told = told_same peer e half new (told_site half new e is) in
+    omega (arith, told, news_most peer old.news old wanted half gives)

@@ -10,7 +10,6 @@ use Rattle.bac_wire.specs.Stamp.{CivilTime}
 use Rattle.bac_desks.specs.Chain.{Chain}
 use Rattle.bac_ports.specs.Port.{Receiving, Sending}
 use Rattle.bac_drive.specs.Event.{Event, Kept, Printed, Read, Sent, Waited, Warned}
-use Rattle.bac_drive.specs.Happens.{Happens, Scene}
 use Rattle.bac_drive.specs.declared.machine.Next.{Next}
 use Rattle.bac_device_poller.specs.declared.doing.Doing.{Doing}
 use Rattle.bac_device_poller.specs.declared.doing.Doing.TheVariants as doing
@@ -18,7 +17,7 @@ use Rattle.bac_site_poller.specs.Seat.{is_at, is_first}
 use Rattle.bac_site_poller.specs.Site.{GivesFrom, GivesNews, GivesSite, GivesWaiting, IsWithin, SiteState, noted}
 use Rattle.bac_site_poller.specs.Site.{put_by, site_heard}
 use Rattle.bac_site_poller.specs.SiteLaws.{IsMarked, IsUnasked, OpenWithin, again_of, is_open, is_open_at, is_open_once}
-use Rattle.bac_site_poller.specs.SiteLaws.{is_out, site_acts}
+use Rattle.bac_site_poller.specs.SiteLaws.{is_out, SiteSteps}
 use Rattle.bac_site_poller.specs.declared.limits.Limits.{Limits}
 use Rattle.bac_site_poller.specs.declared.news.News.{News}
 use Rattle.bac_site_poller.specs.declared.seat.Seat.{Seat}
@@ -66,11 +65,10 @@ told_same (Kept puts) mid new is = ap (λ (x : SiteState). x.limits) is
 told_same (Printed text) mid new is = ap (λ (x : SiteState). x.limits) is
 told_same (Warned text) mid new is = ap (λ (x : SiteState). x.limits) is
 
-run_same : {P C : Type 0} (sends : P → List ℕ → List ℕ → Sending → P → Type 0) (receives : P → ℕ → Receiving → P → Type 0) (tells : C → ℕ → C → Type 0)
-    (es : List Event) (old new : Scene SiteState P C) → Chain (Happens (site_acts sends receives tells)) old es new → new.machine.limits ≡ old.machine.limits
-run_same {P = P} {C = C} sends receives tells [] old new same = ap (λ (s : Scene SiteState P C). s.machine.limits) same
-run_same sends receives tells (e ∷ es) old new (mid, (wanted, half, gives, does, is, changes), more) =
-    run_same sends receives tells es mid new more ∙ told_same e half mid.machine (told_site sends receives tells half mid.machine e is) ∙ news_same old.machine.news old.machine wanted half gives
+run_same : (es : List Event) (old new : SiteState) → Chain SiteSteps old es new → new.limits ≡ old.limits
+run_same [] old new same = ap (λ (s : SiteState). s.limits) same
+run_same (e ∷ es) old new (mid, (wanted, half, gives, does, is), more) =
+    run_same es mid new more ∙ told_same e half mid (told_site half mid e is) ∙ news_same old.news old wanted half gives
 
 -- ---- what is open is active
 
@@ -146,14 +144,14 @@ begins_within s (none, new, untold) =
     let P : List Seat → Type 0 = λ l. (count_by is_first l ≤ s.limits.at_once) × (length l ≤ s.limits.most) × ((peer : List ℕ) → count_by (is_at peer) l ≤ s.limits.at_host) in
     subst P (sym none) (omega arith, omega arith, λ peer. omega arith)
 
-pub open_within : {P C : Type 0} (sends : P → List ℕ → List ℕ → Sending → P → Type 0) (receives : P → ℕ → Receiving → P → Type 0) (tells : C → ℕ → C → Type 0) → OpenWithin (site_acts sends receives tells)
-open_within sends receives tells = λ old new es unasked chain.
-    let start = old.machine.waiting in
-    let seated = seated_run sends receives tells start [] es old new (unasked_seated old.machine unasked) chain in
-    let same = run_same sends receives tells es old new chain in
-    let within = within_limits sends receives tells old new es (begins_within old.machine unasked) chain in
-    let marked = repeats_are_marked sends receives tells old new es unasked chain in
-    let s = new.machine in
+pub open_within : OpenWithin
+open_within = λ old new es unasked chain.
+    let start = old.waiting in
+    let seated = seated_run start [] es old new (unasked_seated old unasked) chain in
+    let same = run_same es old new chain in
+    let within = within_limits old new es (begins_within old unasked) chain in
+    let marked = repeats_are_marked old new es unasked chain in
+    let s = new in
     let waiting = All-weaker (Queues start) (λ x. is_open x ≡ false) (queues_not start) s.waiting seated.waiting in
     let ended = All-weaker Stays (λ x. is_open x ≡ false) stays_not s.ended seated.ended in
     let once = fewer is_open_once is_first s.active (All-weaker IsMarked (λ x. tally (is_open_once x) ≤ tally (is_first x)) once_first s.active marked) in

@@ -8,7 +8,7 @@ use Rattle.bac_link.specs.Transactions.{begun_with}
 use Rattle.bac_link.specs.declared.transactions.Pending.{Pending}
 use Rattle.bac_ports.specs.Port.{Receiving, Sending}
 use Rattle.bac_drive.specs.Event.{Event, Kept, Printed, Read, Sent, Waited, Warned}
-use Rattle.bac_drive.specs.Happens.{Does, Happens, Scene}
+use Rattle.bac_drive.specs.Happens.{Does}
 use Rattle.bac_drive.specs.declared.machine.Next.{Next}
 use Rattle.bac_drive.specs.declared.machine.Next.TheVariants as next
 use Rattle.bac_device_poll.specs.Poll.{asked_of_device}
@@ -24,7 +24,7 @@ use Rattle.bac_site_poller.specs.News.{news_line}
 use Rattle.bac_site_poller.specs.Seat.{Wants, lent}
 use Rattle.bac_site_poller.specs.Site.{GivesFrom, GivesNews, GivesSite, GivesWaiting, Rests, SiteState}
 use Rattle.bac_site_poller.specs.SiteLaws.{IsMarked, RepeatsAreMarked, SiteRowsCame, SiteSendsAsk, again_of, is_open}
-use Rattle.bac_site_poller.specs.SiteLaws.{is_out, site_acts}
+use Rattle.bac_site_poller.specs.SiteLaws.{is_out, SiteSteps}
 use Rattle.bac_site_poller.specs.declared.news.News.{News}
 use Rattle.bac_site_poller.specs.declared.seat.Seat.{Seat}
 use Rattle.bac_site_poller.proofs.Marked.{IsMarkedAt}
@@ -38,17 +38,16 @@ split : {S E : Type 0} (step : S → E → S → Type 0) (a c : S) (es fs : List
 split step a c [] fs chain = (a, refl, chain)
 split step a c (e ∷ es) fs (mid, one, more) = let rest = split step mid c es fs more in (rest.0, (mid, one, rest.1), rest.2)
 
-pub run : {P C : Type 0} (sends : P → List ℕ → List ℕ → Sending → P → Type 0) (receives : P → ℕ → Receiving → P → Type 0) (tells : C → ℕ → C → Type 0)
-    (start : List Seat) (front es : List Event) (old new : Scene SiteState P C) → Seated start front old.machine → Chain (Happens (site_acts sends receives tells)) old es new →
-    Seated start (front ++ es) new.machine
-run {P = P} {C = C} sends receives tells start front [] old new seated same =
-    let Q : Scene SiteState P C → Type 0 = λ s. Seated start front s.machine in
-    let R : List Event → Type 0 = λ es. Seated start es new.machine in
+pub run : (start : List Seat) (front es : List Event) (old new : SiteState) → Seated start front old → Chain SiteSteps old es new →
+    Seated start (front ++ es) new
+run start front [] old new seated same =
+    let Q : SiteState → Type 0 = λ s. Seated start front s in
+    let R : List Event → Type 0 = λ es. Seated start es new in
     subst R (sym (append-nil front)) (subst Q (sym same) seated)
-run sends receives tells start front (e ∷ es) old new seated (mid, (wanted, half, gives, does, is, changes), more) =
-    let R : List Event → Type 0 = λ es. Seated start es new.machine in
-    let one = told_seated start front e half mid.machine (wants_seated start front e old.machine wanted half seated gives does) (told_site sends receives tells half mid.machine e is) in
-    subst R (append_assoc front (e ∷ []) es) (run sends receives tells start (front ++ e ∷ []) es mid new one more)
+run start front (e ∷ es) old new seated (mid, (wanted, half, gives, does, is), more) =
+    let R : List Event → Type 0 = λ es. Seated start es new in
+    let one = told_seated start front e half mid (wants_seated start front e old wanted half seated gives does) (told_site half mid e is) in
+    subst R (append_assoc front (e ∷ []) es) (run start (front ++ e ∷ []) es mid new one more)
 
 -- ---- what an event says of the poll that wants it
 
@@ -172,21 +171,21 @@ wants_says start events e old wanted new seated gives does = news_says start eve
 
 -- ---- the laws
 
-pub site_rows_came : {P C : Type 0} (sends : P → List ℕ → List ℕ → Sending → P → Type 0) (receives : P → ℕ → Receiving → P → Type 0) (tells : C → ℕ → C → Type 0) → SiteRowsCame (site_acts sends receives tells)
-site_rows_came sends receives tells = λ old new front behind puts unasked chain.
-    let start = old.machine.waiting in
-    let parts = split (Happens (site_acts sends receives tells)) old new front (Kept puts ∷ behind) chain in
-    let seated = run sends receives tells start [] front old parts.0 (unasked_seated old.machine unasked) parts.1 in
-    let (mid, (wanted, half, gives, does, is, changes), more) = parts.2 in
-    wants_says start front (Kept puts) parts.0.machine wanted half seated gives does
+pub site_rows_came : SiteRowsCame
+site_rows_came = λ old new front behind puts unasked chain.
+    let start = old.waiting in
+    let parts = split SiteSteps old new front (Kept puts ∷ behind) chain in
+    let seated = run start [] front old parts.0 (unasked_seated old unasked) parts.1 in
+    let (mid, (wanted, half, gives, does, is), more) = parts.2 in
+    wants_says start front (Kept puts) parts.0 wanted half seated gives does
 
-pub site_sends_ask : {P C : Type 0} (sends : P → List ℕ → List ℕ → Sending → P → Type 0) (receives : P → ℕ → Receiving → P → Type 0) (tells : C → ℕ → C → Type 0) → SiteSendsAsk (site_acts sends receives tells)
-site_sends_ask sends receives tells = λ old new front behind octets to answer unasked chain.
-    let start = old.machine.waiting in
-    let parts = split (Happens (site_acts sends receives tells)) old new front (Sent octets to answer ∷ behind) chain in
-    let seated = run sends receives tells start [] front old parts.0 (unasked_seated old.machine unasked) parts.1 in
-    let (mid, (wanted, half, gives, does, is, changes), more) = parts.2 in
-    wants_says start front (Sent octets to answer) parts.0.machine wanted half seated gives does
+pub site_sends_ask : SiteSendsAsk
+site_sends_ask = λ old new front behind octets to answer unasked chain.
+    let start = old.waiting in
+    let parts = split SiteSteps old new front (Sent octets to answer ∷ behind) chain in
+    let seated = run start [] front old parts.0 (unasked_seated old unasked) parts.1 in
+    let (mid, (wanted, half, gives, does, is), more) = parts.2 in
+    wants_says start front (Sent octets to answer) parts.0 wanted half seated gives does
 
 -- ---- what is open
 
@@ -216,8 +215,8 @@ marked_of start events s sits = by s.poller.doing refl sits.sound sits.marked
     by (doing.Tells end) was sound marked = shut (doing.Tells end) was sound refl
     by (doing.Ended why) was sound marked = shut (doing.Ended why) was sound refl
 
-pub repeats_are_marked : {P C : Type 0} (sends : P → List ℕ → List ℕ → Sending → P → Type 0) (receives : P → ℕ → Receiving → P → Type 0) (tells : C → ℕ → C → Type 0) → RepeatsAreMarked (site_acts sends receives tells)
-repeats_are_marked sends receives tells = λ old new es unasked chain.
-    let start = old.machine.waiting in
-    let seated = run sends receives tells start [] es old new (unasked_seated old.machine unasked) chain in
-    All-weaker (Sits start es) IsMarked (marked_of start es) new.machine.active seated.active
+pub repeats_are_marked : RepeatsAreMarked
+repeats_are_marked = λ old new es unasked chain.
+    let start = old.waiting in
+    let seated = run start [] es old new (unasked_seated old unasked) chain in
+    All-weaker (Sits start es) IsMarked (marked_of start es) new.active seated.active

@@ -2,9 +2,9 @@
 use Rattle.std.proofs.Common.{◌≡◌, ℕ, List}
 use Rattle.bac_ports.specs.Port.{Receiving, Sending}
 use Rattle.bac_drive.specs.Event.{Event, Kept, Printed, Read, Sent, Waited, Warned}
-use Rattle.bac_drive.specs.Happens.{IsTold}
+use Rattle.bac_drive.specs.Happens.{Learns}
 use Rattle.bac_site_poller.specs.Site.{SiteHears, SiteState, site_read}
-use Rattle.bac_site_poller.specs.SiteLaws.{site_acts}
+use Rattle.bac_site_poller.specs.SiteLaws.{SiteReads}
 
 abbrev pub ToldSite : SiteState → Event → SiteState → Type 0
 ToldSite old (Waited within heard) new = SiteHears old heard new
@@ -14,11 +14,10 @@ ToldSite old (Kept puts) new = new ≡ old
 ToldSite old (Printed text) new = new ≡ old
 ToldSite old (Warned text) new = new ≡ old
 
-pub told_site : {P C : Type 0} (sends : P → List ℕ → List ℕ → Sending → P → Type 0) (receives : P → ℕ → Receiving → P → Type 0) (tells : C → ℕ → C → Type 0)
-    (old new : SiteState) (e : Event) → IsTold (site_acts sends receives tells) old e new → ToldSite old e new
-told_site sends receives tells old new (Waited within heard) is = is
-told_site sends receives tells old new (Read ms) is = is
-told_site sends receives tells old new (Sent octets to answer) is = is
-told_site sends receives tells old new (Kept puts) is = is
-told_site sends receives tells old new (Printed text) is = is
-told_site sends receives tells old new (Warned text) is = is
+pub told_site : (old new : SiteState) (e : Event) → Learns SiteHears SiteReads old e new → ToldSite old e new
+told_site old new (Waited within heard) is = is
+told_site old new (Read ms) is = is
+told_site old new (Sent octets to answer) is = is
+told_site old new (Kept puts) is = is
+told_site old new (Printed text) is = is
+told_site old new (Warned text) is = is

@@ -7,8 +7,11 @@ use Rattle.bac_wire.specs.Stamp.{CivilTime}
 use Rattle.bac_archive3.specs.declared.row.Put.{Put}
 use Rattle.bac_desks.specs.Chain.{Chain}
 use Rattle.bac_drive.specs.Event.{Event, Kept, Sent}
-use Rattle.bac_drive.specs.Happens.{Acts, Happens, Runs, Scene, acting}
+use Rattle.bac_drive.specs.Happens.{Acts, Steps, acting}
 use Rattle.bac_drive.specs.declared.machine.Next.{Next}
+use Rattle.bac_drive.specs.declared.machine.Next.TheVariants as next
+use Rattle.bac_batch.specs.Batch.{Batched, GivesBatched, HearsBatched, ReadsBatched}
+use Rattle.bac_batch.specs.Laws.{BatchedSteps, HoldsNothing, Inside}
 use Rattle.bac_link.specs.declared.transactions.Pending.{Pending}
 use Rattle.bac_ports.specs.Port.{Receiving, Sending}
 use Rattle.bac_poll.specs.Turns.{Turned as LogTurned}
@@ -25,12 +28,24 @@ use Rattle.bac_site_poller.specs.Site.{limit_at, site_heard, site_read}
 use Rattle.bac_site_poller.specs.declared.limits.Limits.{Limits}
 use Rattle.bac_site_poller.specs.declared.seat.Seat.{Seat}
 
--- what a site says and makes of what it is told, over such a port and clock
+-- what a site makes of what the clock tells
+abbrev pub SiteReads : SiteState → ℕ → SiteState → Type 0
+SiteReads old ms new = new ≡ site_read ms old
+
+-- one event of a site: it says what is to be done, the event is that, and it is told what came of it
+abbrev pub SiteSteps : SiteState → Event → SiteState → Type 0
+SiteSteps = Steps GivesSite SiteHears SiteReads
+
+-- one event of a site whose rows are put in batches
+abbrev pub SiteBatchSteps : Batched SiteState → Event → Batched SiteState → Type 0
+SiteBatchSteps = BatchedSteps GivesSite SiteHears SiteReads
+
+-- what such a site says and makes of what it is told, over such a port and clock
 abbrev pub site_acts : {P C : Type 0} → (P → List ℕ → List ℕ → Sending → P → Type 0) →
-    (P → ℕ → Receiving → P → Type 0) → (C → ℕ → C → Type 0) → Acts SiteState P C
+    (P → ℕ → Receiving → P → Type 0) → (C → ℕ → C → Type 0) → Acts (Batched SiteState) P C
 site_acts sends receives tells =
-    acting (λ old wanted new. GivesSite old wanted new) (λ old heard new. SiteHears old heard new)
-    (λ old ms new. new ≡ site_read ms old) sends receives tells
+    acting (λ old given new. GivesBatched GivesSite old given new) (λ old heard new. HearsBatched SiteHears old heard new)
+    (λ old ms new. ReadsBatched SiteReads old ms new) sends receives tells
 
 -- ---- limits
 
@@ -51,17 +66,17 @@ abbrev pub WantsWithin : Type 0
 WantsWithin = (old new : SiteState) (wanted : Next) → IsWithin old → GivesSite old wanted new → IsWithin new
 
 -- Never more are open than may be, in all and at one IP address: behind each front of what happens.
-abbrev pub WithinLimits : {P C : Type 0} → Acts SiteState P C → Type 0
-WithinLimits {P = P} {C = C} acts =
-    (old new : Scene SiteState P C) (es : List Event) → IsWithin old.machine → Chain (Happens acts) old es new →
-    IsWithin new.machine
+abbrev pub WithinLimits : Type 0
+WithinLimits =
+    (old new : SiteState) (es : List Event) → IsWithin old → Chain SiteSteps old es new →
+    IsWithin new
 
 -- Whatever happens, more are asked at an IP address only where fewer are than the limit that holds there then.
-abbrev pub KeepsToLimits : {P C : Type 0} → Acts SiteState P C → Type 0
-KeepsToLimits {P = P} {C = C} acts =
-    (old new : Scene SiteState P C) (e : Event) (peer : List ℕ) → Happens acts old e new →
-    count_by (is_at peer) new.machine.active
-    ≤ max (count_by (is_at peer) old.machine.active) (limit_at old.machine peer)
+abbrev pub KeepsToLimits : Type 0
+KeepsToLimits =
+    (old new : SiteState) (e : Event) (peer : List ℕ) → SiteSteps old e new →
+    count_by (is_at peer) new.active
+    ≤ max (count_by (is_at peer) old.active) (limit_at old peer)
 
 -- ---- each for itself
 
@@ -89,10 +104,10 @@ IsGoneOn seats s =
     (h : Seat) × Contains seats h × (own : List Own) × Chain OwnStep h.poller own s.poller
 
 -- Each device's poll is what its own steps made of it, whatever other devices answer or don't.
-abbrev pub GoAlone : {P C : Type 0} → Acts SiteState P C → Type 0
-GoAlone {P = P} {C = C} acts =
-    (old new : Scene SiteState P C) (es : List Event) → Chain (Happens acts) old es new →
-    All (IsGoneOn (seats_of old.machine)) (seats_of new.machine)
+abbrev pub GoAlone : Type 0
+GoAlone =
+    (old new : SiteState) (es : List Event) → Chain SiteSteps old es new →
+    All (IsGoneOn (seats_of old)) (seats_of new)
 
 -- ---- turns
 
@@ -156,35 +171,39 @@ IsUnasked s = (s.active ≡ []) × All (λ seat. IsNew seat) s.waiting × (s.end
 
 -- Each open question that was sent again is marked so, and no other: it has given up its place among those that were
 -- sent once.
-abbrev pub RepeatsAreMarked : {P C : Type 0} → Acts SiteState P C → Type 0
-RepeatsAreMarked {P = P} {C = C} acts =
-    (old new : Scene SiteState P C) (es : List Event) → IsUnasked old.machine → Chain (Happens acts) old es new →
-    All IsMarked new.machine.active
+abbrev pub RepeatsAreMarked : Type 0
+RepeatsAreMarked =
+    (old new : SiteState) (es : List Event) → IsUnasked old → Chain SiteSteps old es new →
+    All IsMarked new.active
 
--- Whatever happens, never more questions are open than the limits say, which stay as they are: that were sent once, in
--- all, and at one IP address.
-abbrev pub OpenWithin : {P C : Type 0} → Acts SiteState P C → Type 0
-OpenWithin {P = P} {C = C} acts =
-    (old new : Scene SiteState P C) (es : List Event) → IsUnasked old.machine → Chain (Happens acts) old es new →
-    let limits = old.machine.limits in
-    (new.machine.limits ≡ limits) × (count_by is_open_once (seats_of new.machine) ≤ limits.at_once)
-    × (count_by is_open (seats_of new.machine) ≤ limits.most)
-    × ((peer : List ℕ) → count_by (is_open_at peer) (seats_of new.machine) ≤ limits.at_host)
+-- No more questions are open than the limits say, which stay as they are: that were sent once, in all, and at one IP
+-- address.
+abbrev pub IsOpenWithin : SiteState → SiteState → Type 0
+IsOpenWithin old new =
+    let limits = old.limits in
+    (new.limits ≡ limits) × (count_by is_open_once (seats_of new) ≤ limits.at_once)
+    × (count_by is_open (seats_of new) ≤ limits.most)
+    × ((peer : List ℕ) → count_by (is_open_at peer) (seats_of new) ≤ limits.at_host)
+
+-- So it is whatever happens.
+abbrev pub OpenWithin : Type 0
+OpenWithin =
+    (old new : SiteState) (es : List Event) → IsUnasked old → Chain SiteSteps old es new → IsOpenWithin old new
 
 -- ---- what is sent, and put
 
 -- What is sent is the question of the poll of a device, to that device.
-abbrev pub SiteSendsAsk : {P C : Type 0} → Acts SiteState P C → Type 0
-SiteSendsAsk {P = P} {C = C} acts =
-    (old new : Scene SiteState P C) (front behind : List Event) (octets to : List ℕ) (answer : Sending) →
-    IsUnasked old.machine → Chain (Happens acts) old (front ++ Sent octets to answer ∷ behind) new →
-    (one : PollerAs) × IsOf old.machine.waiting one × (to ≡ one.way.peer) × (octets ≡ question_of one)
+abbrev pub SiteSendsAsk : Type 0
+SiteSendsAsk =
+    (old new : SiteState) (front behind : List Event) (octets to : List ℕ) (answer : Sending) →
+    IsUnasked old → Chain SiteSteps old (front ++ Sent octets to answer ∷ behind) new →
+    (one : PollerAs) × IsOf old.waiting one × (to ≡ one.way.peer) × (octets ≡ question_of one)
 
 -- What is put is what the poll of a device makes of an answer that came to its question, or of none.
-abbrev pub SiteRowsCame : {P C : Type 0} → Acts SiteState P C → Type 0
-SiteRowsCame {P = P} {C = C} acts =
-    (old new : Scene SiteState P C) (front behind : List Event) (puts : List Put) → IsUnasked old.machine →
-    Chain (Happens acts) old (front ++ Kept puts ∷ behind) new → AreCome old.machine.waiting front puts
+abbrev pub SiteRowsCame : Type 0
+SiteRowsCame =
+    (old new : SiteState) (front behind : List Event) (puts : List Put) → IsUnasked old →
+    Chain SiteSteps old (front ++ Kept puts ∷ behind) new → AreCome old.waiting front puts
 
 -- a turn of the log that is polled, if there is one, brings no record, no gap and no epoch
 abbrev pub BringsNone : Option LogTurned → Type 0
@@ -219,6 +238,27 @@ HaveEnded old new =
     × ((peer : List ℕ) → count_by (is_of peer) new.ended ≡ count_by (is_of peer) old.waiting)
 
 -- When a site has ended, so have all of its devices.
-abbrev pub AllHaveEnded : {P C : Type 0} → Acts SiteState P C → Type 0
-AllHaveEnded {P = P} {C = C} acts =
-    (old new : Scene SiteState P C) → IsUnasked old.machine → Runs acts old new → HaveEnded old.machine new.machine
+abbrev pub AllHaveEnded : Type 0
+AllHaveEnded =
+    (old last new : SiteState) (es : List Event) → IsUnasked old → Chain SiteSteps old es last →
+    GivesSite last next.End new → HaveEnded old new
+
+-- ---- batches
+
+-- Of a site whose rows are put in batches: the site inside makes such events that the batches are the rows of its
+-- replies, in order, and its lines stand behind them; each of those rows came; and its open questions are as few.
+abbrev pub BatchesCome : Type 0
+BatchesCome =
+    (old new : Batched SiteState) (es : List Event) → HoldsNothing old → IsUnasked old.machine →
+    Chain SiteBatchSteps old es new →
+    (inner : List Event) × (last : SiteState) × Inside GivesSite SiteHears SiteReads old.machine es new inner last
+    × ((front behind : List Event) (puts : List Put) → inner ≡ front ++ Kept puts ∷ behind →
+    AreCome old.machine.waiting front puts)
+    × IsOpenWithin old.machine last
+
+-- When it has ended, so have all of its devices.
+abbrev pub BatchesEnd : Type 0
+BatchesEnd =
+    (old last new : Batched SiteState) (es : List Event) → HoldsNothing old → IsUnasked old.machine →
+    Chain SiteBatchSteps old es last → GivesBatched GivesSite last next.End new →
+    HaveEnded old.machine new.machine

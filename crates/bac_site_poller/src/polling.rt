@@ -8,6 +8,7 @@ ghost use Rattle.bac_drive.specs.Happens.{Leaves, Runs, Stops, scene};
 ghost use Rattle.bac_site_poller.specs.SiteLaws.{site_acts};
 
 use crate::site::SitePoller;
+use bac_batch::Batching;
 use bac_desks::Clock;
 use bac_drive::{Fault, drive};
 use bac_ports::Port;
@@ -15,11 +16,11 @@ use sqlite::{Alter, Connection};
 use std::alloc::Global;
 use std::io::Write;
 
-/// Polls the devices of a site to their end. What is done is events of which the laws of this crate
-/// speak.
+/// Polls the devices of a site to their end, whose rows are put in batches. What is done is events
+/// of which the laws of this crate and of bac_batch speak.
 pub fn poll_devices<P: Port, C: Clock, S: Alter, W: Write, V: Write>(
     alloc: Global,
-    site: &mut SitePoller,
+    site: &mut Batching<SitePoller>,
     port: &mut P,
     clock: &mut C,
     conn: &mut Connection<S>,

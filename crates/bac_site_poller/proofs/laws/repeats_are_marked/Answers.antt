@@ -2,4 +2,4 @@ use Rattle.bac_site_poller.proofs.SeatedRun.{repeats_are_marked}
 use Rattle.bac_site_poller.proofs.laws.repeats_are_marked.Goals as goal
 
 pub returns : goal.returns
-returns g c = repeats_are_marked g.P.Port.sends g.P.Port.receives_within g.C.Clock.reads
+returns c = repeats_are_marked

@@ -1,0 +1,36 @@
+//! Laws of batches, whatever machine is inside. Each function does nothing: what it ensures is the
+//! law.
+
+ghost use Rattle.bac_batch.specs.Laws.{BatchesAreReplies, EndsWhole, LinesStandBehind};
+ghost use Rattle.bac_batch.specs.Laws.{LosesNothing, WaitsWithYoungRows};
+
+use bac_drive::Machine;
+
+/// Nothing is lost or made up: of the machine inside there is a run with the same sends, datagrams
+/// and readings of the clock, whose rows and lines are those that were put and told, and those that
+/// are held. A batch is the rows of at most 64 replies in a row.
+pub fn loses_nothing<M: Machine>()
+    ensures { LosesNothing M.gives M.hears M.reads }
+{}
+
+/// At the end nothing is held.
+pub fn ends_whole<M: Machine>()
+    ensures { EndsWhole M.gives M.hears M.reads }
+{}
+
+/// A batch is the rows of at most 64 replies, in order, each of which the machine inside wanted to
+/// be put before.
+pub fn batches_are_replies<M: Machine>()
+    ensures { BatchesAreReplies M.gives M.hears M.reads }
+{}
+
+/// When a line is told, all that the machine inside wanted to be put has been put before.
+pub fn lines_stand_behind<M: Machine>()
+    ensures { LinesStandBehind M.gives M.hears M.reads }
+{}
+
+/// Where it waits, rows that are held came less than 100 milliseconds before, by the clock as it
+/// was read last.
+pub fn waits_with_young_rows<M: Machine>()
+    ensures { WaitsWithYoungRows M.gives }
+{}
