@@ -13,13 +13,12 @@ use Rattle.bac_laws.proofs.Few.{Few, few_none, said_few}
 use Rattle.bac_laws.proofs.Finds.{wi, wi_nothing}
 use Rattle.bac_laws.proofs.Lists.{logs}
 use Rattle.bac_laws.proofs.Once.{rp_all, wp}
-use Rattle.bac_laws.proofs.Serves.{serve, serve_nothing}
+use Rattle.bac_laws.proofs.Served.{Serving, serve, serve_nothing}
 use Rattle.bac_laws.proofs.Statuses.{told_fails, unasked_memory}
 use Rattle.bac_laws.specs.Asked.{PrintsWhatCame, ReadsOnce, WritesOnce}
 use Rattle.bac_laws.specs.Events.{IsCaptured}
 use Rattle.bac_laws.specs.Found.{FindsWhatCame}
 use Rattle.bac_laws.specs.Listed.{ListsWhatCame}
-use Rattle.bac_laws.specs.Served.{AnswersOnly}
 use Rattle.bac_ports.specs.Sockets.{SocketRules}
 use Rattle.bac_print.specs.Output.{Held}
 use Rattle.bac_run.specs.Run.{RunsAll}
@@ -70,10 +69,9 @@ module _ {S P : Type 0} (rules : SocketRules S P) (switches : S → Bool → S �
         wi rules switches (passes new.sockets) said (pipes_of old) result (pipes_of (with_errors errors new)) errors new.errors status is ends
 
     serve_runs : (said : ServedDevice) (old : Streams S C) (status : ℕ) (new : Streams S C) → Runs rules passes tells (job.Serve said) old status new
-        → Of (AnswersOnly said) old.sockets new.sockets old.output new.output status
+        → Of (Serving said old.input) old.sockets new.sockets old.output new.output status
     serve_runs said old status new (inl (told, keeps, (input, same, clock))) =
-        serve_nothing rules switches tells said old.sockets new.sockets old.output new.output status
-        (nothing_captured rules switches old.sockets new.sockets same) keeps (told_fails fault.Memory old.errors new.errors status told)
+        serve_nothing rules switches tells said old.sockets new.sockets old.input old.output new.output old.errors new.errors status same keeps told
     serve_runs said old status new (inr (result, errors, (is, keeps), ends)) =
         serve rules switches tells (passes new.sockets) said old result (with_errors errors new) errors new.errors status is keeps ends
 
@@ -137,10 +135,10 @@ module _ {S C P F G T Q : Type 0} {s : start.Ghosts F} {t : start.Ghosts G} (g :
       (wi_runs rules switches passes tells said (streams old.input old.output old.errors sockets old.clock) status new ran)
 
   pub serve_ran : (said : ServedDevice) (old : Streams S C) (files : DiskFiles F s) (status : ℕ) (new : Streams S C) (left : DiskFiles F s)
-      → Ran (job.Serve said) old files status new left → Of rules switches (AnswersOnly said) old.sockets new.sockets old.output new.output status
+      → Ran (job.Serve said) old files status new left → Of rules switches (Serving said old.input) old.sockets new.sockets old.output new.output status
   serve_ran said old files status new left (inl (told, files', apart)) = serve_runs rules switches passes tells said old status new (inl told)
   serve_ran said old files status new left (inr (sockets, switched, (ran, files', apart))) =
-      behind (AnswersOnly said) old.sockets sockets new.sockets (is_traced (job.Serve said)) old.output new.output status switched
+      behind (Serving said old.input) old.sockets sockets new.sockets (is_traced (job.Serve said)) old.output new.output status switched
       (serve_runs rules switches passes tells said (streams old.input old.output old.errors sockets old.clock) status new ran)
 
   pub log_ran : (said : LogReading) (old : Streams S C) (files : DiskFiles F s) (status : ℕ) (new : Streams S C) (left : DiskFiles F s)

@@ -25,7 +25,7 @@ ghost use Rattle.bac_laws.specs.Listed.{ListsWhatCame};
 ghost use Rattle.bac_laws.specs.Played.{PlaysScript};
 ghost use Rattle.bac_laws.specs.Printed.{AsksFew};
 ghost use Rattle.bac_laws.specs.Rows.{PrintsFileRows};
-ghost use Rattle.bac_laws.specs.Served.{AnswersOnly};
+ghost use Rattle.bac_laws.specs.Served.{AnswersOnly, ServesDevice};
 
 use bac_desks::Clock as WaitClock;
 use bac_files::FileOf;
@@ -147,7 +147,8 @@ where
 }
 
 /// `serve` sends answers alone: each right behind the datagram that it answers, to who asked, and
-/// one at most.
+/// one at most. Of all that comes, what the device of the script on the input has a reply to is
+/// answered by that reply.
 pub fn serve_answers_only<
     S: Tracing + Recalls,
     F: Start,
@@ -173,7 +174,9 @@ where
         S.Socket.receives S.Socket.receives_within) S.traces machine.old.sockets
         machine.new.sockets es
         × AnswersOnly said es (O.contents console.old.output)
-        (O.contents console.new.output) result }
+        (O.contents console.new.output) result
+        × ((script : List ℕ) → I.remaining console.old.input ≡ Some script
+        → ServesDevice said script es result) }
 {
     run(machine, console, alloc, waits, words, counts)
 }
