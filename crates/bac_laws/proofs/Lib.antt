@@ -23,4 +23,5 @@ pub mod Kept
 pub mod Lists
 pub mod Epochs
 pub mod Checks
+pub mod Left
 pub mod Played

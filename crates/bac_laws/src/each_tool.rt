@@ -4,7 +4,7 @@ ghost use Rattle.std.specs.Prelude.{◌≡◌, ◌≢◌, ℕ, List, [], Ok, Non
 ghost use Rattle.std.specs.String.{string_bytes};
 ghost use Rattle.sqlite_trees.specs.View.{doubt};
 ghost use Rattle.sqlite_wal.specs.Files.{image_at};
-ghost use Rattle.bac_files.specs.Parts.{Listing, Reading};
+ghost use Rattle.bac_files.specs.Parts.{Listing, Reading, part_rules};
 ghost use Rattle.bac_heeding.specs.Ports.{Event};
 ghost use Rattle.bac_ports.specs.Sockets.{socket_rules};
 ghost use Rattle.bac_tools.specs.Run.{AskFor};
@@ -18,7 +18,7 @@ ghost use Rattle.bac_words.specs.declared.job.PropertyReading.{PropertyReading a
 ghost use Rattle.bac_words.specs.declared.job.PropertyWriting.{PropertyWriting as WriteWords};
 ghost use Rattle.bac_words.specs.declared.job.ServedDevice.{ServedDevice as ServeWords};
 ghost use Rattle.bac_laws.specs.Asked.{PrintsWhatCame, ReadsOnce, WritesOnce};
-ghost use Rattle.bac_laws.specs.Checked.{IsWhole, PrintsCounts};
+ghost use Rattle.bac_laws.specs.Checked.{IsWhole, LeavesAsFound, PrintsCounts};
 ghost use Rattle.bac_laws.specs.Events.{CanBeCaptured, IsCaptured};
 ghost use Rattle.bac_laws.specs.Found.{FindsWhatCame};
 ghost use Rattle.bac_laws.specs.Listed.{ListsWhatCame};
@@ -277,6 +277,7 @@ where
 
 /// `check` of a file that ends with 0 found an archive in it, left it as it is, and of each epoch
 /// of its logs each number is in one row, and in no other; what it prints is what is counted there.
+/// However it ends, but without memory, what it finds is left as it was.
 pub fn check_finds_each_number<
     S: Tracing + Recalls,
     F: Start,
@@ -297,7 +298,7 @@ pub fn check_finds_each_number<
 ) -> u8
 where
     W: Drop,
-    ensures { (said : CheckWords) → AskFor (map string_bytes words.now) (job.Check said)
+    ensures finds { (said : CheckWords) → AskFor (map string_bytes words.now) (job.Check said)
         → result ≡ 0
         → (listing : Listing) × (listed : Q) × Q.lists machine.old.folders said.file listing listed
         × (listing ≡ Ok None → (found : Reading)
@@ -305,6 +306,11 @@ where
         × (doubt found.is_clean ≡ 0 → (found.left ≡ found.found) × IsWhole found.found
         × PrintsCounts found.found (O.contents console.old.output)
         (O.contents console.new.output))) }
+    ensures leaves { (said : CheckWords) → AskFor (map string_bytes words.now) (job.Check said)
+        → result ≢ 5
+        → (listing : Listing) × (listed : Q) × Q.lists machine.old.folders said.file listing listed
+        × (listing ≡ Ok None → LeavesAsFound (part_rules Q.lists Q.holds Q.bars) listed said.file
+        machine.new.folders) }
 {
     run(machine, console, alloc, waits, words, counts)
 }
