@@ -21,6 +21,7 @@ pub mod Few
 pub mod Jobs
 pub mod Kept
 pub mod Lists
+pub mod Listed
 pub mod Epochs
 pub mod Checks
 pub mod Left

@@ -37,7 +37,7 @@ part_of : (items : List Item) (why : Why) (next : ℕ) (old new : Held) → Appe
     → AppendsPart old new (items_text items ++ end_line why next)
 part_of items why next old new is = (items_text items ++ end_line why next, [], sym (append-nil _), is)
 
-longer : (old new : Held) (text more : List ℕ) → AppendsPart old new text → AppendsPart old new (text ++ more)
+pub longer : (old new : Held) (text more : List ℕ) → AppendsPart old new text → AppendsPart old new (text ++ more)
 longer old new text more (written, rest, is, appends) =
     (written, rest ++ more, ap (λ (l : List ℕ). l ++ more) is ∙ append_assoc written rest more, appends)
 

@@ -234,12 +234,12 @@ pub fn logs_prints_what_came<
 where
     W: Drop,
     ensures { (said : ListWords) → AskFor (map string_bytes words.now) (job.Logs said)
-        → said.instances ≢ [] → result ≡ 0
+        → said.instances ≢ []
         → (es : List Event) × IsCaptured (socket_rules S.opens S.closes S.Socket.sends
         S.Socket.receives S.Socket.receives_within) S.traces machine.old.sockets
         machine.new.sockets es
         × ListsWhatCame said es (O.contents console.old.output)
-        (O.contents console.new.output) }
+        (O.contents console.new.output) result }
 {
     run(machine, console, alloc, waits, words, counts)
 }
