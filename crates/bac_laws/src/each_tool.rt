@@ -211,8 +211,9 @@ where
     run(machine, console, alloc, waits, words, counts)
 }
 
-/// `logs` of logs that its words name, where it ends with 0, prints a line for each; each cell is
-/// what came from the device to the question for it, and nothing else is sent.
+/// `logs` of logs that its words name prints a line for each, up to one to whose question no answer
+/// came; each cell is what came from the device to the question for it, and nothing else is sent.
+/// Where it ends with 0, all lines are there.
 pub fn logs_prints_what_came<
     S: Tracing + Recalls,
     F: Start,
