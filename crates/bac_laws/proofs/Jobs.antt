@@ -18,7 +18,6 @@ use Rattle.bac_laws.proofs.Statuses.{told_fails, unasked_memory}
 use Rattle.bac_laws.specs.Asked.{PrintsWhatCame, ReadsOnce, WritesOnce}
 use Rattle.bac_laws.specs.Events.{IsCaptured}
 use Rattle.bac_laws.specs.Found.{FindsWhatCame}
-use Rattle.bac_laws.specs.Listed.{ListsWhatCame}
 use Rattle.bac_ports.specs.Sockets.{SocketRules}
 use Rattle.bac_print.specs.Output.{Held}
 use Rattle.bac_run.specs.Run.{RunsAll}

@@ -1,5 +1,5 @@
 -- What `check` leaves of a file, whatever it finds there.
-use Rattle.std.proofs.Common.{◌≡◌, ◌≢◌, inl, inr, refl, sym, ap, subst, ℕ, List, [], ◌∷◌, ◌++◌, length, Option, None, Some, Ok, Err, ◌∙◌, arith}
+use Rattle.std.proofs.Common.{◌≡◌, ◌≢◌, inl, inr, refl, ap, subst, ℕ, List, [], ◌∷◌, ◌++◌, length, Option, None, Ok, Err, ◌∙◌, arith}
 use Rattle.std.specs.Prelude.{Bool, IsTrue}
 use Rattle.std.proofs.lemmas.List.{length-append}
 use Rattle.sqlite_disk.specs.declared.Disk as disk

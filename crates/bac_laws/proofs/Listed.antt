@@ -1,29 +1,21 @@
 -- What `bac logs` does up to where its table ends.
-use Rattle.std.proofs.Common.{◌≡◌, ◌≢◌, ◌⊎◌, ◌++◌, ℕ, List, [], ◌∷◌, map, Option, None, Some, Result, Ok, Err, inl, inr, refl, sym, subst, ap, ◌∙◌, append_assoc, append-nil}
+use Rattle.std.proofs.Common.{◌≡◌, ◌≢◌, ◌⊎◌, ◌++◌, ℕ, List, [], ◌∷◌, map, None, Ok, Err, inl, inr, refl, sym, subst, ap, ◌∙◌, append_assoc, append-nil}
 use Rattle.std.specs.Prelude.{Bool, decimal}
 use Rattle.std.specs.Io.KnownBytes.{Appends}
-use Rattle.bac_apdu.specs.Npdu.{Place}
-use Rattle.bac_apdu.specs.declared.service.read_property.ReadProperty.{ReadProperty}
 use Rattle.bac_heeding.specs.Ports.{Event}
 use Rattle.bac_heeding.specs.declared.notes.Passed.{Passed}
 use Rattle.bac_laws.proofs.Captured.{captured_over, goes_on}
-use Rattle.bac_laws.proofs.Exchange.{Comes, Runs, exchanged}
-use Rattle.bac_laws.proofs.Statuses.{failed}
-use Rattle.bac_laws.specs.Events.{Exchanged, IsCaptured}
-use Rattle.bac_laws.specs.Listed.{AsksCell, AsksCells, AsksLogs, IsCellOf, ListsWhatCame}
-use Rattle.bac_link.specs.Exchanges.{Client, Leaves, next_way}
-use Rattle.bac_link.specs.Path.{towards}
-use Rattle.bac_link.specs.Requests.{next_invoke, request_octets}
-use Rattle.bac_link.specs.declared.exchanges.ExchangeFault.{ExchangeFault}
+use Rattle.bac_laws.proofs.Exchange.{Runs, exchanged}
+use Rattle.bac_laws.specs.Events.{IsCaptured}
+use Rattle.bac_laws.specs.Listed.{AsksLogs, ListsWhatCame}
+use Rattle.bac_link.specs.Exchanges.{Client, next_way}
+use Rattle.bac_link.specs.Requests.{next_invoke}
 use Rattle.bac_link.specs.declared.exchanges.ExchangeFault.TheVariants as exchange
-use Rattle.bac_link.specs.declared.exchanges.Verdict.{Verdict}
-use Rattle.bac_link.specs.declared.request.Request.{Request}
 use Rattle.bac_link.specs.declared.request.Request.TheVariants as request
 use Rattle.bac_link.specs.declared.transactions.Transactions.{Transactions}
 use Rattle.bac_ports.specs.Sockets.{SocketRules, link_over, own_address, socket_asks}
 use Rattle.bac_ports.specs.declared.udp_link.UdpLink.{UdpLink}
 use Rattle.bac_print.specs.Output.{Held}
-use Rattle.bac_query.specs.Cells.{ShowsCell}
 use Rattle.bac_query.specs.Reading.{Answer, Prints, Session, printing}
 use Rattle.bac_query.specs.Tables as table
 use Rattle.bac_query.specs.Tables.{Row, client, columns, head_line, property_of}
@@ -38,8 +30,8 @@ use Rattle.bac_words.specs.declared.job.Asked.{Asked}
 use Rattle.bac_words.specs.declared.job.LogListing.{LogListing}
 use Rattle.std.specs.Io.KnownBytes.{Keeps}
 use Rattle.bac_laws.proofs.Captured.{captured_unopened, nothing_captured}
-use Rattle.bac_laws.proofs.Lists.{AsSaid, adds_cell, appends_none, appends_on, as_asked, left_so, lists, prints_row, adds_cells}
-use Rattle.bac_laws.proofs.Statuses.{Ended, done_so, ended, kept_none, unasked_memory, unasked_one, unasked_two}
+use Rattle.bac_laws.proofs.Lists.{AsSaid, adds_cell, appends_none, appends_on, as_asked, lists, prints_row, adds_cells}
+use Rattle.bac_laws.proofs.Statuses.{Ended, done_so, ended, unasked_one, unasked_two}
 use Rattle.bac_laws.proofs.Written.{longer}
 use Rattle.bac_laws.specs.Asked.{IsUnasked}
 use Rattle.bac_laws.specs.Listed.{EndsTable, StopsAt, StopsNext}

@@ -1,16 +1,14 @@
 -- What `bac logs` does for logs that are named, as events.
-use Rattle.std.proofs.Common.{◌≡◌, ◌≢◌, ◌++◌, ℕ, List, [], ◌∷◌, map, Option, None, Some, Result, Ok, Err, inl, inr, refl, sym, subst, ap, ◌∙◌, append_assoc, append-nil}
-use Rattle.std.specs.Prelude.{Bool, decimal}
+use Rattle.std.proofs.Common.{◌≡◌, ◌≢◌, ◌++◌, ℕ, List, [], ◌∷◌, Option, None, Some, Result, Ok, Err, inl, inr, refl, sym, subst, ap, ◌∙◌, append_assoc, append-nil}
+use Rattle.std.specs.Prelude.{decimal}
 use Rattle.std.specs.Io.KnownBytes.{Appends}
 use Rattle.bac_apdu.specs.Npdu.{Place}
 use Rattle.bac_apdu.specs.declared.service.read_property.ReadProperty.{ReadProperty}
 use Rattle.bac_heeding.specs.Ports.{Event}
-use Rattle.bac_heeding.specs.declared.notes.Passed.{Passed}
-use Rattle.bac_laws.proofs.Captured.{captured_over, goes_on}
+use Rattle.bac_laws.proofs.Captured.{goes_on}
 use Rattle.bac_laws.proofs.Exchange.{Comes, Runs, exchanged}
-use Rattle.bac_laws.proofs.Statuses.{failed}
-use Rattle.bac_laws.specs.Events.{Exchanged, IsCaptured}
-use Rattle.bac_laws.specs.Listed.{AsksCell, AsksCells, AsksLogs, IsCellOf, ListsWhatCame}
+use Rattle.bac_laws.specs.Events.{Exchanged}
+use Rattle.bac_laws.specs.Listed.{AsksCell, AsksCells, AsksLogs, IsCellOf}
 use Rattle.bac_link.specs.Exchanges.{Client, Leaves, next_way}
 use Rattle.bac_link.specs.Path.{towards}
 use Rattle.bac_link.specs.Requests.{next_invoke, request_octets}
@@ -20,22 +18,15 @@ use Rattle.bac_link.specs.declared.exchanges.Verdict.{Verdict}
 use Rattle.bac_link.specs.declared.request.Request.{Request}
 use Rattle.bac_link.specs.declared.request.Request.TheVariants as request
 use Rattle.bac_link.specs.declared.transactions.Transactions.{Transactions}
-use Rattle.bac_ports.specs.Sockets.{SocketRules, link_over, own_address, socket_asks}
+use Rattle.bac_ports.specs.Sockets.{SocketRules, socket_asks}
 use Rattle.bac_ports.specs.declared.udp_link.UdpLink.{UdpLink}
 use Rattle.bac_print.specs.Output.{Held}
 use Rattle.bac_query.specs.Cells.{ShowsCell}
-use Rattle.bac_query.specs.Reading.{Answer, Session, printing}
+use Rattle.bac_query.specs.Reading.{Session, printing}
 use Rattle.bac_query.specs.Tables as table
 use Rattle.bac_query.specs.Tables.{Row, client, columns, head_line, property_of}
-use Rattle.bac_tools.specs.Asking.{of_answer}
-use Rattle.bac_tools.specs.Ending.{Ending}
-use Rattle.bac_tools.specs.Faults.{of_query}
-use Rattle.bac_tools.specs.Run.{Ends, ListsAsSaid, trend_log}
-use Rattle.bac_tools.specs.Sockets.{Outside, transactions_with}
-use Rattle.bac_tools.specs.declared.fault.Fault.TheVariants as fault
 use Rattle.bac_wire.specs.Primitive.{Id}
 use Rattle.bac_words.specs.declared.job.Asked.{Asked}
-use Rattle.bac_words.specs.declared.job.LogListing.{LogListing}
 
 -- ---- a client that asks as the words say
 

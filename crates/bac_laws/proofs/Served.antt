@@ -1,5 +1,5 @@
 -- What `bac serve` does, as the program: its device is that of the script on its input.
-use Rattle.std.proofs.Common.{◌≡◌, ◌≢◌, ◌⊎◌, ◌++◌, ◌≤◌, ◌<◌, ℕ, true, false, List, [], ◌∷◌, Option, None, Some, Result, Ok, Err, inl, inr, refl, sym, subst, ap, ◌∙◌, append-nil, arith}
+use Rattle.std.proofs.Common.{◌≡◌, ◌≢◌, ◌⊎◌, ℕ, true, false, List, [], Option, None, Some, Result, Ok, Err, inl, inr, refl, sym, subst, ap, ◌∙◌, append-nil, arith}
 use Rattle.std.specs.Prelude.{Bool, length}
 use Rattle.std.specs.Io.KnownBytes.{Keeps}
 use Rattle.std.specs.Str.Lines.{lines}
@@ -9,14 +9,12 @@ use Rattle.bac_laws.proofs.Captured.{captured_over, captured_unopened, nothing_c
 use Rattle.bac_laws.proofs.Serves.{Over, served}
 use Rattle.bac_laws.proofs.Statuses.{Ended, done_so, ended, failed, told_fails, told_memory}
 use Rattle.bac_laws.specs.Events.{IsCaptured}
-use Rattle.bac_laws.specs.Served.{AnswersEach, AnswersOnly, Describes, IsCutOff, IsThrough, IsUnserved, Replies, ServesDevice}
+use Rattle.bac_laws.specs.Served.{AnswersOnly, Describes, IsThrough, IsUnserved, Replies, ServesDevice}
 use Rattle.bac_objects.specs.Build.{build_fault, built}
-use Rattle.bac_objects.specs.State.{State}
 use Rattle.bac_objects.specs.declared.build.BuildFault.{BuildFault}
 use Rattle.bac_objects.specs.declared.lines.DeviceLine.{DeviceLine}
 use Rattle.bac_objects.specs.declared.lines.ObjectLine.{ObjectLine}
 use Rattle.bac_ports.specs.Sockets.{SocketRules}
-use Rattle.bac_ports.specs.declared.port.SocketFault.{SocketFault}
 use Rattle.bac_print.specs.Output.{Held}
 use Rattle.bac_script.specs.Configuration.{Configures, Plan, plan_of}
 use Rattle.bac_script.specs.declared.replay.fault.ReplayFault.{ReplayFault}

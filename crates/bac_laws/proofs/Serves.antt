@@ -1,7 +1,6 @@
 -- What `bac serve` does, as events.
-use Rattle.std.proofs.Common.{◌≡◌, ◌≢◌, ◌⊎◌, ◌++◌, ◌+◌, ◌≤◌, ℕ, zero, suc, true, false, List, [], ◌∷◌, Option, None, Some, Result, Ok, Err, inl, inr, refl, sym, subst, ap, ◌∙◌, append-nil, append_assoc, arith}
+use Rattle.std.proofs.Common.{◌≡◌, ◌⊎◌, ◌++◌, ◌+◌, ◌≤◌, ℕ, zero, suc, true, false, List, [], ◌∷◌, Option, None, Some, Result, Ok, Err, inl, inr, refl, sym, subst, ap, ◌∙◌, append_assoc, arith}
 use Rattle.std.specs.Prelude.{Bool, length, option_map}
-use Rattle.std.specs.Io.KnownBytes.{Keeps}
 use Rattle.bac_apdu.specs.Apdu.{Apdu}
 use Rattle.bac_apdu.specs.Frame.{Frame, Unicast, Broadcast, Forwarded, Function, frame_at}
 use Rattle.bac_device.specs.Answer.{answer, answer_frame, answer_heard, returning}
@@ -11,26 +10,16 @@ use Rattle.bac_device.specs.declared.reply.Receiver.{Receiver}
 use Rattle.bac_device.specs.declared.reply.Receiver.TheVariants.{Sender, Address}
 use Rattle.bac_device.specs.declared.reply.Reply.{Reply}
 use Rattle.bac_heeding.specs.Ports.{Event, Received, Sent, came_in}
-use Rattle.bac_heeding.specs.declared.notes.Passed.{Passed}
-use Rattle.bac_laws.proofs.Captured.{Goes, captured_over, captured_unopened, nothing_captured}
-use Rattle.bac_laws.proofs.Statuses.{failed}
-use Rattle.bac_laws.specs.Events.{IsCaptured}
-use Rattle.bac_laws.specs.Served.{AnswersEach, AnswersOnly, IsCutOff, Replies, asker_in, next_of, reply_by}
+use Rattle.bac_laws.proofs.Captured.{Goes}
+use Rattle.bac_laws.specs.Served.{AnswersEach, IsCutOff, Replies, asker_in, next_of, reply_by}
 use Rattle.bac_objects.specs.State.{State}
 use Rattle.bac_ports.specs.Sockets.{SocketRules}
 use Rattle.bac_ports.specs.declared.port.Heard.{Heard}
 use Rattle.bac_ports.specs.declared.port.SocketFault.{SocketFault}
 use Rattle.bac_ports.specs.declared.port.SocketFault.TheVariants.{Timeout, Failed}
-use Rattle.bac_print.specs.Output.{Held}
 use Rattle.bac_serve.specs.Serving as serving
 use Rattle.bac_serve.specs.Serving.{Done, Handles, IsServed, Sends, Server, Serves, ServesNext, receiver_of, server}
-use Rattle.bac_tools.specs.Ending.{Ending}
-use Rattle.bac_tools.specs.Run.{Ends}
-use Rattle.bac_tools.specs.Serving as tool
-use Rattle.bac_tools.specs.Streams.{Streams}
-use Rattle.bac_tools.specs.declared.fault.Fault.TheVariants as fault
 use Rattle.bac_wire.specs.Stamp.{CivilTime}
-use Rattle.bac_words.specs.declared.job.ServedDevice.{ServedDevice}
 
 -- ---- whom an answer goes to
 
@@ -181,8 +170,7 @@ module _ {S P C : Type 0} (rules : SocketRules S P) (tells : C → Option CivilT
     inr (inr (omega arith)),
   )
   next (suc n) old result new (Err Timeout, mid, receives, (now, seen, looks, rest)) =
-      let it = next n (server mid _ seen) result new rest in
-      (
+      let it = next n (server mid _ seen) result new rest in (
         Received (Err Timeout) ∷ it.0,
         (mid, inl receives, it.1),
         it.2,
@@ -191,19 +179,17 @@ module _ {S P C : Type 0} (rules : SocketRules S P) (tells : C → Option CivilT
         (λ more after. (now, it.5 more after)),
         faulty_behind n (Received (Err Timeout)) it.0 result it.6,
       )
-  next (suc n) old result new (Err Failed, mid, receives, (is, (same, device, clock))) =
-      (
-        Received (Err Failed) ∷ [],
-        (mid, inl receives, same),
-        tt,
-        omega arith,
-        (λ done. absurd (let e : Err Failed ≡ Ok tt = sym is ∙ done in cc)),
-        (λ more rest. (None, subst (λ (d : State). Replies d None more) device rest)),
-        inr (inl ([], refl)),
-      )
+  next (suc n) old result new (Err Failed, mid, receives, (is, (same, device, clock))) = (
+    Received (Err Failed) ∷ [],
+    (mid, inl receives, same),
+    tt,
+    omega arith,
+    (λ done. absurd (let e : Err Failed ≡ Ok tt = sym is ∙ done in cc)),
+    (λ more rest. (None, subst (λ (d : State). Replies d None more) device rest)),
+    inr (inl ([], refl)),
+  )
   next (suc n) old result new (Ok heard, mid, receives, (is, (sent, (now, looks, handles)))) =
-      let it = handles_one heard heard.datagram (server mid (serving.ticked_at old.device now) new.clock) sent new refl handles in
-      (
+      let it = handles_one heard heard.datagram (server mid (serving.ticked_at old.device now) new.clock) sent new refl handles in (
         Received (Ok heard) ∷ it.0,
         (mid, inl receives, it.1),
         it.2,
@@ -250,4 +236,3 @@ module _ {S P C : Type 0} (rules : SocketRules S P) (tells : C → Option CivilT
   served (suc count) old result new (first, mid, next_one, rest) =
       behind_one count old mid new first result (next 18446744073709551615 old first mid next_one) rest
       (λ more. served count mid result new more)
-

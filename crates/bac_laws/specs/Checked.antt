@@ -1,7 +1,7 @@
 -- What `bac check` means that ends with 0, and what it prints then. Read `HasEach`, then `IsWhole` and `PrintsCounts`;
 -- what it leaves, `LeavesAsFound`.
-use Rattle.std.specs.Prelude.{◌≡◌, ◌⊎◌, ◌==◌, ℕ, pos, ◌+◌, ◌*◌, ◌<◌, ◌≤◌, if◌then◌else◌, List, [], length, map, flat_map}
-use Rattle.std.specs.Prelude.{IsTrue, Option, None, Some, is_none, is_some}
+use Rattle.std.specs.Prelude.{◌≡◌, ◌⊎◌, ◌==◌, ℕ, pos, ◌+◌, ◌*◌, ◌<◌, ◌≤◌, if◌then◌else◌, List, [], length, map}
+use Rattle.std.specs.Prelude.{flat_map, IsTrue, Option, None, Some, is_none, is_some}
 use Rattle.std.specs.List.{Contains, count_by, sum_by}
 use Rattle.std.specs.Io.KnownBytes.{Appends}
 use Rattle.sqlite_value.specs.Order.{Row as Columns, column}
@@ -96,8 +96,8 @@ pub record PrintsCounts (db : Database) (before after : Held) : Type 0 where
 
 -- ---- what is left
 
--- What is found in a file is left as it was, if it has the tables of an archive, the disk gave back what was written, and
--- no fault of its shut the database. Or the file isn't opened.
+-- What is found in a file is left as it was, if it has the tables of an archive, the disk gave back what was written,
+-- and no fault of the disk shut the database. Or the file isn't opened.
 abbrev pub LeavesAsFound : {P : Type 0} → PartRules P → P → List ℕ → P → Type 0
 LeavesAsFound rules old name new = ((reason : NotOpened) × rules.bars old name reason new)
     ⊎ ((found : Reading) × rules.holds old name found new

@@ -1,7 +1,7 @@
 -- What a run sends over its sockets and what comes, as one list of events. Read `IsCaptured`; for one request
 -- `Exchanged`.
-use Rattle.std.specs.Prelude.{◌≡◌, ℕ, zero, suc, ◌+◌, ◌≤◌, Bool, true, false, List, [], ◌∷◌, ◌++◌, replicate, Option, Some, None}
-use Rattle.std.specs.Prelude.{IsSome, Result, Ok, Err, IfOk}
+use Rattle.std.specs.Prelude.{◌≡◌, ℕ, zero, suc, ◌+◌, ◌≤◌, Bool, true, false, List, [], ◌∷◌, ◌++◌, replicate}
+use Rattle.std.specs.Prelude.{Option, Some, None, IsSome, Result, Ok, Err, IfOk}
 use Rattle.std.specs.List.{Contains}
 use Rattle.bac_heeding.specs.Ports.{Event, Sent, Received}
 use Rattle.bac_link.specs.Datagrams.{answers_to}
@@ -60,8 +60,8 @@ sent_in (Received received ∷ es) = sent_in es
 abbrev pub came : List ℕ → List ℕ → Event
 came from datagram = Received (Ok (record { from = from; datagram = Some datagram }))
 
--- How many receives an answer is still waited for by, behind these events: none at first; 16 behind a send, unless it was
--- refused; one fewer behind each datagram, and none behind a receive that failed, as where the time was over. None if
+-- For how many more datagrams an answer is waited for, behind these events: 16 behind a send, none if it was refused;
+-- one fewer behind each that came, none behind a receive that failed, as where the time was over. It is nothing where
 -- something was sent while an answer was waited for, or received while none was.
 abbrev pub waited : ℕ → List Event → Option ℕ
 waited n [] = Some n
@@ -73,8 +73,8 @@ waited (suc n) (Received (Ok heard) ∷ es) = waited n es
 waited (suc n) (Received (Err fault) ∷ es) = waited zero es
 
 -- One request goes to a device, the same octets each time, and nothing else is sent. It is sent as often again as its
--- retries say, each time when it was waited long enough for an answer, and nothing that comes from the device answers
--- it; or this datagram comes from the device, the first that answers it, and behind it nothing is done.
+-- retries say, each time when an answer was waited for long enough, and nothing that comes from the device answers it;
+-- or this datagram comes from the device, the first that answers it, and behind it nothing is done.
 abbrev pub Exchanged : List ℕ → List ℕ → ℕ → List Event → Option (List ℕ) → Type 0
 Exchanged request to retries es None =
     (sent_in es ≡ replicate (retries + 1) (request, to)) × (waited 0 es ≡ Some 0)

@@ -124,9 +124,9 @@ abbrev pub IsWritten : Held → Held → List ℕ → ℕ → ℕ → Type 0
 IsWritten before after text ending status = (Appends before after text × (status ≡ ending))
     ⊎ (AppendsPart before after text × ((status ≡ 2) ⊎ (status ≡ 5)))
 
--- Nothing is asked or printed, and the status says so; or a line for each of these items, and the line of the end, which
--- is right, and the status is that of this end. Each number from where they begin is in one item, a record or a gap; and
--- each record came in this run from the device of the words.
+-- Nothing is asked or printed, and the status says so. Or a line for each of these items, and the line of the end, which
+-- is right, and so is the status. Each number from where they begin is in one item, a record or a gap; and each record
+-- came in this run from the device of the words.
 abbrev pub PrintsLog : (List ℕ → Type 0) → LogReading → List Event → Held → Held → ℕ → Type 0
 PrintsLog came said es before after status = ((es ≡ []) × Keeps before after × IsUnasked status)
     ⊎ ((items : List Item) × (why : Why) × (next : ℕ)
