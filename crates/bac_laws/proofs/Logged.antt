@@ -20,12 +20,12 @@ use Rattle.bac_laws.proofs.Asked.{Leads}
 use Rattle.bac_laws.proofs.Came.{Any, Hears, Known, log_stays, run_caught_up, run_known, run_limited}
 use Rattle.bac_laws.proofs.Captured.{captured_behind, captured_over, captured_unopened, goes_on, nothing_captured}
 use Rattle.bac_laws.proofs.Exchange.{Comes, Runs, exchanged}
-use Rattle.bac_laws.proofs.Statuses.{Ended as HasStatus, ended, unasked_memory, unasked_one, unasked_two}
+use Rattle.bac_laws.proofs.Statuses.{Ended as HasStatus, ended, told_memory, unasked_memory, unasked_one, unasked_two}
 use Rattle.bac_laws.proofs.Tools.{is_left, left_so}
 use Rattle.bac_laws.proofs.Walked.{brought, come}
 use Rattle.bac_laws.specs.Asked.{IsUnasked}
 use Rattle.bac_laws.specs.Events.{Exchanged, IsCaptured}
-use Rattle.bac_laws.specs.Printed.{CameFrom, ComesToFault, EndsRight, HasNoMore, HasRecord, HaveEachOnce, Ledger, PrintsLog}
+use Rattle.bac_laws.specs.Printed.{AreWrong, CameFrom, ComesToFault, EndsRight, HasNoMore, HasRecord, HaveEachOnce, Ledger, PrintsLog}
 use Rattle.bac_link.specs.Exchanges.{Ask, Way, next_way}
 use Rattle.bac_link.specs.Path.{Path, towards}
 use Rattle.bac_link.specs.declared.item.Item.{Item}
@@ -218,6 +218,16 @@ module _ {L : Type 0} {asks : Ask L} {leads : Leads asks Any} (ears : Hears lead
 
 -- ---- the tool
 
+-- which word it is
+wrong_words : (said : LogReading) (why : ToolFault) → IsNoWalk said.instance said.from said.count why → AreWrong said
+wrong_words said why (inl (outside, is)) = inl outside
+wrong_words said why (inr (inl (few, is))) = inr (inl few)
+wrong_words said why (inr (inr (zeroth, is))) = inr (inr zeroth)
+
+not_one : (status : ℕ) → HasStatus 2 status → status ≡ 1 → ⊥
+not_one status (inl two) one = absurd (let e : 2 ≡ 1 = sym two ∙ one in cc)
+not_one status (inr (more, five)) one = absurd (let e : 5 ≡ 1 = sym five ∙ one in cc)
+
 -- a word's value is told
 no_walk : (instance : ℕ) (from : Option ℕ) (count : ℕ) (why : ToolFault) → IsNoWalk instance from count why → exit_status why ≡ 1
 no_walk instance from count why (inl (outside, is)) = ap exit_status is
@@ -301,8 +311,8 @@ module _ {S P : Type 0} (rules : SocketRules S P) (changes : S → S → Type 0)
         × PrintsLog (CameFrom rules changes new said.asked.address) said es before after status
 
     prints_none : (said : LogReading) (old new : S) (before after : Held) (status : ℕ) → IsCaptured rules traces old new [] → Keeps before after
-        → IsUnasked status → Prints said old new before after status
-    prints_none said old new before after status same keeps why = ([], same, inl (refl, keeps, why))
+        → IsUnasked status → (status ≡ 1 → AreWrong said) → Prints said old new before after status
+    prints_none said old new before after status same keeps why wrong = ([], same, inl (refl, keeps, why, wrong))
 
     -- the peer of a link that was just made is the device's
     pub logged : (said : LogReading) → said.csv ≡ false → (passed : Passed) (old : Outlets S) (result : Ending) (new : Outlets S) (errors now : Held) (status : ℕ)
@@ -312,6 +322,7 @@ module _ {S P : Type 0} (rules : SocketRules S P) (changes : S → S → Type 0)
         prints_none said old.sockets new.sockets old.output new.output status
         (captured_unopened rules traces old.sockets new.sockets (own_address said.asked.local) said.asked.timeout why opens) quiet
         (unasked_two status (ended passed result (fault.Unopened why) errors now status is ends))
+        (λ one. absurd (not_one status (ended passed result (fault.Unopened why) errors now status is ends) one))
     logged said lines passed old result new errors now status (inr (port, between, last, opens, (fetching, left, (is, says), same, how), closes)) ends =
         let first = link_over said.asked.address port in
         let (it, (log, flaw)) = over said said.csv lines (printing first old.output) fetching (printing left new.output) is in
@@ -345,6 +356,7 @@ module _ {S P : Type 0} (rules : SocketRules S P) (changes : S → S → Type 0)
         prints_none said old.sockets new.sockets old.output new.output status (nothing_captured rules traces old.sockets new.sockets same) keeps
         (unasked_one status (subst (λ (n : ℕ). HasStatus n status) (no_walk said.instance said.from said.count fault none)
         (ended passed result fault errors now status is ends)))
+        (λ one. wrong_words said fault none)
     works tells said lines passed old result new errors now status (inr is, quiet, unread) ends =
         logged said lines passed (outlets_of old) result (outlets_of new) errors now status is ends
 
@@ -354,6 +366,7 @@ module _ {S P : Type 0} (rules : SocketRules S P) (changes : S → S → Type 0)
     runs passes tells said lines old status new (inl (told, keeps, (input, same, clock))) =
         prints_none said old.sockets new.sockets old.output new.output status (nothing_captured rules traces old.sockets new.sockets same) keeps
         (unasked_memory old.errors new.errors status told)
+        (λ one. absurd (let e : 5 ≡ 1 = sym (told_memory old.errors new.errors status told) ∙ one in cc))
     runs passes tells said lines old status new (inr (result, errors, is, ends)) =
         works tells said lines (passes new.sockets) old result (with_errors errors new) errors new.errors status is ends
 

@@ -13,6 +13,7 @@ use Rattle.bac_link.specs.Heard.{AckParameters, heard_in}
 use Rattle.bac_link.specs.Laws.{CoversEach}
 use Rattle.bac_link.specs.Ordinals.{is_ahead}
 use Rattle.bac_link.specs.Requests.{request_octets}
+use Rattle.bac_link.specs.Standard.{IsCount}
 use Rattle.bac_link.specs.declared.exchanges.Verdict.TheVariants as verdict
 use Rattle.bac_link.specs.declared.item.Item.{Item}
 use Rattle.bac_link.specs.declared.item.Item.TheVariants.{Gap, Logged}
@@ -26,7 +27,7 @@ use Rattle.bac_ports.specs.declared.port.Heard.{Heard}
 use Rattle.bac_print.specs.Output.{AppendsPart, Held}
 use Rattle.bac_query.specs.Ends.{end_line}
 use Rattle.bac_query.specs.Items.{items_text}
-use Rattle.bac_tools.specs.Run.{trend_log}
+use Rattle.bac_tools.specs.Run.{IsOutside, trend_log}
 use Rattle.bac_tools.specs.Status.{walk_status}
 use Rattle.bac_walk.specs.Walks.{shown_from}
 use Rattle.bac_walk.specs.declared.outcome.WalkFault.{WalkFault}
@@ -124,11 +125,16 @@ abbrev pub IsWritten : Held → Held → List ℕ → ℕ → ℕ → Type 0
 IsWritten before after text ending status = (Appends before after text × (status ≡ ending))
     ⊎ (AppendsPart before after text × ((status ≡ 2) ⊎ (status ≡ 5)))
 
--- Nothing is asked or printed, and the status says so. Or a line for each of these items, and the line of the end, which
--- is right, and so is the status. Each number from where they begin is in one item, a record or a gap; and each record
--- came in this run from the device of the words.
+-- the words mean no walk of a log: no log has this instance, no request this count, or no record this number
+abbrev pub AreWrong : LogReading → Type 0
+AreWrong said = IsOutside 20 said.instance ⊎ ((IsCount said.count → ⊥) ⊎ (said.from ≡ Some 0))
+
+-- Nothing is asked or printed, and the status says so, by 1 only of words that are wrong. Or a line for each of these
+-- items, and the line of the end, which is right, and so is the status. Each number from where they begin is in one
+-- item, a record or a gap; and each record came in this run from the device of the words.
 abbrev pub PrintsLog : (List ℕ → Type 0) → LogReading → List Event → Held → Held → ℕ → Type 0
-PrintsLog came said es before after status = ((es ≡ []) × Keeps before after × IsUnasked status)
+PrintsLog came said es before after status =
+    ((es ≡ []) × Keeps before after × IsUnasked status × (status ≡ 1 → AreWrong said))
     ⊎ ((items : List Item) × (why : Why) × (next : ℕ)
     × IsWritten before after (items_text items ++ end_line why next) (walk_status why) status
     × EndsRight came said es items why next
