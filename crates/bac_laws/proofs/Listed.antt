@@ -1,65 +1,70 @@
 -- What `bac logs` does up to where its table ends.
-use Rattle.std.proofs.Common.{◌≡◌, ◌≢◌, ◌⊎◌, ◌++◌, ℕ, List, [], ◌∷◌, map, None, Ok, Err, inl, inr, refl, sym, subst, ap, ◌∙◌, append_assoc, append-nil}
+use Rattle.std.proofs.Common.{◌≡◌, ◌≢◌, ◌⊎◌, ◌++◌, ℕ, List, [], ◌∷◌, map, None, Ok, Err, inl, inr, refl, sym, subst, ap, ◌∙◌, append_assoc, append-nil, Option, Some, Result}
 use Rattle.std.specs.Prelude.{Bool, decimal}
-use Rattle.std.specs.Io.KnownBytes.{Appends}
+use Rattle.std.specs.Io.KnownBytes.{Appends, Keeps}
 use Rattle.bac_heeding.specs.Ports.{Event}
 use Rattle.bac_heeding.specs.declared.notes.Passed.{Passed}
-use Rattle.bac_laws.proofs.Captured.{captured_over, goes_on}
-use Rattle.bac_laws.proofs.Exchange.{Runs, exchanged}
-use Rattle.bac_laws.specs.Events.{IsCaptured}
-use Rattle.bac_laws.specs.Listed.{AsksLogs, ListsWhatCame}
-use Rattle.bac_link.specs.Exchanges.{Client, next_way}
-use Rattle.bac_link.specs.Requests.{next_invoke}
-use Rattle.bac_link.specs.declared.exchanges.ExchangeFault.TheVariants as exchange
-use Rattle.bac_link.specs.declared.request.Request.TheVariants as request
-use Rattle.bac_link.specs.declared.transactions.Transactions.{Transactions}
-use Rattle.bac_ports.specs.Sockets.{SocketRules, link_over, own_address, socket_asks}
-use Rattle.bac_ports.specs.declared.udp_link.UdpLink.{UdpLink}
-use Rattle.bac_print.specs.Output.{Held}
-use Rattle.bac_query.specs.Reading.{Answer, Prints, Session, printing}
-use Rattle.bac_query.specs.Tables as table
-use Rattle.bac_query.specs.Tables.{Row, client, columns, head_line, property_of}
-use Rattle.bac_tools.specs.Asking.{of_answer}
-use Rattle.bac_tools.specs.Ending.{Ending}
-use Rattle.bac_tools.specs.Faults.{of_query}
-use Rattle.bac_tools.specs.Run.{Ends, ListsAsSaid, trend_log}
-use Rattle.bac_tools.specs.Sockets.{Outside, transactions_with}
-use Rattle.bac_tools.specs.declared.fault.Fault.TheVariants as fault
-use Rattle.bac_wire.specs.Primitive.{Id}
-use Rattle.bac_words.specs.declared.job.Asked.{Asked}
-use Rattle.bac_words.specs.declared.job.LogListing.{LogListing}
-use Rattle.std.specs.Io.KnownBytes.{Keeps}
-use Rattle.bac_laws.proofs.Captured.{captured_unopened, nothing_captured}
+use Rattle.bac_laws.proofs.Captured.{captured_over, captured_unopened, goes_on, nothing_captured}
+use Rattle.bac_laws.proofs.Exchange.{Comes, Runs, exchanged}
 use Rattle.bac_laws.proofs.Lists.{AsSaid, adds_cell, appends_none, appends_on, as_asked, lists, prints_row, adds_cells}
 use Rattle.bac_laws.proofs.Statuses.{Ended, done_so, ended, unasked_one, unasked_two}
 use Rattle.bac_laws.proofs.Written.{longer}
 use Rattle.bac_laws.specs.Asked.{IsUnasked}
-use Rattle.bac_laws.specs.Listed.{EndsTable, StopsAt, StopsNext}
-use Rattle.bac_print.specs.Output.{AppendsPart}
-use Rattle.bac_query.specs.declared.fault.QueryFault.{QueryFault}
+use Rattle.bac_laws.specs.Events.{Exchanged, IsCaptured}
+use Rattle.bac_laws.specs.Listed.{AsksCells, AsksLogs, AsksNext, AsksSome, EndsTable, ListsWhatCame, StopsAt, StopsNext}
+use Rattle.bac_link.specs.Exchanges.{Client, next_way}
+use Rattle.bac_link.specs.Path.{towards}
+use Rattle.bac_link.specs.Requests.{next_invoke, request_octets}
+use Rattle.bac_link.specs.declared.exchanges.ExchangeFault.TheVariants as exchange
+use Rattle.bac_link.specs.declared.exchanges.ExchangeFault.{ExchangeFault}
+use Rattle.bac_link.specs.declared.request.Request.TheVariants as request
+use Rattle.bac_link.specs.declared.transactions.Transactions.{Transactions}
+use Rattle.bac_ports.specs.Sockets.{SocketRules, link_over, own_address, socket_asks}
+use Rattle.bac_ports.specs.declared.udp_link.UdpLink.{UdpLink}
+use Rattle.bac_print.specs.Output.{Held, AppendsPart}
+use Rattle.bac_query.specs.Reading.{Answer, Prints, Session, printing}
+use Rattle.bac_query.specs.Tables as table
+use Rattle.bac_query.specs.Tables.{Row, client, columns, head_line, property_of}
 use Rattle.bac_query.specs.declared.fault.QueryFault.TheVariants.{Exchange, Write, Memory}
-use Rattle.bac_tools.specs.Run.{IsNoLogs}
+use Rattle.bac_query.specs.declared.fault.QueryFault.{QueryFault}
+use Rattle.bac_tools.specs.Asking.{of_answer}
+use Rattle.bac_tools.specs.Ending.{Ending}
+use Rattle.bac_tools.specs.Faults.{of_query}
+use Rattle.bac_tools.specs.Run.{Ends, ListsAsSaid, trend_log, IsNoLogs}
+use Rattle.bac_tools.specs.Sockets.{Outside, transactions_with}
 use Rattle.bac_tools.specs.Status.{exit_status}
+use Rattle.bac_tools.specs.declared.fault.Fault.TheVariants as fault
 use Rattle.bac_tools.specs.declared.fault.Fault.{Fault}
+use Rattle.bac_wire.specs.Primitive.{Id}
+use Rattle.bac_words.specs.declared.job.Asked.{Asked}
+use Rattle.bac_words.specs.declared.job.LogListing.{LogListing}
 
 -- ---- why it ends
 
--- a fault of a line says this where no answer came; no line ends with a refusal, a bad reply or a refused write
-abbrev Stops : Type 0 → QueryFault → Type 0
-Stops silent (Exchange exchange.Lost) = silent
-Stops silent (Exchange exchange.TooLong) = Unit {0}
-Stops silent (Exchange (exchange.Refused refusal)) = ⊥
-Stops silent (Exchange exchange.BadReply) = ⊥
-Stops silent Memory = Unit {0}
-Stops silent Write = ⊥
+-- a fault of a line says this where no answer came, and else that; no line ends with a refusal, a bad reply or a refused
+-- write
+abbrev Stops : Type 0 → Type 0 → QueryFault → Type 0
+Stops silent some (Exchange exchange.Lost) = silent
+Stops silent some (Exchange exchange.TooLong) = some
+Stops silent some (Exchange (exchange.Refused refusal)) = ⊥
+Stops silent some (Exchange exchange.BadReply) = ⊥
+Stops silent some Memory = some
+Stops silent some Write = ⊥
 
-stops_so : (a b : Type 0) (why : QueryFault) → (a → b) → Stops a why → Stops b why
-stops_so a b (Exchange exchange.Lost) so is = so is
-stops_so a b (Exchange exchange.TooLong) so is = tt
-stops_so a b (Exchange (exchange.Refused refusal)) so is = absurd is
-stops_so a b (Exchange exchange.BadReply) so is = absurd is
-stops_so a b Memory so is = tt
-stops_so a b Write so is = absurd is
+stops_so : (a b c d : Type 0) (why : QueryFault) → (a → b) → (c → d) → Stops a c why → Stops b d why
+stops_so a b c d (Exchange exchange.Lost) so some is = so is
+stops_so a b c d (Exchange exchange.TooLong) so some is = some is
+stops_so a b c d (Exchange (exchange.Refused refusal)) so some is = absurd is
+stops_so a b c d (Exchange exchange.BadReply) so some is = absurd is
+stops_so a b c d Memory so some is = some is
+stops_so a b c d Write so some is = absurd is
+
+-- all cells are some
+all_some : (asked : Asked) (log : Id) (properties : List ℕ) (es : List Event) (text : List ℕ) → AsksCells asked log properties es text
+    → AsksSome asked log properties es
+all_some asked log [] es text (none, is) = none
+all_some asked log (property ∷ properties) es text (first, rest, cell, more, shape, is, one, asks) =
+    inr (inr (first, rest, cell, shape, one, all_some asked log properties rest more asks))
 
 part_on : {S P : Type 0} (rules : SocketRules S P) (old mid new : Held) (first rest : List ℕ) → Appends old mid first → AppendsPart mid new rest → AppendsPart old new (first ++ rest)
 part_on rules old mid new first rest is (written, more, shape, appends) = (
@@ -73,9 +78,37 @@ module _ {S P : Type 0} (rules : SocketRules S P) where
   abbrev At : Type 0
   At = Client (UdpLink P)
 
+  -- whatever came to a question
+  some_came : (asked : Asked) (log : Id) (property : ℕ) (properties : List ℕ) (old : At) → AsSaid asked old → (es : List Event)
+      (answer : Result (List ℕ) ExchangeFault)
+      → Comes rules (next_way old.transactions) (request.ReadProperty (property_of log property)) old.link.peer es answer
+      → AsksSome asked log (property ∷ properties) es
+  some_came asked log property properties old so es answer comes = go answer comes
+    where
+      t : Transactions
+      t = old.transactions
+
+      by : (got : Option (List ℕ))
+          → Exchanged (request_octets (towards t.route) (next_invoke t.invoke) (request.ReadProperty (property_of log property))) old.link.peer t.retries es got
+          → AsksSome asked log (property ∷ properties) es
+      by got is = inr (inl (
+        next_invoke t.invoke,
+        got,
+        as_asked asked t.route old.link.peer t.retries (next_invoke t.invoke) (request.ReadProperty (property_of log property)) es got so.route so.peer so.retries
+            is,
+      ))
+
+      go : (a : Result (List ℕ) ExchangeFault)
+          → Comes rules (next_way old.transactions) (request.ReadProperty (property_of log property)) old.link.peer es a → AsksSome asked log (property ∷ properties) es
+      go (Ok datagram) (shape, verdict) = by (Some datagram) shape
+      go (Err (exchange.Refused refusal)) (datagram, shape, verdict) = by (Some datagram) shape
+      go (Err exchange.BadReply) (datagram, shape, verdict) = by (Some datagram) shape
+      go (Err exchange.Lost) shape = by None shape
+      go (Err exchange.TooLong) none = inl none
+
   fails_cell : (asked : Asked) (log : Id) (property : ℕ) (properties : List ℕ) (why : QueryFault) (old new : At) → AsSaid asked old
       → table.FailsCell (socket_asks rules) (property_of log property) why old new
-      → (es : List Event) × Runs rules es old.link.port new.link.port × Stops (StopsAt asked log (property ∷ properties) es) why
+      → (es : List Event) × Runs rules es old.link.port new.link.port × Stops (StopsAt asked log (property ∷ properties) es) (AsksSome asked log (property ∷ properties) es) why
   fails_cell asked log property properties (Exchange exchange.Lost) old new so ((exchanges, leaves), silent) =
       let r = request.ReadProperty (property_of log property) in
       let it = exchanged rules (next_way old.transactions) r old.link (Err exchange.Lost) new.link exchanges in (
@@ -89,25 +122,26 @@ module _ {S P : Type 0} (rules : SocketRules S P) where
       )
   fails_cell asked log property properties (Exchange exchange.TooLong) old new so ((exchanges, leaves), silent) =
       let it = exchanged rules (next_way old.transactions) (request.ReadProperty (property_of log property)) old.link (Err exchange.TooLong) new.link exchanges in
-      (it.1, it.2, tt)
+      (it.1, it.2, inl it.3)
   fails_cell asked log property properties (Exchange (exchange.Refused refusal)) old new so (asks, silent) = absurd silent
   fails_cell asked log property properties (Exchange exchange.BadReply) old new so (asks, silent) = absurd silent
   fails_cell asked log property properties Memory old new so (answer, (exchanges, leaves)) =
       let it = exchanged rules (next_way old.transactions) (request.ReadProperty (property_of log property)) old.link answer new.link exchanges in
-      (it.1, it.2, tt)
+      (it.1, it.2, some_came asked log property properties old so it.1 answer it.3)
   fails_cell asked log property properties Write old new so is = absurd is
 
   fails_cells : (asked : Asked) (log : Id) (properties : List ℕ) (why : QueryFault) (old new : Row (UdpLink P)) → AsSaid asked old.asker
       → table.AddsCells (socket_asks rules) log properties old (Err why) new
-      → (es : List Event) × Runs rules es old.asker.link.port new.asker.link.port × Stops (StopsAt asked log properties es) why
+      → (es : List Event) × Runs rules es old.asker.link.port new.asker.link.port × Stops (StopsAt asked log properties es) (AsksSome asked log properties es) why
   fails_cells asked log [] why old new so (is, printed, same) = absurd (let e : Err why ≡ Ok tt = is in cc)
   fails_cells asked log (property ∷ properties) why old new so (inl (mid, between, first, rest)) =
       let one = adds_cell rules asked (property_of log property) old (printing mid between) so first in
       let more = fails_cells asked log properties why (printing mid between) new one.3 rest in (
         one.0 ++ more.0,
         goes_on rules.sends rules.receives rules.receives_within one.0 more.0 old.asker.link.port mid.link.port new.asker.link.port one.2 more.1,
-        stops_so (StopsAt asked log properties more.0) (StopsAt asked log (property ∷ properties) (one.0 ++ more.0)) why
-            (λ stops. inr (one.0, more.0, one.1, refl, one.5, stops)) more.2,
+        stops_so (StopsAt asked log properties more.0) (StopsAt asked log (property ∷ properties) (one.0 ++ more.0)) (AsksSome asked log properties more.0)
+            (AsksSome asked log (property ∷ properties) (one.0 ++ more.0)) why (λ stops. inr (one.0, more.0, one.1, refl, one.5, stops))
+            (λ asks. inr (inr (one.0, more.0, one.1, refl, one.5, asks))) more.2,
       )
   fails_cells asked log (property ∷ properties) why old new so (inr (other, is, fails)) =
       let same : other ≡ why = (let e : Err why ≡ Err other = is in let f : why ≡ other = cc in sym f) in
@@ -116,23 +150,26 @@ module _ {S P : Type 0} (rules : SocketRules S P) where
 
   fails_line : (asked : Asked) (log : Id) (why : QueryFault) (old new : Row (UdpLink P)) → AsSaid asked old.asker
       → table.AddsRow (socket_asks rules) log old (Err why) new
-      → (es : List Event) × Runs rules es old.asker.link.port new.asker.link.port × Stops (StopsAt asked log columns es) why
+      → (es : List Event) × Runs rules es old.asker.link.port new.asker.link.port × Stops (StopsAt asked log columns es) (AsksSome asked log columns es) why
   fails_line asked log why old new so (inl (cells, adds)) =
       fails_cells asked log columns why (printing old.asker (old.printed ++ decimal log.instance)) (printing new.asker cells) so adds
   fails_line asked log why old new so (inr (is, inl same)) = (
     [],
     ap (λ (c : At). c.link.port) same,
-    subst (λ (f : QueryFault). Stops (StopsAt asked log columns []) f) (sym is) tt,
+    subst (λ (f : QueryFault). Stops (StopsAt asked log columns []) (AsksSome asked log columns []) f) (sym is) (inl refl),
   )
   fails_line asked log why old new so (inr (is, inr (cells, adds))) =
-      let it = adds_cells rules asked log columns (printing old.asker (old.printed ++ decimal log.instance)) (printing new.asker cells) so adds in
-      (it.0, it.2, subst (λ (f : QueryFault). Stops (StopsAt asked log columns it.0) f) (sym is) tt)
+      let it = adds_cells rules asked log columns (printing old.asker (old.printed ++ decimal log.instance)) (printing new.asker cells) so adds in (
+        it.0,
+        it.2,
+        subst (λ (f : QueryFault). Stops (StopsAt asked log columns it.0) (AsksSome asked log columns it.0) f) (sym is) (all_some asked log columns it.0 it.1 it.5),
+      )
 
   -- the lines of the first of these logs, and why there are no more
   abbrev Fails : Asked → List Id → QueryFault → Held → Held → List Event → Type 0
   Fails asked logs why old new es = (done : List Id) × (more : List Id) × (logs ≡ done ++ more) × (first : List Event) × (last : List Event)
       × (es ≡ first ++ last) × (text : List ℕ) × AsksLogs asked done first text
-      × ((AppendsPart old new text × (why ≡ Write) × (last ≡ [])) ⊎ (Appends old new text × Stops (StopsNext asked more last) why))
+      × ((AppendsPart old new text × (why ≡ Write) × (last ≡ [])) ⊎ (Appends old new text × Stops (StopsNext asked more last) (AsksNext asked more last) why))
 
   refused : (asked : Asked) (log : Id) (logs : List Id) (why : QueryFault) (old new : Session (UdpLink P)) (line : List ℕ) → AsSaid asked old.asker
       → table.AddsRow (socket_asks rules) log (printing old.asker []) (Ok tt) (printing new.asker line)
@@ -232,15 +269,15 @@ five status (inr (more, is)) = inl is
 -- the end of a table by its fault and its status
 by_fault : (asked : Asked) (address : List ℕ) (more : List Id) (last : List Event) (text : List ℕ) (before after : Held) (status : ℕ) (why : QueryFault)
     → Ended (exit_status (of_query address why)) status
-    → (AppendsPart before after text × (why ≡ Write) × (last ≡ [])) ⊎ (Appends before after text × Stops (StopsNext asked more last) why)
+    → (AppendsPart before after text × (why ≡ Write) × (last ≡ [])) ⊎ (Appends before after text × Stops (StopsNext asked more last) (AsksNext asked more last) why)
     → EndsTable asked more last text before after status
 by_fault asked address more last text before after status why so (inl (part, is, none)) =
     inr (inl (part, two_five status (subst (λ (f : QueryFault). Ended (exit_status (of_query address f)) status) is so), none))
 by_fault asked address more last text before after status (Exchange exchange.Lost) so (inr (whole, stops)) = inr (inr (inl (whole, two_five status so, stops)))
-by_fault asked address more last text before after status (Exchange exchange.TooLong) so (inr (whole, stops)) = inr (inr (inr (whole, one_five status so)))
+by_fault asked address more last text before after status (Exchange exchange.TooLong) so (inr (whole, stops)) = inr (inr (inr (whole, one_five status so, stops)))
 by_fault asked address more last text before after status (Exchange (exchange.Refused refusal)) so (inr (whole, stops)) = absurd stops
 by_fault asked address more last text before after status (Exchange exchange.BadReply) so (inr (whole, stops)) = absurd stops
-by_fault asked address more last text before after status Memory so (inr (whole, stops)) = inr (inr (inr (whole, five status so)))
+by_fault asked address more last text before after status Memory so (inr (whole, stops)) = inr (inr (inr (whole, five status so, stops)))
 by_fault asked address more last text before after status Write so (inr (whole, stops)) = absurd stops
 
 head_refused : (why : QueryFault) (before after : Held) → Prints head_line (Err why) before after → AppendsPart before after head_line × (why ≡ Write)

@@ -1,5 +1,5 @@
 -- What `bac logs` prints of the logs that its words name. Read `ListsWhatCame`.
-use Rattle.std.specs.Prelude.{◌≡◌, ◌⊎◌, ℕ, List, [], ◌∷◌, ◌++◌, map, Some, None, decimal}
+use Rattle.std.specs.Prelude.{◌≡◌, ◌⊎◌, ℕ, List, [], ◌∷◌, ◌++◌, map, Option, Some, None, decimal}
 use Rattle.std.specs.Io.KnownBytes.{Appends, Keeps}
 use Rattle.bac_apdu.specs.declared.service.read_property.ReadProperty.{ReadProperty}
 use Rattle.bac_heeding.specs.Ports.{Event}
@@ -60,7 +60,21 @@ StopsAt asked log (property ∷ properties) es = ((invoke : ℕ)
     ⊎ ((first : List Event) × (rest : List Event) × (cell : List ℕ) × (es ≡ first ++ rest)
     × AsksCell asked (property_of log property) first cell × StopsAt asked log properties rest)
 
--- so it is of the first of these logs
+-- of these properties of a log the first ones, and perhaps the next one, whatever came to its question
+abbrev pub AsksSome : Asked → Id → List ℕ → List Event → Type 0
+AsksSome asked log [] es = es ≡ []
+AsksSome asked log (property ∷ properties) es = (es ≡ []) ⊎ (((invoke : ℕ) × (answer : Option (List ℕ))
+    × Exchanged (request_octets (record { dest = asked.route; source = None }) invoke
+    (request.ReadProperty (property_of log property))) asked.address asked.retries es answer)
+    ⊎ ((first : List Event) × (rest : List Event) × (cell : List ℕ) × (es ≡ first ++ rest)
+    × AsksCell asked (property_of log property) first cell × AsksSome asked log properties rest))
+
+-- the same of the first of these logs
+abbrev pub AsksNext : Asked → List Id → List Event → Type 0
+AsksNext asked [] es = es ≡ []
+AsksNext asked (log ∷ logs) es = AsksSome asked log columns es
+
+-- and that it stops there
 abbrev pub StopsNext : Asked → List Id → List Event → Type 0
 StopsNext asked [] es = ⊥
 StopsNext asked (log ∷ logs) es = StopsAt asked log columns es
@@ -73,7 +87,7 @@ EndsTable asked more last text before after status =
     (Appends before after text × (status ≡ 0) × (more ≡ []) × (last ≡ []))
     ⊎ ((AppendsPart before after text × ((status ≡ 2) ⊎ (status ≡ 5)) × (last ≡ []))
     ⊎ ((Appends before after text × ((status ≡ 2) ⊎ (status ≡ 5)) × StopsNext asked more last)
-    ⊎ (Appends before after text × ((status ≡ 5) ⊎ (status ≡ 1)))))
+    ⊎ (Appends before after text × ((status ≡ 5) ⊎ (status ≡ 1)) × AsksNext asked more last)))
 
 -- Nothing is asked, nothing printed, and the status says so. Or the names of the columns are printed, and of the first
 -- logs that the words name a line each, in their order; and nothing was sent but the questions for their cells, one
