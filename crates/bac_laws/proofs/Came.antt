@@ -96,7 +96,7 @@ same_log w entries (Bring n) AskOldest next taken = absurd taken
 same_log w entries (Bring n) IsUp next taken = absurd taken
 same_log w entries (Bring n) (BatchOf b) next taken = ap (λ (at : WalkPlace). at.log) taken.1
 
-log_stays : (w : WalkPlace) (heard : Option AckParameters) (p : Progress) (next : WalkPlace) → IsTakenFrom w heard (Ok p) next
+pub log_stays : (w : WalkPlace) (heard : Option AckParameters) (p : Progress) (next : WalkPlace) → IsTakenFrom w heard (Ok p) next
     → next.log ≡ w.log
 log_stays w None p next taken = same_log w [] Refuse p next taken
 log_stays w (Some said) p next taken = same_log w said.entries (verdict w said.first said.count said.entries) p next taken

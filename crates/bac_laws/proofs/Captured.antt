@@ -5,7 +5,7 @@ use Rattle.std.specs.Str.{bytes_eq}
 use Rattle.std.proofs.lemmas.List.Elements.{Contains-append_cases, Contains-push_cases}
 use Rattle.std.proofs.lemmas.Slice.Eq.{bytes_eq-Decides}
 use Rattle.bac_heeding.specs.Ports.{Event, Happen, Happens, Received, Sent}
-use Rattle.bac_laws.specs.Events.{Capture, IsCaptured, came, sent_in}
+use Rattle.bac_laws.specs.Events.{Capture, IsCaptured, came, sent_in, waited}
 use Rattle.bac_link.specs.Datagrams.{answers_to}
 use Rattle.bac_link.specs.declared.link.Lost.{Lost}
 use Rattle.bac_ports.specs.Asking.{Asks, Awaits, IsTaken, fitting, fitting_of, to_peer}
@@ -36,6 +36,16 @@ pub sent_on : (es more : List Event) → sent_in (es ++ more) ≡ sent_in es ++ 
 sent_on [] more = refl
 sent_on (Sent octets to sent ∷ es) more = ap (λ (xs : List (List ℕ × List ℕ)). (octets, to) ∷ xs) (sent_on es more)
 sent_on (Received received ∷ es) more = sent_on es more
+
+-- what is waited for behind more events
+pub waited_on : (n m : ℕ) (es more : List Event) → waited n es ≡ Some m → waited n (es ++ more) ≡ waited m more
+waited_on n m [] more is = ap (λ (k : ℕ). waited k more) (let e : Some n ≡ Some m = is in cc)
+waited_on zero m (Sent octets to (Ok done) ∷ es) more is = waited_on 16 m es more is
+waited_on zero m (Sent octets to (Err fault) ∷ es) more is = waited_on zero m es more is
+waited_on zero m (Received received ∷ es) more is = absurd (let e : None ≡ Some m = is in cc)
+waited_on (suc n) m (Sent octets to sent ∷ es) more is = absurd (let e : None ≡ Some m = is in cc)
+waited_on (suc n) m (Received (Ok heard) ∷ es) more is = waited_on n m es more is
+waited_on (suc n) m (Received (Err fault) ∷ es) more is = waited_on zero m es more is
 
 -- of these none from this address answers
 abbrev pub Silent : List ℕ → List ℕ → List Event → Type 0
@@ -111,86 +121,91 @@ module _ {P : Type 0} (sends : P → List ℕ → List ℕ → Sending → P →
   goes_on (e ∷ es) more old mid new (half, first, behind) rest = (half, first, goes_on es more half mid new behind rest)
 
   -- what came by a wait or an ask: nothing that answers; or at last this
-  abbrev pub Brings : List ℕ → List ℕ → List (List ℕ × List ℕ) → List Event → Result (List ℕ) Lost → Type 0
-  Brings peer request sent es (Err lost) = (sent_in es ≡ sent) × Silent peer request es
-  Brings peer request sent es (Ok datagram) = (before : List Event) × (es ≡ before ++ came peer datagram ∷ [])
-      × (sent_in before ≡ sent) × Silent peer request before × (answers_to request datagram ≡ true)
+  abbrev pub Brings : List ℕ → List ℕ → List (List ℕ × List ℕ) → ℕ → List Event → Result (List ℕ) Lost → Type 0
+  Brings peer request sent n es (Err lost) = (sent_in es ≡ sent) × (waited n es ≡ Some 0) × Silent peer request es
+  Brings peer request sent n es (Ok datagram) = (before : List Event) × (es ≡ before ++ came peer datagram ∷ [])
+      × (sent_in before ≡ sent) × (m : ℕ) × (waited n es ≡ Some m) × Silent peer request before × (answers_to request datagram ≡ true)
 
   -- behind another event
-  brings_behind : (peer request : List ℕ) (e : Event) (first : List (List ℕ × List ℕ)) (sent : List (List ℕ × List ℕ)) (es : List Event) (result : Result (List ℕ) Lost)
-      → sent_in (e ∷ []) ≡ first → ((datagram : List ℕ) → e ≡ came peer datagram → answers_to request datagram ≡ false)
-      → Brings peer request sent es result → Brings peer request (first ++ sent) (e ∷ es) result
-  brings_behind peer request e first sent es (Err lost) is one (same, silent) = (
+  brings_behind : (peer request : List ℕ) (e : Event) (first : List (List ℕ × List ℕ)) (sent : List (List ℕ × List ℕ)) (n k : ℕ) (es : List Event) (result : Result (List ℕ) Lost)
+      → waited n (e ∷ es) ≡ waited k es → sent_in (e ∷ []) ≡ first → ((datagram : List ℕ) → e ≡ came peer datagram → answers_to request datagram ≡ false)
+      → Brings peer request sent k es result → Brings peer request (first ++ sent) n (e ∷ es) result
+  brings_behind peer request e first sent n k es (Err lost) on is one (same, over, silent) = (
     sent_on (e ∷ []) es ∙ ap (λ (xs : List (List ℕ × List ℕ)). xs ++ sent_in es) is ∙ ap (λ (xs : List (List ℕ × List ℕ)). first ++ xs) same,
+    on ∙ over,
     silent_first peer request e es one silent,
   )
-  brings_behind peer request e first sent es (Ok datagram) is one (before, shape, same, silent, answers) = (
+  brings_behind peer request e first sent n k es (Ok datagram) on is one (before, shape, same, m, over, silent, answers) = (
     e ∷ before,
     ap (λ (xs : List Event). e ∷ xs) shape,
     sent_on (e ∷ []) before ∙ ap (λ (xs : List (List ℕ × List ℕ)). xs ++ sent_in before) is ∙ ap (λ (xs : List (List ℕ × List ℕ)). first ++ xs) same,
+    m,
+    on ∙ over,
     silent_first peer request e before one silent,
     answers,
   )
 
-  Awaited : List ℕ → List ℕ → P → Result (List ℕ) Lost → P → Type 0
-  Awaited peer request old result new = (es : List Event) × Goes es old new × Brings peer request [] es result
+  Awaited : List ℕ → List ℕ → ℕ → P → Result (List ℕ) Lost → P → Type 0
+  Awaited peer request n old result new = (es : List Event) × Goes es old new × Brings peer request [] n es result
 
   taken : (peer request : List ℕ) (heard : Heard) (fit : Option (List ℕ)) (n : ℕ) (old mid new : P) (result : Result (List ℕ) Lost)
       → receives old (Ok heard) mid → fitting peer request heard ≡ fit
       → IsTaken fit mid result new (Awaits receives peer request n mid result new)
-      → (Awaits receives peer request n mid result new → Awaited peer request mid result new) → Awaited peer request old result new
+      → (Awaits receives peer request n mid result new → Awaited peer request n mid result new) → Awaited peer request (suc n) old result new
   unfolding Awaited
   taken peer request heard None n old mid new result came_so none is goes =
       let rest = goes is in (
         Received (Ok heard) ∷ rest.0,
         (mid, inl came_so, rest.1),
-        brings_behind peer request (Received (Ok heard)) [] [] rest.0 result refl (unfit peer request heard none) rest.2,
+        brings_behind peer request (Received (Ok heard)) [] [] (suc n) n rest.0 result refl refl (unfit peer request heard none) rest.2,
       )
   taken peer request heard (Some datagram) n old mid new result came_so some (is, same) goes =
       let it = fit_came peer request heard.from heard.datagram datagram some in
       let one : Received (Ok heard) ≡ came peer datagram = heard_is heard peer datagram it.0 it.1 in (
         Received (Ok heard) ∷ [],
         (mid, inl came_so, same),
-        subst (λ (r : Result (List ℕ) Lost). Brings peer request [] (Received (Ok heard) ∷ []) r) (sym is)
-            ([], ap (λ (e : Event). e ∷ []) one, refl, silent_none peer request, it.2),
+        subst (λ (r : Result (List ℕ) Lost). Brings peer request [] (suc n) (Received (Ok heard) ∷ []) r) (sym is)
+            ([], ap (λ (e : Event). e ∷ []) one, refl, n, refl, silent_none peer request, it.2),
       )
 
-  waited : (peer request : List ℕ) (n : ℕ) (old new : P) (result : Result (List ℕ) Lost) → Awaits receives peer request n old result new
-      → Awaited peer request old result new
+  awaited : (peer request : List ℕ) (n : ℕ) (old new : P) (result : Result (List ℕ) Lost) → Awaits receives peer request n old result new
+      → Awaited peer request n old result new
   unfolding Awaited Awaits
-  waited peer request zero old new (Err lost) (is, same) = ([], same, (refl, silent_none peer request))
-  waited peer request zero old new (Ok datagram) (is, same) = absurd is
-  waited peer request (suc n) old new (Err lost) (Err fault, mid, came_so, (is, same)) = (
+  awaited peer request zero old new (Err lost) (is, same) = ([], same, (refl, refl, silent_none peer request))
+  awaited peer request zero old new (Ok datagram) (is, same) = absurd is
+  awaited peer request (suc n) old new (Err lost) (Err fault, mid, came_so, (is, same)) = (
     Received (Err fault) ∷ [],
     (mid, inl came_so, same),
     (
       refl,
+      refl,
       silent_first peer request (Received (Err fault)) [] (λ datagram like. absurd (lost_unlike fault peer datagram like)) (silent_none peer request),
     ),
   )
-  waited peer request (suc n) old new (Ok datagram) (Err fault, mid, came_so, (is, same)) = absurd is
-  waited peer request (suc n) old new result (Ok heard, mid, came_so, is) =
-      taken peer request heard (fitting peer request heard) n old mid new result came_so refl is (waited peer request n mid new result)
+  awaited peer request (suc n) old new (Ok datagram) (Err fault, mid, came_so, (is, same)) = absurd is
+  awaited peer request (suc n) old new result (Ok heard, mid, came_so, is) =
+      taken peer request heard (fitting peer request heard) n old mid new result came_so refl is (awaited peer request n mid new result)
 
   -- an ask sends once
   pub asks_once : (peer request : List ℕ) (old new : P) (result : Result (List ℕ) Lost)
       → Asks sends receives (to_peer peer request) 16 old result new
-      → (es : List Event) × Goes es old new × Brings peer request ((request, peer) ∷ []) es result
+      → (es : List Event) × Goes es old new × Brings peer request ((request, peer) ∷ []) 0 es result
   unfolding Awaited
   asks_once peer request old new (Err lost) (Err fault, mid, sent, (is, same)) = (
     Sent request peer (Err fault) ∷ [],
     (mid, sent, same),
     (
       refl,
+      refl,
       silent_first peer request (Sent request peer (Err fault)) [] (λ datagram like. absurd (sent_unlike request peer peer datagram (Err fault) like)) (silent_none peer request),
     ),
   )
   asks_once peer request old new (Ok datagram) (Err fault, mid, sent, (is, same)) = absurd is
   asks_once peer request old new result (Ok done, mid, sent, is) =
-      let rest = waited peer request 16 mid new result is in (
+      let rest = awaited peer request 16 mid new result is in (
         Sent request peer (Ok done) ∷ rest.0,
         (mid, sent, rest.1),
-        brings_behind peer request (Sent request peer (Ok done)) ((request, peer) ∷ []) [] rest.0 result refl
+        brings_behind peer request (Sent request peer (Ok done)) ((request, peer) ∷ []) [] 0 16 rest.0 result refl refl
             (λ datagram like. absurd (sent_unlike request peer peer datagram (Ok done) like)) rest.2,
       )
 

@@ -41,8 +41,8 @@ use Rattle.bac_words.specs.declared.job.LogReading.{LogReading}
 
 few_in : (request to : List ℕ) (retries : ℕ) (es : List Event) (answer : Option (List ℕ)) → Exchanged request to retries es answer
     → length (sent_in es) ≤ retries + 1
-few_in request to retries es None (sent, silent) = omega (arith, ap length sent, length-replicate {A = List ℕ × List ℕ} (retries + 1) (request, to))
-few_in request to retries es (Some answer) (again, few, before, shape, sent, silent, answers) =
+few_in request to retries es None (sent, over, silent) = omega (arith, ap length sent, length-replicate {A = List ℕ × List ℕ} (retries + 1) (request, to))
+few_in request to retries es (Some answer) (again, few, before, shape, sent, over, silent, answers) =
     omega (
       arith,
       few,

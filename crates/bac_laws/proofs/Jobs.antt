@@ -11,15 +11,13 @@ use Rattle.bac_heeding.specs.declared.notes.Passed.{Passed}
 use Rattle.bac_laws.proofs.Captured.{captured_behind, nothing_captured}
 use Rattle.bac_laws.proofs.Few.{Few, few_none, said_few}
 use Rattle.bac_laws.proofs.Finds.{wi, wi_nothing}
-use Rattle.bac_laws.proofs.Lists.{logs}
+use Rattle.bac_laws.proofs.Listed.{Listed, logs, logs_nothing}
 use Rattle.bac_laws.proofs.Once.{rp_all, wp}
-use Rattle.bac_laws.proofs.Serves.{serve, serve_nothing}
+use Rattle.bac_laws.proofs.Served.{Serving, serve, serve_nothing}
 use Rattle.bac_laws.proofs.Statuses.{told_fails, unasked_memory}
 use Rattle.bac_laws.specs.Asked.{PrintsWhatCame, ReadsOnce, WritesOnce}
 use Rattle.bac_laws.specs.Events.{IsCaptured}
 use Rattle.bac_laws.specs.Found.{FindsWhatCame}
-use Rattle.bac_laws.specs.Listed.{ListsWhatCame}
-use Rattle.bac_laws.specs.Served.{AnswersOnly}
 use Rattle.bac_ports.specs.Sockets.{SocketRules}
 use Rattle.bac_print.specs.Output.{Held}
 use Rattle.bac_run.specs.Run.{RunsAll}
@@ -70,10 +68,9 @@ module _ {S P : Type 0} (rules : SocketRules S P) (switches : S → Bool → S �
         wi rules switches (passes new.sockets) said (pipes_of old) result (pipes_of (with_errors errors new)) errors new.errors status is ends
 
     serve_runs : (said : ServedDevice) (old : Streams S C) (status : ℕ) (new : Streams S C) → Runs rules passes tells (job.Serve said) old status new
-        → Of (AnswersOnly said) old.sockets new.sockets old.output new.output status
+        → Of (Serving said old.input) old.sockets new.sockets old.output new.output status
     serve_runs said old status new (inl (told, keeps, (input, same, clock))) =
-        serve_nothing rules switches tells said old.sockets new.sockets old.output new.output status
-        (nothing_captured rules switches old.sockets new.sockets same) keeps (told_fails fault.Memory old.errors new.errors status told)
+        serve_nothing rules switches tells said old.sockets new.sockets old.input old.output new.output old.errors new.errors status same keeps told
     serve_runs said old status new (inr (result, errors, (is, keeps), ends)) =
         serve rules switches tells (passes new.sockets) said old result (with_errors errors new) errors new.errors status is keeps ends
 
@@ -84,11 +81,11 @@ module _ {S P : Type 0} (rules : SocketRules S P) (switches : S → Bool → S �
         said_few rules switches said (outlets_of old) result (outlets_of (with_errors errors new)) is
 
     logs_runs : (said : LogListing) → said.instances ≢ [] → (old : Streams S C) (status : ℕ) (new : Streams S C)
-        → Runs rules passes tells (job.Logs said) old status new → status ≡ 0
-        → (es : List Event) × IsCaptured rules switches old.sockets new.sockets es × ListsWhatCame said es old.output new.output
-    logs_runs said named old status new (inl (told, keeps, untouched)) none = absurd (told_fails fault.Memory old.errors new.errors status told none)
-    logs_runs said named old status new (inr (result, errors, (is, quiet, unread), ends)) none =
-        logs rules switches said named (passes new.sockets) (outside_of old) result (outside_of (with_errors errors new)) errors new.errors status is ends none
+        → Runs rules passes tells (job.Logs said) old status new → Listed rules switches said old.sockets new.sockets old.output new.output status
+    logs_runs said named old status new (inl (told, keeps, (input, same, clock))) =
+        logs_nothing rules switches said old.sockets new.sockets old.output new.output status same keeps (unasked_memory old.errors new.errors status told)
+    logs_runs said named old status new (inr (result, errors, (is, quiet, unread), ends)) =
+        logs rules switches said named (passes new.sockets) (outside_of old) result (outside_of (with_errors errors new)) errors new.errors status is ends
 
 module _ {S C P F G T Q : Type 0} {s : start.Ghosts F} {t : start.Ghosts G} (g : disk.Ghosts (FileOf s))
     (h : disk.Ghosts (FileOf t)) (parts : DiskFiles G t) (waits : ℕ → AtOnce S T) (folders : PartRules Q) (p q : Q)
@@ -137,10 +134,10 @@ module _ {S C P F G T Q : Type 0} {s : start.Ghosts F} {t : start.Ghosts G} (g :
       (wi_runs rules switches passes tells said (streams old.input old.output old.errors sockets old.clock) status new ran)
 
   pub serve_ran : (said : ServedDevice) (old : Streams S C) (files : DiskFiles F s) (status : ℕ) (new : Streams S C) (left : DiskFiles F s)
-      → Ran (job.Serve said) old files status new left → Of rules switches (AnswersOnly said) old.sockets new.sockets old.output new.output status
+      → Ran (job.Serve said) old files status new left → Of rules switches (Serving said old.input) old.sockets new.sockets old.output new.output status
   serve_ran said old files status new left (inl (told, files', apart)) = serve_runs rules switches passes tells said old status new (inl told)
   serve_ran said old files status new left (inr (sockets, switched, (ran, files', apart))) =
-      behind (AnswersOnly said) old.sockets sockets new.sockets (is_traced (job.Serve said)) old.output new.output status switched
+      behind (Serving said old.input) old.sockets sockets new.sockets (is_traced (job.Serve said)) old.output new.output status switched
       (serve_runs rules switches passes tells said (streams old.input old.output old.errors sockets old.clock) status new ran)
 
   pub log_ran : (said : LogReading) (old : Streams S C) (files : DiskFiles F s) (status : ℕ) (new : Streams S C) (left : DiskFiles F s)
@@ -151,10 +148,8 @@ module _ {S C P F G T Q : Type 0} {s : start.Ghosts F} {t : start.Ghosts G} (g :
       (it.0, captured_behind rules switches old.sockets sockets new.sockets (is_traced (job.Log said)) it.0 switched it.1, it.2)
 
   pub logs_ran : (said : LogListing) → said.instances ≢ [] → (old : Streams S C) (files : DiskFiles F s) (status : ℕ) (new : Streams S C)
-      (left : DiskFiles F s) → Ran (job.Logs said) old files status new left → status ≡ 0
-      → (es : List Event) × IsCaptured rules switches old.sockets new.sockets es × ListsWhatCame said es old.output new.output
-  logs_ran said named old files status new left (inl ((told, keeps, untouched), files', apart)) none =
-      absurd (told_fails fault.Memory old.errors new.errors status told none)
-  logs_ran said named old files status new left (inr (sockets, switched, (ran, files', apart))) none =
-      let it = logs_runs rules switches passes tells said named (streams old.input old.output old.errors sockets old.clock) status new ran none in
+      (left : DiskFiles F s) → Ran (job.Logs said) old files status new left → Listed rules switches said old.sockets new.sockets old.output new.output status
+  logs_ran said named old files status new left (inl (told, files', apart)) = logs_runs rules switches passes tells said named old status new (inl told)
+  logs_ran said named old files status new left (inr (sockets, switched, (ran, files', apart))) =
+      let it = logs_runs rules switches passes tells said named (streams old.input old.output old.errors sockets old.clock) status new ran in
       (it.0, captured_behind rules switches old.sockets sockets new.sockets (is_traced (job.Logs said)) it.0 switched it.1, it.2)

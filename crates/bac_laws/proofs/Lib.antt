@@ -6,6 +6,8 @@ pub mod Sent
 pub mod Quiet
 pub mod Losses
 pub mod Came
+pub mod Heard
+pub mod Written
 pub mod Logged
 pub mod Captured
 pub mod Exchange
@@ -14,10 +16,13 @@ pub mod Once
 pub mod Taken
 pub mod Finds
 pub mod Serves
+pub mod Served
 pub mod Few
 pub mod Jobs
 pub mod Kept
 pub mod Lists
+pub mod Listed
 pub mod Epochs
 pub mod Checks
+pub mod Left
 pub mod Played

@@ -1,16 +1,14 @@
 -- What `bac logs` does for logs that are named, as events.
-use Rattle.std.proofs.Common.{◌≡◌, ◌≢◌, ◌++◌, ℕ, List, [], ◌∷◌, map, Option, None, Some, Result, Ok, Err, inl, inr, refl, sym, subst, ap, ◌∙◌, append_assoc, append-nil}
-use Rattle.std.specs.Prelude.{Bool, decimal}
+use Rattle.std.proofs.Common.{◌≡◌, ◌≢◌, ◌++◌, ℕ, List, [], ◌∷◌, Option, None, Some, Result, Ok, Err, inl, inr, refl, sym, subst, ap, ◌∙◌, append_assoc, append-nil}
+use Rattle.std.specs.Prelude.{decimal}
 use Rattle.std.specs.Io.KnownBytes.{Appends}
 use Rattle.bac_apdu.specs.Npdu.{Place}
 use Rattle.bac_apdu.specs.declared.service.read_property.ReadProperty.{ReadProperty}
 use Rattle.bac_heeding.specs.Ports.{Event}
-use Rattle.bac_heeding.specs.declared.notes.Passed.{Passed}
-use Rattle.bac_laws.proofs.Captured.{captured_over, goes_on}
+use Rattle.bac_laws.proofs.Captured.{goes_on}
 use Rattle.bac_laws.proofs.Exchange.{Comes, Runs, exchanged}
-use Rattle.bac_laws.proofs.Statuses.{failed}
-use Rattle.bac_laws.specs.Events.{Exchanged, IsCaptured}
-use Rattle.bac_laws.specs.Listed.{AsksCell, AsksCells, AsksLogs, IsCellOf, ListsWhatCame}
+use Rattle.bac_laws.specs.Events.{Exchanged}
+use Rattle.bac_laws.specs.Listed.{AsksCell, AsksCells, AsksLogs, IsCellOf}
 use Rattle.bac_link.specs.Exchanges.{Client, Leaves, next_way}
 use Rattle.bac_link.specs.Path.{towards}
 use Rattle.bac_link.specs.Requests.{next_invoke, request_octets}
@@ -20,22 +18,15 @@ use Rattle.bac_link.specs.declared.exchanges.Verdict.{Verdict}
 use Rattle.bac_link.specs.declared.request.Request.{Request}
 use Rattle.bac_link.specs.declared.request.Request.TheVariants as request
 use Rattle.bac_link.specs.declared.transactions.Transactions.{Transactions}
-use Rattle.bac_ports.specs.Sockets.{SocketRules, link_over, own_address, socket_asks}
+use Rattle.bac_ports.specs.Sockets.{SocketRules, socket_asks}
 use Rattle.bac_ports.specs.declared.udp_link.UdpLink.{UdpLink}
 use Rattle.bac_print.specs.Output.{Held}
 use Rattle.bac_query.specs.Cells.{ShowsCell}
-use Rattle.bac_query.specs.Reading.{Answer, Session, printing}
+use Rattle.bac_query.specs.Reading.{Session, printing}
 use Rattle.bac_query.specs.Tables as table
 use Rattle.bac_query.specs.Tables.{Row, client, columns, head_line, property_of}
-use Rattle.bac_tools.specs.Asking.{of_answer}
-use Rattle.bac_tools.specs.Ending.{Ending}
-use Rattle.bac_tools.specs.Faults.{of_query}
-use Rattle.bac_tools.specs.Run.{Ends, ListsAsSaid, trend_log}
-use Rattle.bac_tools.specs.Sockets.{Outside, transactions_with}
-use Rattle.bac_tools.specs.declared.fault.Fault.TheVariants as fault
 use Rattle.bac_wire.specs.Primitive.{Id}
 use Rattle.bac_words.specs.declared.job.Asked.{Asked}
-use Rattle.bac_words.specs.declared.job.LogListing.{LogListing}
 
 -- ---- a client that asks as the words say
 
@@ -45,7 +36,7 @@ pub record AsSaid {P : Type 0} (asked : Asked) (c : Client (UdpLink P)) : Type 0
   pub retries : c.transactions.retries ≡ asked.retries
 
 -- a transaction more
-left_so : (r : Request) (old : Transactions) (answer : Result (List ℕ) ExchangeFault) (new : Transactions) → Leaves r old answer new
+pub left_so : (r : Request) (old : Transactions) (answer : Result (List ℕ) ExchangeFault) (new : Transactions) → Leaves r old answer new
     → (new.route ≡ old.route) × (new.retries ≡ old.retries)
 left_so r old (Ok datagram) new is = (ap (λ (t : Transactions). t.route) is, ap (λ (t : Transactions). t.retries) is)
 left_so r old (Err exchange.TooLong) new is = (ap (λ (t : Transactions). t.route) is, ap (λ (t : Transactions). t.retries) is)
@@ -54,14 +45,14 @@ left_so r old (Err exchange.BadReply) new is = (ap (λ (t : Transactions). t.rou
 left_so r old (Err (exchange.Refused refusal)) new is = (ap (λ (t : Transactions). t.route) is, ap (λ (t : Transactions). t.retries) is)
 
 -- the same request, by the words
-as_asked : (asked : Asked) (route : Option Place) (peer : List ℕ) (retries invoke : ℕ) (r : Request) (es : List Event) (datagram : List ℕ)
+pub as_asked : (asked : Asked) (route : Option Place) (peer : List ℕ) (retries invoke : ℕ) (r : Request) (es : List Event) (answer : Option (List ℕ))
     → route ≡ asked.route → peer ≡ asked.address → retries ≡ asked.retries
-    → Exchanged (request_octets (towards route) invoke r) peer retries es (Some datagram)
-    → Exchanged (request_octets (towards asked.route) invoke r) asked.address asked.retries es (Some datagram)
-as_asked asked route peer retries invoke r es datagram at to again is =
-    subst (λ (n : ℕ). Exchanged (request_octets (towards asked.route) invoke r) asked.address n es (Some datagram)) again
-    (subst (λ (p : List ℕ). Exchanged (request_octets (towards asked.route) invoke r) p retries es (Some datagram)) to
-    (subst (λ (w : Option Place). Exchanged (request_octets (towards w) invoke r) peer retries es (Some datagram)) at is))
+    → Exchanged (request_octets (towards route) invoke r) peer retries es answer
+    → Exchanged (request_octets (towards asked.route) invoke r) asked.address asked.retries es answer
+as_asked asked route peer retries invoke r es answer at to again is =
+    subst (λ (n : ℕ). Exchanged (request_octets (towards asked.route) invoke r) asked.address n es answer) again
+    (subst (λ (p : List ℕ). Exchanged (request_octets (towards asked.route) invoke r) p retries es answer) to
+    (subst (λ (w : Option Place). Exchanged (request_octets (towards w) invoke r) peer retries es answer) at is))
 
 module _ {S P : Type 0} (rules : SocketRules S P) where
   abbrev At : Type 0
@@ -74,19 +65,19 @@ module _ {S P : Type 0} (rules : SocketRules S P) where
   shown asked q t peer es (Ok datagram) cell at to again (shape, verdict) shows = (
     next_invoke t.invoke,
     datagram,
-    as_asked asked t.route peer t.retries (next_invoke t.invoke) (request.ReadProperty q) es datagram at to again shape,
+    as_asked asked t.route peer t.retries (next_invoke t.invoke) (request.ReadProperty q) es (Some datagram) at to again shape,
     subst (λ (v : Verdict). IsCellOf q.property datagram v cell) (sym verdict) shows,
   )
   shown asked q t peer es (Err (exchange.Refused refusal)) cell at to again (datagram, shape, verdict) shows = (
     next_invoke t.invoke,
     datagram,
-    as_asked asked t.route peer t.retries (next_invoke t.invoke) (request.ReadProperty q) es datagram at to again shape,
+    as_asked asked t.route peer t.retries (next_invoke t.invoke) (request.ReadProperty q) es (Some datagram) at to again shape,
     subst (λ (v : Verdict). IsCellOf q.property datagram v cell) (sym verdict) shows,
   )
   shown asked q t peer es (Err exchange.BadReply) cell at to again (datagram, shape, verdict) shows = (
     next_invoke t.invoke,
     datagram,
-    as_asked asked t.route peer t.retries (next_invoke t.invoke) (request.ReadProperty q) es datagram at to again shape,
+    as_asked asked t.route peer t.retries (next_invoke t.invoke) (request.ReadProperty q) es (Some datagram) at to again shape,
     subst (λ (v : Verdict). IsCellOf q.property datagram v cell) (sym verdict) shows,
   )
   shown asked q t peer es (Err exchange.Lost) cell at to again shape shows = absurd shows
@@ -97,7 +88,7 @@ module _ {S P : Type 0} (rules : SocketRules S P) where
   Adds asked is old new = (es : List Event) × (text : List ℕ) × Runs rules es old.asker.link.port new.asker.link.port
       × AsSaid asked new.asker × (new.printed ≡ old.printed ++ text) × is es text
 
-  adds_cell : (asked : Asked) (q : ReadProperty) (old new : Row (UdpLink P)) → AsSaid asked old.asker
+  pub adds_cell : (asked : Asked) (q : ReadProperty) (old new : Row (UdpLink P)) → AsSaid asked old.asker
       → table.AddsCell (socket_asks rules) q old (Ok tt) new
       → (es : List Event) × (cell : List ℕ) × Runs rules es old.asker.link.port new.asker.link.port
       × AsSaid asked new.asker × (new.printed ≡ old.printed ++ (9 ∷ cell)) × AsksCell asked q es cell
@@ -112,7 +103,7 @@ module _ {S P : Type 0} (rules : SocketRules S P) where
         shown asked q old.asker.transactions old.asker.link.peer it.1 answer cell so.route so.peer so.retries it.3 shows,
       )
 
-  adds_cells : (asked : Asked) (log : Id) (properties : List ℕ) (old new : Row (UdpLink P)) → AsSaid asked old.asker
+  pub adds_cells : (asked : Asked) (log : Id) (properties : List ℕ) (old new : Row (UdpLink P)) → AsSaid asked old.asker
       → table.AddsCells (socket_asks rules) log properties old (Ok tt) new → Adds asked (AsksCells asked log properties) old new
   adds_cells asked log [] old new so (is, printed, same) = (
     [],
@@ -135,7 +126,7 @@ module _ {S P : Type 0} (rules : SocketRules S P) where
   adds_cells asked log (property ∷ properties) old new so (inr (why, is, first)) = absurd (let e : Ok tt ≡ Err why = is in cc)
 
   -- a log's line
-  prints_row : (asked : Asked) (log : Id) (old new : Session (UdpLink P)) → AsSaid asked old.asker
+  pub prints_row : (asked : Asked) (log : Id) (old new : Session (UdpLink P)) → AsSaid asked old.asker
       → table.PrintsRow (socket_asks rules) log old (Ok tt) new
       → (es : List Event) × (cells : List ℕ) × Runs rules es old.asker.link.port new.asker.link.port × AsSaid asked new.asker
       × Appends old.printed new.printed ((decimal log.instance ++ cells) ++ 10 ∷ []) × AsksCells asked log columns es cells
@@ -150,14 +141,14 @@ module _ {S P : Type 0} (rules : SocketRules S P) where
       )
   prints_row asked log old new so (inr (why, line, is, adds, same)) = absurd (let e : Ok tt ≡ Err why = is in cc)
 
-  appends_on : (old mid new : Held) (first rest : List ℕ) → Appends old mid first → Appends mid new rest → Appends old new (first ++ rest)
+  pub appends_on : (old mid new : Held) (first rest : List ℕ) → Appends old mid first → Appends mid new rest → Appends old new (first ++ rest)
   appends_on None mid new first rest is more = tt
   appends_on (Some xs) None new first rest is more = absurd is
   appends_on (Some xs) (Some ys) None first rest is more = absurd more
   appends_on (Some xs) (Some ys) (Some zs) first rest is more =
       more ∙ ap (λ (l : List ℕ). l ++ rest) is ∙ append_assoc xs first rest
 
-  appends_none : (old new : Held) → new ≡ old → Appends old new []
+  pub appends_none : (old new : Held) → new ≡ old → Appends old new []
   appends_none None new is = tt
   appends_none (Some held) None is = absurd (let e : None ≡ Some held = is in cc)
   appends_none (Some held) (Some now) is = (let e : Some now ≡ Some held = is in let f : now ≡ held = cc in f) ∙ sym (append-nil held)
@@ -182,7 +173,7 @@ module _ {S P : Type 0} (rules : SocketRules S P) where
       )
   prints_rows asked (log ∷ logs) old new so (inr (why, is, first)) = absurd (let e : Ok tt ≡ Err why = is in cc)
 
-  lists : (asked : Asked) (logs : List Id) → logs ≢ [] → (old new : Session (UdpLink P)) → AsSaid asked old.asker
+  pub lists : (asked : Asked) (logs : List Id) → logs ≢ [] → (old new : Session (UdpLink P)) → AsSaid asked old.asker
       → table.ListsLogs (socket_asks rules) logs old (Ok tt) new
       → (es : List Event) × (text : List ℕ) × Runs rules es old.asker.link.port new.asker.link.port
       × Appends old.printed new.printed (head_line ++ text) × AsksLogs asked logs es text
@@ -191,49 +182,3 @@ module _ {S P : Type 0} (rules : SocketRules S P) where
       let it = prints_rows asked (log ∷ logs) (printing old.asker held) new so rows in
       (it.0, it.1, it.2, appends_on old.printed held new.printed head_line it.1 head it.3, it.4)
   lists asked (log ∷ logs) named old new so (inr (why, is, head, same)) = absurd (let e : Ok tt ≡ Err why = is in cc)
-
--- ---- the tool
-
-no_map : (instances : List ℕ) → instances ≢ [] → map trend_log instances ≢ []
-no_map [] some is = some refl
-no_map (x ∷ xs) some is = absurd (let e : trend_log x ∷ map trend_log xs ≡ [] = is in cc)
-
-module _ {S P : Type 0} (rules : SocketRules S P) (traces : S → Bool → S → Type 0) where
-  abbrev Listed : LogListing → Outside S → Outside S → Type 0
-  Listed said old new = (es : List Event) × IsCaptured rules traces old.sockets new.sockets es × ListsWhatCame said es old.output new.output
-
-  over : (said : LogListing) → said.instances ≢ [] → (old new : Outside S) (port last : P) (between : S) (left : UdpLink P) (t : Transactions)
-      → rules.opens old.sockets (own_address said.asked.local) said.asked.timeout (Ok port) between → rules.closes between last new.sockets → last ≡ left.port
-      → table.ListsLogs (socket_asks rules) (map trend_log said.instances)
-      (printing (client (link_over said.asked.address port) (transactions_with said.asked)) old.output) (Ok tt) (printing (client left t) new.output)
-      → Listed said old new
-  over said named old new port last between left t opens closes at is =
-      let it = lists rules said.asked (map trend_log said.instances) (no_map said.instances named)
-      (printing (client (link_over said.asked.address port) (transactions_with said.asked)) old.output) (printing (client left t) new.output)
-      (record { peer = refl; route = refl; retries = refl }) is in (
-        it.0,
-        captured_over rules traces it.0 old.sockets between new.sockets (own_address said.asked.local) said.asked.timeout port last opens
-            (subst (λ (p : P). Runs rules it.0 port p) (sym at) it.2) closes,
-        (it.1, it.4, it.3),
-      )
-
-  by_answer : (said : LogListing) → said.instances ≢ [] → (passed : Passed) (old : Outside S) (result : Ending) (new : Outside S) (told now : Held) (status : ℕ)
-      (port last : P) (between : S) (left : UdpLink P) (t : Transactions) (answer : Answer)
-      → rules.opens old.sockets (own_address said.asked.local) said.asked.timeout (Ok port) between → rules.closes between last new.sockets → last ≡ left.port
-      → table.ListsLogs (socket_asks rules) (map trend_log said.instances)
-      (printing (client (link_over said.asked.address port) (transactions_with said.asked)) old.output) answer (printing (client left t) new.output)
-      → result ≡ of_answer said.asked.address answer → Ends passed result told now status → status ≡ 0 → Listed said old new
-  by_answer said named passed old result new told now status port last between left t (Ok done) opens closes at is how ends none =
-      over said named old new port last between left t opens closes at is
-  by_answer said named passed old result new told now status port last between left t (Err why) opens closes at is how ends none =
-      absurd (failed passed result (of_query said.asked.address why) told now status how ends none)
-
-  pub logs : (said : LogListing) → said.instances ≢ [] → (passed : Passed) (old : Outside S) (result : Ending) (new : Outside S) (told now : Held) (status : ℕ)
-      → ListsAsSaid rules said old result new → Ends passed result told now status → status ≡ 0 → Listed said old new
-  logs said named passed old result new told now status (inl (why, (not, is), keeps, same)) ends none =
-      absurd (failed passed result why told now status is ends none)
-  logs said named passed old result new told now status (inr (inl (why, opens, is, keeps))) ends none =
-      absurd (failed passed result (fault.Unopened why) told now status is ends none)
-  logs said named passed old result new told now status
-      (inr (inr (port, between, last, opens, (answer, left, (t, is), at, how), closes))) ends none =
-      by_answer said named passed old result new told now status port last between left t answer opens closes at is how ends none

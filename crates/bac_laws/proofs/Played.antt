@@ -1,5 +1,5 @@
 -- What `replay` prints, by what `run` does for its words.
-use Rattle.std.proofs.Common.{◌≡◌, ℕ, Bool, List, [], Option, None, Some, Result, Ok, Err, inl, inr, refl, sym, subst, ◌∙◌}
+use Rattle.std.proofs.Common.{◌≡◌, ◌⊎◌, ℕ, Bool, List, [], Option, None, Some, Result, Ok, Err, inl, inr, refl, sym, subst, ◌∙◌}
 use Rattle.std.specs.Io.KnownBytes.{Appends, Keeps}
 use Rattle.sqlite_disk.specs.declared.Disk as disk
 use Rattle.sqlite_disk.specs.declared.start.Start as start
@@ -8,7 +8,7 @@ use Rattle.bac_files.specs.Files.{FileOf}
 use Rattle.bac_files.specs.Parts.{PartRules}
 use Rattle.bac_files.specs.declared.disk_files.DiskFiles.{DiskFiles}
 use Rattle.bac_heeding.specs.declared.notes.Passed.{Passed}
-use Rattle.bac_laws.proofs.Statuses.{Ended, done_so, ended, failed, kept_none, same_keeps, told_fails}
+use Rattle.bac_laws.proofs.Statuses.{Ended, done_so, ended, failed, kept_none, same_keeps, told_fails, told_memory}
 use Rattle.bac_laws.specs.Played.{PlaysScript, limit}
 use Rattle.bac_ports.specs.Sockets.{SocketRules}
 use Rattle.bac_print.specs.Output.{AppendsPart, Held}
@@ -31,6 +31,19 @@ use Rattle.bac_words.specs.declared.job.Job.TheVariants as job
 -- no memory to tell a fault is no fault of a script
 not_five : (status : ℕ) → status ≡ 5 → status ≡ 1 → ⊥
 not_five status five one = absurd (let e : 5 ≡ 1 = sym five ∙ one in cc)
+
+-- the statuses that there are
+abbrev Known : ℕ → Type 0
+Known status = (status ≡ 0) ⊎ ((status ≡ 1) ⊎ ((status ≡ 2) ⊎ (status ≡ 5)))
+
+known : (f : ReplayFault) (status : ℕ) → Ended (script_status f) status → Known status
+known f status (inr (more, five)) = inr (inr (inr five))
+known (replay.BadLine number) status (inl is) = inr (inl is)
+known (replay.Build why) status (inl is) = inr (inl is)
+known replay.TooLong status (inl is) = inr (inl is)
+known replay.Read status (inl is) = inr (inr (inl is))
+known replay.Write status (inl is) = inr (inr (inl is))
+known replay.Memory status (inl is) = inr (inr (inr is))
 
 -- ---- a script that the input has
 
@@ -65,6 +78,7 @@ nothing script errors now before after status told keeps = record {
   part = ([], text_of limit script, refl, kept_none before after keeps);
   done = λ zero. absurd (told_fails fault.Memory errors now status told zero);
   faulty = λ one. absurd (elim told [ inl is ↦ not_five status is.0 one | inr is ↦ not_five status is.0 one ]);
+  other = inr (inr (inr (told_memory errors now status told)));
 }
 
 module _ (passed : Passed) (script : List ℕ) (left before after said now : Held) (status : ℕ) where
@@ -86,6 +100,10 @@ module _ (passed : Passed) (script : List ℕ) (left before after said now : Hel
   faulty_if (Err refused) result is how ends one =
       by_ended refused is (ended passed result (fault.Script refused) said now status how ends) one
 
+  known_by : (played : Result (Unit {0}) Refused) (result : Ending) → result ≡ of_replay played → Ends passed result said now status → Known status
+  known_by (Ok x) result how ends = inl (done_so passed result said now status how ends)
+  known_by (Err refused) result how ends = known refused.fault status (ended passed result (fault.Script refused) said now status how ends)
+
   plays : (input : Held) (result : Ending) → Plays input left before after result → input ≡ Some script → Ends passed result said now status
       → PlaysScript script before after status
   plays input result (played, is, explained, how) has ends =
@@ -95,6 +113,7 @@ module _ (passed : Passed) (script : List ℕ) (left before after said now : Hel
         part = part script left before after (without_reason played) it;
         done = λ zero. done_if played result it how ends zero;
         faulty = λ one. faulty_if played result it how ends one;
+        other = known_by played result how ends;
       }
 
 module _ {S C P F G T Q : Type 0} {s : start.Ghosts F} {t : start.Ghosts G} (g : disk.Ghosts (FileOf s))

@@ -1,7 +1,6 @@
 -- What `bac serve` does, as events.
-use Rattle.std.proofs.Common.{◌≡◌, ◌≢◌, ◌++◌, ◌+◌, ◌≤◌, ℕ, zero, suc, true, false, List, [], ◌∷◌, Option, None, Some, Result, Ok, Err, inl, inr, refl, sym, subst, ap, ◌∙◌, arith}
+use Rattle.std.proofs.Common.{◌≡◌, ◌⊎◌, ◌++◌, ◌+◌, ◌≤◌, ℕ, zero, suc, true, false, List, [], ◌∷◌, Option, None, Some, Result, Ok, Err, inl, inr, refl, sym, subst, ap, ◌∙◌, append_assoc, arith}
 use Rattle.std.specs.Prelude.{Bool, length, option_map}
-use Rattle.std.specs.Io.KnownBytes.{Keeps}
 use Rattle.bac_apdu.specs.Apdu.{Apdu}
 use Rattle.bac_apdu.specs.Frame.{Frame, Unicast, Broadcast, Forwarded, Function, frame_at}
 use Rattle.bac_device.specs.Answer.{answer, answer_frame, answer_heard, returning}
@@ -11,26 +10,16 @@ use Rattle.bac_device.specs.declared.reply.Receiver.{Receiver}
 use Rattle.bac_device.specs.declared.reply.Receiver.TheVariants.{Sender, Address}
 use Rattle.bac_device.specs.declared.reply.Reply.{Reply}
 use Rattle.bac_heeding.specs.Ports.{Event, Received, Sent, came_in}
-use Rattle.bac_heeding.specs.declared.notes.Passed.{Passed}
-use Rattle.bac_laws.proofs.Captured.{Goes, captured_over, captured_unopened, nothing_captured}
-use Rattle.bac_laws.proofs.Statuses.{failed}
-use Rattle.bac_laws.specs.Events.{IsCaptured}
-use Rattle.bac_laws.specs.Served.{AnswersEach, AnswersOnly, asker_in}
+use Rattle.bac_laws.proofs.Captured.{Goes}
+use Rattle.bac_laws.specs.Served.{AnswersEach, IsCutOff, Replies, asker_in, next_of, reply_by}
 use Rattle.bac_objects.specs.State.{State}
 use Rattle.bac_ports.specs.Sockets.{SocketRules}
 use Rattle.bac_ports.specs.declared.port.Heard.{Heard}
 use Rattle.bac_ports.specs.declared.port.SocketFault.{SocketFault}
 use Rattle.bac_ports.specs.declared.port.SocketFault.TheVariants.{Timeout, Failed}
-use Rattle.bac_print.specs.Output.{Held}
 use Rattle.bac_serve.specs.Serving as serving
 use Rattle.bac_serve.specs.Serving.{Done, Handles, IsServed, Sends, Server, Serves, ServesNext, receiver_of, server}
-use Rattle.bac_tools.specs.Ending.{Ending}
-use Rattle.bac_tools.specs.Run.{Ends}
-use Rattle.bac_tools.specs.Serving as tool
-use Rattle.bac_tools.specs.Streams.{Streams}
-use Rattle.bac_tools.specs.declared.fault.Fault.TheVariants as fault
 use Rattle.bac_wire.specs.Stamp.{CivilTime}
-use Rattle.bac_words.specs.declared.job.ServedDevice.{ServedDevice}
 
 -- ---- whom an answer goes to
 
@@ -86,6 +75,43 @@ came_on (Sent octets to sent ∷ es) more = came_on es more
 came_on (Received (Ok heard) ∷ es) more = let e = came_on es more in omega (arith, e)
 came_on (Received (Err why) ∷ es) more = came_on es more
 
+length_on : (es more : List Event) → length (es ++ more) ≡ length es + length more
+length_on [] more = omega arith
+length_on (e ∷ es) more = let is = length_on es more in omega (arith, is)
+
+-- with what a device replies behind these events it replies to them, too
+abbrev Led : State → List Event → State → Type 0
+Led old es new = (more : List Event) → Replies new None more → Replies old None (es ++ more)
+
+led_on : (first es : List Event) (old mid new : State) → Led old first mid → Led mid es new → Led old (first ++ es) new
+led_on first es old mid new one rest =
+    λ more is. subst (λ (xs : List Event). Replies old None xs) (sym (append_assoc first es more)) (one (es ++ more) (rest more is))
+
+-- a fault of a wait for so many times is that of the last receive, or that each was in vain
+abbrev Faulty : ℕ → List Event → Done → Type 0
+Faulty n es result = (result ≡ Ok tt) ⊎ (((earlier : List Event) × (es ≡ earlier ++ Received (Err Failed) ∷ [])) ⊎ (n ≤ length es))
+
+faulty_behind : (n : ℕ) (e : Event) (es : List Event) (result : Done) → Faulty n es result → Faulty (suc n) (e ∷ es) result
+faulty_behind n e es result (inl is) = inl is
+faulty_behind n e es result (inr (inl (earlier, is))) = inr (inl (e ∷ earlier, ap (λ (xs : List Event). e ∷ xs) is))
+faulty_behind n e es result (inr (inr many)) = inr (inr (omega (arith, many)))
+
+-- all were served, or it was cut off
+abbrev pub Over : List Event → Done → Type 0
+Over es result = (result ≡ Ok tt) ⊎ (((why : SocketFault) × (result ≡ Err why)) × IsCutOff es)
+
+over_behind : (first es : List Event) (result : Done) → Over es result → Over (first ++ es) result
+over_behind first es result (inl is) = inl is
+over_behind first es result (inr (is, inl (earlier, shape))) = inr (
+  is,
+  inl (first ++ earlier, ap (λ (xs : List Event). first ++ xs) shape ∙ sym (append_assoc first earlier (Received (Err Failed) ∷ []))),
+)
+over_behind first es result (inr (is, inr many)) = inr (is, inr (let e = length_on first es in omega (arith, e, many)))
+
+over_at : (es : List Event) (why : SocketFault) (result : Done) → result ≡ Err why → Faulty 18446744073709551615 es (Err why) → Over es result
+over_at es why result is (inl done) = absurd (let e : Err why ≡ Ok tt = done in cc)
+over_at es why result is (inr cut) = inr ((why, is), cut)
+
 -- ---- serving
 
 module _ {S P C : Type 0} (rules : SocketRules S P) (tells : C → Option CivilTime → C → Type 0) where
@@ -100,46 +126,85 @@ module _ {S P C : Type 0} (rules : SocketRules S P) (tells : C → Option CivilT
   sends_one : (heard : Heard) (datagram : List ℕ) (device : State) (there : heard.datagram ≡ Some datagram) (found : Option Reply) (old : P)
       (result : Result Bool SocketFault) (new : P) → (answer device datagram).0 ≡ found → Sends rules.sends heard.from found old result new
       → (es : List Event) × Went es old new × AnswersEach (Some heard) es × (length (came_in es) ≡ 0)
-  sends_one heard datagram device there None old result new is (same, stays) = ([], stays, tt, refl)
+      × ((after : State) (more : List Event) → Replies after None more → Replies after (next_of heard.from found) (es ++ more))
+  sends_one heard datagram device there None old result new is (same, stays) = ([], stays, tt, refl, λ after more rest. rest)
   sends_one heard datagram device there (Some r) old result new is (sent, sends, how) = (
     Sent r.datagram (receiver_of r.to heard.from) sent ∷ [],
     (new, sends, refl),
     ((datagram, there, goes_to device heard.from datagram r is), tt),
     refl,
+    λ after more rest. (refl, rest),
   )
 
   handles_one : (heard : Heard) (found : Option (List ℕ)) (old : Server P C) (result : Result Bool SocketFault) (new : Server P C)
       → heard.datagram ≡ found → Handles rules.sends heard.from found old result new
       → (es : List Event) × Went es old.port new.port × AnswersEach (Some heard) es × (length (came_in es) ≡ 0)
-  handles_one heard None old result new is (same, stays, device) = ([], stays, tt, refl)
+      × ((more : List Event) → Replies new.device None more
+      → Replies (reply_by old.device found).1 (next_of heard.from (reply_by old.device found).0) (es ++ more))
+  handles_one heard None old result new is (same, stays, device) =
+      ([], stays, tt, refl, λ more rest. subst (λ (d : State). Replies d None more) device rest)
   handles_one heard (Some datagram) old result new is (sends, device) =
-      sends_one heard datagram old.device is (answer old.device datagram).0 old.port result new.port refl sends
+      let it = sends_one heard datagram old.device is (answer old.device datagram).0 old.port result new.port refl sends in (
+        it.0,
+        it.1,
+        it.2,
+        it.3,
+        λ more rest. it.4 (answer old.device datagram).1 more (subst (λ (d : State). Replies d None more) device rest),
+      )
 
   -- at most one came, and one did if that is the end of the wait
-  abbrev Next : Server P C → Done → Server P C → Type 0
-  Next old result new = (es : List Event) × Went es old.port new.port × AnswersEach None es × (length (came_in es) ≤ 1)
-      × (result ≡ Ok tt → length (came_in es) ≡ 1)
+  abbrev Next : ℕ → Server P C → Done → Server P C → Type 0
+  Next n old result new = (es : List Event) × Went es old.port new.port × AnswersEach None es × (length (came_in es) ≤ 1)
+      × (result ≡ Ok tt → length (came_in es) ≡ 1) × Led old.device es new.device × Faulty n es result
 
   next : (n : ℕ) (old : Server P C) (result : Done) (new : Server P C) → ServesNext rules.sends rules.receives tells n old result new
-      → Next old result new
+      → Next n old result new
   unfolding ServesNext
-  next zero old result new (is, (same, device, clock)) =
-      ([], same, tt, omega arith, λ done. absurd (let e : Err Timeout ≡ Ok tt = sym is ∙ done in cc))
+  next zero old result new (is, (same, device, clock)) = (
+    [],
+    same,
+    tt,
+    omega arith,
+    (λ done. absurd (let e : Err Timeout ≡ Ok tt = sym is ∙ done in cc)),
+    (λ more rest. subst (λ (d : State). Replies d None more) device rest),
+    inr (inr (omega arith)),
+  )
   next (suc n) old result new (Err Timeout, mid, receives, (now, seen, looks, rest)) =
-      let it = next n (server mid _ seen) result new rest in
-      (Received (Err Timeout) ∷ it.0, (mid, inl receives, it.1), it.2, it.3, it.4)
-  next (suc n) old result new (Err Failed, mid, receives, (is, (same, device, clock))) =
-      (Received (Err Failed) ∷ [], (mid, inl receives, same), tt, omega arith, λ done. absurd (let e : Err Failed ≡ Ok tt = sym is ∙ done in cc))
+      let it = next n (server mid _ seen) result new rest in (
+        Received (Err Timeout) ∷ it.0,
+        (mid, inl receives, it.1),
+        it.2,
+        it.3,
+        it.4,
+        (λ more after. (now, it.5 more after)),
+        faulty_behind n (Received (Err Timeout)) it.0 result it.6,
+      )
+  next (suc n) old result new (Err Failed, mid, receives, (is, (same, device, clock))) = (
+    Received (Err Failed) ∷ [],
+    (mid, inl receives, same),
+    tt,
+    omega arith,
+    (λ done. absurd (let e : Err Failed ≡ Ok tt = sym is ∙ done in cc)),
+    (λ more rest. (None, subst (λ (d : State). Replies d None more) device rest)),
+    inr (inl ([], refl)),
+  )
   next (suc n) old result new (Ok heard, mid, receives, (is, (sent, (now, looks, handles)))) =
-      let it = handles_one heard heard.datagram (server mid (serving.ticked_at old.device now) new.clock) sent new refl handles in
-      (Received (Ok heard) ∷ it.0, (mid, inl receives, it.1), it.2, (let e = it.3 in omega (arith, e)), λ done. (let e = it.3 in omega (arith, e)))
+      let it = handles_one heard heard.datagram (server mid (serving.ticked_at old.device now) new.clock) sent new refl handles in (
+        Received (Ok heard) ∷ it.0,
+        (mid, inl receives, it.1),
+        it.2,
+        (let e = it.3 in omega (arith, e)),
+        (λ done. (let e = it.3 in omega (arith, e))),
+        (λ more rest. (now, it.4 more rest)),
+        inl is,
+      )
 
   -- no more came than these, and as many if all were served
   abbrev All : ℕ → Server P C → Done → Server P C → Type 0
   All count old result new = (es : List Event) × Went es old.port new.port × AnswersEach None es × (length (came_in es) ≤ count)
-      × (result ≡ Ok tt → length (came_in es) ≡ count)
+      × (result ≡ Ok tt → length (came_in es) ≡ count) × Led old.device es new.device × Over es result
 
-  behind_one : (count : ℕ) (old mid new : Server P C) (served result : Done) → Next old served mid
+  behind_one : (count : ℕ) (old mid new : Server P C) (served result : Done) → Next 18446744073709551615 old served mid
       → IsServed served mid result new (Serves rules.sends rules.receives tells count mid result new)
       → (Serves rules.sends rules.receives tells count mid result new → All count mid result new) → All (suc count) old result new
   behind_one count old mid new (Err why) result first (is, (same, device, clock)) rest = (
@@ -147,7 +212,9 @@ module _ {S P C : Type 0} (rules : SocketRules S P) (tells : C → Option CivilT
     subst (λ (p : P). Went first.0 old.port p) (sym same) first.1,
     first.2,
     (let l = first.3 in omega (arith, l)),
-    λ done. absurd (let e : Err why ≡ Ok tt = sym is ∙ done in cc),
+    (λ done. absurd (let e : Err why ≡ Ok tt = sym is ∙ done in cc)),
+    (λ more rest. first.5 more (subst (λ (d : State). Replies d None more) device rest)),
+    over_at first.0 why result is first.6,
   )
   behind_one count old mid new (Ok done) result first is rest =
       let more = rest is in
@@ -156,52 +223,16 @@ module _ {S P C : Type 0} (rules : SocketRules S P) (tells : C → Option CivilT
         goes_behind first.0 more.0 old.port mid.port new.port first.1 more.1,
         each_on None first.0 more.0 first.2 more.2,
         (let l = first.3 in let m = more.3 in omega (arith, all, l, m)),
-        λ so. (let l = first.4 refl in let m = more.4 so in omega (arith, all, l, m)),
+        (λ so. (let l = first.4 refl in let m = more.4 so in omega (arith, all, l, m))),
+        led_on first.0 more.0 old.device mid.device new.device first.5 more.5,
+        over_behind first.0 more.0 result more.6,
       )
 
-  served : (count : ℕ) (old : Server P C) (result : Done) (new : Server P C) → Serves rules.sends rules.receives tells count old result new
+  pub served : (count : ℕ) (old : Server P C) (result : Done) (new : Server P C) → Serves rules.sends rules.receives tells count old result new
       → All count old result new
   unfolding Serves
-  served zero old result new (is, (same, device, clock)) = ([], same, tt, omega arith, λ done. refl)
+  served zero old result new (is, (same, device, clock)) =
+      ([], same, tt, omega arith, (λ done. refl), (λ more rest. subst (λ (d : State). Replies d None more) device rest), inl is)
   served (suc count) old result new (first, mid, next_one, rest) =
       behind_one count old mid new first result (next 18446744073709551615 old first mid next_one) rest
       (λ more. served count mid result new more)
-
--- ---- the tool
-
-of_zero : (passed : Passed) (done : Done) (result : Ending) (told now : Held) (status : ℕ) → result ≡ tool.of_served done
-    → Ends passed result told now status → status ≡ 0 → done ≡ Ok tt
-of_zero passed (Ok done) result told now status is ends none = refl
-of_zero passed (Err why) result told now status is ends none = absurd (failed passed result fault.Socket told now status is ends none)
-
-module _ {S P C : Type 0} (rules : SocketRules S P) (traces : S → Bool → S → Type 0) (tells : C → Option CivilTime → C → Type 0) where
-  abbrev Served : ServedDevice → S → S → Held → Held → ℕ → Type 0
-  Served said old new before after status = (es : List Event) × IsCaptured rules traces old new es × AnswersOnly said es before after status
-
-  pub serve_nothing : (said : ServedDevice) (old new : S) (before after : Held) (status : ℕ) → IsCaptured rules traces old new []
-      → Keeps before after → status ≢ 0 → Served said old new before after status
-  serve_nothing said old new before after status same keeps more = ([], same, (tt, omega arith, (λ is. absurd (more is)), keeps))
-
-  pub serve : (passed : Passed) (said : ServedDevice) (old : Streams S C) (result : Ending) (new : Streams S C) (told now : Held) (status : ℕ)
-      → tool.Serves rules tells said.address said.count old result new → Keeps old.output new.output → Ends passed result told now status
-      → Served said old.sockets new.sockets old.output new.output status
-  serve passed said old result new told now status (inl (why, configured, is, (quiet, same))) keeps ends =
-      serve_nothing said old.sockets new.sockets old.output new.output status (nothing_captured rules traces old.sockets new.sockets same) keeps
-      (failed passed result why told now status is ends)
-  serve passed said old result new told now status (inr (c, configured, inl (why, unbuilt, is, (quiet, same)))) keeps ends =
-      serve_nothing said old.sockets new.sockets old.output new.output status (nothing_captured rules traces old.sockets new.sockets same) keeps
-      (failed passed result why told now status is ends)
-  serve passed said old result new told now status (inr (c, configured, inr (built_so, inl (is, (quiet, same))))) keeps ends =
-      serve_nothing said old.sockets new.sockets old.output new.output status (nothing_captured rules traces old.sockets new.sockets same) keeps
-      (failed passed result fault.Memory told now status is ends)
-  serve passed said old result new told now status (inr (c, configured, inr (built_so, inr (inl (why, opens, is, quiet))))) keeps ends =
-      serve_nothing said old.sockets new.sockets old.output new.output status
-      (captured_unopened rules traces old.sockets new.sockets said.address (tool.wait_of c.objects.items) why opens) keeps
-      (failed passed result (fault.Unopened why) told now status is ends)
-  serve passed said old result new told now status
-      (inr (c, configured, inr (built_so, inr (inr (port, between, last, opens, (done, after, line, serves, how), closes))))) keeps ends =
-      let it = served rules tells said.count (server port _ old.clock) done (server last after new.clock) serves in (
-        it.0,
-        captured_over rules traces it.0 old.sockets between new.sockets said.address (tool.wait_of c.objects.items) port last opens it.1 closes,
-        (it.2, it.3, (λ none. it.4 (of_zero passed done result told now status how ends none)), keeps),
-      )

@@ -110,3 +110,7 @@ same_keeps (Some held) (Some now) is = let e : Some now ≡ Some held = is in le
 
 pub kept_part : (old new : Held) → Keeps old new → AppendsPart old new []
 kept_part old new keeps = ([], [], refl, kept_none old new keeps)
+
+pub told_memory : (old new : Held) (status : ℕ) → IsTold fault.Memory old new status → status ≡ 5
+told_memory old new status (inl (five, text)) = five
+told_memory old new status (inr (five, text)) = five

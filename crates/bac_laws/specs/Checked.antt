@@ -1,11 +1,13 @@
--- What `bac check` means that ends with 0, and what it prints then. Read `HasEach`, then `IsWhole` and `PrintsCounts`.
-use Rattle.std.specs.Prelude.{◌≡◌, ◌==◌, ℕ, pos, ◌+◌, ◌*◌, ◌<◌, ◌≤◌, if◌then◌else◌, List, [], length, map, flat_map}
-use Rattle.std.specs.Prelude.{Option, None, Some, is_none, is_some}
+-- What `bac check` means that ends with 0, and what it prints then. Read `HasEach`, then `IsWhole` and `PrintsCounts`;
+-- what it leaves, `LeavesAsFound`.
+use Rattle.std.specs.Prelude.{◌≡◌, ◌⊎◌, ◌==◌, ℕ, pos, ◌+◌, ◌*◌, ◌<◌, ◌≤◌, if◌then◌else◌, List, [], length, map}
+use Rattle.std.specs.Prelude.{flat_map, IsTrue, Option, None, Some, is_none, is_some}
 use Rattle.std.specs.List.{Contains, count_by, sum_by}
 use Rattle.std.specs.Io.KnownBytes.{Appends}
 use Rattle.sqlite_value.specs.Order.{Row as Columns, column}
 use Rattle.sqlite_value.specs.declared.value.Value.TheVariants.{Int}
 use Rattle.sqlite_trees.specs.Tree.{rowid}
+use Rattle.sqlite_trees.specs.View.{doubt}
 use Rattle.sqlite.specs.Effect.{Database}
 use Rattle.bac_archive.specs.Archive.{EndsAt}
 use Rattle.bac_archive.specs.Beginnings.{AreBeginnings, HasId, epoch_id}
@@ -22,6 +24,8 @@ use Rattle.bac_check.specs.Tallies.{gap_numbers}
 use Rattle.bac_check.specs.declared.course.Course.{Course}
 use Rattle.bac_check.specs.declared.tally.Span.{Span}
 use Rattle.bac_check.specs.declared.tally.Tally.{Tally}
+use Rattle.bac_files.specs.Parts.{PartRules, Reading}
+use Rattle.bac_files.specs.declared.not_opened.NotOpened.{NotOpened}
 use Rattle.bac_print.specs.Output.{Held}
 
 -- A row of the table `items` covers an id: its own, or of a gap each one up to that of its last number.
@@ -89,3 +93,12 @@ pub record PrintsCounts (db : Database) (before after : Held) : Type 0 where
   pub few : length courses ≤ length begun
   pub counted : (course : Course) → Contains courses course → IsCounted db course
   pub text : Appends before after (flat_map (log_lines courses) logs)
+
+-- ---- what is left
+
+-- What is found in a file is left as it was, if it has the tables of an archive, the disk gave back what was written,
+-- and no fault of the disk shut the database. Or the file isn't opened.
+abbrev pub LeavesAsFound : {P : Type 0} → PartRules P → P → List ℕ → P → Type 0
+LeavesAsFound rules old name new = ((reason : NotOpened) × rules.bars old name reason new)
+    ⊎ ((found : Reading) × rules.holds old name found new
+    × (doubt found.is_clean ≡ 0 → IsTrue found.is_open → HasArchive found.found.schema → found.left ≡ found.found))

@@ -1,7 +1,7 @@
 -- What a run sends over its sockets and what comes, as one list of events. Read `IsCaptured`; for one request
 -- `Exchanged`.
-use Rattle.std.specs.Prelude.{◌≡◌, ℕ, ◌+◌, ◌≤◌, Bool, true, false, List, [], ◌∷◌, ◌++◌, replicate, Option, Some, None}
-use Rattle.std.specs.Prelude.{Result, Ok, IfOk}
+use Rattle.std.specs.Prelude.{◌≡◌, ℕ, zero, suc, ◌+◌, ◌≤◌, Bool, true, false, List, [], ◌∷◌, ◌++◌, replicate}
+use Rattle.std.specs.Prelude.{Option, Some, None, IsSome, Result, Ok, Err, IfOk}
 use Rattle.std.specs.List.{Contains}
 use Rattle.bac_heeding.specs.Ports.{Event, Sent, Received}
 use Rattle.bac_link.specs.Datagrams.{answers_to}
@@ -60,14 +60,27 @@ sent_in (Received received ∷ es) = sent_in es
 abbrev pub came : List ℕ → List ℕ → Event
 came from datagram = Received (Ok (record { from = from; datagram = Some datagram }))
 
+-- For how many more datagrams an answer is waited for, behind these events: 16 behind a send, none if it was refused;
+-- one fewer behind each that came, none behind a receive that failed, as where the time was over. It is nothing where
+-- something was sent while an answer was waited for, or received while none was.
+abbrev pub waited : ℕ → List Event → Option ℕ
+waited n [] = Some n
+waited zero (Sent octets to (Ok done) ∷ es) = waited 16 es
+waited zero (Sent octets to (Err fault) ∷ es) = waited zero es
+waited zero (Received received ∷ es) = None
+waited (suc n) (Sent octets to sent ∷ es) = None
+waited (suc n) (Received (Ok heard) ∷ es) = waited n es
+waited (suc n) (Received (Err fault) ∷ es) = waited zero es
+
 -- One request goes to a device, the same octets each time, and nothing else is sent. It is sent as often again as its
--- retries say, and nothing that comes from the device answers it; or this datagram comes from the device, the first
--- that answers it, and behind it nothing is done.
+-- retries say, each time when an answer was waited for long enough, and nothing that comes from the device answers it;
+-- or this datagram comes from the device, the first that answers it, and behind it nothing is done.
 abbrev pub Exchanged : List ℕ → List ℕ → ℕ → List Event → Option (List ℕ) → Type 0
-Exchanged request to retries es None = (sent_in es ≡ replicate (retries + 1) (request, to))
+Exchanged request to retries es None =
+    (sent_in es ≡ replicate (retries + 1) (request, to)) × (waited 0 es ≡ Some 0)
     × ((datagram : List ℕ) → Contains es (came to datagram) → answers_to request datagram ≡ false)
 Exchanged request to retries es (Some answer) =
     (again : ℕ) × (again ≤ retries) × (before : List Event) × (es ≡ before ++ came to answer ∷ [])
-    × (sent_in before ≡ replicate (again + 1) (request, to))
+    × (sent_in before ≡ replicate (again + 1) (request, to)) × IsSome (waited 0 es)
     × ((datagram : List ℕ) → Contains before (came to datagram) → answers_to request datagram ≡ false)
     × (answers_to request answer ≡ true)

@@ -1,16 +1,24 @@
 -- What `bac log` prints of a log is what came, each number once. Read `PrintsLog`; how often is asked, `AsksFew`.
 use Rattle.std.specs.Prelude.{◌≡◌, ◌⊎◌, ◌≤◌, ◌+◌, ◌*◌, ℕ, Bool, true, false, List, [], ◌∷◌, ◌++◌, length}
-use Rattle.std.specs.Prelude.{Option, None, Some, Ok}
+use Rattle.std.specs.Prelude.{Option, None, Some, IsSome, Ok}
 use Rattle.std.specs.Io.KnownBytes.{Appends, Keeps}
 use Rattle.std.specs.List.{Contains}
+use Rattle.bac_apdu.specs.declared.service.read_range.ReadRange.{ReadRange}
 use Rattle.bac_heeding.specs.Ports.{Event}
 use Rattle.bac_laws.specs.Asked.{IsUnasked}
-use Rattle.bac_laws.specs.Events.{sent_in}
+use Rattle.bac_laws.specs.Events.{Exchanged, sent_in}
+use Rattle.bac_link.specs.Datagrams.{apdu_in}
+use Rattle.bac_link.specs.Exchanges.{verdict_of}
 use Rattle.bac_link.specs.Heard.{AckParameters, heard_in}
 use Rattle.bac_link.specs.Laws.{CoversEach}
 use Rattle.bac_link.specs.Ordinals.{is_ahead}
+use Rattle.bac_link.specs.Requests.{request_octets}
+use Rattle.bac_link.specs.Standard.{IsCount}
+use Rattle.bac_link.specs.declared.exchanges.Verdict.TheVariants as verdict
 use Rattle.bac_link.specs.declared.item.Item.{Item}
 use Rattle.bac_link.specs.declared.item.Item.TheVariants.{Gap, Logged}
+use Rattle.bac_link.specs.declared.request.Request.{Request}
+use Rattle.bac_link.specs.declared.request.Request.TheVariants as request
 use Rattle.bac_log.specs.TrendLog.{sequence_number}
 use Rattle.bac_log.specs.declared.entry.Entry.{Entry}
 use Rattle.bac_ports.specs.Port.{Opening, Receiving, Sending}
@@ -19,10 +27,13 @@ use Rattle.bac_ports.specs.declared.port.Heard.{Heard}
 use Rattle.bac_print.specs.Output.{AppendsPart, Held}
 use Rattle.bac_query.specs.Ends.{end_line}
 use Rattle.bac_query.specs.Items.{items_text}
-use Rattle.bac_tools.specs.Run.{trend_log}
+use Rattle.bac_tools.specs.Run.{IsOutside, trend_log}
+use Rattle.bac_tools.specs.Status.{walk_status}
 use Rattle.bac_walk.specs.Walks.{shown_from}
+use Rattle.bac_walk.specs.declared.outcome.WalkFault.{WalkFault}
+use Rattle.bac_walk.specs.declared.outcome.WalkFault.TheVariants.{Lost, Refused, BadReply}
 use Rattle.bac_walk.specs.declared.outcome.Why.{Why}
-use Rattle.bac_walk.specs.declared.outcome.Why.TheVariants.{CaughtUp, StepLimit}
+use Rattle.bac_walk.specs.declared.outcome.Why.TheVariants.{CaughtUp, StepLimit, Fault, Memory}
 use Rattle.bac_wire.specs.Primitive.{Id}
 use Rattle.bac_words.specs.declared.job.LogReading.{LogReading}
 
@@ -82,30 +93,54 @@ abbrev pub HaveEachOnce : Option ℕ → List Item → ℕ → Type 0
 HaveEachOnce from items next =
     (s : ℕ) → BeginAt from items s → (t : ℕ) × (next ≡ sequence_number t) × CoversEach s items t
 
--- How a run may end with the status 0: caught up, where in this run the device of the words said that it has no more;
--- or at the limit of steps of the words, behind as many items.
-abbrev pub EndsWell : {S P : Type 0} → SocketRules S P → (S → S → Type 0) → S → LogReading → List Item → Why → ℕ
-    → Type 0
-EndsWell rules changes sockets said items CaughtUp next =
-    (datagram : List ℕ) × CameFrom rules changes sockets said.asked.address datagram
-    × HasNoMore (trend_log said.instance) datagram next
-EndsWell rules changes sockets said items StepLimit next = said.steps ≤ length items
-EndsWell rules changes sockets said items other next = ⊥
+-- ---- how a run ends
 
--- Nothing is printed, and the status is that of a run that asks nothing; or a line for each of these items, and the
--- line of the end, or a front part of that text. With the status 0 all of it is there, and that line is right. Each
--- number from where they begin is in one item, a record or a gap; and each record came in this run from the device of
--- the words.
-abbrev pub PrintsLog : {S P : Type 0} → SocketRules S P → (S → S → Type 0) → S → LogReading → Held → Held → ℕ → Type 0
-PrintsLog rules changes sockets said before after status = (Keeps before after × IsUnasked status)
+-- The last of what was done: a ReadRange for the log of the words was made of their device, sent as often again as they
+-- say while no answer came, and this came of it, an answer or none.
+abbrev pub AskedLast : LogReading → List Event → (Request → Option (List ℕ) → Type 0) → Type 0
+AskedLast said es is = (earlier : List Event) × (last : List Event) × (es ≡ earlier ++ last)
+    × (asked : ReadRange) × (asked.object ≡ trend_log said.instance) × (invoke : ℕ) × (answer : Option (List ℕ))
+    × Exchanged (request_octets (record { dest = said.asked.route; source = None }) invoke (request.ReadRange asked))
+    said.asked.address said.asked.retries last answer × is (request.ReadRange asked) answer
+
+-- this fault came of a request: no answer, a refusal, or an answer that isn't taken
+abbrev pub ComesToFault : WalkFault → Request → Option (List ℕ) → Type 0
+ComesToFault Lost r answer = answer ≡ None
+ComesToFault (Refused refusal) r answer =
+    (datagram : List ℕ) × (answer ≡ Some datagram) × (verdict_of r (apdu_in datagram) ≡ verdict.Refused refusal)
+ComesToFault BadReply r answer = IsSome answer
+
+-- The end of a run is right. It is caught up, where in this run the device of the words said that it has no more; at
+-- the limit of steps of the words, behind as many items; at a fault, that of the request that was made last.
+abbrev pub EndsRight : (List ℕ → Type 0) → LogReading → List Event → List Item → Why → ℕ → Type 0
+EndsRight came said es items CaughtUp next =
+    (datagram : List ℕ) × came datagram × HasNoMore (trend_log said.instance) datagram next
+EndsRight came said es items StepLimit next = said.steps ≤ length items
+EndsRight came said es items (Fault fault) next = AskedLast said es (ComesToFault fault)
+EndsRight came said es items Memory next = Unit {0}
+
+-- all of a text is written, and this is the status; or it, or a front part, where the output refused the rest, 2, or
+-- there is no memory for it, or to tell a fault, 5
+abbrev pub IsWritten : Held → Held → List ℕ → ℕ → ℕ → Type 0
+IsWritten before after text ending status = (Appends before after text × (status ≡ ending))
+    ⊎ (AppendsPart before after text × ((status ≡ 2) ⊎ (status ≡ 5)))
+
+-- the words mean no walk of a log: no log has this instance, no request this count, or no record this number
+abbrev pub AreWrong : LogReading → Type 0
+AreWrong said = IsOutside 20 said.instance ⊎ ((IsCount said.count → ⊥) ⊎ (said.from ≡ Some 0))
+
+-- Nothing is asked or printed, and the status says so, by 1 only of words that are wrong. Or a line for each of these
+-- items, and the line of the end, which is right, and so is the status. Each number from where they begin is in one
+-- item, a record or a gap; and each record came in this run from the device of the words.
+abbrev pub PrintsLog : (List ℕ → Type 0) → LogReading → List Event → Held → Held → ℕ → Type 0
+PrintsLog came said es before after status =
+    ((es ≡ []) × Keeps before after × IsUnasked status × (status ≡ 1 → AreWrong said))
     ⊎ ((items : List Item) × (why : Why) × (next : ℕ)
-    × AppendsPart before after (items_text items ++ end_line why next)
-    × (status ≡ 0 → Appends before after (items_text items ++ end_line why next)
-    × EndsWell rules changes sockets said items why next)
+    × IsWritten before after (items_text items ++ end_line why next) (walk_status why) status
+    × EndsRight came said es items why next
     × HaveEachOnce said.from items next
     × ((number : ℕ) (entry : Entry) → Contains items (Logged number entry) → (datagram : List ℕ)
-    × CameFrom rules changes sockets said.asked.address datagram
-    × HasRecord (trend_log said.instance) datagram number entry))
+    × came datagram × HasRecord (trend_log said.instance) datagram number entry))
 
 -- ---- how often is asked
 

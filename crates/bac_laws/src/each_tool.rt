@@ -4,7 +4,7 @@ ghost use Rattle.std.specs.Prelude.{◌≡◌, ◌≢◌, ℕ, List, [], Ok, Non
 ghost use Rattle.std.specs.String.{string_bytes};
 ghost use Rattle.sqlite_trees.specs.View.{doubt};
 ghost use Rattle.sqlite_wal.specs.Files.{image_at};
-ghost use Rattle.bac_files.specs.Parts.{Listing, Reading};
+ghost use Rattle.bac_files.specs.Parts.{Listing, Reading, part_rules};
 ghost use Rattle.bac_heeding.specs.Ports.{Event};
 ghost use Rattle.bac_ports.specs.Sockets.{socket_rules};
 ghost use Rattle.bac_tools.specs.Run.{AskFor};
@@ -18,14 +18,14 @@ ghost use Rattle.bac_words.specs.declared.job.PropertyReading.{PropertyReading a
 ghost use Rattle.bac_words.specs.declared.job.PropertyWriting.{PropertyWriting as WriteWords};
 ghost use Rattle.bac_words.specs.declared.job.ServedDevice.{ServedDevice as ServeWords};
 ghost use Rattle.bac_laws.specs.Asked.{PrintsWhatCame, ReadsOnce, WritesOnce};
-ghost use Rattle.bac_laws.specs.Checked.{IsWhole, PrintsCounts};
+ghost use Rattle.bac_laws.specs.Checked.{IsWhole, LeavesAsFound, PrintsCounts};
 ghost use Rattle.bac_laws.specs.Events.{CanBeCaptured, IsCaptured};
 ghost use Rattle.bac_laws.specs.Found.{FindsWhatCame};
 ghost use Rattle.bac_laws.specs.Listed.{ListsWhatCame};
 ghost use Rattle.bac_laws.specs.Played.{PlaysScript};
 ghost use Rattle.bac_laws.specs.Printed.{AsksFew};
 ghost use Rattle.bac_laws.specs.Rows.{PrintsFileRows};
-ghost use Rattle.bac_laws.specs.Served.{AnswersOnly};
+ghost use Rattle.bac_laws.specs.Served.{AnswersOnly, ServesDevice};
 
 use bac_desks::Clock as WaitClock;
 use bac_files::FileOf;
@@ -147,7 +147,8 @@ where
 }
 
 /// `serve` sends answers alone: each right behind the datagram that it answers, to who asked, and
-/// one at most.
+/// one at most. Of all that comes, what the device of the script on the input has a reply to is
+/// answered by that reply.
 pub fn serve_answers_only<
     S: Tracing + Recalls,
     F: Start,
@@ -173,7 +174,9 @@ where
         S.Socket.receives S.Socket.receives_within) S.traces machine.old.sockets
         machine.new.sockets es
         × AnswersOnly said es (O.contents console.old.output)
-        (O.contents console.new.output) result }
+        (O.contents console.new.output) result
+        × ((script : List ℕ) → I.remaining console.old.input ≡ Some script
+        → ServesDevice said script es result) }
 {
     run(machine, console, alloc, waits, words, counts)
 }
@@ -208,8 +211,9 @@ where
     run(machine, console, alloc, waits, words, counts)
 }
 
-/// `logs` of logs that its words name, where it ends with 0, prints a line for each; each cell is
-/// what came from the device to the question for it, and nothing else is sent.
+/// `logs` of logs that its words name prints a line for each, up to one to whose question no answer
+/// came; each cell is what came from the device to the question for it, and nothing else is sent.
+/// Where it ends with 0, all lines are there.
 pub fn logs_prints_what_came<
     S: Tracing + Recalls,
     F: Start,
@@ -231,12 +235,12 @@ pub fn logs_prints_what_came<
 where
     W: Drop,
     ensures { (said : ListWords) → AskFor (map string_bytes words.now) (job.Logs said)
-        → said.instances ≢ [] → result ≡ 0
+        → said.instances ≢ []
         → (es : List Event) × IsCaptured (socket_rules S.opens S.closes S.Socket.sends
         S.Socket.receives S.Socket.receives_within) S.traces machine.old.sockets
         machine.new.sockets es
         × ListsWhatCame said es (O.contents console.old.output)
-        (O.contents console.new.output) }
+        (O.contents console.new.output) result }
 {
     run(machine, console, alloc, waits, words, counts)
 }
@@ -274,6 +278,7 @@ where
 
 /// `check` of a file that ends with 0 found an archive in it, left it as it is, and of each epoch
 /// of its logs each number is in one row, and in no other; what it prints is what is counted there.
+/// However it ends, but without memory, what it finds is left as it was.
 pub fn check_finds_each_number<
     S: Tracing + Recalls,
     F: Start,
@@ -294,7 +299,7 @@ pub fn check_finds_each_number<
 ) -> u8
 where
     W: Drop,
-    ensures { (said : CheckWords) → AskFor (map string_bytes words.now) (job.Check said)
+    ensures finds { (said : CheckWords) → AskFor (map string_bytes words.now) (job.Check said)
         → result ≡ 0
         → (listing : Listing) × (listed : Q) × Q.lists machine.old.folders said.file listing listed
         × (listing ≡ Ok None → (found : Reading)
@@ -302,6 +307,11 @@ where
         × (doubt found.is_clean ≡ 0 → (found.left ≡ found.found) × IsWhole found.found
         × PrintsCounts found.found (O.contents console.old.output)
         (O.contents console.new.output))) }
+    ensures leaves { (said : CheckWords) → AskFor (map string_bytes words.now) (job.Check said)
+        → result ≢ 5
+        → (listing : Listing) × (listed : Q) × Q.lists machine.old.folders said.file listing listed
+        × (listing ≡ Ok None → LeavesAsFound (part_rules Q.lists Q.holds Q.bars) listed said.file
+        machine.new.folders) }
 {
     run(machine, console, alloc, waits, words, counts)
 }

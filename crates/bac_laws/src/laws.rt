@@ -1,7 +1,8 @@
 //! What whatever words never do.
 
-ghost use Rattle.std.specs.Prelude.{◌≡◌, false, map};
+ghost use Rattle.std.specs.Prelude.{◌≡◌, false, List, map};
 ghost use Rattle.std.specs.String.{string_bytes};
+ghost use Rattle.bac_heeding.specs.Ports.{Event};
 ghost use Rattle.bac_ports.specs.Sockets.{socket_rules};
 ghost use Rattle.bac_tools.specs.Run.{AskFor};
 ghost use Rattle.bac_words.specs.declared.job.Job.{Job as AnyJob};
@@ -9,7 +10,8 @@ ghost use Rattle.bac_words.specs.declared.job.Job.TheVariants as job;
 ghost use Rattle.bac_words.specs.declared.job.LogReading.{LogReading as LogWords};
 ghost use Rattle.bac_run.specs.Run.{Leaves};
 ghost use Rattle.bac_laws.specs.Lost.{LosesNone};
-ghost use Rattle.bac_laws.specs.Printed.{PrintsLog};
+ghost use Rattle.bac_laws.specs.Events.{IsCaptured};
+ghost use Rattle.bac_laws.specs.Printed.{CameFrom, PrintsLog};
 ghost use Rattle.bac_laws.specs.Sends.{Beside, IsBound, MaySend, SendsOnly};
 
 use bac_desks::Clock as WaitClock;
@@ -81,8 +83,9 @@ where
     run(machine, console, alloc, waits, words, counts)
 }
 
-/// `log` prints in lines what came in this run from the device of its words, each number once. It
-/// ends with 0 only where the device said that it has no more, or at the limit of its steps.
+/// `log` prints in lines what came in this run from the device of its words, each number once, and
+/// how it ended, which is right: where the device said that it has no more, at the limit of its
+/// steps, or at a fault of the request that was made last, as that no answer came.
 pub fn log_prints_what_came<
     S: Tracing + Recalls,
     F: Start,
@@ -105,9 +108,13 @@ where
     W: Drop,
     ensures { (said : LogWords) → AskFor (map string_bytes words.now) (job.Log said)
         → said.csv ≡ false
-        → PrintsLog (socket_rules S.opens S.closes S.Socket.sends S.Socket.receives
-        S.Socket.receives_within) (Beside S.traces S.holds) machine.new.sockets said
-        (O.contents console.old.output) (O.contents console.new.output) result }
+        → (es : List Event) × IsCaptured (socket_rules S.opens S.closes S.Socket.sends
+        S.Socket.receives S.Socket.receives_within) S.traces machine.old.sockets
+        machine.new.sockets es
+        × PrintsLog (CameFrom (socket_rules S.opens S.closes S.Socket.sends S.Socket.receives
+        S.Socket.receives_within) (Beside S.traces S.holds) machine.new.sockets
+        said.asked.address) said es (O.contents console.old.output)
+        (O.contents console.new.output) result }
 {
     run(machine, console, alloc, waits, words, counts)
 }

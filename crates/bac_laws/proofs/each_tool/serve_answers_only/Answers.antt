@@ -14,5 +14,6 @@ returns g c said ask =
     let rules = socket_rules g.S.Sockets.opens g.S.Sockets.closes g.S.Socket.Port.sends g.S.Socket.Port.receives g.S.Socket.Port.receives_within in
     let old = streams (g.I.Read.remaining c.args.console.now.input) (g.O.Write.contents c.args.console.now.output) (g.E.Write.contents c.args.console.now.errors) c.args.machine.now.sockets c.args.machine.now.clock in
     let new = streams (g.I.Read.remaining c.run.new.console.input) (g.O.Write.contents c.run.new.console.output) (g.E.Write.contents c.run.new.console.errors) c.run.new.machine.sockets c.run.new.machine.clock in
-    serve_ran disk part c.run.new.machine.parts (at_once g.S.Recalls.holds g.W.Clock.reads c.args.waits) (part_rules g.Q.Parts.lists g.Q.Parts.holds g.Q.Parts.bars) c.args.machine.now.folders c.run.new.machine.folders
-    g.S.Tracing.traces rules g.S.Heeds.passes g.C.Clock.tells said old c.args.machine.now.files c.run.result new c.run.new.machine.files (c.run.ensures.done (job.Serve said) ask)
+    let it = serve_ran disk part c.run.new.machine.parts (at_once g.S.Recalls.holds g.W.Clock.reads c.args.waits) (part_rules g.Q.Parts.lists g.Q.Parts.holds g.Q.Parts.bars) c.args.machine.now.folders c.run.new.machine.folders
+    g.S.Tracing.traces rules g.S.Heeds.passes g.C.Clock.tells said old c.args.machine.now.files c.run.result new c.run.new.machine.files (c.run.ensures.done (job.Serve said) ask) in
+    (it.0, it.1, it.2.0, it.2.1)
