@@ -16,3 +16,4 @@ pub mod SeatedRun
 pub mod Open
 pub mod Ended
 pub mod Losses
+pub mod Statuses
