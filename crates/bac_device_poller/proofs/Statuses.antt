@@ -1,7 +1,7 @@
 -- The status of a device's poll rises by what is told, and by why it is left.
 use Rattle.std.proofs.Common.{◌≡◌, ◌⊎◌, ◌∙◌, ◌≤◌, ◌<◌, inl, inr, ℕ, nat_lt, Bool, true, false, if◌then◌else◌, List, [], ◌∷◌}
 use Rattle.std.proofs.Common.{◌++◌, Option, Some, None, refl, sym, ap, subst, arith, is_some}
-use Rattle.std.specs.List.{Contains}
+use Rattle.std.proofs.lemmas.Bool.{ltb-false, ltb-true}
 use Rattle.std.proofs.lemmas.List.Elements.{Contains-append_left, Contains-push}
 use Rattle.bac_wire.specs.Primitive.{Id}
 use Rattle.bac_archive3.specs.declared.row.Put.{Put}
@@ -9,6 +9,7 @@ use Rattle.bac_answers.specs.declared.entry.Entry.{Entry}
 use Rattle.bac_answers.specs.declared.entry.Entry.TheVariants.{Added, Another, Clock, Known, KnownNow, Named}
 use Rattle.bac_answers.specs.declared.entry.Entry.TheVariants.{NotAsked, Others, Read, Untold}
 use Rattle.bac_answers.specs.declared.entry.Naming.{Naming}
+use Rattle.bac_walk.specs.declared.outcome.WalkFault.TheVariants as walk
 use Rattle.bac_wire.specs.Stamp.{CivilTime}
 use Rattle.bac_poll.specs.State.{ToldAs}
 use Rattle.bac_poll.specs.Turns.{Turned as LogTurned}
@@ -38,7 +39,7 @@ use Rattle.bac_device_poller.specs.Poller.{AsksNext, GivesBy, PollerAs, TellsNex
 use Rattle.bac_device_poller.specs.Puts.{PlaceAs, PutAs}
 use Rattle.bac_device_poller.specs.Rows.{LogAs}
 use Rattle.bac_device_poller.specs.Status.{code, greater_of, status_at, status_of}
-use Rattle.bac_device_poller.specs.StatusLaws.{HasWarning, StatusTells, Tells, end_status, left_status}
+use Rattle.bac_device_poller.specs.StatusLaws.{HasWarning, LogsAreCounted, RisesAsTold, StatusIsTold, end_status, left_status}
 use Rattle.bac_device_poller.specs.Telling.{LineAs}
 use Rattle.bac_device_poller.specs.Turns.{TakesLog, TakesOf, keeping, retelling, telling_any_end, telling_end, telling_line}
 use Rattle.bac_device_poller.specs.Turns.{telling_turn, turning}
@@ -55,7 +56,7 @@ pub greater_left : (a b : Status) → code a ≤ code (greater_of a b)
 greater_left a b = by (nat_lt (code a) (code b)) refl
   where
     by : (t : Bool) → nat_lt (code a) (code b) ≡ t → code a ≤ code (if t then b else a)
-    by true less = omega (arith, less)
+    by true less = omega (arith, ltb-true (code a) (code b) less)
     by false less = omega arith
 
 pub greater_right : (a b : Status) → code b ≤ code (greater_of a b)
@@ -63,7 +64,7 @@ greater_right a b = by (nat_lt (code a) (code b)) refl
   where
     by : (t : Bool) → nat_lt (code a) (code b) ≡ t → code b ≤ code (if t then b else a)
     by true less = omega arith
-    by false less = omega (arith, less)
+    by false less = omega (arith, ltb-false (code a) (code b) less)
 
 greater_done : (a : Status) → greater_of a Done ≡ a
 greater_done Done = refl
@@ -283,7 +284,7 @@ with_end None true = refl
 with_end (Some why) true = refl
 with_end end false = refl
 
-pub settled : (t : Turned) (p q : PollerAs) (puts : List Put) → Settles t p puts q → Tells p q
+pub settled : (t : Turned) (p q : PollerAs) (puts : List Put) → Settles t p puts q → RisesAsTold p q
 settled t p q puts (mid, takes, ended) =
     let u : Turned = stepped t.step t.device in
     let polled = is_some t.device.polled in
@@ -291,10 +292,10 @@ settled t p q puts (mid, takes, ended) =
     let r : RowsAs = rows_with t.entries u polled mid in
     let grows = chained (log_grows t.log t.device.polled p.rows mid takes) (chained (entries_grow mid t.entries) (entries_grow (with_entries mid t.entries) u.entries)) in
     let e : Ends (end_at u.step) p.rows r = before (end_at u.step) p.rows inner r grows (step_ends u.step polled inner) (step_lines u.step polled inner) in
-    let T : PollerAs → Type 0 = λ x. Tells p x in
+    let T : PollerAs → Type 0 = λ x. RisesAsTold p x in
     subst T (sym ended.1) (by (end_at u.step) (is_none_told r.lines) r e)
   where
-    by : (end : Option DeviceEnd) (b : Bool) (r : RowsAs) → Ends end p.rows r → Tells p (record p { poll = (stepped t.step t.device).device; doing = doing_with end b; rows = record r { puts = [] } })
+    by : (end : Option DeviceEnd) (b : Bool) (r : RowsAs) → Ends end p.rows r → RisesAsTold p (record p { poll = (stepped t.step t.device).device; doing = doing_with end b; rows = record r { puts = [] } })
     by end b r e =
         let is : code (left_status (doing_with end b)) ≡ code (end_status end) = ap code (with_end end b) in
         record {
@@ -310,27 +311,27 @@ settled t p q puts (mid, takes, ended) =
 
 -- ---- what it wants
 
-same : (p q : PollerAs) → q.rows ≡ p.rows → left_status q.doing ≡ Done → Tells p q
+same : (p q : PollerAs) → q.rows ≡ p.rows → left_status q.doing ≡ Done → RisesAsTold p q
 same p q rows done =
     let is : q.rows.status ≡ p.rows.status = ap (λ (r : RowsAs). r.status) rows in
     let e : code q.rows.status ≡ code p.rows.status = ap code is in
     let d : code (left_status q.doing) ≡ 0 = ap code done in
     record { grows = omega (arith, e); told = inl is; counts = λ counted. omega (arith, d) }
 
-told_next : (lines : List LineAs) (end : Option DeviceEnd) (p q : PollerAs) (wanted : Next) → p.doing ≡ doing.Tells end → TellsNext lines end p wanted q → Tells p q
+told_next : (lines : List LineAs) (end : Option DeviceEnd) (p q : PollerAs) (wanted : Next) → p.doing ≡ doing.Tells end → TellsNext lines end p wanted q → RisesAsTold p q
 told_next (line ∷ lines) end p q wanted was g =
-    let T : PollerAs → Type 0 = λ x. Tells p x in
+    let T : PollerAs → Type 0 = λ x. RisesAsTold p x in
     let b = is_none_told lines in
     let e : code (left_status p.doing) ≡ code (end_status end) = ap (λ (d : Doing). code (left_status d)) was in
     let f : code (left_status (doing_with end b)) ≡ code (end_status end) = ap code (with_end end b) in
     subst T (sym g.1) (record { grows = omega arith; told = inl refl; counts = λ counted. omega (arith, e, f, counted) })
 told_next [] end p q wanted was g =
-    let T : PollerAs → Type 0 = λ x. Tells p x in
+    let T : PollerAs → Type 0 = λ x. RisesAsTold p x in
     let e : code (left_status p.doing) ≡ code (end_status end) = ap (λ (d : Doing). code (left_status d)) was in
     let f : code (left_status (doing_with end true)) ≡ code (end_status end) = ap code (with_end end true) in
     subst T (sym g.1) (record { grows = omega arith; told = inl refl; counts = λ counted. omega (arith, e, f, counted) })
 
-asked : (question : Question) (p q : PollerAs) (wanted : Next) → AsksNext question p wanted q → Tells p q
+asked : (question : Question) (p q : PollerAs) (wanted : Next) → AsksNext question p wanted q → RisesAsTold p q
 asked (Confirmed request) p q (next.Send octets to) g = same p q (ap (λ (x : PollerAs). x.rows) g.2) (ap (λ (x : PollerAs). left_status x.doing) g.2)
 asked (Confirmed request) p q wanted g = absurd g
 asked WhoIs p q (next.Send octets to) g = same p q (ap (λ (x : PollerAs). x.rows) g.2) (ap (λ (x : PollerAs). left_status x.doing) g.2)
@@ -338,12 +339,12 @@ asked WhoIs p q wanted g = absurd g
 asked Nothing p q (next.Keep puts) g = settled (after_end p.poll) p q puts.items g
 asked Nothing p q wanted g = absurd g
 
-as_it_was : (p q : PollerAs) → q ≡ p → Tells p q
+as_it_was : (p q : PollerAs) → q ≡ p → RisesAsTold p q
 as_it_was p q is =
-    let T : PollerAs → Type 0 = λ x. Tells p x in
+    let T : PollerAs → Type 0 = λ x. RisesAsTold p x in
     subst T (sym is) (record { grows = omega arith; told = inl refl; counts = λ counted. counted })
 
-wants : (what : Doing) (p q : PollerAs) (wanted : Next) → p.doing ≡ what → GivesBy what p wanted q → Tells p q
+pub wants : (what : Doing) (p q : PollerAs) (wanted : Next) → p.doing ≡ what → GivesBy what p wanted q → RisesAsTold p q
 wants doing.Asks p q wanted was g = asked (asked_of_device p.poll) p q wanted g
 wants (doing.Resends datagram) p q (next.Send octets to) was g = same p q (ap (λ (x : PollerAs). x.rows) g.2) (ap (λ (x : PollerAs). left_status x.doing) g.2)
 wants (doing.Resends datagram) p q wanted was g = absurd g
@@ -355,5 +356,53 @@ wants doing.Loses p q wanted was g = absurd g
 wants (doing.Tells end) p q wanted was g = told_next p.rows.lines end p q wanted was g
 wants (doing.Ended why) p q wanted was g = as_it_was p q g.1
 
-pub status_tells : StatusTells
-status_tells p q wanted g = wants p.doing p q wanted refl g
+pub status_is_told : StatusIsTold
+status_is_told p q wanted g = wants p.doing p q wanted refl g
+
+-- ---- logs
+
+none_left : (w : PollEnd) → code (status_of (Poll w)) ≤ 6
+none_left CaughtUp = omega arith
+none_left SaysMore = omega arith
+none_left ShowsNone = omega arith
+none_left NoneByNumber = omega arith
+none_left Contradicts = omega arith
+none_left (Fault walk.Lost) = omega arith
+none_left (Fault (walk.Refused refusal)) = omega arith
+none_left (Fault walk.BadReply) = omega arith
+
+end_counts : (r : RowsAs) (called : List ℕ) (behind : Option PlaceAs) (why : PollEnd) (next : ℕ) → code (status_of (Poll why)) ≤ code (telling_any_end r called behind (Some why) next).status
+end_counts r called None why next = let x = greater_right r.status File in let y = none_left why in omega (arith, x, y)
+end_counts r called (Some behind) why next = greater_right r.status (status_of (Poll why))
+
+turn_counts : (r : RowsAs) (l : LogAs) (behind : Option PlaceAs) (puts : List PutAs) (u : LogTurned) (why : PollEnd) → u.end ≡ Some why → code (status_of (Poll why)) ≤ code (turning r l behind puts u).status
+turn_counts r l behind puts u why is =
+    let lined = telling_line (keeping r behind puts u) l.called u.line in
+    let C : Option PollEnd → Type 0 = λ o. code (status_of (Poll why)) ≤ code (telling_any_end lined l.called behind o u.poll.next).status in
+    let told : C u.end = subst C (sym is) (end_counts lined l.called behind why u.poll.next) in
+    let g = retold_grows (telling_turn (keeping r behind puts u) l.called behind u) (record l { place = behind }) u.poll.word in
+    let h = g.rises in
+    omega (arith, told, h)
+
+pub logs_are_counted : LogsAreCounted
+logs_are_counted t p q puts u why polled l (mid, takes, ended) log end one held =
+    let v : Turned = stepped t.step t.device in
+    let still_polled = is_some t.device.polled in
+    let inner = with_entries (with_entries mid t.entries) v.entries in
+    let r : RowsAs = rows_with t.entries v still_polled mid in
+    let e : code q.rows.status ≡ code r.status = ap (λ (x : PollerAs). code x.rows.status) ended.1 in
+    let first : TakesLog (Some u) t.device.polled p.rows mid = let L : Option LogTurned → Type 0 = λ o. TakesLog o t.device.polled p.rows mid in subst L log takes in
+    let second : TakesLog (Some u) (Some polled) p.rows mid = let L : Option Polled → Type 0 = λ o. TakesLog (Some u) o p.rows mid in subst L one first in
+    let third : TakesOf (Some l) (without polled.log p.rows) u mid = let L : Option LogAs → Type 0 = λ o. TakesOf o (without polled.log p.rows) u mid in subst L held second in
+    let counts = at third in
+    let a = entries_grow mid t.entries in
+    let b = entries_grow (with_entries mid t.entries) v.entries in
+    let c = step_ends v.step still_polled inner in
+    let x = a.rises in let y = b.rises in let z = c.rises in
+    omega (arith, e, counts, x, y, z)
+  where
+    at : TakesOf (Some l) (without polled.log p.rows) u mid → code (status_of (Poll why)) ≤ code mid.status
+    at (behind, rows, placed, is) =
+        let n : code mid.status ≡ code (turning (without polled.log p.rows) l behind rows u).status = ap (λ (x : RowsAs). code x.status) is in
+        let m = turn_counts (without polled.log p.rows) l behind rows u why end in
+        omega (arith, n, m)

@@ -1,6 +1,6 @@
 -- What a device brings beside the records of its logs is put, or told. Read `with_entries`.
 use Rattle.std.specs.Prelude.{ℕ, ◌==◌, Bool, true, false, List, [], ◌∷◌, ◌++◌, remove, slice_get, Option, None, Some}
-use Rattle.std.specs.Prelude.{position, fold}
+use Rattle.std.specs.Prelude.{position}
 use Rattle.sqlite_value.specs.declared.value.Value.TheVariants.{Null}
 use Rattle.bac_wire.specs.Primitive.{Id}
 use Rattle.bac_wire.specs.Stamp.{CivilTime}

@@ -1,13 +1,21 @@
--- What the status of a device's poll says, whoever answers. Read `StatusTells`.
+-- What the status of a device's poll says, whoever answers. Read `StatusIsTold` and `LogsAreCounted`.
 use Rattle.std.specs.Prelude.{◌≡◌, ◌⊎◌, ◌<◌, ◌≤◌, false, List, Option, None, Some}
 use Rattle.std.specs.List.{Contains}
+use Rattle.bac_archive3.specs.declared.row.Put.{Put}
+use Rattle.bac_poll.specs.Turns.{Turned as LogTurned}
+use Rattle.bac_poll_steps.specs.declared.turn.PollEnd.{PollEnd}
+use Rattle.bac_device_poll.specs.Turns.{Turned}
+use Rattle.bac_device_poll.specs.declared.task.Polled.{Polled}
 use Rattle.bac_device_poll.specs.declared.turn.DeviceEnd.{DeviceEnd}
 use Rattle.bac_drive.specs.declared.machine.Next.{Next}
-use Rattle.bac_device_poller.specs.Poller.{GivesBy, PollerAs}
-use Rattle.bac_device_poller.specs.Status.{code, status_at}
+use Rattle.bac_device_poller.specs.Entries.{log_in}
+use Rattle.bac_device_poller.specs.Poller.{GivesBy, PollerAs, Settles}
+use Rattle.bac_device_poller.specs.Rows.{LogAs}
+use Rattle.bac_device_poller.specs.Status.{code, status_at, status_of}
 use Rattle.bac_device_poller.specs.Telling.{LineAs}
 use Rattle.bac_device_poller.specs.declared.doing.Doing.{Doing}
 use Rattle.bac_device_poller.specs.declared.doing.Doing.TheVariants as doing
+use Rattle.bac_device_poller.specs.declared.ending.Ending.TheVariants.{Poll}
 use Rattle.bac_device_poller.specs.declared.status.Status.{Status}
 use Rattle.bac_device_poller.specs.declared.status.Status.TheVariants.{Done}
 
@@ -31,7 +39,7 @@ left_status (doing.Hears came) = Done
 left_status doing.Loses = Done
 
 -- what holds of the status of a poll that was the first of these, and is the second
-pub record Tells (p q : PollerAs) : Type 0 where
+pub record RisesAsTold (p q : PollerAs) : Type 0 where
   pub grows : code p.rows.status ≤ code q.rows.status  -- it never falls
   -- it is another one only as a line goes to the errors, or as the device is left, which is silent or another one
   pub told : (q.rows.status ≡ p.rows.status) ⊎ (HasWarning q.rows.lines ⊎ (0 < code (left_status q.doing)))
@@ -39,5 +47,11 @@ pub record Tells (p q : PollerAs) : Type 0 where
   pub counts : code (left_status p.doing) ≤ code p.rows.status → code (left_status q.doing) ≤ code q.rows.status
 
 -- So is the status behind all that the poll of a device wants.
-abbrev pub StatusTells : Type 0
-StatusTells = (p q : PollerAs) (wanted : Next) → GivesBy p.doing p wanted q → Tells p q
+abbrev pub StatusIsTold : Type 0
+StatusIsTold = (p q : PollerAs) (wanted : Next) → GivesBy p.doing p wanted q → RisesAsTold p q
+
+-- A log that is on record, and whose poll ends so, leaves no less than the status of that.
+abbrev pub LogsAreCounted : Type 0
+LogsAreCounted = (t : Turned) (p q : PollerAs) (puts : List Put) (u : LogTurned) (why : PollEnd) (polled : Polled)
+    (l : LogAs) → Settles t p puts q → t.log ≡ Some u → u.end ≡ Some why → t.device.polled ≡ Some polled →
+    log_in polled.log p.rows.logs ≡ Some l → code (status_of (Poll why)) ≤ code q.rows.status

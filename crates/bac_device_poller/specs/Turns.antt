@@ -1,5 +1,5 @@
 -- What a turn of a log brings is put and told. Read `TakesLog`.
-use Rattle.std.specs.Prelude.{◌≡◌, ℕ, ◌+◌, min, length, Bool, true, false, if◌then◌else◌, List, [], ◌∷◌, ◌++◌}
+use Rattle.std.specs.Prelude.{◌≡◌, ℕ, ◌+◌, min, length, false, if◌then◌else◌, List, [], ◌++◌}
 use Rattle.std.specs.Prelude.{Option, None, Some}
 use Rattle.bac_poll.specs.State.{ToldAs}
 use Rattle.bac_poll.specs.Turns.{Turned}
@@ -61,7 +61,8 @@ telling_line r called (Some line) = telling r false (told_line called line)
 -- how that ended, with the status of that; what is kept of the next one is counted anew
 abbrev pub telling_end : RowsAs → (called : List ℕ) → Ending → (next : ℕ) → RowsAs
 telling_end r called why next =
-    record (telling (raising r (status_of why)) (is_caught_up why) (ended_line called r.kept why next)) { kept = no_counts }
+    let line : List ℕ = ended_line called r.kept why next in
+    record (telling (raising r (status_of why)) (is_caught_up why) line) { kept = no_counts }
 
 -- if it has
 abbrev pub telling_any_end : RowsAs → (called : List ℕ) → Option PlaceAs → Option PollEnd → (next : ℕ) → RowsAs

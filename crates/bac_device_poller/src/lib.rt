@@ -31,7 +31,7 @@ pub use counts::Counts;
 pub use doing::{Came, Doing};
 pub use ending::{Ending, ended_line, is_caught_up, push_count, told_line};
 pub use ids::Ids;
-pub use laws::{sends_questions, status_tells};
+pub use laws::{logs_are_counted, sends_questions, status_is_told};
 pub use line::Line;
 pub use log_record::LogRecord;
 pub use poller::DevicePoller;

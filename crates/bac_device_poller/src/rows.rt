@@ -3,8 +3,8 @@
 ghost use Rattle.std.specs.Prelude.{◌≡◌, ◌<◌, [], IfOk, OnOk, IfSome, length, map, position};
 ghost use Rattle.bac_archive3.specs.Put.{device_columns};
 ghost use Rattle.bac_device_poller.specs.Entries.{failing, fresh_rows, is_log, log_in, logs_beside};
-ghost use Rattle.bac_device_poller.specs.Entries.{putting, putting_device, putting_log, raising, telling};
-ghost use Rattle.bac_device_poller.specs.Entries.{with_log, without};
+ghost use Rattle.bac_device_poller.specs.Entries.{putting, putting_device, putting_log, raising};
+ghost use Rattle.bac_device_poller.specs.Entries.{telling, with_log, without};
 ghost use Rattle.bac_device_poller.specs.Naming.{answered_at, answered_or};
 ghost use Rattle.bac_device_poller.specs.Puts.{put_as};
 ghost use Rattle.bac_device_poller.specs.Rows.{columns_of_device, device_as, text_as};

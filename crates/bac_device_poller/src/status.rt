@@ -13,6 +13,7 @@ use bac_walk::WalkFault;
 pub enum Status {
     /// Each log is caught up.
     Done,
+    /// A device didn't answer, or a log wasn't asked.
     NoReply,
     /// A request was refused, or another device answers than the one on record.
     Refused,

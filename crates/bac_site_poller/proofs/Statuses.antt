@@ -2,6 +2,7 @@
 use Rattle.std.proofs.Common.{◌≡◌, ◌≤◌, ◌+◌, ◌∙◌, inl, inr, ℕ, Bool, true, false, cond, if◌then◌else◌, nat_lt, nat_le, List}
 use Rattle.std.proofs.Common.{[], ◌∷◌, ◌++◌, All, fold, map, max, remove, slice_get, get_or, Option, Some, None, Ok, Err}
 use Rattle.std.proofs.Common.{refl, sym, ap, subst, arith}
+use Rattle.std.proofs.lemmas.Bool.{ltb-false, ltb-true}
 use Rattle.std.proofs.lemmas.List.Elements.{All-append, All-cons, All-contains, All-contains_itself, All-map, All-nil}
 use Rattle.std.proofs.lemmas.List.Elements.{All-push, All-weaker, Contains-append_left, Contains-append_right}
 use Rattle.std.proofs.lemmas.List.Sums.{sum_by-append, sum_by-cons, sum_by-remove}
@@ -14,7 +15,7 @@ use Rattle.bac_drive.specs.declared.machine.Next.{Next}
 use Rattle.bac_device_poller.specs.Poller.{PollerAs, given_up, heard_by, is_answer, missed, seeks, sought_again}
 use Rattle.bac_device_poller.specs.Poller.{without_answer}
 use Rattle.bac_device_poller.specs.Status.{code, greater_of}
-use Rattle.bac_device_poller.specs.StatusLaws.{Tells, left_status}
+use Rattle.bac_device_poller.specs.StatusLaws.{RisesAsTold, left_status}
 use Rattle.bac_device_poller.specs.declared.doing.Doing.{Doing}
 use Rattle.bac_device_poller.specs.declared.doing.Doing.TheVariants as doing
 use Rattle.bac_device_poller.specs.declared.status.Status.{Status}
@@ -41,7 +42,7 @@ record Keeps (p q : PollerAs) : Type 0 where
 stays : (p : PollerAs) → Keeps p p
 stays p = record { rises = omega arith; counts = λ c. c }
 
-of_tells : (p q : PollerAs) → Tells p q → Keeps p q
+of_tells : (p q : PollerAs) → RisesAsTold p q → Keeps p q
 of_tells p q tells = record { rises = tells.grows; counts = tells.counts }
 
 wants_keeps : (what : Doing) (p q : PollerAs) (wanted : Next) → p.doing ≡ what → Wants what p wanted q → Keeps p q
@@ -112,7 +113,7 @@ none_one : (n : ℕ) (s : Seat) → code s.poller.rows.status ≤ n → tally (i
 none_one n s most = by (is_above n s) refl
   where
     by : (b : Bool) → nat_lt n (code s.poller.rows.status) ≡ b → tally b ≡ 0
-    by true above = absurd (omega (arith, above, most))
+    by true above = absurd (omega (arith, ltb-true n (code s.poller.rows.status) above, most))
     by false above = refl
 
 one_most : (n : ℕ) (s : Seat) → tally (is_above n s) ≡ 0 → code s.poller.rows.status ≤ n
@@ -120,7 +121,7 @@ one_most n s none = by (is_above n s) refl none
   where
     by : (b : Bool) → nat_lt n (code s.poller.rows.status) ≡ b → tally b ≡ 0 → code s.poller.rows.status ≤ n
     by true above zero = absurd (omega (arith, zero))
-    by false above zero = omega (arith, above)
+    by false above zero = omega (arith, ltb-false n (code s.poller.rows.status) above)
 
 none_above : (n : ℕ) (a : Status) (seats : List Seat) → code (fold with_seat a seats) ≤ n → count_by (is_above n) seats ≡ 0
 none_above n a [] most = refl
@@ -128,7 +129,7 @@ none_above n a (s ∷ seats) most =
     let f : Seat → ℕ = λ x. tally (is_above n x) in
     let b = with_seat a s in
     let own : code s.poller.rows.status ≤ n =
-        let x = greater_right a s.poller.rows.status in let y = folded_least b seats in omega (arith, x, y, most) in
+    let x = greater_right a s.poller.rows.status in let y = folded_least b seats in omega (arith, x, y, most) in
     let first : f s ≡ 0 = none_one n s own in
     let rest = none_above n b seats most in
     omega (arith, first, rest, sum_by-cons f s seats)
@@ -148,7 +149,7 @@ each_most a [] = All-nil (λ s. code s.poller.rows.status ≤ code a)
 each_most a (s ∷ seats) =
     let b = with_seat a s in
     let own : code s.poller.rows.status ≤ code (fold with_seat b seats) =
-        let x = greater_right a s.poller.rows.status in let y = folded_least b seats in omega (arith, x, y) in
+    let x = greater_right a s.poller.rows.status in let y = folded_least b seats in omega (arith, x, y) in
     All-cons (λ x. code x.poller.rows.status ≤ code (fold with_seat b seats)) s seats own (each_most b seats)
 
 -- ---- how many are above a number
@@ -184,7 +185,7 @@ higher n a b less = by (nat_lt n a) (nat_lt n b) refl refl
   where
     by : (x y : Bool) → nat_lt n a ≡ x → nat_lt n b ≡ y → tally x ≤ tally y
     by true true is also = omega arith
-    by true false is also = absurd (omega (arith, is, also, less))
+    by true false is also = absurd (omega (arith, ltb-true n a is, ltb-false n b also, less))
     by false y is also = omega arith
 
 from_above : (n : ℕ) (old : SiteState) (s : Seat) (wanted : Next) (new : SiteState) → GivesFrom old s wanted new → count_above n old + tally (is_above n s) ≤ count_above n new
@@ -222,8 +223,11 @@ given_above : (n : ℕ) (from : List ℕ) (o : Option (List ℕ)) (now : CivilTi
 given_above n from None now seats = omega arith
 given_above n from (Some datagram) now seats =
     let f : Seat → Seat = seat_heard from datagram now in
-    omega (arith, mapped_above n f (λ x. heard_keeps from datagram now x.poller) seats,
-    sum_heeded (λ (x : Seat). tally (is_above n x)) from datagram (λ x. refl) (is_known from seats) (map f seats))
+    omega (
+      arith,
+      mapped_above n f (λ x. heard_keeps from datagram now x.poller) seats,
+      sum_heeded (λ (x : Seat). tally (is_above n x)) from datagram (λ x. refl) (is_known from seats) (map f seats),
+    )
 
 heard_above : (n : ℕ) (now : CivilTime) (heard : Receiving) (s : SiteState) → count_above n s ≤ count_above n (site_heard now heard s)
 heard_above n now (Err fault) s = omega arith
@@ -354,7 +358,7 @@ ends_are_counted = (
       let seats = seats_of s in
       let most : Seat → Type 0 = λ x. code x.poller.rows.status ≤ code (site_status s) in
       λ k d below.
-          let own = all k d below in
-          let top = each_most Done seats k d below in
-          omega (arith, own, top),
+      let own = all k d below in
+      let top = each_most Done seats k d below in
+      omega (arith, own, top),
 )
