@@ -1,5 +1,5 @@
 -- The status of a site.
-use Rattle.std.proofs.Common.{◌≡◌, ◌≤◌, ◌+◌, ◌∙◌, inl, inr, ℕ, Bool, true, false, cond, if◌then◌else◌, nat_lt, nat_le, List}
+use Rattle.std.proofs.Common.{◌≡◌, ◌≤◌, ◌+◌, inl, inr, ℕ, Bool, true, false, cond, if◌then◌else◌, nat_lt, nat_le, List}
 use Rattle.std.proofs.Common.{[], ◌∷◌, ◌++◌, All, fold, map, max, remove, slice_get, get_or, Option, Some, None, Ok, Err}
 use Rattle.std.proofs.Common.{refl, sym, ap, subst, arith}
 use Rattle.std.proofs.lemmas.Bool.{ltb-false, ltb-true}
@@ -21,11 +21,11 @@ use Rattle.bac_device_poller.specs.declared.doing.Doing.TheVariants as doing
 use Rattle.bac_device_poller.specs.declared.status.Status.{Status}
 use Rattle.bac_device_poller.specs.declared.status.Status.TheVariants.{Done}
 use Rattle.bac_device_poller.proofs.Statuses.{greater_left, greater_right, wants}
-use Rattle.bac_site_poller.specs.Seat.{Wants, is_due, is_known, lent, noticed, seat_heard, seat_read}
-use Rattle.bac_site_poller.specs.Site.{GivesFrom, GivesNews, GivesSite, GivesWaiting, SiteState, due_from, given, noted}
+use Rattle.bac_site_poller.specs.Seat.{Wants, is_due, is_known, lent, seat_heard, seat_read}
+use Rattle.bac_site_poller.specs.Site.{GivesFrom, GivesNews, GivesWaiting, SiteState, due_from, given, noted}
 use Rattle.bac_site_poller.specs.Site.{put_by, site_heard, site_read}
-use Rattle.bac_site_poller.specs.SiteLaws.{IsNew, IsUnasked, seats_of}
-use Rattle.bac_site_poller.specs.Status.{AreCounted, EndsAreCounted, IsCountedIn, Rises, StatusNeverFalls, site_status}
+use Rattle.bac_site_poller.specs.SiteLaws.{IsNew, seats_of}
+use Rattle.bac_site_poller.specs.Status.{AreCounted, EndsAreCounted, IsCountedIn, StatusNeverFalls, site_status}
 use Rattle.bac_site_poller.specs.Status.{with_seat}
 use Rattle.bac_site_poller.specs.declared.news.News.{News}
 use Rattle.bac_site_poller.specs.declared.seat.Seat.{Seat}

@@ -4,4 +4,4 @@ use Rattle.bac_site_poller.proofs.seat.greatest.Given as goal
 
 -- so far it is the greatest
 abbrev pub invariant-loop-seat : goal.invariant-loop-seat
-invariant-loop-seat l = l.greatest ≡ fold with_seat l.status (take l.seat-index l.seats)
+invariant-loop-seat l = l.greatest ≡ fold with_seat l.fn.status (take l.seat-index l.seats)

@@ -5,4 +5,4 @@ use Rattle.bac_site_poller.proofs.seat.greatest_queued.Given as goal
 
 -- with what is left it is the greatest of all
 abbrev pub invariant-loop-seat : goal.invariant-loop-seat
-invariant-loop-seat l = fold with_seat l.greatest (deque_iter_rest l.seat-iterator) ≡ fold with_seat l.status l.seats.items
+invariant-loop-seat l = fold with_seat l.greatest (deque_iter_rest l.seat-iterator) ≡ fold with_seat l.fn.status l.seats.items
