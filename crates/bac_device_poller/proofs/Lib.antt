@@ -2,3 +2,4 @@ pub mod PutLemmas
 pub mod EntryLemmas
 pub mod Opened
 pub mod Seeks
+pub mod Statuses

@@ -1,6 +1,6 @@
 -- What a device brings beside the records of its logs is put, or told. Read `with_entries`.
 use Rattle.std.specs.Prelude.{ℕ, ◌==◌, Bool, true, false, List, [], ◌∷◌, ◌++◌, remove, slice_get, Option, None, Some}
-use Rattle.std.specs.Prelude.{position, fold}
+use Rattle.std.specs.Prelude.{position}
 use Rattle.sqlite_value.specs.declared.value.Value.TheVariants.{Null}
 use Rattle.bac_wire.specs.Primitive.{Id}
 use Rattle.bac_wire.specs.Stamp.{CivilTime}
@@ -13,10 +13,13 @@ use Rattle.bac_device_poller.specs.Ids.{free_id, ids_behind}
 use Rattle.bac_device_poller.specs.Naming.{answered_at, known_as, named_as, offset_of}
 use Rattle.bac_device_poller.specs.Puts.{PutAs}
 use Rattle.bac_device_poller.specs.Rows.{DeviceAs, LogAs, device_put, log_put}
+use Rattle.bac_device_poller.specs.Status.{greater_of}
 use Rattle.bac_device_poller.specs.Telling.{LineAs, another_line, full_line, log_called, new_line, not_asked_line}
 use Rattle.bac_device_poller.specs.Telling.{others_line, untold_line}
 use Rattle.bac_device_poller.specs.declared.counts.Counts.{Counts}
 use Rattle.bac_device_poller.specs.declared.ids.Ids.{Ids}
+use Rattle.bac_device_poller.specs.declared.status.Status.{Status}
+use Rattle.bac_device_poller.specs.declared.status.Status.TheVariants.{Done, File, NoReply}
 
 -- The rows of a device and of its logs, as they stand on record; what is to be put of them, and told.
 pub record RowsAs : Type 0 where
@@ -28,6 +31,7 @@ pub record RowsAs : Type 0 where
   pub kept : Counts  -- what was kept of the log that is polled
   pub puts : List PutAs  -- in this order, in one transaction
   pub lines : List LineAs  -- in this order, behind them
+  pub status : Status  -- the greatest so far
 
 -- those of a device that isn't asked yet
 abbrev pub fresh_rows : DeviceAs → (called : List ℕ) → List LogAs → RowsAs
@@ -40,6 +44,7 @@ fresh_rows device called logs = record {
   kept = no_counts;
   puts = [];
   lines = [];
+  status = Done;
 }
 
 -- ---- what is put, and told
@@ -51,6 +56,14 @@ putting r put = record r { puts = r.puts ++ put ∷ [] }
 -- one line more
 abbrev pub telling : RowsAs → (good : Bool) → List ℕ → RowsAs
 telling r good text = record r { lines = r.lines ++ record { good = good; text = text } ∷ [] }
+
+-- a status is left
+abbrev pub raising : RowsAs → Status → RowsAs
+raising r status = record r { status = greater_of r.status status }
+
+-- one line more, that goes to the errors, of what has this status
+abbrev pub failing : RowsAs → Status → List ℕ → RowsAs
+failing r status text = telling (raising r status) false text
 
 -- the row of the device is put, with when it answered last
 abbrev pub putting_device : RowsAs → RowsAs
@@ -113,7 +126,7 @@ adding r l = putting (with_log (telling r true (new_line l.called)) l) (log_put 
 
 -- if an id is left for it
 abbrev pub added_as : Option ℕ → RowsAs → Id → RowsAs
-added_as None r log = telling r false (full_line (log_called r.called log))
+added_as None r log = failing r File (full_line (log_called r.called log))
 added_as (Some id) r log = adding (record r { ids = ids_behind r.ids }) (new_log r id log)
 
 -- a log that is on record has these names
@@ -132,7 +145,7 @@ with_entry r (Added log) = added_as (free_id r.ids) r log
 with_entry r (Others others) = telling r false (others_line r.called others)
 with_entry r (Named log naming) = renaming (log_in log r.logs) (without log r) naming
 with_entry r (Read revision) = putting_device (record r { device = record r.device { revision = Some revision } })
-with_entry r (NotAsked log) = telling r false (not_asked_line (log_called r.called log))
+with_entry r (NotAsked log) = failing r NoReply (not_asked_line (log_called r.called log))
 
 -- and of all of them, in their order
 abbrev pub with_entries : RowsAs → List Entry → RowsAs

@@ -1,6 +1,7 @@
 pub mod Puts
 pub mod Counts
 pub mod Ending
+pub mod Status
 pub mod Ids
 pub mod Rows
 pub mod Naming
@@ -9,3 +10,4 @@ pub mod Entries
 pub mod Turns
 pub mod Poller
 pub mod Laws
+pub mod StatusLaws

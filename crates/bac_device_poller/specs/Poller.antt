@@ -25,8 +25,9 @@ use Rattle.bac_device_poll.specs.declared.turn.DeviceEnd.TheVariants.{Done, Fore
 use Rattle.bac_device_poll.specs.declared.turn.Step.{Step}
 use Rattle.bac_device_poll.specs.declared.turn.Step.TheVariants.{Ask, AskLater, End, GoOn}
 use Rattle.bac_answers.specs.declared.way.Way.{Way}
-use Rattle.bac_device_poller.specs.Entries.{RowsAs, putting_device, telling, with_entries}
+use Rattle.bac_device_poller.specs.Entries.{RowsAs, putting_device, raising, telling, with_entries}
 use Rattle.bac_device_poller.specs.Puts.{put_as}
+use Rattle.bac_device_poller.specs.Status.{status_at}
 use Rattle.bac_device_poller.specs.Telling.{IsToldBy, LineAs, silent_line}
 use Rattle.bac_device_poller.specs.Turns.{TakesLog}
 use Rattle.bac_device_poller.specs.declared.doing.Came.{Came}
@@ -146,9 +147,9 @@ left_by Foreign polled r = r
 left_by Silent true r = putting_answered r.answered r
 left_by Silent false r = telling (putting_answered r.answered r) false (silent_line r.called)
 
--- the same, if it is so
+-- the same, if it is so: with the status of why it is
 abbrev pub left_at : Step → (polled : Bool) → RowsAs → RowsAs
-left_at (End why) polled r = left_by why polled r
+left_at (End why) polled r = left_by why polled (raising r (status_at why))
 left_at Ask polled r = r
 left_at AskLater polled r = r
 left_at GoOn polled r = r

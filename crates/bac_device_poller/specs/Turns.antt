@@ -1,5 +1,5 @@
 -- What a turn of a log brings is put and told. Read `TakesLog`.
-use Rattle.std.specs.Prelude.{◌≡◌, ℕ, ◌+◌, min, length, Bool, true, false, if◌then◌else◌, List, [], ◌∷◌, ◌++◌}
+use Rattle.std.specs.Prelude.{◌≡◌, ℕ, ◌+◌, min, length, false, if◌then◌else◌, List, [], ◌++◌}
 use Rattle.std.specs.Prelude.{Option, None, Some}
 use Rattle.bac_poll.specs.State.{ToldAs}
 use Rattle.bac_poll.specs.Turns.{Turned}
@@ -8,10 +8,11 @@ use Rattle.bac_poll_steps.specs.declared.turn.PollEnd.{PollEnd}
 use Rattle.bac_device_poll.specs.declared.task.Polled.{Polled}
 use Rattle.bac_device_poller.specs.Counts.{no_counts}
 use Rattle.bac_device_poller.specs.Ending.{ended_line, is_caught_up, told_line}
-use Rattle.bac_device_poller.specs.Entries.{RowsAs, log_in, putting_log, telling, with_log, without}
+use Rattle.bac_device_poller.specs.Entries.{RowsAs, log_in, putting_log, raising, telling, with_log, without}
 use Rattle.bac_device_poller.specs.Naming.{has_word, with_word}
 use Rattle.bac_device_poller.specs.Puts.{IsPut, PlaceAs, PutAs}
 use Rattle.bac_device_poller.specs.Rows.{LogAs}
+use Rattle.bac_device_poller.specs.Status.{status_of}
 use Rattle.bac_device_poller.specs.declared.counts.Counts.{Counts}
 use Rattle.bac_device_poller.specs.declared.ending.Ending.{Ending}
 use Rattle.bac_device_poller.specs.declared.ending.Ending.TheVariants.{Epochs, Poll}
@@ -57,10 +58,11 @@ abbrev pub telling_line : RowsAs → (called : List ℕ) → Option Line → Row
 telling_line r called None = r
 telling_line r called (Some line) = telling r false (told_line called line)
 
--- how that ended; what is kept of the next one is counted anew
+-- how that ended, with the status of that; what is kept of the next one is counted anew
 abbrev pub telling_end : RowsAs → (called : List ℕ) → Ending → (next : ℕ) → RowsAs
 telling_end r called why next =
-    record (telling r (is_caught_up why) (ended_line called r.kept why next)) { kept = no_counts }
+    let line : List ℕ = ended_line called r.kept why next in
+    record (telling (raising r (status_of why)) (is_caught_up why) line) { kept = no_counts }
 
 -- if it has
 abbrev pub telling_any_end : RowsAs → (called : List ℕ) → Option PlaceAs → Option PollEnd → (next : ℕ) → RowsAs

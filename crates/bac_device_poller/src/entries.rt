@@ -1,17 +1,19 @@
 //! What a device brings beside the records of its logs is put, or told.
 
 ghost use Rattle.std.specs.Prelude.{◌≡◌, IfOk, OnOk, Some, false};
-ghost use Rattle.bac_device_poller.specs.Entries.{added_as, adding, log_in, new_log, renaming};
-ghost use Rattle.bac_device_poller.specs.Entries.{putting_device, telling, with_entries};
+ghost use Rattle.bac_device_poller.specs.Entries.{added_as, adding, failing, log_in, new_log};
+ghost use Rattle.bac_device_poller.specs.Entries.{putting_device, renaming, telling, with_entries};
 ghost use Rattle.bac_device_poller.specs.Entries.{with_entry, without};
 ghost use Rattle.bac_device_poller.specs.Ids.{free_id};
 ghost use Rattle.bac_device_poller.specs.Naming.{known_as, offset_of};
 ghost use Rattle.bac_device_poller.specs.Telling.{another_line, full_line, log_called};
 ghost use Rattle.bac_device_poller.specs.Telling.{not_asked_line, others_line, untold_line};
+ghost use Rattle.bac_device_poller.specs.declared.status.Status.TheVariants.{File, NoReply};
 
 use crate::log_record::LogRecord;
 use crate::naming::offset_of;
 use crate::rows::Rows;
+use crate::status::Status;
 use crate::telling::{
     another_line, full_line, log_called, new_line, not_asked_line, others_line, untold_line,
 };
@@ -90,12 +92,12 @@ impl Rows {
 
     // A log of it isn't asked.
     fn tell_not_asked(&mut self, alloc: Global, log: ObjectId) -> Result<(), AllocError>
-        ensures { OnOk result (self.new ≡ telling self.old false
+        ensures { OnOk result (self.new ≡ failing self.old NoReply
             (not_asked_line (log_called self.old.called log))) }
     {
         let called = self.called(alloc, log)?;
         let line = not_asked_line(alloc, called.as_slice())?;
-        self.tell(false, line)
+        self.fail(Status::NoReply, line)
     }
 
     // A log of which nothing is known yet.
@@ -136,12 +138,12 @@ impl Rows {
 
     // No id is left for it.
     fn tell_full(&mut self, alloc: Global, log: ObjectId) -> Result<(), AllocError>
-        ensures { OnOk result (self.new ≡ telling self.old false
+        ensures { OnOk result (self.new ≡ failing self.old File
             (full_line (log_called self.old.called log))) }
     {
         let called = self.called(alloc, log)?;
         let line = full_line(alloc, called.as_slice())?;
-        self.tell(false, line)
+        self.fail(Status::File, line)
     }
 
     // A log of it is new.

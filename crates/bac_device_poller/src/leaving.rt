@@ -6,6 +6,7 @@ ghost use Rattle.bac_device_poller.specs.Poller.{left_at, left_by, putting_answe
 ghost use Rattle.bac_device_poller.specs.Telling.{silent_line};
 
 use crate::rows::Rows;
+use crate::status::status_at;
 use crate::telling::silent_line;
 use bac_device_poll::{DeviceEnd, Step};
 use std::alloc::{AllocError, Global};
@@ -57,7 +58,10 @@ impl Rows {
         ensures { OnOk result (self.new ≡ left_at step polled self.old) }
     {
         match step {
-            Step::End(why) => self.leave(alloc, why, polled),
+            Step::End(why) => {
+                self.raise(status_at(why));
+                self.leave(alloc, why, polled)
+            }
             Step::Ask => Ok(()),
             Step::AskLater => Ok(()),
             Step::GoOn => Ok(()),

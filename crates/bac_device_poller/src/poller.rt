@@ -21,6 +21,7 @@ use crate::doing::{Came, Doing};
 use crate::ids::Ids;
 use crate::line::Line;
 use crate::rows::Rows;
+use crate::status::Status;
 use crate::telling::told_by;
 use crate::transacting::{awaits, close};
 use bac_archive3::Put;
@@ -145,6 +146,13 @@ impl DevicePoller {
         ensures { result ≡ self.now.rows.ids }
     {
         self.rows.ids
+    }
+
+    /// The status that it leaves, so far.
+    pub fn status(&self) -> Status
+        ensures { result ≡ self.now.rows.status }
+    {
+        self.rows.status
     }
 
     /// Whether a send of its question is waited for.

@@ -2,9 +2,9 @@
 
 ghost use Rattle.std.specs.Prelude.{◌≡◌, ◌<◌, [], IfOk, OnOk, IfSome, length, map, position};
 ghost use Rattle.bac_archive3.specs.Put.{device_columns};
-ghost use Rattle.bac_device_poller.specs.Entries.{fresh_rows, is_log, log_in, logs_beside};
-ghost use Rattle.bac_device_poller.specs.Entries.{putting, putting_device, putting_log, telling};
-ghost use Rattle.bac_device_poller.specs.Entries.{with_log, without};
+ghost use Rattle.bac_device_poller.specs.Entries.{failing, fresh_rows, is_log, log_in, logs_beside};
+ghost use Rattle.bac_device_poller.specs.Entries.{putting, putting_device, putting_log, raising};
+ghost use Rattle.bac_device_poller.specs.Entries.{telling, with_log, without};
 ghost use Rattle.bac_device_poller.specs.Naming.{answered_at, answered_or};
 ghost use Rattle.bac_device_poller.specs.Puts.{put_as};
 ghost use Rattle.bac_device_poller.specs.Rows.{columns_of_device, device_as, text_as};
@@ -14,6 +14,7 @@ use crate::ids::Ids;
 use crate::line::Line;
 use crate::log_record::LogRecord;
 use crate::naming::moment_text;
+use crate::status::Status;
 use crate::texts::copied;
 use bac_archive3::{DeviceRow, Put};
 use bac_wire::{ObjectId, Stamp};
@@ -38,6 +39,8 @@ pub struct Rows {
     pub(crate) kept: Counts,
     pub(crate) puts: Vec<Put>,
     pub(crate) lines: VecDeque<Line>,
+    /// The greatest so far.
+    pub(crate) status: Status,
 }
 
 impl Model for Rows {
@@ -57,6 +60,7 @@ impl Model for Rows {
       kept = r.kept;
       puts = map put_as r.puts.items;
       lines = r.lines.items;
+      status = r.status;
     } };
 }
 
@@ -135,6 +139,7 @@ impl Rows {
             kept: Counts::none(),
             puts: Vec::new(alloc),
             lines: VecDeque::new(alloc),
+            status: Status::Done,
         }
     }
 
@@ -152,6 +157,21 @@ impl Rows {
     {
         self.lines.push_back(Line { good, text })?;
         Ok(())
+    }
+
+    /// A status is left.
+    pub(crate) fn raise(&mut self, status: Status)
+        ensures { self.new ≡ raising self.old status }
+    {
+        self.status = self.status.or_greater(status);
+    }
+
+    /// A line of what has this status is to be told.
+    pub(crate) fn fail(&mut self, status: Status, text: Vec<u8>) -> Result<(), AllocError>
+        ensures { OnOk result (self.new ≡ failing self.old status text.items) }
+    {
+        self.raise(status);
+        self.tell(false, text)
     }
 
     /// The row of the device is to be put.

@@ -16,6 +16,7 @@ use crate::ending::{Ending, ended_line, is_caught_up, told_line};
 use crate::log_record::LogRecord;
 use crate::putting::{NotPut, put_turn};
 use crate::rows::Rows;
+use crate::status::status_of;
 use bac_archive3::Put;
 use bac_device_poll::Polled;
 use bac_keep::Place;
@@ -141,6 +142,7 @@ impl Rows {
     {
         let text = ended_line(alloc, called, self.kept, why, next)?;
         self.kept = Counts::none();
+        self.raise(status_of(why));
         self.tell(is_caught_up(why), text)
     }
 

@@ -17,3 +17,4 @@ pub mod Open
 pub mod Ended
 pub mod Losses
 pub mod Batches
+pub mod Statuses

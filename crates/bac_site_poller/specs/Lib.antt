@@ -5,3 +5,4 @@ pub mod News
 pub mod Site
 pub mod Asked
 pub mod SiteLaws
+pub mod Status

@@ -1,15 +1,17 @@
 //! One device of a site.
 
-ghost use Rattle.std.specs.Prelude.{◌≡◌, [], IfNone, IfOk, IfSome, count_by, map};
+ghost use Rattle.std.specs.Prelude.{◌≡◌, [], IfNone, IfOk, IfSome, count_by, fold, map};
 ghost use Rattle.bac_device_poller.specs.Poller.{is_waiting};
 ghost use Rattle.bac_site_poller.specs.Seat.{Wants, is_at, is_first, is_known, is_stray, noticed};
 ghost use Rattle.bac_site_poller.specs.Seat.{seat_heard, seat_read};
 ghost use Rattle.bac_site_poller.specs.Site.{IsNearest, MayAct, NoneActs};
+ghost use Rattle.bac_site_poller.specs.Status.{with_seat};
 
-use bac_device_poller::{DevicePoller, Doing};
+use bac_device_poller::{DevicePoller, Doing, Status};
 use bac_drive::Next;
 use bac_wire::{Datagram, Stamp};
 use std::alloc::{AllocError, Global};
+use std::collections::VecDeque;
 
 /// A device, and its poll.
 #[derive(Drop)]
@@ -107,6 +109,28 @@ pub fn nearest(seats: &[Seat]) -> Option<u64>
         nearest = nearest.min(seat.due);
     }
     Some(nearest)
+}
+
+/// The greatest of a status and those of these devices.
+pub fn greatest(status: Status, seats: &[Seat]) -> Status
+    ensures { result ≡ fold with_seat status seats.now }
+{
+    let mut greatest = status;
+    for seat in seats {
+        greatest = greatest.or_greater(seat.poller.status());
+    }
+    greatest
+}
+
+/// The same of those that wait for their turn.
+pub fn greatest_queued(status: Status, seats: &VecDeque<Seat>) -> Status
+    ensures { result ≡ fold with_seat status seats.now.items }
+{
+    let mut greatest = status;
+    for seat in seats {
+        greatest = greatest.or_greater(seat.poller.status());
+    }
+    greatest
 }
 
 /// How many have a question that was sent no more than once.

@@ -11,6 +11,7 @@ ghost use Rattle.bac_site_poller.specs.Site.{MayAct, MayAsk, NoneAsked, Rests, S
 ghost use Rattle.bac_site_poller.specs.Site.{fresh_site, given, hosts_lost, is_crowded, limit_at};
 ghost use Rattle.bac_site_poller.specs.Site.{news_lost, noted, put, site_heard, site_read};
 ghost use Rattle.bac_site_poller.specs.Site.{stray_by};
+ghost use Rattle.bac_site_poller.specs.Status.{site_status};
 
 use crate::hosts::{
     Host, answer_all, half_of, host_at, is_answered, is_loss, least_of, limit_of, set_limit,
@@ -20,9 +21,10 @@ use crate::limits::Limits;
 use crate::moment::moment_after;
 use crate::news::{News, news_line};
 use crate::seat::{
-    Seat, acting, count_at, count_first, hear_all, is_known, nearest, notice_all, read_all, want,
+    Seat, acting, count_at, count_first, greatest, greatest_queued, hear_all, is_known, nearest,
+    notice_all, read_all, want,
 };
-use bac_device_poller::{DevicePoller, Doing, Ids, told_by};
+use bac_device_poller::{DevicePoller, Doing, Ids, Status, told_by};
 use bac_drive::{Machine, Next};
 use bac_ports::{Heard, SocketFault};
 use bac_wire::{Datagram, Stamp};
@@ -111,6 +113,15 @@ impl SitePoller {
             stray: None,
         })?;
         Ok(())
+    }
+
+    /// The status that it leaves, so far: the greatest of all its devices.
+    pub fn status(&self) -> Status
+        ensures { result ≡ site_status self.now }
+    {
+        let asked = greatest(Status::Done, self.active.as_slice());
+        let queued = greatest_queued(asked, &self.waiting);
+        greatest(queued, self.ended.as_slice())
     }
 
     // A datagram came from an address, at a moment.
