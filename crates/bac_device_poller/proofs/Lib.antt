@@ -1,3 +1,4 @@
 pub mod PutLemmas
 pub mod EntryLemmas
 pub mod Opened
+pub mod Seeks

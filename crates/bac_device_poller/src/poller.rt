@@ -24,7 +24,7 @@ use crate::rows::Rows;
 use crate::telling::told_by;
 use crate::transacting::{awaits, close};
 use bac_archive3::Put;
-use bac_device_poll::{DeviceEnd, DevicePoll, Entry, Question, Step, Turn, Way};
+use bac_device_poll::{DeviceEnd, DevicePoll, Entry, Question, Stage, Step, Turn, Way};
 use bac_drive::Next;
 use bac_link::{Request, Timeout, Transactions};
 use bac_poll::Turn as LogTurn;
@@ -162,14 +162,30 @@ impl DevicePoller {
         }
     }
 
-    // Whether it is asked by a Who-Is who it is.
+    // Whether it is asked by a Who-Is who it is. Its question isn't made for that: each datagram
+    // that comes asks this of each device that is asked.
+    #[tactic(auto, using(crate::proofs::Seeks::log_is_asked))]
     fn seeks(&self) -> bool
         ensures { result ≡ seeks self.now }
     {
-        match self.poll.question() {
-            Question::WhoIs => true,
-            Question::Confirmed(_) => false,
-            Question::Nothing => false,
+        match self.poll.stage() {
+            Stage::IAm => true,
+            Stage::Instance => false,
+            Stage::Name => false,
+            Stage::Restart => false,
+            Stage::Revision => false,
+            Stage::Date => false,
+            Stage::Time(_) => false,
+            Stage::Objects => false,
+            Stage::Count => false,
+            Stage::Element(_, _) => false,
+            Stage::LogName(_) => false,
+            Stage::Source(_) => false,
+            Stage::Units(_) => false,
+            Stage::Description(_) => false,
+            Stage::Log => false,
+            Stage::Between => false,
+            Stage::Ended => false,
         }
     }
 

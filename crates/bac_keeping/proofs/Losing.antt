@@ -7,7 +7,7 @@ use Rattle.bac_archive3.specs.Put.{LoseNothing}
 use Rattle.bac_archive3.specs.Schema.{HasArchive, archive_tables, no_schema}
 use Rattle.bac_drive.specs.Happens.{Acts, scene}
 use Rattle.bac_drive.specs.Laws.{LosesNothing}
-use Rattle.bac_poller.specs.Site.{SiteState}
+use Rattle.bac_site_poller.specs.Site.{SiteState}
 use Rattle.bac_keeping.specs.Laws.{KeepLosesNothing}
 
 -- what has tables isn't empty

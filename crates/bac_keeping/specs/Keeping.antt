@@ -10,7 +10,7 @@ use Rattle.bac_archive3.specs.Stands.{StandsAs}
 use Rattle.bac_archive3.specs.declared.standing.Standing.{Standing}
 use Rattle.bac_drive.specs.declared.driving.Fault.{Fault}
 use Rattle.bac_drive.specs.Happens.{Acts, Leaves, Runs, Scene, Stops}
-use Rattle.bac_poller.specs.Site.{SiteState}
+use Rattle.bac_site_poller.specs.Site.{SiteState}
 use Rattle.bac_keeping.specs.declared.keeping.KeepFault.{KeepFault}
 use Rattle.bac_keeping.specs.declared.keeping.KeepFault.TheVariants as fault
 

@@ -6,7 +6,7 @@ use Rattle.bac_archive3.specs.Put.{LoseNothing}
 use Rattle.bac_archive3.specs.Schema.{HasArchive}
 use Rattle.bac_archive3.specs.declared.standing.Standing.{Standing}
 use Rattle.bac_drive.specs.Happens.{Acts, scene}
-use Rattle.bac_poller.specs.Site.{SiteState}
+use Rattle.bac_site_poller.specs.Site.{SiteState}
 use Rattle.bac_keeping.specs.Keeping.{Remains, running}
 
 -- A kill at any moment leaves all that an archive had.

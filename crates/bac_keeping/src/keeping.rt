@@ -6,8 +6,8 @@ ghost use Rattle.sqlite.specs.Held.{state};
 ghost use Rattle.sqlite.specs.State.{HasCleanDisk, Survives};
 ghost use Rattle.bac_archive3.specs.Schema.{HasArchive};
 ghost use Rattle.bac_drive.specs.Happens.{scene};
-ghost use Rattle.bac_poller.specs.SiteLaws.{site_acts};
-ghost use Rattle.bac_poller.specs.Site.{SiteState};
+ghost use Rattle.bac_site_poller.specs.SiteLaws.{site_acts};
+ghost use Rattle.bac_site_poller.specs.Site.{SiteState};
 ghost use Rattle.bac_keeping.specs.Keeping.{Halts, HaltsEarly, IsBegun, IsOpened};
 ghost use Rattle.bac_keeping.specs.Keeping.{Keeps, Remains, running};
 
@@ -15,8 +15,8 @@ use crate::plan::Plan;
 use bac_archive3::{Refused, open, stands};
 use bac_desks::Clock;
 use bac_drive::Fault;
-use bac_poller::{SitePoll, poll_site};
 use bac_ports::Port;
+use bac_site_poller::{SitePoller, poll_devices};
 use sqlite::{Alter, Connection, Error};
 use std::alloc::Global;
 use std::io::Write;
@@ -58,7 +58,7 @@ fn begin<A: Plan, S: Alter>(
     alloc: Global,
     plan: &A,
     conn: &mut Connection<S>,
-) -> Result<SitePoll, KeepFault>
+) -> Result<SitePoller, KeepFault>
     ensures begun { HasCleanDisk (state S.Store conn.new)
         → IfOk result (IsBegun (A.made_at plan.now) (A.makes plan.now)
         (state S.Store conn.old).now (state S.Store conn.new).now) }
@@ -122,7 +122,7 @@ pub fn keep_site<A: Plan, P: Port, C: Clock, S: Alter, W: Write, V: Write>(
     match begin(alloc, plan, conn) {
         Ok(site) => {
             let mut site = site;
-            match poll_site(alloc, &mut site, port, clock, conn, output, errors) {
+            match poll_devices(alloc, &mut site, port, clock, conn, output, errors) {
                 Ok(()) => Ok(()),
                 Err(why) => Err(KeepFault::Poll(why)),
             }

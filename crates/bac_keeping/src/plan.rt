@@ -2,10 +2,10 @@
 
 ghost use Rattle.std.specs.Prelude.{◌≡◌, ℕ, IfOk, List};
 ghost use Rattle.bac_archive3.specs.declared.standing.Standing.{Standing as StandingOf};
-ghost use Rattle.bac_poller.specs.Site.{SiteState};
+ghost use Rattle.bac_site_poller.specs.Site.{SiteState};
 
 use bac_archive3::Standing;
-use bac_poller::SitePoll;
+use bac_site_poller::SitePoller;
 use std::alloc::{AllocError, Global};
 
 /// Says when a run is, and which site is polled where an archive stands so.
@@ -21,6 +21,6 @@ pub trait Plan {
         ensures { result.now ≡ made_at self.now };
 
     /// The site that is polled.
-    fn site(&self, alloc: Global, told: Standing) -> Result<SitePoll, AllocError>
+    fn site(&self, alloc: Global, told: Standing) -> Result<SitePoller, AllocError>
         ensures { IfOk result (λ site. makes self.now told site) };
 }

@@ -16,6 +16,8 @@ pub enum Halt {
     Memory,
     Written,
     Port,
+    /// This machine's clock can't be read.
+    Clock,
     Object,
     NotOpened(NotOpened),
     Refused(Refused),
@@ -56,6 +58,7 @@ impl Halt {
             Halt::Memory => "memory\n",
             Halt::Written => "input or output\n",
             Halt::Port => "no port\n",
+            Halt::Clock => "no clock\n",
             Halt::Object => "no trend log\n",
             Halt::NotOpened(_) => "not opened\n",
             Halt::Refused(Refused::Foreign) => "refused: foreign\n",

@@ -2,11 +2,13 @@
 
 use bac_archive3::{DeviceRow, LogRow, Standing};
 use bac_resume::{LogRows, Resumed, by_log, go_on};
+use bac_wire::ObjectId;
 use std::alloc::{AllocError, Global};
 
 /// What an archive tells, and of each log its rows.
 #[derive(Drop)]
 pub struct Index {
+    /// The rows of those that weren't taken.
     devices: Vec<DeviceRow>,
     logs: Vec<LogRow>,
     rows: Vec<LogRows>,
@@ -36,24 +38,35 @@ impl Index {
         })
     }
 
-    /// The row of the device at an address.
-    pub fn device(&self, address: &str) -> Option<u16> {
-        for row in self.devices.iter() {
-            if row.address.as_str() == address && row.dnet == 0 {
-                return Some(row.id);
-            }
-        }
-        None
+    /// The row of the device at an address, which is taken out.
+    pub fn take_device(&mut self, address: &str) -> Option<DeviceRow> {
+        let place = self
+            .devices
+            .iter()
+            .position(|row| row.address.as_str() == address && row.dnet == 0)?;
+        Some(self.devices.swap_remove(place))
     }
 
-    /// The row of the log of a device with an instance.
-    pub fn log(&self, device: u16, instance: u32) -> Option<&LogRow> {
+    /// The row of the log of a device with an instance, which is taken out.
+    pub fn take_log(&mut self, device: u16, instance: u32) -> Option<LogRow> {
+        let place = self
+            .logs
+            .iter()
+            .position(|row| row.device == device && row.instance == instance)?;
+        Some(self.logs.swap_remove(place))
+    }
+
+    /// The logs of a device that weren't taken.
+    pub fn left(&self, alloc: Global, device: u16) -> Result<Vec<ObjectId>, AllocError> {
+        let mut left = Vec::new(alloc);
         for row in self.logs.iter() {
-            if row.device == device && row.instance == instance {
-                return Some(row);
+            if row.device == device {
+                if let Some(log) = ObjectId::new(20, row.instance) {
+                    left.push(log)?;
+                }
             }
         }
-        None
+        Ok(left)
     }
 
     /// Where the poll of the log of this row goes on.

@@ -8,21 +8,23 @@ ghost use Rattle.sqlite.specs.Held.{state};
 ghost use Rattle.sqlite.specs.State.{HasCleanDisk};
 ghost use Rattle.bac_archive3.specs.Schema.{HasArchive};
 
+mod device;
 mod halt;
 mod index;
 mod making;
-mod polls;
+mod moment;
 mod words;
 
 use bac_archive3::{Put, Standing, open, put, stands};
 use bac_desks::{Clock, SteadyClock};
 use bac_files::DiskFiles;
-use bac_poller::{SitePoll, poll_site};
 use bac_ports::UdpPort;
 use bac_print::write_text;
+use bac_site_poller::{SitePoller, poll_devices};
 use halt::Halt;
 use index::Index;
 use making::site_of;
+use moment::moment;
 use sqlite::{Alter, Connection, Unknown};
 use std::alloc::Global;
 use std::io;
@@ -74,7 +76,7 @@ fn told_of<S: Alter>(alloc: Global, conn: &mut Connection<S>) -> Result<Standing
 /// Polls a site into an open database; it is examined once more before, so that it is an archive.
 fn poll_in<S: Alter, C: Clock, W: Write, V: Write>(
     alloc: Global,
-    site: &mut SitePoll,
+    site: &mut SitePoller,
     port: &mut UdpPort,
     clock: &mut C,
     conn: &mut Connection<S>,
@@ -82,7 +84,7 @@ fn poll_in<S: Alter, C: Clock, W: Write, V: Write>(
     errors: &mut V,
 ) -> Result<(), Halt> {
     match open_at(conn) {
-        Ok(()) => match poll_site(alloc, site, port, clock, conn, output, errors) {
+        Ok(()) => match poll_devices(alloc, site, port, clock, conn, output, errors) {
             Ok(()) => Ok(()),
             Err(why) => Err(Halt::Drive(why)),
         },
@@ -94,10 +96,11 @@ fn poll_in<S: Alter, C: Clock, W: Write, V: Write>(
 fn run_in<S: Alter>(rt: &HostRuntime, asked: Asked, conn: &mut Connection<S>) -> Result<(), Halt> {
     let alloc = rt.alloc();
     let mut clock = SteadyClock::new(rt);
+    let begun = moment(rt)?;
     let mut errors = rt.stderr();
     let told = told_of(alloc, conn)?;
     tell(&mut clock, &mut errors, "stood")?;
-    let mut made = site_of(alloc, &asked, Index::of(alloc, told)?)?;
+    let mut made = site_of(alloc, &asked, Index::of(alloc, told)?, begun)?;
     if !made.puts.is_empty() {
         put_in(conn, made.puts.as_slice())?;
     }

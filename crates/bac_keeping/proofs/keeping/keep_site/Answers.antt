@@ -4,38 +4,38 @@ use Rattle.sqlite.specs.State.{HasCleanDisk}
 use Rattle.sqlite.proofs.StateLemmas.{survives_then}
 use Rattle.bac_keeping.proofs.keeping.keep_site.Goals as goal
 
-pub returns-in-Ok-poll_site-clause-keeps : goal.returns-in-Ok-poll_site-clause-keeps
-returns-in-Ok-poll_site-clause-keeps g c clean =
+pub returns-in-Ok-poll_devices-clause-keeps : goal.returns-in-Ok-poll_devices-clause-keeps
+returns-in-Ok-poll_devices-clause-keeps g c clean =
     let mid = state g.S.Store c.begin.new.conn in
-    let early : HasCleanDisk mid = omega (arith, clean, c.poll_site.ensures.crash.clean) in
-    (c.poll_site.new.site, (mid.now, c.in-Ok.site, c.in-Ok.ensures.begun early, c.in-Ok-poll_site.ensures.runs clean))
+    let early : HasCleanDisk mid = omega (arith, clean, c.poll_devices.ensures.crash.clean) in
+    (c.poll_devices.new.site, (mid.now, c.in-Ok.site, c.in-Ok.ensures.begun early, c.in-Ok-poll_devices.ensures.runs clean))
 
 pub returns-in-Ok-clause-halts : goal.returns-in-Ok-clause-halts
 returns-in-Ok-clause-halts g c clean =
     let mid = state g.S.Store c.begin.new.conn in
-    let early : HasCleanDisk mid = omega (arith, clean, c.poll_site.ensures.crash.clean) in
-    inr (mid.now, c.in-Ok.site, c.in-Err-poll_site.why, refl, c.in-Ok.ensures.begun early, c.in-Err-poll_site.ensures.stops clean)
+    let early : HasCleanDisk mid = omega (arith, clean, c.poll_devices.ensures.crash.clean) in
+    inr (mid.now, c.in-Ok.site, c.in-Err-poll_devices.why, refl, c.in-Ok.ensures.begun early, c.in-Err-poll_devices.ensures.stops clean)
 
-pub returns-in-Ok-poll_site-clause-crash : goal.returns-in-Ok-poll_site-clause-crash
-returns-in-Ok-poll_site-clause-crash g c =
+pub returns-in-Ok-poll_devices-clause-crash : goal.returns-in-Ok-poll_devices-clause-crash
+returns-in-Ok-poll_devices-clause-crash g c =
     let old = state g.S.Store c.args.conn.now in
     let mid = state g.S.Store c.begin.new.conn in
-    let new = state g.S.Store c.poll_site.new.conn in
+    let new = state g.S.Store c.poll_devices.new.conn in
     survives_then old mid new _ _ _ (λ clean db it. (it.0, it.1, inl it.2))
     (λ clean db it.
-    let early : HasCleanDisk mid = omega (arith, clean, c.poll_site.ensures.crash.clean) in
+    let early : HasCleanDisk mid = omega (arith, clean, c.poll_devices.ensures.crash.clean) in
     let begun = c.in-Ok.ensures.begun early in
     (mid.now, begun.0, inr (c.in-Ok.site, begun, it)))
-    c.begin.ensures.crash c.poll_site.ensures.crash
+    c.begin.ensures.crash c.poll_devices.ensures.crash
 
 pub returns-in-Ok-clause-crash : goal.returns-in-Ok-clause-crash
 returns-in-Ok-clause-crash g c =
     let old = state g.S.Store c.args.conn.now in
     let mid = state g.S.Store c.begin.new.conn in
-    let new = state g.S.Store c.poll_site.new.conn in
+    let new = state g.S.Store c.poll_devices.new.conn in
     survives_then old mid new _ _ _ (λ clean db it. (it.0, it.1, inl it.2))
     (λ clean db it.
-    let early : HasCleanDisk mid = omega (arith, clean, c.poll_site.ensures.crash.clean) in
+    let early : HasCleanDisk mid = omega (arith, clean, c.poll_devices.ensures.crash.clean) in
     let begun = c.in-Ok.ensures.begun early in
     (mid.now, begun.0, inr (c.in-Ok.site, begun, it)))
-    c.begin.ensures.crash c.poll_site.ensures.crash
+    c.begin.ensures.crash c.poll_devices.ensures.crash

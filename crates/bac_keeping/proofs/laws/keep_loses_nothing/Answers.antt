@@ -1,4 +1,4 @@
-use Rattle.bac_poller.specs.SiteLaws.{site_acts}
+use Rattle.bac_site_poller.specs.SiteLaws.{site_acts}
 use Rattle.bac_keeping.proofs.Losing.{keep_loses_nothing}
 use Rattle.bac_keeping.proofs.laws.keep_loses_nothing.Goals as goal
 

@@ -1,5 +1,0 @@
-use Rattle.bac_poller.proofs.InTurn.{ask_in_turn}
-use Rattle.bac_poller.proofs.laws.ask_in_turn.Goals as goal
-
-pub returns : goal.returns
-returns c = ask_in_turn

@@ -1,5 +1,0 @@
-use Rattle.bac_poller.proofs.Fewer.{asks_no_more}
-use Rattle.bac_poller.proofs.laws.asks_no_more.Goals as goal
-
-pub returns : goal.returns
-returns c = asks_no_more

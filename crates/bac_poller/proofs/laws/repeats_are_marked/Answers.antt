@@ -1,5 +1,0 @@
-use Rattle.bac_poller.proofs.SeatedRun.{repeats_are_marked}
-use Rattle.bac_poller.proofs.laws.repeats_are_marked.Goals as goal
-
-pub returns : goal.returns
-returns g c = repeats_are_marked g.P.Port.sends g.P.Port.receives_within g.C.Clock.reads

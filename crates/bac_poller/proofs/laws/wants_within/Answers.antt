@@ -1,5 +1,0 @@
-use Rattle.bac_poller.proofs.WithinRun.{wants_within}
-use Rattle.bac_poller.proofs.laws.wants_within.Goals as goal
-
-pub returns : goal.returns
-returns c = wants_within

@@ -1,5 +1,0 @@
-use Rattle.bac_poller.proofs.WithinEvents.{within_limits}
-use Rattle.bac_poller.proofs.laws.within_limits.Goals as goal
-
-pub returns : goal.returns
-returns g c = within_limits g.P.Port.sends g.P.Port.receives_within g.C.Clock.reads

@@ -1,7 +1,0 @@
-use Rattle.std.proofs.Common.{ℕ, ◌<◌}
-use Rattle.bac_poller.specs.Site.{MayAsk}
-use Rattle.bac_poller.proofs.site.SitePoll.free.Given as goal
-
--- none so far may be asked
-abbrev pub invariant-loop-place : goal.invariant-loop-place
-invariant-loop-place l = (k : ℕ) → k < l.place → MayAsk l.self k → ⊥
