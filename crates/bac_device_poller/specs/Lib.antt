@@ -9,3 +9,4 @@ pub mod Entries
 pub mod Turns
 pub mod Poller
 pub mod Laws
+pub mod Silence

@@ -1,8 +1,40 @@
-//! What a device's poll sends, whoever answers.
+//! What a device's poll sends, and whom it asks no more, whoever answers. Each function does
+//! nothing: what it ensures is the law.
 
 ghost use Rattle.bac_device_poller.specs.Laws.{SendsQuestions};
+ghost use Rattle.bac_device_poller.specs.Silence.{AsksNoMore, EndedAreOut, EndsSilent};
+ghost use Rattle.bac_device_poller.specs.Silence.{LostStopsNone, PollsOnce, WaitsOnce};
 
 /// What is sent to ask is the question of the device's poll, to the device.
 pub fn sends_questions()
     ensures { SendsQuestions }
+{}
+
+/// A device that falls silent while its logs are polled is waited for once, and for one wait more,
+/// however many logs it has: it is sent the question of a log with its repeats, and the first
+/// question of the next log once.
+pub fn waits_once()
+    ensures { WaitsOnce }
+{}
+
+/// Where that isn't answered either, nothing more is asked of it, and each log that waits is told
+/// as not asked.
+pub fn ends_silent()
+    ensures { EndsSilent }
+{}
+
+/// A log that is lost, while its device answers, stops no other: the next one is polled.
+pub fn lost_stops_none()
+    ensures { LostStopsNone }
+{}
+
+/// A device of which nothing more is asked is sent nothing more.
+pub fn asks_no_more()
+    ensures { AsksNoMore }
+{}
+
+/// Each log is polled once, in its turn: one whose poll has ended isn't asked again.
+pub fn polls_once()
+    ensures ended { EndedAreOut }
+    ensures once { PollsOnce }
 {}
