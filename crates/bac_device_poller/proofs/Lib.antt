@@ -6,3 +6,4 @@ pub mod LogTurns
 pub mod Silence
 pub mod SilentSteps
 pub mod SilentRuns
+pub mod WaitedOnce

@@ -113,7 +113,7 @@ stays_on old new on is = record {
   last = same_left old new (ap (λ (x : PollerAs). x.poll) is);
 }
 
-gives_on : (what : Doing) (old : PollerAs) (wanted : Next) (new : PollerAs) → IsOn old → GoesOn (end_of what) old.poll →
+pub gives_on : (what : Doing) (old : PollerAs) (wanted : Next) (new : PollerAs) → IsOn old → GoesOn (end_of what) old.poll →
     GivesBy what old wanted new → Goes old new
 gives_on doing.Asks old wanted new is_on (q, at, polled) gives =
     asks_on old wanted new q (at, polled) (subst (λ (x : Question). AsksNext x old wanted new) (asked_is old q (at, polled)) gives)

@@ -173,7 +173,7 @@ pub not_both : {A : Type 0} (b : Bool) → b ≡ true → b ≡ false → A
 not_both true fits none = absurd (cc)
 not_both false fits none = absurd (cc)
 
-told_send : (good : Bool) (text : List ℕ) (wanted : Next) → IsToldBy good text wanted → is_send wanted ≡ false
+pub told_send : (good : Bool) (text : List ℕ) (wanted : Next) → IsToldBy good text wanted → is_send wanted ≡ false
 told_send true text (next.Print line) told = refl
 told_send true text wanted told = absurd told
 told_send false text (next.Warn line) told = refl
