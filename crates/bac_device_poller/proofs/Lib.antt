@@ -7,3 +7,4 @@ pub mod Silence
 pub mod SilentSteps
 pub mod SilentRuns
 pub mod WaitedOnce
+pub mod LostLogs
