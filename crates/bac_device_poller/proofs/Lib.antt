@@ -8,3 +8,4 @@ pub mod SilentSteps
 pub mod SilentRuns
 pub mod WaitedOnce
 pub mod LostLogs
+pub mod SilentEnd

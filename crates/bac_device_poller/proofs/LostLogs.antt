@@ -31,7 +31,6 @@ use Rattle.bac_device_poller.specs.declared.doing.Came.{Came}
 use Rattle.bac_device_poller.specs.declared.doing.Doing.TheVariants as doing
 use Rattle.bac_device_poller.proofs.LogTurns.{Polls, at_log, behind}
 use Rattle.bac_device_poller.proofs.Silence.{Settled, asks_with, by_log, comes_is, end_with, hears, lost_is, settled}
-use Rattle.bac_device_poller.proofs.WaitedOnce.{ends_silent as silent_end}
 
 -- ---- the next log
 
