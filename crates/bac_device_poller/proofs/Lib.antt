@@ -9,3 +9,4 @@ pub mod SilentRuns
 pub mod WaitedOnce
 pub mod LostLogs
 pub mod SilentEnd
+pub mod WaitedFirst

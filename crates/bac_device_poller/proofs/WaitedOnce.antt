@@ -32,7 +32,7 @@ use Rattle.bac_device_poller.proofs.SilentRuns.{Goes, IsOn, asks_on_log, gives_o
 -- ---- how many sends are left while nothing is heard
 
 -- repeats of its open request
-abbrev repeats_left : ℕ → Option Pending → ℕ
+abbrev pub repeats_left : ℕ → Option Pending → ℕ
 repeats_left retries None = 0
 repeats_left retries (Some request) = retries - request.repeats
 

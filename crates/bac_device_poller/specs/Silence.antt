@@ -9,9 +9,11 @@ use Rattle.bac_drive.specs.declared.machine.Next.TheVariants as next
 use Rattle.bac_device_poll.specs.Identity.{device_of}
 use Rattle.bac_device_poll.specs.Laws.{ended_in, left, not_asked_in}
 use Rattle.bac_device_poll.specs.Logs.{after_loss}
-use Rattle.bac_device_poll.specs.Poll.{Takes}
+use Rattle.bac_device_poll.specs.Poll.{Takes, asked_of_device}
 use Rattle.bac_device_poll.specs.State.{DeviceState, LogAs, begun}
 use Rattle.bac_device_poll.specs.Turns.{Turned}
+use Rattle.bac_device_poll.specs.declared.question.Question.{Question}
+use Rattle.bac_device_poll.specs.declared.question.Question.TheVariants.{Confirmed, Nothing, WhoIs}
 use Rattle.bac_device_poll.specs.declared.stage.Stage.TheVariants as stage
 use Rattle.bac_device_poll.specs.declared.task.Polled.{Polled}
 use Rattle.bac_device_poll.specs.declared.turn.DeviceEnd.{DeviceEnd}
@@ -76,6 +78,12 @@ end_of other = None
 abbrev pub IsPolling : PollerAs → Polled → Type 0
 IsPolling p q = (p.poll.stage ≡ stage.Log) × (p.poll.polled ≡ Some q)
 
+-- something is asked
+abbrev pub IsAsking : Question → Type 0
+IsAsking (Confirmed request) = Unit {0}
+IsAsking WhoIs = Unit {0}
+IsAsking Nothing = ⊥
+
 -- ---- a silent device is waited for once
 
 -- how often one is asked in vain: a question of a log and its repeats, and the first question of the next log once; if
@@ -91,6 +99,20 @@ WaitsOnce =
     (old new : PollerAs) (q : Polled) (run : List Happening) → IsPolling old q → old.doing ≡ doing.Asks →
     Runs old run new → IsUnanswered run →
     count_by is_sent run ≤ sends_in_vain old.poll.doubt old.transactions.retries
+
+-- the same before its logs are polled: a question and its repeats; and behind a Who-Is, to which no I-Am came, the
+-- question that is asked in its place
+abbrev pub first_in_vain : Question → (retries : ℕ) → (again : ℕ) → ℕ
+first_in_vain (Confirmed request) retries again = retries + 1
+first_in_vain WhoIs retries again = (again + 1) + (retries + 1)
+first_in_vain Nothing retries again = 0
+
+-- A device that falls silent before that, or never answers, is waited for once.
+abbrev pub WaitsOnceFirst : Type 0
+WaitsOnceFirst =
+    (old new : PollerAs) (run : List Happening) → old.poll.polled ≡ None → IsAsking (asked_of_device old.poll) →
+    old.doing ≡ doing.Asks → Runs old run new → IsUnanswered run →
+    count_by is_sent run ≤ first_in_vain (asked_of_device old.poll) old.transactions.retries old.retries
 
 -- the line of a log that isn't asked
 abbrev pub not_asked_as : (called : List ℕ) → LogAs → LineAs

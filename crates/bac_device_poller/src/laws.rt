@@ -4,6 +4,7 @@
 ghost use Rattle.bac_device_poller.specs.Laws.{SendsQuestions};
 ghost use Rattle.bac_device_poller.specs.Silence.{AsksNoMore, EndedAreOut, EndsSilent};
 ghost use Rattle.bac_device_poller.specs.Silence.{LostStopsNone, PollsOnce, WaitsOnce};
+ghost use Rattle.bac_device_poller.specs.Silence.{WaitsOnceFirst};
 
 /// What is sent to ask is the question of the device's poll, to the device.
 pub fn sends_questions()
@@ -12,9 +13,11 @@ pub fn sends_questions()
 
 /// A device that falls silent while its logs are polled is waited for once, and for one wait more,
 /// however many logs it has: it is sent the question of a log with its repeats, and the first
-/// question of the next log once.
+/// question of the next log once. One that never answers is sent its first question with its
+/// repeats.
 pub fn waits_once()
-    ensures { WaitsOnce }
+    ensures once { WaitsOnce }
+    ensures first { WaitsOnceFirst }
 {}
 
 /// Where that isn't answered either, nothing more is asked of it, and each log that waits is told
