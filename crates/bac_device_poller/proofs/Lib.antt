@@ -3,3 +3,11 @@ pub mod EntryLemmas
 pub mod Opened
 pub mod Seeks
 pub mod Statuses
+pub mod LogTurns
+pub mod Silence
+pub mod SilentSteps
+pub mod SilentRuns
+pub mod WaitedOnce
+pub mod LostLogs
+pub mod SilentEnd
+pub mod WaitedFirst

@@ -11,3 +11,4 @@ pub mod Turns
 pub mod Poller
 pub mod Laws
 pub mod StatusLaws
+pub mod Silence

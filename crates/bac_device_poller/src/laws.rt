@@ -1,6 +1,10 @@
-//! What a device's poll sends, and what its status says, whoever answers.
+//! What a device's poll sends, what its status says, and whom it asks no more, whoever answers. Each
+//! function does nothing: what it ensures is the law.
 
 ghost use Rattle.bac_device_poller.specs.Laws.{SendsQuestions};
+ghost use Rattle.bac_device_poller.specs.Silence.{AsksNoMore, EndedAreOut, EndsSilent};
+ghost use Rattle.bac_device_poller.specs.Silence.{LostStopsNone, PollsOnce, WaitsOnce};
+ghost use Rattle.bac_device_poller.specs.Silence.{WaitsOnceFirst};
 ghost use Rattle.bac_device_poller.specs.StatusLaws.{LogsAreCounted, StatusIsTold};
 
 /// What is sent to ask is the question of the device's poll, to the device.
@@ -17,4 +21,35 @@ pub fn status_is_told()
 /// A log whose poll ends leaves no less than the status of how it does.
 pub fn logs_are_counted()
     ensures { LogsAreCounted }
+{}
+
+/// A device that falls silent while its logs are polled is waited for once, and for one wait more,
+/// however many logs it has: it is sent the question of a log with its repeats, and the first
+/// question of the next log once. One that never answers is sent its first question with its
+/// repeats.
+pub fn waits_once()
+    ensures once { WaitsOnce }
+    ensures first { WaitsOnceFirst }
+{}
+
+/// Where that isn't answered either, nothing more is asked of it, and each log that waits is told
+/// as not asked.
+pub fn ends_silent()
+    ensures { EndsSilent }
+{}
+
+/// A log that is lost, while its device answers, stops no other: the next one is polled.
+pub fn lost_stops_none()
+    ensures { LostStopsNone }
+{}
+
+/// A device of which nothing more is asked is sent nothing more.
+pub fn asks_no_more()
+    ensures { AsksNoMore }
+{}
+
+/// Each log is polled once, in its turn: one whose poll has ended isn't asked again.
+pub fn polls_once()
+    ensures ended { EndedAreOut }
+    ensures once { PollsOnce }
 {}
