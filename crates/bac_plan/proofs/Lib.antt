@@ -1,0 +1,4 @@
+mod Grouped
+mod Shares
+mod SiteLemmas
+mod Polled
