@@ -1,5 +1,6 @@
 -- Lists of rows that are shared out among owners, each row to the one whose id it names.
-use Rattle.std.proofs.Common.{arith, ◌≡◌, ℕ, suc, ◌+◌, ◌<◌, ◌≤◌, ◌==◌, ◌&&◌, ◌||◌, Bool, true, false, if◌then◌else◌, List, [], ◌∷◌, ◌++◌, map, length, get_or, take, refl, sym, ap, ◌∙◌, subst}
+use Rattle.std.proofs.lemmas.List.Concat.{flat_map-append}
+use Rattle.std.proofs.Common.{append_assoc, arith, ◌≡◌, ℕ, suc, ◌+◌, ◌<◌, ◌≤◌, ◌==◌, ◌&&◌, ◌||◌, Bool, true, false, if◌then◌else◌, List, [], ◌∷◌, ◌++◌, map, length, get_or, take, refl, sym, ap, ◌∙◌, subst}
 use Rattle.std.specs.List.{AllZip, filter, flat_map, list_any}
 use Rattle.std.specs.List.Sorted.{IsPermutation}
 use Rattle.std.proofs.lemmas.Bool.{cond-true, cond-false, eqb-true, eq-eqb, false≢true}
@@ -231,3 +232,12 @@ pub zip_leaving : {A B : Type 0} (R : A → B → Type 0) (p : A → Bool) (xs :
     → p x ≡ false → AllZip R (filter p (take i xs)) ys → AllZip R (filter p (take (i + 1) xs)) ys
 zip_leaving {A = A} R p xs ys i x less is fails all =
     subst (λ (l : List A). AllZip R (filter p l) ys) (sym (taken xs i x less is)) (zip_failing R p (take i xs) ys x fails all)
+
+-- ---- what each of a list gives, one after the other
+
+pub flat_taken : {A B : Type 0} (f : A → List B) (start now next : List B) (xs : List A) (i : ℕ) (x : A) → i < length xs → x ≡ get_or xs i x
+    → next ≡ now ++ f x → now ≡ start ++ flat_map f (take i xs) → next ≡ start ++ flat_map f (take (i + 1) xs)
+flat_taken {A = A} {B = B} f start now next xs i x less is more so =
+    more ∙ ap (λ (l : List B). l ++ f x) so ∙ append_assoc start (flat_map f (take i xs)) (f x)
+    ∙ ap (λ (l : List B). start ++ l)
+    (sym (ap (λ (l : List A). flat_map f l) (taken xs i x less is) ∙ flat_map-append f (take i xs) (x ∷ []) ∙ ap (λ (l : List B). flat_map f (take i xs) ++ l) (append-nil (f x))))

@@ -4,3 +4,7 @@ pub mod Logs
 pub mod Pollers
 pub mod Site
 pub mod Laws
+pub mod Named
+pub mod Changes
+pub mod Fresh
+pub mod Naming

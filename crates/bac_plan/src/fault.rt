@@ -1,4 +1,4 @@
-//! Why a site isn't made.
+//! Why a site isn't made, and why words aren't put on record.
 
 ghost use Rattle.std.specs.Prelude.{◌≡◌};
 
@@ -33,5 +33,36 @@ impl<T: Drop> From<AllocFailed<T>> for PlanFault {
 
     fn from(_error: AllocFailed<T>) -> PlanFault {
         PlanFault::Memory
+    }
+}
+
+/// Why what words name isn't put on record.
+#[derive(Clone, Copy, Debug, PartialEq, Eq)]
+pub enum NamingFault {
+    /// There is no memory for it.
+    Memory,
+    /// No id is left for a device: 65535 is the last one.
+    DevicesFull,
+    /// The same of a log.
+    LogsFull,
+}
+
+impl From<AllocError> for NamingFault {
+    ghost use Rattle.bac_plan.specs.declared.fault.NamingFault.TheVariants.{Memory};
+
+    ghost from_gives = { λ _ fault. fault ≡ Memory };
+
+    fn from(_error: AllocError) -> NamingFault {
+        NamingFault::Memory
+    }
+}
+
+impl<T: Drop> From<AllocFailed<T>> for NamingFault {
+    ghost use Rattle.bac_plan.specs.declared.fault.NamingFault.TheVariants.{Memory};
+
+    ghost from_gives = { λ _ fault. fault ≡ Memory };
+
+    fn from(_error: AllocFailed<T>) -> NamingFault {
+        NamingFault::Memory
     }
 }

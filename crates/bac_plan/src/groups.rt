@@ -62,7 +62,7 @@ fn push_at(groups: &mut [Group], log: LogRow) -> Result<(), AllocError>
     Ok(())
 }
 
-/// These logs, by the ids of their devices, those of one in their order. Each row is looked at once.
+/// These logs, by the ids of their devices, those of one in their order. Each is looked at once.
 pub(crate) fn by_device(alloc: Global, logs: Vec<LogRow>) -> Result<Vec<Group>, AllocError>
     ensures { IfOk result (λ groups. (id : ℕ) → id < 65536
         → slice_get groups.items id ≡ Some (filter (is_of id) logs.items)) }

@@ -14,6 +14,7 @@ ghost use Rattle.bac_plan.specs.Logs.{is_asked, is_stopped, place_of, record_of,
 ghost use Rattle.bac_plan.specs.Logs.{told_at, trend_log};
 
 use crate::fault::PlanFault;
+use crate::texts::copied;
 use bac_apdu::object_type::TREND_LOG;
 use bac_archive3::{BeginningRow, LogRow};
 use bac_device_poll::{Begin, LogTask};
@@ -136,16 +137,6 @@ fn place_of(log: &LogRow, told: &[LogRows]) -> Place
     match Place::new(log.id, epoch_in(told, log.id)) {
         Some(place) => place,
         None => unreachable!(),
-    }
-}
-
-// A text again.
-fn copied(text: &Option<String>) -> Result<Option<String>, AllocError>
-    ensures { IfOk result (λ copy. text_as copy ≡ text_as text.now) }
-{
-    match text {
-        Some(text) => Ok(Some(text.clone()?)),
-        None => Ok(None),
     }
 }
 

@@ -3,7 +3,8 @@
 ghost use Rattle.std.specs.Prelude.{◌≡◌, ◌≢◌, IfErr, IfOk, Some};
 ghost use Rattle.std.specs.Option.{option_map};
 ghost use Rattle.hex.specs.Hex.{decode_of};
-ghost use Rattle.bac_plan.specs.Devices.{IsDeviceFault, IsRouteOf, IsWayOf, address_there, octets_by};
+ghost use Rattle.bac_plan.specs.Devices.{IsDeviceFault, IsRouteOf, IsWayOf, address_there};
+ghost use Rattle.bac_plan.specs.Devices.{octets_by};
 ghost use Rattle.bac_plan.specs.Pollers.{transactions_on};
 
 use crate::address::peer_in;
