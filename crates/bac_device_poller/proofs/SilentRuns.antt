@@ -84,7 +84,7 @@ turned t doubt old new polls s = record {
   last = (
     ended_in t.log old.poll.polled ++ not_asked_in t.entries,
     polls.left ∙ sym (append_assoc (ended_in t.log old.poll.polled) (not_asked_in t.entries) (left (behind t).device))
-    ∙ ap (λ (p : DeviceState). (ended_in t.log old.poll.polled ++ not_asked_in t.entries) ++ left p) (sym s.poll),
+        ∙ ap (λ (p : DeviceState). (ended_in t.log old.poll.polled ++ not_asked_in t.entries) ++ left p) (sym s.poll),
   );
 }
 

@@ -31,7 +31,10 @@ pub use counts::Counts;
 pub use doing::{Came, Doing};
 pub use ending::{Ending, ended_line, is_caught_up, push_count, told_line};
 pub use ids::Ids;
-pub use laws::{logs_are_counted, sends_questions, status_is_told};
+pub use laws::{
+    asks_no_more, ends_silent, logs_are_counted, lost_stops_none, polls_once, sends_questions,
+    status_is_told, waits_once,
+};
 pub use line::Line;
 pub use log_record::LogRecord;
 pub use poller::DevicePoller;

@@ -5,6 +5,7 @@ use Rattle.sqlite_schema.specs.declared.schema.Schema.{Schema}
 use Rattle.sqlite_trees.specs.Tree.{Trees}
 use Rattle.bac_archive3.specs.Put.{LoseNothing}
 use Rattle.bac_archive3.specs.Schema.{HasArchive, archive_tables, no_schema}
+use Rattle.bac_batch.specs.Batch.{Batched, fresh_batch}
 use Rattle.bac_drive.specs.Happens.{Acts, scene}
 use Rattle.bac_drive.specs.Laws.{LosesNothing}
 use Rattle.bac_site_poller.specs.Site.{SiteState}
@@ -20,7 +21,7 @@ as_was old new is =
     let same : LoseNothing old old = record { items = λ row there. there; ids = λ row id there is. (row, there, is); beginnings = λ own row there uncounted. there } in
     subst (LoseNothing old) (sym is) same
 
-pub keep_loses_nothing : {A P C : Type 0} (made_at : A → List _) (makes : A → _ → SiteState → Type 0) (acts : Acts SiteState P C) → LosesNothing acts → KeepLosesNothing made_at makes acts
+pub keep_loses_nothing : {A P C : Type 0} (made_at : A → List _) (makes : A → _ → SiteState → Type 0) (acts : Acts (Batched SiteState) P C) → LosesNothing acts → KeepLosesNothing made_at makes acts
 keep_loses_nothing made_at makes acts loses = λ plan port clock output errors old trees has remains. elim remains.1 [
   | inr other ↦ absurd (never old.schema has other.0)
   | inl here ↦ elim remains.2 [
@@ -29,6 +30,6 @@ keep_loses_nothing made_at makes acts loses = λ plan port clock output errors o
         let first = remains.0 in
         let D : Database → Type 0 = λ d. LoseNothing d.trees trees in
         let there : HasArchive first.schema = subst (λ (d : Database). HasArchive d.schema) (sym here.1) has in
-        subst D here.1 (loses (scene at.0 port clock first output errors) trees there at.2)
+        subst D here.1 (loses (scene (fresh_batch at.0) port clock first output errors) trees there at.2)
   ]
 ]

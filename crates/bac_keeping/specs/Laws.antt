@@ -5,13 +5,14 @@ use Rattle.sqlite_trees.specs.Tree.{Trees}
 use Rattle.bac_archive3.specs.Put.{LoseNothing}
 use Rattle.bac_archive3.specs.Schema.{HasArchive}
 use Rattle.bac_archive3.specs.declared.standing.Standing.{Standing}
+use Rattle.bac_batch.specs.Batch.{Batched}
 use Rattle.bac_drive.specs.Happens.{Acts, scene}
 use Rattle.bac_site_poller.specs.Site.{SiteState}
 use Rattle.bac_keeping.specs.Keeping.{Remains, running}
 
 -- A kill at any moment leaves all that an archive had.
 abbrev pub KeepLosesNothing : {A P C : Type 0} → (A → List ℕ) → (A → Standing → SiteState → Type 0) →
-    Acts SiteState P C → Type 0
+    Acts (Batched SiteState) P C → Type 0
 KeepLosesNothing {A = A} {P = P} {C = C} made_at makes acts =
     (plan : A) (port : P) (clock : C) (output errors : Option (List ℕ)) (old : Database) (trees : Trees) →
     HasArchive old.schema →

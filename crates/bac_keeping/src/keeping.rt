@@ -8,11 +8,13 @@ ghost use Rattle.bac_archive3.specs.Schema.{HasArchive};
 ghost use Rattle.bac_drive.specs.Happens.{scene};
 ghost use Rattle.bac_site_poller.specs.SiteLaws.{site_acts};
 ghost use Rattle.bac_site_poller.specs.Site.{SiteState};
+ghost use Rattle.bac_batch.specs.Batch.{Batched};
 ghost use Rattle.bac_keeping.specs.Keeping.{Halts, HaltsEarly, IsBegun, IsOpened};
 ghost use Rattle.bac_keeping.specs.Keeping.{Keeps, Remains, running};
 
 use crate::plan::Plan;
 use bac_archive3::{Refused, open, stands};
+use bac_batch::Batching;
 use bac_desks::Clock;
 use bac_drive::Fault;
 use bac_ports::Port;
@@ -98,7 +100,7 @@ pub fn keep_site<A: Plan, P: Port, C: Clock, S: Alter, W: Write, V: Write>(
     // There are events, which are what the site makes of what came, and lead from the archive as it
     // was opened to the one after.
     ensures keeps { HasCleanDisk (state S.Store conn.new)
-        → OnOk result ((last : SiteState) × Keeps
+        → OnOk result ((last : Batched SiteState) × Keeps
         (running (A.made_at plan.now) (A.makes plan.now)
         (site_acts P.sends P.receives_within C.reads)
         (λ site db. scene site port.old clock.old db (W.contents output.old)
@@ -121,7 +123,7 @@ pub fn keep_site<A: Plan, P: Port, C: Clock, S: Alter, W: Write, V: Write>(
 {
     match begin(alloc, plan, conn) {
         Ok(site) => {
-            let mut site = site;
+            let mut site = Batching::new(alloc, site);
             match poll_devices(alloc, &mut site, port, clock, conn, output, errors) {
                 Ok(()) => Ok(()),
                 Err(why) => Err(KeepFault::Poll(why)),

@@ -4,6 +4,7 @@ ghost use Rattle.bac_keeping.specs.Laws.{KeepLosesNothing};
 ghost use Rattle.bac_site_poller.specs.SiteLaws.{site_acts};
 
 use crate::plan::Plan;
+use bac_batch::Batching;
 use bac_desks::Clock;
 use bac_drive::runs_put;
 use bac_ports::Port;
@@ -13,5 +14,5 @@ use bac_site_poller::SitePoller;
 pub fn keep_loses_nothing<A: Plan, P: Port, C: Clock>()
     ensures { KeepLosesNothing A.made_at A.makes (site_acts P.sends P.receives_within C.reads) }
 {
-    runs_put::<SitePoller, P, C>();
+    runs_put::<Batching<SitePoller>, P, C>();
 }

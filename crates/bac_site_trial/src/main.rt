@@ -16,6 +16,7 @@ mod moment;
 mod words;
 
 use bac_archive3::{Put, Standing, open, put, stands};
+use bac_batch::Batching;
 use bac_desks::{Clock, SteadyClock};
 use bac_files::DiskFiles;
 use bac_ports::UdpPort;
@@ -76,7 +77,7 @@ fn told_of<S: Alter>(alloc: Global, conn: &mut Connection<S>) -> Result<Standing
 /// Polls a site into an open database; it is examined once more before, so that it is an archive.
 fn poll_in<S: Alter, C: Clock, W: Write, V: Write>(
     alloc: Global,
-    site: &mut SitePoller,
+    site: &mut Batching<SitePoller>,
     port: &mut UdpPort,
     clock: &mut C,
     conn: &mut Connection<S>,

@@ -5,6 +5,7 @@ use crate::halt::Halt;
 use crate::index::Index;
 use crate::words::{Asked, Pair};
 use bac_archive3::{DeviceRow, LogRow, Put};
+use bac_batch::Batching;
 use bac_device_poller::Ids;
 use bac_resume::Resumed;
 use bac_site_poller::{Limits, SitePoller};
@@ -61,7 +62,7 @@ fn id_of(next: &mut u32) -> Result<u16, Halt> {
 /// A site that is made, and the rows that are put before it is polled.
 #[derive(Drop)]
 pub struct Made {
-    pub site: SitePoller,
+    pub site: Batching<SitePoller>,
     pub puts: Vec<Put>,
 }
 
@@ -154,7 +155,10 @@ impl Making {
             let others = index.left(alloc, device.id())?;
             site.add(device.poller(alloc, asked.retries, begun, others)?)?;
         }
-        Ok(Made { site, puts })
+        Ok(Made {
+            site: Batching::new(alloc, site),
+            puts,
+        })
     }
 }
 

@@ -1,0 +1,6 @@
+mod FreshLemmas
+mod Grouped
+mod NamingLemmas
+mod Polled
+mod Shares
+mod SiteLemmas

@@ -1,0 +1,10 @@
+pub mod Addresses
+pub mod Devices
+pub mod Logs
+pub mod Pollers
+pub mod Site
+pub mod Laws
+pub mod Named
+pub mod Changes
+pub mod Fresh
+pub mod Naming

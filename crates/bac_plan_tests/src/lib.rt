@@ -1,0 +1,5 @@
+//! Tests of what a run of keep begins with, by its public calls.
+#![tactic(auto)]
+
+#[cfg(test)]
+mod site;
