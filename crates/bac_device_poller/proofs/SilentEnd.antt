@@ -23,9 +23,11 @@ use Rattle.bac_device_poller.specs.Poller.{GivesBy, PollerAs, Settles, end_at, p
 use Rattle.bac_device_poller.specs.Puts.{PlaceAs}
 use Rattle.bac_device_poller.specs.Rows.{LogAs as LogRowAs}
 use Rattle.bac_device_poller.specs.Silence.{EndsSilent, IsPolling, end_of, not_asked_as}
+use Rattle.bac_device_poller.specs.Status.{greater_of}
 use Rattle.bac_device_poller.specs.Telling.{LineAs}
 use Rattle.bac_device_poller.specs.Turns.{TakesOf, keeping, retelling, telling_any_end, telling_line, telling_turn}
 use Rattle.bac_device_poller.specs.declared.doing.Doing.TheVariants as doing
+use Rattle.bac_device_poller.specs.declared.status.Status.TheVariants.{NoReply}
 use Rattle.bac_device_poller.proofs.LogTurns.{at_log, behind}
 use Rattle.bac_device_poller.proofs.Silence.{Settled, by_log, end_with, lost_is, settled}
 use Rattle.bac_device_poller.proofs.WaitedOnce.{ends_silent as silent_end}
@@ -63,7 +65,7 @@ told_lines : (r : RowsAs) (logs : List LogAs) →
     (with_entries r (map not_asked logs)).lines ≡ r.lines ++ map (not_asked_as r.called) logs
 told_lines r [] = sym (append-nil r.lines)
 told_lines r (task ∷ logs) =
-    told_lines (record r { lines = r.lines ++ not_asked_as r.called task ∷ [] }) logs
+    told_lines (record r { lines = r.lines ++ not_asked_as r.called task ∷ []; status = greater_of r.status NoReply }) logs
     ∙ append_assoc r.lines (not_asked_as r.called task ∷ []) (map (not_asked_as r.called) logs)
 
 answered_lines : (o : Option CivilTime) (r : RowsAs) → (putting_answered o r).lines ≡ r.lines
