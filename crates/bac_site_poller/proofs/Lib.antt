@@ -16,4 +16,5 @@ pub mod SeatedRun
 pub mod Open
 pub mod Ended
 pub mod Losses
+pub mod Traffic
 pub mod Batches
