@@ -60,13 +60,16 @@ cut_among [] (f ∷ fs) cut = absurd cut
 cut_among (e ∷ es) [] cut = absurd cut
 
 -- so it is of what goes over the port and the clock
-among : (es fs : List Event) → AreCutShort (traffic_of es) (traffic_of fs) → (e : Event) → is_traffic e ≡ true → Contains fs e → IsAmong es e
+among : (es fs : List Event) → AreCutShort (traffic_of es) (traffic_of fs) → (e : Event) → is_traffic e ≡ true →
+    Contains fs e → IsAmong es e
 among es fs cut e is there =
-    let (f, of, short) = of_each (IsAmong (traffic_of es)) (traffic_of fs) e (cut_among (traffic_of es) (traffic_of fs) cut)
-        (of_each (λ x. is_traffic x ≡ true → Contains (traffic_of fs) x) fs e (kept_in fs) there is) in
+    let (f, of, short) = of_each (IsAmong (traffic_of es)) (traffic_of fs) e
+    (cut_among (traffic_of es) (traffic_of fs) cut)
+    (of_each (λ x. is_traffic x ≡ true → Contains (traffic_of fs) x) fs e (kept_in fs) there is) in
     (f, of_each (Contains es) (traffic_of es) f (kept_of es) of, short)
 
-pub sent_among : (es fs : List Event) (octets to : List ℕ) (answer : Sending) → AreCutShort (traffic_of es) (traffic_of fs) →
+pub sent_among : (es fs : List Event) (octets to : List ℕ) (answer : Sending) →
+    AreCutShort (traffic_of es) (traffic_of fs) →
     Contains fs (Sent octets to answer) → Contains es (Sent octets to answer)
 sent_among es fs octets to answer cut there = by r.0 r.1 r.2
   where
@@ -105,7 +108,8 @@ pub record InParts (es early late : List Event) : Type 0 where
   pub late_is : traffic_of behind ≡ late
 
 -- one more before them, which is no traffic, or the first of it
-more_parts : (e : Event) (es early late : List Event) → is_traffic e ≡ false → InParts es early late → InParts (e ∷ es) early late
+more_parts : (e : Event) (es early late : List Event) → is_traffic e ≡ false → InParts es early late →
+    InParts (e ∷ es) early late
 more_parts e es early late stays parts =
     let C : Bool → List Event = λ b. cond b (e ∷ traffic_of parts.before) (traffic_of parts.before) in
     record {
@@ -116,7 +120,8 @@ more_parts e es early late stays parts =
       late_is = parts.late_is;
     }
 
-first_parts : (e f : Event) (es early late : List Event) → is_traffic e ≡ true → e ≡ f → InParts es early late → InParts (e ∷ es) (f ∷ early) late
+first_parts : (e f : Event) (es early late : List Event) → is_traffic e ≡ true → e ≡ f → InParts es early late →
+    InParts (e ∷ es) (f ∷ early) late
 first_parts e f es early late goes same parts =
     let C : Bool → List Event = λ b. cond b (e ∷ traffic_of parts.before) (traffic_of parts.before) in
     record {
@@ -129,14 +134,17 @@ first_parts e f es early late goes same parts =
 
 parts_by : (e f : Event) (es early late : List Event) (b : Bool) → is_traffic e ≡ b →
     cond b (e ∷ traffic_of es) (traffic_of es) ≡ f ∷ early ++ late →
-    (traffic_of es ≡ early ++ late → InParts es early late) → (traffic_of es ≡ f ∷ early ++ late → InParts es (f ∷ early) late) →
+    (traffic_of es ≡ early ++ late → InParts es early late) →
+    (traffic_of es ≡ f ∷ early ++ late → InParts es (f ∷ early) late) →
     InParts (e ∷ es) (f ∷ early) late
 parts_by e f es early late true goes is first more =
-    let (one, rest) = cons_parts e f (traffic_of es) (early ++ late) is in first_parts e f es early late goes one (first rest)
+    let (one, rest) = cons_parts e f (traffic_of es) (early ++ late) is in
+    first_parts e f es early late goes one (first rest)
 parts_by e f es early late false stays is first more = more_parts e es (f ∷ early) late stays (more is)
 
 pub traffic_split : (es early late : List Event) → traffic_of es ≡ early ++ late → InParts es early late
 traffic_split es [] late is = record { before = []; behind = es; is = refl; early_is = refl; late_is = is }
 traffic_split [] (f ∷ early) late is = absurd (omega (arith, ap length is))
 traffic_split (e ∷ es) (f ∷ early) late is =
-    parts_by e f es early late (is_traffic e) refl is (λ rest. traffic_split es early late rest) (λ rest. traffic_split es (f ∷ early) late rest)
+    parts_by e f es early late (is_traffic e) refl is (λ rest. traffic_split es early late rest)
+    (λ rest. traffic_split es (f ∷ early) late rest)

@@ -44,7 +44,8 @@ SiteBatchSteps = BatchedSteps GivesSite SiteHears SiteReads
 abbrev pub site_acts : {P C : Type 0} → (P → List ℕ → List ℕ → Sending → P → Type 0) →
     (P → ℕ → Receiving → P → Type 0) → (C → ℕ → C → Type 0) → Acts (Batched SiteState) P C
 site_acts sends receives tells =
-    acting (λ old given new. GivesBatched GivesSite old given new) (λ old heard new. HearsBatched SiteHears old heard new)
+    acting (λ old given new. GivesBatched GivesSite old given new)
+    (λ old heard new. HearsBatched SiteHears old heard new)
     (λ old ms new. ReadsBatched SiteReads old ms new) sends receives tells
 
 -- ---- limits
