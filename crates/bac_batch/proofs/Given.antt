@@ -25,7 +25,8 @@ does_keep puts (next.Print text) e is does = absurd is
 does_keep puts (next.Warn text) e is does = absurd is
 does_keep puts next.End e is does = absurd is
 
-pub does_send : (octets to : List ℕ) (e : Event) → Does (next.Send octets to) e → (answer : Sending) × (e ≡ Sent octets to answer)
+pub does_send : (octets to : List ℕ) (e : Event) → Does (next.Send octets to) e →
+    (answer : Sending) × (e ≡ Sent octets to answer)
 does_send octets to (Sent sent peer answer) (same, there) =
     (answer, ap (λ (l : List ℕ). Sent l peer answer) same ∙ ap (λ (l : List ℕ). Sent octets l answer) there)
 does_send octets to (Waited within heard) does = absurd does
@@ -70,9 +71,25 @@ pub record AsLine (line : Next) (e : Event) : Type 0 where
 
 pub as_line : (line : Next) (e : Event) → IsLine line → Does line e → AsLine line e
 as_line (next.Print text) (Printed all) is does =
-    record { is = refl; held = ap (λ (l : List ℕ). Some (Printed l)) (sym does); traffic = refl; lines = refl; keeps = refl; puts = refl }
+    record {
+      is = refl;
+      held = ap (λ (l : List ℕ). Some (Printed l)) (sym does);
+      traffic = refl;
+      lines = refl;
+      keeps =
+          refl;
+      puts = refl;
+    }
 as_line (next.Warn text) (Warned all) is does =
-    record { is = refl; held = ap (λ (l : List ℕ). Some (Warned l)) (sym does); traffic = refl; lines = refl; keeps = refl; puts = refl }
+    record {
+      is = refl;
+      held = ap (λ (l : List ℕ). Some (Warned l)) (sym does);
+      traffic = refl;
+      lines = refl;
+      keeps =
+          refl;
+      puts = refl;
+    }
 as_line (next.Print text) (Sent octets to answer) is does = absurd does
 as_line (next.Print text) (Waited within heard) is does = absurd does
 as_line (next.Print text) (Read ms) is does = absurd does
@@ -90,7 +107,8 @@ as_line (next.Keep all) e is does = absurd is
 as_line next.End e is does = absurd is
 
 -- it changes nothing of a machine
-pub line_told : {M : Type 0} (hears : M → Receiving → M → Type 0) (reads : M → ℕ → M → Type 0) (mid new : M) (e : Event) → is_line e ≡ true → Learns hears reads mid e new → new ≡ mid
+pub line_told : {M : Type 0} (hears : M → Receiving → M → Type 0) (reads : M → ℕ → M →
+    Type 0) (mid new : M) (e : Event) → is_line e ≡ true → Learns hears reads mid e new → new ≡ mid
 line_told hears reads mid new (Printed all) is told = told
 line_told hears reads mid new (Warned all) is told = told
 line_told hears reads mid new (Sent octets to answer) is told = told
@@ -98,7 +116,8 @@ line_told hears reads mid new (Kept rows) is told = told
 line_told hears reads mid new (Waited within heard) is told = absurd (let f : false ≡ true = is in cc)
 line_told hears reads mid new (Read ms) is told = absurd (let f : false ≡ true = is in cc)
 
-pub line_learns : {M : Type 0} (hears : M → Receiving → M → Type 0) (reads : M → ℕ → M → Type 0) (m : M) (e : Event) → is_line e ≡ true → Learns hears reads m e m
+pub line_learns : {M : Type 0} (hears : M → Receiving → M → Type 0) (reads : M → ℕ → M → Type 0) (m : M) (e : Event) →
+    is_line e ≡ true → Learns hears reads m e m
 line_learns hears reads m (Printed all) is = refl
 line_learns hears reads m (Warned all) is = refl
 line_learns hears reads m (Sent octets to answer) is = refl
@@ -110,10 +129,14 @@ line_learns hears reads m (Read ms) is = absurd (let f : false ≡ true = is in 
 pub is_line_given : (given : Next) (e : Event) → is_line e ≡ true → Does given e → IsLine given
 is_line_given (next.Print text) e is does = tt
 is_line_given (next.Warn text) e is does = tt
-is_line_given (next.Keep all) e is does = absurd (let same = does_keep all.items (next.Keep all) e refl does in let f : false ≡ true = ap is_line (sym same) ∙ is in cc)
-is_line_given (next.Send octets to) e is does = absurd (let r = does_send octets to e does in let f : false ≡ true = ap is_line (sym r.1) ∙ is in cc)
-is_line_given (next.Wait most) e is does = absurd (let r = does_wait most e does in let f : false ≡ true = ap is_line (sym r.1) ∙ is in cc)
-is_line_given next.Read e is does = absurd (let r = does_read e does in let f : false ≡ true = ap is_line (sym r.1) ∙ is in cc)
+is_line_given (next.Keep all) e is does = absurd (let same = does_keep all.items (next.Keep all) e refl does in
+    let f : false ≡ true = ap is_line (sym same) ∙ is in cc)
+is_line_given (next.Send octets to) e is does = absurd (let r = does_send octets to e does in let f : false ≡ true =
+    ap is_line (sym r.1) ∙ is in cc)
+is_line_given (next.Wait most) e is does = absurd (let r = does_wait most e does in let f : false ≡ true =
+    ap is_line (sym r.1) ∙ is in cc)
+is_line_given next.Read e is does = absurd (let r = does_read e does in let f : false ≡ true =
+    ap is_line (sym r.1) ∙ is in cc)
 is_line_given next.End e is does = absurd (does_end e does)
 
 -- a wait and the end are no lines

@@ -1,5 +1,6 @@
 -- The laws of a run of batches.
-use Rattle.std.proofs.Common.{◌≡◌, ◌∙◌, inl, inr, ℕ, ◌-◌, ◌<◌, ◌≤◌, min, true, List, [], ◌∷◌, ◌++◌, All, refl, sym, ap, subst, append-nil, arith}
+use Rattle.std.proofs.Common.{◌≡◌, ◌∙◌, inl, inr, ℕ, ◌-◌, ◌<◌, ◌≤◌, min, true, List, [], ◌∷◌, ◌++◌, All, refl, sym}
+use Rattle.std.proofs.Common.{ap, subst, append-nil, arith}
 use Rattle.std.proofs.lemmas.List.Elements.{All-head, All-nil}
 use Rattle.bac_archive3.specs.declared.row.Put.{Put}
 use Rattle.bac_desks.specs.Chain.{Chain}
@@ -9,32 +10,38 @@ use Rattle.bac_drive.specs.Laws.{puts_of}
 use Rattle.bac_drive.specs.declared.machine.Next.{Next}
 use Rattle.bac_drive.specs.declared.machine.Next.TheVariants as next
 use Rattle.bac_batch.specs.Batch.{Answers, Batched, GivesBatched, HearsBatched, HoldsRows, IsFilled, ReadsBatched}
-use Rattle.bac_batch.specs.Laws.{BatchedSteps, EndsWhole, HoldsNothing, Inside, IsAt, IsLine, LinesStandBehind, LosesNothing, WaitsWithYoungRows}
+use Rattle.bac_batch.specs.Laws.{BatchedSteps, EndsWhole, HoldsNothing, Inside, IsAt, IsLine, LinesStandBehind}
+use Rattle.bac_batch.specs.Laws.{LosesNothing, WaitsWithYoungRows}
 use Rattle.bac_batch.specs.Laws.{is_line, joined, lines_held, lines_of}
 use Rattle.bac_batch.proofs.Given.{is_line_given, line_no_keep, line_no_puts, line_told}
 use Rattle.bac_batch.proofs.Parts.{last_step, puts_append}
 use Rattle.bac_batch.proofs.Ran.{AreReplies, Ran, both_ran, none_ran}
 use Rattle.bac_batch.proofs.Stepped.{cons_parts, no_snoc, stepped}
 
-module _ {M : Type 0} (gives : M → Next → M → Type 0) (hears : M → Receiving → M → Type 0) (reads : M → ℕ → M → Type 0) where
-  ran : (start : M) (before : List (List Put)) (old new : Batched M) (es : List Event) → IsAt gives start old → AreReplies old before → Chain (BatchedSteps gives hears reads) old es new →
+module _ {M : Type 0} (gives : M → Next → M → Type 0) (hears : M → Receiving → M → Type 0) (reads : M → ℕ → M →
+    Type 0) where
+  ran : (start : M) (before : List (List Put)) (old new : Batched M) (es : List Event) → IsAt gives start old →
+      AreReplies old before → Chain (BatchedSteps gives hears reads) old es new →
       Ran gives hears reads start before old es new
   ran start before old new [] at replies same =
       let P : Batched M → Type 0 = λ b. Ran gives hears reads start before old [] b in
       subst P (sym same) (none_ran gives hears reads start before old at replies)
   ran start before old new (e ∷ es) at replies (mid, one, more) =
       let a = stepped gives hears reads start before old mid e at replies one in
-      both_ran gives hears reads start before old mid new (e ∷ []) es a (ran a.last a.held mid new es a.at a.is_held more)
+      both_ran gives hears reads start before old mid new (e ∷ []) es a
+      (ran a.last a.held mid new es a.at a.is_held more)
 
   held_is : (b : Batched M) (held : List (List Put)) → AreReplies b held → joined held ≡ b.puts
   held_is b held (inl (none, bare)) = ap joined bare ∙ sym none
   held_is b held (inr (holds, of, count, room)) = of
 
-  pub inside : (old new : Batched M) (es : List Event) → HoldsNothing old → Chain (BatchedSteps gives hears reads) old es new →
+  pub inside : (old new : Batched M) (es : List Event) → HoldsNothing old →
+      Chain (BatchedSteps gives hears reads) old es new →
       (inner : List Event) × (last : M) × Inside gives hears reads old.machine es new inner last
   inside old new es (none, bare) chain =
       let P : List Next → Type 0 = λ l. All IsLine l in
-      let r = ran old.machine [] old new es (inl (refl, subst P (sym bare) (All-nil IsLine))) (inl (none, refl)) chain in (
+      let r = ran old.machine [] old new es (inl (refl, subst P (sym bare) (All-nil IsLine))) (inl (none, refl))
+      chain in (
         r.inner,
         r.last,
         record {
@@ -63,7 +70,8 @@ module _ {M : Type 0} (gives : M → Next → M → Type 0) (hears : M → Recei
   filled_no_end mid new (inr (none, (keeps, same))) = keeps
 
   -- it is asked, and ends
-  end_asked : (m : M) (b new : Batched M) (wanted : Next) → gives b.machine wanted m → (b.puts ≡ [] → b.behind ≡ []) → Answers wanted (record b { machine = m }) next.End new → AtEnd b.machine b new
+  end_asked : (m : M) (b new : Batched M) (wanted : Next) → gives b.machine wanted m → (b.puts ≡ [] → b.behind ≡ []) →
+      Answers wanted (record b { machine = m }) next.End new → AtEnd b.machine b new
   end_asked m b new next.End gave free (inl (none, (wanted, same))) =
       let P : M → Type 0 = λ x. gives b.machine next.End x in
       record {
@@ -85,7 +93,9 @@ module _ {M : Type 0} (gives : M → Next → M → Type 0) (hears : M → Recei
   end_asked m b new (next.Keep puts) gave free (inr (some, (mid, held, filled))) = absurd (filled_no_end mid new filled)
 
   -- the end that stood behind the batch
-  end_out : (last : M) (b new : Batched M) (wish : Next) (lines others : List Next) → b.puts ≡ [] → b.behind ≡ lines ++ wish ∷ [] → All IsLine lines → gives last wish b.machine → b.behind ≡ next.End ∷ others → new.machine ≡ b.machine → AtEnd last b new
+  end_out : (last : M) (b new : Batched M) (wish : Next) (lines others : List Next) → b.puts ≡ [] →
+      b.behind ≡ lines ++ wish ∷ [] → All IsLine lines → gives last wish b.machine → b.behind ≡ next.End ∷ others →
+      new.machine ≡ b.machine → AtEnd last b new
   end_out last b new wish [] others none is all gave behind same =
       let (one, rest) = cons_parts next.End wish others [] (sym behind ∙ is) in
       let P : Next → Type 0 = λ x. gives last x b.machine in
@@ -107,7 +117,8 @@ module _ {M : Type 0} (gives : M → Next → M → Type 0) (hears : M → Recei
       let P : M → Type 0 = λ x. AtEnd x b new in subst P (sym here) (end_asked m b new wanted gave free answers)
   at_end last b new (inr (wish, lines, none, is, all, wishes, gave)) (inl (others, empty, behind, same)) =
       end_out last b new wish lines others none is all gave behind (ap (λ (x : Batched M). x.machine) same)
-  at_end last b new (inr (wish, lines, none, is, all, wishes, gave)) (inr (free, asks)) = absurd (no_snoc lines wish (sym is ∙ free none))
+  at_end last b new (inr (wish, lines, none, is, all, wishes, gave)) (inr (free, asks)) =
+      absurd (no_snoc lines wish (sym is ∙ free none))
 
   pub ends_whole : EndsWhole gives hears reads
   ends_whole = λ old last new es nothing chain end.
@@ -125,27 +136,35 @@ module _ {M : Type 0} (gives : M → Next → M → Type 0) (hears : M → Recei
   -- ---- lines
 
   line_no_rows : (b new : Batched M) (wanted given : Next) → IsLine given → Answers wanted b given new → new.puts ≡ []
-  line_no_rows b new (next.Print text) given is (inl (none, (wanted, same))) = ap (λ (x : Batched M). x.puts) same ∙ none
+  line_no_rows b new (next.Print text) given is (inl (none, (wanted, same))) =
+      ap (λ (x : Batched M). x.puts) same ∙ none
   line_no_rows b new (next.Warn text) given is (inl (none, (wanted, same))) = ap (λ (x : Batched M). x.puts) same ∙ none
   line_no_rows b new next.End given is (inl (none, (wanted, same))) = ap (λ (x : Batched M). x.puts) same ∙ none
   line_no_rows b new (next.Wait most) given is (inl (none, (wanted, same))) = ap (λ (x : Batched M). x.puts) same ∙ none
   line_no_rows b new (next.Print text) given is (inr (holds, (keeps, same))) = absurd (line_no_keep [] given is keeps)
   line_no_rows b new (next.Warn text) given is (inr (holds, (keeps, same))) = absurd (line_no_keep [] given is keeps)
   line_no_rows b new next.End given is (inr (holds, (keeps, same))) = absurd (line_no_keep b.puts given is keeps)
-  line_no_rows b new (next.Wait most) given is (inr (holds, inl (none, (keeps, same)))) = absurd (line_no_keep b.puts given is keeps)
+  line_no_rows b new (next.Wait most) given is (inr (holds, inl (none, (keeps, same)))) =
+      absurd (line_no_keep b.puts given is keeps)
   line_no_rows b new (next.Wait most) given is (inr (holds, inr (some, (wanted, same)))) =
       let P : Next → Type 0 = λ x. IsLine x in absurd (subst P wanted is)
-  line_no_rows b new (next.Send octets to) given is (wanted, same) = let P : Next → Type 0 = λ x. IsLine x in absurd (subst P wanted is)
-  line_no_rows b new next.Read given is (wanted, same) = let P : Next → Type 0 = λ x. IsLine x in absurd (subst P wanted is)
+  line_no_rows b new (next.Send octets to) given is (wanted, same) = let P : Next → Type 0 = λ x. IsLine x in
+      absurd (subst P wanted is)
+  line_no_rows b new next.Read given is (wanted, same) = let P : Next → Type 0 = λ x. IsLine x in
+      absurd (subst P wanted is)
   line_no_rows b new (next.Keep puts) given is (inl (empty, (keeps, same))) = absurd (line_no_keep [] given is keeps)
-  line_no_rows b new (next.Keep puts) given is (inr (some, (mid, held, inl (room, (keeps, same))))) = absurd (line_no_keep [] given is keeps)
-  line_no_rows b new (next.Keep puts) given is (inr (some, (mid, held, inr (none, (keeps, same))))) = absurd (line_no_keep mid.puts given is keeps)
+  line_no_rows b new (next.Keep puts) given is (inr (some, (mid, held, inl (room, (keeps, same))))) =
+      absurd (line_no_keep [] given is keeps)
+  line_no_rows b new (next.Keep puts) given is (inr (some, (mid, held, inr (none, (keeps, same))))) =
+      absurd (line_no_keep mid.puts given is keeps)
 
   line_gives : (old mid : Batched M) (given : Next) → IsLine given → GivesBatched gives old given mid → mid.puts ≡ []
   line_gives old mid given is (inl (others, none, behind, same)) = ap (λ (x : Batched M). x.puts) same ∙ none
-  line_gives old mid given is (inr (free, (wanted, m, gave, answers))) = line_no_rows (record old { machine = m }) mid wanted given is answers
+  line_gives old mid given is (inr (free, (wanted, m, gave, answers))) =
+      line_no_rows (record old { machine = m }) mid wanted given is answers
 
-  line_step : (old new : Batched M) (line : Event) → is_line line ≡ true → BatchedSteps gives hears reads old line new → new.puts ≡ []
+  line_step : (old new : Batched M) (line : Event) → is_line line ≡ true →
+      BatchedSteps gives hears reads old line new → new.puts ≡ []
   line_step old new line is (given, mid, said, does, told) =
       ap (λ (x : Batched M). x.puts) (line_told (HearsBatched hears) (ReadsBatched reads) mid new line is told)
       ∙ line_gives old mid given (is_line_given given line is does) said
@@ -158,14 +177,17 @@ module _ {M : Type 0} (gives : M → Next → M → Type 0) (hears : M → Recei
         inner,
         last,
         i,
-        i.rows ∙ ap (λ (l : List Put). puts_of (es ++ line ∷ []) ++ l) none ∙ append-nil (puts_of (es ++ line ∷ [])) ∙ puts_append es (line ∷ [])
+        i.rows ∙ ap (λ (l : List Put). puts_of (es ++ line ∷ []) ++ l) none ∙ append-nil (puts_of (es ++ line ∷ []))
+            ∙ puts_append es (line ∷ [])
             ∙ ap (λ (l : List Put). puts_of es ++ l) (line_no_puts line is) ∙ append-nil (puts_of es),
       )
 
   -- ---- waits
 
-  wait_asked : (b new : Batched M) (wanted : Next) (most : ℕ) → Answers wanted b (next.Wait most) new → HoldsRows new → (new.time - new.since < 100) × (most ≤ 100 - (new.time - new.since))
-  wait_asked b new (next.Wait wish) most (inl (none, (wanted, same))) holds = absurd (holds (ap (λ (x : Batched M). x.puts) same ∙ none))
+  wait_asked : (b new : Batched M) (wanted : Next) (most : ℕ) → Answers wanted b (next.Wait most) new → HoldsRows new →
+      (new.time - new.since < 100) × (most ≤ 100 - (new.time - new.since))
+  wait_asked b new (next.Wait wish) most (inl (none, (wanted, same))) holds =
+      absurd (holds (ap (λ (x : Batched M). x.puts) same ∙ none))
   wait_asked b new (next.Wait wish) most (inr (rows, inl (none, (keeps, same)))) holds = absurd keeps
   wait_asked b new (next.Wait wish) most (inr (rows, inr (some, (wanted, same)))) holds =
       let time : new.time ≡ b.time = ap (λ (x : Batched M). x.time) same in
@@ -185,5 +207,7 @@ module _ {M : Type 0} (gives : M → Next → M → Type 0) (hears : M → Recei
   wait_asked b new (next.Keep puts) most (inr (some, (mid, held, inr (none, (keeps, same))))) holds = absurd keeps
 
   pub waits_with_young_rows : WaitsWithYoungRows gives
-  waits_with_young_rows old new most (inl (others, none, behind, same)) holds = absurd (holds (ap (λ (x : Batched M). x.puts) same ∙ none))
-  waits_with_young_rows old new most (inr (free, (wanted, m, gave, answers))) holds = wait_asked (record old { machine = m }) new wanted most answers holds
+  waits_with_young_rows old new most (inl (others, none, behind, same)) holds =
+      absurd (holds (ap (λ (x : Batched M). x.puts) same ∙ none))
+  waits_with_young_rows old new most (inr (free, (wanted, m, gave, answers))) holds =
+      wait_asked (record old { machine = m }) new wanted most answers holds

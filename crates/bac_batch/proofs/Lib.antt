@@ -4,3 +4,4 @@ pub mod Given
 pub mod Stepped
 pub mod Inside
 pub mod Replies
+pub mod Happening

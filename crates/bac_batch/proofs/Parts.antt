@@ -31,17 +31,23 @@ puts_append [] fs = refl
 puts_append (Sent octets to answer ∷ es) fs = puts_append es fs
 puts_append (Waited within heard ∷ es) fs = puts_append es fs
 puts_append (Read ms ∷ es) fs = puts_append es fs
-puts_append (Kept puts ∷ es) fs = ap (λ (l : List Put). puts ++ l) (puts_append es fs) ∙ sym (append_assoc puts (puts_of es) (puts_of fs))
+puts_append (Kept puts ∷ es) fs = ap (λ (l : List Put). puts ++ l) (puts_append es fs)
+    ∙ sym (append_assoc puts (puts_of es) (puts_of fs))
 puts_append (Printed text ∷ es) fs = puts_append es fs
 puts_append (Warned text ∷ es) fs = puts_append es fs
 
 -- what is held before, in between and behind
-pub carried : {X : Type 0} (before between behind a b c d : List X) → before ++ a ≡ c ++ between → between ++ b ≡ d ++ behind → before ++ (a ++ b) ≡ c ++ d ++ behind
+pub carried : {X : Type 0} (before between behind a b c d : List X) → before ++ a ≡ c ++ between →
+    between ++ b ≡ d ++ behind → before ++ (a ++ b) ≡ c ++ d ++ behind
 carried {X = X} before between behind a b c d one more =
-    sym (append_assoc before a b) ∙ ap (λ (l : List X). l ++ b) one ∙ append_assoc c between b ∙ ap (λ (l : List X). c ++ l) more
+    sym (append_assoc before a b) ∙ ap (λ (l : List X). l ++ b) one ∙ append_assoc c between b
+    ∙ ap (λ (l : List X). c ++ l) more
     ∙ sym (append_assoc c d behind)
 
 -- the last of steps
-pub last_step : {S E : Type 0} (step : S → E → S → Type 0) (old new : S) (es : List E) (e : E) → Chain step old (es ++ e ∷ []) new → (mid : S) × Chain step old es mid × step mid e new
-last_step {S = S} {E = E} step old new [] e (mid, one, same) = (old, refl, let P : S → Type 0 = λ s. step old e s in subst P (sym same) one)
-last_step step old new (f ∷ es) e (mid, one, more) = let r = last_step step mid new es e more in (r.0, (mid, one, r.1), r.2)
+pub last_step : {S E : Type 0} (step : S → E → S → Type 0) (old new : S) (es : List E) (e : E) →
+    Chain step old (es ++ e ∷ []) new → (mid : S) × Chain step old es mid × step mid e new
+last_step {S = S} {E = E} step old new [] e (mid, one, same) =
+    (old, refl, let P : S → Type 0 = λ s. step old e s in subst P (sym same) one)
+last_step step old new (f ∷ es) e (mid, one, more) = let r = last_step step mid new es e more in
+    (r.0, (mid, one, r.1), r.2)

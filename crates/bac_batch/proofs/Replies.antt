@@ -86,7 +86,8 @@ cut_split [] (f ∷ fs) gs cut = absurd cut
 
 -- ---- a batch
 
-module _ {M : Type 0} (gives : M → Next → M → Type 0) (hears : M → Receiving → M → Type 0) (reads : M → ℕ → M → Type 0) where
+module _ {M : Type 0} (gives : M → Next → M → Type 0) (hears : M → Receiving → M → Type 0) (reads : M → ℕ → M →
+    Type 0) where
   -- one of the replies of the machine inside
   one_wanted : (start : M) (front inner : List Event) (last : M) (us ws : List (List Put)) (rows : List Put) →
       Chain (Steps gives hears reads) start inner last → AreCutShort (traffic_of front) (traffic_of inner) →
@@ -96,7 +97,8 @@ module _ {M : Type 0} (gives : M → Next → M → Type 0) (hears : M → Recei
       let P : List Event → Type 0 = λ l. Chain (Steps gives hears reads) start l last in
       let Q : List Event → Type 0 = λ l. AreCutShort (traffic_of front) l in
       let parts = ap traffic_of same ∙ traffic_append before (Kept rows ∷ behind) in
-      let (early, late, whole, first, rest) = cut_split (traffic_of front) (traffic_of before) (traffic_of (Kept rows ∷ behind)) (subst Q parts cut) in
+      let (early, late, whole, first, rest) = cut_split (traffic_of front) (traffic_of before)
+      (traffic_of (Kept rows ∷ behind)) (subst Q parts cut) in
       (before, behind, last, subst P same run, (early, late, whole, first))
 
   -- some of them, one behind the other
@@ -105,15 +107,19 @@ module _ {M : Type 0} (gives : M → Next → M → Type 0) (hears : M → Recei
       keeps_of inner ≡ us ++ (group ++ ws) → All (WasWanted gives hears reads start front) group
   all_wanted start front inner last us [] ws run cut is = All-nil (WasWanted gives hears reads start front)
   all_wanted start front inner last us (rows ∷ group) ws run cut is =
-      All-cons (WasWanted gives hears reads start front) rows group (one_wanted start front inner last us (group ++ ws) rows run cut is)
-      (all_wanted start front inner last (us ++ rows ∷ []) group ws run cut (is ∙ sym (append_assoc us (rows ∷ []) (group ++ ws))))
+      All-cons (WasWanted gives hears reads start front) rows group
+      (one_wanted start front inner last us (group ++ ws) rows run cut is)
+      (all_wanted start front inner last (us ++ rows ∷ []) group ws run cut (is
+      ∙ sym (append_assoc us (rows ∷ []) (group ++ ws))))
 
   batch : (start : M) (front inner : List Event) (new : Batched M) (last : M) (puts : List Put) → (puts ≡ [] → ⊥) →
       Inside gives hears reads start (front ++ Kept puts ∷ []) new inner last → keeps_of (Kept puts ∷ []) ≡ puts ∷ [] →
-      (replies : List (List Put)) × (puts ≡ joined replies) × (length replies ≤ 64) × All (WasWanted gives hears reads start front) replies
+      (replies : List (List Put)) × (puts ≡ joined replies) × (length replies ≤ 64) × All
+      (WasWanted gives hears reads start front) replies
   batch start front inner new last puts some i one =
       let (groups, held, all, kept, rest, small) = i.batches in
-      let put = ap (λ (l : List (List Put)). keeps_of front ++ l) (sym one) ∙ sym (keeps_append front (Kept puts ∷ [])) ∙ kept in
+      let put = ap (λ (l : List (List Put)). keeps_of front ++ l) (sym one) ∙ sym (keeps_append front (Kept puts ∷ []))
+      ∙ kept in
       let (others, group, is, of) = map_last joined groups (keeps_of front) puts put in
       let S : List (List Put) → Type 0 = λ group. length group ≤ 64 in
       let A : List (List (List Put)) → Type 0 = λ l. All S l in
@@ -121,21 +127,27 @@ module _ {M : Type 0} (gives : M → Next → M → Type 0) (hears : M → Recei
       let T : List Event → Type 0 = λ l. AreCutShort l (traffic_of inner) in
       let whole =
       all ∙ ap J is ∙ ap (λ (l : List (List Put)). l ++ held) (joined_append others (group ∷ []))
-      ∙ append_assoc (joined others) (group ++ []) held ∙ ap (λ (l : List (List Put)). joined others ++ (l ++ held)) (append-nil group) in (
+      ∙ append_assoc (joined others) (group ++ []) held
+      ∙ ap (λ (l : List (List Put)). joined others ++ (l ++ held)) (append-nil group) in (
         group,
         of,
         all_last S others group (subst A is small),
-        all_wanted start front inner last (joined others) group held i.run (subst T (traffic_append front (Kept puts ∷ []) ∙ append-nil (traffic_of front)) i.traffic) whole,
+        all_wanted start front inner last (joined others) group held i.run
+            (subst T (traffic_append front (Kept puts ∷ []) ∙ append-nil (traffic_of front)) i.traffic) whole,
       )
 
   by : (start : M) (front inner : List Event) (new : Batched M) (last : M) (puts : List Put) →
       Inside gives hears reads start (front ++ Kept puts ∷ []) new inner last →
-      (replies : List (List Put)) × (puts ≡ joined replies) × (length replies ≤ 64) × All (WasWanted gives hears reads start front) replies
+      (replies : List (List Put)) × (puts ≡ joined replies) × (length replies ≤ 64) × All
+      (WasWanted gives hears reads start front) replies
   by start front inner new last [] i = ([], refl, omega arith, All-nil (WasWanted gives hears reads start front))
-  by start front inner new last (put ∷ puts) i = batch start front inner new last (put ∷ puts) (λ none. omega (arith, ap length none)) i refl
+  by start front inner new last (put ∷ puts) i = batch start front inner new last (put ∷ puts)
+      (λ none. omega (arith, ap length none)) i refl
 
   pub batches_are_replies : BatchesAreReplies gives hears reads
   batches_are_replies = λ old new front behind puts nothing chain.
-      let (mid, first, (next, one, more)) = split (BatchedSteps gives hears reads) old new front (Kept puts ∷ behind) chain in
-      let (inner, last, i) = inside gives hears reads old next (front ++ Kept puts ∷ []) nothing (pushed (BatchedSteps gives hears reads) old mid next front (Kept puts) first one) in
+      let (mid, first, (next, one, more)) = split (BatchedSteps gives hears reads) old new front (Kept puts ∷ behind)
+      chain in
+      let (inner, last, i) = inside gives hears reads old next (front ++ Kept puts ∷ []) nothing
+      (pushed (BatchedSteps gives hears reads) old mid next front (Kept puts) first one) in
       by old.machine front inner next last puts i

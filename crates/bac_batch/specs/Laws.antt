@@ -6,7 +6,7 @@ use Rattle.bac_archive3.specs.declared.row.Put.{Put}
 use Rattle.bac_desks.specs.Chain.{Chain}
 use Rattle.bac_ports.specs.Port.{Receiving}
 use Rattle.bac_drive.specs.Event.{Event, Kept, Printed, Read, Sent, Waited, Warned}
-use Rattle.bac_drive.specs.Happens.{Steps}
+use Rattle.bac_drive.specs.Happens.{Acts, Happens, Scene, Steps}
 use Rattle.bac_drive.specs.Laws.{puts_of}
 use Rattle.bac_drive.specs.declared.machine.Next.{Next}
 use Rattle.bac_drive.specs.declared.machine.Next.TheVariants as next
@@ -133,6 +133,12 @@ abbrev pub BatchedSteps : {M : Type 0} → (M → Next → M → Type 0) → (M 
     (M → ℕ → M → Type 0) → Batched M → Event → Batched M → Type 0
 BatchedSteps gives hears reads = Steps (GivesBatched gives) (HearsBatched hears) (ReadsBatched reads)
 
+-- What happens while a machine is driven is steps of the machine: so these laws speak of it too.
+abbrev pub StepsHappen : {M P C : Type 0} → Acts M P C → Type 0
+StepsHappen {M = M} {P = P} {C = C} acts =
+    (old new : Scene M P C) (es : List Event) → Chain (Happens acts) old es new →
+    Chain (Steps acts.gives acts.hears acts.reads) old.machine es new.machine
+
 -- Nothing is lost or made up: the machine inside makes such events.
 abbrev pub LosesNothing : {M : Type 0} → (M → Next → M → Type 0) → (M → Receiving → M → Type 0) →
     (M → ℕ → M → Type 0) → Type 0
@@ -166,7 +172,8 @@ LinesStandBehind {M = M} gives hears reads =
 abbrev pub WasWanted : {M : Type 0} → (M → Next → M → Type 0) → (M → Receiving → M → Type 0) → (M → ℕ → M → Type 0) →
     M → List Event → List Put → Type 0
 WasWanted {M = M} gives hears reads start front rows =
-    (before behind : List Event) × (last : M) × Chain (Steps gives hears reads) start (before ++ Kept rows ∷ behind) last
+    (before behind : List Event) × (last : M)
+    × Chain (Steps gives hears reads) start (before ++ Kept rows ∷ behind) last
     × ((early late : List Event) × (traffic_of front ≡ early ++ late) × AreCutShort early (traffic_of before))
 
 -- A batch is the rows of at most 64 replies, in order, each of which the machine inside wanted to be put before.

@@ -1,10 +1,19 @@
 //! Laws of batches, whatever machine is inside. Each function does nothing: what it ensures is the
 //! law.
 
+ghost use Rattle.bac_drive.specs.Happens.{acting};
 ghost use Rattle.bac_batch.specs.Laws.{BatchesAreReplies, EndsWhole, LinesStandBehind};
-ghost use Rattle.bac_batch.specs.Laws.{LosesNothing, WaitsWithYoungRows};
+ghost use Rattle.bac_batch.specs.Laws.{LosesNothing, StepsHappen, WaitsWithYoungRows};
 
+use bac_desks::Clock;
 use bac_drive::Machine;
+use bac_ports::Port;
+
+/// What happens while a machine is driven is steps of the machine, of which the other laws speak.
+pub fn steps_happen<M: Machine, P: Port, C: Clock>()
+    ensures { StepsHappen
+        (acting M.gives M.hears M.reads P.sends P.receives_within C.reads) }
+{}
 
 /// Nothing is lost or made up: of the machine inside there is a run with the same sends, datagrams
 /// and readings of the clock, whose rows and lines are those that were put and told, and those that

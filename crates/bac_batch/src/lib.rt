@@ -12,5 +12,6 @@ mod laws;
 
 pub use batching::Batching;
 pub use laws::{
-    batches_are_replies, ends_whole, lines_stand_behind, loses_nothing, waits_with_young_rows,
+    batches_are_replies, ends_whole, lines_stand_behind, loses_nothing, steps_happen,
+    waits_with_young_rows,
 };

@@ -16,5 +16,6 @@ pub mod SeatedRun
 pub mod Open
 pub mod Ended
 pub mod Losses
+pub mod Traffic
 pub mod Batches
 pub mod Statuses

@@ -1,6 +1,6 @@
 -- What a site makes of what comes and of time, whoever answers.
 use Rattle.std.specs.Prelude.{true, false, ◌≡◌, ◌⊎◌, ◌≤◌, ◌&&◌, ◌||◌, ◌==◌, nat_lt, max, is_some, ℕ, Bool}
-use Rattle.std.specs.Prelude.{if◌then◌else◌, List, remove, [], ◌∷◌, ◌++◌, count_by, Option, None, Some}
+use Rattle.std.specs.Prelude.{if◌then◌else◌, List, remove, length, [], ◌∷◌, ◌++◌, count_by, Option, None, Some}
 use Rattle.std.specs.List.{All, Contains}
 use Rattle.std.specs.Str.{bytes_eq}
 use Rattle.bac_wire.specs.Stamp.{CivilTime}
@@ -11,7 +11,7 @@ use Rattle.bac_drive.specs.Happens.{Acts, Steps, acting}
 use Rattle.bac_drive.specs.declared.machine.Next.{Next}
 use Rattle.bac_drive.specs.declared.machine.Next.TheVariants as next
 use Rattle.bac_batch.specs.Batch.{Batched, GivesBatched, HearsBatched, ReadsBatched}
-use Rattle.bac_batch.specs.Laws.{BatchedSteps, HoldsNothing, Inside}
+use Rattle.bac_batch.specs.Laws.{BatchedSteps, HoldsNothing, Inside, joined}
 use Rattle.bac_link.specs.declared.transactions.Pending.{Pending}
 use Rattle.bac_ports.specs.Port.{Receiving, Sending}
 use Rattle.bac_poll.specs.Turns.{Turned as LogTurned}
@@ -44,7 +44,8 @@ SiteBatchSteps = BatchedSteps GivesSite SiteHears SiteReads
 abbrev pub site_acts : {P C : Type 0} → (P → List ℕ → List ℕ → Sending → P → Type 0) →
     (P → ℕ → Receiving → P → Type 0) → (C → ℕ → C → Type 0) → Acts (Batched SiteState) P C
 site_acts sends receives tells =
-    acting (λ old given new. GivesBatched GivesSite old given new) (λ old heard new. HearsBatched SiteHears old heard new)
+    acting (λ old given new. GivesBatched GivesSite old given new)
+    (λ old heard new. HearsBatched SiteHears old heard new)
     (λ old ms new. ReadsBatched SiteReads old ms new) sends receives tells
 
 -- ---- limits
@@ -245,15 +246,22 @@ AllHaveEnded =
 
 -- ---- batches
 
--- Of a site whose rows are put in batches: the site inside makes such events that the batches are the rows of its
--- replies, in order, and its lines stand behind them; each of those rows came; and its open questions are as few.
+-- Of a site whose rows are put in batches: what is put in one transaction is the rows of at most 64 replies, in order,
+-- each of which is what the poll of a device makes of an answer that came to its question, or of none.
 abbrev pub BatchesCome : Type 0
 BatchesCome =
+    (old new : Batched SiteState) (front behind : List Event) (puts : List Put) → HoldsNothing old →
+    IsUnasked old.machine → Chain SiteBatchSteps old (front ++ Kept puts ∷ behind) new →
+    (replies : List (List Put)) × (puts ≡ joined replies) × (length replies ≤ 64)
+    × All (AreCome old.machine.waiting front) replies
+
+-- The site inside makes such events that nothing is lost or made up by the batches, and never more of its questions are
+-- open than the limits say.
+abbrev pub BatchesWithin : Type 0
+BatchesWithin =
     (old new : Batched SiteState) (es : List Event) → HoldsNothing old → IsUnasked old.machine →
     Chain SiteBatchSteps old es new →
     (inner : List Event) × (last : SiteState) × Inside GivesSite SiteHears SiteReads old.machine es new inner last
-    × ((front behind : List Event) (puts : List Put) → inner ≡ front ++ Kept puts ∷ behind →
-    AreCome old.machine.waiting front puts)
     × IsOpenWithin old.machine last
 
 -- When it has ended, so have all of its devices.

@@ -1,7 +1,8 @@
 //! Laws of a site that is polled. Each function does nothing: what it ensures is the law.
 
 ghost use Rattle.bac_site_poller.specs.SiteLaws.{AllHaveEnded, AskInTurn, BatchesCome, BatchesEnd};
-ghost use Rattle.bac_site_poller.specs.SiteLaws.{BeginsUnasked, GoAlone, KeepsToLimits};
+ghost use Rattle.bac_site_poller.specs.SiteLaws.{BatchesWithin, BeginsUnasked, GoAlone};
+ghost use Rattle.bac_site_poller.specs.SiteLaws.{KeepsToLimits};
 ghost use Rattle.bac_site_poller.specs.SiteLaws.{LossesBringNone, OpenWithin, OthersNotHeeded};
 ghost use Rattle.bac_site_poller.specs.SiteLaws.{RepeatsAreMarked, SiteRowsCame, SiteSendsAsk};
 ghost use Rattle.bac_site_poller.specs.SiteLaws.{StaysWithin, WantsWithin, WithinLimits};
@@ -77,11 +78,16 @@ pub fn all_have_ended()
     ensures { AllHaveEnded }
 {}
 
-/// The batches of a site are the rows of its replies, in order, each of which came in answer to a
-/// question that had been sent before, and its lines stand behind them; never more of its questions
-/// are open than the limits say.
+/// What a site puts in one transaction is the rows of at most 64 replies, in order, each of which
+/// came in answer to a question that had been sent before, or of none.
 pub fn batches_come()
     ensures { BatchesCome }
+{}
+
+/// Nothing is lost or made up by the batches of a site, and never more of its questions are open
+/// than the limits say.
+pub fn batches_within()
+    ensures { BatchesWithin }
 {}
 
 /// When a site whose rows are put in batches has ended, so have all of its devices.

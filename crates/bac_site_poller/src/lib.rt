@@ -15,8 +15,8 @@ mod site;
 
 pub use hosts::Host;
 pub use laws::{
-    all_have_ended, ask_in_turn, batches_come, batches_end, begins_unasked, ends_are_counted,
-    go_alone, keeps_to_limits, losses_bring_none, open_within, others_not_heeded,
+    all_have_ended, ask_in_turn, batches_come, batches_end, batches_within, begins_unasked,
+    ends_are_counted, go_alone, keeps_to_limits, losses_bring_none, open_within, others_not_heeded,
     repeats_are_marked, site_rows_came, site_sends_ask, status_never_falls, stays_within,
     wants_within, within_limits,
 };
