@@ -20,6 +20,7 @@ pub mod Served
 pub mod Few
 pub mod Jobs
 pub mod Kept
+pub mod Unfit
 pub mod Lists
 pub mod Listed
 pub mod Epochs

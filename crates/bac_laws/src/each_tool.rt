@@ -246,7 +246,8 @@ where
 }
 
 /// `kept` of a file, in lines, that ends with 0 prints what the file holds: of each log that is
-/// chosen the line that names it, and a line for each row of its items.
+/// chosen the line that names it, and a line for each row of its items. Where it ends with 1
+/// it prints nothing and opens no file.
 pub fn kept_prints_its_rows<
     S: Tracing + Recalls,
     F: Start,
@@ -267,11 +268,14 @@ pub fn kept_prints_its_rows<
 ) -> u8
 where
     W: Drop,
-    ensures { (said : KeptWords) → AskFor (map string_bytes words.now) (job.Kept said)
+    ensures prints { (said : KeptWords) → AskFor (map string_bytes words.now) (job.Kept said)
         → said.csv ≡ false → result ≡ 0
         → (listing : Listing) × (listed : Q) × Q.lists machine.old.folders said.file listing listed
         × (listing ≡ Ok None → PrintsFileRows ⟦<FileOf<F> as Disk>⟧ (image_at F.Start) said
         (O.contents console.old.output) (O.contents console.new.output) machine.new.files.closed) }
+    ensures unfit { (said : KeptWords) → AskFor (map string_bytes words.now) (job.Kept said)
+        → result ≡ 1 → (O.contents console.new.output ≡ O.contents console.old.output)
+        × (machine.new.files ≡ machine.old.files) }
 {
     run(machine, console, alloc, waits, words, counts)
 }
