@@ -1,5 +1,5 @@
 pub mod PutLemmas
 pub mod EntryLemmas
+pub mod Statuses
 pub mod Opened
 pub mod Seeks
-pub mod Statuses

@@ -2,6 +2,7 @@ pub mod Puts
 pub mod Counts
 pub mod Ending
 pub mod Status
+pub mod StatusLaws
 pub mod Ids
 pub mod Rows
 pub mod Naming
@@ -10,4 +11,3 @@ pub mod Entries
 pub mod Turns
 pub mod Poller
 pub mod Laws
-pub mod StatusLaws

@@ -1,5 +1,6 @@
 pub mod Places
 pub mod Strays
+pub mod Statuses
 pub mod Same
 pub mod Told
 pub mod Within
@@ -16,4 +17,3 @@ pub mod SeatedRun
 pub mod Open
 pub mod Ended
 pub mod Losses
-pub mod Statuses

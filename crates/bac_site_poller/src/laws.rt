@@ -5,7 +5,6 @@ ghost use Rattle.bac_site_poller.specs.SiteLaws.{KeepsToLimits, LossesBringNone,
 ghost use Rattle.bac_site_poller.specs.SiteLaws.{OthersNotHeeded};
 ghost use Rattle.bac_site_poller.specs.SiteLaws.{RepeatsAreMarked, SiteRowsCame, SiteSendsAsk};
 ghost use Rattle.bac_site_poller.specs.SiteLaws.{StaysWithin, WantsWithin, WithinLimits, site_acts};
-ghost use Rattle.bac_site_poller.specs.Status.{EndsAreCounted, StatusNeverFalls};
 
 use bac_desks::Clock;
 use bac_ports::Port;
@@ -78,16 +77,6 @@ pub fn losses_bring_none()
 /// When a site has ended, so have all of its devices, and none is left out.
 pub fn all_have_ended<P: Port, C: Clock>()
     ensures { AllHaveEnded (site_acts P.sends P.receives_within C.reads) }
-{}
-
-/// Whatever a site wants, and whatever comes, its status never falls.
-pub fn status_never_falls()
-    ensures { StatusNeverFalls }
-{}
-
-/// No device that is silent, or is another one, is left out of the status of its site.
-pub fn ends_are_counted()
-    ensures { EndsAreCounted }
 {}
 
 /// A site to which new devices were added alone has asked none of them.
