@@ -1,8 +1,8 @@
 pub mod PutLemmas
 pub mod EntryLemmas
+pub mod Statuses
 pub mod Opened
 pub mod Seeks
-pub mod Statuses
 pub mod LogTurns
 pub mod Silence
 pub mod SilentSteps

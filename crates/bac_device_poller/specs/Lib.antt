@@ -2,6 +2,7 @@ pub mod Puts
 pub mod Counts
 pub mod Ending
 pub mod Status
+pub mod StatusLaws
 pub mod Ids
 pub mod Rows
 pub mod Naming

@@ -1,26 +1,14 @@
-//! What a device's poll sends, what its status says, and whom it asks no more, whoever answers. Each
-//! function does nothing: what it ensures is the law.
+//! What a device's poll sends, and whom it asks no more, whoever answers. Each function does
+//! nothing: what it ensures is the law.
 
 ghost use Rattle.bac_device_poller.specs.Laws.{SendsQuestions};
-ghost use Rattle.bac_device_poller.specs.Silence.{AsksNoMore, EndedAreOut, EndsSilent};
+ghost use Rattle.bac_device_poller.specs.Silence.{AsksNoMore, EndedAreOut, EndsAsTold, EndsSilent};
 ghost use Rattle.bac_device_poller.specs.Silence.{LostStopsNone, PollsOnce, WaitsOnce};
 ghost use Rattle.bac_device_poller.specs.Silence.{WaitsOnceFirst};
-ghost use Rattle.bac_device_poller.specs.StatusLaws.{LogsAreCounted, StatusIsTold};
 
 /// What is sent to ask is the question of the device's poll, to the device.
 pub fn sends_questions()
     ensures { SendsQuestions }
-{}
-
-/// The status of a device's poll never falls, and rises only with what is told, or as the device is
-/// left. It is no less than that of why it is.
-pub fn status_is_told()
-    ensures { StatusIsTold }
-{}
-
-/// A log whose poll ends leaves no less than the status of how it does.
-pub fn logs_are_counted()
-    ensures { LogsAreCounted }
 {}
 
 /// A device that falls silent while its logs are polled is waited for once, and for one wait more,
@@ -43,9 +31,10 @@ pub fn lost_stops_none()
     ensures { LostStopsNone }
 {}
 
-/// A device of which nothing more is asked is sent nothing more.
+/// A device whose poll has ended is sent nothing more.
 pub fn asks_no_more()
-    ensures { AsksNoMore }
+    ensures ends { EndsAsTold }
+    ensures ended { AsksNoMore }
 {}
 
 /// Each log is polled once, in its turn: one whose poll has ended isn't asked again.

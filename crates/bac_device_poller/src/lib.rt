@@ -22,6 +22,7 @@ mod poller;
 mod putting;
 mod rows;
 mod status;
+mod status_laws;
 mod telling;
 mod texts;
 mod transacting;
@@ -32,8 +33,7 @@ pub use doing::{Came, Doing};
 pub use ending::{Ending, ended_line, is_caught_up, push_count, told_line};
 pub use ids::Ids;
 pub use laws::{
-    asks_no_more, ends_silent, logs_are_counted, lost_stops_none, polls_once, sends_questions,
-    status_is_told, waits_once,
+    asks_no_more, ends_silent, lost_stops_none, polls_once, sends_questions, waits_once,
 };
 pub use line::Line;
 pub use log_record::LogRecord;
@@ -41,5 +41,6 @@ pub use poller::DevicePoller;
 pub use putting::{NotPut, put_turn};
 pub use rows::Rows;
 pub use status::{Status, status_at, status_of};
+pub use status_laws::{logs_are_counted, status_is_told};
 pub use telling::told_by;
 pub use transacting::{awaits, close};

@@ -1,5 +1,6 @@
 pub mod Places
 pub mod Strays
+pub mod Statuses
 pub mod Same
 pub mod Told
 pub mod Within
@@ -18,4 +19,3 @@ pub mod Ended
 pub mod Losses
 pub mod Traffic
 pub mod Batches
-pub mod Statuses

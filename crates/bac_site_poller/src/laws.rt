@@ -6,7 +6,6 @@ ghost use Rattle.bac_site_poller.specs.SiteLaws.{KeepsToLimits};
 ghost use Rattle.bac_site_poller.specs.SiteLaws.{LossesBringNone, OpenWithin, OthersNotHeeded};
 ghost use Rattle.bac_site_poller.specs.SiteLaws.{RepeatsAreMarked, SiteRowsCame, SiteSendsAsk};
 ghost use Rattle.bac_site_poller.specs.SiteLaws.{StaysWithin, WantsWithin, WithinLimits};
-ghost use Rattle.bac_site_poller.specs.Status.{EndsAreCounted, StatusNeverFalls};
 
 /// A datagram changes nothing for a device that it isn't an answer of.
 pub fn others_not_heeded()
@@ -93,16 +92,6 @@ pub fn batches_within()
 /// When a site whose rows are put in batches has ended, so have all of its devices.
 pub fn batches_end()
     ensures { BatchesEnd }
-{}
-
-/// Whatever a site wants, and whatever comes, its status never falls.
-pub fn status_never_falls()
-    ensures { StatusNeverFalls }
-{}
-
-/// No device that is silent, or is another one, is left out of the status of its site.
-pub fn ends_are_counted()
-    ensures { EndsAreCounted }
 {}
 
 /// A site to which new devices were added alone has asked none of them.

@@ -12,16 +12,17 @@ mod news;
 mod polling;
 mod seat;
 mod site;
+mod status_laws;
 
 pub use hosts::Host;
 pub use laws::{
     all_have_ended, ask_in_turn, batches_come, batches_end, batches_within, begins_unasked,
-    ends_are_counted, go_alone, keeps_to_limits, losses_bring_none, open_within, others_not_heeded,
-    repeats_are_marked, site_rows_came, site_sends_ask, status_never_falls, stays_within,
-    wants_within, within_limits,
+    go_alone, keeps_to_limits, losses_bring_none, open_within, others_not_heeded,
+    repeats_are_marked, site_rows_came, site_sends_ask, stays_within, wants_within, within_limits,
 };
 pub use limits::Limits;
 pub use news::News;
 pub use polling::poll_devices;
 pub use seat::Seat;
 pub use site::SitePoller;
+pub use status_laws::{ends_are_counted, status_never_falls};
