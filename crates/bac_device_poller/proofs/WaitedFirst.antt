@@ -1,5 +1,5 @@
 -- A device that doesn't answer before its logs are polled is waited for once.
-use Rattle.std.proofs.Common.{◌≡◌, ◌∙◌, ◌<◌, ◌≤◌, ◌+◌, ◌-◌, ℕ, Bool, true, false, if◌then◌else◌, nat_le, nat_lt, List}
+use Rattle.std.proofs.Common.{◌≡◌, ◌∙◌, ◌≤◌, ◌+◌, ◌-◌, ℕ, Bool, true, false, if◌then◌else◌, nat_le, nat_lt, List}
 use Rattle.std.proofs.Common.{[], ◌∷◌, count_by, Option, None, Some, ap, sym, refl, subst, arith}
 use Rattle.std.proofs.lemmas.Bool.{leb-false, ltb-true}
 use Rattle.bac_archive3.specs.declared.row.Put.{Put}
@@ -17,14 +17,13 @@ use Rattle.bac_device_poll.specs.Turns.{Turned, leaves}
 use Rattle.bac_device_poll.specs.Way.{who_is_octets}
 use Rattle.bac_device_poll.specs.declared.question.Question.{Question}
 use Rattle.bac_device_poll.specs.declared.question.Question.TheVariants.{Confirmed, Nothing, WhoIs}
-use Rattle.bac_device_poll.specs.declared.task.Polled.{Polled}
 use Rattle.bac_device_poll.specs.declared.turn.DeviceEnd.{DeviceEnd}
 use Rattle.bac_device_poll.specs.declared.turn.DeviceEnd.TheVariants.{Silent}
-use Rattle.bac_device_poller.specs.Poller.{AsksNext, GivesBy, PollerAs, Settles, TellsNext, doing_with, end_at, given_up}
-use Rattle.bac_device_poller.specs.Poller.{is_none_told, is_waiting, is_who_is, lost_of, missed, seeks, sought_again}
+use Rattle.bac_device_poller.specs.Poller.{AsksNext, GivesBy, PollerAs, Settles, TellsNext, doing_with, given_up}
+use Rattle.bac_device_poller.specs.Poller.{is_none_told, is_waiting, is_who_is, lost_of, missed, sought_again}
 use Rattle.bac_device_poller.specs.Poller.{without_answer}
-use Rattle.bac_device_poller.specs.Silence.{Answered, Happening, Happens, IsAsking, IsUnanswered, Lent, Missed, Runs}
-use Rattle.bac_device_poller.specs.Silence.{Wanted, WaitsOnceFirst, end_of, first_in_vain, is_send, is_sent}
+use Rattle.bac_device_poller.specs.Silence.{Answered, Happening, IsAsking, IsUnanswered, Lent, Missed, Runs}
+use Rattle.bac_device_poller.specs.Silence.{Wanted, WaitsOnceFirst, first_in_vain, is_send, is_sent}
 use Rattle.bac_device_poller.specs.Telling.{LineAs}
 use Rattle.bac_device_poller.specs.declared.doing.Doing.{Doing}
 use Rattle.bac_device_poller.specs.declared.ids.Ids.{Ids}
@@ -111,7 +110,7 @@ sent_first (Confirmed request) old (next.Send octets to) new on (o, t, is) =
     let e : left_of new ≡ repeats_left old.transactions.retries (begun_with request old.transactions).pending =
     ap left_of is ∙ ap (λ (x : Question). out_left x n) on.asks in record {
       unheard = let P : PollerAs → Type 0 = λ p. Unheard p.doing p in
-      subst P (sym is) (Confirmed request, record { polled = on.polled; asks = on.asks; is = tt });
+          subst P (sym is) (Confirmed request, record { polled = on.polled; asks = on.asks; is = tt });
       less = omega (arith, e);
     }
 sent_first (Confirmed request) old wanted new on asks = absurd asks
@@ -119,7 +118,7 @@ sent_first WhoIs old (next.Send octets to) new on (o, t, is) =
     let n : PollerAs = record old { sought = 0; doing = doing.Waits } in
     let e : left_of new ≡ (old.retries - 0) + (old.transactions.retries + 1) = ap left_of is ∙ ap (λ (x : Question). out_left x n) on.asks in record {
       unheard = let P : PollerAs → Type 0 = λ p. Unheard p.doing p in
-      subst P (sym is) (WhoIs, record { polled = on.polled; asks = on.asks; is = tt });
+          subst P (sym is) (WhoIs, record { polled = on.polled; asks = on.asks; is = tt });
       less = omega (arith, e);
     }
 sent_first WhoIs old wanted new on asks = absurd asks
@@ -157,7 +156,7 @@ tells_less (line ∷ lines) end old wanted new on (w, is) =
     let none : tally (is_send wanted) ≡ 0 = ap tally (told_send line.good line.text wanted w) in
     let same = left_with (asked_of_device old.poll) n end (is_none_told lines) in record {
       unheard = let P : PollerAs → Type 0 = λ p. Unheard p.doing p in
-      subst P (sym is) (unheard_with end (is_none_told lines) n (told_on end old (is_none_told lines) lines on));
+          subst P (sym is) (unheard_with end (is_none_told lines) n (told_on end old (is_none_told lines) lines on));
       less = let f = e ∙ same ∙ told_same end in omega (arith, f, none);
     }
   where
@@ -214,7 +213,7 @@ gives_less doing.Asks old wanted new at (question, on) gives =
 gives_less (doing.Resends datagram) old (next.Send octets to) new at (question, on) (o, t, is) =
     let e : left_of new ≡ out_left (asked_of_device old.poll) old = ap left_of is ∙ out_same (asked_of_device old.poll) old in record {
       unheard = let P : PollerAs → Type 0 = λ p. Unheard p.doing p in
-      subst P (sym is) (question, record { polled = on.polled; asks = on.asks; is = on.is });
+          subst P (sym is) (question, record { polled = on.polled; asks = on.asks; is = on.is });
       less = omega (arith, e);
     }
 gives_less (doing.Resends datagram) old wanted new at on gives = absurd gives
@@ -222,7 +221,7 @@ gives_less doing.Waits old wanted new at on (w, is) =
     let e : left_of new ≡ out_left (asked_of_device old.poll) old = ap left_of is ∙ ap (left_at (asked_of_device old.poll) old) at in
     let none : tally (is_send wanted) ≡ 0 = ap (λ (w : Next). tally (is_send w)) w in record {
       unheard = let P : PollerAs → Type 0 = λ p. Unheard p.doing p in let Q : Doing → Type 0 = λ d. Unheard d old in
-      subst P (sym is) (subst Q (sym at) on);
+          subst P (sym is) (subst Q (sym at) on);
       less = omega (arith, e, none);
     }
 gives_less (doing.Hears came) old wanted new at on gives = absurd on
@@ -234,7 +233,7 @@ gives_less (doing.Ended why) old wanted new at on (w, is) =
     let e : left_of new ≡ 0 = ap left_of is ∙ ap (left_at (asked_of_device old.poll) old) at in
     let none : tally (is_send wanted) ≡ 0 = ap (λ (w : Next). tally (is_send w)) w in record {
       unheard = let P : PollerAs → Type 0 = λ p. Unheard p.doing p in let Q : Doing → Type 0 = λ d. Unheard d old in
-      subst P (sym is) (subst Q (sym at) on);
+          subst P (sym is) (subst Q (sym at) on);
       less = omega (arith, e, none);
     }
 

@@ -2,7 +2,7 @@
 //! nothing: what it ensures is the law.
 
 ghost use Rattle.bac_device_poller.specs.Laws.{SendsQuestions};
-ghost use Rattle.bac_device_poller.specs.Silence.{AsksNoMore, EndedAreOut, EndsSilent};
+ghost use Rattle.bac_device_poller.specs.Silence.{AsksNoMore, EndedAreOut, EndsAsTold, EndsSilent};
 ghost use Rattle.bac_device_poller.specs.Silence.{LostStopsNone, PollsOnce, WaitsOnce};
 ghost use Rattle.bac_device_poller.specs.Silence.{WaitsOnceFirst};
 
@@ -31,9 +31,10 @@ pub fn lost_stops_none()
     ensures { LostStopsNone }
 {}
 
-/// A device of which nothing more is asked is sent nothing more.
+/// A device whose poll has ended is sent nothing more.
 pub fn asks_no_more()
-    ensures { AsksNoMore }
+    ensures ends { EndsAsTold }
+    ensures ended { AsksNoMore }
 {}
 
 /// Each log is polled once, in its turn: one whose poll has ended isn't asked again.

@@ -30,7 +30,9 @@ pub use counts::Counts;
 pub use doing::{Came, Doing};
 pub use ending::{Ending, ended_line, is_caught_up, push_count, told_line};
 pub use ids::Ids;
-pub use laws::sends_questions;
+pub use laws::{
+    asks_no_more, ends_silent, lost_stops_none, polls_once, sends_questions, waits_once,
+};
 pub use line::Line;
 pub use log_record::LogRecord;
 pub use poller::DevicePoller;
