@@ -1,5 +1,5 @@
 -- What comes of the question of a log: which logs are left then.
-use Rattle.std.proofs.Common.{◌≡◌, ◌∙◌, ◌⊎◌, inl, inr, ℕ, ◌&&◌, nat_lt, Bool, true, false, if◌then◌else◌, List, [], ◌∷◌}
+use Rattle.std.proofs.Common.{◌≡◌, ◌∙◌, ℕ, ◌&&◌, nat_lt, Bool, true, false, if◌then◌else◌, List, [], ◌∷◌}
 use Rattle.std.proofs.Common.{◌++◌, map, MatchBool, Option, None, Some, ap, sym, refl, subst, append-nil}
 use Rattle.bac_wire.specs.Primitive.{Id}
 use Rattle.bac_wire.specs.Stamp.{CivilTime}
@@ -10,12 +10,11 @@ use Rattle.bac_poll_steps.specs.declared.turn.PollEnd.{PollEnd}
 use Rattle.bac_poll_steps.specs.declared.turn.PollEnd.TheVariants.{Fault}
 use Rattle.bac_walk.specs.declared.outcome.WalkFault.TheVariants as walk
 use Rattle.bac_device_poll.specs.Laws.{ended_in, left, not_asked_in, waiting}
-use Rattle.bac_device_poll.specs.Logs.{after_log, after_loss, begins_with, halved, is_too_many, log_after, with_log}
-use Rattle.bac_device_poll.specs.Poll.{Takes, answered, asked_of_device, later, verdict_to}
+use Rattle.bac_device_poll.specs.Logs.{after_loss, begins_with, halved, is_too_many, log_after, with_log}
+use Rattle.bac_device_poll.specs.Poll.{Takes, answered, asked_of_device, verdict_to}
 use Rattle.bac_device_poll.specs.Refusals.{is_busy}
 use Rattle.bac_device_poll.specs.State.{DeviceState, LogAs}
 use Rattle.bac_device_poll.specs.Turns.{Turned, not_asked}
-use Rattle.bac_device_poll.specs.declared.stage.Stage.{Stage}
 use Rattle.bac_device_poll.specs.declared.stage.Stage.TheVariants as stage
 use Rattle.bac_device_poll.specs.declared.task.Polled.{Polled}
 use Rattle.bac_device_poll.specs.declared.turn.DeviceEnd.{DeviceEnd}

@@ -1,36 +1,29 @@
--- Behind a log that is lost: the next one, or the end of a silent device.
-use Rattle.std.proofs.Common.{◌≡◌, ◌∙◌, ℕ, Bool, true, false, if◌then◌else◌, List, [], ◌∷◌, ◌++◌, map, Option, None, Some}
-use Rattle.std.proofs.Common.{ap, sym, refl, subst, append_assoc, append-nil}
-use Rattle.bac_wire.specs.Primitive.{Id}
-use Rattle.bac_wire.specs.Stamp.{CivilTime}
-use Rattle.bac_archive3.specs.declared.row.Put.{Put}
+-- Behind a log that is lost: the next one, unless no answer came since the log before was lost.
+use Rattle.std.proofs.Common.{◌≡◌, ◌≢◌, ◌∙◌, Bool, true, false, List, [], ◌∷◌, Option, None, Some, ap, sym, refl, subst}
+use Rattle.bac_link.specs.declared.request.Request.{Request}
 use Rattle.bac_drive.specs.declared.machine.Next.{Next}
 use Rattle.bac_drive.specs.declared.machine.Next.TheVariants as next
-use Rattle.bac_poll.specs.Turns.{Turned as LogTurned}
-use Rattle.bac_poll.specs.State.{ToldAs}
-use Rattle.bac_poll_steps.specs.declared.turn.Line.{Line}
-use Rattle.bac_poll_steps.specs.declared.turn.PollEnd.{PollEnd}
+use Rattle.bac_poll.specs.Poll.{asked_by_poll}
 use Rattle.bac_device_poll.specs.Identity.{device_of}
-use Rattle.bac_device_poll.specs.Laws.{left}
 use Rattle.bac_device_poll.specs.Logs.{after_loss, begins_with}
 use Rattle.bac_device_poll.specs.State.{DeviceState, LogAs, begun}
-use Rattle.bac_device_poll.specs.Turns.{Turned, not_asked}
+use Rattle.bac_device_poll.specs.Turns.{Turned}
+use Rattle.bac_device_poll.specs.declared.question.Question.{Question}
+use Rattle.bac_device_poll.specs.declared.question.Question.TheVariants.{Confirmed}
 use Rattle.bac_device_poll.specs.declared.stage.Stage.TheVariants as stage
 use Rattle.bac_device_poll.specs.declared.task.Polled.{Polled}
 use Rattle.bac_device_poll.specs.declared.turn.DeviceEnd.{DeviceEnd}
-use Rattle.bac_device_poller.specs.Entries.{RowsAs, log_in, putting_device, with_entries, without}
-use Rattle.bac_device_poller.specs.Naming.{has_word}
-use Rattle.bac_device_poller.specs.Poller.{GivesBy, PollerAs, Settles, end_at, putting_answered}
-use Rattle.bac_device_poller.specs.Puts.{PlaceAs, PutAs}
-use Rattle.bac_device_poller.specs.Rows.{LogAs as LogRowAs}
-use Rattle.bac_device_poller.specs.Silence.{EndsSilent, IsBegun, IsPolling, LostStopsNone, asks_next, end_of}
-use Rattle.bac_device_poller.specs.Silence.{not_asked_as}
+use Rattle.bac_device_poller.specs.Poller.{AsksNext, GivesBy, PollerAs, Settles, TellsNext, end_at}
+use Rattle.bac_device_poller.specs.Silence.{Answered, Happening, Happens, IsBegun, IsPolling, Lent, LostStopsNone, Missed}
+use Rattle.bac_device_poller.specs.Silence.{Wanted, asks_next}
 use Rattle.bac_device_poller.specs.Telling.{LineAs}
-use Rattle.bac_device_poller.specs.Turns.{TakesOf, keeping, retelling, telling_any_end, telling_line, telling_turn, turning}
 use Rattle.bac_device_poller.specs.declared.doing.Came.{Came}
+use Rattle.bac_device_poller.specs.declared.doing.Doing.{Doing}
 use Rattle.bac_device_poller.specs.declared.doing.Doing.TheVariants as doing
-use Rattle.bac_device_poller.proofs.LogTurns.{Polls, at_log, behind}
-use Rattle.bac_device_poller.proofs.Silence.{Settled, asks_with, by_log, comes_is, end_with, hears, lost_is, settled}
+use Rattle.bac_device_poller.proofs.LogTurns.{at_log, behind}
+use Rattle.bac_device_poller.proofs.Silence.{Settled, asked_is, asks_with, by_log, comes_is, hears, lost_is, settled}
+use Rattle.bac_device_poller.proofs.SilentSteps.{heard_is}
+use Rattle.bac_device_poller.proofs.SilentRuns.{missed_poll}
 
 -- ---- the next log
 
@@ -71,8 +64,49 @@ begun_next old new q task rest on sure logs s =
     lost_at : (b : Bool) → b ≡ false → old.poll.logs ≡ task ∷ rest → NextOf task rest (at_log old.poll q b) (behind (after_loss (at_log old.poll q b)))
     lost_at b none is = let n = lost_next b old.poll q task rest none is in record { stage = n.stage; polled = n.polled; logs = n.logs; goes = n.goes }
 
+-- ---- only a loss puts the next one in doubt
+
+by_answer : (old new : PollerAs) (q : Polled) (came : Came) (wanted : Next) → IsPolling old q →
+    GivesBy (doing.Hears came) old wanted new → new.poll.doubt ≡ false
+by_answer old new q came (next.Keep puts) on (t, comes, settles) =
+    ap (λ (d : DeviceState). d.doubt) (settled t old puts.items new settles).poll
+    ∙ (hears old q came.datagram came.at t on (comes_is old q came t on comes)).doubt
+by_answer old new q came wanted on gives = absurd gives
+
+sure_same : (old new : PollerAs) → new.poll ≡ old.poll → old.poll.doubt ≡ false → new.poll.doubt ≡ false
+sure_same old new is sure = ap (λ (d : DeviceState). d.doubt) is ∙ sure
+
+sure_asks : (request : Request) (old : PollerAs) (wanted : Next) (new : PollerAs) → AsksNext (Confirmed request) old wanted new → new.poll ≡ old.poll
+sure_asks request old (next.Send octets to) new (o, t, is) = ap (λ (x : PollerAs). x.poll) is
+sure_asks request old wanted new asks = absurd asks
+
+sure_tells : (lines : List LineAs) (end : Option DeviceEnd) (old : PollerAs) (wanted : Next) (new : PollerAs) →
+    TellsNext lines end old wanted new → new.poll ≡ old.poll
+sure_tells [] end old wanted new (w, is) = ap (λ (x : PollerAs). x.poll) is
+sure_tells (line ∷ lines) end old wanted new (w, is) = ap (λ (x : PollerAs). x.poll) is
+
+sure_gives : (what : Doing) (old : PollerAs) (wanted : Next) (new : PollerAs) (q : Polled) → IsPolling old q → old.poll.doubt ≡ false →
+    what ≢ doing.Loses → GivesBy what old wanted new → new.poll.doubt ≡ false
+sure_gives doing.Asks old wanted new q on sure other gives =
+    sure_same old new (sure_asks (asked_by_poll q.poll) old wanted new (subst (λ (x : Question). AsksNext x old wanted new) (asked_is old q on) gives)) sure
+sure_gives (doing.Resends datagram) old (next.Send octets to) new q on sure other (o, t, is) = sure_same old new (ap (λ (x : PollerAs). x.poll) is) sure
+sure_gives (doing.Resends datagram) old wanted new q on sure other gives = absurd gives
+sure_gives doing.Waits old wanted new q on sure other (w, is) = sure_same old new (ap (λ (x : PollerAs). x.poll) is) sure
+sure_gives (doing.Hears came) old wanted new q on sure other gives = by_answer old new q came wanted on gives
+sure_gives doing.Loses old wanted new q on sure other gives = absurd (other refl)
+sure_gives (doing.Tells end) old wanted new q on sure other gives = sure_same old new (sure_tells old.rows.lines end old wanted new gives) sure
+sure_gives (doing.Ended why) old wanted new q on sure other (w, is) = sure_same old new (ap (λ (x : PollerAs). x.poll) is) sure
+
+stays_sure : (old new : PollerAs) (q : Polled) (h : Happening) → IsPolling old q → old.poll.doubt ≡ false →
+    old.doing ≢ doing.Loses → Happens old h new → new.poll.doubt ≡ false
+stays_sure old new q (Lent ids) on sure other is = sure_same old new (ap (λ (x : PollerAs). x.poll) is) sure
+stays_sure old new q (Wanted wanted) on sure other gives = sure_gives old.doing old wanted new q on sure other gives
+stays_sure old new q (Answered from datagram now) on sure other (fits, is) =
+    sure_same old new (ap (λ (x : PollerAs). x.poll) (is ∙ heard_is old from datagram now fits)) sure
+stays_sure old new q Missed on sure other (waits, is) = sure_same old new (ap (λ (x : PollerAs). x.poll) is ∙ missed_poll old) sure
+
 pub lost_stops_none : LostStopsNone
-lost_stops_none = (by_loss, by_answer)
+lost_stops_none = (by_loss, by_answer, stays_sure)
   where
     by_loss : (old new : PollerAs) (q : Polled) (task : LogAs) (rest : List LogAs) (wanted : Next) → IsPolling old q →
         old.poll.doubt ≡ false → old.poll.logs ≡ task ∷ rest → GivesBy doing.Loses old wanted new → IsBegun task rest old new
@@ -80,10 +114,3 @@ lost_stops_none = (by_loss, by_answer)
         begun_next old new q task rest on sure logs (settled (after_loss old.poll) old puts.items new
         (subst (λ (t : Turned). Settles t old puts.items new) (lost_is old q on) settles))
     by_loss old new q task rest wanted on sure logs gives = absurd gives
-
-    by_answer : (old new : PollerAs) (q : Polled) (came : Came) (wanted : Next) → IsPolling old q →
-        GivesBy (doing.Hears came) old wanted new → new.poll.doubt ≡ false
-    by_answer old new q came (next.Keep puts) on (t, comes, settles) =
-        ap (λ (d : DeviceState). d.doubt) (settled t old puts.items new settles).poll
-        ∙ (hears old q came.datagram came.at t on (comes_is old q came t on comes)).doubt
-    by_answer old new q came wanted on gives = absurd gives

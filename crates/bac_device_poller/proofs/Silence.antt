@@ -1,15 +1,8 @@
 -- A step of a device's poll while its logs are polled, and behind its end.
-use Rattle.std.proofs.Common.{◌≡◌, ◌∙◌, ◌⊎◌, inl, inr, ℕ, ◌&&◌, Bool, true, false, if◌then◌else◌, List, [], ◌∷◌}
-use Rattle.std.proofs.Common.{◌++◌, map, Option, None, Some, ap, sym, refl, subst}
-use Rattle.std.specs.Str.{bytes_eq}
-use Rattle.bac_wire.specs.Primitive.{Id}
+use Rattle.std.proofs.Common.{◌≡◌, ◌∙◌, inl, inr, ℕ, Bool, true, false, if◌then◌else◌, List}
+use Rattle.std.proofs.Common.{◌++◌, Option, None, Some, ap, sym, refl, subst}
 use Rattle.bac_wire.specs.Stamp.{CivilTime}
 use Rattle.bac_archive3.specs.declared.row.Put.{Put}
-use Rattle.bac_link.specs.declared.request.Request.{Request}
-use Rattle.bac_link.specs.Transactions.{is_awaited}
-use Rattle.bac_link.specs.declared.transactions.Pending.{Pending}
-use Rattle.bac_drive.specs.declared.machine.Next.{Next}
-use Rattle.bac_drive.specs.declared.machine.Next.TheVariants as next
 use Rattle.bac_poll.specs.Poll.{asked_by_poll}
 use Rattle.bac_device_poll.specs.Laws.{ended_in, left, not_asked_in}
 use Rattle.bac_device_poll.specs.Identity.{after_i_am}
@@ -17,20 +10,16 @@ use Rattle.bac_device_poll.specs.Logs.{after_loss}
 use Rattle.bac_device_poll.specs.Poll.{Takes, asked_of_device, asks_log, question_at}
 use Rattle.bac_device_poll.specs.State.{DeviceState}
 use Rattle.bac_device_poll.specs.Turns.{Turned}
-use Rattle.bac_device_poll.specs.Way.{i_am_by}
-use Rattle.bac_device_poll.specs.declared.question.Question.{Question}
 use Rattle.bac_device_poll.specs.declared.question.Question.TheVariants.{Confirmed}
 use Rattle.bac_device_poll.specs.declared.stage.Stage.{Stage}
 use Rattle.bac_device_poll.specs.declared.stage.Stage.TheVariants as stage
 use Rattle.bac_device_poll.specs.declared.task.Polled.{Polled}
 use Rattle.bac_device_poll.specs.declared.turn.DeviceEnd.{DeviceEnd}
-use Rattle.bac_device_poller.specs.Poller.{Comes, GivesBy, PollerAs, Settles, doing_with, end_at, given_up, is_who_is}
+use Rattle.bac_device_poller.specs.Poller.{Comes, PollerAs, Settles, doing_with, end_at, given_up, is_who_is}
 use Rattle.bac_device_poller.specs.Poller.{lost_of, missed, seeks, sought_again, without_answer}
-use Rattle.bac_device_poller.specs.Silence.{ComesOfLog, IsPolling, asks_next, end_of}
+use Rattle.bac_device_poller.specs.Silence.{ComesOfLog, EndsAsTold, IsPolling, asks_next, end_of}
 use Rattle.bac_device_poller.specs.declared.doing.Came.{Came}
-use Rattle.bac_device_poller.specs.declared.doing.Doing.{Doing}
-use Rattle.bac_device_poller.specs.declared.doing.Doing.TheVariants as doing
-use Rattle.bac_device_poller.proofs.LogTurns.{GoesOn, Polls, at_log, behind, came, lost}
+use Rattle.bac_device_poller.proofs.LogTurns.{Polls, at_log, behind, came, lost}
 
 -- ---- what is asked while logs are polled
 
@@ -102,3 +91,7 @@ ended_are_out old new q t puts on comes settles =
     by : ComesOfLog old.poll t → left old.poll ≡ ended_in t.log old.poll.polled ++ (not_asked_in t.entries ++ left (behind t).device)
     by (inl (datagram, now, takes)) = (hears old q datagram now t on takes).left
     by (inr is) = (subst (Polls old.poll true) (sym is) (loss old q on)).left
+
+pub ends_as_told : EndsAsTold
+ends_as_told old new t puts settles =
+    let s : Settled t old new = settled t old puts new settles in ap end_of s.doing ∙ end_with (end_at (behind t).step) s.told

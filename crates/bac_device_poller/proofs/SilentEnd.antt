@@ -1,10 +1,8 @@
 -- A silent device: what is told of the logs that wait.
 use Rattle.std.proofs.Common.{◌≡◌, ◌∙◌, ℕ, Bool, true, false, if◌then◌else◌, List, [], ◌∷◌, ◌++◌, map, Option, None, Some}
 use Rattle.std.proofs.Common.{ap, sym, refl, subst, append_assoc, append-nil}
-use Rattle.bac_wire.specs.Primitive.{Id}
 use Rattle.bac_wire.specs.Stamp.{CivilTime}
 use Rattle.bac_archive3.specs.declared.row.Put.{Put}
-use Rattle.bac_drive.specs.declared.machine.Next.{Next}
 use Rattle.bac_drive.specs.declared.machine.Next.TheVariants as next
 use Rattle.bac_poll.specs.State.{ToldAs}
 use Rattle.bac_poll.specs.Turns.{Turned as LogTurned, ends}
@@ -19,14 +17,13 @@ use Rattle.bac_device_poll.specs.Turns.{Turned, not_asked}
 use Rattle.bac_device_poll.specs.declared.task.Polled.{Polled}
 use Rattle.bac_device_poller.specs.Entries.{RowsAs, log_in, putting_log, with_entries, with_log, without}
 use Rattle.bac_device_poller.specs.Naming.{has_word, with_word}
-use Rattle.bac_device_poller.specs.Poller.{GivesBy, PollerAs, Settles, end_at, putting_answered}
+use Rattle.bac_device_poller.specs.Poller.{PollerAs, Settles, end_at, putting_answered}
 use Rattle.bac_device_poller.specs.Puts.{PlaceAs}
 use Rattle.bac_device_poller.specs.Rows.{LogAs as LogRowAs}
-use Rattle.bac_device_poller.specs.Silence.{EndsSilent, IsPolling, end_of, not_asked_as}
+use Rattle.bac_device_poller.specs.Silence.{EndsSilent, end_of, not_asked_as}
 use Rattle.bac_device_poller.specs.Status.{greater_of}
 use Rattle.bac_device_poller.specs.Telling.{LineAs}
 use Rattle.bac_device_poller.specs.Turns.{TakesOf, keeping, retelling, telling_any_end, telling_line, telling_turn}
-use Rattle.bac_device_poller.specs.declared.doing.Doing.TheVariants as doing
 use Rattle.bac_device_poller.specs.declared.status.Status.TheVariants.{NoReply}
 use Rattle.bac_device_poller.proofs.LogTurns.{at_log, behind}
 use Rattle.bac_device_poller.proofs.Silence.{Settled, by_log, end_with, lost_is, settled}

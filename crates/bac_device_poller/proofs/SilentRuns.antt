@@ -1,5 +1,5 @@
 -- Runs of a device's poll: behind its end, and through its logs.
-use Rattle.std.proofs.Common.{◌≡◌, ◌∙◌, ◌⊎◌, inl, inr, ℕ, ◌+◌, Bool, true, false, cond, List, [], ◌∷◌, ◌++◌, count_by, nat_le, nat_lt}
+use Rattle.std.proofs.Common.{◌≡◌, ◌∙◌, ℕ, ◌+◌, Bool, true, false, cond, List, [], ◌∷◌, ◌++◌, count_by, nat_le, nat_lt}
 use Rattle.std.proofs.Common.{if◌then◌else◌}
 use Rattle.std.proofs.Common.{Option, None, Some, ap, sym, refl, subst, append_assoc, arith}
 use Rattle.std.proofs.lemmas.List.Sums.{sum_by-cons}
@@ -11,7 +11,6 @@ use Rattle.bac_drive.specs.declared.machine.Next.TheVariants as next
 use Rattle.bac_poll.specs.Poll.{asked_by_poll}
 use Rattle.bac_device_poll.specs.Laws.{ended_in, left, not_asked_in}
 use Rattle.bac_device_poll.specs.Logs.{after_loss}
-use Rattle.bac_device_poll.specs.Poll.{asked_of_device}
 use Rattle.bac_device_poll.specs.State.{DeviceState}
 use Rattle.bac_device_poll.specs.Turns.{Turned}
 use Rattle.bac_device_poll.specs.Way.{who_is_octets}
@@ -19,9 +18,9 @@ use Rattle.bac_device_poll.specs.declared.question.Question.{Question}
 use Rattle.bac_device_poll.specs.declared.question.Question.TheVariants.{Confirmed}
 use Rattle.bac_device_poll.specs.declared.task.Polled.{Polled}
 use Rattle.bac_device_poll.specs.declared.turn.DeviceEnd.{DeviceEnd}
-use Rattle.bac_device_poller.specs.Poller.{AsksNext, GivesBy, PollerAs, Settles, TellsNext, doing_with, end_at, is_answer}
+use Rattle.bac_device_poller.specs.Poller.{AsksNext, GivesBy, PollerAs, Settles, TellsNext, end_at, is_answer}
 use Rattle.bac_device_poller.specs.Poller.{given_up, is_none_told, is_waiting, missed, seeks, sought_again, without_answer}
-use Rattle.bac_device_poller.specs.Silence.{AsksNoMore, Answered, Happening, Happens, IsNew, IsPolling, Lent, Missed}
+use Rattle.bac_device_poller.specs.Silence.{AsksNoMore, Answered, Happening, Happens, IsPolling, Lent, Missed}
 use Rattle.bac_device_poller.specs.Silence.{PollsOnce, Runs, Wanted, end_of, is_sent}
 use Rattle.bac_device_poller.specs.Telling.{LineAs}
 use Rattle.bac_device_poller.specs.declared.doing.Doing.{Doing}

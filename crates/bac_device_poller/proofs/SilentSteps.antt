@@ -1,6 +1,6 @@
 -- What happens to a device's poll: what stays open, which logs are left, and that nothing comes behind its end.
-use Rattle.std.proofs.Common.{◌≡◌, ◌∙◌, ℕ, ◌+◌, ◌&&◌, nat_lt, nat_le, Bool, true, false, if◌then◌else◌, List, [], ◌∷◌, ◌++◌}
-use Rattle.std.proofs.Common.{Option, None, Some, is_some, ap, sym, refl, subst, append_assoc}
+use Rattle.std.proofs.Common.{◌≡◌, ◌∙◌, ℕ, ◌+◌, ◌&&◌, nat_lt, nat_le, Bool, true, false, if◌then◌else◌, List, [], ◌∷◌}
+use Rattle.std.proofs.Common.{Option, None, Some, is_some, ap, sym, refl, subst}
 use Rattle.std.specs.Str.{bytes_eq}
 use Rattle.bac_wire.specs.Stamp.{CivilTime}
 use Rattle.bac_link.specs.Transactions.{closed, is_awaited}
@@ -15,7 +15,7 @@ use Rattle.bac_device_poll.specs.Way.{i_am_by, who_is_octets}
 use Rattle.bac_device_poll.specs.declared.question.Question.{Question}
 use Rattle.bac_device_poll.specs.declared.question.Question.TheVariants.{Confirmed, Nothing, WhoIs}
 use Rattle.bac_device_poll.specs.declared.turn.DeviceEnd.{DeviceEnd}
-use Rattle.bac_device_poller.specs.Poller.{AsksNext, GivesBy, PollerAs, Settles, TellsNext, doing_with, end_at, given_up}
+use Rattle.bac_device_poller.specs.Poller.{AsksNext, GivesBy, PollerAs, TellsNext, doing_with, end_at, given_up}
 use Rattle.bac_device_poller.specs.Poller.{heard_by, is_answer, is_none_told, is_waiting, lost_of, missed, seeks}
 use Rattle.bac_device_poller.specs.Poller.{sought_again, without_answer}
 use Rattle.bac_device_poller.specs.Silence.{Answered, Happening, Happens, IsNew, Lent, Missed}

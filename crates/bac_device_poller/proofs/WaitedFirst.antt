@@ -1,5 +1,5 @@
 -- A device that doesn't answer before its logs are polled is waited for once.
-use Rattle.std.proofs.Common.{◌≡◌, ◌∙◌, ◌<◌, ◌≤◌, ◌+◌, ◌-◌, ℕ, Bool, true, false, if◌then◌else◌, nat_le, nat_lt, List}
+use Rattle.std.proofs.Common.{◌≡◌, ◌∙◌, ◌≤◌, ◌+◌, ◌-◌, ℕ, Bool, true, false, if◌then◌else◌, nat_le, nat_lt, List}
 use Rattle.std.proofs.Common.{[], ◌∷◌, count_by, Option, None, Some, ap, sym, refl, subst, arith}
 use Rattle.std.proofs.lemmas.Bool.{leb-false, ltb-true}
 use Rattle.bac_archive3.specs.declared.row.Put.{Put}
@@ -17,14 +17,13 @@ use Rattle.bac_device_poll.specs.Turns.{Turned, leaves}
 use Rattle.bac_device_poll.specs.Way.{who_is_octets}
 use Rattle.bac_device_poll.specs.declared.question.Question.{Question}
 use Rattle.bac_device_poll.specs.declared.question.Question.TheVariants.{Confirmed, Nothing, WhoIs}
-use Rattle.bac_device_poll.specs.declared.task.Polled.{Polled}
 use Rattle.bac_device_poll.specs.declared.turn.DeviceEnd.{DeviceEnd}
 use Rattle.bac_device_poll.specs.declared.turn.DeviceEnd.TheVariants.{Silent}
-use Rattle.bac_device_poller.specs.Poller.{AsksNext, GivesBy, PollerAs, Settles, TellsNext, doing_with, end_at, given_up}
-use Rattle.bac_device_poller.specs.Poller.{is_none_told, is_waiting, is_who_is, lost_of, missed, seeks, sought_again}
+use Rattle.bac_device_poller.specs.Poller.{AsksNext, GivesBy, PollerAs, Settles, TellsNext, doing_with, given_up}
+use Rattle.bac_device_poller.specs.Poller.{is_none_told, is_waiting, is_who_is, lost_of, missed, sought_again}
 use Rattle.bac_device_poller.specs.Poller.{without_answer}
-use Rattle.bac_device_poller.specs.Silence.{Answered, Happening, Happens, IsAsking, IsUnanswered, Lent, Missed, Runs}
-use Rattle.bac_device_poller.specs.Silence.{Wanted, WaitsOnceFirst, end_of, first_in_vain, is_send, is_sent}
+use Rattle.bac_device_poller.specs.Silence.{Answered, Happening, IsAsking, IsUnanswered, Lent, Missed, Runs}
+use Rattle.bac_device_poller.specs.Silence.{Wanted, WaitsOnceFirst, first_in_vain, is_send, is_sent}
 use Rattle.bac_device_poller.specs.Telling.{LineAs}
 use Rattle.bac_device_poller.specs.declared.doing.Doing.{Doing}
 use Rattle.bac_device_poller.specs.declared.ids.Ids.{Ids}

@@ -18,16 +18,16 @@ use Rattle.bac_device_poll.specs.declared.task.Polled.{Polled}
 use Rattle.bac_device_poll.specs.declared.turn.DeviceEnd.{DeviceEnd}
 use Rattle.bac_device_poll.specs.declared.turn.DeviceEnd.TheVariants.{Silent}
 use Rattle.bac_device_poller.specs.Poller.{AsksNext, GivesBy, PollerAs, Settles, TellsNext, doing_with, end_at, given_up}
-use Rattle.bac_device_poller.specs.Poller.{is_none_told, is_waiting, lost_of, missed, without_answer}
-use Rattle.bac_device_poller.specs.Silence.{Answered, Happening, Happens, IsPolling, IsUnanswered, Lent, Missed, Runs}
+use Rattle.bac_device_poller.specs.Poller.{is_none_told, is_waiting, missed, without_answer}
+use Rattle.bac_device_poller.specs.Silence.{Answered, Happening, IsPolling, IsUnanswered, Lent, Missed, Runs}
 use Rattle.bac_device_poller.specs.Silence.{Wanted, WaitsOnce, end_of, is_send, is_sent, sends_in_vain}
 use Rattle.bac_device_poller.specs.Telling.{LineAs}
 use Rattle.bac_device_poller.specs.declared.doing.Doing.{Doing}
 use Rattle.bac_device_poller.specs.declared.doing.Doing.TheVariants as doing
-use Rattle.bac_device_poller.proofs.LogTurns.{GoesOn, Polls, at_log, behind}
+use Rattle.bac_device_poller.proofs.LogTurns.{GoesOn, at_log, behind}
 use Rattle.bac_device_poller.proofs.Silence.{Settled, asked_is, by_log, loss, lost_is, missed_is, settled}
 use Rattle.bac_device_poller.proofs.SilentSteps.{told_send}
-use Rattle.bac_device_poller.proofs.SilentRuns.{Goes, IsOn, asks_on_log, gives_on, missed_on, missed_poll, one_more, tally}
+use Rattle.bac_device_poller.proofs.SilentRuns.{Goes, IsOn, asks_on_log, gives_on, missed_on, one_more, tally}
 
 -- ---- how many sends are left while nothing is heard
 

@@ -1,5 +1,5 @@
 -- A device that falls silent, and logs of it that are lost. Read `WaitsOnce`, `LostStopsNone` and `AsksNoMore`.
-use Rattle.std.specs.Prelude.{◌≡◌, ◌≤◌, ◌⊎◌, ℕ, ◌+◌, Bool, true, false, List, [], ◌∷◌, ◌++◌, count_by, map}
+use Rattle.std.specs.Prelude.{◌≡◌, ◌≢◌, ◌≤◌, ◌⊎◌, ℕ, ◌+◌, Bool, true, false, List, [], ◌∷◌, ◌++◌, count_by, map}
 use Rattle.std.specs.Prelude.{Option, None, Some}
 use Rattle.bac_wire.specs.Primitive.{Id}
 use Rattle.bac_wire.specs.Stamp.{CivilTime}
@@ -18,7 +18,8 @@ use Rattle.bac_device_poll.specs.declared.stage.Stage.TheVariants as stage
 use Rattle.bac_device_poll.specs.declared.task.Polled.{Polled}
 use Rattle.bac_device_poll.specs.declared.turn.DeviceEnd.{DeviceEnd}
 use Rattle.bac_device_poll.specs.declared.turn.DeviceEnd.TheVariants.{Silent}
-use Rattle.bac_device_poller.specs.Poller.{GivesBy, PollerAs, Settles, heard_by, is_answer, is_waiting, missed}
+use Rattle.bac_device_poller.specs.Poller.{GivesBy, PollerAs, Settles, end_at, heard_by, is_answer, is_waiting}
+use Rattle.bac_device_poller.specs.Poller.{missed, stepped}
 use Rattle.bac_device_poller.specs.Telling.{LineAs, log_called, not_asked_line}
 use Rattle.bac_device_poller.specs.declared.doing.Came.{Came}
 use Rattle.bac_device_poller.specs.declared.doing.Doing.{Doing}
@@ -146,7 +147,7 @@ pub record IsBegun (task : LogAs) (behind : List LogAs) (old new : PollerAs) : T
   pub asks : asks_next new.doing ≡ true
 
 -- A log that is lost stops no other: if an answer came since the log before was lost, the next one is polled, and those
--- behind it wait as they did. Each answer to the question of a log is such.
+-- behind it wait as they did. Each answer to the question of a log is such, and only a loss puts the next one in doubt.
 abbrev pub LostStopsNone : Type 0
 LostStopsNone =
     ((old new : PollerAs) (q : Polled) (task : LogAs) (behind : List LogAs) (wanted : Next) → IsPolling old q →
@@ -154,12 +155,20 @@ LostStopsNone =
     IsBegun task behind old new)
     × ((old new : PollerAs) (q : Polled) (came : Came) (wanted : Next) → IsPolling old q →
     GivesBy (doing.Hears came) old wanted new → new.poll.doubt ≡ false)
+    × ((old new : PollerAs) (q : Polled) (h : Happening) → IsPolling old q → old.poll.doubt ≡ false →
+    old.doing ≢ doing.Loses → Happens old h new → new.poll.doubt ≡ false)
 
 -- ---- what has ended isn't asked again
 
 -- its question is to be sent, and nothing is open
 abbrev pub IsNew : PollerAs → Type 0
 IsNew p = (p.doing ≡ doing.Asks) × (p.transactions.pending ≡ None)
+
+-- What ends the poll of a device, or the poll of the last of its logs, ends what is asked of it.
+abbrev pub EndsAsTold : Type 0
+EndsAsTold =
+    (old new : PollerAs) (t : Turned) (puts : List Put) → Settles t old puts new →
+    end_of new.doing ≡ end_at (stepped t.step t.device).step
 
 -- Once nothing more is asked of a device, nothing is sent to it any more, whatever happens, and its poll stays as it is.
 abbrev pub AsksNoMore : Type 0
