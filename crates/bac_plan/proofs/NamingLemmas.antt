@@ -1,5 +1,5 @@
 -- The rows that are put, one kind after the other.
-use Rattle.std.proofs.Common.{◌≡◌, List, [], ◌∷◌, ◌++◌, map, refl, sym, ap, ◌∙◌}
+use Rattle.std.proofs.Common.{◌≡◌, List, [], ◌∷◌, ◌++◌, map, refl, ap, ◌∙◌}
 use Rattle.std.specs.List.{flat_map}
 use Rattle.bac_archive3.specs.declared.row.DeviceRow.{DeviceRow}
 use Rattle.bac_archive3.specs.declared.row.LogRow.{LogRow}
@@ -25,10 +25,10 @@ pub all_rows : (s : Standing) (named : List Named) (ds es : List DeviceRow) (ls 
 all_rows s named ds es ls rows fresh p q r t u same alike logs none one two three four =
     let first : q ≡ changed_devices named s.devices.items = one ∙ ap (λ (l : List PutAs). l ++ changed_devices named ds) none ∙ ap (changed_devices named) same in
     let second : r ≡ changed_devices named s.devices.items ++ map new_device_put (map device_as rows) =
-        two ∙ ap (λ (l : List PutAs). l ++ map (λ d. new_device_put (device_as d)) rows) first
-        ∙ ap (λ (l : List PutAs). changed_devices named s.devices.items ++ l) (map_seen rows) in
+    two ∙ ap (λ (l : List PutAs). l ++ map (λ d. new_device_put (device_as d)) rows) first
+    ∙ ap (λ (l : List PutAs). changed_devices named s.devices.items ++ l) (map_seen rows) in
     let third : t ≡ changed_devices named s.devices.items ++ map new_device_put (map device_as rows) ++ flat_map (log_change named s.devices.items) s.logs.items =
-        three ∙ ap (λ (l : List PutAs). l ++ flat_map (log_change named es) ls) second
-        ∙ ap (λ (l : List PutAs). changed_devices named s.devices.items ++ map new_device_put (map device_as rows) ++ l)
-        (ap (λ (xs : List DeviceRow). flat_map (log_change named xs) ls) alike ∙ ap (flat_map (log_change named s.devices.items)) logs) in
+    three ∙ ap (λ (l : List PutAs). l ++ flat_map (log_change named es) ls) second
+    ∙ ap (λ (l : List PutAs). changed_devices named s.devices.items ++ map new_device_put (map device_as rows) ++ l)
+    (ap (λ (xs : List DeviceRow). flat_map (log_change named xs) ls) alike ∙ ap (flat_map (log_change named s.devices.items)) logs) in
     four ∙ ap (λ (l : List PutAs). l ++ map new_log_put fresh) third

@@ -82,11 +82,7 @@ fn rows_of(
 /// is named is there and isn't stopped. Of a device that was stopped and is named with all of its
 /// logs, all that were stopped begin again. No row is there twice, and none of what is on record so
 /// already.
-pub fn rows_named(
-    alloc: Global,
-    told: &Standing,
-    named: &[Named],
-) -> Result<Vec<Put>, NamingFault>
+pub fn rows_named(alloc: Global, told: &Standing, named: &[Named]) -> Result<Vec<Put>, NamingFault>
     ensures ok { IfOk result (λ puts. named_rows told.now named.now ≡ Ok (map put_as puts.items)) }
     ensures err { IfErr result (λ e. (e ≡ NamingFault.Memory)
         ⊎ (named_rows told.now named.now ≡ Err e)) }

@@ -6,11 +6,11 @@ use Rattle.bac_plan.proofs.fresh_device.FreshDevices.add.Goals.{then-has_place-v
 
 pub returns-then-has_place-clause-ok : goal.returns-then-has_place-clause-ok
 returns-then-has_place-clause-ok c = elim c.then-has_place.branch [
-  then-has_place-via-then-has_place w ↦
-    known_there c.args.named.now c.args.devices.now c.args.self.now c.args.one.now (sym c.has_place.ensures ∙ w.if-has_place.true)
+  | then-has_place-via-then-has_place w ↦
+      known_there c.args.named.now c.args.devices.now c.args.self.now c.args.one.now (sym c.has_place.ensures ∙ w.if-has_place.true)
   | then-has_place-via-else-has_place+then-has_place-2 w ↦
-    fresh_there c.args.named.now c.args.devices.now c.args.self.now c.args.one.now c.self.inside.rows.items c.self.inside.next c.self.view_is
-    (sym (w.has_place-else-has_place.ensures ∙ ap (has_place c.args.one.now) w.as_slice.ensures.value) ∙ w.if-has_place-2.true)
+      fresh_there c.args.named.now c.args.devices.now c.args.self.now c.args.one.now c.self.inside.rows.items c.self.inside.next c.self.view_is
+      (sym (w.has_place-else-has_place.ensures ∙ ap (has_place c.args.one.now) w.as_slice.ensures.value) ∙ w.if-has_place-2.true)
 ]
 
 pub returns-in_ok-push-in-Some-clause-ok : goal.returns-in_ok-push-in-Some-clause-ok
