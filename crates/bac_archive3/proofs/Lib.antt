@@ -9,7 +9,7 @@ mod EndLemmas
 pub mod ReplaceLemmas
 pub mod LeftLemmas
 mod InsertLemmas
-mod EightLemmas
+mod ManyLemmas
 mod ChangeLemmas
 pub mod PutLemmas
 mod LawLemmas

@@ -1,10 +1,9 @@
 -- The part that follows on an archive is one.
-use Rattle.std.proofs.Common.{◌≡◌, ◌⊎◌, inl, inr, ℕ, ℤ, zero, suc, pos, ◌+◌, ◌/◌, ◌<◌, ◌≤◌, ◌==◌, Bool, true, false, ◌||◌, cond, if◌then◌else◌, List, [], ◌∷◌, ◌++◌, map, reverse, take, filter, refl, sym, ap, subst, ◌∙◌, arith, eq-eqb}
-use Rattle.std.specs.List.{AllByRecursion, Contains, list_any}
-use Rattle.std.specs.List.Sorted.{IsPermutation}
+use Rattle.std.proofs.Common.{◌≡◌, ◌⊎◌, inl, inr, ℕ, ℤ, zero, suc, pos, ◌+◌, ◌/◌, ◌<◌, ◌≤◌, ◌==◌, Bool, true, false, ◌||◌, cond, if◌then◌else◌, List, [], ◌∷◌, ◌++◌, map, reverse, filter, refl, sym, ap, subst, ◌∙◌, arith, eq-eqb}
+use Rattle.std.specs.List.{AllByRecursion, Contains}
 use Rattle.std.proofs.lemmas.Bool.{both_ways, eqb-true}
 use Rattle.std.proofs.lemmas.List.Sorted.{Contains-permutation, IsPermutation-reverse, IsPermutation-sym}
-use Rattle.sqlite_value.specs.declared.value.Value.TheVariants.{Null, Int}
+use Rattle.sqlite_value.specs.declared.value.Value.TheVariants.{Int}
 use Rattle.sqlite_value.specs.Order.{Row as Values, column}
 use Rattle.sqlite_rules.specs.Edit.{is_taken}
 use Rattle.sqlite_schema.specs.declared.schema.Table.{Table}
@@ -12,10 +11,10 @@ use Rattle.sqlite_trees.specs.Tree.{Trees, rowid, put_row}
 use Rattle.sqlite.specs.Effect.{Database}
 use Rattle.sqlite.specs.Values.{or_null}
 use Rattle.bac_archive3.specs.Ask.{shown}
-use Rattle.bac_archive3.specs.Archive.{AreBegun, EndsAt, HasId, HasIdBelow, HaveIdsBelow, IsArchive, IsBegunBy, RiseFrom}
+use Rattle.bac_archive3.specs.Archive.{EndsAt, HasId, HaveIdsBelow, IsArchive, RiseFrom}
 use Rattle.bac_archive3.specs.Follow.{PartIsArchive, puts_of}
-use Rattle.bac_archive3.specs.Keep.{AllLieBefore, AreFit, GoesOn, with_put}
-use Rattle.bac_archive3.specs.Put.{AreFree, IsFree, IsPut, after, beginning_columns, device_columns, item_columns, left, log_columns, row_of}
+use Rattle.bac_archive3.specs.Keep.{AreFit, GoesOn, with_put}
+use Rattle.bac_archive3.specs.Put.{AreFree, IsFree, after, beginning_columns, device_columns, item_columns, left, log_columns, row_of}
 use Rattle.bac_archive3.specs.Read.{numbers}
 use Rattle.bac_archive3.specs.Stands.{StandsAs, epochs, is_in, is_last}
 use Rattle.bac_archive3.specs.declared.row.BeginningRow.{BeginningRow}

@@ -1,5 +1,5 @@
 -- What puts come to, one after the other.
-use Rattle.std.proofs.Common.{◌≡◌, ◌≢◌, ℕ, Bool, true, false, if◌then◌else◌, ◌==◌, List, [], ◌∷◌, ◌++◌, flat_map, append-nil, inl, inr, Ok, Err, Result, OnOk, IsTrue, eq-eqb, refl, sym, ap, subst, ◌∙◌}
+use Rattle.std.proofs.Common.{◌≡◌, ◌≢◌, ℕ, Bool, true, false, if◌then◌else◌, ◌==◌, List, [], ◌∷◌, ◌++◌, flat_map, map, append-nil, inl, inr, Ok, Err, Result, OnOk, IsTrue, eq-eqb, refl, sym, ap, subst, ◌∙◌}
 use Rattle.std.specs.List.{AllByRecursion}
 use Rattle.std.proofs.lemmas.Bool.{eqb-true, both_ways}
 use Rattle.sqlite_value.specs.Order.{Row as Values}
@@ -15,7 +15,7 @@ use Rattle.bac_archive3.specs.Making.{IsFilled, IsMade}
 use Rattle.bac_archive3.specs.Put.{AreAtOnce, AreFree, IsPut, Puts, after, given, is_new, left, row_of, table_of, text_of, text_of_all, with_row}
 use Rattle.bac_archive3.specs.declared.row.Put.{Put}
 use Rattle.bac_archive3.specs.declared.row.Put.TheVariants.{NewDevice, Device, NewLog, Log, Beginning, Lowered, Item}
-use Rattle.bac_archive3.proofs.EightLemmas.{puts_eight}
+use Rattle.bac_archive3.proofs.ManyLemmas.{many_said, puts_many}
 use Rattle.bac_archive3.proofs.InsertLemmas.{Sets, Adds, adds_device, adds_log, adds_item, adds_beginning}
 use Rattle.bac_archive3.proofs.ChangeLemmas.{changes_device, changes_log, lowers}
 
@@ -66,9 +66,10 @@ pub puts_these : (these : List Put) (old new : State) (count : ℕ) → AreAtOnc
 puts_these these old new count (inl one) has ran =
     let alone = subst (λ p. ExecutesInside 0 (text_of one.0) p old new (Ok count)) (append-nil (given one.0)) (subst (λ t. ExecutesInside 0 (text_of_all t) (flat_map given t) old new (Ok count)) one.1 ran) in
     subst (Puts old new) (sym one.1) (puts_one one.0 old new count has alone)
-puts_these these old new count (inr eight) has ran =
-    let all = subst (λ t. ExecutesInside 0 (text_of_all t) (flat_map given t) old new (Ok count)) eight.8 ran in
-    subst (Puts old new) (sym eight.8) (record { put = puts_eight _ _ _ _ _ _ _ _ old new count has all.0; mode = all.1.mode; committed = all.1.committed_is })
+puts_these these old new count (inr (xs, len, are)) has ran =
+    let said = subst (λ t. ExecutesInside 0 (text_of_all t) (flat_map given t) old new (Ok count)) are ran in
+    let all = subst (λ t. ExecutesInside 0 t (flat_map given (map Item xs)) old new (Ok count)) (many_said xs len) said in
+    subst (Puts old new) (sym are) (record { put = puts_many xs len old new count has all.0; mode = all.1.mode; committed = all.1.committed_is })
 
 -- ---- one after the other
 

@@ -1,6 +1,6 @@
 -- What an archive is, whoever wrote it.
 use Rattle.std.specs.Prelude.{◌≡◌, ◌⊎◌, ℕ, pos, ◌+◌, ◌-◌, ◌/◌, ◌%◌, ◌<◌, ◌≤◌, List, [], ◌∷◌, map, codes}
-use Rattle.std.specs.Prelude.{IsTrue, length}
+use Rattle.std.specs.Prelude.{◌≢◌, ⊤, IsTrue, length, Result, Ok, Err}
 use Rattle.std.specs.List.{All, Contains}
 use Rattle.std.specs.List.Sorted.{IsPermutation}
 use Rattle.sqlite_value.specs.declared.value.Value.{Value}
@@ -14,13 +14,16 @@ use Rattle.sqlite.specs.declared.error.Error.TheVariants.{SqliteFailure}
 use Rattle.sqlite.specs.declared.error.ErrorCode.TheVariants.{OperationInterrupted, TransactionState}
 use Rattle.sqlite.specs.Effect.{Database}
 use Rattle.sqlite.specs.Held.{Held, state}
-use Rattle.sqlite.specs.State.{State, Begins}
+use Rattle.sqlite.specs.State.{State, Begins, HasCleanDisk}
 use Rattle.bac_archive3.specs.Ask.{FailsToAnswer, asked, shown}
 use Rattle.bac_archive3.specs.Making.{FailsToMake, version}
 use Rattle.bac_archive3.specs.Read.{numbers}
 use Rattle.bac_archive3.specs.Schema.{HasArchive, no_schema}
 use Rattle.bac_archive3.specs.Stands.{epochs}
 use Rattle.bac_archive3.specs.declared.asking.Question.TheVariants.{Spans}
+use Rattle.bac_archive3.specs.declared.opening.Refused.{Refused}
+use Rattle.bac_archive3.specs.declared.opening.Refused.TheVariants.{Foreign, Earlier, Version, Range, Overlap, Orphan}
+use Rattle.bac_archive3.specs.declared.opening.Refused.TheVariants.{Database as Failed}
 
 -- ---- items lie apart
 
@@ -120,6 +123,29 @@ IsEarlier (a ∷ b ∷ c ∷ more) =
 IsEarlier _ = ⊥
 
 -- ---- why one isn't opened
+
+-- why what has the tables and views of an archive isn't one
+abbrev pub WhyExamined : State → State → Result (Unit {0}) Refused → Type 0
+WhyExamined old new (Ok taken) = ⊤
+WhyExamined old new (Err Foreign) = ⊥
+WhyExamined old new (Err Earlier) = ⊥
+WhyExamined old new (Err Version) = HasCleanDisk new → ¬ IsOfVersion (old.now.trees 0)
+WhyExamined old new (Err Range) = HasCleanDisk new → ¬ AreInRange old.now.trees
+WhyExamined old new (Err Overlap) = HasCleanDisk new → ¬ LieApart (old.now.trees 5)
+WhyExamined old new (Err Orphan) = HasCleanDisk new → ¬ AreBegun old.now.trees
+WhyExamined old new (Err (Failed e)) = ⊤
+
+-- why a database is refused, but where it failed
+abbrev pub WhyRefused : State → State → Result (Unit {0}) Refused → Type 0
+WhyRefused old new (Ok taken) = ⊤
+WhyRefused old new (Err Foreign) =
+    (¬ HasArchive old.now.schema) × (¬ IsEarlier old.now.schema.tables) × (old.now.schema ≢ no_schema)
+WhyRefused old new (Err Earlier) = (¬ HasArchive old.now.schema) × IsEarlier old.now.schema.tables
+WhyRefused old new (Err Version) = HasCleanDisk new → HasArchive old.now.schema × ¬ IsOfVersion (old.now.trees 0)
+WhyRefused old new (Err Range) = HasCleanDisk new → HasArchive old.now.schema × ¬ AreInRange old.now.trees
+WhyRefused old new (Err Overlap) = HasCleanDisk new → HasArchive old.now.schema × ¬ LieApart (old.now.trees 5)
+WhyRefused old new (Err Orphan) = HasCleanDisk new → HasArchive old.now.schema × ¬ AreBegun old.now.trees
+WhyRefused old new (Err (Failed e)) = ⊤
 
 -- the items aren't examined: the database gives up on a question, or there are more than are counted
 abbrev pub FailsToExamine : {S : Type 0} → Ghosts S → Held S → Held S → Error → Type 0

@@ -1,6 +1,6 @@
 -- Rows are put: all of a batch, or none.
 use Rattle.std.specs.Prelude.{◌≡◌, ◌⊎◌, ⊤, ℕ, ℤ, pos, Bool, true, false, if◌then◌else◌, ◌==◌, ◌&&◌}
-use Rattle.std.specs.Prelude.{List, [], ◌∷◌, ◌++◌, map, flat_map, fold, drop, take}
+use Rattle.std.specs.Prelude.{List, [], ◌∷◌, ◌++◌, map, flat_map, fold, drop, take, length}
 use Rattle.std.specs.Prelude.{codes, Err, IsTrue}
 use Rattle.std.specs.List.{AllByRecursion, Contains, list_any}
 use Rattle.std.specs.Ordering.{is_eq}
@@ -76,6 +76,16 @@ columns_of (Item i) = item_columns i
 -- what is bound for it
 abbrev pub given : Put → Values
 given put = bound_columns (columns_of put)
+
+-- what is bound for an item, and as many NULLs for another row
+abbrev pub given_item : Put → Values
+given_item (Item i) = bound_columns (item_columns i)
+given_item (NewDevice d) = Null ∷ Null ∷ Null ∷ Null ∷ Null ∷ Null ∷ []
+given_item (Device d) = Null ∷ Null ∷ Null ∷ Null ∷ Null ∷ Null ∷ []
+given_item (NewLog l) = Null ∷ Null ∷ Null ∷ Null ∷ Null ∷ Null ∷ []
+given_item (Log l) = Null ∷ Null ∷ Null ∷ Null ∷ Null ∷ Null ∷ []
+given_item (Beginning b) = Null ∷ Null ∷ Null ∷ Null ∷ Null ∷ Null ∷ []
+given_item (Lowered b) = Null ∷ Null ∷ Null ∷ Null ∷ Null ∷ Null ∷ []
 
 -- the table that it is of, at its place
 abbrev pub table_of : Put → Table
@@ -200,24 +210,30 @@ text_of (Beginning b) = beginning_text
 text_of (Lowered b) = lower_text
 text_of (Item i) = item_text
 
--- the one that puts eight items, one after the other
-abbrev pub eight_text : List ℕ
-eight_text =
+-- the one that puts so many items, one after the other
+abbrev pub many_text : List ℕ
+many_text =
     codes "INSERT INTO items (id, last, stamp, value, datum, flags) VALUES (?, ?, ?, ?, ?, ?), "
-    ++ codes "(?, ?, ?, ?, ?, ?), (?, ?, ?, ?, ?, ?), (?, ?, ?, ?, ?, ?), (?, ?, ?, ?, ?, ?), "
-    ++ codes "(?, ?, ?, ?, ?, ?), (?, ?, ?, ?, ?, ?), (?, ?, ?, ?, ?, ?)"
+    ++ codes "(?, ?, ?, ?, ?, ?), (?, ?, ?, ?, ?, ?), (?, ?, ?, ?, ?, ?), (?, ?, ?, ?, ?, ?), (?, ?, ?, ?, ?, ?), "
+    ++ codes "(?, ?, ?, ?, ?, ?), (?, ?, ?, ?, ?, ?), (?, ?, ?, ?, ?, ?), (?, ?, ?, ?, ?, ?), (?, ?, ?, ?, ?, ?), "
+    ++ codes "(?, ?, ?, ?, ?, ?), (?, ?, ?, ?, ?, ?), (?, ?, ?, ?, ?, ?), (?, ?, ?, ?, ?, ?), (?, ?, ?, ?, ?, ?), "
+    ++ codes "(?, ?, ?, ?, ?, ?), (?, ?, ?, ?, ?, ?), (?, ?, ?, ?, ?, ?), (?, ?, ?, ?, ?, ?), (?, ?, ?, ?, ?, ?), "
+    ++ codes "(?, ?, ?, ?, ?, ?), (?, ?, ?, ?, ?, ?), (?, ?, ?, ?, ?, ?), (?, ?, ?, ?, ?, ?), (?, ?, ?, ?, ?, ?), "
+    ++ codes "(?, ?, ?, ?, ?, ?), (?, ?, ?, ?, ?, ?), (?, ?, ?, ?, ?, ?), (?, ?, ?, ?, ?, ?), (?, ?, ?, ?, ?, ?), "
+    ++ codes "(?, ?, ?, ?, ?, ?)"
 
--- one row, or as many items as one statement puts
+-- as many items as one statement puts
+abbrev pub AreMany : List Put → Type 0
+AreMany these = (items : List ItemRow) × (length items ≡ 32) × (these ≡ map Item items)
+
+-- one row, or so many items
 abbrev pub AreAtOnce : List Put → Type 0
-AreAtOnce these =
-    ((put : Put) × (these ≡ put ∷ []))
-    ⊎ ((a b c d e f g h : ItemRow)
-    × (these ≡ map Item (a ∷ b ∷ c ∷ d ∷ e ∷ f ∷ g ∷ h ∷ [])))
+AreAtOnce these = ((put : Put) × (these ≡ put ∷ [])) ⊎ AreMany these
 
 -- the one that these rows are put by: that of the row itself, or of several items
 abbrev pub text_of_all : List Put → List ℕ
 text_of_all (put ∷ []) = text_of put
-text_of_all puts = eight_text
+text_of_all puts = many_text
 
 -- ---- why it is not done
 

@@ -9,7 +9,7 @@ ghost use Rattle.bac_archive3.specs.Schema.{HasArchive};
 use sqlite::{Alter, Connection, Error, Row};
 
 /// A question for a table.
-#[derive(Clone, Copy, Debug, PartialEq, Eq)]
+#[derive(Clone, Copy)]
 pub(crate) enum Question {
     Archive,
     Devices,

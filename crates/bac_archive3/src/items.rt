@@ -27,7 +27,7 @@ const NUMBERS: i64 = 4_294_967_296;
 
 /// A record or a gap, as its row has it. Of a gap there are its numbers, and a datum where it is
 /// doubtful.
-#[derive(Clone, Copy, Debug)]
+#[derive(Clone, Copy)]
 pub struct Item<'a> {
     pub epoch: u16,
     pub number: u32,
@@ -63,7 +63,7 @@ pub fn id_of(log: u16, epoch: u16, number: u32) -> i64
 }
 
 /// Which items are asked for: those whose ids are from `first` to `last`.
-#[derive(Clone, Copy, Debug)]
+#[derive(Clone, Copy)]
 pub enum Range<'a> {
     /// By rising ids.
     Oldest {

@@ -1,17 +1,17 @@
 //! A database is opened as an archive.
 
-ghost use Rattle.std.specs.Prelude.{◌≡◌, ◌≢◌, ◌⊎◌, ◌↔◌, ◌≤◌, ◌∷◌, [], ℕ, List, None, Err, pos};
+ghost use Rattle.std.specs.Prelude.{◌≡◌, ◌⊎◌, ◌↔◌, ◌≤◌, ◌∷◌, [], ℕ, List, None, Err, pos};
 ghost use Rattle.std.specs.Prelude.{length};
 ghost use Rattle.std.specs.Prelude.{IsTrue, IfErr, IfOk, IfSome, OnErr, OnOk};
 ghost use Rattle.sqlite_value.specs.Order.{column};
 ghost use Rattle.sqlite_value.specs.declared.value.Value.{Value};
 ghost use Rattle.sqlite.specs.State.{HasCleanDisk, Survives, IsUnchanged};
 ghost use Rattle.sqlite.specs.Held.{state};
-ghost use Rattle.bac_archive3.specs.Archive.{AreBegun, AreBegunBy, DoNotRise, FailsToExamine};
+ghost use Rattle.bac_archive3.specs.Archive.{AreBegunBy, DoNotRise, FailsToExamine};
 ghost use Rattle.bac_archive3.specs.Archive.{FailsToOpen};
 ghost use Rattle.bac_archive3.specs.Archive.{Follows, HasId, HasIdBelow, HaveIdsBelow};
-ghost use Rattle.bac_archive3.specs.Archive.{IsArchive, IsBegunBy, IsBegunUpTo, IsEarlier};
-ghost use Rattle.bac_archive3.specs.Archive.{IsOfVersion, LieApart, ListsOrphan, AreInRange};
+ghost use Rattle.bac_archive3.specs.Archive.{IsArchive, IsBegunBy, IsBegunUpTo};
+ghost use Rattle.bac_archive3.specs.Archive.{LieApart, ListsOrphan, WhyExamined, WhyRefused};
 ghost use Rattle.bac_archive3.specs.Ask.{IsLeft};
 ghost use Rattle.bac_archive3.specs.Keep.{PutsKeepArchive};
 ghost use Rattle.bac_archive3.specs.Making.{IsMadeOf, version};
@@ -44,7 +44,7 @@ pub enum Refused {
 }
 
 /// What the items of an archive are found to be.
-#[derive(Clone, Copy, Debug, PartialEq, Eq)]
+#[derive(Clone, Copy)]
 enum Found {
     Whole,
     Overlap,
@@ -254,15 +254,7 @@ fn examine<S: Alter>(conn: &mut Connection<S>) -> Result<(), Refused>
         → OnOk result (IsArchive (state S.Store conn.new).now) }
     ensures same { HasCleanDisk (state S.Store conn.new)
         → OnOk result (IsUnchanged (state S.Store conn.old) (state S.Store conn.new)) }
-    ensures version { HasCleanDisk (state S.Store conn.new) → result ≡ Err Refused.Version
-        → ¬ IsOfVersion ((state S.Store conn.old).now.trees 0) }
-    ensures range { HasCleanDisk (state S.Store conn.new) → result ≡ Err Refused.Range
-        → ¬ AreInRange (state S.Store conn.old).now.trees }
-    ensures overlap { HasCleanDisk (state S.Store conn.new) → result ≡ Err Refused.Overlap
-        → ¬ LieApart ((state S.Store conn.old).now.trees 5) }
-    ensures orphan { HasCleanDisk (state S.Store conn.new) → result ≡ Err Refused.Orphan
-        → ¬ AreBegun (state S.Store conn.old).now.trees }
-    ensures known { (result ≢ Err Refused.Foreign) × (result ≢ Err Refused.Earlier) }
+    ensures why { WhyExamined (state S.Store conn.old) (state S.Store conn.new) result }
     ensures left { HasCleanDisk (state S.Store conn.new)
         → IsLeft (state S.Store conn.old) (state S.Store conn.new) }
     ensures cause { HasCleanDisk (state S.Store conn.new) → (e : _)
@@ -309,25 +301,7 @@ pub fn open<S: Alter>(conn: &mut Connection<S>, made: &str) -> Result<(), Refuse
         → (state S.Store conn.old).now.schema ≡ no_schema
         → OnOk result (IsMadeOf made.now (state S.Store conn.new).now []) }
     // Why one is refused.
-    ensures foreign { result ≡ Err Refused.Foreign
-        → (¬ HasArchive (state S.Store conn.old).now.schema)
-        × (¬ IsEarlier (state S.Store conn.old).now.schema.tables)
-        × ((state S.Store conn.old).now.schema ≢ no_schema) }
-    ensures earlier { result ≡ Err Refused.Earlier
-        → (¬ HasArchive (state S.Store conn.old).now.schema)
-        × IsEarlier (state S.Store conn.old).now.schema.tables }
-    ensures version { HasCleanDisk (state S.Store conn.new) → result ≡ Err Refused.Version
-        → HasArchive (state S.Store conn.old).now.schema
-        × ¬ IsOfVersion ((state S.Store conn.old).now.trees 0) }
-    ensures range { HasCleanDisk (state S.Store conn.new) → result ≡ Err Refused.Range
-        → HasArchive (state S.Store conn.old).now.schema
-        × ¬ AreInRange (state S.Store conn.old).now.trees }
-    ensures overlap { HasCleanDisk (state S.Store conn.new) → result ≡ Err Refused.Overlap
-        → HasArchive (state S.Store conn.old).now.schema
-        × ¬ LieApart ((state S.Store conn.old).now.trees 5) }
-    ensures orphan { HasCleanDisk (state S.Store conn.new) → result ≡ Err Refused.Orphan
-        → HasArchive (state S.Store conn.old).now.schema
-        × ¬ AreBegun (state S.Store conn.old).now.trees }
+    ensures why { WhyRefused (state S.Store conn.old) (state S.Store conn.new) result }
     // Why it failed: a transaction was open, or the database gave up on a statement that makes an
     // archive or on a question.
     ensures cause { HasCleanDisk (state S.Store conn.new) → (e : _)

@@ -7,7 +7,7 @@ ghost use Rattle.sqlite.specs.Held.{state};
 ghost use Rattle.sqlite.specs.Values.{bound};
 ghost use Rattle.bac_archive3.specs.Schema.{HasArchive, OverArchive};
 ghost use Rattle.bac_archive3.specs.Put.{AreAtOnce, FailsToPut, GivesUp, IsPut, Puts};
-ghost use Rattle.bac_archive3.specs.Put.{given, text_of, text_of_all, PutsJoin, PutsKeepVersion};
+ghost use Rattle.bac_archive3.specs.Put.{given, given_item, text_of, text_of_all, PutsJoin, PutsKeepVersion};
 ghost use Rattle.bac_archive3.specs.Put.{PutsLoseNothing};
 
 use crate::ending::finish;
@@ -15,8 +15,14 @@ use crate::row::{Put, beginning_bound, device_bound, item_bound, item_values, lo
 use sqlite::{Alter, Connection, Error, ErrorCode, Transaction};
 use sqlite_value::value::ValueRef;
 
-/// The statement that puts eight items.
-const EIGHT: &str = "INSERT INTO items (id, last, stamp, value, datum, flags) VALUES \
+/// The statement that puts so many items.
+const MANY: &str = "INSERT INTO items (id, last, stamp, value, datum, flags) VALUES \
+    (?, ?, ?, ?, ?, ?), (?, ?, ?, ?, ?, ?), (?, ?, ?, ?, ?, ?), (?, ?, ?, ?, ?, ?), \
+    (?, ?, ?, ?, ?, ?), (?, ?, ?, ?, ?, ?), (?, ?, ?, ?, ?, ?), (?, ?, ?, ?, ?, ?), \
+    (?, ?, ?, ?, ?, ?), (?, ?, ?, ?, ?, ?), (?, ?, ?, ?, ?, ?), (?, ?, ?, ?, ?, ?), \
+    (?, ?, ?, ?, ?, ?), (?, ?, ?, ?, ?, ?), (?, ?, ?, ?, ?, ?), (?, ?, ?, ?, ?, ?), \
+    (?, ?, ?, ?, ?, ?), (?, ?, ?, ?, ?, ?), (?, ?, ?, ?, ?, ?), (?, ?, ?, ?, ?, ?), \
+    (?, ?, ?, ?, ?, ?), (?, ?, ?, ?, ?, ?), (?, ?, ?, ?, ?, ?), (?, ?, ?, ?, ?, ?), \
     (?, ?, ?, ?, ?, ?), (?, ?, ?, ?, ?, ?), (?, ?, ?, ?, ?, ?), (?, ?, ?, ?, ?, ?), \
     (?, ?, ?, ?, ?, ?), (?, ?, ?, ?, ?, ?), (?, ?, ?, ?, ?, ?), (?, ?, ?, ?, ?, ?)";
 
@@ -65,27 +71,44 @@ fn bound_of(put: &Put) -> ([ValueRef<'_>; 11], usize)
     }
 }
 
-/// How many of these rows, from the first on, one statement puts: eight items, or one row.
+/// How many of these rows, from the first on, one statement puts: 32 items, or one row.
 fn at_once(puts: &[Put]) -> usize
     requires { puts.now ≢ [] }
     ensures some { 0 < result }
     ensures among { result ≤ length puts.now }
     ensures so_many { AreAtOnce (take result puts.now) }
 {
-    match puts {
-        [
-            Put::Item(_a),
-            Put::Item(_b),
-            Put::Item(_c),
-            Put::Item(_d),
-            Put::Item(_e),
-            Put::Item(_f),
-            Put::Item(_g),
-            Put::Item(_h),
-            ..
-        ] => 8,
-        _ => 1,
+    for at in 0..32 {
+        match puts.get(at) {
+            Some(Put::Item(_item)) => {}
+            _ => return 1,
+        }
     }
+    32
+}
+
+/// What is bound for an item; of another row nothing.
+fn item_or_nulls(put: &Put) -> [ValueRef<'_>; 6]
+    ensures { bound result ≡ given_item put.now }
+{
+    match put {
+        Put::Item(row) => item_values(row),
+        Put::NewDevice(_) | Put::Device(_) => [ValueRef::Null; 6],
+        Put::NewLog(_) | Put::Log(_) => [ValueRef::Null; 6],
+        Put::Beginning(_) | Put::Lowered(_) => [ValueRef::Null; 6],
+    }
+}
+
+/// What is bound for so many items, one after the other.
+fn many_bound(these: &[Put]) -> [[ValueRef<'_>; 6]; 32]
+    requires { length these.now ≡ 32 }
+    ensures { bound (flat_map (λ row. row) result) ≡ flat_map given_item these.now }
+{
+    let mut rows = [[ValueRef::Null; 6]; 32];
+    for at in 0..32 {
+        rows[at] = item_or_nulls(&these[at]);
+    }
+    rows
 }
 
 /// Puts one row.
@@ -113,32 +136,10 @@ fn put_these<S: Alter>(tx: &mut Transaction<'_, S>, these: &[Put]) -> Result<usi
     ensures crash { Survives (state S.Store tx.old.conn.now) (state S.Store tx.new.conn.now)
         (λ _. ⊥) }
 {
-    match these {
-        [
-            Put::Item(a),
-            Put::Item(b),
-            Put::Item(c),
-            Put::Item(d),
-            Put::Item(e),
-            Put::Item(f),
-            Put::Item(g),
-            Put::Item(h),
-        ] => {
-            let rows = [
-                item_values(a),
-                item_values(b),
-                item_values(c),
-                item_values(d),
-                item_values(e),
-                item_values(f),
-                item_values(g),
-                item_values(h),
-            ];
-            tx.execute(EIGHT, rows.as_flattened())
-        }
-        [put] => put_one(tx, put),
-        _ => unreachable!(),
+    if these.len() == 1 {
+        return put_one(tx, &these[0]);
     }
+    tx.execute(MANY, many_bound(these).as_flattened())
 }
 
 /// Puts each row in turn.

@@ -56,7 +56,7 @@ pub struct LogRow {
 }
 
 /// A record, or a gap up to `last`.
-#[derive(Debug, Drop)]
+#[derive(Drop)]
 pub struct ItemRow {
     /// The log, the epoch and the number.
     pub id: i64,
@@ -78,7 +78,7 @@ pub struct BeginningRow {
 }
 
 /// A row that is put.
-#[derive(Debug, Drop)]
+#[derive(Drop)]
 pub enum Put {
     NewDevice(DeviceRow),
     /// In place of the one with its id.

@@ -28,7 +28,7 @@ use sqlite::{Alter, Connection, Error, ErrorCode, Row};
 use std::alloc::Global;
 
 /// What an archive holds as a run begins.
-#[derive(Debug, Drop)]
+#[derive(Drop)]
 pub struct Standing {
     /// When it was made.
     pub made: String,

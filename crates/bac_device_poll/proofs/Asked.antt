@@ -2,7 +2,7 @@
 use Rattle.std.proofs.Common.{◌≡◌, ◌∙◌, List, [], ap}
 use Rattle.bac_device_poll.specs.State.{DeviceState}
 use Rattle.bac_device_poll.specs.Turns.{Turned, asks}
-use Rattle.bac_device_poll.specs.declared.entry.Entry.{Entry}
+use Rattle.bac_answers.specs.declared.entry.Entry.{Entry}
 
 -- without entries
 pub asked : (p : DeviceState) (es : List Entry) (t : Turned) → t ≡ asks p es → es ≡ [] → t ≡ asks p []

@@ -1,5 +1,6 @@
 -- No log of a device is left out.
-use Rattle.std.proofs.Common.{◌≡◌, ◌∙◌, ℕ, ◌+◌, ◌==◌, ◌&&◌, nat_le, Bool, true, false, if◌then◌else◌, List, [], ◌∷◌, ◌++◌, map, Option, None, Some, ap, sym, refl, subst, append-nil}
+use Rattle.std.proofs.Common.{◌≡◌, ◌∙◌, ℕ, ◌+◌, ◌==◌, ◌&&◌, nat_le, Bool, true, false, if◌then◌else◌, List, [], ◌∷◌}
+use Rattle.std.proofs.Common.{◌++◌, map, Option, None, Some, ap, sym, refl, subst, append-nil}
 use Rattle.std.proofs.lemmas.Grind.{flat_map-append}
 use Rattle.std.proofs.lemmas.List.{map-append}
 use Rattle.bac_wire.specs.Primitive.{Id}
@@ -7,30 +8,33 @@ use Rattle.bac_wire.specs.Stamp.{CivilTime}
 use Rattle.bac_wire.specs.declared.stamp.Date4.{Date4}
 use Rattle.bac_link.specs.declared.exchanges.Verdict.{Verdict}
 use Rattle.bac_poll.specs.Turns.{Turned as LogTurned}
-use Rattle.bac_poll.specs.declared.turn.PollEnd.{PollEnd}
+use Rattle.bac_poll_steps.specs.declared.turn.PollEnd.{PollEnd}
 use Rattle.bac_device_poll.specs.Clock.{after_clock, after_date, clocks}
 use Rattle.bac_device_poll.specs.Identity.{after_i_am, after_instance, after_name, met_as, whose}
-use Rattle.bac_device_poll.specs.Laws.{added_by, added_in, at_stage, ended_by, ended_in, left, not_asked_by, not_asked_in, waiting}
-use Rattle.bac_device_poll.specs.Listing.{after_count, after_element, after_objects, are_same, listed, lists, may_differ, new_among, new_log, others_in, told_others, unlisted}
+use Rattle.bac_device_poll.specs.Laws.{added_by, added_in, at_stage, ended_by, ended_in, left, not_asked_by}
+use Rattle.bac_device_poll.specs.Laws.{not_asked_in, waiting}
+use Rattle.bac_device_poll.specs.Listing.{after_count, after_element, after_objects, are_same, listed, lists}
+use Rattle.bac_device_poll.specs.Listing.{may_differ, new_among, new_log, others_in, told_others, unlisted}
 use Rattle.bac_device_poll.specs.Logs.{after_loss, begins_with, halved, log_at, loss_at, stage_behind, with_log}
-use Rattle.bac_device_poll.specs.Naming.{after_description, is_changed, is_other, names, names_next, names_with, read_at, told_read, unnamed}
+use Rattle.bac_device_poll.specs.Naming.{after_description, is_changed, is_other, names, names_next, names_with}
+use Rattle.bac_device_poll.specs.Naming.{read_at, told_read, unnamed}
 use Rattle.bac_device_poll.specs.Poll.{Answers}
 use Rattle.bac_device_poll.specs.declared.poll.Known.{Known}
 use Rattle.bac_device_poll.specs.State.{DeviceState, LogAs}
 use Rattle.bac_device_poll.specs.Turns.{Turned, asks, leaves, not_asked}
-use Rattle.bac_device_poll.specs.declared.entry.Entry.{Entry}
-use Rattle.bac_device_poll.specs.declared.entry.Entry.TheVariants as entry
+use Rattle.bac_answers.specs.declared.entry.Entry.{Entry}
+use Rattle.bac_answers.specs.declared.entry.Entry.TheVariants as entry
 use Rattle.bac_device_poll.specs.Values.{number_of, value_by}
-use Rattle.bac_device_poll.specs.declared.entry.Offset.{Offset}
-use Rattle.bac_device_poll.specs.declared.entry.Others.{Others}
+use Rattle.bac_answers.specs.declared.entry.Offset.{Offset}
+use Rattle.bac_answers.specs.declared.entry.Others.{Others}
 use Rattle.bac_device_poll.specs.declared.stage.Stage.{Stage}
 use Rattle.bac_device_poll.specs.declared.stage.Stage.TheVariants as stage
 use Rattle.bac_device_poll.specs.declared.task.Polled.{Polled}
 use Rattle.bac_device_poll.specs.declared.turn.DeviceEnd.{DeviceEnd}
-use Rattle.bac_device_poll.specs.declared.who.Who.{Who}
-use Rattle.bac_device_poll.specs.declared.who.Who.TheVariants as who
-use Rattle.bac_device_poll.specs.declared.who.Whose.{Whose}
-use Rattle.bac_device_poll.specs.declared.who.Whose.TheVariants as whose_is
+use Rattle.bac_answers.specs.declared.who.Who.{Who}
+use Rattle.bac_answers.specs.declared.who.Who.TheVariants as who
+use Rattle.bac_answers.specs.declared.who.Whose.{Whose}
+use Rattle.bac_answers.specs.declared.who.Whose.TheVariants as whose_is
 
 -- ---- where none is polled
 

@@ -1,13 +1,16 @@
 -- No log of a device is left out: a step, and a run.
-use Rattle.std.proofs.Common.{◌≡◌, ◌∙◌, ℕ, ◌+◌, ◌&&◌, Bool, true, false, List, [], ◌∷◌, ◌++◌, map, MatchBool, Option, None, Some, ap, sym, refl, subst, append-nil, append_assoc, inl, inr, ◌⊎◌, nat_lt}
+use Rattle.std.proofs.Common.{◌≡◌, ◌∙◌, ℕ, ◌+◌, ◌&&◌, Bool, true, false, List, [], ◌∷◌, ◌++◌, map, MatchBool, Option}
+use Rattle.std.proofs.Common.{None, Some, ap, sym, refl, subst, append-nil, append_assoc, inl, inr, ◌⊎◌, nat_lt}
 use Rattle.bac_wire.specs.Primitive.{Id}
 use Rattle.bac_wire.specs.Stamp.{CivilTime}
 use Rattle.bac_link.specs.declared.exchanges.Verdict.{Verdict}
 use Rattle.bac_poll.specs.Turns.{Turned as LogTurned, ends}
-use Rattle.bac_poll.specs.declared.turn.PollEnd.TheVariants.{Fault}
+use Rattle.bac_poll_steps.specs.declared.turn.PollEnd.TheVariants.{Fault}
 use Rattle.bac_walk.specs.declared.outcome.WalkFault.TheVariants as walk
-use Rattle.bac_device_poll.specs.Laws.{ComesAt, NoneLeftOut, Runs, added_in, at_stage, behind as after_all, ended_in, found_in, left, not_asked_in, settled, waiting}
-use Rattle.bac_device_poll.specs.Logs.{after_end, after_log, after_loss, begins_with, is_too_many, log_after, log_at, loss_at}
+use Rattle.bac_device_poll.specs.Laws.{ComesAt, NoneLeftOut, Runs, added_in, at_stage, behind as after_all, ended_in}
+use Rattle.bac_device_poll.specs.Laws.{found_in, left, not_asked_in, settled, waiting}
+use Rattle.bac_device_poll.specs.Logs.{after_end, after_log, after_loss, begins_with, is_too_many, log_after, log_at}
+use Rattle.bac_device_poll.specs.Logs.{loss_at}
 use Rattle.bac_device_poll.specs.Refusals.{is_busy}
 use Rattle.bac_link.specs.Datagrams.{apdu_in}
 use Rattle.bac_device_poll.specs.Poll.{Answers, Takes, answered, asked_of_device, fresh, later, verdict_to}
@@ -17,7 +20,8 @@ use Rattle.bac_device_poll.specs.declared.stage.Stage.{Stage}
 use Rattle.bac_device_poll.specs.declared.stage.Stage.TheVariants as stage
 use Rattle.bac_device_poll.specs.declared.task.Polled.{Polled}
 use Rattle.bac_device_poll.specs.declared.turn.DeviceEnd.TheVariants.{Silent}
-use Rattle.bac_device_poll.proofs.LeftOut.{Accounts, Goes, IsApt, PollsOn, Stays, accounts, answer_polls, answers_go, begun, i_am_goes, loss_goes, lost_if}
+use Rattle.bac_device_poll.proofs.LeftOut.{Accounts, Goes, IsApt, PollsOn, Stays, accounts, answer_polls, answers_go}
+use Rattle.bac_device_poll.proofs.LeftOut.{begun, i_am_goes, loss_goes, lost_if}
 
 -- ---- one step
 

@@ -3,7 +3,5 @@ mod Fits
 mod Foreign
 mod LeftOut
 mod LeftOutRuns
-mod Objects
 mod OnlyAsked
 mod RefusedOne
-mod WhoIs

@@ -2,8 +2,8 @@
 use Rattle.std.proofs.Common.{Option, None, Some}
 use Rattle.bac_poll.specs.Poll.{question_at as log_question_at}
 use Rattle.bac_poll.specs.State.{PollState}
-use Rattle.bac_poll.specs.declared.stage.Stage.{Stage as LogStage}
-use Rattle.bac_poll.specs.declared.stage.Stage.TheVariants as log
+use Rattle.bac_poll_steps.specs.declared.stage.Stage.{Stage as LogStage}
+use Rattle.bac_poll_steps.specs.declared.stage.Stage.TheVariants as log
 use Rattle.bac_device_poll.specs.Laws.{AsksReadings, IsReading}
 use Rattle.bac_device_poll.specs.Poll.{asks_log, question_at}
 use Rattle.bac_device_poll.specs.State.{DeviceState}

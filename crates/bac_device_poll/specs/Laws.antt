@@ -11,8 +11,8 @@ use Rattle.bac_link.specs.declared.request.Request.TheVariants as request
 use Rattle.bac_poll.specs.DateTime.{undated}
 use Rattle.bac_poll.specs.State.{ToldAs}
 use Rattle.bac_poll.specs.Turns.{Turned as LogTurned, ends}
-use Rattle.bac_poll.specs.declared.turn.PollEnd.{PollEnd}
-use Rattle.bac_poll.specs.declared.turn.PollEnd.TheVariants.{Fault}
+use Rattle.bac_poll_steps.specs.declared.turn.PollEnd.{PollEnd}
+use Rattle.bac_poll_steps.specs.declared.turn.PollEnd.TheVariants.{Fault}
 use Rattle.bac_walk.specs.declared.outcome.WalkFault.TheVariants as walk
 use Rattle.bac_device_poll.specs.Identity.{after_i_am, after_instance, after_name}
 use Rattle.bac_device_poll.specs.Logs.{after_end, after_loss, halved, is_records, is_too_many, wanted_at}
@@ -20,9 +20,9 @@ use Rattle.bac_device_poll.specs.Poll.{Takes, answered, asked_of_device, fresh, 
 use Rattle.bac_device_poll.specs.Refusals.{is_passing}
 use Rattle.bac_device_poll.specs.State.{DeviceState, LogAs}
 use Rattle.bac_device_poll.specs.Turns.{Turned, asks}
-use Rattle.bac_device_poll.specs.declared.entry.Entry.{Entry}
-use Rattle.bac_device_poll.specs.declared.entry.Entry.TheVariants as entry
-use Rattle.bac_device_poll.specs.declared.entry.Naming.{Naming}
+use Rattle.bac_answers.specs.declared.entry.Entry.{Entry}
+use Rattle.bac_answers.specs.declared.entry.Entry.TheVariants as entry
+use Rattle.bac_answers.specs.declared.entry.Naming.{Naming}
 use Rattle.bac_device_poll.specs.declared.poll.Known.{Known}
 use Rattle.bac_device_poll.specs.declared.question.Question.{Question}
 use Rattle.bac_device_poll.specs.declared.question.Question.TheVariants.{Confirmed, Nothing, WhoIs}
@@ -31,8 +31,8 @@ use Rattle.bac_device_poll.specs.declared.stage.Stage.TheVariants as stage
 use Rattle.bac_device_poll.specs.declared.task.Polled.{Polled}
 use Rattle.bac_device_poll.specs.declared.turn.DeviceEnd.TheVariants.{Foreign}
 use Rattle.bac_device_poll.specs.declared.turn.Step.TheVariants.{End}
-use Rattle.bac_device_poll.specs.declared.who.Who.{Who}
-use Rattle.bac_device_poll.specs.declared.who.Who.TheVariants.{Address, Device, Name}
+use Rattle.bac_answers.specs.declared.who.Who.{Who}
+use Rattle.bac_answers.specs.declared.who.Who.TheVariants.{Address, Device, Name}
 
 -- ---- what is asked
 

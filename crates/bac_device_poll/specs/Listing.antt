@@ -1,24 +1,19 @@
 -- The Object_List of a device (clause 12.11): which trend logs it has.
-use Rattle.std.specs.Prelude.{ℕ, ◌+◌, ◌==◌, ◌&&◌, ◌||◌, nat_le, not, Bool, true, false, if◌then◌else◌, List, [], ◌∷◌}
+use Rattle.std.specs.Prelude.{ℕ, ◌+◌, ◌==◌, ◌&&◌, ◌||◌, nat_le, not, Bool, true, if◌then◌else◌, List, [], ◌∷◌}
 use Rattle.std.specs.Prelude.{◌++◌, map}
-use Rattle.std.specs.Prelude.{Option, None, Some, count_by}
+use Rattle.std.specs.Prelude.{Option, None, Some}
 use Rattle.std.specs.List.{fold, list_any}
 use Rattle.bac_wire.specs.Primitive.{Id}
 use Rattle.bac_poll.specs.Poll.{nothing_told}
-use Rattle.bac_device_poll.specs.Naming.{is_other, names}
+use Rattle.bac_device_poll.specs.Naming.{names}
 use Rattle.bac_device_poll.specs.State.{DeviceState, LogAs, Starting}
 use Rattle.bac_device_poll.specs.Turns.{Turned, asks}
-use Rattle.bac_device_poll.specs.declared.entry.Entry.{Entry}
-use Rattle.bac_device_poll.specs.declared.entry.Entry.TheVariants.{Added, Others as Told}
-use Rattle.bac_device_poll.specs.declared.entry.Others.{Others}
+use Rattle.bac_answers.specs.declared.entry.Entry.{Entry}
+use Rattle.bac_answers.specs.declared.entry.Entry.TheVariants.{Added}
 use Rattle.bac_device_poll.specs.declared.stage.Stage.TheVariants.{Count, Element, Objects}
+pub use Rattle.bac_answers.specs.Listing.{may_differ, is_object, count_of, others_in, are_same, told_others}
 
 -- ---- whether it is asked for
-
--- whether a device that tells this revision may have another list; one that tells none may
-abbrev pub may_differ : (was : Option ℕ) → (now : Option ℕ) → Bool
-may_differ was None = true
-may_differ was (Some now) = is_other was now
 
 -- The list is asked for of a device that is kept whole, where it may be another one.
 abbrev pub lists : DeviceState → List Entry → Turned
@@ -28,10 +23,6 @@ lists p entries =
     else names p entries
 
 -- ---- the trend logs in it
-
--- the same object
-abbrev pub is_object : Id → Id → Bool
-is_object object other = object.kind == other.kind && object.instance == other.instance
 
 -- one of these logs
 abbrev pub is_polled : Id → List LogAs → Bool
@@ -54,25 +45,6 @@ new_among logs stopped objects = fold (add_new logs stopped) [] objects
 -- one of which nothing is kept yet
 abbrev pub new_log : Id → LogAs
 new_log object = record { log = object; begin = Starting None nothing_told }
-
--- ---- objects whose records aren't kept
-
--- objects of a type among these
-abbrev pub count_of : (kind : ℕ) → List Id → ℕ
-count_of kind objects = count_by (λ (object : Id). object.kind == kind) objects
-
--- Trend Log Multiple objects (type 27) and Event Log objects (type 25)
-abbrev pub others_in : List Id → Others
-others_in objects = record { multiple = count_of 27 objects; event = count_of 25 objects }
-
--- the same numbers of them
-abbrev pub are_same : Option Others → Others → Bool
-are_same None now = now.multiple == 0 && now.event == 0
-are_same (Some was) now = was.multiple == now.multiple && was.event == now.event
-
--- They are told where their numbers are other ones.
-abbrev pub told_others : Option Others → Others → List Entry
-told_others was now = if are_same was now then [] else Told now ∷ []
 
 -- ---- what each answer makes of it
 

@@ -1,24 +1,23 @@
 -- The logs of a device are polled, one after the other.
-use Rattle.std.specs.Prelude.{ℕ, Bool, true, false, ◌&&◌, nat_lt, if◌then◌else◌, List, [], ◌∷◌, ◌++◌, Option, None}
+use Rattle.std.specs.Prelude.{ℕ, Bool, true, false, ◌&&◌, nat_lt, if◌then◌else◌, List, [], ◌∷◌, Option, None}
 use Rattle.std.specs.Prelude.{Some}
-use Rattle.bac_wire.specs.Primitive.{Id}
 use Rattle.bac_link.specs.declared.exchanges.Verdict.{Verdict}
 use Rattle.bac_link.specs.declared.exchanges.Verdict.TheVariants.{Ack, BadReply, Refused}
 use Rattle.bac_walk.specs.declared.outcome.WalkFault.TheVariants as walk
 use Rattle.bac_poll.specs.Poll.{after, after_count, after_restart, after_revision, after_too_many}
 use Rattle.bac_poll.specs.State.{PollState}
 use Rattle.bac_poll.specs.Turns.{Turned as LogTurned, ends}
-use Rattle.bac_poll.specs.declared.stage.Stage.TheVariants as log
-use Rattle.bac_poll.specs.declared.stage.Stage.{Stage as LogStage}
-use Rattle.bac_poll.specs.declared.turn.PollEnd.{PollEnd}
-use Rattle.bac_poll.specs.declared.turn.PollEnd.TheVariants.{Fault}
+use Rattle.bac_poll_steps.specs.declared.stage.Stage.TheVariants as log
+use Rattle.bac_poll_steps.specs.declared.stage.Stage.{Stage as LogStage}
+use Rattle.bac_poll_steps.specs.declared.turn.PollEnd.{PollEnd}
+use Rattle.bac_poll_steps.specs.declared.turn.PollEnd.TheVariants.{Fault}
 use Rattle.bac_device_poll.specs.Identity.{device_of}
 use Rattle.bac_device_poll.specs.Refusals.{is_busy, is_too_long}
 use Rattle.bac_device_poll.specs.State.{DeviceState, LogAs, begun}
 use Rattle.bac_device_poll.specs.Turns.{Turned, asks, leaves}
 use Rattle.bac_device_poll.specs.Values.{number_of, told_by, value_by}
 use Rattle.bac_device_poll.specs.Word.{moment_of, restart_of}
-use Rattle.bac_device_poll.specs.declared.entry.Entry.{Entry}
+use Rattle.bac_answers.specs.declared.entry.Entry.{Entry}
 use Rattle.bac_device_poll.specs.declared.logs.Wanted.{Wanted}
 use Rattle.bac_device_poll.specs.declared.logs.Wanted.TheVariants.{Records, Count, Revision, Restart}
 use Rattle.bac_device_poll.specs.declared.stage.Stage.{Stage}

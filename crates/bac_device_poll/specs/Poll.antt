@@ -1,5 +1,5 @@
 -- How a device is polled: what is asked, and what an answer makes of it. Read `Takes` from the end.
-use Rattle.std.specs.Prelude.{◌≡◌, ℕ, ◌+◌, ◌&&◌, nat_lt, not, Bool, true, false, MatchBool, List, [], ◌∷◌, Option, None}
+use Rattle.std.specs.Prelude.{◌≡◌, ℕ, ◌+◌, ◌&&◌, nat_lt, not, Bool, false, MatchBool, List, [], Option, None}
 use Rattle.std.specs.Prelude.{Some}
 use Rattle.bac_wire.specs.Primitive.{Id}
 use Rattle.bac_wire.specs.Stamp.{CivilTime}
@@ -13,7 +13,7 @@ use Rattle.bac_link.specs.declared.request.Request.TheVariants as request
 use Rattle.bac_poll.specs.Poll.{asked_by_poll, nothing_told}
 use Rattle.bac_known.specs.declared.date_time.DateTime.{DateTime}
 use Rattle.bac_device_poll.specs.Clock.{IsOffset, after_clock, after_date, clocks}
-use Rattle.bac_device_poll.specs.Identity.{after_i_am, after_instance, after_name, device_of, itself, own_device}
+use Rattle.bac_device_poll.specs.Identity.{after_instance, after_name, device_of, itself, own_device}
 use Rattle.bac_device_poll.specs.Listing.{after_count, after_element, after_objects}
 use Rattle.bac_device_poll.specs.Logs.{after_log}
 use Rattle.bac_device_poll.specs.Refusals.{is_busy, is_too_long}
@@ -24,7 +24,7 @@ use Rattle.bac_device_poll.specs.Turns.{Turned, asks}
 use Rattle.bac_device_poll.specs.Values.{IsText, date_of, enumerated_of, number_of, object_of, objects_of, time_of}
 use Rattle.bac_device_poll.specs.Values.{told_by, value_by}
 use Rattle.bac_device_poll.specs.Word.{moment_of, restart_of}
-use Rattle.bac_device_poll.specs.declared.entry.Offset.{Offset}
+use Rattle.bac_answers.specs.declared.entry.Offset.{Offset}
 use Rattle.bac_device_poll.specs.declared.poll.Known.{Known}
 use Rattle.bac_device_poll.specs.declared.question.Question.{Question}
 use Rattle.bac_device_poll.specs.declared.question.Question.TheVariants.{Confirmed, Nothing, WhoIs}

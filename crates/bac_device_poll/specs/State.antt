@@ -3,13 +3,13 @@ use Rattle.std.specs.Prelude.{ℕ, Bool, List, Option}
 use Rattle.bac_wire.specs.Primitive.{Id}
 use Rattle.bac_poll.specs.Poll.{joining, starting}
 use Rattle.bac_poll.specs.State.{PollState, StandingAs, ToldAs, standing_as, told_as}
-use Rattle.bac_device_poll.specs.declared.entry.Naming.{Naming}
-use Rattle.bac_device_poll.specs.declared.entry.Others.{Others}
+use Rattle.bac_answers.specs.declared.entry.Naming.{Naming}
+use Rattle.bac_answers.specs.declared.entry.Others.{Others}
 use Rattle.bac_device_poll.specs.declared.stage.Stage.{Stage}
 use Rattle.bac_device_poll.specs.declared.task.Begin.{Begin}
 use Rattle.bac_device_poll.specs.declared.task.Begin.TheVariants as code
 use Rattle.bac_device_poll.specs.declared.task.Polled.{Polled}
-use Rattle.bac_device_poll.specs.declared.who.Who.{Who}
+use Rattle.bac_answers.specs.declared.who.Who.{Who}
 
 -- From where a log is polled: behind its rows; or from its beginning, which may be on record by its count.
 pub data BeginAs : Type 0 where

@@ -1,11 +1,10 @@
 -- What an answer makes of a device's poll.
 use Rattle.std.specs.Prelude.{List, [], ◌++◌, map, Option, None, Some}
-use Rattle.bac_wire.specs.Primitive.{Id}
 use Rattle.bac_poll.specs.Turns.{Turned as LogTurned, turned as log_turned}
-use Rattle.bac_poll.specs.declared.turn.Turn.{Turn as LogTurn}
+use Rattle.bac_poll_steps.specs.declared.turn.Turn.{Turn as LogTurn}
 use Rattle.bac_device_poll.specs.State.{DeviceState, LogAs}
-use Rattle.bac_device_poll.specs.declared.entry.Entry.{Entry}
-use Rattle.bac_device_poll.specs.declared.entry.Entry.TheVariants.{NotAsked}
+use Rattle.bac_answers.specs.declared.entry.Entry.{Entry}
+use Rattle.bac_answers.specs.declared.entry.Entry.TheVariants.{NotAsked}
 use Rattle.bac_device_poll.specs.declared.stage.Stage.TheVariants.{Ended}
 use Rattle.bac_device_poll.specs.declared.task.Polled.{Polled}
 use Rattle.bac_device_poll.specs.declared.turn.DeviceEnd.{DeviceEnd}

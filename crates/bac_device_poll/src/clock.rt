@@ -1,61 +1,15 @@
 //! The clock of a device.
 
-ghost use Rattle.std.specs.Prelude.{◌≡◌, IfOk, SomeIff};
-ghost use Rattle.bac_wire.specs.Stamp.{IsCivilTime};
-ghost use Rattle.bac_device_poll.specs.Clock.{AreApart, IsOffset, after_clock, after_date, clocks};
-ghost use Rattle.bac_device_poll.specs.Clock.{shown};
+ghost use Rattle.std.specs.Prelude.{◌≡◌, IfOk};
+ghost use Rattle.bac_device_poll.specs.Clock.{after_clock, after_date, clocks};
 ghost use Rattle.bac_device_poll.specs.Turns.{turned};
 
-use crate::entry::{Entry, Offset};
 use crate::poll::DevicePoll;
 use crate::stage::Stage;
 use crate::turn::{Turn, none, only};
-use bac_wire::{Date4, Stamp, Time4};
+use bac_answers::{Entry, Offset};
+use bac_wire::Date4;
 use std::alloc::{AllocError, Global};
-
-/// The year from which a Date counts (clause 20.2.12).
-const FIRST_YEAR: u16 = 1900;
-
-// The moment that a date and time show, if they show one.
-fn shown(date: Date4, time: Time4) -> Option<Stamp>
-    ensures { SomeIff result (IsCivilTime (shown date time)) (shown date time) }
-{
-    Stamp::new(
-        FIRST_YEAR + u16::from(date.year),
-        date.month,
-        date.day,
-        time.hour,
-        time.minute,
-        time.second,
-        time.hundredth,
-    )
-}
-
-// How far a moment that a device shows lies from this machine's.
-fn offset_of(at: Stamp, now: Stamp) -> Offset
-    ensures { AreApart at now result }
-{
-    let device = at.ticks() / 100;
-    let machine = now.ticks() / 100;
-    if machine <= device {
-        Offset::Ahead(device - machine)
-    } else {
-        Offset::Behind(machine - device)
-    }
-}
-
-/// A device's clock beside this machine's; none, if what it shows is no moment.
-pub(crate) fn offset(date: Date4, time: Option<Time4>, now: Stamp) -> Option<Offset>
-    ensures { IsOffset date time now result }
-{
-    match time {
-        Some(time) => match shown(date, time) {
-            Some(at) => Some(offset_of(at, now)),
-            None => None,
-        },
-        None => None,
-    }
-}
 
 impl DevicePoll {
     /// Its clock is asked for, once a day.

@@ -1,62 +1,16 @@
 //! Who answers, and whether it is the device on record.
 
 ghost use Rattle.std.specs.Prelude.{◌≡◌, IfOk};
-ghost use Rattle.bac_device_poll.specs.Identity.{after_i_am, after_instance, after_name, device_of};
-ghost use Rattle.bac_device_poll.specs.Identity.{goes_on, itself, met, met_as, own_device};
+ghost use Rattle.bac_device_poll.specs.Identity.{after_i_am, after_instance, after_name};
+ghost use Rattle.bac_device_poll.specs.Identity.{goes_on, met, met_as};
 ghost use Rattle.bac_device_poll.specs.Turns.{turned};
 
-use crate::entry::Entry;
 use crate::poll::DevicePoll;
 use crate::stage::Stage;
-use crate::text::Text;
 use crate::turn::{DeviceEnd, Turn, none, only};
-use crate::who::{Who, Whose, find_whose};
+use bac_answers::{Entry, Text, Who, Whose, find_whose};
 use bac_wire::ObjectId;
 use std::alloc::{AllocError, Global};
-
-/// The type of a Device object (clause 21, BACnetObjectType).
-const DEVICE: u16 = 8;
-
-/// The instance by which each device answers for its own Device object (clause 15.5).
-const ITSELF: u32 = 4_194_303;
-
-/// The Device object of whoever answers.
-pub(crate) fn itself() -> ObjectId
-    ensures { result ≡ itself }
-{
-    match ObjectId::new(DEVICE, ITSELF) {
-        Some(object) => object,
-        None => unreachable!(),
-    }
-}
-
-/// The Device object of a device that is known so.
-pub(crate) fn device_of(who: &Option<Who>) -> ObjectId
-    ensures { result ≡ device_of who.now }
-{
-    match who {
-        Some(Who::Device(device)) => *device,
-        Some(Who::Name(_)) => itself(),
-        Some(Who::Address) => itself(),
-        None => itself(),
-    }
-}
-
-/// A Device object with an instance of its own.
-pub(crate) fn own_device(object: Option<ObjectId>) -> Option<ObjectId>
-    ensures { result ≡ own_device object }
-{
-    match object {
-        Some(object) => {
-            if object.kind() == DEVICE && object.instance() < ITSELF {
-                Some(object)
-            } else {
-                None
-            }
-        }
-        None => None,
-    }
-}
 
 impl DevicePoll {
     // It is known: its word is asked for.

@@ -9,7 +9,6 @@
 #![tactic(auto)]
 
 mod clock;
-mod entry;
 mod identity;
 mod laws;
 mod listing;
@@ -17,26 +16,18 @@ mod logs;
 mod naming;
 mod poll;
 mod question;
-mod read;
-mod refusal;
-mod source;
 mod stage;
 mod task;
-mod text;
 mod turn;
-mod way;
-mod who;
 mod word;
 
-pub use entry::{Entry, Naming, Offset, Others, Reference};
+pub use bac_answers::{
+    Entry, Naming, Offset, Others, Reference, Text, Way, Who, Whose, moment_in, restart_in,
+};
 pub use laws::{asks_readings, keeps_no_other, none_left_out, refusals_end_one};
 pub use logs::Wanted;
 pub use poll::{DevicePoll, Known};
 pub use question::Question;
 pub use stage::Stage;
 pub use task::{Begin, LogTask, Polled};
-pub use text::Text;
 pub use turn::{DeviceEnd, Step, Turn};
-pub use way::Way;
-pub use who::{Who, Whose};
-pub use word::{moment_in, restart_in};

@@ -1,62 +1,22 @@
 //! The Object_List of a device: which trend logs it has.
 
 ghost use Rattle.std.specs.Prelude.{◌≡◌, ◌++◌, IfOk, OnOk, map, option_map};
-ghost use Rattle.std.specs.List.{All, list_any};
+ghost use Rattle.std.specs.List.{All};
 ghost use Rattle.bac_device_poll.specs.Listing.{after_count, after_element, after_objects};
-ghost use Rattle.bac_device_poll.specs.Listing.{are_same};
-ghost use Rattle.bac_device_poll.specs.Listing.{count_of, is_known, is_object, is_polled};
-ghost use Rattle.bac_device_poll.specs.Listing.{listed, lists, may_differ, new_among};
-ghost use Rattle.bac_device_poll.specs.Listing.{new_log};
-ghost use Rattle.bac_device_poll.specs.Listing.{others_in, told_others, unlisted};
+ghost use Rattle.bac_device_poll.specs.Listing.{is_known, is_polled, listed, lists, new_among};
+ghost use Rattle.bac_device_poll.specs.Listing.{new_log, unlisted};
 ghost use Rattle.bac_device_poll.specs.Turns.{turned};
-ghost use Rattle.bac_device_poll.specs.declared.entry.Entry.TheVariants.{Added};
 
-use crate::entry::{Entry, Others};
-use crate::naming::is_other;
 use crate::poll::DevicePoll;
 use crate::stage::Stage;
 use crate::task::{Begin, LogTask};
 use crate::turn::{Turn, none};
+use bac_answers::{Entry, added, is_among, is_object, may_differ, others_in, push_others};
 use bac_apdu::object_type::TREND_LOG;
 use bac_poll::Told;
 use bac_wire::ObjectId;
 use std::alloc::{AllocError, Global};
 use std::mem::replace;
-
-/// Event Log (clause 21, BACnetObjectType).
-const EVENT_LOG: u16 = 25;
-
-/// Trend Log Multiple.
-const TREND_LOG_MULTIPLE: u16 = 27;
-
-// Whether a device that tells this revision may have another list.
-fn may_differ(was: Option<u32>, now: Option<u32>) -> bool
-    ensures { result ≡ may_differ was now }
-{
-    match now {
-        Some(now) => is_other(was, now),
-        None => true,
-    }
-}
-
-// Whether these are the same object.
-fn is_object(object: ObjectId, other: ObjectId) -> bool
-    ensures { result ≡ is_object object other }
-{
-    object.kind() == other.kind() && object.instance() == other.instance()
-}
-
-// Whether an object is one of these.
-fn is_among(objects: &[ObjectId], object: ObjectId) -> bool
-    ensures { result ≡ list_any (is_object object) objects.now }
-{
-    for one in objects {
-        if is_object(object, *one) {
-            return true;
-        }
-    }
-    false
-}
 
 // Whether it is a log of these, which are polled in their turn.
 fn is_polled(logs: &[LogTask], object: ObjectId) -> bool
@@ -110,60 +70,6 @@ fn push_new(alloc: Global, tasks: &mut Vec<LogTask>, logs: &[ObjectId]) -> Resul
         }
     }
     Ok(())
-}
-
-// How many of these are of a type.
-fn count_of(kind: u16, objects: &[ObjectId]) -> u64
-    ensures { result ≡ count_of kind objects.now }
-{
-    let mut count = 0;
-    for object in objects {
-        if object.kind() == kind {
-            count += 1;
-        }
-    }
-    count
-}
-
-// How many objects there are among these whose records aren't kept.
-fn others_in(objects: &[ObjectId]) -> Others
-    ensures { result ≡ others_in objects.now }
-{
-    Others {
-        multiple: count_of(TREND_LOG_MULTIPLE, objects),
-        event: count_of(EVENT_LOG, objects),
-    }
-}
-
-// Whether they are as many as were told.
-fn are_same(was: Option<Others>, now: Others) -> bool
-    ensures { result ≡ are_same was now }
-{
-    match was {
-        Some(was) => was.multiple == now.multiple && was.event == now.event,
-        None => now.multiple == 0 && now.event == 0,
-    }
-}
-
-// Tells them, where their numbers are other ones.
-fn push_others(entries: &mut Vec<Entry>, was: Option<Others>, now: Others) -> Result<(), AllocError>
-    ensures { OnOk result (entries.new.items ≡ entries.old.items ++ told_others was now) }
-{
-    if !are_same(was, now) {
-        entries.push(Entry::Others(now))?;
-    }
-    Ok(())
-}
-
-// Tells of new logs.
-fn added(alloc: Global, logs: &[ObjectId]) -> Result<Vec<Entry>, AllocError>
-    ensures { IfOk result (λ entries. entries.items ≡ map Added logs.now) }
-{
-    let mut entries = Vec::new(alloc);
-    for log in logs {
-        entries.push(Entry::Added(*log))?;
-    }
-    Ok(entries)
 }
 
 impl DevicePoll {

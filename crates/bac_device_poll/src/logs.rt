@@ -10,15 +10,13 @@ ghost use Rattle.bac_device_poll.specs.Logs.{with_records};
 ghost use Rattle.bac_device_poll.specs.State.{LogAs};
 ghost use Rattle.bac_device_poll.specs.Turns.{leaves, not_asked, turned};
 
-use crate::entry::Entry;
-use crate::identity::device_of;
 use crate::poll::DevicePoll;
-use crate::read::number;
-use crate::refusal::{is_busy, is_too_long};
 use crate::stage::Stage;
 use crate::task::{LogTask, Polled};
 use crate::turn::{DeviceEnd, Step, Turn, none};
-use crate::word::{moment_in, restart_in, told_again};
+use bac_answers::{
+    Entry, device_of, is_busy, is_too_long, moment_in, restart_in, told_again, told_number,
+};
 use bac_link::Verdict;
 use bac_poll::{LogPoll, PollEnd, Stage as LogStage, Turn as LogTurn};
 use bac_walk::WalkFault;
@@ -96,8 +94,8 @@ fn take_as(
 {
     match wanted {
         Wanted::Records => take_records(alloc, poll, verdict, datagram),
-        Wanted::Count => poll.weigh(alloc, number(verdict, datagram)),
-        Wanted::Revision => poll.hear_revision(alloc, number(verdict, datagram)),
+        Wanted::Count => poll.weigh(alloc, told_number(verdict, datagram)),
+        Wanted::Revision => poll.hear_revision(alloc, told_number(verdict, datagram)),
         Wanted::Restart => {
             let restart = restart_in(alloc, verdict, datagram)?;
             let moment = moment_in(verdict, datagram);

@@ -2,69 +2,18 @@
 
 ghost use Rattle.std.specs.Prelude.{◌≡◌, ◌++◌, ◌∷◌, [], IfOk, OnOk, MatchOption, map};
 ghost use Rattle.bac_device_poll.specs.Naming.{after_description, after_log_name, after_source};
-ghost use Rattle.bac_device_poll.specs.Naming.{after_units, is_changed, is_of, is_other, is_own};
-ghost use Rattle.bac_device_poll.specs.Naming.{names, names_next, read_at, subject, told_read};
-ghost use Rattle.bac_device_poll.specs.Naming.{unnamed};
+ghost use Rattle.bac_device_poll.specs.Naming.{after_units, names, names_next, told_read};
 ghost use Rattle.bac_device_poll.specs.State.{LogAs};
 ghost use Rattle.bac_device_poll.specs.Turns.{turned};
 
-use crate::entry::{Entry, Naming, Reference};
 use crate::poll::DevicePoll;
 use crate::stage::Stage;
 use crate::task::LogTask;
-use crate::text::Text;
 use crate::turn::{Turn, none, only};
-use crate::who::Who;
+use bac_answers::{Entry, Reference, Text, is_changed, push_read, unnamed};
 use bac_wire::ObjectId;
 use std::alloc::{AllocError, Global};
 use std::mem::replace;
-
-/// Whether this is another revision than that on record.
-pub(crate) fn is_other(was: Option<u32>, now: u32) -> bool
-    ensures { result ≡ is_other was now }
-{
-    match was {
-        Some(was) => was != now,
-        None => true,
-    }
-}
-
-// Whether a device was changed that tells this revision.
-fn is_changed(was: Option<u32>, now: Option<u32>) -> bool
-    ensures { result ≡ is_changed was now }
-{
-    match now {
-        Some(now) => is_other(was, now),
-        None => false,
-    }
-}
-
-// Puts on record at which revision it was read.
-fn push_read(entries: &mut Vec<Entry>, was: Option<u32>, now: Option<u32>) -> Result<(), AllocError>
-    ensures { OnOk result (entries.new.items ≡ entries.old.items ++ read_at was now) }
-{
-    match now {
-        Some(now) => {
-            if is_other(was, now) {
-                entries.push(Entry::Read(now))?;
-            }
-        }
-        None => {}
-    }
-    Ok(())
-}
-
-/// Nothing was told of a log.
-pub(crate) fn unnamed() -> Naming
-    ensures { result ≡ unnamed }
-{
-    Naming {
-        name: None,
-        source: None,
-        units: None,
-        description: None,
-    }
-}
 
 // The logs of these tasks.
 fn logs_of(alloc: Global, tasks: &[LogTask]) -> Result<Vec<ObjectId>, AllocError>
@@ -86,44 +35,6 @@ fn first_of(logs: &mut Vec<ObjectId>) -> Option<ObjectId>
         return None;
     }
     Some(logs.remove(0))
-}
-
-// Whether a device that is known so is this one.
-fn is_of(who: &Option<Who>, device: ObjectId) -> bool
-    ensures { result ≡ is_of who.now device }
-{
-    match who {
-        Some(Who::Device(known)) => known.instance() == device.instance(),
-        Some(Who::Name(_)) => false,
-        Some(Who::Address) => false,
-        None => false,
-    }
-}
-
-// Whether what is logged is of the device itself.
-fn is_own(who: &Option<Who>, device: Option<ObjectId>) -> bool
-    ensures { result ≡ is_own who.now device }
-{
-    match device {
-        Some(device) => is_of(who, device),
-        None => true,
-    }
-}
-
-/// The object that tells the units and the description of a log.
-pub(crate) fn subject(who: &Option<Who>, log: ObjectId, source: Option<Reference>) -> ObjectId
-    ensures { result ≡ subject who.now log source }
-{
-    match source {
-        Some(source) => {
-            if is_own(who, source.device) {
-                source.object
-            } else {
-                log
-            }
-        }
-        None => log,
-    }
 }
 
 impl DevicePoll {

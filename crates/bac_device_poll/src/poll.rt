@@ -8,19 +8,15 @@ ghost use Rattle.bac_device_poll.specs.Poll.{Answers, IsFit, Takes, asked_of_dev
 ghost use Rattle.bac_device_poll.specs.Poll.{asks_for, asks_log, fresh, later, verdict_to};
 ghost use Rattle.bac_device_poll.specs.Turns.{turned};
 
-use crate::clock::offset;
-use crate::entry::{Naming, Others};
-use crate::identity::{device_of, itself, own_device};
-use crate::naming::{subject, unnamed};
 use crate::question::Question;
-use crate::read::{date, enumerated, number, object, objects, text, time};
-use crate::refusal::{is_busy, is_too_long};
-use crate::source::source;
 use crate::stage::Stage;
 use crate::task::{LogTask, Polled};
 use crate::turn::{Step, Turn, none};
-use crate::who::Who;
-use crate::word::{moment_in, restart_in};
+use bac_answers::{
+    Naming, Others, Who, device_of, is_busy, is_too_long, itself, moment_in, offset, restart_in,
+    subject, told_date, told_device, told_number, told_object, told_objects, told_source,
+    told_text, told_time, told_units, unnamed,
+};
 use bac_apdu::ReadProperty;
 use bac_link::{Request, Verdict, judge};
 use bac_poll::Told;
@@ -287,10 +283,10 @@ impl DevicePoll {
             (turned self.new turn)) }
     {
         match self.stage() {
-            Stage::Instance => self.hear_instance(alloc, own_device(object(verdict, datagram))),
+            Stage::Instance => self.hear_instance(alloc, told_device(verdict, datagram)),
             Stage::IAm => Ok(Turn::asks(none(alloc))),
             Stage::Name => {
-                let name = text(alloc, verdict, datagram)?;
+                let name = told_text(alloc, verdict, datagram)?;
                 self.hear_name(alloc, name)
             }
             Stage::Restart => {
@@ -298,28 +294,28 @@ impl DevicePoll {
                 let moment = moment_in(verdict, datagram);
                 Ok(self.hear_restart(alloc, restart, moment))
             }
-            Stage::Revision => self.hear_revision(alloc, number(verdict, datagram)),
-            Stage::Date => self.hear_date(alloc, date(verdict, datagram)),
+            Stage::Revision => self.hear_revision(alloc, told_number(verdict, datagram)),
+            Stage::Date => self.hear_date(alloc, told_date(verdict, datagram)),
             Stage::Time(date) => {
-                let offset = offset(date, time(verdict, datagram), now);
+                let offset = offset(date, told_time(verdict, datagram), now);
                 self.set_clock(alloc, offset)
             }
             Stage::Objects => {
-                let objects = objects(alloc, verdict, datagram)?;
+                let objects = told_objects(alloc, verdict, datagram)?;
                 self.hear_objects(alloc, is_too_long(verdict), objects)
             }
-            Stage::Count => self.hear_count(alloc, number(verdict, datagram)),
+            Stage::Count => self.hear_count(alloc, told_number(verdict, datagram)),
             Stage::Element(index, count) => {
-                self.hear_element(alloc, index, count, object(verdict, datagram))
+                self.hear_element(alloc, index, count, told_object(verdict, datagram))
             }
             Stage::LogName(log) => {
-                let name = text(alloc, verdict, datagram)?;
+                let name = told_text(alloc, verdict, datagram)?;
                 Ok(self.hear_log_name(alloc, log, name))
             }
-            Stage::Source(log) => Ok(self.hear_source(alloc, log, source(verdict, datagram))),
-            Stage::Units(log) => Ok(self.hear_units(alloc, log, enumerated(verdict, datagram))),
+            Stage::Source(log) => Ok(self.hear_source(alloc, log, told_source(verdict, datagram))),
+            Stage::Units(log) => Ok(self.hear_units(alloc, log, told_units(verdict, datagram))),
             Stage::Description(log) => {
-                let text = text(alloc, verdict, datagram)?;
+                let text = told_text(alloc, verdict, datagram)?;
                 self.hear_description(alloc, log, text)
             }
             Stage::Log => self.hear_log(alloc, verdict, datagram),

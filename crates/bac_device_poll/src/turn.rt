@@ -4,7 +4,7 @@ ghost use Rattle.std.specs.Prelude.{◌≡◌, ◌∷◌, [], IfOk};
 ghost use Rattle.bac_device_poll.specs.State.{DeviceState};
 ghost use Rattle.bac_device_poll.specs.Turns.{asks, turned};
 
-use crate::entry::Entry;
+use bac_answers::Entry;
 use std::alloc::{AllocError, Global};
 
 /// Why nothing more is asked of a device.

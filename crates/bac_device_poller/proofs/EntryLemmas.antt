@@ -1,6 +1,7 @@
 -- Entries are put or told one after the other.
-use Rattle.std.proofs.Common.{◌≡◌, ◌<◌, ◌≤◌, ℕ, suc, zero, ◌+◌, arith, length, List, [], ◌∷◌, drop, drop-cons, get_or, refl, sym, ap, ◌∙◌}
-use Rattle.bac_device_poll.specs.declared.entry.Entry.{Entry}
+use Rattle.std.proofs.Common.{◌≡◌, ◌<◌, ◌≤◌, ℕ, suc, zero, ◌+◌, arith, length, List, [], ◌∷◌, drop, drop-cons, get_or}
+use Rattle.std.proofs.Common.{refl, sym, ap, ◌∙◌}
+use Rattle.bac_answers.specs.declared.entry.Entry.{Entry}
 use Rattle.bac_device_poller.specs.Entries.{RowsAs, with_entries, with_entry}
 
 pub one_more : (s t u : RowsAs) (es : List Entry) (k : ℕ) (d : Entry) → k < length es → t ≡ with_entry s (get_or es k d) → with_entries s (drop k es) ≡ u →

@@ -1,12 +1,15 @@
 -- What is put, one after the other; all of it is of one log.
-use Rattle.std.proofs.Common.{◌≡◌, ◌<◌, ◌≤◌, ℕ, suc, zero, ◌+◌, ◌==◌, nat_le, arith, length, Bool, true, false, if◌then◌else◌, List, [], ◌∷◌, drop, drop-cons, Option, Some, None, get_or, refl, sym, ap, ◌∙◌}
+use Rattle.std.proofs.Common.{◌≡◌, ◌<◌, ◌≤◌, ℕ, suc, zero, ◌+◌, ◌==◌, nat_le, arith, length, Bool, true, false}
+use Rattle.std.proofs.Common.{if◌then◌else◌, List, [], ◌∷◌, drop, drop-cons, Option, Some, None, get_or, refl, sym, ap}
+use Rattle.std.proofs.Common.{◌∙◌}
 use Rattle.bac_link.specs.declared.item.Item.{Item}
 use Rattle.bac_link.specs.declared.item.Item.TheVariants.{Gap, Logged}
 use Rattle.bac_walk.specs.declared.batch.Numbered.{Numbered}
 use Rattle.bac_poll.specs.Turns.{Turned}
-use Rattle.bac_poll.specs.declared.turn.Beginning.{Beginning}
-use Rattle.bac_poll.specs.declared.turn.Line.{Line}
-use Rattle.bac_device_poller.specs.Puts.{Puts, with_anew, with_first, with_gap, with_gap_row, with_gaps, with_record, with_records, with_rest, with_round, with_turn}
+use Rattle.bac_poll_steps.specs.declared.turn.Beginning.{Beginning}
+use Rattle.bac_poll_steps.specs.declared.turn.Line.{Line}
+use Rattle.bac_device_poller.specs.Puts.{Puts, with_anew, with_first, with_gap, with_gap_row, with_gaps, with_record}
+use Rattle.bac_device_poller.specs.Puts.{with_records, with_rest, with_round, with_turn}
 
 pub one_more : (s t u : Puts) (rs : List Numbered) (k : ℕ) (d : Numbered) → k < length rs → t ≡ with_record s (get_or rs k d) → with_records s (drop k rs) ≡ u →
     with_records t (drop (k + 1) rs) ≡ u

@@ -4,11 +4,11 @@ use Rattle.std.specs.Prelude.{◌++◌}
 use Rattle.bac_query.specs.Ends.{refusal_text}
 use Rattle.bac_walk.specs.declared.outcome.WalkFault.TheVariants.{BadReply, Lost, Refused}
 use Rattle.bac_poll.specs.Turns.{number_before}
-use Rattle.bac_poll.specs.declared.turn.Line.{Line}
-use Rattle.bac_poll.specs.declared.turn.Line.TheVariants.{AtHour, AtHourOrBegan, BeganAnew, BeganOrDropped}
-use Rattle.bac_poll.specs.declared.turn.Line.TheVariants.{DroppedOrBegan}
-use Rattle.bac_poll.specs.declared.turn.PollEnd.TheVariants.{CaughtUp, Contradicts, Fault, NoneByNumber}
-use Rattle.bac_poll.specs.declared.turn.PollEnd.TheVariants.{SaysMore, ShowsNone}
+use Rattle.bac_poll_steps.specs.declared.turn.Line.{Line}
+use Rattle.bac_poll_steps.specs.declared.turn.Line.TheVariants.{AtHour, AtHourOrBegan, BeganAnew, BeganOrDropped}
+use Rattle.bac_poll_steps.specs.declared.turn.Line.TheVariants.{DroppedOrBegan}
+use Rattle.bac_poll_steps.specs.declared.turn.PollEnd.TheVariants.{CaughtUp, Contradicts, Fault, NoneByNumber}
+use Rattle.bac_poll_steps.specs.declared.turn.PollEnd.TheVariants.{SaysMore, ShowsNone}
 use Rattle.bac_device_poller.specs.declared.counts.Counts.{Counts}
 use Rattle.bac_device_poller.specs.declared.ending.Ending.{Ending}
 use Rattle.bac_device_poller.specs.declared.ending.Ending.TheVariants.{Poll, Epochs, NotAsked}

@@ -4,10 +4,10 @@ use Rattle.std.specs.Prelude.{position, fold}
 use Rattle.sqlite_value.specs.declared.value.Value.TheVariants.{Null}
 use Rattle.bac_wire.specs.Primitive.{Id}
 use Rattle.bac_wire.specs.Stamp.{CivilTime}
-use Rattle.bac_device_poll.specs.declared.entry.Entry.{Entry}
-use Rattle.bac_device_poll.specs.declared.entry.Entry.TheVariants.{Added, Another, Clock, Known, KnownNow, Named}
-use Rattle.bac_device_poll.specs.declared.entry.Entry.TheVariants.{NotAsked, Others, Read, Untold}
-use Rattle.bac_device_poll.specs.declared.entry.Naming.{Naming}
+use Rattle.bac_answers.specs.declared.entry.Entry.{Entry}
+use Rattle.bac_answers.specs.declared.entry.Entry.TheVariants.{Added, Another, Clock, Known, KnownNow, Named}
+use Rattle.bac_answers.specs.declared.entry.Entry.TheVariants.{NotAsked, Others, Read, Untold}
+use Rattle.bac_answers.specs.declared.entry.Naming.{Naming}
 use Rattle.bac_device_poller.specs.Counts.{no_counts}
 use Rattle.bac_device_poller.specs.Ids.{free_id, ids_behind}
 use Rattle.bac_device_poller.specs.Naming.{answered_at, known_as, named_as, offset_of}

@@ -10,12 +10,12 @@ use Rattle.bac_print.specs.Moments.{day_text, time_text}
 use Rattle.bac_print.specs.Values.{value_text}
 use Rattle.bac_query.specs.Sources.{source_text}
 use Rattle.bac_poll.specs.State.{ToldAs}
-use Rattle.bac_device_poll.specs.declared.entry.Naming.{Naming}
-use Rattle.bac_device_poll.specs.declared.entry.Offset.{Offset}
-use Rattle.bac_device_poll.specs.declared.entry.Offset.TheVariants.{Ahead, Behind}
-use Rattle.bac_device_poll.specs.declared.entry.Reference.{Reference}
-use Rattle.bac_device_poll.specs.declared.who.Who.{Who}
-use Rattle.bac_device_poll.specs.declared.who.Who.TheVariants.{Address, Device, Name}
+use Rattle.bac_answers.specs.declared.entry.Naming.{Naming}
+use Rattle.bac_answers.specs.declared.entry.Offset.{Offset}
+use Rattle.bac_answers.specs.declared.entry.Offset.TheVariants.{Ahead, Behind}
+use Rattle.bac_answers.specs.declared.entry.Reference.{Reference}
+use Rattle.bac_answers.specs.declared.who.Who.{Who}
+use Rattle.bac_answers.specs.declared.who.Who.TheVariants.{Address, Device, Name}
 use Rattle.bac_device_poller.specs.Rows.{DeviceAs, LogAs, text_value}
 
 -- ---- a device

@@ -17,14 +17,14 @@ use Rattle.bac_device_poll.specs.Poll.{Takes, asked_of_device}
 use Rattle.bac_device_poll.specs.State.{DeviceState}
 use Rattle.bac_device_poll.specs.Turns.{Turned, asks}
 use Rattle.bac_device_poll.specs.Way.{i_am_by, who_is_octets}
-use Rattle.bac_device_poll.specs.declared.entry.Entry.{Entry}
+use Rattle.bac_answers.specs.declared.entry.Entry.{Entry}
 use Rattle.bac_device_poll.specs.declared.question.Question.{Question}
 use Rattle.bac_device_poll.specs.declared.question.Question.TheVariants.{Confirmed, Nothing, WhoIs}
 use Rattle.bac_device_poll.specs.declared.turn.DeviceEnd.{DeviceEnd}
 use Rattle.bac_device_poll.specs.declared.turn.DeviceEnd.TheVariants.{Done, Foreign, Silent}
 use Rattle.bac_device_poll.specs.declared.turn.Step.{Step}
 use Rattle.bac_device_poll.specs.declared.turn.Step.TheVariants.{Ask, AskLater, End, GoOn}
-use Rattle.bac_device_poll.specs.declared.way.Way.{Way}
+use Rattle.bac_answers.specs.declared.way.Way.{Way}
 use Rattle.bac_device_poller.specs.Entries.{RowsAs, putting_device, telling, with_entries}
 use Rattle.bac_device_poller.specs.Puts.{put_as}
 use Rattle.bac_device_poller.specs.Telling.{IsToldBy, LineAs, silent_line}

@@ -13,10 +13,10 @@ use Rattle.bac_link.specs.declared.item.Item.TheVariants.{Gap, Logged}
 use Rattle.bac_walk.specs.declared.batch.Numbered.{Numbered}
 use Rattle.bac_poll.specs.State.{kept_of}
 use Rattle.bac_poll.specs.Turns.{Turned}
-use Rattle.bac_poll.specs.declared.turn.Beginning.{Beginning}
-use Rattle.bac_poll.specs.declared.turn.Line.{Line}
-use Rattle.bac_poll.specs.declared.turn.Line.TheVariants.{AtHour, AtHourOrBegan, BeganAnew, BeganOrDropped}
-use Rattle.bac_poll.specs.declared.turn.Line.TheVariants.{DroppedOrBegan}
+use Rattle.bac_poll_steps.specs.declared.turn.Beginning.{Beginning}
+use Rattle.bac_poll_steps.specs.declared.turn.Line.{Line}
+use Rattle.bac_poll_steps.specs.declared.turn.Line.TheVariants.{AtHour, AtHourOrBegan, BeganAnew, BeganOrDropped}
+use Rattle.bac_poll_steps.specs.declared.turn.Line.TheVariants.{DroppedOrBegan}
 
 -- ---- a put
 

@@ -3,9 +3,9 @@ use Rattle.std.specs.Prelude.{◌≡◌, ℕ, Bool, true, false, codes, decimal,
 use Rattle.bac_wire.specs.Primitive.{Id}
 use Rattle.bac_drive.specs.declared.machine.Next.{Next}
 use Rattle.bac_drive.specs.declared.machine.Next.TheVariants as next
-use Rattle.bac_device_poll.specs.declared.entry.Others.{Others}
-use Rattle.bac_device_poll.specs.declared.who.Who.{Who}
-use Rattle.bac_device_poll.specs.declared.who.Who.TheVariants.{Address, Device, Name}
+use Rattle.bac_answers.specs.declared.entry.Others.{Others}
+use Rattle.bac_answers.specs.declared.who.Who.{Who}
+use Rattle.bac_answers.specs.declared.who.Who.TheVariants.{Address, Device, Name}
 
 -- a line; whether it is of a log that is caught up, or of what is new
 pub record LineAs : Type 0 where

@@ -8,9 +8,9 @@ use Rattle.hex.specs.declared.error.FromHexError.{FromHexError}
 use Rattle.bac_apdu.specs.Npdu.{Place}
 use Rattle.bac_apdu.specs.Route.{IsRoute}
 use Rattle.bac_archive3.specs.declared.row.DeviceRow.{DeviceRow}
-use Rattle.bac_device_poll.specs.declared.way.Way.{Way}
-use Rattle.bac_device_poll.specs.declared.who.Who.{Who}
-use Rattle.bac_device_poll.specs.declared.who.Who.TheVariants as known
+use Rattle.bac_answers.specs.declared.way.Way.{Way}
+use Rattle.bac_answers.specs.declared.who.Who.{Who}
+use Rattle.bac_answers.specs.declared.who.Who.TheVariants as known
 use Rattle.bac_plan.specs.Addresses.{peer_in}
 use Rattle.bac_plan.specs.declared.fault.PlanFault.{PlanFault}
 use Rattle.bac_plan.specs.declared.fault.PlanFault.TheVariants.{Device, Log, Memory}

@@ -6,7 +6,7 @@ use Rattle.bac_archive3.specs.declared.row.LogRow.{LogRow}
 use Rattle.bac_device_poll.specs.Poll.{fresh}
 use Rattle.bac_device_poll.specs.State.{LogAs as TaskAs}
 use Rattle.bac_device_poll.specs.declared.poll.Known.{Known}
-use Rattle.bac_device_poll.specs.declared.way.Way.{Way}
+use Rattle.bac_answers.specs.declared.way.Way.{Way}
 use Rattle.bac_device_poller.specs.Entries.{fresh_rows}
 use Rattle.bac_device_poller.specs.Poller.{PollerAs, fresh_poller}
 use Rattle.bac_device_poller.specs.Rows.{device_as}

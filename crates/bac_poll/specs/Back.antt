@@ -13,10 +13,10 @@ use Rattle.bac_known.specs.declared.known.Means.{Means}
 use Rattle.bac_known.specs.declared.known.Means.TheVariants.{Shifted, Partly, Same, Unshown, Another}
 use Rattle.bac_known.specs.declared.known.Shown.{Shown}
 use Rattle.bac_known.specs.declared.known.Shown.TheVariants as shown
-use Rattle.bac_poll.specs.declared.stage.Aim.{Aim}
-use Rattle.bac_poll.specs.declared.stage.Aim.TheVariants.{Finds, Renews, Starts}
-use Rattle.bac_poll.specs.declared.stage.Stage.TheVariants.{Back, Counts}
-use Rattle.bac_poll.specs.declared.turn.PollEnd.TheVariants.{Contradicts}
+use Rattle.bac_poll_steps.specs.declared.stage.Aim.{Aim}
+use Rattle.bac_poll_steps.specs.declared.stage.Aim.TheVariants.{Finds, Renews, Starts}
+use Rattle.bac_poll_steps.specs.declared.stage.Stage.TheVariants.{Back, Counts}
+use Rattle.bac_poll_steps.specs.declared.turn.PollEnd.TheVariants.{Contradicts}
 
 -- nothing stands before these
 abbrev pub back_done : PollState → Aim → List Numbered → Turned

@@ -13,11 +13,11 @@ use Rattle.bac_known.specs.declared.known.Means.{Means}
 use Rattle.bac_known.specs.declared.known.Means.TheVariants.{Shifted, Partly, Same, Unshown, Another}
 use Rattle.bac_known.specs.declared.known.Shown.{Shown}
 use Rattle.bac_known.specs.declared.known.Shown.TheVariants as shown
-use Rattle.bac_poll.specs.declared.stage.Aim.TheVariants.{Finds}
-use Rattle.bac_poll.specs.declared.stage.Stage.TheVariants.{Ahead, Again, Each}
-use Rattle.bac_poll.specs.declared.turn.Line.{Line}
-use Rattle.bac_poll.specs.declared.turn.Line.TheVariants.{AtHour, AtHourOrBegan}
-use Rattle.bac_poll.specs.declared.turn.PollEnd.TheVariants.{CaughtUp}
+use Rattle.bac_poll_steps.specs.declared.stage.Aim.TheVariants.{Finds}
+use Rattle.bac_poll_steps.specs.declared.stage.Stage.TheVariants.{Ahead, Again, Each}
+use Rattle.bac_poll_steps.specs.declared.turn.Line.{Line}
+use Rattle.bac_poll_steps.specs.declared.turn.Line.TheVariants.{AtHour, AtHourOrBegan}
+use Rattle.bac_poll_steps.specs.declared.turn.PollEnd.TheVariants.{CaughtUp}
 
 -- ---- the known records, and those behind them
 

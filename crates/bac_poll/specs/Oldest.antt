@@ -1,5 +1,5 @@
 -- 2 and 3. The oldest records, and the count where none is shown.
-use Rattle.std.specs.Prelude.{ℕ, ◌==◌, ◌&&◌, ◌||◌, not, nat_lt, Bool, false, if◌then◌else◌, List, [], length}
+use Rattle.std.specs.Prelude.{ℕ, ◌==◌, ◌&&◌, ◌||◌, not, nat_lt, Bool, if◌then◌else◌, List, [], length}
 use Rattle.std.specs.Prelude.{Option, None, Some}
 use Rattle.bac_link.specs.Ordinals.{is_ahead}
 use Rattle.bac_walk.specs.declared.batch.Numbered.{Numbered}
@@ -12,18 +12,10 @@ use Rattle.bac_poll.specs.Turns.{Turned, asks, asks_at, brings, confirmed, ends,
 use Rattle.bac_poll.specs.Turns.{number_before, number_or}
 use Rattle.bac_known.specs.declared.known.Means.{Means}
 use Rattle.bac_known.specs.declared.known.Means.TheVariants.{Shifted, Partly, Same, Unshown, Another}
-use Rattle.bac_poll.specs.declared.stage.Aim.TheVariants.{Finds}
-use Rattle.bac_poll.specs.declared.stage.Stage.TheVariants.{ByNumber, UpTo}
-use Rattle.bac_poll.specs.declared.turn.PollEnd.TheVariants.{CaughtUp, NoneByNumber, ShowsNone}
-
--- whether numbers are missing from the one behind the count up to 1, round the count of all numbers
-abbrev pub is_since : (counted : Option ℕ) → Bool
-is_since None = false
-is_since (Some counted) = is_ahead counted 1
-
--- Whether no gap is put in front of this number, in this epoch or in a new one: it is 1, and comes next.
-abbrev pub is_first : PollState → ℕ → Bool
-is_first p number = (number == 1) && ((p.next == 1) && not (is_since p.counted))
+use Rattle.bac_poll_steps.specs.declared.stage.Aim.TheVariants.{Finds}
+use Rattle.bac_poll_steps.specs.declared.stage.Stage.TheVariants.{ByNumber, UpTo}
+use Rattle.bac_poll_steps.specs.declared.turn.PollEnd.TheVariants.{CaughtUp, NoneByNumber, ShowsNone}
+pub use Rattle.bac_poll_steps.specs.Starts.{is_since, is_first}
 
 -- all lie behind the newest known one: those before them are asked for, and then the word
 abbrev pub drops : PollState → (back : Bool) → List Numbered → Turned

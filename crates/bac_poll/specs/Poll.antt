@@ -1,121 +1,28 @@
 -- How a trend log is polled: what is asked, and what an answer makes of it. Read `after` from the end.
-use Rattle.std.specs.Prelude.{ℕ, pos, negsuc, ◌+◌, ◌-◌, ◌/◌, ◌==◌, ◌&&◌, nat_le, nat_lt, Bool, true, false}
-use Rattle.std.specs.Prelude.{if◌then◌else◌}
-use Rattle.std.specs.Prelude.{List, [], length, Option, None, Some}
-use Rattle.std.specs.Option.{is_none}
-use Rattle.bac_wire.specs.Primitive.{Id}
-use Rattle.bac_apdu.specs.declared.service.extent.Extent.TheVariants.{ByNumber}
-use Rattle.bac_log.specs.declared.entry.Entry.{Entry}
-use Rattle.bac_link.specs.Heard.{AckParameters, heard_in}
-use Rattle.bac_link.specs.Links.{question}
-use Rattle.bac_link.specs.Ordinals.{distance}
-use Rattle.bac_link.specs.declared.request.Request.{Request}
-use Rattle.bac_link.specs.declared.request.Request.TheVariants as request
-use Rattle.bac_walk.specs.Place.{asking, walk_from_oldest}
-use Rattle.bac_walk.specs.Walks.{Ask, Bring, End, NextAct, Refuse, question_of, verdict, with_numbers}
+use Rattle.std.specs.Prelude.{ℕ, ◌==◌, Bool, true, false, if◌then◌else◌, List, [], length, Option, None, Some}
 use Rattle.bac_walk.specs.declared.batch.Numbered.{Numbered}
 use Rattle.bac_walk.specs.declared.outcome.WalkFault.TheVariants.{BadReply}
+use Rattle.bac_known.specs.declared.date_time.DateTime.{DateTime}
 use Rattle.bac_poll.specs.Back.{back}
-use Rattle.bac_poll.specs.DateTime.{undated}
 use Rattle.bac_poll.specs.Epochs.{renews, renews_none, renews_of}
 use Rattle.bac_poll.specs.Gone.{asks_restart, asks_word, by_word}
 use Rattle.bac_poll.specs.Joins.{ahead, again, each, joins, prior}
 use Rattle.bac_poll.specs.Oldest.{by_count, by_number, is_cut, sees}
 use Rattle.bac_poll.specs.Starts.{starts, starts_by, starts_from, starts_none}
-use Rattle.bac_poll.specs.State.{KeptAs, PollState, Reply, StandingAs, ToldAs}
-use Rattle.bac_poll.specs.Turns.{Turned, asks_at, end_of, ends, first_number, number_before}
-use Rattle.bac_known.specs.declared.date_time.DateTime.{DateTime}
-use Rattle.bac_poll.specs.declared.stage.Aim.{Aim}
-use Rattle.bac_poll.specs.declared.stage.Aim.TheVariants.{Finds, Renews, Starts}
-use Rattle.bac_poll.specs.declared.stage.Stage.{Stage}
-use Rattle.bac_poll.specs.declared.stage.Stage.TheVariants.{Joins, Prior, Ahead, Again, Each, Oldest, ByNumber, Counts}
-use Rattle.bac_poll.specs.declared.stage.Stage.TheVariants.{UpTo, Back, Revision, Restart}
-use Rattle.bac_poll.specs.declared.turn.PollEnd.TheVariants.{Fault}
-pub use Rattle.bac_known.specs.Ack.{has_last, has_more, ack_at, ack_in}
-
--- ---- what is asked
-
--- so many records from a number on
-abbrev pub number_question : PollState → Request
-number_question p = question p.walk.log (ByNumber p.reference (pos p.walk.count))
-
--- so many up to it
-abbrev pub back_question : PollState → Request
-back_question p = question p.walk.log (ByNumber p.reference (negsuc (p.walk.count - 1)))
-
--- a property of an object
-abbrev pub property_question : Id → (property : ℕ) → Request
-property_question object property =
-    request.ReadProperty (record { object = object; property = property; index = None })
-
--- records; Total_Record_Count (145, clause 12.25); or Time_Of_Device_Restart (203) or Database_Revision (155) of the
--- device (clause 12.11)
-abbrev pub question_at : PollState → Stage → Request
-question_at p Joins = number_question p
-question_at p Prior = number_question p
-question_at p Ahead = number_question p
-question_at p Again = number_question p
-question_at p Each = number_question p
-question_at p ByNumber = number_question p
-question_at p (Oldest aim) = question p.walk.log (question_of p.walk)
-question_at p (Counts aim) = property_question p.walk.log 145
-question_at p (UpTo aim) = back_question p
-question_at p (Back aim) = back_question p
-question_at p Revision = property_question p.device 155
-question_at p Restart = property_question p.device 203
-
--- by what the answer is for
-abbrev pub asked_by_poll : PollState → Request
-asked_by_poll p = question_at p p.stage
-
--- ---- what is heard
-
--- whether so many records from this number on lie among as many from a number on
-abbrev pub are_from : (asked : ℕ) → (reference : ℕ) → (first : ℕ) → (count : ℕ) → Bool
-are_from asked reference first count = nat_le (distance reference first + count) asked
-
--- or among as many up to a number
-abbrev pub are_up_to : (asked : ℕ) → (reference : ℕ) → (first : ℕ) → (count : ℕ) → Bool
-are_up_to asked reference first count =
-    nat_lt (distance first reference) asked && nat_le count (distance first reference + 1)
-
--- whether so many records from this number on were asked for: by time, up to a number, or from one on
-abbrev pub are_asked : PollState → Stage → (first : ℕ) → (count : ℕ) → Bool
-are_asked p (Oldest aim) first count = true
-are_asked p (UpTo aim) first count = are_up_to p.walk.count p.reference first count
-are_asked p (Back aim) first count = are_up_to p.walk.count p.reference first count
-are_asked p Joins first count = are_from p.walk.count p.reference first count
-are_asked p Prior first count = are_from p.walk.count p.reference first count
-are_asked p Ahead first count = are_from p.walk.count p.reference first count
-are_asked p Again first count = are_from p.walk.count p.reference first count
-are_asked p Each first count = are_from p.walk.count p.reference first count
-are_asked p ByNumber first count = are_from p.walk.count p.reference first count
-are_asked p (Counts aim) first count = false
-are_asked p Revision first count = false
-are_asked p Restart first count = false
-
--- records as a reply, if they were asked for
-abbrev pub reply_with : PollState → List Numbered → (last : Bool) → (more : Bool) → Option Reply
-reply_with p records last more =
-    if are_asked p p.stage (first_number records) (length records)
-    then Some (record { records = records; last = last; more = more }) else None
-
--- an ACK as a reply; none if it isn't by the question
-abbrev pub reply_of : PollState → NextAct → List Entry → (last : Bool) → (more : Bool) → Option Reply
-reply_of p Refuse es last more = None
-reply_of p Ask es last more = Some (record { records = []; last = last; more = more })
-reply_of p End es last more = Some (record { records = []; last = last; more = more })
-reply_of p (Bring first) es last more = reply_with p (with_numbers first es) last more
-
--- what is heard as a reply
-abbrev pub reply_from : PollState → Option AckParameters → (last : Bool) → (more : Bool) → Option Reply
-reply_from p None last more = None
-reply_from p (Some h) last more = reply_of p (verdict p.walk h.first h.count h.entries) h.entries last more
-
--- a datagram as a reply
-abbrev pub reply_in : PollState → List ℕ → Option Reply
-reply_in p datagram =
-    reply_from p (heard_in p.walk.log datagram) (has_last (ack_in datagram)) (has_more (ack_in datagram))
+use Rattle.bac_poll.specs.State.{PollState, Reply}
+use Rattle.bac_poll.specs.Turns.{Turned, asks_at, end_of, ends}
+use Rattle.bac_poll_steps.specs.declared.stage.Aim.{Aim}
+use Rattle.bac_poll_steps.specs.declared.stage.Aim.TheVariants.{Finds, Renews, Starts}
+use Rattle.bac_poll_steps.specs.declared.stage.Stage.{Stage}
+use Rattle.bac_poll_steps.specs.declared.stage.Stage.TheVariants.{Joins, Prior, Ahead, Again, Each, Oldest, ByNumber}
+use Rattle.bac_poll_steps.specs.declared.stage.Stage.TheVariants.{Counts, UpTo, Back, Revision, Restart}
+use Rattle.bac_poll_steps.specs.declared.turn.PollEnd.TheVariants.{Fault}
+pub use Rattle.bac_poll_steps.specs.Asked.{number_question, back_question, property_question, question_at}
+pub use Rattle.bac_poll_steps.specs.Asked.{asked_by_poll, are_from, are_up_to, are_asked, reply_with, reply_of}
+pub use Rattle.bac_poll_steps.specs.Asked.{reply_from, reply_in, half_of, after_too_many, has_last, has_more}
+pub use Rattle.bac_poll_steps.specs.Asked.{ack_at, ack_in}
+pub use Rattle.bac_poll_steps.specs.Begins.{kept_number, first_stage, first_reference, nothing_told, joining}
+pub use Rattle.bac_poll_steps.specs.Begins.{starting}
 
 -- ---- what an answer makes of a poll
 
@@ -214,87 +121,3 @@ after_revision p revision =
 abbrev pub after_restart : PollState → (restart : List ℕ) → (moment : DateTime) → Turned
 after_restart p restart moment =
     by_word (record p { again = record p.again { restart = restart; moment = moment }; held = [] }) p.held
-
--- ---- too many are asked for
-
--- half of so many records, one at least
-abbrev pub half_of : ℕ → ℕ
-half_of count = if nat_le count 1 then 1 else count / 2
-
--- The device can't send so many at once (Abort 1, 4 or 11, clause 18.10): half as many are asked for from now on.
-abbrev pub after_too_many : PollState → PollState
-after_too_many p = record p { walk = asking (half_of p.walk.count) p.walk }
-
--- ---- beginnings
-
--- the number of a known record, or that one
-abbrev pub kept_number : Option KeptAs → ℕ → ℕ
-kept_number None number = number
-kept_number (Some kept) number = kept.number
-
--- what is asked first of a log that stands there: the known records; else the number before, if there is one; else the
--- oldest
-abbrev pub first_stage : Option KeptAs → (next : ℕ) → Stage
-first_stage (Some newest) next = Joins
-first_stage None next = if next == 1 then Oldest Finds else Prior
-
--- from which number: that of the first known record, or the one before
-abbrev pub first_reference : StandingAs → ℕ
-first_reference at =
-    kept_number at.earliest (kept_number at.earlier (kept_number at.newest (number_before at.next)))
-
--- nothing is told
-abbrev pub nothing_told : ToldAs
-nothing_told = record { restart = []; moment = undated; revision = None }
-
--- A log whose rows stand there: its device told this before it is asked.
-abbrev pub joining : Id → Id → (count : ℕ) → StandingAs → ToldAs → PollState
-joining log device count at told = record {
-  walk = asking count (walk_from_oldest log);
-  device = device;
-  stage = first_stage at.newest at.next;
-  reference = first_reference at;
-  next = at.next;
-  newest = at.newest;
-  earlier = at.earlier;
-  earliest = at.earliest;
-  alone = is_none at.earlier;
-  stamp = at.stamp;
-  word = at.word;
-  told = told;
-  again = nothing_told;
-  lives = 0;
-  more = false;
-  begins = None;
-  counted = None;
-  total = 0;
-  refused = false;
-  back = 0;
-  held = [];
-}
-
--- One of which nothing is kept yet; a run before may have put its beginning on record, by the count alone.
-abbrev pub starting : Id → Id → (count : ℕ) → (begins : Option ℕ) → (word : ToldAs) → ToldAs → PollState
-starting log device count begins word told = record {
-  walk = asking count (walk_from_oldest log);
-  device = device;
-  stage = Counts Starts;
-  reference = 1;
-  next = 1;
-  newest = None;
-  earlier = None;
-  earliest = None;
-  alone = false;
-  stamp = None;
-  word = word;
-  told = told;
-  again = nothing_told;
-  lives = 0;
-  more = false;
-  begins = begins;
-  counted = begins;
-  total = 0;
-  refused = false;
-  back = 0;
-  held = [];
-}

@@ -10,20 +10,11 @@
 #![tactic(auto)]
 
 mod back;
-mod epochs;
-mod gone;
 mod joins;
 mod oldest;
 mod poll;
-mod question;
-mod reading;
-mod stage;
-mod starts;
-mod turn;
-mod turns;
+mod rule;
 
 pub use bac_known::{DateTime, Kept, Means, Reply, Shown, Told, Word};
-pub use gone::Gone;
-pub use poll::{LogPoll, Standing};
-pub use stage::{Aim, Stage};
-pub use turn::{Beginning, Line, PollEnd, Turn};
+pub use bac_poll_steps::{Aim, Beginning, Gone, Line, PollEnd, Stage, Standing, Turn};
+pub use poll::LogPoll;

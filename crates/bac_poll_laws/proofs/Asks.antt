@@ -1,5 +1,6 @@
 -- How often a log is asked.
-use Rattle.std.proofs.Common.{◌≡◌, ℕ, suc, ◌-◌, ◌==◌, ◌&&◌, not, Bool, true, false, List, [], ◌∷◌, length, slice_get, None, Some, refl, sym, ap, subst, ◌∙◌, arith}
+use Rattle.std.proofs.Common.{◌≡◌, ℕ, suc, ◌-◌, ◌==◌, ◌&&◌, not, Bool, true, false, List, [], ◌∷◌, length, slice_get}
+use Rattle.std.proofs.Common.{None, Some, refl, sym, ap, subst, ◌∙◌, arith}
 use Rattle.std.proofs.lemmas.Bool.{eqb-true}
 use Rattle.bac_walk.specs.declared.batch.Numbered.{Numbered}
 use Rattle.bac_poll_laws.specs.Asks.{AsksOnceMore, ShowsKnown, having_heard}
@@ -9,8 +10,8 @@ use Rattle.bac_poll_laws.specs.Laws.{Whichever}
 use Rattle.bac_poll.specs.Poll.{after_reply, at_stage}
 use Rattle.bac_poll.specs.State.{KeptAs, PollState, Reply}
 use Rattle.bac_poll.specs.Turns.{Turned, brings_to, last_in, number_or}
-use Rattle.bac_poll.specs.declared.stage.Stage.TheVariants.{Joins}
-use Rattle.bac_poll.specs.declared.turn.PollEnd.TheVariants.{CaughtUp}
+use Rattle.bac_poll_steps.specs.declared.stage.Stage.TheVariants.{Joins}
+use Rattle.bac_poll_steps.specs.declared.turn.PollEnd.TheVariants.{CaughtUp}
 use Rattle.bac_poll_laws.proofs.Wholes.{split}
 
 -- the turn of a reply that shows the newest known record as it is known

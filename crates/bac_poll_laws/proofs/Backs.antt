@@ -1,5 +1,6 @@
 -- Each two questions backwards bring an older record, and none is begun again.
-use Rattle.std.proofs.Common.{arith, ◌≡◌, ℕ, zero, suc, ◌+◌, ◌*◌, ◌-◌, ◌≤◌, ◌<◌, nat_le, Bool, true, false, if◌then◌else◌, Option, None, Some, List, [], ◌∷◌, length, refl, sym, subst, ◌∙◌, inl, inr}
+use Rattle.std.proofs.Common.{arith, ◌≡◌, ℕ, zero, suc, ◌+◌, ◌*◌, ◌-◌, ◌≤◌, ◌<◌, nat_le, Bool, true, false}
+use Rattle.std.proofs.Common.{if◌then◌else◌, Option, None, Some, List, [], ◌∷◌, length, refl, sym, subst, ◌∙◌, inl, inr}
 use Rattle.std.proofs.lemmas.Bool.{and_parts, leb-true, ltb-true}
 use Rattle.bac_log.specs.declared.entry.Entry.{Entry}
 use Rattle.bac_link.specs.Delivery.{History, Moment}
@@ -8,22 +9,25 @@ use Rattle.bac_link.specs.Ordinals.{distance}
 use Rattle.bac_walk.specs.Walks.{Ask, Bring, End, NextAct, Refuse, verdict, with_numbers}
 use Rattle.bac_walk.specs.declared.batch.Numbered.{Numbered}
 use Rattle.bac_poll.specs.Back.{back}
-use Rattle.bac_poll.specs.Poll.{ack_in, after_heard, after_too_many, are_asked, at_stage, count_at, has_last, has_more, more_of, reply_from, reply_in, reply_of}
+use Rattle.bac_poll.specs.Poll.{ack_in, after_heard, after_too_many, are_asked, at_stage, count_at, has_last, has_more}
+use Rattle.bac_poll.specs.Poll.{more_of, reply_from, reply_in, reply_of}
 use Rattle.bac_poll.specs.State.{PollState, Reply}
 use Rattle.bac_poll.specs.Turns.{Turned, first_number, last_in}
-use Rattle.bac_poll.specs.declared.stage.Aim.{Aim}
-use Rattle.bac_poll.specs.declared.stage.Stage.{Stage}
-use Rattle.bac_poll.specs.declared.stage.Stage.TheVariants as stage
+use Rattle.bac_poll_steps.specs.declared.stage.Aim.{Aim}
+use Rattle.bac_poll_steps.specs.declared.stage.Stage.{Stage}
+use Rattle.bac_poll_steps.specs.declared.stage.Stage.TheVariants as stage
 use Rattle.bac_poll_laws.specs.Backwards.{BackwardsAreFew, IsLoggedIn, NoneIsBegunAgain, SayBack}
 use Rattle.bac_poll_laws.specs.Bounds.{again_one, count_of, lost_one, oldest_one}
 use Rattle.bac_poll_laws.specs.Delivers.{Given, GoesOn, IsWithin, ShowHeld, ShowsHeld, after_given, asking_less}
-use Rattle.bac_poll_laws.specs.Laws.{Answer, Answers, Counted, HasSome, HoldsOfEach, IsAt, IsLast, IsRun, IsStanding, Replied, Restarted, Revised, ShowsOnly, Whichever, after_answer}
+use Rattle.bac_poll_laws.specs.Laws.{Answer, Answers, Counted, HasSome, HoldsOfEach, IsAt, IsLast, IsRun, IsStanding}
+use Rattle.bac_poll_laws.specs.Laws.{Replied, Restarted, Revised, ShowsOnly, Whichever, after_answer}
 use Rattle.bac_poll_laws.proofs.Bounds.{half_low}
 use Rattle.bac_poll_laws.proofs.Delivered.{less_stage, less_standing, shows_of}
 use Rattle.bac_poll_laws.proofs.Once.{IsRunReply, any_answer, begins_standing, heard_run, one_answer}
 use Rattle.bac_poll_laws.proofs.Ordered.{IsOf}
-use Rattle.bac_poll_laws.proofs.Older.{AtBack, BackAt, Below, Ends, Left, Refers, Steps, back_steps, first_same, from_before, from_first, last_logged, none_again}
-use Rattle.bac_poll.specs.declared.turn.PollEnd.{PollEnd}
+use Rattle.bac_poll_laws.proofs.Older.{AtBack, BackAt, Below, Ends, Left, Refers, Steps, back_steps, first_same}
+use Rattle.bac_poll_laws.proofs.Older.{from_before, from_first, last_logged, none_again}
+use Rattle.bac_poll_steps.specs.declared.turn.PollEnd.{PollEnd}
 
 -- ---- a reply to a question backwards
 

@@ -1,8 +1,10 @@
 -- What replies bring that are asked backwards, before the first of the records that are held back.
-use Rattle.std.proofs.Common.{arith, is_some, ◌≡◌, ℕ, ◌==◌, ◌&&◌, ◌||◌, not, Bool, true, false, nat_lt, Option, None, Some, List, [], ◌∷◌, length, refl, sym, subst}
+use Rattle.std.proofs.Common.{arith, is_some, ◌≡◌, ℕ, ◌==◌, ◌&&◌, ◌||◌, not, Bool, true, false, nat_lt, Option, None}
+use Rattle.std.proofs.Common.{Some, List, [], ◌∷◌, length, refl, sym, subst}
 use Rattle.std.proofs.lemmas.Bool.{eqb-true}
 use Rattle.bac_walk.specs.declared.batch.Numbered.{Numbered}
-use Rattle.bac_poll.specs.Back.{back, back_alone, back_by, back_done, back_lost, back_more, back_shown, is_front, shown_last, went_back}
+use Rattle.bac_poll.specs.Back.{back, back_alone, back_by, back_done, back_lost, back_more, back_shown, is_front}
+use Rattle.bac_poll.specs.Back.{shown_last, went_back}
 use Rattle.bac_poll.specs.Known.{heeding, means_in, means_of, shown_in}
 use Rattle.bac_poll_laws.specs.Laws.{Goes, IsAimed, IsBefore, HasSome, IsBegun, IsRun}
 use Rattle.bac_poll.specs.Oldest.{is_first}
@@ -11,10 +13,10 @@ use Rattle.bac_poll.specs.Turns.{first_in, first_number, last_in, number_before}
 use Rattle.bac_known.specs.declared.known.Means.TheVariants.{Unshown}
 use Rattle.bac_known.specs.declared.known.Shown.{Shown}
 use Rattle.bac_known.specs.declared.known.Shown.TheVariants as shown
-use Rattle.bac_poll.specs.declared.stage.Aim.{Aim}
-use Rattle.bac_poll.specs.declared.stage.Aim.TheVariants.{Finds, Renews, Starts}
-use Rattle.bac_poll.specs.declared.stage.Stage.TheVariants.{Back}
-use Rattle.bac_poll.specs.declared.turn.PollEnd.TheVariants.{Contradicts}
+use Rattle.bac_poll_steps.specs.declared.stage.Aim.{Aim}
+use Rattle.bac_poll_steps.specs.declared.stage.Aim.TheVariants.{Finds, Renews, Starts}
+use Rattle.bac_poll_steps.specs.declared.stage.Stage.TheVariants.{Back}
+use Rattle.bac_poll_steps.specs.declared.turn.PollEnd.TheVariants.{Contradicts}
 use Rattle.bac_poll_laws.proofs.Wholes.{ends_goes, run_ends, split}
 use Rattle.bac_poll_laws.proofs.Rules.{back_goes, behind_goes, first_is, front_of, oldest_goes, sees_goes, starts_goes}
 

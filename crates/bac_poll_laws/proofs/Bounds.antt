@@ -1,5 +1,7 @@
 -- How many questions a poll asks at most.
-use Rattle.std.proofs.Common.{arith, ◌≡◌, ℕ, zero, suc, ◌+◌, ◌*◌, ◌-◌, ◌/◌, ◌≤◌, ◌<◌, ◌==◌, nat_le, nat_lt, Bool, true, false, if◌then◌else◌, Option, None, Some, List, [], ◌∷◌, length, refl, sym, ap, subst, ◌∙◌}
+use Rattle.std.proofs.Common.{arith, ◌≡◌, ℕ, zero, suc, ◌+◌, ◌*◌, ◌-◌, ◌/◌, ◌≤◌, ◌<◌, ◌==◌, nat_le, nat_lt, Bool, true}
+use Rattle.std.proofs.Common.{false, if◌then◌else◌, Option, None, Some, List, [], ◌∷◌, length, refl, sym, ap, subst}
+use Rattle.std.proofs.Common.{◌∙◌}
 use Rattle.std.proofs.lemmas.Bool.{leb-true, ltb-true}
 use Rattle.std.specs.Option.{is_none}
 use Rattle.bac_wire.specs.Primitive.{Id}
@@ -9,22 +11,28 @@ use Rattle.bac_log.specs.declared.entry.Entry.{Entry}
 use Rattle.bac_walk.specs.Walks.{Ask, Bring, End, NextAct, Refuse, verdict, with_numbers}
 use Rattle.bac_walk.specs.declared.batch.Numbered.{Numbered}
 use Rattle.bac_poll.specs.Back.{back_by, went_back}
-use Rattle.bac_poll.specs.Poll.{ack_in, after_heard, after_too_many, are_asked, at_stage, count_at, first_reference, first_stage, has_last, has_more, joining, kept_number, more_of, reply_from, reply_in, reply_of, starting}
+use Rattle.bac_poll.specs.Poll.{ack_in, after_heard, after_too_many, are_asked, at_stage, count_at, first_reference}
+use Rattle.bac_poll.specs.Poll.{first_stage, has_last, has_more, joining, kept_number, more_of, reply_from, reply_in}
+use Rattle.bac_poll.specs.Poll.{reply_of, starting}
 use Rattle.bac_poll.specs.State.{KeptAs, PollState, Reply, StandingAs, ToldAs}
 use Rattle.bac_poll.specs.Turns.{Turned, first_number, last_in, number_before}
-use Rattle.bac_poll.specs.declared.stage.Aim.{Aim}
-use Rattle.bac_poll.specs.declared.stage.Aim.TheVariants.{Finds, Renews, Starts}
-use Rattle.bac_poll.specs.declared.stage.Stage.{Stage}
-use Rattle.bac_poll.specs.declared.stage.Stage.TheVariants as stage
-use Rattle.bac_poll.specs.declared.stage.Stage.TheVariants.{Oldest}
-use Rattle.bac_poll_laws.specs.Bounds.{AnswerIt, AreBounded, AreInRow, FollowsOn, QuestionsAreBounded, WhicheverRecord, again_one, back_one, count_of, kept_one, lost_one}
+use Rattle.bac_poll_steps.specs.declared.stage.Aim.{Aim}
+use Rattle.bac_poll_steps.specs.declared.stage.Aim.TheVariants.{Finds, Renews, Starts}
+use Rattle.bac_poll_steps.specs.declared.stage.Stage.{Stage}
+use Rattle.bac_poll_steps.specs.declared.stage.Stage.TheVariants as stage
+use Rattle.bac_poll_steps.specs.declared.stage.Stage.TheVariants.{Oldest}
+use Rattle.bac_poll_laws.specs.Bounds.{AnswerIt, AreBounded, AreInRow, FollowsOn, QuestionsAreBounded, WhicheverRecord}
+use Rattle.bac_poll_laws.specs.Bounds.{again_one, back_one, count_of, kept_one, lost_one}
 use Rattle.bac_poll_laws.specs.Delivers.{Given, after_given, asking_less}
-use Rattle.bac_poll_laws.specs.Laws.{Answer, Answers, Counted, HasSome, IsAimed, IsAt, IsBefore, IsRun, IsStanding, Replied, Restarted, Revised, Whichever, after_answer}
+use Rattle.bac_poll_laws.specs.Laws.{Answer, Answers, Counted, HasSome, IsAimed, IsAt, IsBefore, IsRun, IsStanding}
+use Rattle.bac_poll_laws.specs.Laws.{Replied, Restarted, Revised, Whichever, after_answer}
 use Rattle.bac_poll_laws.specs.Questions.{one_if_kept}
 use Rattle.bac_poll_laws.proofs.Delivered.{less_at, less_stage}
 use Rattle.bac_poll_laws.proofs.Hours.{answer_spends, hours, hours_low, less_hours}
-use Rattle.bac_poll_laws.proofs.Lefts.{Costs, Refers, Row, by_word_costs, each_cost, each_one, hour_one, left, left_at, left_back, restart_costs}
-use Rattle.bac_poll_laws.proofs.Looks.{back_takes, by_number_costs, counted_costs, oldest_takes, renewed_costs, starts_from_costs, up_to_takes}
+use Rattle.bac_poll_laws.proofs.Lefts.{Costs, Refers, Row, by_word_costs, each_cost, each_one, hour_one, left, left_at}
+use Rattle.bac_poll_laws.proofs.Lefts.{left_back, restart_costs}
+use Rattle.bac_poll_laws.proofs.Looks.{back_takes, by_number_costs, counted_costs, oldest_takes, renewed_costs}
+use Rattle.bac_poll_laws.proofs.Looks.{starts_from_costs, up_to_takes}
 use Rattle.bac_poll_laws.proofs.Once.{IsRunReply, aimed_so, any_answer, begins_standing, heard_run, one_answer}
 use Rattle.bac_poll_laws.proofs.Takes.{again_costs, ahead_costs, each_costs, joins_costs, prior_costs}
 use Rattle.bac_poll_laws.proofs.Wholes.{split}

@@ -1,21 +1,24 @@
 -- How many questions a poll asks at most by the records that it keeps, and those that the log held.
-use Rattle.std.proofs.Common.{arith, ◌≡◌, ℕ, ◌+◌, ◌*◌, ◌-◌, ◌≤◌, ◌<◌, ◌==◌, Bool, true, false, if◌then◌else◌, Option, None, Some, List, [], ◌∷◌, length, refl, sym, ap, subst, ◌∙◌, ◌⊎◌, inl, inr, mul-le-mul_right}
+use Rattle.std.proofs.Common.{arith, ◌≡◌, ℕ, ◌+◌, ◌*◌, ◌-◌, ◌≤◌, ◌<◌, ◌==◌, Bool, true, false, if◌then◌else◌, Option}
+use Rattle.std.proofs.Common.{None, Some, List, [], ◌∷◌, length, refl, sym, ap, subst, ◌∙◌, ◌⊎◌, inl, inr}
+use Rattle.std.proofs.Common.{mul-le-mul_right}
 use Rattle.bac_link.specs.Delivery.{History, Moment}
 use Rattle.bac_walk.specs.declared.batch.Numbered.{Numbered}
 use Rattle.bac_poll.specs.Poll.{first_stage, joining, reply_in, starting}
 use Rattle.bac_poll.specs.State.{KeptAs, PollState, Reply}
 use Rattle.bac_poll.specs.Turns.{Turned, asks, first_number, number_before}
-use Rattle.bac_poll.specs.declared.stage.Aim.{Aim}
-use Rattle.bac_poll.specs.declared.stage.Aim.TheVariants.{Finds, Renews}
-use Rattle.bac_poll.specs.declared.stage.Stage.{Stage}
-use Rattle.bac_poll.specs.declared.stage.Stage.TheVariants as stage
+use Rattle.bac_poll_steps.specs.declared.stage.Aim.{Aim}
+use Rattle.bac_poll_steps.specs.declared.stage.Aim.TheVariants.{Finds, Renews}
+use Rattle.bac_poll_steps.specs.declared.stage.Stage.{Stage}
+use Rattle.bac_poll_steps.specs.declared.stage.Stage.TheVariants as stage
 use Rattle.bac_poll_laws.specs.Backwards.{IsLoggedIn}
 use Rattle.bac_poll_laws.specs.Bounds.{AnswerIt, AreBounded, WhicheverRecord, back_one, count_of, kept_one, lost_one}
 use Rattle.bac_poll_laws.specs.ByHeld.{AreFew, QuestionsByHeld, ShowHolding, ShowsHolding}
 use Rattle.bac_poll_laws.specs.Delivers.{Given, after_given, asking_less}
 use Rattle.bac_poll_laws.specs.Delivers.{WasHeld}
 use Rattle.bac_poll_laws.specs.Held.{kept_by}
-use Rattle.bac_poll_laws.specs.Laws.{Answer, Answers, Counted, HasSome, HoldsOfEach, IsAt, IsRun, IsStanding, Replied, Restarted, Revised, ShowsOnly, Whichever}
+use Rattle.bac_poll_laws.specs.Laws.{Answer, Answers, Counted, HasSome, HoldsOfEach, IsAt, IsRun, IsStanding, Replied}
+use Rattle.bac_poll_laws.specs.Laws.{Restarted, Revised, ShowsOnly, Whichever}
 use Rattle.bac_poll_laws.specs.Questions.{one_if_kept}
 use Rattle.bac_poll_laws.proofs.Backs.{SayLogged, all_found, left_some, one_found, one_older, one_stands}
 use Rattle.bac_poll_laws.proofs.Bounds.{Inv, first_inv, one_back, one_paid, questions_bounded, start_inv, step_inv}
@@ -26,7 +29,8 @@ use Rattle.bac_poll_laws.proofs.Lefts.{Refers, each_one, hour_one, left, left_at
 use Rattle.bac_poll_laws.proofs.Older.{AtBack, BackAt, Below, Left}
 use Rattle.bac_poll_laws.proofs.Once.{begins_standing}
 use Rattle.bac_poll_laws.proofs.Ordered.{IsOf}
-use Rattle.bac_poll_laws.proofs.Runs.{adds_once, adds_same, goes_back, runs, runs_anew, runs_low, runs_start, stays_often}
+use Rattle.bac_poll_laws.proofs.Runs.{adds_once, adds_same, goes_back, runs, runs_anew, runs_low, runs_start}
+use Rattle.bac_poll_laws.proofs.Runs.{stays_often}
 
 -- a stage is for a question backwards, or not
 Kind : Stage → Type 0

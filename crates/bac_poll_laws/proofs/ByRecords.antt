@@ -10,7 +10,8 @@ use Rattle.bac_poll_laws.specs.Bounds.{AnswerIt, AreBounded, WhicheverRecord, co
 use Rattle.bac_poll_laws.specs.ByRecords.{QuestionsByRecords}
 use Rattle.bac_poll_laws.specs.Delivers.{Given, GoesOn, ShowHeld, ShowsHeld, after_given, asking_less}
 use Rattle.bac_poll_laws.specs.Held.{kept_by}
-use Rattle.bac_poll_laws.specs.Laws.{Answer, Answers, Counted, HoldsOfEach, IsLast, Replied, Restarted, Revised, ShowsOnly}
+use Rattle.bac_poll_laws.specs.Laws.{Answer, Answers, Counted, HoldsOfEach, IsLast, Replied, Restarted, Revised}
+use Rattle.bac_poll_laws.specs.Laws.{ShowsOnly}
 use Rattle.bac_poll_laws.specs.Questions.{one_if_kept}
 use Rattle.bac_poll_laws.proofs.Backs.{none_again_begun}
 use Rattle.bac_poll_laws.proofs.Bounds.{questions_bounded}

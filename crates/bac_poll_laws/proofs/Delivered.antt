@@ -1,5 +1,7 @@
 -- What answers, one after the other, deliver of a log that goes on.
-use Rattle.std.proofs.Common.{arith, ◌≡◌, ℕ, ◌+◌, ◌<◌, ◌==◌, ◌&&◌, ◌||◌, not, Bool, true, false, if◌then◌else◌, Option, None, Some, List, [], ◌∷◌, length, refl, sym, ap, subst, ◌∙◌, ◌⊎◌, inl, inr, zero, suc, ◌/◌, nat_le}
+use Rattle.std.proofs.Common.{arith, ◌≡◌, ℕ, ◌+◌, ◌<◌, ◌==◌, ◌&&◌, ◌||◌, not, Bool, true, false, if◌then◌else◌, Option}
+use Rattle.std.proofs.Common.{None, Some, List, [], ◌∷◌, length, refl, sym, ap, subst, ◌∙◌, ◌⊎◌, inl, inr, zero, suc}
+use Rattle.std.proofs.Common.{◌/◌, nat_le}
 use Rattle.std.proofs.lemmas.Bool.{eq-eqb, eqb-true}
 use Rattle.bac_log.specs.TrendLog.{sequence_number}
 use Rattle.bac_log.specs.declared.entry.Entry.{Entry}
@@ -8,22 +10,26 @@ use Rattle.bac_link.specs.Heard.{AckParameters}
 use Rattle.bac_link.specs.Ordinals.{number_after}
 use Rattle.bac_link.specs.Standard.{AreHeldFrom}
 use Rattle.bac_walk.specs.Place.{WalkPlace}
-use Rattle.bac_walk.specs.Walks.{Ask, Bring, End, NextAct, Refuse, asks_oldest_now, fits, is_past, verdict, with_numbers}
+use Rattle.bac_walk.specs.Walks.{Ask, Bring, End, NextAct, Refuse, asks_oldest_now, fits, is_past, verdict}
+use Rattle.bac_walk.specs.Walks.{with_numbers}
 use Rattle.bac_walk.specs.declared.batch.Numbered.{Numbered}
 use Rattle.bac_walk.specs.declared.outcome.WalkFault.TheVariants.{BadReply}
 use Rattle.bac_walk.proofs.Shown.{after-number}
 use Rattle.bac_poll_laws.specs.Caught.{SayNewest, SaysNewest, ShowsNewest, ends_newest, last_turn, since, since_turn}
-use Rattle.bac_poll_laws.specs.Delivers.{Brings, Delivers, Given, IsWithin, LiesIn, NoneBefore, ShowHeld, ShowsHeld, after_given, asking_less, is_finding}
-use Rattle.bac_poll_laws.specs.Laws.{Answer, Clears, Counted, Goes, HoldsOfEach, HasSome, IsAimed, IsAt, IsClearAt, IsRun, IsStanding, Replied, Restarted, Revised, ShowsOnly, Whichever, after_answer}
+use Rattle.bac_poll_laws.specs.Delivers.{Brings, Delivers, Given, IsWithin, LiesIn, NoneBefore, ShowHeld, ShowsHeld}
+use Rattle.bac_poll_laws.specs.Delivers.{after_given, asking_less, is_finding}
+use Rattle.bac_poll_laws.specs.Laws.{Answer, Clears, Counted, Goes, HoldsOfEach, HasSome, IsAimed, IsAt, IsClearAt}
+use Rattle.bac_poll_laws.specs.Laws.{IsRun, IsStanding, Replied, Restarted, Revised, ShowsOnly, Whichever, after_answer}
 use Rattle.bac_poll_laws.specs.Logged.{AreShown, IsShownAt}
-use Rattle.bac_poll.specs.Poll.{ack_in, after_heard, after_too_many, are_asked, has_last, has_more, more_of, reply_from, reply_in, reply_of}
+use Rattle.bac_poll.specs.Poll.{ack_in, after_heard, after_too_many, are_asked, has_last, has_more, more_of, reply_from}
+use Rattle.bac_poll.specs.Poll.{reply_in, reply_of}
 use Rattle.bac_poll.specs.State.{PollState, Reply}
 use Rattle.bac_poll.specs.Turns.{Turned, first_number, last_in}
-use Rattle.bac_poll.specs.declared.stage.Aim.{Aim}
-use Rattle.bac_poll.specs.declared.stage.Aim.TheVariants.{Finds, Renews, Starts}
-use Rattle.bac_poll.specs.declared.stage.Stage.{Stage}
-use Rattle.bac_poll.specs.declared.stage.Stage.TheVariants as stage
-use Rattle.bac_poll.specs.declared.turn.PollEnd.TheVariants.{CaughtUp, Fault}
+use Rattle.bac_poll_steps.specs.declared.stage.Aim.{Aim}
+use Rattle.bac_poll_steps.specs.declared.stage.Aim.TheVariants.{Finds, Renews, Starts}
+use Rattle.bac_poll_steps.specs.declared.stage.Stage.{Stage}
+use Rattle.bac_poll_steps.specs.declared.stage.Stage.TheVariants as stage
+use Rattle.bac_poll_steps.specs.declared.turn.PollEnd.TheVariants.{CaughtUp, Fault}
 use Rattle.bac_poll_laws.proofs.Fronts.{Front, IsWeighed, Knows, Says, by_word_says, ends_says, restart_says}
 use Rattle.bac_poll_laws.proofs.Once.{answers}
 use Rattle.bac_poll_laws.proofs.Ordered.{IsFrontOf, IsOf, brings_of}

@@ -1,5 +1,6 @@
 -- How a first run ends of a log that shows no record.
-use Rattle.std.proofs.Common.{arith, ◌≡◌, ℕ, ◌<◌, ◌==◌, Bool, true, false, Option, None, Some, List, [], refl, sym, ap, subst, if◌then◌else◌}
+use Rattle.std.proofs.Common.{arith, ◌≡◌, ℕ, ◌<◌, ◌==◌, Bool, true, false, Option, None, Some, List, [], refl, sym, ap}
+use Rattle.std.proofs.Common.{subst, if◌then◌else◌}
 use Rattle.std.proofs.lemmas.Bool.{eqb-true}
 use Rattle.bac_wire.specs.Primitive.{Id}
 use Rattle.bac_link.specs.Ordinals.{is_ahead, number_after}
@@ -8,9 +9,9 @@ use Rattle.bac_poll.specs.Poll.{after_count, after_reply, oldest_none, starting}
 use Rattle.bac_poll.specs.Starts.{starts_at, starts_none, total_of}
 use Rattle.bac_poll.specs.State.{PollState, Reply, ToldAs}
 use Rattle.bac_poll.specs.Turns.{Turned, asks_at}
-use Rattle.bac_poll.specs.declared.stage.Aim.TheVariants.{Starts}
-use Rattle.bac_poll.specs.declared.stage.Stage.TheVariants.{UpTo}
-use Rattle.bac_poll.specs.declared.turn.PollEnd.TheVariants.{CaughtUp, SaysMore}
+use Rattle.bac_poll_steps.specs.declared.stage.Aim.TheVariants.{Starts}
+use Rattle.bac_poll_steps.specs.declared.stage.Stage.TheVariants.{UpTo}
+use Rattle.bac_poll_steps.specs.declared.turn.PollEnd.TheVariants.{CaughtUp, SaysMore}
 use Rattle.bac_poll_laws.specs.Bounds.{WhicheverRecord}
 use Rattle.bac_poll_laws.specs.Empty.{EmptyEnds, EndsAt, LooksOn, end_of_none}
 use Rattle.bac_poll_laws.specs.Laws.{Whichever}

@@ -1,22 +1,27 @@
 -- What answers deliver to a poll that knows no record yet.
-use Rattle.std.proofs.Common.{arith, ◌≡◌, ℕ, ◌<◌, Bool, true, false, if◌then◌else◌, Option, None, Some, List, [], ◌∷◌, ◌++◌, map, refl, sym, ap, subst, ◌∙◌, ◌⊎◌, inl, inr, zero, suc}
+use Rattle.std.proofs.Common.{arith, ◌≡◌, ℕ, ◌<◌, Bool, true, false, if◌then◌else◌, Option, None, Some, List, [], ◌∷◌}
+use Rattle.std.proofs.Common.{◌++◌, map, refl, sym, ap, subst, ◌∙◌, ◌⊎◌, inl, inr, zero, suc}
 use Rattle.bac_log.specs.TrendLog.{sequence_number}
 use Rattle.bac_link.specs.Delivery.{History, Moment}
 use Rattle.bac_walk.specs.Walks.{item_of}
 use Rattle.bac_walk.specs.declared.batch.Numbered.{Numbered}
 use Rattle.bac_poll_laws.specs.Caught.{IsUpAt}
-use Rattle.bac_poll_laws.specs.Delivers.{AreOf, BeginsAt, Brings, Delivers, Given, IsGap, LiesIn, NoneBefore, ShowHeld, ShowsHeld, WasFront, after_given, asking_less, is_finding}
+use Rattle.bac_poll_laws.specs.Delivers.{AreOf, BeginsAt, Brings, Delivers, Given, IsGap, LiesIn, NoneBefore, ShowHeld}
+use Rattle.bac_poll_laws.specs.Delivers.{ShowsHeld, WasFront, after_given, asking_less, is_finding}
 use Rattle.bac_poll_laws.specs.Firsts.{CountsIn, DeliversFirst, FirstsDeliver, IsFirst, IsNumberIn, ShowFirst}
-use Rattle.bac_poll_laws.specs.Laws.{Answer, Clears, Counted, Covers, Goes, HasSome, IsAt, IsBefore, IsBegun, IsStanding, IsWhole, Replied, Restarted, Revised, Whichever, after_answer, start_of, IsLast}
+use Rattle.bac_poll_laws.specs.Laws.{Answer, Clears, Counted, Covers, Goes, HasSome, IsAt, IsBefore, IsBegun}
+use Rattle.bac_poll_laws.specs.Laws.{IsStanding, IsWhole, Replied, Restarted, Revised, Whichever, after_answer}
+use Rattle.bac_poll_laws.specs.Laws.{start_of, IsLast}
 use Rattle.bac_poll.specs.Poll.{after_heard, after_too_many, more_of, reply_in}
 use Rattle.bac_poll.specs.State.{PollState, Reply}
 use Rattle.bac_poll.specs.Turns.{Turned, gap_up_to}
-use Rattle.bac_poll.specs.declared.stage.Aim.TheVariants.{Finds, Renews, Starts}
-use Rattle.bac_poll.specs.declared.stage.Stage.{Stage}
-use Rattle.bac_poll.specs.declared.stage.Stage.TheVariants as stage
-use Rattle.bac_poll.specs.declared.turn.Beginning.{Beginning}
-use Rattle.bac_poll.specs.declared.turn.PollEnd.TheVariants.{CaughtUp}
-use Rattle.bac_poll_laws.proofs.Delivered.{ClearsCount, answer_goes, at_more, less_standing, before_front, clears_by, counts_by, counts_of}
+use Rattle.bac_poll_steps.specs.declared.stage.Aim.TheVariants.{Finds, Renews, Starts}
+use Rattle.bac_poll_steps.specs.declared.stage.Stage.{Stage}
+use Rattle.bac_poll_steps.specs.declared.stage.Stage.TheVariants as stage
+use Rattle.bac_poll_steps.specs.declared.turn.Beginning.{Beginning}
+use Rattle.bac_poll_steps.specs.declared.turn.PollEnd.TheVariants.{CaughtUp}
+use Rattle.bac_poll_laws.proofs.Delivered.{ClearsCount, answer_goes, at_more, less_standing, before_front, clears_by}
+use Rattle.bac_poll_laws.proofs.Delivered.{counts_by, counts_of}
 use Rattle.bac_poll_laws.proofs.Firsts.{BeginsWith, FrontAt, SaysFirst, Seeks, count_first, stage_first}
 use Rattle.bac_poll_laws.proofs.Fronts.{Knows}
 use Rattle.bac_poll_laws.proofs.Ordered.{IsFrontOf, IsOf, fore_ahead, gap_is, gap_mid, one_before, one_is, records_of}

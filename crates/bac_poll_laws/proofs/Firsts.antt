@@ -1,29 +1,33 @@
 -- What turns say of a poll that knows no record yet.
-use Rattle.std.proofs.Common.{arith, is_some, ◌≡◌, ℕ, ◌==◌, ◌&&◌, ◌||◌, not, Bool, true, false, if◌then◌else◌, nat_lt, Option, None, Some, List, [], ◌∷◌, length, refl, sym, ap, subst, ◌∙◌, ◌⊎◌, inl, inr}
+use Rattle.std.proofs.Common.{arith, is_some, ◌≡◌, ℕ, ◌==◌, ◌&&◌, ◌||◌, not, Bool, true, false, if◌then◌else◌, nat_lt}
+use Rattle.std.proofs.Common.{Option, None, Some, List, [], ◌∷◌, length, refl, sym, ap, subst, ◌∙◌, ◌⊎◌, inl, inr}
 use Rattle.std.proofs.lemmas.Bool.{eq-eqb, eqb-true, and_parts}
 use Rattle.bac_link.specs.Ordinals.{is_ahead, number_after}
 use Rattle.bac_link.specs.declared.item.Item.TheVariants.{Gap}
 use Rattle.bac_walk.specs.declared.batch.Numbered.{Numbered}
 use Rattle.bac_walk.specs.declared.outcome.WalkFault.TheVariants.{BadReply}
-use Rattle.bac_poll.specs.Back.{back, back_alone, back_by, back_done, back_lost, back_more, back_shown, is_front, shown_last, went_back}
+use Rattle.bac_poll.specs.Back.{back, back_alone, back_by, back_done, back_lost, back_more, back_shown, is_front}
+use Rattle.bac_poll.specs.Back.{shown_last, went_back}
 use Rattle.bac_poll.specs.Epochs.{brings_behind, renews, renews_none, renews_of}
 use Rattle.bac_poll_laws.specs.Firsts.{IsFirst}
 use Rattle.bac_poll.specs.Known.{heeding, means_in, means_of, shown_in, word_of}
 use Rattle.bac_poll_laws.specs.Laws.{HasSome, IsAt, IsBegun, IsClearAt, Whichever}
 use Rattle.bac_poll.specs.Oldest.{is_first, is_since}
 use Rattle.bac_poll.specs.Poll.{at_stage, count_at}
-use Rattle.bac_poll.specs.Starts.{beginning, is_doubted, starts, starts_at, starts_behind, starts_by, starts_here, starts_none, starts_refused, starts_told}
+use Rattle.bac_poll.specs.Starts.{beginning, is_doubted, starts, starts_at, starts_behind, starts_by, starts_here}
+use Rattle.bac_poll.specs.Starts.{starts_none, starts_refused, starts_told}
 use Rattle.bac_poll.specs.State.{KeptAs, PollState, Reply}
-use Rattle.bac_poll.specs.Turns.{Turned, asks, confirmed, end_of, ends, first_in, first_number, gap_up_to, last_in, number_before, number_or, standing_at}
+use Rattle.bac_poll.specs.Turns.{Turned, asks, confirmed, end_of, ends, first_in, first_number, gap_up_to, last_in}
+use Rattle.bac_poll.specs.Turns.{number_before, number_or, standing_at}
 use Rattle.bac_known.specs.declared.known.Means.TheVariants.{Unshown}
 use Rattle.bac_known.specs.declared.known.Shown.{Shown}
 use Rattle.bac_known.specs.declared.known.Shown.TheVariants as shown
-use Rattle.bac_poll.specs.declared.stage.Aim.{Aim}
-use Rattle.bac_poll.specs.declared.stage.Aim.TheVariants.{Finds, Renews, Starts}
-use Rattle.bac_poll.specs.declared.stage.Stage.{Stage}
-use Rattle.bac_poll.specs.declared.stage.Stage.TheVariants as stage
-use Rattle.bac_poll.specs.declared.turn.PollEnd.{PollEnd}
-use Rattle.bac_poll.specs.declared.turn.PollEnd.TheVariants.{Contradicts, Fault, ShowsNone}
+use Rattle.bac_poll_steps.specs.declared.stage.Aim.{Aim}
+use Rattle.bac_poll_steps.specs.declared.stage.Aim.TheVariants.{Finds, Renews, Starts}
+use Rattle.bac_poll_steps.specs.declared.stage.Stage.{Stage}
+use Rattle.bac_poll_steps.specs.declared.stage.Stage.TheVariants as stage
+use Rattle.bac_poll_steps.specs.declared.turn.PollEnd.{PollEnd}
+use Rattle.bac_poll_steps.specs.declared.turn.PollEnd.TheVariants.{Contradicts, Fault, ShowsNone}
 use Rattle.bac_poll_laws.proofs.Fronts.{brings_by, never_none, none_of, pick, some_last, some_of}
 
 module _ (F N : ℕ → Type 0) where

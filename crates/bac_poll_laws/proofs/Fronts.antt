@@ -1,5 +1,7 @@
 -- Where gaps lie, and when a poll is caught up: what turns say of a poll that stands in an epoch.
-use Rattle.std.proofs.Common.{arith, is_some, ◌≡◌, ℕ, ◌<◌, ◌==◌, ◌&&◌, not, Bool, true, false, if◌then◌else◌, nat_lt, Option, None, Some, List, [], ◌∷◌, ◌++◌, length, map, refl, sym, ap, subst, ◌∙◌, ◌⊎◌, inl, inr, suc, ◌-◌, slice_get, cond}
+use Rattle.std.proofs.Common.{arith, is_some, ◌≡◌, ℕ, ◌<◌, ◌==◌, ◌&&◌, not, Bool, true, false, if◌then◌else◌, nat_lt}
+use Rattle.std.proofs.Common.{Option, None, Some, List, [], ◌∷◌, ◌++◌, length, map, refl, sym, ap, subst, ◌∙◌, ◌⊎◌, inl}
+use Rattle.std.proofs.Common.{inr, suc, ◌-◌, slice_get, cond}
 use Rattle.std.proofs.lemmas.Bool.{eqb-true}
 use Rattle.bac_link.specs.Ordinals.{is_ahead, number_after}
 use Rattle.bac_walk.specs.Place.{WalkPlace}
@@ -8,25 +10,28 @@ use Rattle.bac_walk.specs.declared.batch.Numbered.{Numbered}
 use Rattle.bac_poll_laws.specs.Delivers.{is_finding}
 use Rattle.bac_poll.specs.Epochs.{another, another_by, another_of, asks_oldest}
 use Rattle.bac_poll.specs.Gone.{asks_restart, asks_revision, asks_word, by_gone, by_word, doubt, gone_of, retold}
-use Rattle.bac_poll.specs.Joins.{ahead, asks_again, asks_each, at_hour, each, each_all, each_by, each_means, each_next, found, goes_nowhere, hour, joined, joins, joins_by, joins_from, lost, lost_ahead, moved_ahead, prior, again, again_by, again_equal, again_from, brings_ahead}
+use Rattle.bac_poll.specs.Joins.{ahead, asks_again, asks_each, at_hour, each, each_all, each_by, each_means, each_next}
+use Rattle.bac_poll.specs.Joins.{found, goes_nowhere, hour, joined, joins, joins_by, joins_from, lost, lost_ahead}
+use Rattle.bac_poll.specs.Joins.{moved_ahead, prior, again, again_by, again_equal, again_from, brings_ahead}
 use Rattle.bac_poll.specs.Known.{means_in, number_in, record_at, records_behind, shown_in, maybe_shown, word_of}
 use Rattle.bac_poll_laws.specs.Laws.{Covers, HasSome, IsBefore, IsRun}
 use Rattle.bac_poll.specs.State.{KeptAs, PollState, Reply, kept_of}
-use Rattle.bac_poll.specs.Turns.{Turned, anew, asks, behind, brings, brings_to, confirmed, end_of, ends, first_in, first_number, gap_up_to, last_in, number_or, renewed, standing_alone, standing_at}
-use Rattle.bac_poll.specs.declared.gone.Gone.{Gone}
-use Rattle.bac_poll.specs.declared.gone.Gone.TheVariants.{Dropped, Doubtful, Both}
+use Rattle.bac_poll.specs.Turns.{Turned, anew, asks, behind, brings, brings_to, confirmed, end_of, ends, first_in}
+use Rattle.bac_poll.specs.Turns.{first_number, gap_up_to, last_in, number_or, renewed, standing_alone, standing_at}
+use Rattle.bac_poll_steps.specs.declared.gone.Gone.{Gone}
+use Rattle.bac_poll_steps.specs.declared.gone.Gone.TheVariants.{Dropped, Doubtful, Both}
 use Rattle.bac_known.specs.declared.known.Means.{Means}
 use Rattle.bac_known.specs.declared.known.Means.TheVariants.{Shifted, Partly, Same, Unshown, Another}
 use Rattle.bac_known.specs.declared.known.Shown.{Shown}
 use Rattle.bac_known.specs.declared.known.Shown.TheVariants as shown
-use Rattle.bac_poll.specs.declared.stage.Aim.{Aim}
-use Rattle.bac_poll.specs.declared.stage.Aim.TheVariants.{Finds}
-use Rattle.bac_poll.specs.declared.stage.Stage.{Stage}
-use Rattle.bac_poll.specs.declared.stage.Stage.TheVariants as stage
-use Rattle.bac_poll.specs.declared.turn.Line.{Line}
-use Rattle.bac_poll.specs.declared.turn.Line.TheVariants as line
-use Rattle.bac_poll.specs.declared.turn.PollEnd.{PollEnd}
-use Rattle.bac_poll.specs.declared.turn.PollEnd.TheVariants.{CaughtUp, Contradicts, SaysMore}
+use Rattle.bac_poll_steps.specs.declared.stage.Aim.{Aim}
+use Rattle.bac_poll_steps.specs.declared.stage.Aim.TheVariants.{Finds}
+use Rattle.bac_poll_steps.specs.declared.stage.Stage.{Stage}
+use Rattle.bac_poll_steps.specs.declared.stage.Stage.TheVariants as stage
+use Rattle.bac_poll_steps.specs.declared.turn.Line.{Line}
+use Rattle.bac_poll_steps.specs.declared.turn.Line.TheVariants as line
+use Rattle.bac_poll_steps.specs.declared.turn.PollEnd.{PollEnd}
+use Rattle.bac_poll_steps.specs.declared.turn.PollEnd.TheVariants.{CaughtUp, Contradicts, SaysMore}
 use Rattle.bac_poll_laws.proofs.Wholes.{run_ends}
 
 -- ---- choices

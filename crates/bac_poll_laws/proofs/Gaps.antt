@@ -5,9 +5,10 @@ use Rattle.bac_poll_laws.specs.Gaps.{GapsAreGone, IsGoneBefore, SaysHeld}
 use Rattle.bac_poll_laws.specs.Laws.{Answer, Counted, Goes, IsAt, IsStanding, Replied, Restarted, Revised, after_answer}
 use Rattle.bac_poll_laws.specs.Logged.{IsLogged}
 use Rattle.bac_poll.specs.State.{PollState}
-use Rattle.bac_poll.specs.declared.stage.Stage.{Stage}
-use Rattle.bac_poll.specs.declared.stage.Stage.TheVariants.{Joins, Prior, Ahead, Again, Each, Oldest, ByNumber, Counts}
-use Rattle.bac_poll.specs.declared.stage.Stage.TheVariants.{UpTo, Back, Revision, Restart}
+use Rattle.bac_poll_steps.specs.declared.stage.Stage.{Stage}
+use Rattle.bac_poll_steps.specs.declared.stage.Stage.TheVariants.{Joins, Prior, Ahead, Again, Each, Oldest, ByNumber}
+use Rattle.bac_poll_steps.specs.declared.stage.Stage.TheVariants.{Counts}
+use Rattle.bac_poll_steps.specs.declared.stage.Stage.TheVariants.{UpTo, Back, Revision, Restart}
 use Rattle.bac_poll_laws.proofs.Once.{answers}
 use Rattle.bac_poll_laws.proofs.Saids.{reply_shows}
 

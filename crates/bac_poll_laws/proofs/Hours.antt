@@ -1,6 +1,7 @@
 -- How often known records are asked for one by one: while three are known, and so once in the beginning and once for
 -- each answer by which records are kept.
-use Rattle.std.proofs.Common.{arith, ◌≡◌, ℕ, zero, suc, ◌+◌, ◌≤◌, ◌==◌, ◌&&◌, nat_lt, Bool, true, false, if◌then◌else◌, Option, None, Some, List, [], ◌∷◌, ◌++◌, length, refl, sym, ap, subst}
+use Rattle.std.proofs.Common.{arith, ◌≡◌, ℕ, zero, suc, ◌+◌, ◌≤◌, ◌==◌, ◌&&◌, nat_lt, Bool, true, false, if◌then◌else◌}
+use Rattle.std.proofs.Common.{Option, None, Some, List, [], ◌∷◌, ◌++◌, length, refl, sym, ap, subst}
 use Rattle.bac_walk.specs.declared.batch.Numbered.{Numbered}
 use Rattle.bac_poll.specs.Epochs.{another}
 use Rattle.bac_poll.specs.Joins.{asks_each, each, each_all, each_by, each_means, each_next}
@@ -10,16 +11,18 @@ use Rattle.bac_poll.specs.State.{KeptAs, PollState, Reply}
 use Rattle.bac_poll.specs.Turns.{Turned, first_in}
 use Rattle.bac_known.specs.declared.known.Means.{Means}
 use Rattle.bac_known.specs.declared.known.Means.TheVariants.{Shifted, Partly, Same, Unshown, Another}
-use Rattle.bac_poll.specs.declared.stage.Aim.TheVariants.{Finds, Renews, Starts}
-use Rattle.bac_poll.specs.declared.stage.Stage.{Stage}
-use Rattle.bac_poll.specs.declared.stage.Stage.TheVariants as stage
+use Rattle.bac_poll_steps.specs.declared.stage.Aim.TheVariants.{Finds, Renews, Starts}
+use Rattle.bac_poll_steps.specs.declared.stage.Stage.{Stage}
+use Rattle.bac_poll_steps.specs.declared.stage.Stage.TheVariants as stage
 use Rattle.bac_poll_laws.specs.Delivers.{asking_less}
 use Rattle.bac_poll_laws.specs.Laws.{Answer, Answers, Counted, Replied, Restarted, Revised, Whichever, after_answer}
 use Rattle.bac_poll_laws.specs.Questions.{one_if_kept}
 use Rattle.bac_poll_laws.specs.Bounds.{WhicheverRecord}
 use Rattle.bac_poll_laws.proofs.Lefts.{each_one, hour_one}
 use Rattle.bac_poll_laws.proofs.Wholes.{split}
-use Rattle.bac_poll_laws.proofs.Quiet.{Quiet, again_from_quiet, ahead_quiet, back_quiet, by_count_quiet, by_number_quiet, by_word_quiet, joins_quiet, oldest_quiet, prior_quiet, renews_by_quiet, restart_quiet, starts_from_quiet, up_to_quiet}
+use Rattle.bac_poll_laws.proofs.Quiet.{Quiet, again_from_quiet, ahead_quiet, back_quiet, by_count_quiet}
+use Rattle.bac_poll_laws.proofs.Quiet.{by_number_quiet, by_word_quiet, joins_quiet, oldest_quiet, prior_quiet}
+use Rattle.bac_poll_laws.proofs.Quiet.{renews_by_quiet, restart_quiet, starts_from_quiet, up_to_quiet}
 
 -- ---- the known ones, one by one
 

@@ -1,5 +1,6 @@
 -- What is held is kept.
-use Rattle.std.proofs.Common.{arith, ◌≡◌, ℕ, suc, ◌+◌, ◌<◌, ◌≤◌, ◌==◌, nat_lt, Bool, true, false, if◌then◌else◌, List, [], ◌∷◌, ◌++◌, refl, sym, ap, subst, ◌∙◌, ◌⊎◌, inl, inr}
+use Rattle.std.proofs.Common.{arith, ◌≡◌, ℕ, suc, ◌+◌, ◌<◌, ◌≤◌, ◌==◌, nat_lt, Bool, true, false, if◌then◌else◌, List}
+use Rattle.std.proofs.Common.{[], ◌∷◌, ◌++◌, refl, sym, ap, subst, ◌∙◌, ◌⊎◌, inl, inr}
 use Rattle.std.proofs.lemmas.Bool.{eq-eqb, eqb-true, ltb-true, ltb-false}
 use Rattle.bac_log.specs.TrendLog.{sequence_number}
 use Rattle.bac_link.specs.Delivery.{History, Holds, IsEntry, Moment}
@@ -7,7 +8,8 @@ use Rattle.bac_link.specs.declared.item.Item.{Item}
 use Rattle.bac_link.specs.declared.item.Item.TheVariants.{Gap, Logged}
 use Rattle.bac_walk.specs.declared.batch.Numbered.{Numbered}
 use Rattle.bac_poll_laws.specs.Caught.{WasNone, last_turn, since}
-use Rattle.bac_poll_laws.specs.Delivers.{AreOf, BeginsAt, Brings, CameInDoubt, Delivers, Given, IsGap, LiesIn, WasFront, after_given}
+use Rattle.bac_poll_laws.specs.Delivers.{AreOf, BeginsAt, Brings, CameInDoubt, Delivers, Given, IsGap, LiesIn, WasFront}
+use Rattle.bac_poll_laws.specs.Delivers.{after_given}
 use Rattle.bac_poll_laws.specs.Held.{AreRising, AreSure, AtSome, HeldIsKept, IsKeptOnce, kept_by, last_oldest, times}
 use Rattle.bac_poll_laws.specs.Laws.{IsAmong}
 use Rattle.bac_poll.specs.State.{PollState}

@@ -1,23 +1,27 @@
 -- How many questions may follow a turn: what is left at each stage, and what the steps of the rule take of it.
-use Rattle.std.proofs.Common.{arith, ◌≡◌, ℕ, suc, ◌+◌, ◌*◌, ◌-◌, ◌≤◌, ◌<◌, ◌==◌, Bool, true, false, if◌then◌else◌, Option, None, Some, List, [], ◌∷◌, length, slice_get, refl, sym, ap, subst, ◌∙◌, ◌⊎◌, inl}
+use Rattle.std.proofs.Common.{arith, ◌≡◌, ℕ, suc, ◌+◌, ◌*◌, ◌-◌, ◌≤◌, ◌<◌, ◌==◌, Bool, true, false, if◌then◌else◌}
+use Rattle.std.proofs.Common.{Option, None, Some, List, [], ◌∷◌, length, slice_get, refl, sym, ap, subst, ◌∙◌, ◌⊎◌, inl}
 use Rattle.std.proofs.lemmas.Bool.{lt-ltb}
 use Rattle.std.specs.Option.{option_map}
 use Rattle.bac_link.specs.Ordinals.{number_after}
 use Rattle.bac_walk.specs.Place.{WalkPlace}
 use Rattle.bac_walk.specs.declared.batch.Numbered.{Numbered}
-use Rattle.bac_poll.specs.Epochs.{another, another_by, another_of, asks_back, asks_oldest, brings_behind, renews, renews_of}
+use Rattle.bac_poll.specs.Epochs.{another, another_by, another_of, asks_back, asks_oldest, brings_behind, renews}
+use Rattle.bac_poll.specs.Epochs.{renews_of}
 use Rattle.bac_poll.specs.Gone.{asks_restart, asks_revision, asks_word, by_gone, by_word, retold}
 use Rattle.bac_poll.specs.Poll.{kept_number}
 use Rattle.bac_poll.specs.State.{KeptAs, PollState, kept_of}
-use Rattle.bac_poll.specs.Turns.{Turned, before_last, brings, brings_to, confirmed, end_of, ends, first_in, first_number, kept_or, knowing, last_in, number_before, number_or, renewed, standing_at, third_known}
-use Rattle.bac_poll.specs.declared.gone.Gone.{Gone}
-use Rattle.bac_poll.specs.declared.gone.Gone.TheVariants.{Dropped, Doubtful, Both}
-use Rattle.bac_poll.specs.declared.stage.Aim.{Aim}
-use Rattle.bac_poll.specs.declared.stage.Aim.TheVariants.{Finds, Renews, Starts}
-use Rattle.bac_poll.specs.declared.stage.Stage.{Stage}
-use Rattle.bac_poll.specs.declared.stage.Stage.TheVariants as stage
-use Rattle.bac_poll.specs.declared.turn.PollEnd.{PollEnd}
-use Rattle.bac_poll.specs.declared.turn.PollEnd.TheVariants.{Contradicts}
+use Rattle.bac_poll.specs.Turns.{Turned, before_last, brings, brings_to, confirmed, end_of, ends, first_in}
+use Rattle.bac_poll.specs.Turns.{first_number, kept_or, knowing, last_in, number_before, number_or, renewed}
+use Rattle.bac_poll.specs.Turns.{standing_at, third_known}
+use Rattle.bac_poll_steps.specs.declared.gone.Gone.{Gone}
+use Rattle.bac_poll_steps.specs.declared.gone.Gone.TheVariants.{Dropped, Doubtful, Both}
+use Rattle.bac_poll_steps.specs.declared.stage.Aim.{Aim}
+use Rattle.bac_poll_steps.specs.declared.stage.Aim.TheVariants.{Finds, Renews, Starts}
+use Rattle.bac_poll_steps.specs.declared.stage.Stage.{Stage}
+use Rattle.bac_poll_steps.specs.declared.stage.Stage.TheVariants as stage
+use Rattle.bac_poll_steps.specs.declared.turn.PollEnd.{PollEnd}
+use Rattle.bac_poll_steps.specs.declared.turn.PollEnd.TheVariants.{Contradicts}
 use Rattle.bac_poll_laws.specs.Bounds.{FollowsOn}
 use Rattle.bac_poll_laws.specs.Laws.{IsBefore, IsRun, Whichever}
 use Rattle.bac_poll_laws.specs.Questions.{one_if_kept}

@@ -1,5 +1,6 @@
 -- How many questions may follow the turns of the rule: the oldest records, the count, first runs, and backwards.
-use Rattle.std.proofs.Common.{arith, is_some, ◌≡◌, ℕ, ◌+◌, ◌*◌, ◌≤◌, ◌==◌, ◌&&◌, ◌||◌, not, nat_lt, Bool, true, false, if◌then◌else◌, Option, None, Some, List, [], length, refl, inr}
+use Rattle.std.proofs.Common.{arith, is_some, ◌≡◌, ℕ, ◌+◌, ◌*◌, ◌≤◌, ◌==◌, ◌&&◌, ◌||◌, not, nat_lt, Bool, true, false}
+use Rattle.std.proofs.Common.{if◌then◌else◌, Option, None, Some, List, [], length, refl, inr}
 use Rattle.std.proofs.lemmas.Bool.{and_parts}
 use Rattle.bac_link.specs.Ordinals.{is_ahead, number_after}
 use Rattle.bac_walk.specs.Place.{WalkPlace}
@@ -7,7 +8,8 @@ use Rattle.bac_walk.specs.declared.batch.Numbered.{Numbered}
 use Rattle.bac_poll.specs.Back.{back_alone, back_by, back_done, back_lost, back_more, back_shown, is_front, shown_last}
 use Rattle.bac_poll.specs.Joins.{found}
 use Rattle.bac_poll.specs.Known.{means_in, record_at, records_behind}
-use Rattle.bac_poll.specs.Oldest.{by_count, by_number, drops, is_first, logged, sees, sees_before, sees_by, sees_newest, sees_none, sees_same}
+use Rattle.bac_poll.specs.Oldest.{by_count, by_number, drops, is_first, logged, sees, sees_before, sees_by, sees_newest}
+use Rattle.bac_poll.specs.Oldest.{sees_none, sees_same}
 use Rattle.bac_poll.specs.Poll.{came, oldest, oldest_none, renews_by, up_to, up_to_none}
 use Rattle.bac_poll.specs.Oldest.{is_cut}
 use Rattle.bac_poll.specs.Starts.{starts, starts_at, starts_by, starts_from, starts_none, starts_refused, starts_told}
@@ -17,13 +19,16 @@ use Rattle.bac_known.specs.declared.known.Means.{Means}
 use Rattle.bac_known.specs.declared.known.Means.TheVariants.{Shifted, Partly, Same, Unshown, Another}
 use Rattle.bac_known.specs.declared.known.Shown.{Shown}
 use Rattle.bac_known.specs.declared.known.Shown.TheVariants as shown
-use Rattle.bac_poll.specs.declared.stage.Aim.{Aim}
-use Rattle.bac_poll.specs.declared.stage.Aim.TheVariants.{Finds, Renews, Starts}
-use Rattle.bac_poll.specs.declared.turn.PollEnd.TheVariants.{CaughtUp, NoneByNumber, ShowsNone}
+use Rattle.bac_poll_steps.specs.declared.stage.Aim.{Aim}
+use Rattle.bac_poll_steps.specs.declared.stage.Aim.TheVariants.{Finds, Renews, Starts}
+use Rattle.bac_poll_steps.specs.declared.turn.PollEnd.TheVariants.{CaughtUp, NoneByNumber, ShowsNone}
 use Rattle.bac_poll_laws.specs.Bounds.{again_one}
 use Rattle.bac_poll_laws.specs.Laws.{IsAimed, IsRun, Whichever}
-use Rattle.bac_poll_laws.proofs.Lefts.{Costs, IsSame, Row, another_by_costs, another_of_costs, back_costs, behind_costs, ends_costs, fresh_costs, left_back, left_counts, left_oldest, left_up, pick, renews_costs, renews_of_costs, word_costs}
-use Rattle.bac_poll_laws.proofs.Takes.{each_begins, found_refers, found_row, hour_costs, newest_costs, news_costs, some_known}
+use Rattle.bac_poll_laws.proofs.Lefts.{Costs, IsSame, Row, another_by_costs, another_of_costs, back_costs, behind_costs}
+use Rattle.bac_poll_laws.proofs.Lefts.{ends_costs, fresh_costs, left_back, left_counts, left_oldest, left_up, pick}
+use Rattle.bac_poll_laws.proofs.Lefts.{renews_costs, renews_of_costs, word_costs}
+use Rattle.bac_poll_laws.proofs.Takes.{each_begins, found_refers, found_row, hour_costs, newest_costs, news_costs}
+use Rattle.bac_poll_laws.proofs.Takes.{some_known}
 use Rattle.bac_poll_laws.proofs.Wholes.{found_number}
 
 not_true : (c : Bool) → not c ≡ true → c ≡ false

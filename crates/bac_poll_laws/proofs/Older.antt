@@ -1,5 +1,7 @@
 -- Each question backwards but one brings an older record.
-use Rattle.std.proofs.Common.{arith, ◌≡◌, ℕ, ◌+◌, ◌*◌, ◌-◌, ◌≤◌, ◌<◌, ◌==◌, ◌&&◌, ◌||◌, not, nat_le, nat_lt, Bool, true, false, if◌then◌else◌, Option, None, Some, List, [], ◌∷◌, length, refl, sym, ap, subst, ◌∙◌, ◌⊎◌, inl, inr}
+use Rattle.std.proofs.Common.{arith, ◌≡◌, ℕ, ◌+◌, ◌*◌, ◌-◌, ◌≤◌, ◌<◌, ◌==◌, ◌&&◌, ◌||◌, not, nat_le, nat_lt, Bool, true}
+use Rattle.std.proofs.Common.{false, if◌then◌else◌, Option, None, Some, List, [], ◌∷◌, length, refl, sym, ap, subst}
+use Rattle.std.proofs.Common.{◌∙◌, ◌⊎◌, inl, inr}
 use Rattle.std.proofs.lemmas.Bool.{and_from, eq-eqb, eqb-true, leb-false, leb-true, ltb-false, ltb-true}
 use Rattle.std.proofs.lemmas.Slice.Eq.{bytes_eq-Decides}
 use Rattle.std.specs.Cmp.{nat_cmp_is}
@@ -13,7 +15,8 @@ use Rattle.bac_link.specs.Delivery.{History, IsEntry}
 use Rattle.bac_link.specs.Ordinals.{distance, is_ahead, number_after}
 use Rattle.bac_walk.specs.declared.batch.Numbered.{Numbered}
 use Rattle.bac_walk.proofs.Shown.{after-number, distance-behind, distance-number}
-use Rattle.bac_poll.specs.Back.{back, back_alone, back_by, back_done, back_more, back_shown, is_front, shown_last, went_back}
+use Rattle.bac_poll.specs.Back.{back, back_alone, back_by, back_done, back_more, back_shown, is_front, shown_last}
+use Rattle.bac_poll.specs.Back.{went_back}
 use Rattle.bac_poll.specs.DateTime.{is_same_time}
 use Rattle.bac_poll.specs.Epochs.{another, another_by, renews}
 use Rattle.bac_poll.specs.Gone.{asks_restart, asks_revision, asks_word, by_gone, by_word, retold}
@@ -22,20 +25,21 @@ use Rattle.bac_poll.specs.Known.{is_same_value, means_in, number_in, record_at, 
 use Rattle.bac_poll.specs.Oldest.{sees_by, sees_newest, sees_none, sees_same}
 use Rattle.bac_poll.specs.Starts.{starts_at}
 use Rattle.bac_poll.specs.State.{KeptAs, PollState, kept_of}
-use Rattle.bac_poll.specs.Turns.{Turned, anew, brings, brings_to, confirmed, first_in, first_number, last_in, number_before, number_or, renewed, standing_at}
+use Rattle.bac_poll.specs.Turns.{Turned, anew, brings, brings_to, confirmed, first_in, first_number, last_in}
+use Rattle.bac_poll.specs.Turns.{number_before, number_or, renewed, standing_at}
 use Rattle.bac_known.specs.declared.date_time.DateTime.{DateTime}
-use Rattle.bac_poll.specs.declared.gone.Gone.{Gone}
-use Rattle.bac_poll.specs.declared.gone.Gone.TheVariants.{Dropped, Doubtful, Both}
+use Rattle.bac_poll_steps.specs.declared.gone.Gone.{Gone}
+use Rattle.bac_poll_steps.specs.declared.gone.Gone.TheVariants.{Dropped, Doubtful, Both}
 use Rattle.bac_known.specs.declared.known.Means.{Means}
 use Rattle.bac_known.specs.declared.known.Means.TheVariants.{Shifted, Partly, Same, Unshown, Another}
 use Rattle.bac_known.specs.declared.known.Shown.{Shown}
 use Rattle.bac_known.specs.declared.known.Shown.TheVariants as shown
-use Rattle.bac_poll.specs.declared.stage.Aim.{Aim}
-use Rattle.bac_poll.specs.declared.stage.Aim.TheVariants.{Finds, Renews, Starts}
-use Rattle.bac_poll.specs.declared.stage.Stage.{Stage}
-use Rattle.bac_poll.specs.declared.turn.Line.{Line}
-use Rattle.bac_poll.specs.declared.turn.Line.TheVariants.{BeganAnew, BeganOrDropped}
-use Rattle.bac_poll.specs.declared.stage.Stage.TheVariants as stage
+use Rattle.bac_poll_steps.specs.declared.stage.Aim.{Aim}
+use Rattle.bac_poll_steps.specs.declared.stage.Aim.TheVariants.{Finds, Renews, Starts}
+use Rattle.bac_poll_steps.specs.declared.stage.Stage.{Stage}
+use Rattle.bac_poll_steps.specs.declared.turn.Line.{Line}
+use Rattle.bac_poll_steps.specs.declared.turn.Line.TheVariants.{BeganAnew, BeganOrDropped}
+use Rattle.bac_poll_steps.specs.declared.stage.Stage.TheVariants as stage
 use Rattle.bac_poll_laws.specs.Backwards.{IsLoggedIn}
 use Rattle.bac_poll_laws.specs.Bounds.{oldest_one}
 use Rattle.bac_poll_laws.specs.Delivers.{LiesIn}

@@ -1,31 +1,41 @@
 -- Each number comes once, whatever is answered.
-use Rattle.std.proofs.Common.{◌≡◌, ℕ, ◌==◌, Bool, true, false, if◌then◌else◌, Option, None, Some, List, [], ◌∷◌, ◌++◌, length, refl, sym, subst}
+use Rattle.std.proofs.Common.{◌≡◌, ℕ, ◌==◌, Bool, true, false, if◌then◌else◌, Option, None, Some, List, [], ◌∷◌, ◌++◌}
+use Rattle.std.proofs.Common.{length, refl, sym, subst}
 use Rattle.std.proofs.lemmas.Bool.{eqb-true}
 use Rattle.bac_link.specs.Heard.{AckParameters, heard_in}
 use Rattle.bac_log.specs.declared.entry.Entry.{Entry}
 use Rattle.bac_walk.specs.Walks.{Ask, Bring, End, NextAct, Refuse, verdict, with_numbers}
 use Rattle.bac_walk.specs.declared.batch.Numbered.{Numbered}
 use Rattle.bac_walk.specs.declared.outcome.WalkFault.TheVariants.{BadReply}
-use Rattle.bac_poll_laws.specs.Laws.{Answer, Answers, AreAnswers, Counted, Covers, Epoch, Goes, IsAimed, IsAt, IsBefore, IsRun, IsStanding, IsWhole, Replied, Restarted, Revised, ShowsOnly, Clears, HasSome, IsBegun, IsClearAt, Whichever, after_all, after_answer, epoch_after, epoch_after_all, epoch_from, items_of, start_of}
-use Rattle.bac_poll.specs.Poll.{ack_in, first_stage, joining, starting, after, after_count, after_heard, after_restart, after_revision, are_asked, at_stage, came, count_at, has_last, has_more, more_of, oldest, oldest_none, renews_by, reply_from, reply_in, reply_of, up_to, up_to_none}
+use Rattle.bac_poll_laws.specs.Laws.{Answer, Answers, AreAnswers, Counted, Covers, Epoch, Goes, IsAimed, IsAt, IsBefore}
+use Rattle.bac_poll_laws.specs.Laws.{IsRun, IsStanding, IsWhole, Replied, Restarted, Revised, ShowsOnly, Clears}
+use Rattle.bac_poll_laws.specs.Laws.{HasSome, IsBegun, IsClearAt, Whichever, after_all, after_answer, epoch_after}
+use Rattle.bac_poll_laws.specs.Laws.{epoch_after_all, epoch_from, items_of, start_of}
+use Rattle.bac_poll.specs.Poll.{ack_in, first_stage, joining, starting, after, after_count, after_heard, after_restart}
+use Rattle.bac_poll.specs.Poll.{after_revision, are_asked, at_stage, came, count_at, has_last, has_more, more_of}
+use Rattle.bac_poll.specs.Poll.{oldest, oldest_none, renews_by, reply_from, reply_in, reply_of, up_to, up_to_none}
 use Rattle.bac_poll.specs.Oldest.{is_cut}
 use Rattle.bac_poll.specs.State.{KeptAs, PollState, Reply, StandingAs, ToldAs}
 use Rattle.bac_poll.specs.Turns.{Turned, end_of, first_number}
 use Rattle.bac_known.specs.declared.date_time.DateTime.{DateTime}
-use Rattle.bac_poll.specs.declared.stage.Aim.{Aim}
-use Rattle.bac_poll.specs.declared.stage.Aim.TheVariants.{Finds, Renews, Starts}
-use Rattle.bac_poll.specs.declared.stage.Stage.{Stage}
-use Rattle.bac_poll.specs.declared.stage.Stage.TheVariants.{Joins, Prior, Ahead, Again, Each, Oldest, ByNumber, Counts}
-use Rattle.bac_poll.specs.declared.stage.Stage.TheVariants.{UpTo, Back, Revision, Restart}
-use Rattle.bac_poll.specs.declared.turn.PollEnd.TheVariants.{Fault}
+use Rattle.bac_poll_steps.specs.declared.stage.Aim.{Aim}
+use Rattle.bac_poll_steps.specs.declared.stage.Aim.TheVariants.{Finds, Renews, Starts}
+use Rattle.bac_poll_steps.specs.declared.stage.Stage.{Stage}
+use Rattle.bac_poll_steps.specs.declared.stage.Stage.TheVariants.{Joins, Prior, Ahead, Again, Each, Oldest, ByNumber}
+use Rattle.bac_poll_steps.specs.declared.stage.Stage.TheVariants.{Counts}
+use Rattle.bac_poll_steps.specs.declared.stage.Stage.TheVariants.{UpTo, Back, Revision, Restart}
+use Rattle.bac_poll_steps.specs.declared.turn.PollEnd.TheVariants.{Fault}
 use Rattle.bac_poll_laws.proofs.Backwards.{back_takes}
-use Rattle.bac_poll_laws.proofs.Rules.{again_goes, ahead_goes, by_number_goes, by_word_goes, counted_goes, each_goes, joins_goes, prior_goes, renews_goes, renews_none_goes, renews_of_goes, restart_goes, came_sees, starts_by_goes, starts_from_goes, starts_goes, starts_none_goes, word_goes}
+use Rattle.bac_poll_laws.proofs.Rules.{again_goes, ahead_goes, by_number_goes, by_word_goes, counted_goes, each_goes}
+use Rattle.bac_poll_laws.proofs.Rules.{joins_goes, prior_goes, renews_goes, renews_none_goes, renews_of_goes}
+use Rattle.bac_poll_laws.proofs.Rules.{restart_goes, came_sees, starts_by_goes, starts_from_goes, starts_goes}
+use Rattle.bac_poll_laws.proofs.Rules.{starts_none_goes, word_goes}
 use Rattle.bac_poll_laws.proofs.Wholes.{ends_goes, numbered_run, run_first, split}
 use Rattle.bac_wire.specs.Primitive.{Id}
 use Rattle.bac_link.specs.Ordinals.{number_after}
 use Rattle.bac_link.specs.declared.item.Item.{Item}
 use Rattle.bac_link.specs.declared.item.Item.TheVariants.{Gap, Logged}
-use Rattle.bac_poll.specs.declared.turn.Beginning.{Beginning}
+use Rattle.bac_poll_steps.specs.declared.turn.Beginning.{Beginning}
 
 module _ (P : Numbered → Type 0) (F : ℕ → Type 0) where
   -- ---- a reply is a run

@@ -1,20 +1,23 @@
 -- What a poll delivers from where its rows stand, and where it is caught up.
-use Rattle.std.proofs.Common.{arith, ◌≡◌, ℕ, ◌+◌, ◌==◌, Bool, true, false, if◌then◌else◌, Option, None, Some, List, [], ◌∷◌, refl, sym, ap, subst, ◌∙◌, ◌⊎◌, inl, inr, ◌<◌}
+use Rattle.std.proofs.Common.{arith, ◌≡◌, ℕ, ◌+◌, ◌==◌, Bool, true, false, if◌then◌else◌, Option, None, Some, List, []}
+use Rattle.std.proofs.Common.{◌∷◌, refl, sym, ap, subst, ◌∙◌, ◌⊎◌, inl, inr, ◌<◌}
 use Rattle.bac_log.specs.TrendLog.{sequence_number}
 use Rattle.bac_link.specs.Delivery.{History, Moment}
 use Rattle.bac_link.specs.Ordinals.{number_after}
 use Rattle.bac_walk.specs.Delivers.{NoneFrom}
 use Rattle.bac_walk.specs.declared.batch.Numbered.{Numbered}
 use Rattle.bac_walk.proofs.Shown.{after-number}
-use Rattle.bac_poll_laws.specs.Caught.{PollsDeliver, IsUpAt, NoneBehind, SayNewest, SaysNewest, ShowsNewest, WasNone, last_turn, since}
-use Rattle.bac_poll_laws.specs.Delivers.{Delivers, Given, IsJoined, LiesIn, ShowHeld, after_given, asking_less, is_finding}
+use Rattle.bac_poll_laws.specs.Caught.{PollsDeliver, IsUpAt, NoneBehind, SayNewest, SaysNewest, ShowsNewest, WasNone}
+use Rattle.bac_poll_laws.specs.Caught.{last_turn, since}
+use Rattle.bac_poll_laws.specs.Delivers.{Delivers, Given, IsJoined, LiesIn, ShowHeld, after_given, asking_less}
+use Rattle.bac_poll_laws.specs.Delivers.{is_finding}
 use Rattle.bac_poll_laws.specs.Laws.{Answer, Counted, IsStanding, Replied, Restarted, Revised, Whichever}
 use Rattle.bac_poll.specs.Poll.{first_stage, joining, reply_in}
 use Rattle.bac_poll.specs.State.{KeptAs, PollState, Reply}
 use Rattle.bac_poll.specs.Turns.{Turned, asks}
-use Rattle.bac_poll.specs.declared.stage.Aim.TheVariants.{Finds}
-use Rattle.bac_poll.specs.declared.stage.Stage.TheVariants.{Oldest, Prior}
-use Rattle.bac_poll.specs.declared.turn.PollEnd.TheVariants.{CaughtUp}
+use Rattle.bac_poll_steps.specs.declared.stage.Aim.TheVariants.{Finds}
+use Rattle.bac_poll_steps.specs.declared.stage.Stage.TheVariants.{Oldest, Prior}
+use Rattle.bac_poll_steps.specs.declared.turn.PollEnd.TheVariants.{CaughtUp}
 use Rattle.bac_poll_laws.proofs.Delivered.{runs}
 use Rattle.bac_poll_laws.proofs.Fronts.{Knows}
 use Rattle.bac_poll_laws.proofs.Once.{begins_standing}

@@ -1,5 +1,6 @@
 -- How many questions a log costs.
-use Rattle.std.proofs.Common.{arith, ◌≡◌, ℕ, ◌+◌, ◌≤◌, ◌==◌, ◌&&◌, not, Bool, true, false, if◌then◌else◌, List, [], ◌∷◌, length, Option, None, Some, refl, sym, ap, subst, ◌∙◌, ◌⊎◌, inl, inr}
+use Rattle.std.proofs.Common.{arith, ◌≡◌, ℕ, ◌+◌, ◌≤◌, ◌==◌, ◌&&◌, not, Bool, true, false, if◌then◌else◌, List, [], ◌∷◌}
+use Rattle.std.proofs.Common.{length, Option, None, Some, refl, sym, ap, subst, ◌∙◌, ◌⊎◌, inl, inr}
 use Rattle.std.proofs.lemmas.Bool.{eq-eqb}
 use Rattle.bac_walk.specs.declared.batch.Numbered.{Numbered}
 use Rattle.bac_poll_laws.specs.Asks.{ShowsKnown, having_heard}
@@ -9,9 +10,9 @@ use Rattle.bac_poll.specs.Poll.{after_reply, at_stage}
 use Rattle.bac_poll_laws.specs.Questions.{AreAll, AreEach, IsKnown, IsPlain, QuestionsAreFew, one_if_kept, with_news}
 use Rattle.bac_poll.specs.State.{KeptAs, PollState, Reply}
 use Rattle.bac_poll.specs.Turns.{Turned, ends}
-use Rattle.bac_poll.specs.declared.stage.Stage.TheVariants.{Ahead, Joins}
-use Rattle.bac_poll.specs.declared.turn.PollEnd.{PollEnd}
-use Rattle.bac_poll.specs.declared.turn.PollEnd.TheVariants.{CaughtUp}
+use Rattle.bac_poll_steps.specs.declared.stage.Stage.TheVariants.{Ahead, Joins}
+use Rattle.bac_poll_steps.specs.declared.turn.PollEnd.{PollEnd}
+use Rattle.bac_poll_steps.specs.declared.turn.PollEnd.TheVariants.{CaughtUp}
 use Rattle.bac_poll_laws.proofs.Asks.{asks_once, goes}
 
 -- a reply that brings nothing and ends the poll

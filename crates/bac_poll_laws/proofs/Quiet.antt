@@ -1,28 +1,35 @@
 -- A turn of a poll that knows fewer than three records: none of the known ones is asked for alone behind it.
-use Rattle.std.proofs.Common.{is_some, ◌≡◌, ℕ, ◌==◌, ◌&&◌, ◌||◌, not, nat_lt, Bool, true, false, if◌then◌else◌, Option, None, Some, List, [], ◌∷◌, length, refl, sym, subst}
+use Rattle.std.proofs.Common.{is_some, ◌≡◌, ℕ, ◌==◌, ◌&&◌, ◌||◌, not, nat_lt, Bool, true, false, if◌then◌else◌, Option}
+use Rattle.std.proofs.Common.{None, Some, List, [], ◌∷◌, length, refl, sym, subst}
 use Rattle.bac_link.specs.Ordinals.{is_ahead}
 use Rattle.bac_walk.specs.declared.batch.Numbered.{Numbered}
-use Rattle.bac_poll.specs.Back.{back, back_alone, back_by, back_done, back_lost, back_more, back_shown, is_front, went_back}
+use Rattle.bac_poll.specs.Back.{back, back_alone, back_by, back_done, back_lost, back_more, back_shown, is_front}
+use Rattle.bac_poll.specs.Back.{went_back}
 use Rattle.bac_poll.specs.Epochs.{another, another_by, another_of, renews, renews_of}
 use Rattle.bac_poll.specs.Gone.{asks_restart, asks_revision, asks_word, by_gone, by_word, retold}
-use Rattle.bac_poll.specs.Joins.{again_by, again_equal, again_from, ahead, asks_again, at_hour, brings_ahead, found, goes_nowhere, joined, joins, joins_by, joins_from, lost, lost_ahead, moved_ahead, prior}
-use Rattle.bac_poll.specs.Known.{heeding, is_another, is_equal, is_other_word, is_steady, is_unshown, means_in, means_of, number_in, record_at, records_behind, shift_in, shown_in}
-use Rattle.bac_poll.specs.Oldest.{by_count, by_number, drops, is_first, logged, sees, sees_before, sees_by, sees_newest, sees_news, sees_none, sees_same}
+use Rattle.bac_poll.specs.Joins.{again_by, again_equal, again_from, ahead, asks_again, at_hour, brings_ahead, found}
+use Rattle.bac_poll.specs.Joins.{goes_nowhere, joined, joins, joins_by, joins_from, lost, lost_ahead, moved_ahead}
+use Rattle.bac_poll.specs.Joins.{prior}
+use Rattle.bac_poll.specs.Known.{heeding, is_another, is_equal, is_other_word, is_steady, is_unshown, means_in}
+use Rattle.bac_poll.specs.Known.{means_of, number_in, record_at, records_behind, shift_in, shown_in}
+use Rattle.bac_poll.specs.Oldest.{by_count, by_number, drops, is_first, logged, sees, sees_before, sees_by, sees_newest}
+use Rattle.bac_poll.specs.Oldest.{sees_news, sees_none, sees_same}
 use Rattle.bac_poll.specs.Poll.{came, oldest, oldest_none, renews_by, up_to, up_to_none}
 use Rattle.bac_poll.specs.Starts.{starts, starts_at, starts_by, starts_from, starts_none, starts_refused, starts_told}
 use Rattle.bac_poll.specs.State.{KeptAs, PollState, Reply}
-use Rattle.bac_poll.specs.Turns.{Turned, brings, brings_to, confirmed, ends, first_number, last_in, renewed, standing_at}
-use Rattle.bac_poll.specs.declared.gone.Gone.{Gone}
-use Rattle.bac_poll.specs.declared.gone.Gone.TheVariants.{Dropped, Doubtful, Both}
+use Rattle.bac_poll.specs.Turns.{Turned, brings, brings_to, confirmed, ends, first_number, last_in, renewed}
+use Rattle.bac_poll.specs.Turns.{standing_at}
+use Rattle.bac_poll_steps.specs.declared.gone.Gone.{Gone}
+use Rattle.bac_poll_steps.specs.declared.gone.Gone.TheVariants.{Dropped, Doubtful, Both}
 use Rattle.bac_known.specs.declared.known.Means.{Means}
 use Rattle.bac_known.specs.declared.known.Means.TheVariants.{Shifted, Partly, Same, Unshown, Another}
 use Rattle.bac_known.specs.declared.known.Shown.{Shown}
 use Rattle.bac_known.specs.declared.known.Shown.TheVariants as shown
-use Rattle.bac_poll.specs.declared.stage.Aim.{Aim}
-use Rattle.bac_poll.specs.declared.stage.Aim.TheVariants.{Finds, Renews, Starts}
-use Rattle.bac_poll.specs.declared.turn.Line.{Line}
-use Rattle.bac_poll.specs.declared.turn.PollEnd.{PollEnd}
-use Rattle.bac_poll.specs.declared.turn.PollEnd.TheVariants.{CaughtUp, Contradicts, NoneByNumber, ShowsNone}
+use Rattle.bac_poll_steps.specs.declared.stage.Aim.{Aim}
+use Rattle.bac_poll_steps.specs.declared.stage.Aim.TheVariants.{Finds, Renews, Starts}
+use Rattle.bac_poll_steps.specs.declared.turn.Line.{Line}
+use Rattle.bac_poll_steps.specs.declared.turn.PollEnd.{PollEnd}
+use Rattle.bac_poll_steps.specs.declared.turn.PollEnd.TheVariants.{CaughtUp, Contradicts, NoneByNumber, ShowsNone}
 use Rattle.bac_poll_laws.specs.Laws.{Whichever}
 use Rattle.bac_poll_laws.specs.Bounds.{WhicheverRecord}
 use Rattle.bac_poll_laws.proofs.Lefts.{each_one}

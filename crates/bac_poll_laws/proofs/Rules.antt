@@ -1,34 +1,43 @@
 -- What turns bring: the rule, section by section.
-use Rattle.std.proofs.Common.{is_some, ◌≡◌, ℕ, ◌==◌, ◌&&◌, not, Bool, true, false, if◌then◌else◌, nat_lt, Option, None, Some, List, [], ◌∷◌, ◌++◌, length, map, refl, sym, ap, subst, ◌∙◌}
+use Rattle.std.proofs.Common.{is_some, ◌≡◌, ℕ, ◌==◌, ◌&&◌, not, Bool, true, false, if◌then◌else◌, nat_lt, Option, None}
+use Rattle.std.proofs.Common.{Some, List, [], ◌∷◌, ◌++◌, length, map, refl, sym, ap, subst, ◌∙◌}
 use Rattle.std.proofs.lemmas.Bool.{eq-eqb, eqb-true, and_parts}
 use Rattle.bac_link.specs.Ordinals.{is_ahead, number_after}
 use Rattle.bac_link.specs.declared.item.Item.TheVariants.{Gap}
 use Rattle.bac_walk.specs.Walks.{item_of}
 use Rattle.bac_walk.specs.declared.batch.Numbered.{Numbered}
 use Rattle.bac_poll.specs.Back.{back}
-use Rattle.bac_poll.specs.Epochs.{another, another_by, another_of, asks_back, asks_oldest, brings_behind, renews, renews_none, renews_of}
+use Rattle.bac_poll.specs.Epochs.{another, another_by, another_of, asks_back, asks_oldest, brings_behind, renews}
+use Rattle.bac_poll.specs.Epochs.{renews_none, renews_of}
 use Rattle.bac_poll.specs.Gone.{asks_restart, asks_revision, asks_word, by_gone, by_word, doubt, retold}
-use Rattle.bac_poll.specs.Joins.{again, again_by, again_equal, again_from, ahead, asks_again, asks_each, asks_newest, at_hour, brings_ahead, each, each_all, each_by, each_means, each_next, found, goes_nowhere, hour, joined, joins, joins_by, joins_from, lost, lost_ahead, moved_ahead, prior}
+use Rattle.bac_poll.specs.Joins.{again, again_by, again_equal, again_from, ahead, asks_again, asks_each, asks_newest}
+use Rattle.bac_poll.specs.Joins.{at_hour, brings_ahead, each, each_all, each_by, each_means, each_next, found}
+use Rattle.bac_poll.specs.Joins.{goes_nowhere, hour, joined, joins, joins_by, joins_from, lost, lost_ahead, moved_ahead}
+use Rattle.bac_poll.specs.Joins.{prior}
 use Rattle.bac_poll.specs.Known.{means_in, number_in, record_at, records_behind, shown_in, word_of}
 use Rattle.bac_poll_laws.specs.Laws.{EndAt, Goes, IsAimed, IsAt, IsBefore, IsEach, HasSome, IsBegun, IsFrontOf, IsRun}
-use Rattle.bac_poll.specs.Oldest.{by_count, by_number, drops, is_first, logged, sees, sees_before, sees_by, sees_newest, sees_none, sees_same}
-use Rattle.bac_poll.specs.Starts.{beginning, is_doubted, starts, starts_at, starts_behind, starts_by, starts_from, starts_here, starts_none, starts_refused, starts_told}
+use Rattle.bac_poll.specs.Oldest.{by_count, by_number, drops, is_first, logged, sees, sees_before, sees_by, sees_newest}
+use Rattle.bac_poll.specs.Oldest.{sees_none, sees_same}
+use Rattle.bac_poll.specs.Starts.{beginning, is_doubted, starts, starts_at, starts_behind, starts_by, starts_from}
+use Rattle.bac_poll.specs.Starts.{starts_here, starts_none, starts_refused, starts_told}
 use Rattle.bac_poll.specs.State.{KeptAs, PollState, Reply, kept_of}
-use Rattle.bac_poll.specs.Turns.{Turned, anew, asks, brings, confirmed, end_of, first_in, first_number, gap_up_to, last_in, renewed, standing_alone, standing_at}
-use Rattle.bac_poll.specs.declared.gone.Gone.{Gone}
-use Rattle.bac_poll.specs.declared.gone.Gone.TheVariants.{Dropped, Doubtful, Both}
+use Rattle.bac_poll.specs.Turns.{Turned, anew, asks, brings, confirmed, end_of, first_in, first_number, gap_up_to}
+use Rattle.bac_poll.specs.Turns.{last_in, renewed, standing_alone, standing_at}
+use Rattle.bac_poll_steps.specs.declared.gone.Gone.{Gone}
+use Rattle.bac_poll_steps.specs.declared.gone.Gone.TheVariants.{Dropped, Doubtful, Both}
 use Rattle.bac_known.specs.declared.known.Means.{Means}
 use Rattle.bac_known.specs.declared.known.Means.TheVariants.{Shifted, Partly, Same, Unshown, Another}
 use Rattle.bac_known.specs.declared.known.Shown.{Shown}
 use Rattle.bac_known.specs.declared.known.Shown.TheVariants as shown
-use Rattle.bac_poll.specs.declared.stage.Aim.{Aim}
-use Rattle.bac_poll.specs.declared.stage.Aim.TheVariants.{Finds, Renews, Starts}
-use Rattle.bac_poll.specs.declared.stage.Stage.TheVariants.{Back}
-use Rattle.bac_poll.specs.declared.stage.Stage.TheVariants as stage
-use Rattle.bac_poll.specs.declared.turn.Line.{Line}
-use Rattle.bac_poll.specs.declared.turn.Line.TheVariants as line
-use Rattle.bac_poll.specs.declared.turn.PollEnd.TheVariants.{CaughtUp, Contradicts, NoneByNumber, ShowsNone}
-use Rattle.bac_poll_laws.proofs.Wholes.{gap_ends, brings_by, brings_goes, ends_goes, found_number, gap_alone, gap_front, run_behind, run_ends, run_or, split}
+use Rattle.bac_poll_steps.specs.declared.stage.Aim.{Aim}
+use Rattle.bac_poll_steps.specs.declared.stage.Aim.TheVariants.{Finds, Renews, Starts}
+use Rattle.bac_poll_steps.specs.declared.stage.Stage.TheVariants.{Back}
+use Rattle.bac_poll_steps.specs.declared.stage.Stage.TheVariants as stage
+use Rattle.bac_poll_steps.specs.declared.turn.Line.{Line}
+use Rattle.bac_poll_steps.specs.declared.turn.Line.TheVariants as line
+use Rattle.bac_poll_steps.specs.declared.turn.PollEnd.TheVariants.{CaughtUp, Contradicts, NoneByNumber, ShowsNone}
+use Rattle.bac_poll_laws.proofs.Wholes.{gap_ends, brings_by, brings_goes, ends_goes, found_number, gap_alone, gap_front}
+use Rattle.bac_poll_laws.proofs.Wholes.{run_behind, run_ends, run_or, split}
 
 module _ (P : Numbered → Type 0) (F : ℕ → Type 0) where
   -- records are a run, in front of which a gap may end

@@ -1,15 +1,18 @@
 -- What replies by the standard show.
-use Rattle.std.proofs.Common.{◌≡◌, ℕ, ◌+◌, ◌==◌, ◌&&◌, Bool, true, false, if◌then◌else◌, Option, None, Some, List, [], ◌∷◌, length, sym, ap, subst, ◌∙◌}
+use Rattle.std.proofs.Common.{◌≡◌, ℕ, ◌+◌, ◌==◌, ◌&&◌, Bool, true, false, if◌then◌else◌, Option, None, Some, List, []}
+use Rattle.std.proofs.Common.{◌∷◌, length, sym, ap, subst, ◌∙◌}
 use Rattle.bac_log.specs.TrendLog.{sequence_number}
 use Rattle.bac_log.specs.declared.entry.Entry.{Entry}
 use Rattle.bac_link.specs.Delivery.{History, Moment}
 use Rattle.bac_link.specs.Heard.{AckParameters}
 use Rattle.bac_link.specs.Ordinals.{number_after}
 use Rattle.bac_link.specs.Standard.{AreHeldFrom, Asked, FromNumber, FromOldest, SaysAt}
-use Rattle.bac_walk.specs.Walks.{Ask, Bring, End, NextAct, Refuse, asks_oldest_now, fits, is_past, verdict, with_numbers}
+use Rattle.bac_walk.specs.Walks.{Ask, Bring, End, NextAct, Refuse, asks_oldest_now, fits, is_past, verdict}
+use Rattle.bac_walk.specs.Walks.{with_numbers}
 use Rattle.bac_walk.specs.declared.batch.Numbered.{Numbered}
 use Rattle.bac_walk.proofs.Shown.{after-number}
-use Rattle.bac_poll_laws.specs.Laws.{Answer, Answers, AreAnswers, Counted, HoldsOfEach, Replied, Restarted, Revised, ShowsOnly, after_answer}
+use Rattle.bac_poll_laws.specs.Laws.{Answer, Answers, AreAnswers, Counted, HoldsOfEach, Replied, Restarted, Revised}
+use Rattle.bac_poll_laws.specs.Laws.{ShowsOnly, after_answer}
 use Rattle.bac_poll_laws.specs.Logged.{AreSaid, AreShown, IsLogged, IsSaid, IsShownAt, KeptIsLogged, SaidIsShown}
 use Rattle.bac_poll.specs.Poll.{ack_in, are_asked, has_last, has_more, reply_from, reply_in, reply_of}
 use Rattle.bac_poll.specs.State.{PollState}

@@ -1,28 +1,34 @@
 -- How many questions may follow the turns of the rule, section by section.
-use Rattle.std.proofs.Common.{arith, is_some, ◌≡◌, ℕ, ◌+◌, ◌-◌, ◌≤◌, ◌<◌, ◌==◌, ◌&&◌, ◌++◌, nat_lt, Bool, true, false, Option, None, Some, List, [], ◌∷◌, cond, length, refl, sym, ap, subst, ◌∙◌}
+use Rattle.std.proofs.Common.{arith, is_some, ◌≡◌, ℕ, ◌+◌, ◌-◌, ◌≤◌, ◌<◌, ◌==◌, ◌&&◌, ◌++◌, nat_lt, Bool, true, false}
+use Rattle.std.proofs.Common.{Option, None, Some, List, [], ◌∷◌, cond, length, refl, sym, ap, subst, ◌∙◌}
 use Rattle.std.proofs.lemmas.Bool.{and_parts, eqb-true, ltb-true}
 use Rattle.std.proofs.lemmas.List.{length-append}
 use Rattle.bac_link.specs.Ordinals.{distance, number_after}
 use Rattle.bac_walk.specs.Place.{WalkPlace}
 use Rattle.bac_walk.specs.declared.batch.Numbered.{Numbered}
 use Rattle.bac_poll.specs.Epochs.{another}
-use Rattle.bac_poll.specs.Joins.{again, again_by, again_equal, again_from, ahead, asks_again, asks_each, asks_newest, at_hour, brings_ahead, each, each_by, each_means, each_next, found, goes_nowhere, hour, joined, joins, joins_by, joins_from, lost, lost_ahead, moved_ahead, prior}
-use Rattle.bac_poll.specs.Known.{heeding, maybe_shown, means_in, means_of, number_in, record_at, records_behind, shown_in}
+use Rattle.bac_poll.specs.Joins.{again, again_by, again_equal, again_from, ahead, asks_again, asks_each, asks_newest}
+use Rattle.bac_poll.specs.Joins.{at_hour, brings_ahead, each, each_by, each_means, each_next, found, goes_nowhere, hour}
+use Rattle.bac_poll.specs.Joins.{joined, joins, joins_by, joins_from, lost, lost_ahead, moved_ahead, prior}
+use Rattle.bac_poll.specs.Known.{heeding, maybe_shown, means_in, means_of, number_in, record_at, records_behind}
+use Rattle.bac_poll.specs.Known.{shown_in}
 use Rattle.bac_poll.specs.Poll.{kept_number}
 use Rattle.bac_poll.specs.State.{KeptAs, PollState, Reply, kept_of}
-use Rattle.bac_poll.specs.Turns.{Turned, asks, brings, end_of, first_in, first_number, last_in, number_or, standing_alone, standing_at}
+use Rattle.bac_poll.specs.Turns.{Turned, asks, brings, end_of, first_in, first_number, last_in, number_or}
+use Rattle.bac_poll.specs.Turns.{standing_alone, standing_at}
 use Rattle.bac_known.specs.declared.known.Means.{Means}
 use Rattle.bac_known.specs.declared.known.Means.TheVariants.{Shifted, Partly, Same, Unshown, Another}
 use Rattle.bac_known.specs.declared.known.Shown.{Shown}
 use Rattle.bac_known.specs.declared.known.Shown.TheVariants as shown
-use Rattle.bac_poll.specs.declared.stage.Aim.TheVariants.{Finds}
-use Rattle.bac_poll.specs.declared.stage.Stage.TheVariants as stage
-use Rattle.bac_poll.specs.declared.turn.Line.{Line}
-use Rattle.bac_poll.specs.declared.turn.PollEnd.TheVariants.{CaughtUp}
+use Rattle.bac_poll_steps.specs.declared.stage.Aim.TheVariants.{Finds}
+use Rattle.bac_poll_steps.specs.declared.stage.Stage.TheVariants as stage
+use Rattle.bac_poll_steps.specs.declared.turn.Line.{Line}
+use Rattle.bac_poll_steps.specs.declared.turn.PollEnd.TheVariants.{CaughtUp}
 use Rattle.bac_poll_laws.specs.Bounds.{FollowsOn}
 use Rattle.bac_poll_laws.specs.Laws.{HasSome, IsBefore, IsRun, Whichever}
 use Rattle.bac_poll_laws.proofs.Fronts.{last_known, none_of}
-use Rattle.bac_poll_laws.proofs.Lefts.{Costs, IsSame, Refers, Row, another_costs, brings_costs, by_alone, ends_costs, knows, left_oldest, oldest_costs, pick}
+use Rattle.bac_poll_laws.proofs.Lefts.{Costs, IsSame, Refers, Row, another_costs, brings_costs, by_alone, ends_costs}
+use Rattle.bac_poll_laws.proofs.Lefts.{knows, left_oldest, oldest_costs, pick}
 use Rattle.bac_poll_laws.proofs.Wholes.{found_number, last_step, run_behind}
 
 -- ---- numbers near another one

@@ -1,16 +1,20 @@
 -- What turns say of a poll that stands in an epoch: the oldest records, the count, and each stage.
-use Rattle.std.proofs.Common.{arith, is_some, ◌≡◌, ℕ, ◌-◌, ◌<◌, ◌≤◌, ◌==◌, ◌&&◌, ◌||◌, not, Bool, true, false, if◌then◌else◌, nat_lt, Option, None, Some, List, [], ◌∷◌, length, refl, sym, ap, subst, ◌∙◌, ◌⊎◌, inl, inr}
+use Rattle.std.proofs.Common.{arith, is_some, ◌≡◌, ℕ, ◌-◌, ◌<◌, ◌≤◌, ◌==◌, ◌&&◌, ◌||◌, not, Bool, true, false}
+use Rattle.std.proofs.Common.{if◌then◌else◌, nat_lt, Option, None, Some, List, [], ◌∷◌, length, refl, sym, ap, subst}
+use Rattle.std.proofs.Common.{◌∙◌, ◌⊎◌, inl, inr}
 use Rattle.std.proofs.lemmas.Bool.{eq-eqb, eqb-true, ltb-false, and_parts}
 use Rattle.bac_link.specs.Ordinals.{is_ahead, number_after}
 use Rattle.bac_walk.specs.declared.batch.Numbered.{Numbered}
 use Rattle.bac_walk.specs.declared.outcome.WalkFault.TheVariants.{BadReply}
-use Rattle.bac_poll.specs.Back.{back, back_alone, back_by, back_done, back_more, back_shown, is_front, shown_last, went_back}
+use Rattle.bac_poll.specs.Back.{back, back_alone, back_by, back_done, back_more, back_shown, is_front, shown_last}
+use Rattle.bac_poll.specs.Back.{went_back}
 use Rattle.bac_poll_laws.specs.Delivers.{is_finding}
 use Rattle.bac_poll.specs.Gone.{has_logged}
 use Rattle.bac_poll.specs.Joins.{found}
 use Rattle.bac_poll.specs.Known.{means_in, number_in, record_at, records_behind}
 use Rattle.bac_poll_laws.specs.Laws.{HasSome, IsAt, IsBefore, IsClearAt, Whichever}
-use Rattle.bac_poll.specs.Oldest.{by_count, by_number, drops, is_cut, is_first, logged, sees, sees_before, sees_by, sees_newest, sees_none, sees_same, weighed}
+use Rattle.bac_poll.specs.Oldest.{by_count, by_number, drops, is_cut, is_first, logged, sees, sees_before, sees_by}
+use Rattle.bac_poll.specs.Oldest.{sees_newest, sees_none, sees_same, weighed}
 use Rattle.bac_poll.specs.Poll.{at_stage, count_at, oldest, up_to}
 use Rattle.bac_poll.specs.State.{KeptAs, PollState, Reply}
 use Rattle.bac_poll.specs.Turns.{confirmed, first_in, first_number, last_in, number_before}
@@ -18,12 +22,16 @@ use Rattle.bac_known.specs.declared.known.Means.{Means}
 use Rattle.bac_known.specs.declared.known.Means.TheVariants.{Shifted, Partly, Same, Unshown, Another}
 use Rattle.bac_known.specs.declared.known.Shown.{Shown}
 use Rattle.bac_known.specs.declared.known.Shown.TheVariants as shown
-use Rattle.bac_poll.specs.declared.stage.Aim.{Aim}
-use Rattle.bac_poll.specs.declared.stage.Aim.TheVariants.{Finds, Renews, Starts}
-use Rattle.bac_poll.specs.declared.stage.Stage.{Stage}
-use Rattle.bac_poll.specs.declared.stage.Stage.TheVariants as stage
-use Rattle.bac_poll.specs.declared.turn.PollEnd.TheVariants.{CaughtUp, Contradicts, Fault, NoneByNumber, ShowsNone}
-use Rattle.bac_poll_laws.proofs.Fronts.{AgainUp, Front, JoinsUp, Knows, Says, again_says, ahead_says, another_by_says, another_of_says, brings_says, each_asks, each_says, ends_says, first_of, hour_says, joins_says, last_known, never_none, none_of, oldest_says, pick, prior_says, some_last, some_of, word_says}
+use Rattle.bac_poll_steps.specs.declared.stage.Aim.{Aim}
+use Rattle.bac_poll_steps.specs.declared.stage.Aim.TheVariants.{Finds, Renews, Starts}
+use Rattle.bac_poll_steps.specs.declared.stage.Stage.{Stage}
+use Rattle.bac_poll_steps.specs.declared.stage.Stage.TheVariants as stage
+use Rattle.bac_poll_steps.specs.declared.turn.PollEnd.TheVariants.{CaughtUp, Contradicts, Fault, NoneByNumber}
+use Rattle.bac_poll_steps.specs.declared.turn.PollEnd.TheVariants.{ShowsNone}
+use Rattle.bac_poll_laws.proofs.Fronts.{AgainUp, Front, JoinsUp, Knows, Says, again_says, ahead_says, another_by_says}
+use Rattle.bac_poll_laws.proofs.Fronts.{another_of_says, brings_says, each_asks, each_says, ends_says, first_of}
+use Rattle.bac_poll_laws.proofs.Fronts.{hour_says, joins_says, last_known, never_none, none_of, oldest_says, pick}
+use Rattle.bac_poll_laws.proofs.Fronts.{prior_says, some_last, some_of, word_says}
 
 module _ (P : Numbered → Type 0) (F U V : ℕ → Type 0) where
   -- ---- 2. the oldest records

@@ -1,5 +1,6 @@
 -- What turns bring: the steps of which the rule is made.
-use Rattle.std.proofs.Common.{◌≡◌, ℕ, suc, ◌-◌, ◌==◌, Bool, true, false, if◌then◌else◌, Option, Some, List, [], ◌∷◌, ◌++◌, length, map, slice_get, cond, refl, sym, ap, subst, ◌∙◌, arith}
+use Rattle.std.proofs.Common.{◌≡◌, ℕ, suc, ◌-◌, ◌==◌, Bool, true, false, if◌then◌else◌, Option, Some, List, [], ◌∷◌}
+use Rattle.std.proofs.Common.{◌++◌, length, map, slice_get, cond, refl, sym, ap, subst, ◌∙◌, arith}
 use Rattle.std.proofs.lemmas.Bool.{eqb-true}
 use Rattle.bac_log.specs.declared.entry.Entry.{Entry}
 use Rattle.bac_link.specs.Ordinals.{number_after}
@@ -10,8 +11,9 @@ use Rattle.bac_walk.specs.declared.batch.Numbered.{Numbered}
 use Rattle.bac_poll.specs.Known.{record_at, records_behind}
 use Rattle.bac_poll_laws.specs.Laws.{Covers, EndAt, Goes, HoldsOfEach, IsRun, IsStanding}
 use Rattle.bac_poll.specs.State.{PollState}
-use Rattle.bac_poll.specs.Turns.{Turned, asks, behind, brings, brings_to, end_of, ends, first_in, first_number, gap_up_to, last_in, number_or}
-use Rattle.bac_poll.specs.declared.turn.PollEnd.{PollEnd}
+use Rattle.bac_poll.specs.Turns.{Turned, asks, behind, brings, brings_to, end_of, ends, first_in, first_number}
+use Rattle.bac_poll.specs.Turns.{gap_up_to, last_in, number_or}
+use Rattle.bac_poll_steps.specs.declared.turn.PollEnd.{PollEnd}
 
 module _ (P : Numbered → Type 0) (F : ℕ → Type 0) where
   -- ---- runs

@@ -7,8 +7,8 @@ use Rattle.bac_poll.specs.Poll.{after_reply, more_of}
 use Rattle.bac_poll.specs.State.{KeptAs, PollState, Reply}
 use Rattle.bac_poll.specs.Turns.{last_in, number_or}
 use Rattle.bac_known.specs.declared.known.Means.TheVariants.{Same}
-use Rattle.bac_poll.specs.declared.stage.Stage.TheVariants.{Joins}
-use Rattle.bac_poll.specs.declared.turn.PollEnd.TheVariants.{CaughtUp}
+use Rattle.bac_poll_steps.specs.declared.stage.Stage.TheVariants.{Joins}
+use Rattle.bac_poll_steps.specs.declared.turn.PollEnd.TheVariants.{CaughtUp}
 
 -- a poll that heard a reply
 abbrev pub having_heard : PollState → Reply → PollState

@@ -10,8 +10,8 @@ use Rattle.bac_poll_laws.specs.Delivers.{asking_less}
 use Rattle.bac_poll_laws.specs.Laws.{IsStanding, Whichever}
 use Rattle.bac_poll.specs.State.{PollState}
 use Rattle.bac_poll.specs.Turns.{Turned, first_number}
-use Rattle.bac_poll.specs.declared.stage.Aim.{Aim}
-use Rattle.bac_poll.specs.declared.stage.Stage.TheVariants.{Back}
+use Rattle.bac_poll_steps.specs.declared.stage.Aim.{Aim}
+use Rattle.bac_poll_steps.specs.declared.stage.Stage.TheVariants.{Back}
 
 -- a record is an entry of the log, under its number, in the window from this ordinal on
 abbrev pub IsLoggedIn : History → ℕ → Numbered → Type 0

@@ -5,7 +5,7 @@ use Rattle.bac_wire.specs.Primitive.{Id}
 use Rattle.bac_link.specs.Delivery.{History, Moment}
 use Rattle.bac_poll.specs.Poll.{joining, starting}
 use Rattle.bac_poll.specs.State.{PollState, StandingAs, ToldAs}
-use Rattle.bac_poll.specs.declared.stage.Stage.TheVariants.{Revision, Restart}
+use Rattle.bac_poll_steps.specs.declared.stage.Stage.TheVariants.{Revision, Restart}
 use Rattle.bac_poll_laws.specs.Bounds.{AreInRow, back_one, count_of}
 use Rattle.bac_poll_laws.specs.Delivers.{Given, after_given, asking_less}
 use Rattle.bac_poll_laws.specs.Held.{kept_by}

@@ -13,10 +13,11 @@ use Rattle.bac_poll.specs.Oldest.{is_cut}
 use Rattle.bac_poll.specs.Poll.{reply_in}
 use Rattle.bac_poll.specs.State.{PollState, Reply}
 use Rattle.bac_poll.specs.Turns.{Turned, asks, last_in}
-use Rattle.bac_poll.specs.declared.stage.Stage.{Stage}
-use Rattle.bac_poll.specs.declared.stage.Stage.TheVariants.{Joins, Prior, Ahead, Again, Each, Oldest, ByNumber, Counts}
-use Rattle.bac_poll.specs.declared.stage.Stage.TheVariants.{UpTo, Back, Revision, Restart}
-use Rattle.bac_poll.specs.declared.turn.PollEnd.TheVariants.{CaughtUp}
+use Rattle.bac_poll_steps.specs.declared.stage.Stage.{Stage}
+use Rattle.bac_poll_steps.specs.declared.stage.Stage.TheVariants.{Joins, Prior, Ahead, Again, Each, Oldest, ByNumber}
+use Rattle.bac_poll_steps.specs.declared.stage.Stage.TheVariants.{Counts}
+use Rattle.bac_poll_steps.specs.declared.stage.Stage.TheVariants.{UpTo, Back, Revision, Restart}
+use Rattle.bac_poll_steps.specs.declared.turn.PollEnd.TheVariants.{CaughtUp}
 
 -- ---- what a device says of its newest record
 

@@ -6,8 +6,8 @@ use Rattle.bac_poll.specs.Poll.{after_count, after_reply, starting}
 use Rattle.bac_poll.specs.Starts.{total_of}
 use Rattle.bac_poll.specs.State.{Reply, ToldAs}
 use Rattle.bac_poll.specs.Turns.{Turned}
-use Rattle.bac_poll.specs.declared.turn.PollEnd.{PollEnd}
-use Rattle.bac_poll.specs.declared.turn.PollEnd.TheVariants.{CaughtUp, ShowsNone}
+use Rattle.bac_poll_steps.specs.declared.turn.PollEnd.{PollEnd}
+use Rattle.bac_poll_steps.specs.declared.turn.PollEnd.TheVariants.{CaughtUp, ShowsNone}
 
 -- It is caught up, unless the count is refused, and a run before put a beginning on record by the count.
 abbrev pub end_of_none : (begins : Option ℕ) → (count : Option ℕ) → PollEnd

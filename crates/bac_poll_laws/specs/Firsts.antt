@@ -9,9 +9,9 @@ use Rattle.bac_poll_laws.specs.Delivers.{after_given, asking_less, is_finding}
 use Rattle.bac_poll_laws.specs.Laws.{Answer, Counted, HasSome, IsBegun, IsLast, Replied, Restarted, Revised}
 use Rattle.bac_poll.specs.State.{PollState}
 use Rattle.bac_poll.specs.Turns.{Turned}
-use Rattle.bac_poll.specs.declared.stage.Aim.TheVariants.{Renews, Starts}
-use Rattle.bac_poll.specs.declared.stage.Stage.TheVariants.{Counts, Oldest}
-use Rattle.bac_poll.specs.declared.turn.Beginning.{Beginning}
+use Rattle.bac_poll_steps.specs.declared.stage.Aim.TheVariants.{Renews, Starts}
+use Rattle.bac_poll_steps.specs.declared.stage.Stage.TheVariants.{Counts, Oldest}
+use Rattle.bac_poll_steps.specs.declared.turn.Beginning.{Beginning}
 
 -- a number is that of an ordinal of the window
 abbrev pub IsNumberIn : ℕ → ℕ → Type 0

@@ -7,7 +7,7 @@ use Rattle.bac_poll_laws.specs.Laws.{IsWhole, Replied, Restarted, Revised, after
 use Rattle.bac_poll_laws.specs.Logged.{IsLogged, IsShownAt}
 use Rattle.bac_poll.specs.Poll.{reply_in}
 use Rattle.bac_poll.specs.State.{PollState}
-use Rattle.bac_poll.specs.declared.stage.Stage.TheVariants.{Revision, Restart}
+use Rattle.bac_poll_steps.specs.declared.stage.Stage.TheVariants.{Revision, Restart}
 
 -- at this moment the log holds no entry before the one of this number
 abbrev pub IsGoneBefore : Moment → ℕ → Type 0

@@ -10,7 +10,7 @@ use Rattle.bac_poll_laws.specs.Delivers.{Given, IsJoined, ShowHeld, after_given}
 use Rattle.bac_poll_laws.specs.Laws.{IsAmong}
 use Rattle.bac_poll.specs.State.{PollState}
 use Rattle.bac_poll.specs.Turns.{asks}
-use Rattle.bac_poll.specs.declared.turn.PollEnd.TheVariants.{CaughtUp}
+use Rattle.bac_poll_steps.specs.declared.turn.PollEnd.TheVariants.{CaughtUp}
 
 -- all records that are kept
 abbrev pub kept_by : PollState → List Given → List Numbered

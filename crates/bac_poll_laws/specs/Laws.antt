@@ -12,12 +12,13 @@ use Rattle.bac_poll.specs.Poll.{after, after_count, after_restart, after_revisio
 use Rattle.bac_poll.specs.State.{KeptAs, PollState, Reply, StandingAs, ToldAs}
 use Rattle.bac_poll.specs.Turns.{Turned, first_in, first_number, number_or}
 use Rattle.bac_known.specs.declared.date_time.DateTime.{DateTime}
-use Rattle.bac_poll.specs.declared.stage.Aim.{Aim}
-use Rattle.bac_poll.specs.declared.stage.Aim.TheVariants.{Finds, Renews, Starts}
-use Rattle.bac_poll.specs.declared.stage.Stage.{Stage}
-use Rattle.bac_poll.specs.declared.stage.Stage.TheVariants.{Joins, Prior, Ahead, Again, Each, Oldest, ByNumber, Counts}
-use Rattle.bac_poll.specs.declared.stage.Stage.TheVariants.{UpTo, Back, Revision, Restart}
-use Rattle.bac_poll.specs.declared.turn.Beginning.{Beginning}
+use Rattle.bac_poll_steps.specs.declared.stage.Aim.{Aim}
+use Rattle.bac_poll_steps.specs.declared.stage.Aim.TheVariants.{Finds, Renews, Starts}
+use Rattle.bac_poll_steps.specs.declared.stage.Stage.{Stage}
+use Rattle.bac_poll_steps.specs.declared.stage.Stage.TheVariants.{Joins, Prior, Ahead, Again, Each, Oldest, ByNumber}
+use Rattle.bac_poll_steps.specs.declared.stage.Stage.TheVariants.{Counts}
+use Rattle.bac_poll_steps.specs.declared.stage.Stage.TheVariants.{UpTo, Back, Revision, Restart}
+use Rattle.bac_poll_steps.specs.declared.turn.Beginning.{Beginning}
 
 -- Read in order, items cover the numbers from this one up to that: a gap those up to its end, a record its own; and
 -- this holds of each record.

@@ -10,7 +10,7 @@ use Rattle.bac_walk.specs.declared.batch.Numbered.{Numbered}
 use Rattle.bac_poll_laws.specs.Laws.{Answer, Counted, Covers, Epoch, IsLast, IsStanding, Replied, Restarted}
 use Rattle.bac_poll_laws.specs.Laws.{Revised, Whichever, after_all, after_answer, epoch_after_all}
 use Rattle.bac_poll.specs.State.{PollState}
-use Rattle.bac_poll.specs.declared.stage.Stage.TheVariants.{Revision, Restart}
+use Rattle.bac_poll_steps.specs.declared.stage.Stage.TheVariants.{Revision, Restart}
 
 -- a record is an entry of the log, under its number
 abbrev pub IsLogged : History → Numbered → Type 0

@@ -6,7 +6,7 @@ use Rattle.bac_poll_laws.specs.Asks.{ShowsKnown}
 use Rattle.bac_poll.specs.Known.{records_behind}
 use Rattle.bac_poll.specs.Poll.{after_reply}
 use Rattle.bac_poll.specs.State.{KeptAs, PollState, Reply}
-use Rattle.bac_poll.specs.declared.stage.Stage.TheVariants.{Ahead, Joins}
+use Rattle.bac_poll_steps.specs.declared.stage.Stage.TheVariants.{Ahead, Joins}
 
 -- The replies to all questions that are asked: the last of them ends the poll, and no other.
 abbrev pub AreAll : PollState → List Reply → Type 0

@@ -1,7 +1,9 @@
 -- Each poll of a site goes on by its own steps alone.
-use Rattle.std.proofs.Common.{◌≡◌, inl, inr, ℕ, Bool, true, false, if◌then◌else◌, List, [], ◌∷◌, ◌++◌, All, map, max, remove, Option, Some, None, Ok, Err, refl, sym, ap, subst}
+use Rattle.std.proofs.Common.{◌≡◌, inl, inr, ℕ, Bool, true, false, if◌then◌else◌, List, [], ◌∷◌, ◌++◌, All, map, max}
+use Rattle.std.proofs.Common.{remove, Option, Some, None, Ok, Err, refl, sym, ap, subst}
 use Rattle.std.specs.List.{Contains}
-use Rattle.std.proofs.lemmas.List.Elements.{All-append, All-contains_itself, All-map, All-push, All-weaker, Contains-append_left, Contains-append_right}
+use Rattle.std.proofs.lemmas.List.Elements.{All-append, All-contains_itself, All-map, All-push, All-weaker}
+use Rattle.std.proofs.lemmas.List.Elements.{Contains-append_left, Contains-append_right}
 use Rattle.bac_desks.specs.Chain.{Chain}
 use Rattle.bac_ports.specs.Port.{Receiving, Sending}
 use Rattle.bac_drive.specs.Event.{Event, Kept, Printed, Read, Sent, Waited, Warned}
@@ -10,8 +12,10 @@ use Rattle.bac_drive.specs.declared.machine.Next.{Next}
 use Rattle.bac_device_poller.specs.Counts.{counts_with}
 use Rattle.bac_poller.specs.Poller.{is_answer}
 use Rattle.bac_poller.specs.Seat.{heard_by, is_due, is_known, missed, noticed, seat_ended, seat_heard, seat_read}
-use Rattle.bac_poller.specs.Site.{Acts, GivesFrom, GivesNews, GivesSite, GivesWaiting, GoesOn, SiteState, due_from, given, noted, put_by, site_heard, site_read}
-use Rattle.bac_poller.specs.SiteLaws.{Answered, Began, Device, GoAlone, IsGoneOn, Missed, Own, OwnStep, Told, Wanted, device_of, seats_of, site_acts}
+use Rattle.bac_poller.specs.Site.{Acts, GivesFrom, GivesNews, GivesSite, GivesWaiting, GoesOn, SiteState, due_from}
+use Rattle.bac_poller.specs.Site.{given, noted, put_by, site_heard, site_read}
+use Rattle.bac_poller.specs.SiteLaws.{Answered, Began, Device, GoAlone, IsGoneOn, Missed, Own, OwnStep, Told, Wanted}
+use Rattle.bac_poller.specs.SiteLaws.{device_of, seats_of, site_acts}
 use Rattle.bac_poller.specs.declared.news.News.{News}
 use Rattle.bac_poller.specs.declared.log_poller.Doing.{Doing}
 use Rattle.bac_poller.specs.declared.log_poller.Doing.TheVariants as doing

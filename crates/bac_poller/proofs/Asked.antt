@@ -1,5 +1,6 @@
 -- What a poller that is driven sends are its questions, to its device.
-use Rattle.std.proofs.Common.{◌≡◌, inl, inr, ℕ, Bool, true, false, nat_le, ◌-◌, ◌+◌, List, [], ◌∷◌, Option, Some, None, Ok, Err, refl, sym, ap, subst, ◌∙◌}
+use Rattle.std.proofs.Common.{◌≡◌, inl, inr, ℕ, Bool, true, false, nat_le, ◌-◌, ◌+◌, List, [], ◌∷◌, Option, Some, None}
+use Rattle.std.proofs.Common.{Ok, Err, refl, sym, ap, subst, ◌∙◌}
 use Rattle.std.specs.Bool.{MatchBool}
 use Rattle.bac_archive3.specs.declared.row.Put.{Put}
 use Rattle.bac_desks.specs.Chain.{Chain}
@@ -7,8 +8,8 @@ use Rattle.bac_link.specs.declared.transactions.Pending.{Pending}
 use Rattle.bac_link.specs.declared.transactions.Timeout.TheVariants.{GaveUp, Resend}
 use Rattle.bac_link.specs.declared.transactions.Transactions.{Transactions}
 use Rattle.bac_poll.specs.Turns.{Turned}
-use Rattle.bac_poll.specs.declared.turn.Line.{Line}
-use Rattle.bac_poll.specs.declared.turn.PollEnd.{PollEnd}
+use Rattle.bac_poll_steps.specs.declared.turn.Line.{Line}
+use Rattle.bac_poll_steps.specs.declared.turn.PollEnd.{PollEnd}
 use Rattle.bac_ports.specs.Port.{Receiving, Sending}
 use Rattle.bac_ports.specs.declared.port.Heard.{Heard}
 use Rattle.bac_drive.specs.Event.{Event, Kept, Sent, Waited, Warned}
@@ -16,7 +17,8 @@ use Rattle.bac_drive.specs.Happens.{Does, Happens, Scene}
 use Rattle.bac_drive.specs.declared.machine.Next.{Next}
 use Rattle.bac_drive.specs.declared.machine.Next.TheVariants as next
 use Rattle.bac_poller.specs.Laws.{IsQuestion, SendsAsk}
-use Rattle.bac_poller.specs.Poller.{GivesBy, Hears, IsHeard, IsPlaced, IsTimedOut, Passes, doing_after, doing_behind, doing_told, is_answer}
+use Rattle.bac_poller.specs.Poller.{GivesBy, Hears, IsHeard, IsPlaced, IsTimedOut, Passes, doing_after, doing_behind}
+use Rattle.bac_poller.specs.Poller.{doing_told, is_answer}
 use Rattle.bac_poller.specs.declared.log_poller.Doing.{Doing}
 use Rattle.bac_poller.specs.declared.log_poller.Doing.TheVariants as doing
 use Rattle.bac_poller.specs.declared.log_poller.LogPoller.{LogPoller}

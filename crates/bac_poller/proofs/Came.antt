@@ -1,5 +1,6 @@
 -- What a poller that is driven hears came from its device.
-use Rattle.std.proofs.Common.{◌≡◌, inl, inr, ℕ, Bool, true, false, nat_le, ◌-◌, List, [], ◌∷◌, ◌++◌, Option, Some, None, Ok, Err, refl, sym, ap, subst, ◌∙◌, append_assoc, append-nil}
+use Rattle.std.proofs.Common.{◌≡◌, inl, inr, ℕ, Bool, true, false, nat_le, ◌-◌, List, [], ◌∷◌, ◌++◌, Option, Some, None}
+use Rattle.std.proofs.Common.{Ok, Err, refl, sym, ap, subst, ◌∙◌, append_assoc, append-nil}
 use Rattle.std.specs.Bool.{MatchBool}
 use Rattle.std.specs.List.{Contains}
 use Rattle.std.specs.Str.{bytes_eq}
@@ -11,8 +12,8 @@ use Rattle.bac_desks.specs.Chain.{Chain}
 use Rattle.bac_link.specs.Transactions.{is_awaited}
 use Rattle.bac_link.specs.declared.transactions.Timeout.TheVariants.{GaveUp, Resend}
 use Rattle.bac_poll.specs.Turns.{Turned}
-use Rattle.bac_poll.specs.declared.turn.Line.{Line}
-use Rattle.bac_poll.specs.declared.turn.PollEnd.{PollEnd}
+use Rattle.bac_poll_steps.specs.declared.turn.Line.{Line}
+use Rattle.bac_poll_steps.specs.declared.turn.PollEnd.{PollEnd}
 use Rattle.bac_ports.specs.Port.{Receiving, Sending}
 use Rattle.bac_ports.specs.declared.port.Heard.{Heard}
 use Rattle.bac_drive.specs.Event.{Event, Kept, Sent, Waited, Warned}
@@ -23,7 +24,8 @@ use Rattle.bac_poller.specs.Laws.{Came, IsAnswer, RowsCame}
 use Rattle.bac_link.specs.declared.transactions.Pending.{Pending}
 use Rattle.bac_poller.proofs.Asked.{Asking, IsAgain, IsOpen, event as asked_on}
 use Rattle.bac_poller.proofs.Driven.{ToldOf, polls, split, told_of}
-use Rattle.bac_poller.specs.Poller.{GivesBy, Hears, IsHeard, IsPlaced, IsTimedOut, Keeps, Passes, doing_after, doing_behind, doing_told, is_answer}
+use Rattle.bac_poller.specs.Poller.{GivesBy, Hears, IsHeard, IsPlaced, IsTimedOut, Keeps, Passes, doing_after}
+use Rattle.bac_poller.specs.Poller.{doing_behind, doing_told, is_answer}
 use Rattle.bac_poller.specs.declared.log_poller.Doing.{Doing}
 use Rattle.bac_poller.specs.declared.log_poller.Doing.TheVariants as doing
 use Rattle.bac_poller.specs.declared.log_poller.LogPoller.{LogPoller}

@@ -1,5 +1,6 @@
 -- A device is never asked for more records at once than before.
-use Rattle.std.proofs.Common.{◌≡◌, ◌≤◌, ◌<◌, ◌+◌, ◌/◌, ◌&&◌, inl, inr, ℕ, max, nat_le, nat_lt, Bool, true, false, if◌then◌else◌, List, [], ◌∷◌, All, Option, None, Some, refl, sym, ap, subst, arith, ◌∙◌}
+use Rattle.std.proofs.Common.{◌≡◌, ◌≤◌, ◌<◌, ◌+◌, ◌/◌, ◌&&◌, inl, inr, ℕ, max, nat_le, nat_lt, Bool, true, false}
+use Rattle.std.proofs.Common.{if◌then◌else◌, List, [], ◌∷◌, All, Option, None, Some, refl, sym, ap, subst, arith, ◌∙◌}
 use Rattle.std.proofs.lemmas.List.Elements.{All-head, All-tail}
 use Rattle.std.proofs.lemmas.Bool.{leb-false, leb-true, ltb-false, ltb-true}
 use Rattle.bac_desks.specs.Chain.{Chain}
@@ -13,7 +14,8 @@ use Rattle.bac_poll.specs.Turns.{Turned}
 use Rattle.bac_drive.specs.declared.machine.Next.{Next}
 use Rattle.bac_drive.specs.declared.machine.Next.TheVariants as next
 use Rattle.bac_poller.specs.Poller.{GivesBy, is_answer, wanted_at}
-use Rattle.bac_poller.specs.Seat.{begun, begun_poll, doing_begun, given_up, halved, heard_by, lowered, missed, thrice_halved, without_answer}
+use Rattle.bac_poller.specs.Seat.{begun, begun_poll, doing_begun, given_up, halved, heard_by, lowered, missed}
+use Rattle.bac_poller.specs.Seat.{thrice_halved, without_answer}
 use Rattle.bac_poller.specs.SiteLaws.{Answered, AsksNoMore, Began, Device, Missed, Own, OwnStep, Told, Wanted}
 use Rattle.bac_poller.specs.declared.log_poller.Doing.{Doing}
 use Rattle.bac_poller.specs.declared.log_poller.Doing.TheVariants as doing

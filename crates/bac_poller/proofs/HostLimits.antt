@@ -1,5 +1,7 @@
 -- The limit that holds at the host of an address.
-use Rattle.std.proofs.Common.{◌≡◌, ◌≤◌, ◌<◌, ◌+◌, inl, inr, ℕ, Bool, true, false, cond, max, List, [], ◌∷◌, ◌++◌, map, take, get_or, remove, slice_get, Option, None, Some, Ok, Err, refl, sym, ap, subst, arith, ◌∙◌}
+use Rattle.std.proofs.Common.{◌≡◌, ◌≤◌, ◌<◌, ◌+◌, inl, inr, ℕ, Bool, true, false, cond, max, List, [], ◌∷◌, ◌++◌, map}
+use Rattle.std.proofs.Common.{take, get_or, remove, slice_get, Option, None, Some, Ok, Err, refl, sym, ap, subst, arith}
+use Rattle.std.proofs.Common.{◌∙◌}
 use Rattle.std.proofs.lemmas.List.Sums.{sum_by-append, sum_by-cons, sum_by-remove}
 use Rattle.std.proofs.lemmas.Option.{get_or_from_slice_get, same_Some, slice_get_within}
 use Rattle.std.proofs.lemmas.Slice.Eq.{bytes_eq-Decides}
@@ -12,7 +14,8 @@ use Rattle.bac_drive.specs.declared.machine.Next.{Next}
 use Rattle.bac_device_poller.specs.Counts.{counts_with}
 use Rattle.bac_poller.specs.Hosts.{limit_of}
 use Rattle.bac_poller.specs.Seat.{is_at, is_known, seat_ended, seat_heard, seat_read}
-use Rattle.bac_poller.specs.Site.{Acts, GivesFrom, GivesNews, GivesWaiting, GoesOn, HasPlaceAt, MayAsk, SiteState, due_from, given, limit_at, noted, put_by, site_heard, site_read}
+use Rattle.bac_poller.specs.Site.{Acts, GivesFrom, GivesNews, GivesWaiting, GoesOn, HasPlaceAt, MayAsk, SiteState}
+use Rattle.bac_poller.specs.Site.{due_from, given, limit_at, noted, put_by, site_heard, site_read}
 use Rattle.bac_poller.specs.SiteLaws.{KeepsToLimits, site_acts}
 use Rattle.bac_poller.specs.declared.news.News.{News}
 use Rattle.bac_poller.specs.declared.log_poller.Doing.{Doing}

@@ -1,5 +1,6 @@
 -- A loop that changes each host of a list.
-use Rattle.std.proofs.Common.{◌≡◌, ◌<◌, ◌+◌, ◌++◌, ◌∙◌, ℕ, zero, suc, List, [], ◌∷◌, length, map, take, drop, get_or, set, refl, ap}
+use Rattle.std.proofs.Common.{◌≡◌, ◌<◌, ◌+◌, ◌++◌, ◌∙◌, ℕ, zero, suc, List, [], ◌∷◌, length, map, take, drop, get_or}
+use Rattle.std.proofs.Common.{set, refl, ap}
 use Rattle.std.proofs.lemmas.List.Edits.{map_over_more}
 use Rattle.bac_poller.specs.declared.hosts.Host.{Host}
 

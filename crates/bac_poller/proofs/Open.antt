@@ -1,5 +1,7 @@
 -- Never more requests are open than the limits say.
-use Rattle.std.proofs.Common.{◌≡◌, ◌≤◌, ◌&&◌, ◌==◌, inl, inr, ℕ, Bool, true, false, not, nat_lt, is_some, List, [], ◌∷◌, ◌++◌, All, Option, Some, None, Ok, Err, length, get_or, remove, refl, sym, ap, subst, arith, ◌∙◌}
+use Rattle.std.proofs.Common.{◌≡◌, ◌≤◌, ◌&&◌, ◌==◌, inl, inr, ℕ, Bool, true, false, not, nat_lt, is_some, List, [], ◌∷◌}
+use Rattle.std.proofs.Common.{◌++◌, All, Option, Some, None, Ok, Err, length, get_or, remove, refl, sym, ap, subst}
+use Rattle.std.proofs.Common.{arith, ◌∙◌}
 use Rattle.std.specs.List.{count_by}
 use Rattle.std.proofs.lemmas.Bool.{eqb-true}
 use Rattle.std.proofs.lemmas.List.Elements.{All-head, All-tail, All-weaker}
@@ -12,8 +14,10 @@ use Rattle.bac_drive.specs.Happens.{Happens, Scene}
 use Rattle.bac_drive.specs.declared.machine.Next.{Next}
 use Rattle.bac_device_poller.specs.Counts.{counts_with}
 use Rattle.bac_poller.specs.Seat.{is_at, is_first, seat_ended}
-use Rattle.bac_poller.specs.Site.{Acts, GivesFrom, GivesNews, GivesSite, GivesWaiting, GoesOn, IsWithin, SiteState, noted, put_by, site_heard}
-use Rattle.bac_poller.specs.SiteLaws.{IsMarked, IsUnasked, OpenWithin, is_open, is_open_at, is_open_once, was_sent_once, site_acts}
+use Rattle.bac_poller.specs.Site.{Acts, GivesFrom, GivesNews, GivesSite, GivesWaiting, GoesOn, IsWithin, SiteState}
+use Rattle.bac_poller.specs.Site.{noted, put_by, site_heard}
+use Rattle.bac_poller.specs.SiteLaws.{IsMarked, IsUnasked, OpenWithin, is_open, is_open_at, is_open_once, was_sent_once}
+use Rattle.bac_poller.specs.SiteLaws.{site_acts}
 use Rattle.bac_poller.specs.declared.limits.Limits.{Limits}
 use Rattle.bac_poller.specs.declared.news.News.{News}
 use Rattle.bac_poller.specs.declared.log_poller.Doing.{Doing}

@@ -1,5 +1,7 @@
 -- Whose turn it is, by the places of a list.
-use Rattle.std.proofs.Common.{◌≡◌, ◌≤◌, ◌<◌, ◌+◌, ◌∙◌, ◌⊎◌, ◌↔◌, inl, inr, ℕ, Bool, true, false, min, All, Option, None, Some, max, List, [], ◌∷◌, count_by, length, get_or, slice_get, take, refl, sym, subst, ap, arith}
+use Rattle.std.proofs.Common.{◌≡◌, ◌≤◌, ◌<◌, ◌+◌, ◌∙◌, ◌⊎◌, ◌↔◌, inl, inr, ℕ, Bool, true, false, min, All, Option, None}
+use Rattle.std.proofs.Common.{Some, max, List, [], ◌∷◌, count_by, length, get_or, slice_get, take, refl, sym, subst, ap}
+use Rattle.std.proofs.Common.{arith}
 use Rattle.std.proofs.lemmas.Bool.{cases_eq}
 use Rattle.std.proofs.lemmas.List.Elements.{All-more, All-weaker}
 use Rattle.std.proofs.lemmas.Option.{same_Some, slice_get_read, slice_get_within}
@@ -7,7 +9,8 @@ use Rattle.std.proofs.Math.Seq.{take-length}
 use Rattle.std.specs.Bool.{OnFalse, OnTrue}
 use Rattle.bac_poller.specs.Seat.{is_at, is_first, is_waiting}
 use Rattle.bac_poller.specs.Hosts.{host_at, limit_of}
-use Rattle.bac_poller.specs.Site.{HasPlace, HasPlaceAt, HasRoom, IsNearest, MayAct, MayAsk, NoneActs, NoneAsked, SiteState, limit_at}
+use Rattle.bac_poller.specs.Site.{HasPlace, HasPlaceAt, HasRoom, IsNearest, MayAct, MayAsk, NoneActs, NoneAsked}
+use Rattle.bac_poller.specs.Site.{SiteState, limit_at}
 use Rattle.bac_poller.specs.declared.hosts.Host.{Host}
 use Rattle.bac_poller.specs.declared.seat.Seat.{Seat}
 

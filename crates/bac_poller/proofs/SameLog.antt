@@ -1,5 +1,6 @@
 -- Whatever an answer makes of a poll, it is of the same log.
-use Rattle.std.proofs.Common.{◌≡◌, ◌⊎◌, inl, inr, ℕ, ◌+◌, ◌==◌, ◌&&◌, nat_lt, Bool, true, false, if◌then◌else◌, List, [], ◌∷◌, ◌++◌, Option, None, Some, refl, ap, ◌∙◌}
+use Rattle.std.proofs.Common.{◌≡◌, ◌⊎◌, inl, inr, ℕ, ◌+◌, ◌==◌, ◌&&◌, nat_lt, Bool, true, false, if◌then◌else◌, List}
+use Rattle.std.proofs.Common.{[], ◌∷◌, ◌++◌, Option, None, Some, refl, ap, ◌∙◌}
 use Rattle.bac_link.specs.Ordinals.{is_ahead}
 use Rattle.bac_link.specs.declared.exchanges.Refusal.{Refusal}
 use Rattle.bac_link.specs.declared.exchanges.Verdict.{Verdict}
@@ -7,30 +8,37 @@ use Rattle.bac_link.specs.declared.exchanges.Verdict.TheVariants.{Ack, BadReply,
 use Rattle.bac_walk.specs.Place.{asking}
 use Rattle.bac_walk.specs.declared.batch.Numbered.{Numbered}
 use Rattle.bac_walk.specs.declared.outcome.WalkFault.TheVariants as walk
-use Rattle.bac_poll.specs.Back.{back, back_alone, back_by, back_done, back_lost, back_more, back_shown, shown_last, went_back}
+use Rattle.bac_poll.specs.Back.{back, back_alone, back_by, back_done, back_lost, back_more, back_shown, shown_last}
+use Rattle.bac_poll.specs.Back.{went_back}
 use Rattle.bac_poll.specs.Epochs.{another, another_by, another_of, renews, renews_of}
 use Rattle.bac_poll.specs.Gone.{asks_restart, asks_revision, asks_word, by_gone, by_word, gone_of, retold}
-use Rattle.bac_poll.specs.Joins.{again_by, again_equal, again_from, ahead, ahead_none, asks_again, asks_each, at_hour, brings_ahead, each_all, each_by, each_means, each_next, found, goes_nowhere, goes_on, hour, joined, joins_by, joins_from, lost, lost_ahead, moved_ahead, prior}
+use Rattle.bac_poll.specs.Joins.{again_by, again_equal, again_from, ahead, ahead_none, asks_again, asks_each, at_hour}
+use Rattle.bac_poll.specs.Joins.{brings_ahead, each_all, each_by, each_means, each_next, found, goes_nowhere, goes_on}
+use Rattle.bac_poll.specs.Joins.{hour, joined, joins_by, joins_from, lost, lost_ahead, moved_ahead, prior}
 use Rattle.bac_poll.specs.Known.{means_in, number_in, record_at, records_behind, shown_in, word_of}
-use Rattle.bac_poll.specs.Oldest.{by_count, by_number, drops, logged, sees, sees_before, sees_by, sees_last, sees_newest, sees_news, sees_none, sees_same, weighed}
+use Rattle.bac_poll.specs.Oldest.{by_count, by_number, drops, logged, sees, sees_before, sees_by, sees_last}
+use Rattle.bac_poll.specs.Oldest.{sees_newest, sees_news, sees_none, sees_same, weighed}
 use Rattle.bac_poll.specs.DateTime.{undated}
 use Rattle.bac_known.specs.declared.date_time.DateTime.{DateTime}
-use Rattle.bac_poll.specs.Poll.{after, after_count, after_heard, after_restart, after_revision, after_too_many, at_stage, came, count_at, half_of, more_of, oldest_none, renews_by, reply_in, up_to_none}
+use Rattle.bac_poll.specs.Poll.{after, after_count, after_heard, after_restart, after_revision, after_too_many}
+use Rattle.bac_poll.specs.Poll.{at_stage, came, count_at, half_of, more_of, oldest_none, renews_by, reply_in}
+use Rattle.bac_poll.specs.Poll.{up_to_none}
 use Rattle.bac_poll.specs.Starts.{starts, starts_at, starts_by, starts_from, starts_none, starts_refused, starts_told}
 use Rattle.bac_poll.specs.State.{KeptAs, PollState, Reply}
-use Rattle.bac_poll.specs.Turns.{Turned, asks, asks_at, brings_to, confirmed, ends, first_in, last_in, renewed, standing_at}
-use Rattle.bac_poll.specs.declared.gone.Gone.{Gone}
-use Rattle.bac_poll.specs.declared.gone.Gone.TheVariants.{Dropped, Doubtful, Both}
+use Rattle.bac_poll.specs.Turns.{Turned, asks, asks_at, brings_to, confirmed, ends, first_in, last_in, renewed}
+use Rattle.bac_poll.specs.Turns.{standing_at}
+use Rattle.bac_poll_steps.specs.declared.gone.Gone.{Gone}
+use Rattle.bac_poll_steps.specs.declared.gone.Gone.TheVariants.{Dropped, Doubtful, Both}
 use Rattle.bac_known.specs.declared.known.Means.{Means}
 use Rattle.bac_known.specs.declared.known.Means.TheVariants.{Shifted, Partly, Same, Unshown, Another}
 use Rattle.bac_known.specs.declared.known.Shown.{Shown}
 use Rattle.bac_known.specs.declared.known.Shown.TheVariants as shown
-use Rattle.bac_poll.specs.declared.stage.Aim.{Aim}
-use Rattle.bac_poll.specs.declared.stage.Aim.TheVariants.{Finds, Renews, Starts}
-use Rattle.bac_poll.specs.declared.stage.Stage.{Stage}
-use Rattle.bac_poll.specs.declared.stage.Stage.TheVariants as stage
-use Rattle.bac_poll.specs.declared.turn.Line.{Line}
-use Rattle.bac_poll.specs.declared.turn.PollEnd.TheVariants.{CaughtUp, Fault}
+use Rattle.bac_poll_steps.specs.declared.stage.Aim.{Aim}
+use Rattle.bac_poll_steps.specs.declared.stage.Aim.TheVariants.{Finds, Renews, Starts}
+use Rattle.bac_poll_steps.specs.declared.stage.Stage.{Stage}
+use Rattle.bac_poll_steps.specs.declared.stage.Stage.TheVariants as stage
+use Rattle.bac_poll_steps.specs.declared.turn.Line.{Line}
+use Rattle.bac_poll_steps.specs.declared.turn.PollEnd.TheVariants.{CaughtUp, Fault}
 use Rattle.bac_poller.specs.Poller.{Answers, is_too_long}
 use Rattle.bac_poller.specs.Word.{moment_in, restart_in}
 use Rattle.bac_poller.specs.declared.log_poller.Wanted.{Wanted}

@@ -1,8 +1,11 @@
 -- What holds of all devices of a site, behind events.
-use Rattle.std.proofs.Common.{◌≡◌, inl, inr, ℕ, Bool, true, false, if◌then◌else◌, List, [], ◌∷◌, ◌++◌, All, map, max, take, drop, remove, slice_get, get_or, suc, Option, Some, None, Ok, Err, refl, sym, ap, subst, ◌∙◌, nat_lt}
+use Rattle.std.proofs.Common.{◌≡◌, inl, inr, ℕ, Bool, true, false, if◌then◌else◌, List, [], ◌∷◌, ◌++◌, All, map, max}
+use Rattle.std.proofs.Common.{take, drop, remove, slice_get, get_or, suc, Option, Some, None, Ok, Err, refl, sym, ap}
+use Rattle.std.proofs.Common.{subst, ◌∙◌, nat_lt}
 use Rattle.std.specs.List.{Contains}
 use Rattle.std.proofs.lemmas.Bool.{and_parts}
-use Rattle.std.proofs.lemmas.List.Elements.{All-append, All-contains_itself, All-drop, All-head, All-map, All-nil, All-push, All-tail, All-take, All-weaker}
+use Rattle.std.proofs.lemmas.List.Elements.{All-append, All-contains_itself, All-drop, All-head, All-map, All-nil}
+use Rattle.std.proofs.lemmas.List.Elements.{All-push, All-tail, All-take, All-weaker}
 use Rattle.std.proofs.lemmas.Option.{get_or_from_slice_get, slice_get_within}
 use Rattle.bac_poll.specs.Poll.{after_too_many}
 use Rattle.bac_poll.specs.State.{PollState}
@@ -15,8 +18,10 @@ use Rattle.bac_drive.specs.declared.machine.Next.TheVariants as next
 use Rattle.bac_device_poller.specs.Counts.{counts_with}
 use Rattle.bac_device_poller.specs.Ending.{is_caught_up}
 use Rattle.bac_poller.specs.News.{news_line}
-use Rattle.bac_poller.specs.Seat.{IsNext, begun, doing_begun, halved, heard_by, is_due, is_known, is_waiting, lowered, missed, noticed, seat_ended, seat_heard, seat_read, thrice_halved}
-use Rattle.bac_poller.specs.Site.{Acts, GivesFrom, GivesNews, GivesSite, GivesWaiting, GoesOn, IsToldBy, Rests, SiteState, Tells, due_from, given, noted, put_by, site_heard, site_read}
+use Rattle.bac_poller.specs.Seat.{IsNext, begun, doing_begun, halved, heard_by, is_due, is_known, is_waiting, lowered}
+use Rattle.bac_poller.specs.Seat.{missed, noticed, seat_ended, seat_heard, seat_read, thrice_halved}
+use Rattle.bac_poller.specs.Site.{Acts, GivesFrom, GivesNews, GivesSite, GivesWaiting, GoesOn, IsToldBy, Rests}
+use Rattle.bac_poller.specs.Site.{SiteState, Tells, due_from, given, noted, put_by, site_heard, site_read}
 use Rattle.bac_poller.specs.SiteLaws.{AreCome, IsOf, IsUnasked, LogRow, log_of, logs_of, question_of}
 use Rattle.bac_poller.specs.declared.news.News.{News}
 use Rattle.bac_poller.specs.declared.log_poller.Doing.{Doing}
@@ -26,7 +31,10 @@ use Rattle.bac_poller.specs.declared.log_poller.LogPoller.{LogPoller}
 use Rattle.bac_poller.specs.declared.seat.LogTask.{LogTask}
 use Rattle.bac_poller.specs.declared.seat.Seat.{Seat}
 use Rattle.bac_poller.proofs.Strays.{all_heeded}
-use Rattle.bac_poller.proofs.Sound.{IsClosed, IsSamePoll, IsSound, IsFreshAt, IsMarkedAt, IsMarkedWell, begun_marked, begun_sound, behind_send, gives_marked, gives_same, gives_sound, heard_marked, heard_same, heard_sound, kept_by, later, missed_marked, missed_same, missed_sound, sent_by, waiting_opened}
+use Rattle.bac_poller.proofs.Sound.{IsClosed, IsSamePoll, IsSound, IsFreshAt, IsMarkedAt, IsMarkedWell, begun_marked}
+use Rattle.bac_poller.proofs.Sound.{begun_sound, behind_send, gives_marked, gives_same, gives_sound, heard_marked}
+use Rattle.bac_poller.proofs.Sound.{heard_same, heard_sound, kept_by, later, missed_marked, missed_same, missed_sound}
+use Rattle.bac_poller.proofs.Sound.{sent_by, waiting_opened}
 
 -- its logs are among those of one of these devices, at the same address by the same route
 abbrev pub IsAtHome : List Seat → Seat → Type 0

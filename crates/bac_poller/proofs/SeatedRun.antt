@@ -7,7 +7,8 @@ use Rattle.bac_ports.specs.Port.{Receiving, Sending}
 use Rattle.bac_drive.specs.Event.{Event, Kept, Printed, Read, Sent, Waited, Warned}
 use Rattle.bac_drive.specs.Happens.{Happens, IsTold, Leaves, Scene}
 use Rattle.bac_poller.specs.Site.{SiteState}
-use Rattle.bac_poller.specs.SiteLaws.{IsMarked, IsUnasked, LeavesWhatCame, RepeatsAreMarked, SiteRowsCame, SiteSendsAsk, site_acts}
+use Rattle.bac_poller.specs.SiteLaws.{IsMarked, IsUnasked, LeavesWhatCame, RepeatsAreMarked, SiteRowsCame, SiteSendsAsk}
+use Rattle.bac_poller.specs.SiteLaws.{site_acts}
 use Rattle.bac_poller.specs.declared.seat.Seat.{Seat}
 use Rattle.bac_poller.proofs.Driven.{split}
 use Rattle.bac_poller.proofs.Seated.{Seated, Sits, ToldSite, told_seated, unasked_seated, wants_says, wants_seated}

@@ -1,5 +1,7 @@
 -- A device that is silent is waited for once.
-use Rattle.std.proofs.Common.{◌≡◌, ◌≤◌, ◌+◌, ◌-◌, inl, inr, ℕ, Bool, true, false, cond, if◌then◌else◌, nat_le, List, [], ◌∷◌, ◌++◌, map, max, remove, slice_get, get_or, Option, Some, None, Ok, Err, refl, sym, ap, subst, arith, ◌∙◌}
+use Rattle.std.proofs.Common.{◌≡◌, ◌≤◌, ◌+◌, ◌-◌, inl, inr, ℕ, Bool, true, false, cond, if◌then◌else◌, nat_le, List, []}
+use Rattle.std.proofs.Common.{◌∷◌, ◌++◌, map, max, remove, slice_get, get_or, Option, Some, None, Ok, Err, refl, sym}
+use Rattle.std.proofs.Common.{ap, subst, arith, ◌∙◌}
 use Rattle.std.proofs.lemmas.Bool.{and_parts, leb-false}
 use Rattle.std.proofs.lemmas.List.Elements.{Contains-append_left, Contains-append_right, Contains-push}
 use Rattle.std.proofs.lemmas.List.Sums.{sum_by-append, sum_by-cons, sum_by-remove}
@@ -12,8 +14,8 @@ use Rattle.bac_desks.specs.Chain.{Chain}
 use Rattle.bac_link.specs.declared.transactions.Pending.{Pending}
 use Rattle.bac_link.specs.declared.transactions.Transactions.{Transactions}
 use Rattle.bac_poll.specs.Turns.{Turned}
-use Rattle.bac_poll.specs.declared.turn.Line.{Line}
-use Rattle.bac_poll.specs.declared.turn.PollEnd.{PollEnd}
+use Rattle.bac_poll_steps.specs.declared.turn.Line.{Line}
+use Rattle.bac_poll_steps.specs.declared.turn.PollEnd.{PollEnd}
 use Rattle.bac_ports.specs.Port.{Receiving, Sending}
 use Rattle.bac_drive.specs.Event.{Event, Kept, Printed, Read, Sent, Waited, Warned}
 use Rattle.bac_drive.specs.Happens.{Does, Happens, Scene}
@@ -24,8 +26,10 @@ use Rattle.bac_poller.specs.Laws.{Came}
 use Rattle.bac_device_poller.specs.Counts.{counts_with}
 use Rattle.bac_poller.specs.Poller.{GivesBy, IsPlaced, doing_behind, doing_told, is_answer}
 use Rattle.bac_poller.specs.News.{news_line}
-use Rattle.bac_poller.specs.Seat.{begun, begun_poll, doing_begun, given_up, is_due, is_known, is_lost, is_waiting, lost_one, missed, seat_ended, seat_heard, seat_read, without_answer}
-use Rattle.bac_poller.specs.Site.{Acts, GivesFrom, GivesNews, GivesSite, GivesWaiting, GoesOn, Rests, SiteState, Tells, due_from, given, noted, put_by, site_read}
+use Rattle.bac_poller.specs.Seat.{begun, begun_poll, doing_begun, given_up, is_due, is_known, is_lost, is_waiting}
+use Rattle.bac_poller.specs.Seat.{lost_one, missed, seat_ended, seat_heard, seat_read, without_answer}
+use Rattle.bac_poller.specs.Site.{Acts, GivesFrom, GivesNews, GivesSite, GivesWaiting, GoesOn, Rests, SiteState, Tells}
+use Rattle.bac_poller.specs.Site.{due_from, given, noted, put_by, site_read}
 use Rattle.bac_poller.specs.SiteLaws.{LostStopsNone, WaitsOnce, is_of, is_sent_to, sends_in_vain, site_acts}
 use Rattle.bac_poller.specs.declared.news.News.{News}
 use Rattle.bac_poller.specs.declared.log_poller.Doing.{Doing}

@@ -1,5 +1,6 @@
 -- When a site has ended, all is told.
-use Rattle.std.proofs.Common.{◌≡◌, ◌+◌, inl, inr, ℕ, Bool, true, false, cond, List, [], ◌∷◌, ◌++◌, All, map, max, remove, slice_get, get_or, Option, Some, None, Ok, Err, refl, sym, ap, subst, arith, ◌∙◌}
+use Rattle.std.proofs.Common.{◌≡◌, ◌+◌, inl, inr, ℕ, Bool, true, false, cond, List, [], ◌∷◌, ◌++◌, All, map, max}
+use Rattle.std.proofs.Common.{remove, slice_get, get_or, Option, Some, None, Ok, Err, refl, sym, ap, subst, arith, ◌∙◌}
 use Rattle.std.proofs.lemmas.List.Elements.{All-nil, All-push, All-weaker}
 use Rattle.std.proofs.lemmas.List.Sums.{sum_by-append, sum_by-cons, sum_by-remove}
 use Rattle.std.proofs.lemmas.Option.{get_or_from_slice_get, slice_get_within}
@@ -15,7 +16,8 @@ use Rattle.bac_device_poller.specs.Counts.{counts_with}
 use Rattle.bac_poller.specs.Poller.{GivesBy}
 use Rattle.bac_poller.specs.Seat.{is_known, seat_ended, seat_heard, seat_read}
 use Rattle.bac_device_poller.specs.Ending.{is_caught_up}
-use Rattle.bac_poller.specs.Site.{Acts, GivesFrom, GivesNews, GivesSite, GivesWaiting, GoesOn, IsToldBy, SiteState, given, noted, put_by, site_heard, site_read}
+use Rattle.bac_poller.specs.Site.{Acts, GivesFrom, GivesNews, GivesSite, GivesWaiting, GoesOn, IsToldBy, SiteState}
+use Rattle.bac_poller.specs.Site.{given, noted, put_by, site_heard, site_read}
 use Rattle.bac_poller.specs.SiteLaws.{AllAreTold, BeginsUnasked, IsNew, IsUnasked, is_of, site_acts}
 use Rattle.bac_poller.specs.declared.news.News.{News}
 use Rattle.bac_poller.specs.declared.log_poller.Doing.{Doing}

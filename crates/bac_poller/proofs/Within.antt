@@ -1,5 +1,6 @@
 -- What is heard, and what time makes of it, keep the limits.
-use Rattle.std.proofs.Common.{◌≡◌, ◌≤◌, ℕ, Bool, true, false, not, cond, if◌then◌else◌, List, [], ◌∷◌, map, max, take, length, Option, Some, None, Ok, Err, nat_le, refl, ap, arith}
+use Rattle.std.proofs.Common.{◌≡◌, ◌≤◌, ℕ, Bool, true, false, not, cond, if◌then◌else◌, List, [], ◌∷◌, map, max, take}
+use Rattle.std.proofs.Common.{length, Option, Some, None, Ok, Err, nat_le, refl, ap, arith}
 use Rattle.std.proofs.lemmas.List.{length-map}
 use Rattle.std.proofs.lemmas.List.Sums.{sum_by-cons}
 use Rattle.std.specs.List.{count_by}
@@ -7,7 +8,8 @@ use Rattle.std.specs.Str.{bytes_eq}
 use Rattle.bac_link.specs.declared.transactions.Pending.{Pending}
 use Rattle.bac_ports.specs.Port.{Receiving}
 use Rattle.bac_poller.specs.Poller.{is_answer}
-use Rattle.bac_poller.specs.Seat.{given_up, is_at, is_due, is_first, is_known, missed, seat_heard, seat_read, without_answer}
+use Rattle.bac_poller.specs.Seat.{given_up, is_at, is_due, is_first, is_known, missed, seat_heard, seat_read}
+use Rattle.bac_poller.specs.Seat.{without_answer}
 use Rattle.bac_poller.specs.Site.{IsWithin, SiteState, given, site_heard}
 use Rattle.bac_poller.specs.SiteLaws.{OthersNotHeeded, StaysWithin}
 use Rattle.bac_poller.specs.declared.log_poller.LogPoller.{LogPoller}

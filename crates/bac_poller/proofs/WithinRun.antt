@@ -1,5 +1,6 @@
 -- What a site wants keeps the limits, and so does a whole run.
-use Rattle.std.proofs.Common.{◌≡◌, ◌<◌, ◌≤◌, ◌+◌, inl, inr, ℕ, Bool, true, false, not, cond, List, [], ◌∷◌, ◌++◌, take, length, get_or, Some, refl, sym, ap, subst, arith, ◌∙◌}
+use Rattle.std.proofs.Common.{◌≡◌, ◌<◌, ◌≤◌, ◌+◌, inl, inr, ℕ, Bool, true, false, not, cond, List, [], ◌∷◌, ◌++◌, take}
+use Rattle.std.proofs.Common.{length, get_or, Some, refl, sym, ap, subst, arith, ◌∙◌}
 use Rattle.std.proofs.lemmas.List.{length-append}
 use Rattle.std.proofs.lemmas.List.Edits.{length-remove}
 use Rattle.std.proofs.lemmas.List.Sums.{sum_by-append, sum_by-cons, sum_by-remove}
@@ -13,7 +14,8 @@ use Rattle.bac_device_poller.specs.Counts.{counts_with}
 use Rattle.bac_poller.specs.Poller.{GivesBy}
 use Rattle.bac_poller.specs.Seat.{is_at, is_first, seat_ended}
 use Rattle.bac_poller.specs.Hosts.{host_at}
-use Rattle.bac_poller.specs.Site.{Acts, GivesFrom, GivesNews, GivesWaiting, GoesOn, HasRoom, IsAsked, IsWithin, SiteState, noted, put_by}
+use Rattle.bac_poller.specs.Site.{Acts, GivesFrom, GivesNews, GivesWaiting, GoesOn, HasRoom, IsAsked, IsWithin}
+use Rattle.bac_poller.specs.Site.{SiteState, noted, put_by}
 use Rattle.bac_poller.specs.SiteLaws.{WantsWithin}
 use Rattle.bac_poller.specs.declared.news.News.{News}
 use Rattle.bac_poller.specs.declared.log_poller.Doing.{Doing}

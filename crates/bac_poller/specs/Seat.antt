@@ -9,8 +9,8 @@ use Rattle.bac_link.specs.declared.transactions.Pending.{Pending}
 use Rattle.bac_link.specs.declared.transactions.Timeout.TheVariants.{GaveUp}
 use Rattle.bac_poll.specs.Poll.{after_too_many}
 use Rattle.bac_poll.specs.State.{PollState}
-use Rattle.bac_poll.specs.declared.turn.PollEnd.TheVariants.{CaughtUp, Contradicts, Fault, NoneByNumber, SaysMore}
-use Rattle.bac_poll.specs.declared.turn.PollEnd.TheVariants.{ShowsNone}
+use Rattle.bac_poll_steps.specs.declared.turn.PollEnd.TheVariants.{CaughtUp, Contradicts, Fault, NoneByNumber, SaysMore}
+use Rattle.bac_poll_steps.specs.declared.turn.PollEnd.TheVariants.{ShowsNone}
 use Rattle.bac_walk.specs.declared.outcome.WalkFault.TheVariants as walk
 use Rattle.bac_device_poller.specs.Counts.{no_counts}
 use Rattle.bac_poller.specs.Poller.{doing_after, is_answer}

@@ -1,7 +1,9 @@
 -- Each poll of a site goes on by its own steps alone.
-use Rattle.std.proofs.Common.{◌≡◌, inl, inr, ℕ, Bool, true, false, if◌then◌else◌, List, [], ◌∷◌, ◌++◌, All, map, max, remove, Option, Some, None, Ok, Err, refl, sym, ap, subst}
+use Rattle.std.proofs.Common.{◌≡◌, inl, inr, ℕ, Bool, true, false, if◌then◌else◌, List, [], ◌∷◌, ◌++◌, All, map, max}
+use Rattle.std.proofs.Common.{remove, Option, Some, None, Ok, Err, refl, sym, ap, subst}
 use Rattle.std.specs.List.{Contains}
-use Rattle.std.proofs.lemmas.List.Elements.{All-append, All-contains_itself, All-map, All-push, All-weaker, Contains-append_left, Contains-append_right}
+use Rattle.std.proofs.lemmas.List.Elements.{All-append, All-contains_itself, All-map, All-push, All-weaker}
+use Rattle.std.proofs.lemmas.List.Elements.{Contains-append_left, Contains-append_right}
 use Rattle.bac_desks.specs.Chain.{Chain}
 use Rattle.bac_ports.specs.Port.{Receiving, Sending}
 use Rattle.bac_drive.specs.Event.{Event, Kept, Printed, Read, Sent, Waited, Warned}
@@ -12,8 +14,10 @@ use Rattle.bac_device_poller.specs.Poller.{PollerAs, is_answer, missed}
 use Rattle.bac_device_poller.specs.declared.doing.Doing.{Doing}
 use Rattle.bac_device_poller.specs.declared.doing.Doing.TheVariants as doing
 use Rattle.bac_site_poller.specs.Seat.{is_due, is_known, noticed, seat_heard, seat_read}
-use Rattle.bac_site_poller.specs.Site.{GivesFrom, GivesNews, GivesSite, GivesWaiting, SiteState, due_from, given, noted, put_by, site_heard, site_read}
-use Rattle.bac_site_poller.specs.SiteLaws.{Answered, GoAlone, IsGoneOn, Missed, Own, OwnStep, Wanted, seats_of, site_acts}
+use Rattle.bac_site_poller.specs.Site.{GivesFrom, GivesNews, GivesSite, GivesWaiting, SiteState, due_from, given, noted}
+use Rattle.bac_site_poller.specs.Site.{put_by, site_heard, site_read}
+use Rattle.bac_site_poller.specs.SiteLaws.{Answered, GoAlone, IsGoneOn, Missed, Own, OwnStep, Wanted, seats_of}
+use Rattle.bac_site_poller.specs.SiteLaws.{site_acts}
 use Rattle.bac_site_poller.specs.declared.news.News.{News}
 use Rattle.bac_site_poller.specs.declared.seat.Seat.{Seat}
 use Rattle.bac_site_poller.proofs.Places.{at_place, but_one}

@@ -1,7 +1,7 @@
 -- What no answer brings.
 use Rattle.std.proofs.Common.{◌≡◌, Bool, true, false, if◌then◌else◌, List, [], ◌∷◌, Option, Some, None, refl}
 use Rattle.bac_poll.specs.Turns.{ends}
-use Rattle.bac_poll.specs.declared.turn.PollEnd.TheVariants.{Fault}
+use Rattle.bac_poll_steps.specs.declared.turn.PollEnd.TheVariants.{Fault}
 use Rattle.bac_walk.specs.declared.outcome.WalkFault.TheVariants.{Lost}
 use Rattle.bac_device_poll.specs.Identity.{after_i_am}
 use Rattle.bac_device_poll.specs.Logs.{after_end, after_loss, begins_with, loss_at, with_log}

@@ -1,5 +1,6 @@
 -- Whether the open question of a device was sent more than once, and its mark.
-use Rattle.std.proofs.Common.{◌≡◌, ◌∙◌, ◌<◌, ℕ, ◌+◌, ◌&&◌, Bool, true, false, nat_le, nat_lt, arith, is_some, if◌then◌else◌, List, [], ◌∷◌, Option, Some, None, refl, sym, ap, subst}
+use Rattle.std.proofs.Common.{◌≡◌, ◌∙◌, ◌<◌, ℕ, ◌+◌, ◌&&◌, Bool, true, false, nat_le, nat_lt, arith, is_some}
+use Rattle.std.proofs.Common.{if◌then◌else◌, List, [], ◌∷◌, Option, Some, None, refl, sym, ap, subst}
 use Rattle.std.proofs.lemmas.Bool.{lt-ltb}
 use Rattle.bac_archive3.specs.declared.row.Put.{Put}
 use Rattle.bac_wire.specs.Stamp.{CivilTime}
@@ -15,7 +16,9 @@ use Rattle.bac_device_poll.specs.Way.{who_is_octets}
 use Rattle.bac_device_poll.specs.declared.question.Question.{Question}
 use Rattle.bac_device_poll.specs.declared.question.Question.TheVariants.{Confirmed, Nothing, WhoIs}
 use Rattle.bac_device_poll.specs.declared.turn.DeviceEnd.{DeviceEnd}
-use Rattle.bac_device_poller.specs.Poller.{AsksNext, PollerAs, Settles, TellsNext, doing_behind, doing_with, end_at, given_up, heard_by, is_answer, is_none_told, is_who_is, lost_of, missed, rows_with, seeks, sought_again, stepped, without_answer}
+use Rattle.bac_device_poller.specs.Poller.{AsksNext, PollerAs, Settles, TellsNext, doing_behind, doing_with, end_at}
+use Rattle.bac_device_poller.specs.Poller.{given_up, heard_by, is_answer, is_none_told, is_who_is, lost_of, missed}
+use Rattle.bac_device_poller.specs.Poller.{rows_with, seeks, sought_again, stepped, without_answer}
 use Rattle.bac_device_poller.specs.Entries.{RowsAs}
 use Rattle.bac_device_poller.specs.Telling.{LineAs}
 use Rattle.bac_device_poller.specs.declared.doing.Doing.{Doing}

@@ -1,5 +1,6 @@
 -- What holds of all devices of a site, behind events.
-use Rattle.std.proofs.Common.{◌≡◌, ◌∙◌, ◌&&◌, inl, inr, ℕ, Bool, true, false, if◌then◌else◌, List, [], ◌∷◌, ◌++◌, All, map, max, remove, get_or, Option, Some, None, Ok, Err, refl, sym, ap, subst}
+use Rattle.std.proofs.Common.{◌≡◌, ◌∙◌, ◌&&◌, inl, inr, ℕ, Bool, true, false, if◌then◌else◌, List, [], ◌∷◌, ◌++◌, All}
+use Rattle.std.proofs.Common.{map, max, remove, get_or, Option, Some, None, Ok, Err, refl, sym, ap, subst}
 use Rattle.std.specs.List.{Contains}
 use Rattle.std.proofs.lemmas.Bool.{and_parts}
 use Rattle.std.proofs.lemmas.List.Elements.{All-contains_itself, All-map, All-nil, All-push, All-weaker}
@@ -15,14 +16,17 @@ use Rattle.bac_device_poller.specs.declared.doing.Doing.{Doing}
 use Rattle.bac_device_poller.specs.declared.doing.Doing.TheVariants as doing
 use Rattle.bac_site_poller.specs.Asked.{IsOf, home_of}
 use Rattle.bac_site_poller.specs.Seat.{is_due, is_known, lent, noticed, seat_heard, seat_read}
-use Rattle.bac_site_poller.specs.Site.{GivesFrom, GivesNews, GivesSite, GivesWaiting, SiteState, due_from, given, noted, put_by, site_heard, site_read}
+use Rattle.bac_site_poller.specs.Site.{GivesFrom, GivesNews, GivesSite, GivesWaiting, SiteState, due_from, given, noted}
+use Rattle.bac_site_poller.specs.Site.{put_by, site_heard, site_read}
 use Rattle.bac_site_poller.specs.SiteLaws.{IsUnasked}
 use Rattle.bac_site_poller.specs.declared.news.News.{News}
 use Rattle.bac_site_poller.specs.declared.seat.Seat.{Seat}
-use Rattle.bac_site_poller.proofs.Marked.{IsMarkedAt, IsMarkedFor, heard_marked, lent_marked, missed_marked, wants_marked}
+use Rattle.bac_site_poller.proofs.Marked.{IsMarkedAt, IsMarkedFor, heard_marked, lent_marked, missed_marked}
+use Rattle.bac_site_poller.proofs.Marked.{wants_marked}
 use Rattle.bac_site_poller.proofs.Places.{at_place, but_one}
 use Rattle.bac_site_poller.proofs.Same.{home_heard, home_missed, home_wanted}
-use Rattle.bac_site_poller.proofs.Sound.{IsClosed, IsSound, behind_send, heard_sound, later, lent_sound, missed_sound, sound_send, waiting_out, wants_sound}
+use Rattle.bac_site_poller.proofs.Sound.{IsClosed, IsSound, behind_send, heard_sound, later, lent_sound, missed_sound}
+use Rattle.bac_site_poller.proofs.Sound.{sound_send, waiting_out, wants_sound}
 use Rattle.bac_site_poller.proofs.Strays.{all_heeded}
 use Rattle.bac_site_poller.proofs.Told.{ToldSite}
 

@@ -1,5 +1,6 @@
 -- What a whole run of a site sends and puts.
-use Rattle.std.proofs.Common.{◌≡◌, ◌∙◌, ◌&&◌, ◌||◌, inl, inr, ℕ, Bool, true, false, is_some, List, [], ◌∷◌, ◌++◌, All, Option, Some, None, refl, sym, ap, subst, append_assoc, append-nil}
+use Rattle.std.proofs.Common.{◌≡◌, ◌∙◌, ◌&&◌, ◌||◌, inl, inr, ℕ, Bool, true, false, is_some, List, [], ◌∷◌, ◌++◌, All}
+use Rattle.std.proofs.Common.{Option, Some, None, refl, sym, ap, subst, append_assoc, append-nil}
 use Rattle.std.proofs.lemmas.List.Elements.{All-weaker}
 use Rattle.bac_archive3.specs.declared.row.Put.{Put}
 use Rattle.bac_desks.specs.Chain.{Chain}
@@ -22,7 +23,8 @@ use Rattle.bac_site_poller.specs.Asked.{AreCome, IsOf, octets_of, question_of}
 use Rattle.bac_site_poller.specs.News.{news_line}
 use Rattle.bac_site_poller.specs.Seat.{Wants, lent}
 use Rattle.bac_site_poller.specs.Site.{GivesFrom, GivesNews, GivesSite, GivesWaiting, Rests, SiteState}
-use Rattle.bac_site_poller.specs.SiteLaws.{IsMarked, RepeatsAreMarked, SiteRowsCame, SiteSendsAsk, again_of, is_open, is_out, site_acts}
+use Rattle.bac_site_poller.specs.SiteLaws.{IsMarked, RepeatsAreMarked, SiteRowsCame, SiteSendsAsk, again_of, is_open}
+use Rattle.bac_site_poller.specs.SiteLaws.{is_out, site_acts}
 use Rattle.bac_site_poller.specs.declared.news.News.{News}
 use Rattle.bac_site_poller.specs.declared.seat.Seat.{Seat}
 use Rattle.bac_site_poller.proofs.Marked.{IsMarkedAt}

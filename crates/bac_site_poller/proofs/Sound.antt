@@ -1,5 +1,7 @@
 -- What the poll of a device has open and has heard, behind events.
-use Rattle.std.proofs.Common.{◌≡◌, ◌⊎◌, ◌∙◌, inl, inr, ℕ, ◌+◌, ◌&&◌, Bool, true, false, nat_le, nat_lt, is_some, arith, if◌then◌else◌, List, [], ◌∷◌, ◌++◌, Option, Some, None, Ok, refl, sym, ap, subst, append_assoc}
+use Rattle.std.proofs.Common.{◌≡◌, ◌⊎◌, ◌∙◌, inl, inr, ℕ, ◌+◌, ◌&&◌, Bool, true, false, nat_le, nat_lt, is_some, arith}
+use Rattle.std.proofs.Common.{if◌then◌else◌, List, [], ◌∷◌, ◌++◌, Option, Some, None, Ok, refl, sym, ap, subst}
+use Rattle.std.proofs.Common.{append_assoc}
 use Rattle.std.specs.List.{Contains}
 use Rattle.std.specs.Str.{bytes_eq}
 use Rattle.std.proofs.lemmas.Bool.{and_parts}
@@ -23,7 +25,9 @@ use Rattle.bac_device_poll.specs.Way.{i_am_by, who_is_octets}
 use Rattle.bac_device_poll.specs.declared.question.Question.{Question}
 use Rattle.bac_device_poll.specs.declared.question.Question.TheVariants.{Confirmed, Nothing, WhoIs}
 use Rattle.bac_device_poll.specs.declared.turn.DeviceEnd.{DeviceEnd}
-use Rattle.bac_device_poller.specs.Poller.{AsksNext, PollerAs, Settles, TellsNext, doing_behind, doing_with, end_at, given_up, heard_by, is_answer, is_waiting, is_none_told, is_who_is, lost_of, missed, rows_with, seeks, sought_again, stepped, without_answer}
+use Rattle.bac_device_poller.specs.Poller.{AsksNext, PollerAs, Settles, TellsNext, doing_behind, doing_with, end_at}
+use Rattle.bac_device_poller.specs.Poller.{given_up, heard_by, is_answer, is_waiting, is_none_told, is_who_is, lost_of}
+use Rattle.bac_device_poller.specs.Poller.{missed, rows_with, seeks, sought_again, stepped, without_answer}
 use Rattle.bac_device_poller.specs.Entries.{RowsAs}
 use Rattle.bac_device_poller.specs.Telling.{LineAs}
 use Rattle.bac_device_poller.specs.declared.doing.Doing.{Doing}

@@ -1,12 +1,13 @@
 -- What is heard, and what time makes of it, keep the limits.
-use Rattle.std.proofs.Common.{◌≡◌, ◌≤◌, ℕ, Bool, true, false, not, cond, if◌then◌else◌, List, [], ◌∷◌, map, max, take, length, Option, Some, None, Ok, Err, nat_le, refl, ap, arith}
+use Rattle.std.proofs.Common.{◌≡◌, ◌≤◌, ℕ, Bool, true, false, not, cond, if◌then◌else◌, List, [], ◌∷◌, map, max, take}
+use Rattle.std.proofs.Common.{length, Option, Some, None, Ok, Err, nat_le, refl, ap, arith}
 use Rattle.std.proofs.lemmas.List.{length-map}
 use Rattle.std.proofs.lemmas.List.Sums.{sum_by-cons}
 use Rattle.std.specs.List.{count_by}
 use Rattle.std.specs.Str.{bytes_eq}
 use Rattle.bac_wire.specs.Stamp.{CivilTime}
 use Rattle.bac_ports.specs.Port.{Receiving}
-use Rattle.bac_device_poll.specs.declared.way.Way.{Way}
+use Rattle.bac_answers.specs.declared.way.Way.{Way}
 use Rattle.bac_device_poller.specs.Poller.{PollerAs, is_answer, missed}
 use Rattle.bac_site_poller.specs.Seat.{is_at, is_due, is_first, is_known, seat_heard, seat_read}
 use Rattle.bac_site_poller.specs.Site.{IsWithin, SiteState, given, site_heard}

@@ -1,5 +1,6 @@
 -- What a site wants keeps the limits, and so does a whole run.
-use Rattle.std.proofs.Common.{◌≡◌, ◌<◌, ◌≤◌, ◌+◌, inl, inr, ℕ, Bool, true, false, not, cond, List, [], ◌∷◌, ◌++◌, take, length, get_or, Some, refl, sym, ap, subst, arith, ◌∙◌}
+use Rattle.std.proofs.Common.{◌≡◌, ◌<◌, ◌≤◌, ◌+◌, inl, inr, ℕ, Bool, true, false, not, cond, List, [], ◌∷◌, ◌++◌, take}
+use Rattle.std.proofs.Common.{length, get_or, Some, refl, sym, ap, subst, arith, ◌∙◌}
 use Rattle.std.proofs.lemmas.List.{length-append}
 use Rattle.std.proofs.lemmas.List.Edits.{length-remove}
 use Rattle.std.proofs.lemmas.List.Sums.{sum_by-append, sum_by-cons, sum_by-remove}
@@ -9,14 +10,15 @@ use Rattle.std.specs.List.{count_by, remove, slice_get}
 use Rattle.std.specs.Str.{bytes_eq}
 use Rattle.bac_drive.specs.declared.machine.Next.{Next}
 use Rattle.bac_drive.specs.declared.machine.Next.TheVariants as next
-use Rattle.bac_device_poll.specs.declared.way.Way.{Way}
+use Rattle.bac_answers.specs.declared.way.Way.{Way}
 use Rattle.bac_device_poller.specs.Poller.{PollerAs}
 use Rattle.bac_device_poller.specs.declared.doing.Doing.{Doing}
 use Rattle.bac_device_poller.specs.declared.doing.Doing.TheVariants as doing
 use Rattle.bac_device_poller.specs.declared.ids.Ids.{Ids}
 use Rattle.bac_site_poller.specs.Seat.{Wants, is_at, is_first, lent}
 use Rattle.bac_site_poller.specs.Hosts.{host_at}
-use Rattle.bac_site_poller.specs.Site.{GivesFrom, GivesNews, GivesWaiting, HasRoom, IsAsked, IsWithin, SiteState, noted, put_by}
+use Rattle.bac_site_poller.specs.Site.{GivesFrom, GivesNews, GivesWaiting, HasRoom, IsAsked, IsWithin, SiteState, noted}
+use Rattle.bac_site_poller.specs.Site.{put_by}
 use Rattle.bac_site_poller.specs.SiteLaws.{WantsWithin}
 use Rattle.bac_site_poller.specs.declared.news.News.{News}
 use Rattle.bac_site_poller.specs.declared.seat.Seat.{Seat}

@@ -17,7 +17,7 @@ use Rattle.bac_device_poll.specs.Turns.{Turned}
 use Rattle.bac_device_poll.specs.Way.{i_am_by, who_is_octets}
 use Rattle.bac_device_poll.specs.declared.question.Question.{Question}
 use Rattle.bac_device_poll.specs.declared.question.Question.TheVariants.{Confirmed, Nothing, WhoIs}
-use Rattle.bac_device_poll.specs.declared.way.Way.{Way}
+use Rattle.bac_answers.specs.declared.way.Way.{Way}
 use Rattle.bac_device_poller.specs.Poller.{Comes, PollerAs, Settles, lost_of, seeks}
 use Rattle.bac_device_poller.specs.declared.doing.Came.{Came}
 use Rattle.bac_site_poller.specs.declared.seat.Seat.{Seat}

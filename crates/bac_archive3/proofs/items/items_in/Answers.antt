@@ -1,4 +1,4 @@
-use Rattle.std.proofs.Common.{refl, rules, arith}
+use Rattle.std.proofs.Common.{refl, arith}
 use Rattle.sqlite.specs.Held.{state}
 use Rattle.bac_archive3.proofs.AskLemmas.{if_ok}
 use Rattle.bac_archive3.proofs.ItemsLemmas.{on_err_then, refused_items}

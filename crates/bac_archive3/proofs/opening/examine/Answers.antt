@@ -12,14 +12,14 @@ pub returns-in-Err-clause-cause : goal.returns-in-Err-clause-cause
 returns-in-Err-clause-cause g c clean e is =
     subst (FailsToExamine g.S.Store c.args.conn.now c.tables_of.new.conn) (same_error is) (inl (c.in-Err.ensures.cause clean))
 
-pub returns-then-not-is_version_row-clause-version : goal.returns-then-not-is_version_row-clause-version
-returns-then-not-is_version_row-clause-version g c clean is ours =
+pub returns-then-not-is_version_row-clause-why : goal.returns-then-not-is_version_row-clause-why
+returns-then-not-is_version_row-clause-why g c clean ours =
     let are = c.in-Ok.ensures.told clean in
     let holds = (rw c.as_slice.ensures.value at c.if-not-is_version_row.ensures).1 (version_tells ((state g.S.Store c.args.conn.now).now.trees 0) c.in-Ok.tables.archive.items are.archive.each ours) in
     search rules
 
-pub returns-then-not-are_in_range-clause-range : goal.returns-then-not-are_in_range-clause-range
-returns-then-not-are_in_range-clause-range g c clean is all =
+pub returns-then-not-are_in_range-clause-why : goal.returns-then-not-are_in_range-clause-why
+returns-then-not-are_in_range-clause-why g c clean all =
     let are = c.in-Ok.ensures.told clean in
     let trees = (state g.S.Store c.args.conn.now).now.trees in
     let tables = c.in-Ok.tables in
@@ -36,8 +36,8 @@ returns-in-Err-examine_items-clause-cause g c clean e is =
     subst (FailsToExamine g.S.Store c.args.conn.now c.examine_items.new.conn) (same_error is)
     (examined_behind g.S.Store c.args.conn.now c.tables_of.new.conn c.examine_items.new.conn _ (c.in-Ok.ensures.same early) (c.in-Err-examine_items.ensures.cause clean))
 
-pub returns-in-Ok-Orphan-clause-orphan : goal.returns-in-Ok-Orphan-clause-orphan
-returns-in-Ok-Orphan-clause-orphan g c clean is =
+pub returns-in-Ok-Orphan-clause-why : goal.returns-in-Ok-Orphan-clause-why
+returns-in-Ok-Orphan-clause-why g c clean =
     let old = state g.S.Store c.args.conn.now in
     let mid = state g.S.Store c.tables_of.new.conn in
     let new = state g.S.Store c.examine_items.new.conn in
@@ -48,8 +48,8 @@ returns-in-Ok-Orphan-clause-orphan g c clean is =
     let alone = orphan_by_rows new old.now.trees c.in-Ok.tables (c.in-Ok.ensures.told early) (ap (λ (d : Database). d.trees) (two ∙ one)) (rw (c.as_slice-2.ensures.value, c.as_slice-3.ensures.value) at lists) in
     subst (λ (d : Database). ¬ AreBegun d.trees) (two ∙ one) (not_begun new (subst (λ (d : Database). HasArchive d.schema) (sym (two ∙ one)) c.requires) alone)
 
-pub returns-in-Ok-Overlap-clause-overlap : goal.returns-in-Ok-Overlap-clause-overlap
-returns-in-Ok-Overlap-clause-overlap g c clean is =
+pub returns-in-Ok-Overlap-clause-why : goal.returns-in-Ok-Overlap-clause-why
+returns-in-Ok-Overlap-clause-why g c clean =
     let old = state g.S.Store c.args.conn.now in
     let mid = state g.S.Store c.tables_of.new.conn in
     let new = state g.S.Store c.examine_items.new.conn in

@@ -1,22 +1,14 @@
-use Rattle.std.proofs.Common.{◌∷◌, [], map, arith, rules, inr}
+use Rattle.std.proofs.Common.{◌≡◌, ◌<◌, length, slice_get, Some, arith, refl}
+use Rattle.std.proofs.lemmas.Option.{slice_get_within, slice_get_read}
 use Rattle.bac_archive3.specs.declared.row.Put.TheVariants.{Item}
-use Rattle.bac_archive3.proofs.EightLemmas.{front_is, one_first}
+use Rattle.bac_archive3.proofs.ManyLemmas.{items_next}
 use Rattle.bac_archive3.proofs.putting.at_once.Goals as goal
 
-pub returns-in-Item-clause-so_many : goal.returns-in-Item-clause-so_many
-returns-in-Item-clause-so_many c =
-    let w = c.in-Item in
-    inr (
-      w._a,
-      w._b,
-      w._c,
-      w._d,
-      w._e,
-      w._f,
-      w._g,
-      w._h,
-      front_is (Item w._a) c.args.puts.now (map Item (w._a ∷ w._b ∷ w._c ∷ w._d ∷ w._e ∷ w._f ∷ w._g ∷ w._h ∷ [])) (omega (arith, w.len_at_least)) (search rules, (search rules, (search rules, (search rules, (search rules, (search rules, (search rules, (search rules, tt)))))))),
-    )
-
-pub returns-in_default-clause-so_many : goal.returns-in_default-clause-so_many
-returns-in_default-clause-so_many c = one_first c.args.puts.now c.requires
+pub loop-at-preserved : goal.loop-at-preserved
+loop-at-preserved c =
+    let w = c.in-Some-Item in
+    let lookup = w.ensures.lookup in
+    let got = slice_get_read c.args.puts.now (length c.args.puts.now) c.loop-at.at w.field-0.now refl lookup.3.0 lookup.1 in
+    let there : slice_get c.args.puts.now c.loop-at.at ≡ Some (Item w._item) = cc in
+    let within : c.loop-at.at < length c.args.puts.now = slice_get_within c.args.puts.now c.loop-at.at _ there in
+    (omega (arith, within), items_next c.args.puts.now c.loop-at.at w._item there c.loop-at.invariant.1)

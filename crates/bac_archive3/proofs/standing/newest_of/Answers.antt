@@ -1,6 +1,5 @@
 use Rattle.std.proofs.Common.{◌≡◌, ◌+◌, ◌≤◌, ℕ, List, length, length-append, inl, inr, [], ◌∷◌, ◌++◌, refl, ap, subst, map, ◌∙◌, rules, arith, sym}
 use Rattle.std.specs.List.Sorted.{IsSorted}
-use Rattle.sqlite_value.specs.Order.{column}
 use Rattle.sqlite.specs.Effect.{Database}
 use Rattle.sqlite.specs.State.{HasCleanDisk, Survives, CommitsShowing, FailsToQuery, IsUnchanged}
 use Rattle.sqlite.specs.Held.{state}
@@ -12,7 +11,6 @@ use Rattle.bac_archive3.specs.Put.{item_columns}
 use Rattle.bac_archive3.specs.Read.{FailsToRead, item_kinds, numbers}
 use Rattle.bac_archive3.specs.Stands.{FailsToTell, Meets, TellsNewest, is_last}
 use Rattle.bac_archive3.specs.declared.asking.Question.TheVariants.{Items}
-use Rattle.sqlite_value.specs.declared.value.Value.TheVariants.{Int}
 use Rattle.bac_archive3.proofs.AskLemmas.{answers, answers_first, left_behind, left_by, commits_nothing, plain, same_length}
 use Rattle.bac_archive3.proofs.NewestLemmas.{told_nothing, told_more_row, tells_newest}
 use Rattle.bac_archive3.proofs.ReadLemmas.{joined, unread_item}

@@ -1,5 +1,5 @@
 use Rattle.std.proofs.Common.{◌∙◌, ap}
-use Rattle.bac_device_poll.specs.declared.entry.Entry.{Entry}
+use Rattle.bac_answers.specs.declared.entry.Entry.{Entry}
 use Rattle.bac_device_poller.specs.Entries.{with_entry}
 use Rattle.bac_device_poller.proofs.EntryLemmas.{no_more, one_more}
 use Rattle.bac_device_poller.proofs.rows.Rows.bring_all.Goals as goal

@@ -2,11 +2,12 @@ use Rattle.std.proofs.Common.{◌≡◌, ◌&&◌, ◌∙◌, Bool, true, false,
 use Rattle.std.proofs.lemmas.Bool.{le-ltb, lt-ltb}
 use Rattle.bac_poll.specs.Poll.{after_too_many}
 use Rattle.bac_poll.specs.Turns.{Turned, asks, ends, turned}
-use Rattle.bac_poll.specs.declared.turn.PollEnd.TheVariants.{Fault}
+use Rattle.bac_poll_steps.specs.declared.turn.PollEnd.TheVariants.{Fault}
 use Rattle.bac_walk.specs.declared.outcome.WalkFault.TheVariants as walk
 use Rattle.bac_poller.specs.Poller.{is_too_long}
 use Rattle.bac_poller.proofs.log_poller.LogPoller.refuse.Goals as goal
-use Rattle.bac_poller.proofs.log_poller.LogPoller.refuse.Goals.{else-is_too_long-via-then-is_too_long+else-number-gt1, else-is_too_long-via-else-is_too_long}
+use Rattle.bac_poller.proofs.log_poller.LogPoller.refuse.Goals.{else-is_too_long-via-then-is_too_long+else-number-gt1}
+use Rattle.bac_poller.proofs.log_poller.LogPoller.refuse.Goals.{else-is_too_long-via-else-is_too_long}
 
 pub returns-then-number-gt1-clause-refused : goal.returns-then-number-gt1-clause-refused
 returns-then-number-gt1-clause-refused c =

@@ -1,0 +1,9 @@
+pub mod Refusals
+pub mod Values
+pub mod Who
+pub mod Way
+pub mod Word
+pub mod Clock
+pub mod Listing
+pub mod Source
+pub mod Naming

@@ -1,7 +1,0 @@
-use Rattle.std.proofs.Common.{◌≡◌, map, take}
-use Rattle.bac_device_poll.specs.declared.entry.Entry.TheVariants.{Added}
-use Rattle.bac_device_poll.proofs.listing.added.Given as goal
-
--- the logs so far are told
-abbrev pub invariant-loop-log : goal.invariant-loop-log
-invariant-loop-log l = l.entries.items ≡ map Added (take l.log-index l.logs)

@@ -1,5 +1,0 @@
-use Rattle.bac_link.proofs.Verdicts.{question_fits}
-use Rattle.bac_poll.proofs.poll.LogPoll.oldest_question.Goals as goal
-
-pub returns-clause-fits : goal.returns-clause-fits
-returns-clause-fits c = question_fits _ _

@@ -1,4 +1,0 @@
-use Rattle.bac_poll.proofs.poll.LogPoll.takes.Goals as goal
-
-pub are_asked-requires : goal.are_asked-requires
-are_asked-requires c = c.fits.ensures.few c.if-not-fits.false

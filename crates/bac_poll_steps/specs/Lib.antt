@@ -1,0 +1,9 @@
+pub mod State
+pub mod Known
+pub mod Turns
+pub mod Epochs
+pub mod Gone
+pub mod Starts
+pub mod Asked
+pub mod Begins
+pub mod Reading
