@@ -1,5 +1,5 @@
 -- New rows of what words name.
-use Rattle.std.proofs.Common.{◌≡◌, ℕ, ◌+◌, ◌++◌, ◌||◌, Bool, true, false, if◌then◌else◌, List, [], ◌∷◌, map, Option, None, Some, Result, Ok, Err, refl, sym, ap, ◌∙◌}
+use Rattle.std.proofs.Common.{◌≡◌, ℕ, ◌+◌, ◌++◌, ◌||◌, Bool, true, false, List, [], ◌∷◌, map, Option, None, Some, Ok, Err, refl, sym, ap, ◌∙◌}
 use Rattle.std.specs.Option.{option_map}
 use Rattle.std.proofs.lemmas.Bool.{cond-false, cond-true}
 use Rattle.std.proofs.lemmas.List.{map-append}
@@ -7,7 +7,6 @@ use Rattle.bac_archive3.specs.declared.row.DeviceRow.{DeviceRow}
 use Rattle.bac_device_poller.specs.Rows.{DeviceAs, device_as}
 use Rattle.bac_plan.specs.Fresh.{FreshDevicesAs, device_added, fresh_device, fresh_id_in, has_place, id_at, id_in, is_fresh_at, with_device}
 use Rattle.bac_plan.specs.Named.{is_at}
-use Rattle.bac_plan.specs.declared.fault.NamingFault.{NamingFault}
 use Rattle.bac_plan.specs.declared.fault.NamingFault.TheVariants.{DevicesFull}
 use Rattle.bac_plan.specs.declared.named.Named.{Named}
 

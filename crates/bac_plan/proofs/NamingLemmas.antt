@@ -1,5 +1,5 @@
 -- The rows that are put, one kind after the other.
-use Rattle.std.proofs.Common.{◌≡◌, List, [], ◌∷◌, ◌++◌, map, refl, sym, ap, ◌∙◌}
+use Rattle.std.proofs.Common.{◌≡◌, List, [], ◌∷◌, ◌++◌, map, refl, ap, ◌∙◌}
 use Rattle.std.specs.List.{flat_map}
 use Rattle.bac_archive3.specs.declared.row.DeviceRow.{DeviceRow}
 use Rattle.bac_archive3.specs.declared.row.LogRow.{LogRow}

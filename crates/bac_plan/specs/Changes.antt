@@ -1,6 +1,6 @@
 -- The rows on record that words change: a device that is named is polled, and kept whole if it is named so; a log that
 -- is named is asked again. Read `device_change` and `log_change`.
-use Rattle.std.specs.Prelude.{ℕ, ◌==◌, ◌&&◌, ◌||◌, not, Bool, true, false, if◌then◌else◌, List, [], ◌∷◌, ◌++◌, take}
+use Rattle.std.specs.Prelude.{ℕ, ◌==◌, ◌&&◌, ◌||◌, not, Bool, false, if◌then◌else◌, List, [], ◌∷◌, ◌++◌, take}
 use Rattle.std.specs.Prelude.{Option, None, Some, find}
 use Rattle.std.specs.List.{list_any}
 use Rattle.sqlite_value.specs.Order.{Row as Values}
@@ -56,11 +56,15 @@ asks_again_of named l (Some d) = l.stopped && names_log named (device_as d) l.in
 abbrev pub asks_again : List Named → List DeviceRow → LogRow → Bool
 asks_again named devices l = asks_again_of named l (device_of l.device devices)
 
--- its row, then: the same but that it isn't stopped
-abbrev pub asked_again : LogRow → Values
-asked_again l = take 9 (log_columns l) ++ Int (flag false) ∷ []
+-- the row of a log, which is stopped, or isn't: the last of its columns tells
+abbrev pub with_stopped : (stopped : Bool) → LogRow → Values
+with_stopped stopped l = take 9 (log_columns l) ++ Int (flag stopped) ∷ []
 
--- that is put in place of the one with its id
+-- such a row is put in place of the one with its id
+abbrev pub log_put_again : (stopped : Bool) → LogRow → PutAs
+log_put_again stopped l = record { tree = 3; is_new = false; columns = with_stopped stopped l }
+
+-- a log that is asked again isn't stopped any more
 abbrev pub log_change : List Named → List DeviceRow → LogRow → List PutAs
 log_change named devices l =
-    if asks_again named devices l then record { tree = 3; is_new = false; columns = asked_again l } ∷ [] else []
+    if asks_again named devices l then log_put_again false l ∷ [] else []

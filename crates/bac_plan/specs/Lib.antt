@@ -8,3 +8,4 @@ pub mod Named
 pub mod Changes
 pub mod Fresh
 pub mod Naming
+pub mod Stopping

@@ -1,17 +1,15 @@
 //! The rows on record that words change.
 
-ghost use Rattle.std.specs.Prelude.{◌≡◌, ◌++◌, IfOk, OnOk, map};
-ghost use Rattle.std.specs.List.{find, flat_map, list_any};
+ghost use Rattle.std.specs.Prelude.{◌≡◌, ◌++◌, OnOk, map};
+ghost use Rattle.std.specs.List.{flat_map};
 ghost use Rattle.std.specs.Option.{option_copied};
-ghost use Rattle.bac_archive3.specs.Put.{log_columns};
 ghost use Rattle.bac_device_poller.specs.Puts.{put_as};
-ghost use Rattle.bac_device_poller.specs.Rows.{device_as, text_as};
-ghost use Rattle.bac_plan.specs.Changes.{asked_again, asks_again, changes_device, device_change};
-ghost use Rattle.bac_plan.specs.Changes.{device_of, log_change, named_as, names_device, names_log};
-ghost use Rattle.bac_plan.specs.Changes.{names_whole};
+ghost use Rattle.bac_device_poller.specs.Rows.{device_as};
+ghost use Rattle.bac_plan.specs.Changes.{asks_again, device_change, device_of, log_change};
+ghost use Rattle.bac_plan.specs.Changes.{names_device, names_log, names_whole};
 
 use crate::named::Named;
-use crate::texts::copied;
+use crate::rows::{device_row, log_row};
 use bac_archive3::{DeviceRow, LogRow, Put};
 use std::alloc::AllocError;
 
@@ -51,50 +49,6 @@ fn names_log(named: &[Named], device: &DeviceRow, instance: u32) -> bool
     false
 }
 
-// The row of a device that is named, maybe with all of its trend logs.
-fn named_as(device: &DeviceRow, whole: bool) -> Result<DeviceRow, AllocError>
-    ensures { IfOk result (λ row. device_as row ≡ named_as whole (device_as device.now)) }
-{
-    let name = copied(&device.name)?;
-    let answered = copied(&device.answered)?;
-    Ok(DeviceRow {
-        id: device.id,
-        address: device.address.clone()?,
-        dnet: device.dnet,
-        dadr: device.dadr.clone()?,
-        instance: device.instance,
-        name,
-        revision: device.revision,
-        whole: device.whole || whole,
-        stopped: false,
-        answered,
-        offset: device.offset,
-    })
-}
-
-// The row of a log that is asked again.
-fn asked_again(log: &LogRow) -> Result<LogRow, AllocError>
-    ensures { IfOk result (λ row. log_columns row ≡ asked_again log.now) }
-{
-    let name = copied(&log.name)?;
-    let source = copied(&log.source)?;
-    let units = copied(&log.units)?;
-    let description = copied(&log.description)?;
-    let restart = copied(&log.restart)?;
-    Ok(LogRow {
-        id: log.id,
-        device: log.device,
-        instance: log.instance,
-        name,
-        source,
-        units,
-        description,
-        restart,
-        revision: log.revision,
-        stopped: false,
-    })
-}
-
 // Puts the row of a device, if the words change it.
 fn put_device(puts: &mut Vec<Put>, named: &[Named], device: &DeviceRow) -> Result<(), AllocError>
     ensures { OnOk result (map put_as puts.new.items
@@ -102,7 +56,8 @@ fn put_device(puts: &mut Vec<Put>, named: &[Named], device: &DeviceRow) -> Resul
 {
     let whole = names_whole(named, device);
     if (device.stopped && names_device(named, device)) || (whole && !device.whole) {
-        puts.push(Put::Device(named_as(device, whole)?))?;
+        let whole = device.whole || whole;
+        puts.push(Put::Device(device_row(device, whole, false)?))?;
     }
     Ok(())
 }
@@ -122,8 +77,8 @@ pub(crate) fn put_devices(
     Ok(())
 }
 
-// The row of the device with this id.
-fn device_of(devices: &[DeviceRow], id: u16) -> Option<&DeviceRow>
+/// The row of the device with this id.
+pub(crate) fn device_of(devices: &[DeviceRow], id: u16) -> Option<&DeviceRow>
     ensures { option_copied result ≡ device_of id devices.now }
 {
     for device in devices {
@@ -155,7 +110,7 @@ fn put_log(
         ≡ map put_as puts.old.items ++ log_change named.now devices.now log.now) }
 {
     if asks_again(named, devices, log) {
-        puts.push(Put::Log(asked_again(log)?))?;
+        puts.push(Put::Log(log_row(log, false)?))?;
     }
     Ok(())
 }

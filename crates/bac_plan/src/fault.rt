@@ -1,4 +1,4 @@
-//! Why a site isn't made, and why words aren't put on record.
+//! Why a site isn't made, and why rows aren't made of words.
 
 ghost use Rattle.std.specs.Prelude.{◌≡◌};
 
@@ -64,5 +64,26 @@ impl<T: Drop> From<AllocFailed<T>> for NamingFault {
 
     fn from(_error: AllocFailed<T>) -> NamingFault {
         NamingFault::Memory
+    }
+}
+
+/// Why what words name isn't stopped.
+#[derive(Clone, Copy, Debug, PartialEq, Eq)]
+pub enum StopFault {
+    /// There is no memory for it.
+    Memory,
+    /// The device that is named at this place among the words isn't on record.
+    NoDevice(usize),
+    /// The device is, and of the logs that are named of it the one with this instance isn't.
+    NoLog(usize, u32),
+}
+
+impl From<AllocError> for StopFault {
+    ghost use Rattle.bac_plan.specs.declared.fault.StopFault.TheVariants.{Memory};
+
+    ghost from_gives = { λ _ fault. fault ≡ Memory };
+
+    fn from(_error: AllocError) -> StopFault {
+        StopFault::Memory
     }
 }

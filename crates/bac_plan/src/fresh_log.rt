@@ -35,8 +35,8 @@ impl Model for FreshLogs {
     ghost view = { λ f. record { logs = f.logs.items; next = f.next } };
 }
 
-// Whether a log of a device is on record.
-fn has_log(device: u16, instance: u32, logs: &[LogRow]) -> bool
+/// Whether a log of a device is on record.
+pub(crate) fn has_log(device: u16, instance: u32, logs: &[LogRow]) -> bool
     ensures { result ≡ has_log device instance logs.now }
 {
     for log in logs {

@@ -1,5 +1,10 @@
-//! What a run of keep begins with, as functions: the site that is polled, made of what an archive
-//! tells alone ([`site_of`], specs/Site).
+//! What a run of keep begins with, as functions of what an archive tells.
+//!
+//! [`site_of`] makes the site that is polled, of what the archive tells alone (specs/Site): each
+//! device that isn't stopped, with its trend logs, each from where its rows stand.
+//! [`each_is_polled_once`] is the law that no log on record is left out, polled twice, or made up.
+//! [`rows_named`] are the rows that are put so that what words name is on record (specs/Naming),
+//! [`rows_stopped`] those by which it isn't asked any more (specs/Stopping).
 #![tactic(auto)]
 
 mod address;
@@ -14,14 +19,17 @@ mod named;
 mod naming;
 mod options;
 mod poller;
+mod rows;
 mod site;
+mod stopping;
 mod texts;
 mod way;
 mod who;
 
-pub use fault::{NamingFault, PlanFault};
+pub use fault::{NamingFault, PlanFault, StopFault};
 pub use laws::each_is_polled_once;
 pub use named::{Choice, Named};
 pub use naming::rows_named;
 pub use options::Options;
 pub use site::site_of;
+pub use stopping::rows_stopped;

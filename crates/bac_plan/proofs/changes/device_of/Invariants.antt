@@ -1,4 +1,4 @@
-use Rattle.std.proofs.Common.{◌≡◌, ◌==◌, drop}
+use Rattle.std.proofs.Common.{◌≡◌, drop}
 use Rattle.bac_plan.specs.Changes.{device_of}
 use Rattle.bac_plan.proofs.changes.device_of.Given as goal
 

@@ -1,7 +1,7 @@
-use Rattle.std.proofs.Common.{◌≡◌, ◌&&◌, ◌||◌, false, take}
+use Rattle.std.proofs.Common.{◌≡◌, false, take}
 use Rattle.std.specs.List.{list_any}
 use Rattle.bac_device_poller.specs.Rows.{device_as}
-use Rattle.bac_plan.specs.Named.{has_instance, is_at, is_whole}
+use Rattle.bac_plan.specs.Named.{is_at}
 use Rattle.bac_plan.proofs.changes.names_device.Given as goal
 
 abbrev pub invariant-loop-one : goal.invariant-loop-one
