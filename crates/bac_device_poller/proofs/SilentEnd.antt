@@ -15,7 +15,7 @@ use Rattle.bac_device_poll.specs.Logs.{after_loss}
 use Rattle.bac_device_poll.specs.State.{DeviceState, LogAs}
 use Rattle.bac_device_poll.specs.Turns.{Turned, not_asked}
 use Rattle.bac_device_poll.specs.declared.task.Polled.{Polled}
-use Rattle.bac_device_poller.specs.Entries.{RowsAs, log_in, putting_log, with_entries, with_log, without}
+use Rattle.bac_device_poller.specs.Entries.{RowsAs, log_in, putting_log, raising, with_entries, with_log, without}
 use Rattle.bac_device_poller.specs.Naming.{has_word, with_word}
 use Rattle.bac_device_poller.specs.Poller.{PollerAs, Settles, end_at, putting_answered}
 use Rattle.bac_device_poller.specs.Puts.{PlaceAs}
@@ -75,7 +75,7 @@ silent_lines : (doubt : Bool) (p : DeviceState) (q : Polled) (old : PollerAs) (p
 silent_lines false p q old puts new sure settles = absurd (cc)
 silent_lines true p q old puts new sure (mid, takes, (are, is)) = (
   mid.lines,
-  ap (λ (x : PollerAs). x.rows.lines) is ∙ answered_lines (with_entries mid (map not_asked p.logs)).answered (with_entries mid (map not_asked p.logs))
+  ap (λ (x : PollerAs). x.rows.lines) is ∙ answered_lines (with_entries mid (map not_asked p.logs)).answered (raising (with_entries mid (map not_asked p.logs)) NoReply)
       ∙ told_lines mid p.logs
       ∙ ap (λ (called : List ℕ). mid.lines ++ map (not_asked_as called) p.logs)
       (taken_called (log_in q.log old.rows.logs) (without q.log old.rows) (lost_turn p q) mid takes),

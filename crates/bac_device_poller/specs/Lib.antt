@@ -11,5 +11,4 @@ pub mod Entries
 pub mod Turns
 pub mod Poller
 pub mod Laws
-pub mod StatusLaws
 pub mod Silence
