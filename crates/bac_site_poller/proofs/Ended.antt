@@ -8,7 +8,7 @@ use Rattle.std.specs.List.{count_by}
 use Rattle.std.specs.Str.{bytes_eq}
 use Rattle.bac_wire.specs.Stamp.{CivilTime}
 use Rattle.bac_desks.specs.Chain.{Chain}
-use Rattle.bac_ports.specs.Port.{Receiving, Sending}
+use Rattle.bac_ports.specs.Port.{Receiving}
 use Rattle.bac_drive.specs.Event.{Event, Kept, Printed, Read, Sent, Waited, Warned}
 use Rattle.bac_drive.specs.declared.machine.Next.{Next}
 use Rattle.bac_drive.specs.declared.machine.Next.TheVariants as next
@@ -22,12 +22,12 @@ use Rattle.bac_device_poller.specs.declared.doing.Doing.{Doing}
 use Rattle.bac_device_poller.specs.declared.doing.Doing.TheVariants as doing
 use Rattle.bac_site_poller.specs.News.{news_line}
 use Rattle.bac_site_poller.specs.Seat.{Wants, is_known, lent, seat_heard, seat_read}
-use Rattle.bac_site_poller.specs.Site.{GivesFrom, GivesNews, GivesSite, GivesWaiting, SiteState, due_from, given, noted}
-use Rattle.bac_site_poller.specs.Site.{put_by, site_heard, site_read}
-use Rattle.bac_site_poller.specs.SiteLaws.{AllHaveEnded, BeginsUnasked, HasEnded, IsNew, IsUnasked, is_of, SiteSteps}
+use Rattle.bac_site_poller.specs.Site.{GivesFrom, GivesNews, GivesWaiting, SiteState, due_from, given, noted}
+use Rattle.bac_site_poller.specs.Site.{put_by, site_heard}
+use Rattle.bac_site_poller.specs.SiteLaws.{AllHaveEnded, BeginsUnasked, HasEnded, IsNew, is_of, SiteSteps}
 use Rattle.bac_site_poller.specs.declared.news.News.{News}
 use Rattle.bac_site_poller.specs.declared.seat.Seat.{Seat}
-use Rattle.bac_site_poller.proofs.Seated.{Seated, Stays, unasked_seated}
+use Rattle.bac_site_poller.proofs.Seated.{Stays, unasked_seated}
 use Rattle.bac_site_poller.proofs.SeatedRun.{run as seated_run}
 use Rattle.bac_site_poller.proofs.Strays.{sum_heeded}
 use Rattle.bac_site_poller.proofs.Told.{ToldSite, told_site}

@@ -7,14 +7,14 @@ use Rattle.std.proofs.lemmas.Option.{get_or_from_slice_get, same_Some, slice_get
 use Rattle.std.proofs.lemmas.Slice.Eq.{bytes_eq-Decides}
 use Rattle.std.specs.List.{count_by, find}
 use Rattle.std.specs.Str.{bytes_eq}
-use Rattle.bac_ports.specs.Port.{Receiving, Sending}
+use Rattle.bac_ports.specs.Port.{Receiving}
 use Rattle.bac_drive.specs.Event.{Event, Kept, Printed, Read, Sent, Waited, Warned}
 use Rattle.bac_drive.specs.declared.machine.Next.{Next}
 use Rattle.bac_wire.specs.Stamp.{CivilTime}
 use Rattle.bac_site_poller.specs.Hosts.{limit_of}
 use Rattle.bac_site_poller.specs.Seat.{is_at, is_known, seat_heard, seat_read}
 use Rattle.bac_site_poller.specs.Site.{GivesFrom, GivesNews, GivesWaiting, HasPlaceAt, MayAsk, SiteState, due_from}
-use Rattle.bac_site_poller.specs.Site.{given, limit_at, noted, put_by, site_heard, site_read}
+use Rattle.bac_site_poller.specs.Site.{given, limit_at, noted, put_by, site_heard}
 use Rattle.bac_site_poller.specs.SiteLaws.{KeepsToLimits}
 use Rattle.bac_site_poller.specs.declared.news.News.{News}
 use Rattle.bac_device_poller.specs.declared.doing.Doing.{Doing}

@@ -1,27 +1,26 @@
 -- Never more questions are open than the limits say.
 use Rattle.std.proofs.Common.{◌≡◌, ◌≤◌, ◌&&◌, ◌==◌, ◌∙◌, inl, inr, ℕ, Bool, true, false, not, cond, nat_lt, List, []}
-use Rattle.std.proofs.Common.{◌∷◌, ◌++◌, All, Option, Some, None, Ok, Err, length, get_or, remove, refl, sym, ap, subst}
+use Rattle.std.proofs.Common.{◌∷◌, ◌++◌, All, Ok, Err, length, get_or, remove, refl, sym, ap, subst}
 use Rattle.std.proofs.Common.{arith}
 use Rattle.std.specs.List.{count_by}
 use Rattle.std.proofs.lemmas.Bool.{and_parts, eqb-true}
 use Rattle.std.proofs.lemmas.List.Elements.{All-head, All-tail, All-weaker}
 use Rattle.std.proofs.lemmas.List.Sums.{sum_by-append, sum_by-cons}
-use Rattle.bac_wire.specs.Stamp.{CivilTime}
 use Rattle.bac_desks.specs.Chain.{Chain}
-use Rattle.bac_ports.specs.Port.{Receiving, Sending}
+use Rattle.bac_ports.specs.Port.{Receiving}
 use Rattle.bac_drive.specs.Event.{Event, Kept, Printed, Read, Sent, Waited, Warned}
 use Rattle.bac_drive.specs.declared.machine.Next.{Next}
 use Rattle.bac_device_poller.specs.declared.doing.Doing.{Doing}
 use Rattle.bac_device_poller.specs.declared.doing.Doing.TheVariants as doing
 use Rattle.bac_site_poller.specs.Seat.{is_at, is_first}
-use Rattle.bac_site_poller.specs.Site.{GivesFrom, GivesNews, GivesSite, GivesWaiting, IsWithin, SiteState, noted}
+use Rattle.bac_site_poller.specs.Site.{GivesFrom, GivesNews, GivesWaiting, IsWithin, SiteState, noted}
 use Rattle.bac_site_poller.specs.Site.{put_by, site_heard}
 use Rattle.bac_site_poller.specs.SiteLaws.{IsMarked, IsUnasked, OpenWithin, again_of, is_open, is_open_at, is_open_once}
 use Rattle.bac_site_poller.specs.SiteLaws.{is_out, SiteSteps}
 use Rattle.bac_site_poller.specs.declared.limits.Limits.{Limits}
 use Rattle.bac_site_poller.specs.declared.news.News.{News}
 use Rattle.bac_site_poller.specs.declared.seat.Seat.{Seat}
-use Rattle.bac_site_poller.proofs.Seated.{Queues, Seated, Stays, unasked_seated}
+use Rattle.bac_site_poller.proofs.Seated.{Queues, Stays, unasked_seated}
 use Rattle.bac_site_poller.proofs.SeatedRun.{not_open, repeats_are_marked, run as seated_run}
 use Rattle.bac_site_poller.proofs.Told.{ToldSite, told_site}
 use Rattle.bac_site_poller.proofs.WithinEvents.{within_limits}

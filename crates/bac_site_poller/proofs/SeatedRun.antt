@@ -1,12 +1,11 @@
 -- What a whole run of a site sends and puts.
-use Rattle.std.proofs.Common.{◌≡◌, ◌∙◌, ◌&&◌, ◌||◌, inl, inr, ℕ, Bool, true, false, is_some, List, [], ◌∷◌, ◌++◌, All}
-use Rattle.std.proofs.Common.{Option, Some, None, refl, sym, ap, subst, append_assoc, append-nil}
+use Rattle.std.proofs.Common.{◌≡◌, ◌∙◌, ◌&&◌, ◌||◌, inl, inr, ℕ, Bool, true, false, is_some, List, [], ◌∷◌, ◌++◌}
+use Rattle.std.proofs.Common.{Option, refl, sym, ap, subst, append_assoc, append-nil}
 use Rattle.std.proofs.lemmas.List.Elements.{All-weaker}
 use Rattle.bac_archive3.specs.declared.row.Put.{Put}
 use Rattle.bac_desks.specs.Chain.{Chain}
 use Rattle.bac_link.specs.Transactions.{begun_with}
 use Rattle.bac_link.specs.declared.transactions.Pending.{Pending}
-use Rattle.bac_ports.specs.Port.{Receiving, Sending}
 use Rattle.bac_drive.specs.Event.{Event, Kept, Printed, Read, Sent, Waited, Warned}
 use Rattle.bac_drive.specs.Happens.{Does}
 use Rattle.bac_drive.specs.declared.machine.Next.{Next}
@@ -23,13 +22,12 @@ use Rattle.bac_site_poller.specs.Asked.{AreCome, IsOf, octets_of, question_of}
 use Rattle.bac_site_poller.specs.News.{news_line}
 use Rattle.bac_site_poller.specs.Seat.{Wants, lent}
 use Rattle.bac_site_poller.specs.Site.{GivesFrom, GivesNews, GivesSite, GivesWaiting, Rests, SiteState}
-use Rattle.bac_site_poller.specs.SiteLaws.{IsMarked, RepeatsAreMarked, SiteRowsCame, SiteSendsAsk, again_of, is_open}
+use Rattle.bac_site_poller.specs.SiteLaws.{IsMarked, RepeatsAreMarked, SiteRowsCame, SiteSendsAsk, is_open}
 use Rattle.bac_site_poller.specs.SiteLaws.{is_out, SiteSteps}
 use Rattle.bac_site_poller.specs.declared.news.News.{News}
 use Rattle.bac_site_poller.specs.declared.seat.Seat.{Seat}
 use Rattle.bac_site_poller.proofs.Marked.{IsMarkedAt}
 use Rattle.bac_site_poller.proofs.Places.{at_place}
-use Rattle.bac_site_poller.proofs.Same.{home_asked}
 use Rattle.bac_site_poller.proofs.Seated.{Queues, Seated, Sits, sits_queued, told_seated, unasked_seated, wants_seated}
 use Rattle.bac_site_poller.proofs.Sound.{IsClosed, IsSound, lent_sound}
 use Rattle.bac_site_poller.proofs.Told.{told_site}

@@ -1,6 +1,5 @@
 -- What a site makes of an event, without the port and the clock.
-use Rattle.std.proofs.Common.{◌≡◌, ℕ, List}
-use Rattle.bac_ports.specs.Port.{Receiving, Sending}
+use Rattle.std.proofs.Common.{◌≡◌}
 use Rattle.bac_drive.specs.Event.{Event, Kept, Printed, Read, Sent, Waited, Warned}
 use Rattle.bac_drive.specs.Happens.{Learns}
 use Rattle.bac_site_poller.specs.Site.{SiteHears, SiteState, site_read}
