@@ -1,5 +1,6 @@
 mod FreshLemmas
 mod Grouped
+mod NamedLemmas
 mod NamingLemmas
 mod Polled
 mod Shares

@@ -1,9 +1,21 @@
-//! A law of the site that is polled. The function does nothing: what it ensures is the law.
+//! Laws of what a run begins with. Each function does nothing: what it ensures is the law.
 
 ghost use Rattle.bac_plan.specs.Laws.{EachIsPolledOnce};
+ghost use Rattle.bac_plan.specs.NamingLaws.{NamedArePolled, OthersStay};
 
 /// Every log on record that isn't stopped, of a device that isn't, is polled in exactly one place,
 /// at the seat of its device; and no other log is polled.
 pub fn each_is_polled_once()
     ensures { EachIsPolledOnce }
+{}
+
+/// Each device that words name is on record once the rows of [`rows_named`](crate::rows_named) are
+/// put, isn't stopped, and is kept whole if it is named so.
+pub fn named_are_polled()
+    ensures { NamedArePolled }
+{}
+
+/// A device or a log that no words name gets no row.
+pub fn others_stay()
+    ensures { OthersStay }
 {}
