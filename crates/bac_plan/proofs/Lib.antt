@@ -1,3 +1,4 @@
+mod AskedLemmas
 mod FreshLemmas
 mod Grouped
 mod NamedLemmas

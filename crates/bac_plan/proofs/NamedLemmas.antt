@@ -1,23 +1,20 @@
 -- What words name is polled, and the rest stays.
-use Rattle.std.proofs.Common.{◌≡◌, ℕ, ◌+◌, ◌<◌, ◌==◌, ◌++◌, ◌&&◌, ◌||◌, not, Bool, true, false, if◌then◌else◌, List, [], ◌∷◌, map, length, get_or, Option, None, Some, Result, Ok, Err, refl, sym, ap, subst, ◌∙◌}
-use Rattle.std.specs.List.{All, AllByRecursion, Contains, list_any}
+use Rattle.std.proofs.Common.{◌≡◌, ℕ, ◌==◌, ◌++◌, ◌&&◌, ◌||◌, not, Bool, true, false, if◌then◌else◌, List, [], ◌∷◌, map, Option, None, Some, Result, Ok, Err, refl, sym, ap, subst, ◌∙◌}
+use Rattle.std.specs.List.{AllByRecursion, Contains, list_any}
 use Rattle.std.specs.Str.{bytes_eq}
 use Rattle.std.specs.String.{string_bytes}
 use Rattle.std.proofs.lemmas.Bool.{cond-false, cond-true, eq-eqb, false≢true}
 use Rattle.std.proofs.lemmas.List.Elements.{All-contains, All-contains_itself, All-from_recursion, recursion_from_All}
 use Rattle.std.proofs.lemmas.List.Folds.{list_any-append, list_any_at}
 use Rattle.std.proofs.lemmas.Slice.Eq.{bytes_eq-Decides}
-use Rattle.bac_archive3.specs.Items.{text_at}
 use Rattle.bac_archive3.specs.declared.row.DeviceRow.{DeviceRow}
 use Rattle.bac_archive3.specs.declared.row.LogRow.{LogRow}
-use Rattle.bac_archive3.specs.declared.standing.Standing.{Standing}
 use Rattle.bac_device_poller.specs.Rows.{DeviceAs, device_as, device_put}
 use Rattle.bac_plan.specs.Changes.{asks_again_of, changes_device, device_change, device_of, log_change, log_put_again, named_as, names_device, names_log, names_whole}
 use Rattle.bac_plan.specs.Fresh.{FreshDevicesAs, ◌>>=◌, device_added, fresh_device, has_place, id_at, is_fresh_at, new_device, with_device, with_devices}
 use Rattle.bac_plan.specs.Named.{has_instance, is_at, is_whole}
-use Rattle.bac_plan.specs.NamingLaws.{NamedArePolled, OthersStay, device_after, devices_after}
+use Rattle.bac_plan.specs.NamingLaws.{NamedArePolled, OthersStay, device_after}
 use Rattle.bac_plan.specs.declared.fault.NamingFault.{NamingFault}
-use Rattle.bac_plan.specs.declared.fault.NamingFault.TheVariants.{DevicesFull}
 use Rattle.bac_plan.specs.declared.named.Named.{Named}
 
 -- ---- tests of any
@@ -30,7 +27,7 @@ any_weaker p q less (x ∷ xs) none = by (p x) refl none (any_weaker p q less xs
     by true is none rest = absurd (false≢true (sym none))
     by false is none rest = ap (λ (c : Bool). c || list_any q xs) (less x is) ∙ rest none
 
-any_mapped : {X Y : Type 0} (p : X → Bool) (q : Y → Bool) (f : X → Y) → ((x : X) → p x ≡ true → q (f x) ≡ true) → (xs : List X) → list_any p xs ≡ true → list_any q (map f xs) ≡ true
+pub any_mapped : {X Y : Type 0} (p : X → Bool) (q : Y → Bool) (f : X → Y) → ((x : X) → p x ≡ true → q (f x) ≡ true) → (xs : List X) → list_any p xs ≡ true → list_any q (map f xs) ≡ true
 any_mapped p q f more [] some = absurd (false≢true some)
 any_mapped p q f more (x ∷ xs) some = by (p x) refl some (any_mapped p q f more xs)
   where
@@ -42,22 +39,22 @@ any_mapped p q f more (x ∷ xs) some = by (p x) refl some (any_mapped p q f mor
     by true is some rest = ap (λ (c : Bool). c || list_any q (map f xs)) (more x is)
     by false is some rest = ap (λ (c : Bool). q (f x) || c) (rest some) ∙ or_true (q (f x))
 
-any_there : {X : Type 0} (p : X → Bool) (xs : List X) (x : X) → Contains xs x → p x ≡ true → list_any p xs ≡ true
+pub any_there : {X : Type 0} (p : X → Bool) (xs : List X) (x : X) → Contains xs x → p x ≡ true → list_any p xs ≡ true
 any_there p xs x there is = list_any_at p xs there.0 x there.1 (ap p there.2 ∙ is)
 
-or_right : (b : Bool) → (b || true) ≡ true
+pub or_right : (b : Bool) → (b || true) ≡ true
 or_right true = refl
 or_right false = refl
 
-any_left : {X : Type 0} (p : X → Bool) (xs ys : List X) → list_any p xs ≡ true → list_any p (xs ++ ys) ≡ true
+pub any_left : {X : Type 0} (p : X → Bool) (xs ys : List X) → list_any p xs ≡ true → list_any p (xs ++ ys) ≡ true
 any_left p xs ys is = list_any-append p xs ys ∙ ap (λ (b : Bool). b || list_any p ys) is
 
-any_right : {X : Type 0} (p : X → Bool) (xs ys : List X) → list_any p ys ≡ true → list_any p (xs ++ ys) ≡ true
+pub any_right : {X : Type 0} (p : X → Bool) (xs ys : List X) → list_any p ys ≡ true → list_any p (xs ++ ys) ≡ true
 any_right p xs ys is = list_any-append p xs ys ∙ ap (λ (b : Bool). list_any p xs || b) is ∙ or_right (list_any p xs)
 
 -- ---- the rest stays
 
-and_none : (b : Bool) → (b && false) ≡ false
+pub and_none : (b : Bool) → (b && false) ≡ false
 and_none true = refl
 and_none false = refl
 
@@ -145,7 +142,7 @@ fine_any named n there (d ∷ ds) all some = by (is_at n d) refl some (fine_any 
     by true is some rest = ap (λ (c : Bool). c || list_any (is_named_as n) ds) (fine_as named n d there all.0 is)
     by false is some rest = ap (λ (c : Bool). is_named_as n d || c) (rest some) ∙ or_right (is_named_as n d)
 
-same_bytes : (xs : List ℕ) → bytes_eq xs xs ≡ true
+pub same_bytes : (xs : List ℕ) → bytes_eq xs xs ≡ true
 same_bytes xs = (bytes_eq-Decides xs xs).1 refl
 
 own_place : (n : Named) (id : ℕ) → is_at n (new_device id n) ≡ true
