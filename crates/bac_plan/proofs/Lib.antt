@@ -1,5 +1,7 @@
+mod AskedLemmas
 mod FreshLemmas
 mod Grouped
+mod NamedLemmas
 mod NamingLemmas
 mod Polled
 mod Shares

@@ -136,7 +136,8 @@ with_choice logs None f (Logs instances) = Ok f
 with_choice logs (Some device) f (Logs instances) = with_instances logs device f instances.items
 
 -- and of all devices that are
-abbrev pub with_logs : List DeviceRow → List DeviceAs → List LogRow → FreshLogsAs → List Named → Result FreshLogsAs NamingFault
+abbrev pub with_logs : List DeviceRow → (fresh : List DeviceAs) → List LogRow → FreshLogsAs → List Named
+    → Result FreshLogsAs NamingFault
 with_logs devices fresh logs f [] = Ok f
 with_logs devices fresh logs f (n ∷ ns) =
     with_choice logs (id_of n devices fresh) f n.choice >>= λ g. with_logs devices fresh logs g ns

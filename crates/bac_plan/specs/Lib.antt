@@ -9,3 +9,4 @@ pub mod Changes
 pub mod Fresh
 pub mod Naming
 pub mod Stopping
+pub mod NamingLaws

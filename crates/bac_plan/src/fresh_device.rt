@@ -108,7 +108,8 @@ impl FreshDevices {
         devices: &[DeviceRow],
         one: &Named,
     ) -> Result<(), NamingFault>
-        ensures ok { OnOk result (with_device named.now devices.now self.old one.now ≡ Ok self.new) }
+        ensures ok { OnOk result
+            (with_device named.now devices.now self.old one.now ≡ Ok self.new) }
         ensures err { IfErr result (λ e. (e ≡ NamingFault.Memory)
             ⊎ (with_device named.now devices.now self.old one.now ≡ Err e)) }
     {

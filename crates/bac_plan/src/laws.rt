@@ -1,9 +1,33 @@
-//! A law of the site that is polled. The function does nothing: what it ensures is the law.
+//! Laws of what a run begins with. Each function does nothing: what it ensures is the law.
 
 ghost use Rattle.bac_plan.specs.Laws.{EachIsPolledOnce};
+ghost use Rattle.bac_plan.specs.NamingLaws.{FreshLogsAreAsked, NamedArePolled, NamedLogsAreAsked};
+ghost use Rattle.bac_plan.specs.NamingLaws.{OthersStay};
 
 /// Every log on record that isn't stopped, of a device that isn't, is polled in exactly one place,
 /// at the seat of its device; and no other log is polled.
 pub fn each_is_polled_once()
     ensures { EachIsPolledOnce }
+{}
+
+/// Each device that words name is on record once the rows of [`rows_named`](crate::rows_named) are
+/// put, isn't stopped, and is kept whole if it is named so.
+pub fn named_are_polled()
+    ensures { NamedArePolled }
+{}
+
+/// A device or a log that no words name gets no row.
+pub fn others_stay()
+    ensures { OthersStay }
+{}
+
+/// A log that words name for itself is on record then, and isn't stopped, if its device was on
+/// record.
+pub fn named_logs_are_asked()
+    ensures { NamedLogsAreAsked }
+{}
+
+/// And so is one of a device on record or a new one, if it wasn't on record itself.
+pub fn fresh_logs_are_asked()
+    ensures { FreshLogsAreAsked }
 {}

@@ -27,7 +27,9 @@ mod way;
 mod who;
 
 pub use fault::{NamingFault, PlanFault, StopFault};
-pub use laws::each_is_polled_once;
+pub use laws::{
+    each_is_polled_once, fresh_logs_are_asked, named_are_polled, named_logs_are_asked, others_stay,
+};
 pub use named::{Choice, Named};
 pub use naming::rows_named;
 pub use options::Options;

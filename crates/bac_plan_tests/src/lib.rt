@@ -2,4 +2,6 @@
 #![tactic(auto)]
 
 #[cfg(test)]
+mod naming;
+#[cfg(test)]
 mod site;

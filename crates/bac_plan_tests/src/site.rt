@@ -53,7 +53,7 @@ fn log(id: u16, device: u16, instance: u32, stopped: bool) -> LogRow {
 }
 
 /// What an archive tells.
-fn standing(alloc: Global) -> Result<Standing, AllocError> {
+pub fn standing(alloc: Global) -> Result<Standing, AllocError> {
     let mut devices = Vec::new(alloc);
     devices.push(device(alloc, 3, "10.0.0.3:47808", 0)?)?;
     devices.push(device(alloc, 2, "10.0.0.2:47809", 7)?)?;
