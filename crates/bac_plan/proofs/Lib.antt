@@ -6,3 +6,4 @@ mod NamingLemmas
 mod Polled
 mod Shares
 mod SiteLemmas
+mod StoppedLemmas
