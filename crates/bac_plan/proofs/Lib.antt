@@ -1,6 +1,7 @@
 mod AskedLemmas
 mod FreshLemmas
 mod Grouped
+mod IdLemmas
 mod NamedLemmas
 mod NamingLemmas
 mod Polled

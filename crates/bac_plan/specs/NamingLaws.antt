@@ -1,6 +1,6 @@
 -- Laws of what words put on record. Read `NamedArePolled`, `NamedLogsAreAsked` and `OthersStay`.
-use Rattle.std.specs.Prelude.{◌≡◌, ℕ, ◌==◌, Bool, ◌&&◌, ◌||◌, not, true, false, if◌then◌else◌}
-use Rattle.std.specs.Prelude.{List, [], ◌++◌, map, Some, Ok}
+use Rattle.std.specs.Prelude.{◌≡◌, ⊤, ℕ, ◌+◌, ◌≤◌, ◌==◌, Bool, ◌&&◌, ◌||◌, not, true, false, if◌then◌else◌}
+use Rattle.std.specs.Prelude.{List, [], ◌∷◌, ◌++◌, map, Some, Ok}
 use Rattle.std.specs.List.{Contains, list_any}
 use Rattle.bac_archive3.specs.declared.row.DeviceRow.{DeviceRow}
 use Rattle.bac_archive3.specs.declared.row.LogRow.{LogRow}
@@ -75,3 +75,20 @@ FreshLogsAreAsked = (s : Standing) (named : List Named) (f : FreshDevicesAs) (g 
     → Contains named n → has_instance instance n ≡ true → id_of n s.devices.items f.devices ≡ Some id
     → has_log id instance s.logs.items ≡ false
     → list_any (λ l. (l.device == id) && ((l.instance == instance) && not l.stopped)) (logs_after s named g) ≡ true
+
+-- each of these ids is the next one, from this one on, and 65535 is the last
+abbrev pub RiseFrom : (next : ℕ) → List ℕ → Type 0
+RiseFrom next [] = ⊤
+RiseFrom next (id ∷ ids) = (id ≡ next) × (id ≤ 65535) × RiseFrom (next + 1) ids
+
+-- New devices have the ids that come next, one after the other, so no two have one id, and none has one on record.
+abbrev pub DeviceIdsAreNext : Type 0
+DeviceIdsAreNext = (named : List Named) (devices : List DeviceRow) (next : ℕ) (f : FreshDevicesAs)
+    → with_devices named devices (record { devices = []; next = next }) named ≡ Ok f
+    → RiseFrom next (map (λ d. d.id) f.devices)
+
+-- And so have new logs.
+abbrev pub LogIdsAreNext : Type 0
+LogIdsAreNext = (named : List Named) (devices : List DeviceRow) (fresh : List DeviceAs) (logs : List LogRow) (next : ℕ)
+    → (g : FreshLogsAs) → with_logs devices fresh logs (record { logs = []; next = next }) named ≡ Ok g
+    → RiseFrom next (map (λ l. l.id) g.logs)

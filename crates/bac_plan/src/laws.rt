@@ -1,6 +1,7 @@
 //! Laws of what a run begins with. Each function does nothing: what it ensures is the law.
 
 ghost use Rattle.bac_plan.specs.Laws.{EachIsPolledOnce};
+ghost use Rattle.bac_plan.specs.NamingLaws.{DeviceIdsAreNext, LogIdsAreNext};
 ghost use Rattle.bac_plan.specs.NamingLaws.{FreshLogsAreAsked, NamedArePolled, NamedLogsAreAsked};
 ghost use Rattle.bac_plan.specs.NamingLaws.{OthersStay};
 ghost use Rattle.bac_plan.specs.StoppingLaws.{NamedAreStopped, OthersGoOn};
@@ -31,6 +32,16 @@ pub fn named_logs_are_asked()
 /// And so is one of a device on record or a new one, if it wasn't on record itself.
 pub fn fresh_logs_are_asked()
     ensures { FreshLogsAreAsked }
+{}
+
+/// New devices have the ids that come next, one after the other, up to 65535.
+pub fn device_ids_are_next()
+    ensures { DeviceIdsAreNext }
+{}
+
+/// And so have new logs.
+pub fn log_ids_are_next()
+    ensures { LogIdsAreNext }
 {}
 
 /// A device that words name with all of its logs is stopped once the rows of
