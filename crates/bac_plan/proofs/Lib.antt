@@ -1,8 +1,10 @@
 mod AskedLemmas
 mod FreshLemmas
 mod Grouped
+mod IdLemmas
 mod NamedLemmas
 mod NamingLemmas
 mod Polled
 mod Shares
 mod SiteLemmas
+mod StoppedLemmas

@@ -19,7 +19,7 @@ use Rattle.bac_plan.specs.declared.named.Named.{Named}
 
 -- ---- tests of any
 
-any_weaker : {X : Type 0} (p q : X → Bool) → ((x : X) → p x ≡ false → q x ≡ false) → (xs : List X) → list_any p xs ≡ false → list_any q xs ≡ false
+pub any_weaker : {X : Type 0} (p q : X → Bool) → ((x : X) → p x ≡ false → q x ≡ false) → (xs : List X) → list_any p xs ≡ false → list_any q xs ≡ false
 any_weaker p q less [] none = refl
 any_weaker p q less (x ∷ xs) none = by (p x) refl none (any_weaker p q less xs)
   where
@@ -99,7 +99,7 @@ same_then false false false false e h = refl
 same_then false false false true e h = absurd (false≢true (h refl))
 same_then false false true isw e h = absurd (false≢true (sym e))
 
-whole_there : (named : List Named) (n : Named) (d : DeviceAs) → Contains named n → is_at n d ≡ true → is_whole n ≡ true → names_whole named d ≡ true
+pub whole_there : (named : List Named) (n : Named) (d : DeviceAs) → Contains named n → is_at n d ≡ true → is_whole n ≡ true → names_whole named d ≡ true
 whole_there named n d there at whole =
     any_there (λ m. is_at m d && is_whole m) named n there (ap (λ (b : Bool). b && is_whole n) at ∙ whole)
 

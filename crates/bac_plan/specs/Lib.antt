@@ -10,3 +10,4 @@ pub mod Fresh
 pub mod Naming
 pub mod Stopping
 pub mod NamingLaws
+pub mod StoppingLaws

@@ -1,11 +1,13 @@
 -- Laws of what words put on record. Read `NamedArePolled`, `NamedLogsAreAsked` and `OthersStay`.
-use Rattle.std.specs.Prelude.{◌≡◌, ℕ, ◌==◌, Bool, ◌&&◌, ◌||◌, not, true, false, if◌then◌else◌, List, [], ◌++◌, map, Some, Ok}
+use Rattle.std.specs.Prelude.{◌≡◌, ⊤, ℕ, ◌+◌, ◌≤◌, ◌==◌, Bool, ◌&&◌, ◌||◌, not, true, false, if◌then◌else◌}
+use Rattle.std.specs.Prelude.{List, [], ◌∷◌, ◌++◌, map, Some, Ok}
 use Rattle.std.specs.List.{Contains, list_any}
 use Rattle.bac_archive3.specs.declared.row.DeviceRow.{DeviceRow}
 use Rattle.bac_archive3.specs.declared.row.LogRow.{LogRow}
 use Rattle.bac_archive3.specs.declared.standing.Standing.{Standing}
 use Rattle.bac_device_poller.specs.Rows.{DeviceAs, device_as}
-use Rattle.bac_plan.specs.Changes.{asks_again, changes_device, device_change, device_of, log_change, named_as, names_device}
+use Rattle.bac_plan.specs.Changes.{asks_again, changes_device, device_change, device_of}
+use Rattle.bac_plan.specs.Changes.{log_change, named_as, names_device}
 use Rattle.bac_plan.specs.Changes.{names_log, names_whole}
 use Rattle.bac_plan.specs.Fresh.{FreshDevicesAs, FreshLogsAs, has_log, id_in, id_of, with_devices, with_logs}
 use Rattle.bac_plan.specs.Laws.{HaveOwnIds}
@@ -58,7 +60,8 @@ logs_after s named g = map (log_after named s.devices.items) s.logs.items ++ map
 
 -- A log of a device on record that words name for itself is on record then, and isn't stopped.
 abbrev pub NamedLogsAreAsked : Type 0
-NamedLogsAreAsked = (s : Standing) (named : List Named) (f : FreshDevicesAs) (g : FreshLogsAs) (n : Named) (id instance : ℕ)
+NamedLogsAreAsked = (s : Standing) (named : List Named) (f : FreshDevicesAs) (g : FreshLogsAs) (n : Named)
+    → (id instance : ℕ)
     → HaveOwnIds s.devices.items
     → with_logs s.devices.items f.devices s.logs.items (record { logs = []; next = s.next_log }) named ≡ Ok g
     → Contains named n → has_instance instance n ≡ true → id_in n s.devices.items ≡ Some id
@@ -66,8 +69,26 @@ NamedLogsAreAsked = (s : Standing) (named : List Named) (f : FreshDevicesAs) (g 
 
 -- The same of a log of a new device, whose id no log on record names.
 abbrev pub FreshLogsAreAsked : Type 0
-FreshLogsAreAsked = (s : Standing) (named : List Named) (f : FreshDevicesAs) (g : FreshLogsAs) (n : Named) (id instance : ℕ)
+FreshLogsAreAsked = (s : Standing) (named : List Named) (f : FreshDevicesAs) (g : FreshLogsAs) (n : Named)
+    → (id instance : ℕ)
     → with_logs s.devices.items f.devices s.logs.items (record { logs = []; next = s.next_log }) named ≡ Ok g
     → Contains named n → has_instance instance n ≡ true → id_of n s.devices.items f.devices ≡ Some id
     → has_log id instance s.logs.items ≡ false
     → list_any (λ l. (l.device == id) && ((l.instance == instance) && not l.stopped)) (logs_after s named g) ≡ true
+
+-- each of these ids is the next one, from this one on, and 65535 is the last
+abbrev pub RiseFrom : (next : ℕ) → List ℕ → Type 0
+RiseFrom next [] = ⊤
+RiseFrom next (id ∷ ids) = (id ≡ next) × (id ≤ 65535) × RiseFrom (next + 1) ids
+
+-- New devices have the ids that come next, one after the other, so no two have one id, and none has one on record.
+abbrev pub DeviceIdsAreNext : Type 0
+DeviceIdsAreNext = (named : List Named) (devices : List DeviceRow) (next : ℕ) (f : FreshDevicesAs)
+    → with_devices named devices (record { devices = []; next = next }) named ≡ Ok f
+    → RiseFrom next (map (λ d. d.id) f.devices)
+
+-- And so have new logs.
+abbrev pub LogIdsAreNext : Type 0
+LogIdsAreNext = (named : List Named) (devices : List DeviceRow) (fresh : List DeviceAs) (logs : List LogRow) (next : ℕ)
+    → (g : FreshLogsAs) → with_logs devices fresh logs (record { logs = []; next = next }) named ≡ Ok g
+    → RiseFrom next (map (λ l. l.id) g.logs)

@@ -93,8 +93,11 @@ pub(crate) fn device_of(devices: &[DeviceRow], id: u16) -> Option<&DeviceRow>
 fn asks_again(named: &[Named], devices: &[DeviceRow], log: &LogRow) -> bool
     ensures { result ≡ asks_again named.now devices.now log.now }
 {
+    if !log.stopped {
+        return false;
+    }
     match device_of(devices, log.device) {
-        Some(device) => log.stopped && names_log(named, device, log.instance),
+        Some(device) => names_log(named, device, log.instance),
         None => false,
     }
 }

@@ -1,8 +1,10 @@
 //! Laws of what a run begins with. Each function does nothing: what it ensures is the law.
 
 ghost use Rattle.bac_plan.specs.Laws.{EachIsPolledOnce};
+ghost use Rattle.bac_plan.specs.NamingLaws.{DeviceIdsAreNext, LogIdsAreNext};
 ghost use Rattle.bac_plan.specs.NamingLaws.{FreshLogsAreAsked, NamedArePolled, NamedLogsAreAsked};
 ghost use Rattle.bac_plan.specs.NamingLaws.{OthersStay};
+ghost use Rattle.bac_plan.specs.StoppingLaws.{NamedAreStopped, OthersGoOn};
 
 /// Every log on record that isn't stopped, of a device that isn't, is polled in exactly one place,
 /// at the seat of its device; and no other log is polled.
@@ -30,4 +32,25 @@ pub fn named_logs_are_asked()
 /// And so is one of a device on record or a new one, if it wasn't on record itself.
 pub fn fresh_logs_are_asked()
     ensures { FreshLogsAreAsked }
+{}
+
+/// New devices have the ids that come next, one after the other, up to 65535.
+pub fn device_ids_are_next()
+    ensures { DeviceIdsAreNext }
+{}
+
+/// And so have new logs.
+pub fn log_ids_are_next()
+    ensures { LogIdsAreNext }
+{}
+
+/// A device that words name with all of its logs is stopped once the rows of
+/// [`rows_stopped`](crate::rows_stopped) are put, and so is each log that they name.
+pub fn named_are_stopped()
+    ensures { NamedAreStopped }
+{}
+
+/// A device that no words name gets no row by which it is stopped, and none of its logs does.
+pub fn others_go_on()
+    ensures { OthersGoOn }
 {}

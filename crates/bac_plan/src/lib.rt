@@ -28,7 +28,8 @@ mod who;
 
 pub use fault::{NamingFault, PlanFault, StopFault};
 pub use laws::{
-    each_is_polled_once, fresh_logs_are_asked, named_are_polled, named_logs_are_asked, others_stay,
+    device_ids_are_next, each_is_polled_once, fresh_logs_are_asked, log_ids_are_next,
+    named_are_polled, named_are_stopped, named_logs_are_asked, others_go_on, others_stay,
 };
 pub use named::{Choice, Named};
 pub use naming::rows_named;
