@@ -7,8 +7,8 @@ ghost use Rattle.sqlite.specs.Held.{state};
 ghost use Rattle.sqlite.specs.Values.{bound};
 ghost use Rattle.bac_archive3.specs.Schema.{HasArchive, OverArchive};
 ghost use Rattle.bac_archive3.specs.Put.{AreAtOnce, FailsToPut, GivesUp, IsPut, Puts};
-ghost use Rattle.bac_archive3.specs.Put.{given, given_item, text_of, text_of_all, PutsJoin, PutsKeepVersion};
-ghost use Rattle.bac_archive3.specs.Put.{PutsLoseNothing};
+ghost use Rattle.bac_archive3.specs.Put.{given, given_item, text_of, text_of_all, PutsJoin};
+ghost use Rattle.bac_archive3.specs.Put.{PutsKeepVersion, PutsLoseNothing};
 
 use crate::ending::finish;
 use crate::row::{Put, beginning_bound, device_bound, item_bound, item_values, log_bound};

@@ -6,6 +6,7 @@ use Rattle.bac_archive3.specs.declared.row.Put.{Put}
 use Rattle.bac_desks.specs.Chain.{Chain}
 use Rattle.bac_ports.specs.Port.{Receiving}
 use Rattle.bac_drive.specs.Event.{Event}
+use Rattle.bac_drive.specs.Happens.{Steps}
 use Rattle.bac_drive.specs.Laws.{puts_of}
 use Rattle.bac_drive.specs.declared.machine.Next.{Next}
 use Rattle.bac_drive.specs.declared.machine.Next.TheVariants as next
@@ -37,7 +38,7 @@ module _ {M : Type 0} (gives : M → Next → M → Type 0) (hears : M → Recei
 
   pub inside : (old new : Batched M) (es : List Event) → HoldsNothing old →
       Chain (BatchedSteps gives hears reads) old es new →
-      (inner : List Event) × (last : M) × Inside gives hears reads old.machine es new inner last
+      (inner : List Event) × (last : M) × Inside gives (Steps gives hears reads) old.machine es new inner last
   inside old new es (none, bare) chain =
       let P : List Next → Type 0 = λ l. All IsLine l in
       let r = ran old.machine [] old new es (inl (refl, subst P (sym bare) (All-nil IsLine))) (inl (none, refl))

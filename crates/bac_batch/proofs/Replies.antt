@@ -113,7 +113,7 @@ module _ {M : Type 0} (gives : M → Next → M → Type 0) (hears : M → Recei
       ∙ sym (append_assoc us (rows ∷ []) (group ++ ws))))
 
   batch : (start : M) (front inner : List Event) (new : Batched M) (last : M) (puts : List Put) → (puts ≡ [] → ⊥) →
-      Inside gives hears reads start (front ++ Kept puts ∷ []) new inner last → keeps_of (Kept puts ∷ []) ≡ puts ∷ [] →
+      Inside gives (Steps gives hears reads) start (front ++ Kept puts ∷ []) new inner last → keeps_of (Kept puts ∷ []) ≡ puts ∷ [] →
       (replies : List (List Put)) × (puts ≡ joined replies) × (length replies ≤ 64) × All
       (WasWanted gives hears reads start front) replies
   batch start front inner new last puts some i one =
@@ -137,7 +137,7 @@ module _ {M : Type 0} (gives : M → Next → M → Type 0) (hears : M → Recei
       )
 
   by : (start : M) (front inner : List Event) (new : Batched M) (last : M) (puts : List Put) →
-      Inside gives hears reads start (front ++ Kept puts ∷ []) new inner last →
+      Inside gives (Steps gives hears reads) start (front ++ Kept puts ∷ []) new inner last →
       (replies : List (List Put)) × (puts ≡ joined replies) × (length replies ≤ 64) × All
       (WasWanted gives hears reads start front) replies
   by start front inner new last [] i = ([], refl, omega arith, All-nil (WasWanted gives hears reads start front))

@@ -110,10 +110,9 @@ IsAt gives last b = ((last ≡ b.machine) × All IsLine b.behind) ⊎ IsAhead gi
 -- The machine inside makes these events from one place to another. Over the port and the clock they are the same as
 -- those of its batches, in the same order, but that a wait may be cut short. Its rows, and its lines, are those that
 -- were put and told, and those that are held. A batch is the rows of at most 64 replies in a row.
-pub record Inside {M : Type 0} (gives : M → Next → M → Type 0) (hears : M → Receiving → M → Type 0)
-    (reads : M → ℕ → M → Type 0) (old : M) (es : List Event) (new : Batched M) (inner : List Event) (last : M) :
-    Type 0 where
-  pub run : Chain (Steps gives hears reads) old inner last
+pub record Inside {M : Type 0} (gives : M → Next → M → Type 0) (steps : M → Event → M → Type 0) (old : M)
+    (es : List Event) (new : Batched M) (inner : List Event) (last : M) : Type 0 where
+  pub run : Chain steps old inner last
   pub at : IsAt gives last new
   pub traffic : AreCutShort (traffic_of es) (traffic_of inner)
   pub rows : puts_of inner ≡ puts_of es ++ new.puts
@@ -144,7 +143,7 @@ abbrev pub LosesNothing : {M : Type 0} → (M → Next → M → Type 0) → (M 
     (M → ℕ → M → Type 0) → Type 0
 LosesNothing {M = M} gives hears reads =
     (old new : Batched M) (es : List Event) → HoldsNothing old → Chain (BatchedSteps gives hears reads) old es new →
-    (inner : List Event) × (last : M) × Inside gives hears reads old.machine es new inner last
+    (inner : List Event) × (last : M) × Inside gives (Steps gives hears reads) old.machine es new inner last
 
 -- At the end nothing is held: it ends where the machine inside does, whose rows and lines are those that were put and
 -- told.
@@ -164,7 +163,8 @@ abbrev pub LinesStandBehind : {M : Type 0} → (M → Next → M → Type 0) →
 LinesStandBehind {M = M} gives hears reads =
     (old new : Batched M) (es : List Event) (line : Event) → HoldsNothing old → is_line line ≡ true →
     Chain (BatchedSteps gives hears reads) old (es ++ line ∷ []) new →
-    (inner : List Event) × (last : M) × Inside gives hears reads old.machine (es ++ line ∷ []) new inner last
+    (inner : List Event) × (last : M) × Inside gives (Steps gives hears reads) old.machine (es ++ line ∷ []) new inner
+    last
     × (puts_of inner ≡ puts_of es)
 
 -- the machine inside wanted these rows to be put; what had gone over the port and the clock by then is the beginning of

@@ -170,7 +170,7 @@ EndsAsTold =
     (old new : PollerAs) (t : Turned) (puts : List Put) → Settles t old puts new →
     end_of new.doing ≡ end_at (stepped t.step t.device).step
 
--- Once nothing more is asked of a device, nothing is sent to it any more, whatever happens, and its poll stays as it is.
+-- Once nothing more is asked of a device, nothing is sent to it any more, whatever happens; its poll stays as it is.
 abbrev pub AsksNoMore : Type 0
 AsksNoMore =
     (old mid new : PollerAs) (before behind : List Happening) (why : DeviceEnd) → IsNew old → Runs old before mid →

@@ -261,7 +261,7 @@ abbrev pub BatchesWithin : Type 0
 BatchesWithin =
     (old new : Batched SiteState) (es : List Event) → HoldsNothing old → IsUnasked old.machine →
     Chain SiteBatchSteps old es new →
-    (inner : List Event) × (last : SiteState) × Inside GivesSite SiteHears SiteReads old.machine es new inner last
+    (inner : List Event) × (last : SiteState) × Inside GivesSite SiteSteps old.machine es new inner last
     × IsOpenWithin old.machine last
 
 -- When it has ended, so have all of its devices.
