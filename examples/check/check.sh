@@ -342,6 +342,8 @@ counted ./vectors.sh ../../crates/bac_vectors/out/bac_vectors
 counted ./polls.py ../../crates/bac_poll_rows/out/bac_poll_rows
 # Archives of format 3 in files: runs that are killed, full disks, and files that are none.
 counted ./archive3.py ../../crates/bac_archive3_trial/out/bac_archive3_trial
+# A site that is polled over UDP into such a file: devices that restart, refuse and fall silent, runs that are killed.
+counted ./trial.py ../../crates/bac_site_trial/out/bac_site_trial
 
 echo "$passed passed, $failed failed"
 [ "$failed" -eq 0 ]
