@@ -5,9 +5,9 @@ use Rattle.sqlite_schema.specs.declared.schema.Schema.{Schema}
 use Rattle.sqlite_trees.specs.Tree.{Trees}
 use Rattle.bac_archive3.specs.Put.{LoseNothing}
 use Rattle.bac_archive3.specs.Schema.{HasArchive, archive_tables, no_schema}
-use Rattle.bac_batch.specs.Batch.{Batched, fresh_batch}
 use Rattle.bac_drive.specs.Happens.{Acts, scene}
 use Rattle.bac_drive.specs.Laws.{LosesNothing}
+use Rattle.bac_batch.specs.Batch.{Batched, fresh_batch}
 use Rattle.bac_site_poller.specs.Site.{SiteState}
 use Rattle.bac_keeping.specs.Laws.{KeepLosesNothing}
 

@@ -5,8 +5,8 @@ use Rattle.sqlite_trees.specs.Tree.{Trees}
 use Rattle.bac_archive3.specs.Put.{LoseNothing}
 use Rattle.bac_archive3.specs.Schema.{HasArchive}
 use Rattle.bac_archive3.specs.declared.standing.Standing.{Standing}
-use Rattle.bac_batch.specs.Batch.{Batched}
 use Rattle.bac_drive.specs.Happens.{Acts, scene}
+use Rattle.bac_batch.specs.Batch.{Batched, fresh_batch}
 use Rattle.bac_site_poller.specs.Site.{SiteState}
 use Rattle.bac_keeping.specs.Keeping.{Remains, running}
 
@@ -16,5 +16,6 @@ abbrev pub KeepLosesNothing : {A P C : Type 0} → (A → List ℕ) → (A → S
 KeepLosesNothing {A = A} {P = P} {C = C} made_at makes acts =
     (plan : A) (port : P) (clock : C) (output errors : Option (List ℕ)) (old : Database) (trees : Trees) →
     HasArchive old.schema →
-    Remains (running (made_at plan) (makes plan) acts (λ site db. scene site port clock db output errors)) old trees →
+    Remains
+    (running (made_at plan) (makes plan) acts (λ site db. scene (fresh_batch site) port clock db output errors)) old trees →
     LoseNothing old.trees trees

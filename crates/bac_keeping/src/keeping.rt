@@ -6,9 +6,9 @@ ghost use Rattle.sqlite.specs.Held.{state};
 ghost use Rattle.sqlite.specs.State.{HasCleanDisk, Survives};
 ghost use Rattle.bac_archive3.specs.Schema.{HasArchive};
 ghost use Rattle.bac_drive.specs.Happens.{scene};
+ghost use Rattle.bac_batch.specs.Batch.{Batched, fresh_batch};
 ghost use Rattle.bac_site_poller.specs.SiteLaws.{site_acts};
 ghost use Rattle.bac_site_poller.specs.Site.{SiteState};
-ghost use Rattle.bac_batch.specs.Batch.{Batched};
 ghost use Rattle.bac_keeping.specs.Keeping.{Halts, HaltsEarly, IsBegun, IsOpened};
 ghost use Rattle.bac_keeping.specs.Keeping.{Keeps, Remains, running};
 
@@ -103,23 +103,23 @@ pub fn keep_site<A: Plan, P: Port, C: Clock, S: Alter, W: Write, V: Write>(
         → OnOk result ((last : Batched SiteState) × Keeps
         (running (A.made_at plan.now) (A.makes plan.now)
         (site_acts P.sends P.receives_within C.reads)
-        (λ site db. scene site port.old clock.old db (W.contents output.old)
-        (V.contents errors.old))) (state S.Store conn.old).now
+        (λ site db. scene (fresh_batch site) port.old clock.old db
+        (W.contents output.old) (V.contents errors.old))) (state S.Store conn.old).now
         (scene last port.new clock.new (state S.Store conn.new).now (W.contents output.new)
         (V.contents errors.new))) }
     ensures halts { HasCleanDisk (state S.Store conn.new)
         → IfErr result (Halts S.Store
         (running (A.made_at plan.now) (A.makes plan.now)
         (site_acts P.sends P.receives_within C.reads)
-        (λ site db. scene site port.old clock.old db (W.contents output.old)
-        (V.contents errors.old))) (state S.Store conn.old).now (state S.Store conn.new)) }
+        (λ site db. scene (fresh_batch site) port.old clock.old db
+        (W.contents output.old) (V.contents errors.old))) (state S.Store conn.old).now (state S.Store conn.new)) }
     // Killed at any moment, it leaves what was there, or an archive behind such events.
     ensures crash { Survives (state S.Store conn.old) (state S.Store conn.new)
         (Remains
         (running (A.made_at plan.now) (A.makes plan.now)
         (site_acts P.sends P.receives_within C.reads)
-        (λ site db. scene site port.old clock.old db (W.contents output.old)
-        (V.contents errors.old))) (state S.Store conn.old).now) }
+        (λ site db. scene (fresh_batch site) port.old clock.old db
+        (W.contents output.old) (V.contents errors.old))) (state S.Store conn.old).now) }
 {
     match begin(alloc, plan, conn) {
         Ok(site) => {
