@@ -17,5 +17,5 @@ KeepLosesNothing {A = A} {P = P} {C = C} made_at makes acts =
     (plan : A) (port : P) (clock : C) (output errors : Option (List ℕ)) (old : Database) (trees : Trees) →
     HasArchive old.schema →
     Remains
-    (running (made_at plan) (makes plan) acts (λ site db. scene (fresh_batch site) port clock db output errors)) old trees →
-    LoseNothing old.trees trees
+    (running (made_at plan) (makes plan) acts (λ site db. scene (fresh_batch site) port clock db output errors)) old
+    trees → LoseNothing old.trees trees

@@ -112,7 +112,8 @@ pub fn keep_site<A: Plan, P: Port, C: Clock, S: Alter, W: Write, V: Write>(
         (running (A.made_at plan.now) (A.makes plan.now)
         (site_acts P.sends P.receives_within C.reads)
         (λ site db. scene (fresh_batch site) port.old clock.old db
-        (W.contents output.old) (V.contents errors.old))) (state S.Store conn.old).now (state S.Store conn.new)) }
+        (W.contents output.old) (V.contents errors.old))) (state S.Store conn.old).now
+        (state S.Store conn.new)) }
     // Killed at any moment, it leaves what was there, or an archive behind such events.
     ensures crash { Survives (state S.Store conn.old) (state S.Store conn.new)
         (Remains
