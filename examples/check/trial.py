@@ -20,9 +20,9 @@ LOGS = 4
 RUNS = 60
 # The device whose replies have a record each.
 SHORT_REPLIES = 4
-# One that waits as long as a busy machine may need, and one that doesn't wait long for what was lost.
 # Of which logs it was told that they go on at a number, or began anew: that has no row.
 DOUBTS = set()
+# One that waits as long as a busy machine may need, and one that doesn't wait long for what was lost.
 LONG, SHORT = ("--timeout=5000",), ("--timeout=60", "--retries=2")
 
 
