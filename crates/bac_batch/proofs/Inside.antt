@@ -1,6 +1,7 @@
 -- The laws of a run of batches.
 use Rattle.std.proofs.Common.{◌≡◌, ◌∙◌, inl, inr, ℕ, ◌-◌, ◌<◌, ◌≤◌, min, true, List, [], ◌∷◌, ◌++◌, All, refl, sym}
 use Rattle.std.proofs.Common.{ap, subst, append-nil, arith}
+use Rattle.std.specs.Prelude.{◌==◌, ◌&&◌, ◌||◌, Bool, false, if◌then◌else◌, suc, zero}
 use Rattle.std.proofs.lemmas.List.Elements.{All-head, All-nil}
 use Rattle.bac_archive3.specs.declared.row.Put.{Put}
 use Rattle.bac_desks.specs.Chain.{Chain}
@@ -11,6 +12,7 @@ use Rattle.bac_drive.specs.Laws.{puts_of}
 use Rattle.bac_drive.specs.declared.machine.Next.{Next}
 use Rattle.bac_drive.specs.declared.machine.Next.TheVariants as next
 use Rattle.bac_batch.specs.Batch.{Answers, Batched, GivesBatched, HearsBatched, HoldsRows, IsFilled, ReadsBatched}
+use Rattle.bac_batch.specs.Batch.{cut_short, is_nearly_full, left}
 use Rattle.bac_batch.specs.Laws.{BatchedSteps, EndsWhole, HoldsNothing, Inside, IsAt, IsLine, LinesStandBehind}
 use Rattle.bac_batch.specs.Laws.{LosesNothing, WaitsWithYoungRows}
 use Rattle.bac_batch.specs.Laws.{is_line, joined, lines_held, lines_of}
@@ -185,16 +187,30 @@ module _ {M : Type 0} (gives : M → Next → M → Type 0) (hears : M → Recei
 
   -- ---- waits
 
+  -- what isn't due may be held still
+  not_due : (n : ℕ) (more : Bool) → ((n == 0) || more) ≡ false → 0 < n
+  not_due zero more is = absurd (let f : true ≡ false = is in cc)
+  not_due (suc n) more is = omega arith
+
+  -- and is waited for no longer
+  short_enough : (most : ℕ) (b : Batched M) → cut_short most b ≤ left b
+  short_enough most b = by (is_nearly_full b)
+    where
+      by : (full : Bool) → (if full then 0 else min most (left b)) ≤ left b
+      by true = omega arith
+      by false = omega arith
+
   wait_asked : (b new : Batched M) (wanted : Next) (most : ℕ) → Answers wanted b (next.Wait most) new → HoldsRows new →
       (new.time - new.since < 100) × (most ≤ 100 - (new.time - new.since))
   wait_asked b new (next.Wait wish) most (inl (none, (wanted, same))) holds =
       absurd (holds (ap (λ (x : Batched M). x.puts) same ∙ none))
   wait_asked b new (next.Wait wish) most (inr (rows, inl (none, (keeps, same)))) holds = absurd keeps
-  wait_asked b new (next.Wait wish) most (inr (rows, inr (some, (wanted, same)))) holds =
+  wait_asked b new (next.Wait wish) most (inr (rows, inr (young, (wanted, same)))) holds =
       let time : new.time ≡ b.time = ap (λ (x : Batched M). x.time) same in
       let since : new.since ≡ b.since = ap (λ (x : Batched M). x.since) same in
-      let is : most ≡ min wish (100 - (b.time - b.since)) = cc in
-      (omega (arith, some, time, since), omega (arith, some, time, since, is))
+      let is : most ≡ cut_short wish b = cc in
+      let some = not_due (left b) (is_nearly_full b && b.quiet) young in
+      (omega (arith, some, time, since), omega (arith, some, time, since, is, short_enough wish b))
   wait_asked b new next.End most (inl (none, (wanted, same))) holds = absurd (cc)
   wait_asked b new next.End most (inr (rows, (keeps, same))) holds = absurd keeps
   wait_asked b new (next.Print text) most (inl (none, (wanted, same))) holds = absurd (cc)

@@ -1,6 +1,7 @@
 -- What the machine inside makes of one event of its batches.
 use Rattle.std.proofs.Common.{◌≡◌, ◌∙◌, inl, inr, ℕ, ◌+◌, ◌-◌, ◌<◌, ◌≤◌, max, min, List, [], ◌∷◌, ◌++◌, All, Option}
 use Rattle.std.proofs.Common.{length, refl, sym, ap, subst, append-nil, length-append, arith}
+use Rattle.std.specs.Prelude.{Bool, true, false, is_err, if◌then◌else◌}
 use Rattle.std.specs.List.{cons_option}
 use Rattle.std.proofs.lemmas.List.Elements.{All-cons, All-head, All-nil, All-push, All-tail, filter_map-append}
 use Rattle.bac_archive3.specs.declared.row.Put.{Put}
@@ -11,13 +12,21 @@ use Rattle.bac_drive.specs.Laws.{puts_of}
 use Rattle.bac_drive.specs.declared.machine.Next.{Next}
 use Rattle.bac_drive.specs.declared.machine.Next.TheVariants as next
 use Rattle.bac_batch.specs.Batch.{Answers, Batched, HearsBatched, HoldsRows, IsBatchBefore, IsFilled, IsFreed, IsHeld}
-use Rattle.bac_batch.specs.Batch.{NoneFreed, ReadsBatched, Tells, left}
+use Rattle.bac_batch.specs.Batch.{NoneFreed, ReadsBatched, Tells, cut_short, is_nearly_full, left}
 use Rattle.bac_batch.specs.Laws.{AreCutShort, BatchedSteps, IsAt, IsLine, IsWish, joined, keeps_of, line_held}
 use Rattle.bac_batch.specs.Laws.{lines_held, lines_of, traffic_of}
 use Rattle.bac_batch.proofs.Given.{AsLine, as_line, does_end, does_keep, does_read, does_send, does_wait, keeps_some}
 use Rattle.bac_batch.proofs.Given.{line_learns, line_told, wish_no_line}
 use Rattle.bac_batch.proofs.Parts.{joined_append}
 use Rattle.bac_batch.proofs.Ran.{AreReplies, Ran}
+
+-- a wait that is cut short is no longer
+shorter : {M : Type 0} (most : ℕ) (b : Batched M) → cut_short most b ≤ most
+shorter {M = M} most b = by (is_nearly_full b)
+  where
+    by : (full : Bool) → (if full then 0 else min most (left b)) ≤ most
+    by true = omega arith
+    by false = omega arith
 
 pub no_snoc : {X : Type 0} (xs : List X) (x : X) → xs ++ x ∷ [] ≡ [] → ⊥
 no_snoc xs x is = omega (arith, ap length is, length-append xs (x ∷ []))
@@ -292,8 +301,9 @@ module _ {M : Type 0} (gives : M → Next → M → Type 0) (hears : M → Recei
       let b : Batched M = record old { machine = m } in
       let (heard, is) = does_wait less e (does_at given (next.Wait less) e wanted does) in
       let (n, hears_it, now) = told_at mid b new e (Waited less heard) same is told in
-      moved old.machine before old new (record old { machine = n }) e (Waited less heard) is now
-      (passed old.machine n before old (record old { machine = n }) (Waited less heard) (Waited most heard)
+      moved old.machine before old new (record old { machine = n; quiet = is_err heard }) e (Waited less heard) is now
+      (passed old.machine n before old (record old { machine = n; quiet = is_err heard }) (Waited less heard)
+      (Waited most heard)
       (next.Wait most, m, gave, refl, hears_it) (inl (refl, all)) replies
       refl ((within, refl), tt) refl refl refl refl (append-nil (lines_held old.behind)))
 
@@ -352,7 +362,7 @@ module _ {M : Type 0} (gives : M → Next → M → Type 0) (hears : M → Recei
       wish_asked m before old mid new given (next.Wait most) e tt gave all replies holds batch does told
   asked m before old mid new given (next.Wait most) e gave free all replies (inr (holds, inr (some, (wanted, same))))
       does told =
-      wait_asked m before old mid new given (min most (left old)) most e (omega arith) gave all replies wanted same
+      wait_asked m before old mid new given (cut_short most old) most e (shorter most old) gave all replies wanted same
       does told
   asked m before old mid new given next.End e gave free all replies (inl (none, (wanted, same))) does told =
       absurd (does_end e (does_at given next.End e wanted does))
@@ -397,8 +407,10 @@ module _ {M : Type 0} (gives : M → Next → M → Type 0) (hears : M → Recei
       let (heard, comes) = does_wait most e (does_at given (next.Wait most) e wanted does) in
       let (n, hears_it, now) = told_at mid b new e (Waited most heard) same comes told in
       let Q : List Next → Type 0 = λ l. All IsLine l in
-      moved start before old new (record old { machine = n; behind = others }) e (Waited most heard) comes now
-      (passed start n before old (record old { machine = n; behind = others }) (Waited most heard) (Waited most heard)
+      moved start before old new (record old { machine = n; behind = others; quiet = is_err heard }) e
+      (Waited most heard) comes now
+      (passed start n before old (record old { machine = n; behind = others; quiet = is_err heard })
+      (Waited most heard) (Waited most heard)
       (next.Wait most, old.machine, gave, refl, hears_it) (inl (refl, subst Q (sym none) (All-nil IsLine))) replies
       refl ((omega arith, refl), tt) refl refl refl refl (append-nil (lines_held old.behind) ∙ ap lines_held behind
       ∙ ap lines_held (sym none)))

@@ -1,5 +1,6 @@
 -- A machine around a machine, which holds its rows. Read `GivesBatched`, `HearsBatched` and `ReadsBatched`.
-use Rattle.std.specs.Prelude.{◌≡◌, ◌⊎◌, ℕ, ◌-◌, ◌<◌, max, min, List, [], ◌∷◌, ◌++◌}
+use Rattle.std.specs.Prelude.{◌≡◌, ◌⊎◌, ℕ, ◌-◌, ◌<◌, ◌==◌, ◌&&◌, ◌||◌, nat_le, Bool, true, false, max, min, List, []}
+use Rattle.std.specs.Prelude.{◌∷◌, ◌++◌, is_err, if◌then◌else◌}
 use Rattle.bac_archive3.specs.declared.row.Put.{Put}
 use Rattle.bac_ports.specs.Port.{Receiving}
 use Rattle.bac_drive.specs.declared.machine.Next.{Next}
@@ -13,11 +14,12 @@ pub record Batched (M : Type 0) : Type 0 where
   pub since : ℕ  -- what the clock had told last as the first of them came, in milliseconds
   pub time : ℕ  -- what it has told last
   pub behind : List Next  -- what is to be done behind the batch: lines, and at last a wait or the end
+  pub quiet : Bool  -- the last wait brought no datagram
 
 -- around a machine that has said nothing yet
 abbrev pub fresh_batch : {M : Type 0} → M → Batched M
 fresh_batch machine =
-    record { machine = machine; puts = []; room = 64; since = 0; time = 0; behind = [] }
+    record { machine = machine; puts = []; room = 64; since = 0; time = 0; behind = []; quiet = false }
 
 -- rows are held
 abbrev pub HoldsRows : {M : Type 0} → Batched M → Type 0
@@ -26,6 +28,18 @@ HoldsRows b = b.puts ≡ [] → ⊥
 -- how many milliseconds more they are: 100, by the clock as it was read last
 abbrev pub left : {M : Type 0} → Batched M → ℕ
 left b = 100 - (b.time - b.since)
+
+-- it is nearly full: it has 48 replies
+abbrev pub is_nearly_full : {M : Type 0} → Batched M → Bool
+is_nearly_full b = nat_le b.room 16
+
+-- it is to be put before a wait: its rows may be held no longer, or it is nearly full and nothing is there to be heard
+abbrev pub is_due : {M : Type 0} → Batched M → Bool
+is_due b = (left b == 0) || (is_nearly_full b && b.quiet)
+
+-- how long it is waited: no longer than rows may be held; where it is nearly full, only for what is there already
+abbrev pub cut_short : {M : Type 0} → ℕ → Batched M → ℕ
+cut_short most b = if is_nearly_full b then 0 else min most (left b)
 
 -- what is to be done is that these rows are put
 abbrev pub IsKeep : List Put → Next → Type 0
@@ -73,11 +87,11 @@ Tells line old given new =
     ((old.puts ≡ []) × IsDone line old given new)
     ⊎ (HoldsRows old × IsLater (record old { behind = old.behind ++ line ∷ [] }) given new)
 
--- It waits no longer than rows may be held; if they may be no longer, behind the batch.
+-- It waits, cut short; if the batch is due, behind that.
 abbrev pub WaitsHolding : {M : Type 0} → ℕ → Batched M → Next → Batched M → Type 0
 WaitsHolding most old given new =
-    ((left old ≡ 0) × IsBatchBefore (next.Wait most) old given new)
-    ⊎ ((0 < left old) × IsDone (next.Wait (min most (left old))) old given new)
+    ((is_due old ≡ true) × IsBatchBefore (next.Wait most) old given new)
+    ⊎ ((is_due old ≡ false) × IsDone (next.Wait (cut_short most old)) old given new)
 
 -- It waits.
 abbrev pub Waits : {M : Type 0} → ℕ → Batched M → Next → Batched M → Type 0
@@ -119,10 +133,10 @@ Asks {M = M} gives old given new =
 abbrev pub GivesBatched : {M : Type 0} → (M → Next → M → Type 0) → Batched M → Next → Batched M → Type 0
 GivesBatched gives old given new = IsFreed old given new ⊎ (NoneFreed old × Asks gives old given new)
 
--- What came is for the machine inside.
+-- What came is for the machine inside; whether something did is noted.
 abbrev pub HearsBatched : {M : Type 0} → (M → Receiving → M → Type 0) → Batched M → Receiving → Batched M → Type 0
 HearsBatched {M = M} hears old heard new =
-    (mid : M) × hears old.machine heard mid × (new ≡ record old { machine = mid })
+    (mid : M) × hears old.machine heard mid × (new ≡ record old { machine = mid; quiet = is_err heard })
 
 -- So is what the clock tells, which doesn't go back.
 abbrev pub ReadsBatched : {M : Type 0} → (M → ℕ → M → Type 0) → Batched M → ℕ → Batched M → Type 0

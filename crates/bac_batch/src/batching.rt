@@ -5,7 +5,7 @@ ghost use Rattle.std.specs.Bool.{OnFalse, OnTrue};
 ghost use Rattle.bac_batch.specs.Batch.{Answers, Asks, Ends, Gathers, GivesBatched, HearsBatched};
 ghost use Rattle.bac_batch.specs.Batch.{HoldsRows, IsBatch, IsBatchBefore, IsFreed, IsHeld};
 ghost use Rattle.bac_batch.specs.Batch.{IsKeep, NoneFreed, ReadsBatched, Tells, Waits};
-ghost use Rattle.bac_batch.specs.Batch.{fresh_batch, left};
+ghost use Rattle.bac_batch.specs.Batch.{cut_short, fresh_batch, is_due, is_nearly_full, left};
 
 use bac_archive3::Put;
 use bac_drive::{Machine, Next};
@@ -17,6 +17,10 @@ use std::mem::replace;
 
 /// How many replies a batch has at most.
 const MOST_REPLIES: u32 = 64;
+
+/// From 48 replies on it is put as soon as nothing is there to be heard: it is written while answers
+/// are on their way, and not while they wait.
+const ROOM_AT_REST: u32 = 16;
 
 /// How long rows are held, in milliseconds, by the clock as it was read last.
 const MOST_MS: u64 = 100;
@@ -35,6 +39,8 @@ pub struct Batching<M> {
     time: u64,
     /// What is to be done behind the batch: lines, and at last a wait or the end.
     behind: VecDeque<Next>,
+    /// Whether the last wait brought no datagram.
+    quiet: bool,
 }
 
 impl<M> Model for Batching<M> {
@@ -49,6 +55,7 @@ impl<M> Model for Batching<M> {
       since = it.since;
       time = it.time;
       behind = it.behind.items;
+      quiet = it.quiet;
     } };
 }
 
@@ -71,6 +78,7 @@ impl<M> Batching<M> {
             since: 0,
             time: 0,
             behind: VecDeque::new(alloc),
+            quiet: false,
         }
     }
 
@@ -163,6 +171,31 @@ impl<M> Batching<M> {
         MOST_MS.saturating_sub(self.time.saturating_sub(self.since))
     }
 
+    /// Whether the batch is nearly full.
+    fn is_nearly_full(&self) -> bool
+        ensures { result ≡ is_nearly_full self.now }
+    {
+        self.room <= ROOM_AT_REST
+    }
+
+    /// Whether it is to be put before a wait.
+    fn is_due(&self) -> bool
+        ensures { result ≡ is_due self.now }
+    {
+        self.left() == 0 || (self.is_nearly_full() && self.quiet)
+    }
+
+    /// How many milliseconds it is waited where rows are held.
+    fn cut_short(&self, most: u32) -> u32
+        ensures { result ≡ cut_short most self.now }
+    {
+        if self.is_nearly_full() {
+            0
+        } else {
+            u64::from(most).min(self.left()) as u32
+        }
+    }
+
     /// What is to be done at a wait: rows are held no longer than they may be.
     fn wait(&mut self, alloc: Global, most: u32) -> Result<Next, AllocError>
         ensures { IfOk result (λ next. Waits most self.old next self.new) }
@@ -170,11 +203,10 @@ impl<M> Batching<M> {
         if !self.holds() {
             return Ok(Next::Wait(most));
         }
-        let left = self.left();
-        if left == 0 {
+        if self.is_due() {
             return self.give_before(alloc, Next::Wait(most));
         }
-        Ok(Next::Wait(u64::from(most).min(left) as u32))
+        Ok(Next::Wait(self.cut_short(most)))
     }
 
     /// What is to be done at the end: nothing is held then.
@@ -226,7 +258,9 @@ impl<M: Machine> Batching<M> {
     fn take(&mut self, heard: Result<Heard, SocketFault>)
         ensures { HearsBatched M.hears self.old heard self.new }
     {
+        let quiet = heard.is_err();
         self.machine.hear(heard);
+        self.quiet = quiet;
     }
 
     /// So is what the clock tells. It never goes back.

@@ -17,6 +17,7 @@ returns g c =
       since = inside.since;
       time = inside.time;
       behind = inside.behind.items;
+      quiet = inside.quiet;
     } in
     let G : Batched g.row.M.Denot → Type 0 = λ b. g.M.Machine.gives b.machine wanted mid in
     IfOk-weaker c.answer.result (λ next. Answers wanted b next new) (λ next. Asks g.M.Machine.gives old next new)

@@ -13,6 +13,7 @@ returns g c =
       since = inside.since;
       time = time;
       behind = inside.behind.items;
+      quiet = inside.quiet;
     } in
     let F : Batched g.row.M.Denot → Batched g.row.M.Denot = λ b. record b { machine = c.read.new.self; time = max b.time c.args.ms } in
     (c.read.new.self, subst R c.self.view_is c.read.ensures, ap T c.max-self-inside.ensures ∙ ap F c.self.view_is)
