@@ -1,0 +1,9 @@
+pub mod HoleLemmas
+pub mod TallyLemmas
+pub mod EachLemmas
+pub mod AskedLemmas
+pub mod RowLemmas
+pub mod CourseLemmas
+pub mod TableLemmas
+pub mod AnswerLemmas
+pub mod WholeLemmas

@@ -1,0 +1,59 @@
+-- What is counted of an archive, part by part.
+use Rattle.std.specs.Prelude.{◌≡◌, ◌==◌, not, ℕ, Bool, List, [], ◌++◌, None, Option, map, unwrap_or}
+use Rattle.std.specs.List.{AllZip, filter, find, list_any}
+use Rattle.sqlite_trees.specs.Tree.{Trees}
+use Rattle.bac_check3.specs.Joins.{AreJoined}
+use Rattle.bac_check3.specs.Rows.{CountsCourse}
+use Rattle.bac_check3.specs.Tables.{AreBegun, AreDevices, AreLogs}
+use Rattle.bac_check3.specs.declared.counts.Counts.{Counts}
+use Rattle.bac_check3.specs.declared.course.Course.{Course}
+use Rattle.bac_check3.specs.declared.tables.Beginning.{Beginning}
+
+-- nothing is counted yet
+abbrev pub IsEmpty : Counts → Type 0
+IsEmpty counts = (counts.devices.items ≡ []) × (counts.logs.items ≡ []) × (counts.courses.items ≡ [])
+
+-- an epoch that has begun, of which nothing is counted yet
+abbrev pub course_of : Beginning → Course
+course_of begun = record { begun = begun; tally = None }
+
+-- the beginning with this id, if it is among these
+abbrev pub begun_in : List Beginning → ℕ → Option Beginning
+begun_in all id = find (λ begun. begun.id == id) all
+
+-- a beginning as these have it, of which it may be one: that of a count is lowered with the first records
+abbrev pub updated : List Beginning → Beginning → Beginning
+updated all begun = unwrap_or (begun_in all begun.id) begun
+
+-- so an epoch is
+abbrev pub updated_by : List Beginning → Course → Course
+updated_by all course = record { begun = updated all course.begun; tally = course.tally }
+
+-- an epoch has this id
+abbrev pub has_id : ℕ → Course → Bool
+has_id id course = course.begun.id == id
+
+-- an epoch isn't among those that were counted
+abbrev pub is_unknown : List Course → Beginning → Bool
+is_unknown courses begun = not (list_any (has_id begun.id) courses)
+
+-- the epochs that were counted, as a part with these beginnings has them, and those that it has new
+abbrev pub with_begun : List Course → List Beginning → List Course
+with_begun courses begun = map (updated_by begun) courses ++ map course_of (filter (is_unknown courses) begun)
+
+-- The rows of one more part are counted.
+pub record CountsRows (part : Trees) (old new : Counts) : Type 0 where
+  pub devices : AreDevices part new.devices.items
+  pub logs : AreLogs part new.logs.items
+  pub begun : List Beginning
+  pub beginnings : AreBegun part begun
+  pub counted : AllZip (CountsCourse part) (with_begun old.courses.items begun) new.courses.items
+
+-- The same, and whether its logs go on where what was counted of them ends.
+pub record CountsPart (part : Trees) (old new : Counts) (joined : Bool) : Type 0 where
+  pub joins : AreJoined (part 5) old.courses.items joined
+  pub rows : CountsRows part old new
+
+-- what an archive keeps is counted
+abbrev pub IsCountOf : Trees → Counts → Type 0
+IsCountOf archive counts = (none : Counts) × IsEmpty none × CountsRows archive none counts

@@ -1,0 +1,10 @@
+pub mod Holes
+pub mod Tallies
+pub mod Tables
+pub mod Rows
+pub mod Uncounts
+pub mod Joins
+pub mod Counted
+pub mod Lines
+pub mod Checked
+pub mod Whole
