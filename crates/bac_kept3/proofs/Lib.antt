@@ -1,0 +1,6 @@
+pub mod ItemsLemmas
+pub mod RowsLemmas
+pub mod PartsLemmas
+pub mod ShownLemmas
+pub mod RisingLemmas
+pub mod BeginningsLemmas

@@ -1,0 +1,11 @@
+pub mod Words
+pub mod Shown
+pub mod Known
+pub mod Heads
+pub mod Seen
+pub mod Lines
+pub mod Csv
+pub mod Items
+pub mod Parts
+pub mod Faults
+pub mod Laws
