@@ -1,0 +1,5 @@
+pub mod ArchiveLemmas
+pub mod FileLemmas
+pub mod BegunLemmas
+pub mod VisitLemmas
+pub mod WaitLemmas

@@ -1,0 +1,6 @@
+pub mod Faults
+pub mod Archives
+pub mod Works
+pub mod Begun
+pub mod Visits
+pub mod Waiting
