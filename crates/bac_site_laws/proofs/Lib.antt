@@ -1,0 +1,11 @@
+mod Fine
+mod Standing
+mod TurnRows
+mod RowsOn
+mod Has
+mod StepsOf
+mod LogRows
+mod OwnSteps
+mod OwnRows
+mod Tracks
+mod BatchedTracks

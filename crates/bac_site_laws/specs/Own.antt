@@ -1,0 +1,94 @@
+-- What the poll of a device keeps of the log that is polled. Read `KeepsTurns`, then `NumbersOnce`.
+use Rattle.std.specs.Prelude.{◌≡◌, ◌≢◌, ℕ, ◌==◌, ◌||◌, Bool, true, false, List, [], ◌∷◌, ◌++◌, filter, map, position}
+use Rattle.std.specs.Prelude.{Option, None, Some}
+use Rattle.bac_wire.specs.Primitive.{Id}
+use Rattle.bac_archive3.specs.declared.row.Put.{Put}
+use Rattle.bac_desks.specs.Chain.{Chain}
+use Rattle.bac_drive.specs.declared.machine.Next.{Next}
+use Rattle.bac_drive.specs.declared.machine.Next.TheVariants as next
+use Rattle.bac_poll.specs.State.{PollState}
+use Rattle.bac_poll_laws.specs.Laws.{IsStanding, Whichever}
+use Rattle.bac_device_poll.specs.State.{LogAs as TaskAs}
+use Rattle.bac_device_poll.specs.declared.stage.Stage.TheVariants as stage
+use Rattle.bac_device_poll.specs.declared.task.Polled.{Polled}
+use Rattle.bac_device_poller.specs.Entries.{is_log, log_in, logs_beside}
+use Rattle.bac_device_poller.specs.Poller.{PollerAs}
+use Rattle.bac_device_poller.specs.Puts.{PlaceAs, PutAs, put_as}
+use Rattle.bac_device_poller.specs.Rows.{LogAs}
+use Rattle.bac_site_poller.specs.SiteLaws.{Answered, Missed, Own, OwnStep, Wanted}
+use Rattle.bac_site_laws.specs.Rows.{GoOn, IsNumbered, Stand}
+use Rattle.bac_site_laws.specs.Steps.{AreAsked, Step, rows_by}
+
+-- ---- what is kept
+
+-- a record or a gap of a log, or the beginning of an epoch
+abbrev pub is_of_log : PutAs → Bool
+is_of_log put = put.tree == 5 || put.tree == 6
+
+-- those among what is put
+abbrev pub rows_in : List PutAs → List PutAs
+rows_in puts = filter is_of_log puts
+
+-- those of what is wanted
+abbrev pub wanted_rows : Next → List PutAs
+wanted_rows (next.Keep puts) = rows_in (map put_as puts.items)
+wanted_rows other = []
+
+-- those that the steps of a device's poll keep, in their order
+abbrev pub kept_of : List Own → List PutAs
+kept_of [] = []
+kept_of (Wanted ids wanted ∷ own) = wanted_rows wanted ++ kept_of own
+kept_of (Answered from datagram now ∷ own) = kept_of own
+kept_of (Missed ∷ own) = kept_of own
+
+-- ---- a log that is polled
+
+-- none of these rows is of this log
+abbrev pub HasNone : Id → List LogAs → Type 0
+HasNone log [] = Unit {0}
+HasNone log (l ∷ logs) = (is_log log l ≡ false) × HasNone log logs
+
+-- a device has a row of this log, and only one
+pub record IsOnRecord (log : Id) (place : Option PlaceAs) (logs : List LogAs) : Type 0 where
+  pub row : LogAs
+  pub found : log_in log logs ≡ Some row
+  pub stands : row.place ≡ place
+  pub once : HasNone log (logs_beside (position (is_log log) logs) logs)
+
+-- none of these logs that wait is this one
+abbrev pub WaitsNot : Id → List TaskAs → Type 0
+WaitsNot log [] = Unit {0}
+WaitsNot log (task ∷ tasks) = (task.log ≢ log) × WaitsNot log tasks
+
+-- A device's poll is at a log, whose poll stands so, and its rows there.
+pub record IsAtLog (log : Id) (place : Option PlaceAs) (q : PollState) (p : PollerAs) : Type 0 where
+  pub stage : p.poll.stage ≡ stage.Log
+  pub polled : p.poll.polled ≡ Some (record { log = log; poll = q })
+  pub waits : WaitsNot log p.poll.logs
+  pub record_of : IsOnRecord log place p.rows.logs
+  pub empty : p.rows.puts ≡ []
+
+-- this log is polled
+abbrev pub IsPolled : Id → PollerAs → Type 0
+IsPolled log p = (q : PollState) × (p.poll.stage ≡ stage.Log) × (p.poll.polled ≡ Some (record { log = log; poll = q }))
+
+-- what happens to the poll of a device while this log is polled
+abbrev pub OwnStepAt : Id → PollerAs → Own → PollerAs → Type 0
+OwnStepAt log p own new = IsPolled log p × OwnStep p own new
+
+-- ---- the laws
+
+-- What a device's poll keeps while a log is polled is the rows of that log's own turns, one after the other, from where
+-- it stands: whatever happens, and whatever else is put beside them.
+abbrev pub KeepsTurns : Type 0
+KeepsTurns =
+    (log : Id) (place : PlaceAs) (q : PollState) (p new : PollerAs) (own : List Own) →
+    IsAtLog log (Some place) q p → Chain (OwnStepAt log) p own new →
+    (steps : List Step) × AreAsked q steps × (kept_of own ≡ rows_by place.log place.epoch q steps)
+
+-- So its rows go on, from where it stands: each number comes once.
+abbrev pub NumbersOnce : Type 0
+NumbersOnce =
+    (log : Id) (place : PlaceAs) (q : PollState) (p new : PollerAs) (own : List Own) →
+    IsAtLog log (Some place) q p → IsStanding IsNumbered Whichever q → Chain (OwnStepAt log) p own new →
+    (t : Stand) × GoOn IsNumbered Whichever place.log (record { epoch = place.epoch; next = q.next }) (kept_of own) t
