@@ -9,3 +9,4 @@ mod OwnSteps
 mod OwnRows
 mod Tracks
 mod BatchedTracks
+mod Logged

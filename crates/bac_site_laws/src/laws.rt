@@ -1,7 +1,7 @@
 //! Laws of the rows of trend logs that a site's polls put. Each function does nothing: what it
 //! ensures is the law.
 
-ghost use Rattle.bac_site_laws.specs.Laws.{GapsAreTold, RowsGoOn};
+ghost use Rattle.bac_site_laws.specs.Laws.{GapsAreTold, RowsAreLogged, RowsGoOn};
 ghost use Rattle.bac_site_laws.specs.Own.{KeepsTurns, NumbersOnce};
 ghost use Rattle.bac_site_laws.specs.Tracks.{BatchedRowsAreOwn, RowsAreOwn};
 
@@ -22,6 +22,14 @@ pub fn rows_go_on()
 /// doubtful ends where a reply said that nothing stands before it.
 pub fn gaps_are_told()
     ensures { GapsAreTold }
+{
+    each_shown_once();
+}
+
+/// Where a device shows what its log holds, each row is an entry of the log, under its number, and
+/// none comes twice; and a gap that isn't marked as doubtful lies over what was gone.
+pub fn rows_are_logged()
+    ensures { RowsAreLogged }
 {
     each_shown_once();
 }
