@@ -1,19 +1,39 @@
 -- What a device's poll keeps while a log is polled is the rows of that log's own turns.
-use Rattle.std.proofs.Common.{◌≡◌, ◌∙◌, ◌⊎◌, inl, inr, ℕ, List, [], ◌∷◌, ◌++◌, append-nil, map, Option, None, Some, refl, sym, ap, subst}
+use Rattle.std.proofs.Common.{◌≡◌, ◌∙◌, ◌⊎◌, inl, inr, ℕ, nat_le, nat_lt, Bool, true, false, if◌then◌else◌, List, [], ◌∷◌, ◌++◌, Option, None, Some}
+use Rattle.std.proofs.Common.{refl, sym, ap, subst}
 use Rattle.bac_wire.specs.Primitive.{Id}
 use Rattle.bac_desks.specs.Chain.{Chain}
 use Rattle.bac_poll.specs.State.{PollState}
 use Rattle.bac_poll.specs.Turns.{Turned}
 use Rattle.bac_poll_steps.specs.declared.turn.PollEnd.{PollEnd}
 use Rattle.bac_poll_laws.specs.Laws.{EachShownOnce, IsStanding, Whichever}
-use Rattle.bac_device_poller.specs.Poller.{PollerAs}
+use Rattle.bac_archive3.specs.declared.row.Put.{Put}
+use Rattle.bac_link.specs.Transactions.{closed}
+use Rattle.bac_link.specs.declared.transactions.Pending.{Pending}
+use Rattle.bac_walk.specs.declared.outcome.WalkFault.TheVariants as walk
+use Rattle.bac_drive.specs.declared.machine.Next.{Next}
+use Rattle.bac_drive.specs.declared.machine.Next.TheVariants as next
+use Rattle.bac_poll_steps.specs.declared.turn.PollEnd.TheVariants.{Fault}
+use Rattle.bac_device_poll.specs.Logs.{after_end}
+use Rattle.bac_device_poll.specs.Poll.{asked_of_device}
+use Rattle.bac_device_poll.specs.Turns.{Turned as DeviceTurned}
+use Rattle.bac_device_poll.specs.declared.question.Question.{Question}
+use Rattle.bac_device_poll.specs.declared.question.Question.TheVariants.{Confirmed, Nothing, WhoIs}
+use Rattle.bac_device_poll.specs.declared.turn.DeviceEnd.{DeviceEnd}
+use Rattle.bac_device_poller.specs.Poller.{AsksNext, PollerAs, Settles, TellsNext, doing_behind, doing_with, is_answer, is_none_told}
+use Rattle.bac_device_poller.specs.Poller.{lost_of, missed, seeks, without_answer}
+use Rattle.bac_device_poller.specs.Telling.{LineAs}
+use Rattle.bac_device_poller.specs.declared.doing.Doing.{Doing}
+use Rattle.bac_device_poller.specs.declared.doing.Doing.TheVariants as doing
+use Rattle.bac_site_poller.specs.Seat.{Wants, lent}
 use Rattle.bac_device_poller.specs.Puts.{PlaceAs, PutAs}
 use Rattle.bac_device_poller.specs.Turns.{IsPlaced}
 use Rattle.bac_site_poller.specs.SiteLaws.{Answered, Missed, Own, OwnStep, Wanted}
-use Rattle.bac_site_laws.specs.Own.{IsAtLog, IsPolled, KeepsTurns, NumbersOnce, OwnStepAt, kept_of}
+use Rattle.bac_site_laws.specs.Own.{AreOf, IsAtLog, IsOf, IsOneAmong, IsPolled, KeepsTurns, NumbersOnce, OwnStepAt, answers_of}
+use Rattle.bac_site_laws.specs.Own.{heard_of, kept_of}
 use Rattle.bac_site_laws.specs.Rows.{GoOn, IsNumbered, Stand}
-use Rattle.bac_site_laws.specs.Steps.{AreAsked, IsAskedBy, Step, after_step, put_of, rows_by}
-use Rattle.bac_site_laws.proofs.OwnSteps.{HasNoTurn, HasTurn, own_went, step_rows}
+use Rattle.bac_site_laws.specs.Steps.{AreAsked, Ended, IsAskedBy, Step, after_step, put_of, rows_by}
+use Rattle.bac_site_laws.proofs.OwnSteps.{ComesBy, HasNoTurn, HasTurn, own_went, step_rows}
 use Rattle.bac_site_laws.proofs.RowsOn.{any_steps, numbered, rows_on}
 
 -- the rows of turns of a log with a place; of one without nothing is kept
@@ -21,33 +41,61 @@ abbrev pub rows_at : Option PlaceAs → PollState → List Step → List PutAs
 rows_at None q steps = []
 rows_at (Some place) q steps = rows_by place.log place.epoch q steps
 
--- what is kept is the rows of such turns
-abbrev pub AreKept : Option PlaceAs → PollState → List PutAs → Type 0
-AreKept o q rows = (steps : List Step) × AreAsked q steps × (rows ≡ rows_at o q steps)
+-- what is kept is the rows of such turns, by these answers
+abbrev pub AreKept : List (List ℕ) → Option PlaceAs → PollState → List PutAs → Type 0
+AreKept answers o q rows = (steps : List Step) × AreAsked q steps × AreOf answers q steps × (rows ≡ rows_at o q steps)
 
-none_kept : (o : Option PlaceAs) (q : PollState) (rows : List PutAs) → rows ≡ [] → AreKept o q rows
-none_kept None q rows none = ([], tt, none)
-none_kept (Some place) q rows none = ([], tt, none)
+-- of these answers none is lacking among those
+abbrev pub IsWithin : List (List ℕ) → List (List ℕ) → Type 0
+IsWithin some all = (datagram : List ℕ) → IsOneAmong some datagram → IsOneAmong all datagram
+
+-- a step is by one of these answers, or its question was lost
+abbrev pub IsFrom : List (List ℕ) → PollState → Step → Type 0
+IsFrom answers q step = ((datagram : List ℕ) × IsOneAmong answers datagram × IsOf q datagram step) ⊎ (step ≡ Ended (Fault walk.Lost))
+
+from_more : (some all : List (List ℕ)) (q : PollState) (step : Step) → IsWithin some all → IsFrom some q step → IsFrom all q step
+from_more some all q step within (inl (datagram, one, is)) = inl (datagram, within datagram one, is)
+from_more some all q step within (inr lost) = inr lost
+
+of_more : (some all : List (List ℕ)) (q : PollState) (steps : List Step) → IsWithin some all → AreOf some q steps → AreOf all q steps
+of_more some all q [] within are = tt
+of_more some all q (step ∷ steps) within are =
+    (from_more some all q step within are.0, of_more some all (after_step q step).poll steps within are.1)
+
+within_left : (xs ys : List (List ℕ)) → IsWithin xs (xs ++ ys)
+within_left [] ys datagram is = elim is [ ]
+within_left (x ∷ xs) ys datagram (inl same) = inl same
+within_left (x ∷ xs) ys datagram (inr rest) = inr (within_left xs ys datagram rest)
+
+within_right : (xs ys : List (List ℕ)) → IsWithin ys (xs ++ ys)
+within_right [] ys datagram is = is
+within_right (x ∷ xs) ys datagram is = inr (within_right xs ys datagram is)
+
+none_kept : (answers : List (List ℕ)) (o : Option PlaceAs) (q : PollState) (rows : List PutAs) → rows ≡ [] → AreKept answers o q rows
+none_kept answers None q rows none = ([], tt, tt, none)
+none_kept answers (Some place) q rows none = ([], tt, tt, none)
 
 kept_cons : (log : Id) (own : Own) (more : List Own) → kept_of (own ∷ more) ≡ step_rows log own ++ kept_of more
 kept_cons log (Wanted ids wanted) more = refl
 kept_cons log (Answered from datagram now) more = refl
 kept_cons log Missed more = refl
 
--- one turn, and those behind it
+-- ---- one turn, and those behind it
+
 asked_more : (q : PollState) (step : Step) (steps : List Step) → AreAsked (after_step q step).poll steps → (after_step q step).end ≡ None →
     IsAskedBy q step → AreAsked q (step ∷ steps)
 asked_more q step [] are none is = is
 asked_more q step (next ∷ steps) are none is = (is, none, are)
 
-turn_more : (o : Option PlaceAs) (q : PollState) (step : Step) (behind : Option PlaceAs) (rows more : List PutAs) → IsAskedBy q step →
-    IsPlaced o (after_step q step) behind rows → (after_step q step).end ≡ None → AreKept behind (after_step q step).poll more → AreKept o q (rows ++ more)
-turn_more None q step behind rows more is placed none (steps, are, same) =
+turn_more : (answers : List (List ℕ)) (o : Option PlaceAs) (q : PollState) (step : Step) (behind : Option PlaceAs) (rows more : List PutAs) → IsAskedBy q step →
+    IsFrom answers q step → IsPlaced o (after_step q step) behind rows → (after_step q step).end ≡ None → AreKept answers behind (after_step q step).poll more →
+    AreKept answers o q (rows ++ more)
+turn_more answers None q step behind rows more is from placed none (steps, are, of, same) =
     let X : Option PlaceAs → Type 0 = λ x. more ≡ rows_at x (after_step q step).poll steps in
-    ([], tt, ap (λ (l : List PutAs). l ++ more) placed.1 ∙ subst X placed.0 same)
-turn_more (Some place) q step None rows more is placed none (steps, are, same) =
-    ([], tt, ap (λ (l : List PutAs). l ++ more) placed ∙ same)
-turn_more (Some place) q step (Some behind) rows more is placed none (steps, are, same) =
+    ([], tt, tt, ap (λ (l : List PutAs). l ++ more) placed.1 ∙ subst X placed.0 same)
+turn_more answers (Some place) q step None rows more is from placed none (steps, are, of, same) =
+    ([], tt, tt, ap (λ (l : List PutAs). l ++ more) placed ∙ same)
+turn_more answers (Some place) q step (Some behind) rows more is from placed none (steps, are, of, same) =
     let t : Turned = after_step q step in
     let X : ℕ → Type 0 = λ n. more ≡ rows_by n behind.epoch t.poll steps in
     let Y : ℕ → Type 0 = λ n. more ≡ rows_by place.log n t.poll steps in
@@ -55,21 +103,142 @@ turn_more (Some place) q step (Some behind) rows more is placed none (steps, are
     (
       step ∷ steps,
       asked_more q step steps are none is,
+      (from, of),
       ap (λ (l : List PutAs). l ++ more) placed.0 ∙ ap (λ (l : List PutAs). (put_of place.log place.epoch t).puts ++ l) (subst Y epoch (subst X placed.2 same)),
     )
 
 -- a turn that ends the poll is the last
-turn_last : (o : Option PlaceAs) (q : PollState) (step : Step) (behind : Option PlaceAs) (rows more : List PutAs) → IsAskedBy q step →
-    IsPlaced o (after_step q step) behind rows → more ≡ [] → AreKept o q (rows ++ more)
-turn_last None q step behind rows more is placed none = ([], tt, ap (λ (l : List PutAs). l ++ more) placed.1 ∙ none)
-turn_last (Some place) q step None rows more is placed none = ([], tt, ap (λ (l : List PutAs). l ++ more) placed ∙ none)
-turn_last (Some place) q step (Some behind) rows more is placed none =
+turn_last : (answers : List (List ℕ)) (o : Option PlaceAs) (q : PollState) (step : Step) (behind : Option PlaceAs) (rows more : List PutAs) → IsAskedBy q step →
+    IsFrom answers q step → IsPlaced o (after_step q step) behind rows → more ≡ [] → AreKept answers o q (rows ++ more)
+turn_last answers None q step behind rows more is from placed none = ([], tt, tt, ap (λ (l : List PutAs). l ++ more) placed.1 ∙ none)
+turn_last answers (Some place) q step None rows more is from placed none = ([], tt, tt, ap (λ (l : List PutAs). l ++ more) placed ∙ none)
+turn_last answers (Some place) q step (Some behind) rows more is from placed none =
     let t : Turned = after_step q step in
     (
       step ∷ [],
       is,
+      (from, tt),
       ap (λ (l : List PutAs). l ++ more) placed.0 ∙ ap (λ (l : List PutAs). (put_of place.log place.epoch t).puts ++ l) none,
     )
+
+-- ---- what is heard
+
+-- nothing is
+IsQuiet : PollerAs → Type 0
+IsQuiet p = heard_of p.doing ≡ []
+
+with_quiet : (end : Option DeviceEnd) (b : Bool) → heard_of (doing_with end b) ≡ []
+with_quiet None true = refl
+with_quiet (Some why) true = refl
+with_quiet end false = refl
+
+settled_quiet : (t : DeviceTurned) (p : PollerAs) (puts : List Put) (new : PollerAs) → Settles t p puts new → IsQuiet new
+unfolding IsQuiet
+settled_quiet t p puts new (mid, takes, (rows, is)) = ap (λ (x : PollerAs). heard_of x.doing) is ∙ with_quiet _ _
+
+-- the same of one that is as another
+same_quiet : (p x : PollerAs) → p ≡ x → heard_of x.doing ≡ [] → IsQuiet p
+unfolding IsQuiet
+same_quiet p x is quiet = ap (λ (y : PollerAs). heard_of y.doing) is ∙ quiet
+
+asks_quiet : (k : Question) (p : PollerAs) (wanted : Next) (new : PollerAs) → AsksNext k p wanted new → IsQuiet new
+asks_quiet (Confirmed request) p (next.Send octets to) new gives = same_quiet new _ gives.2 refl
+asks_quiet WhoIs p (next.Send octets to) new gives = same_quiet new _ gives.2 refl
+asks_quiet Nothing p (next.Keep puts) new gives = settled_quiet (after_end p.poll) p puts.items new gives
+asks_quiet (Confirmed request) p (next.Wait most) new gives = absurd gives
+asks_quiet (Confirmed request) p next.Read new gives = absurd gives
+asks_quiet (Confirmed request) p (next.Keep puts) new gives = absurd gives
+asks_quiet (Confirmed request) p (next.Print text) new gives = absurd gives
+asks_quiet (Confirmed request) p (next.Warn text) new gives = absurd gives
+asks_quiet (Confirmed request) p next.End new gives = absurd gives
+asks_quiet WhoIs p (next.Wait most) new gives = absurd gives
+asks_quiet WhoIs p next.Read new gives = absurd gives
+asks_quiet WhoIs p (next.Keep puts) new gives = absurd gives
+asks_quiet WhoIs p (next.Print text) new gives = absurd gives
+asks_quiet WhoIs p (next.Warn text) new gives = absurd gives
+asks_quiet WhoIs p next.End new gives = absurd gives
+asks_quiet Nothing p (next.Send octets to) new gives = absurd gives
+asks_quiet Nothing p (next.Wait most) new gives = absurd gives
+asks_quiet Nothing p next.Read new gives = absurd gives
+asks_quiet Nothing p (next.Print text) new gives = absurd gives
+asks_quiet Nothing p (next.Warn text) new gives = absurd gives
+asks_quiet Nothing p next.End new gives = absurd gives
+
+tells_quiet : (lines : List LineAs) (end : Option DeviceEnd) (p : PollerAs) (wanted : Next) (new : PollerAs) → TellsNext lines end p wanted new → IsQuiet new
+tells_quiet (line ∷ lines) end p wanted new tells = same_quiet new _ tells.1 (with_quiet end (is_none_told lines))
+tells_quiet [] end p wanted new tells = same_quiet new _ tells.1 (behind_quiet end)
+  where
+    behind_quiet : (end : Option DeviceEnd) → heard_of (doing_behind end) ≡ []
+    behind_quiet None = refl
+    behind_quiet (Some why) = refl
+
+gives_quiet : (what : Doing) (p : PollerAs) (wanted : Next) (new : PollerAs) → p.doing ≡ what → Wants what p wanted new → IsQuiet new
+gives_quiet (doing.Ended why) p wanted new at gives = same_quiet new p gives.1 (ap heard_of at)
+gives_quiet doing.Asks p wanted new at gives = asks_quiet (asked_of_device p.poll) p wanted new gives
+gives_quiet (doing.Resends datagram) p (next.Send octets to) new at gives = same_quiet new _ gives.2 refl
+gives_quiet doing.Waits p wanted new at gives = same_quiet new p gives.1 (ap heard_of at)
+gives_quiet (doing.Hears came) p (next.Keep puts) new at (t, comes, settles) = settled_quiet t p puts.items new settles
+gives_quiet doing.Loses p (next.Keep puts) new at settles = settled_quiet (lost_of p) p puts.items new settles
+gives_quiet (doing.Tells end) p wanted new at gives = tells_quiet p.rows.lines end p wanted new gives
+gives_quiet (doing.Resends datagram) p (next.Wait most) new at gives = absurd gives
+gives_quiet (doing.Resends datagram) p next.Read new at gives = absurd gives
+gives_quiet (doing.Resends datagram) p (next.Keep puts) new at gives = absurd gives
+gives_quiet (doing.Resends datagram) p (next.Print text) new at gives = absurd gives
+gives_quiet (doing.Resends datagram) p (next.Warn text) new at gives = absurd gives
+gives_quiet (doing.Resends datagram) p next.End new at gives = absurd gives
+gives_quiet (doing.Hears came) p (next.Send octets to) new at gives = absurd gives
+gives_quiet (doing.Hears came) p (next.Wait most) new at gives = absurd gives
+gives_quiet (doing.Hears came) p next.Read new at gives = absurd gives
+gives_quiet (doing.Hears came) p (next.Print text) new at gives = absurd gives
+gives_quiet (doing.Hears came) p (next.Warn text) new at gives = absurd gives
+gives_quiet (doing.Hears came) p next.End new at gives = absurd gives
+gives_quiet doing.Loses p (next.Send octets to) new at gives = absurd gives
+gives_quiet doing.Loses p (next.Wait most) new at gives = absurd gives
+gives_quiet doing.Loses p next.Read new at gives = absurd gives
+gives_quiet doing.Loses p (next.Print text) new at gives = absurd gives
+gives_quiet doing.Loses p (next.Warn text) new at gives = absurd gives
+gives_quiet doing.Loses p next.End new at gives = absurd gives
+
+quiet_if : (b : Bool) (x y : PollerAs) → IsQuiet x → IsQuiet y → IsQuiet (if b then x else y)
+quiet_if true x y f g = f
+quiet_if false x y f g = g
+
+quiet_at : (p : PollerAs) → heard_of p.doing ≡ [] → IsQuiet p
+unfolding IsQuiet
+quiet_at p is = is
+
+without_quiet : (p : PollerAs) (o : Option Pending) → IsQuiet (without_answer p o)
+without_quiet p None = quiet_at (without_answer p None) refl
+without_quiet p (Some request) = quiet_if (nat_le p.transactions.retries request.repeats) _ _ (quiet_at _ refl) (quiet_at _ refl)
+
+missed_quiet : (p : PollerAs) → IsQuiet (missed p)
+missed_quiet p =
+    quiet_if (seeks p) _ _ (quiet_if (nat_lt p.sought p.retries) _ _ (quiet_at _ refl) (quiet_at _ refl))
+    (quiet_if p.poll.doubt _ _ (quiet_at _ refl) (without_quiet p p.transactions.pending))
+
+-- what is heard of a device, and comes behind that
+all_of : PollerAs → List Own → List (List ℕ)
+all_of p own = heard_of p.doing ++ answers_of own
+
+quiet_within : (p mid : PollerAs) (answers : List (List ℕ)) → IsQuiet mid → IsWithin (heard_of mid.doing ++ answers) (heard_of p.doing ++ answers)
+unfolding IsQuiet
+quiet_within p mid answers quiet =
+    let X : List (List ℕ) → Type 0 = λ l. IsWithin (l ++ answers) (heard_of p.doing ++ answers) in
+    subst X (sym quiet) (within_right (heard_of p.doing) answers)
+
+step_within : (p : PollerAs) (own : Own) (mid : PollerAs) (more : List Own) → OwnStep p own mid → IsWithin (all_of mid more) (all_of p (own ∷ more))
+unfolding all_of
+step_within p (Wanted ids wanted) mid more gives = quiet_within p mid (answers_of more) (gives_quiet p.doing (lent ids p) wanted mid refl gives)
+step_within p Missed mid more is =
+    let Q : PollerAs → Type 0 = λ x. IsQuiet x in quiet_within p mid (answers_of more) (subst Q (sym is) (missed_quiet p))
+step_within p (Answered from datagram now) mid more (fits, is) =
+    let doing_is : heard_of mid.doing ≡ datagram ∷ [] = ap (λ (x : PollerAs). heard_of x.doing) is ∙ by (is_answer p from datagram) fits in
+    let X : List (List ℕ) → Type 0 = λ l. IsWithin (l ++ answers_of more) (heard_of p.doing ++ (datagram ∷ answers_of more)) in
+    subst X (sym doing_is) (within_right (heard_of p.doing) (datagram ∷ answers_of more))
+  where
+    by : (b : Bool) → b ≡ true → heard_of (if b then record p { transactions = closed p.transactions; doing = doing.Hears (record { from = from; datagram = datagram; at = now }); rows = record p.rows { answered = Some now } } else p).doing ≡ datagram ∷ []
+    by true is = refl
+    by false is = absurd (cc)
 
 module _ (log : Id) where
   -- nothing is kept of a log that isn't polled
@@ -77,36 +246,56 @@ module _ (log : Id) where
   over_none [] p new not chain = refl
   over_none (own ∷ more) p new not (mid, (polled, is), chain) = absurd (not polled)
 
+  comes_from : (what : Doing) (q : PollState) (step : Step) → ComesBy log what q step → IsFrom (heard_of what) q step
+  comes_from (doing.Hears came) q step is = inl (came.datagram, inl refl, is)
+  comes_from doing.Loses q step is = inr is
+  comes_from doing.Asks q step is = absurd is
+  comes_from (doing.Resends datagram) q step is = absurd is
+  comes_from doing.Waits q step is = absurd is
+  comes_from (doing.Tells end) q step is = absurd is
+  comes_from (doing.Ended why) q step is = absurd is
+
   -- behind one step, by what is kept behind it
-  one_more : (own : Own) (p mid : PollerAs) (o : Option PlaceAs) (q : PollState) (more : List PutAs) → IsAtLog log o q p → OwnStep p own mid →
-      ((o2 : Option PlaceAs) (q2 : PollState) → IsAtLog log o2 q2 mid → AreKept o2 q2 more) → ((IsPolled log mid → ⊥) → more ≡ []) →
-      AreKept o q (step_rows log own ++ more)
-  one_more own p mid o q more at is rest over = by (own_went log o q p own mid at is)
+  one_more : (own : Own) (p mid : PollerAs) (o : Option PlaceAs) (q : PollState) (answers : List (List ℕ)) (more : List PutAs) → IsAtLog log o q p → OwnStep p own mid →
+      IsWithin (heard_of p.doing) answers →
+      ((o2 : Option PlaceAs) (q2 : PollState) → IsAtLog log o2 q2 mid → AreKept answers o2 q2 more) → ((IsPolled log mid → ⊥) → more ≡ []) →
+      AreKept answers o q (step_rows log own ++ more)
+  one_more own p mid o q answers more at is heard rest over = by (own_went log o q p own mid at is)
     where
-      ends : (t : HasTurn log o q (step_rows log own) mid) (e : Option PollEnd) → (after_step q t.step).end ≡ e → AreKept o q (step_rows log own ++ more)
+      ends : (t : HasTurn log p.doing o q (step_rows log own) mid) (e : Option PollEnd) → (after_step q t.step).end ≡ e → AreKept answers o q (step_rows log own ++ more)
       ends t None none =
-          turn_more o q t.step t.behind (step_rows log own) more t.asked t.placed none (rest t.behind (after_step q t.step).poll (t.goes none))
+          turn_more answers o q t.step t.behind (step_rows log own) more t.asked
+          (from_more (heard_of p.doing) answers q t.step heard (comes_from p.doing q t.step t.comes)) t.placed none (rest t.behind (after_step q t.step).poll (t.goes none))
       ends t (Some why) some =
-          turn_last o q t.step t.behind (step_rows log own) more t.asked t.placed (over (t.over why some))
-      by : HasNoTurn log o q (step_rows log own) mid ⊎ HasTurn log o q (step_rows log own) mid → AreKept o q (step_rows log own ++ more)
+          turn_last answers o q t.step t.behind (step_rows log own) more t.asked
+          (from_more (heard_of p.doing) answers q t.step heard (comes_from p.doing q t.step t.comes)) t.placed (over (t.over why some))
+      by : HasNoTurn log o q (step_rows log own) mid ⊎ HasTurn log p.doing o q (step_rows log own) mid → AreKept answers o q (step_rows log own ++ more)
       by (inl same) =
-          let Y : List PutAs → Type 0 = λ l. AreKept o q (l ++ more) in
+          let Y : List PutAs → Type 0 = λ l. AreKept answers o q (l ++ more) in
           subst Y (sym same.none) (rest o q same.stays)
       by (inr turn) = ends turn (after_step q turn.step).end refl
 
-  pub own_rows : (own : List Own) (p new : PollerAs) (o : Option PlaceAs) (q : PollState) → IsAtLog log o q p → Chain (OwnStepAt log) p own new → AreKept o q (kept_of own)
-  own_rows [] p new o q at chain = none_kept o q [] refl
+  kept_more : (some all : List (List ℕ)) (o : Option PlaceAs) (q : PollState) (rows : List PutAs) → IsWithin some all → AreKept some o q rows → AreKept all o q rows
+  kept_more some all o q rows within (steps, are, of, same) = (steps, are, of_more some all q steps within of, same)
+
+  pub own_rows : (own : List Own) (p new : PollerAs) (o : Option PlaceAs) (q : PollState) → IsAtLog log o q p → Chain (OwnStepAt log) p own new →
+      AreKept (heard_of p.doing ++ answers_of own) o q (kept_of own)
+  unfolding all_of
+  own_rows [] p new o q at chain = none_kept (heard_of p.doing ++ []) o q [] refl
   own_rows (own ∷ more) p new o q at (mid, (polled, is), chain) =
-      let X : List PutAs → Type 0 = λ l. AreKept o q l in
+      let A = heard_of p.doing ++ answers_of (own ∷ more) in
+      let X : List PutAs → Type 0 = λ l. AreKept A o q l in
       subst X (sym (kept_cons log own more))
-      (one_more own p mid o q (kept_of more) at is (λ o2 q2 there. own_rows more mid new o2 q2 there chain) (λ not. over_none more mid new not chain))
+      (one_more own p mid o q A (kept_of more) at is (within_left (heard_of p.doing) (answers_of (own ∷ more)))
+      (λ o2 q2 there. kept_more (heard_of mid.doing ++ answers_of more) A o2 q2 (kept_of more) (step_within p own mid more is) (own_rows more mid new o2 q2 there chain))
+      (λ not. over_none more mid new not chain))
 
 pub keeps_turns : KeepsTurns
 keeps_turns = λ log place q p new own at chain. own_rows log own p new (Some place) q at chain
 
 pub numbers_once : EachShownOnce → NumbersOnce
 numbers_once law = λ log place q p new own at stands chain.
-    let (steps, are, same) = own_rows log own p new (Some place) q at chain in
+    let (steps, are, of, same) = own_rows log own p new (Some place) q at chain in
     let rows = rows_on IsNumbered Whichever numbered law tt place.log place.epoch q steps stands (any_steps q steps are) in
     let X : List PutAs → Type 0 = λ l. GoOn IsNumbered Whichever place.log (record { epoch = place.epoch; next = q.next }) l rows.0 in
     (rows.0, subst X (sym same) rows.1)

@@ -55,7 +55,7 @@ use Rattle.bac_device_poller.specs.declared.doing.Doing.TheVariants as doing
 use Rattle.bac_site_poller.specs.Seat.{Wants, lent}
 use Rattle.bac_site_poller.specs.SiteLaws.{Answered, Missed, Own, OwnStep, Wanted}
 use Rattle.bac_site_laws.specs.Own.{wanted_rows}
-use Rattle.bac_site_laws.specs.Own.{HasNone, IsAtLog, IsOnRecord, IsPolled, WaitsNot, is_of_log, rows_in}
+use Rattle.bac_site_laws.specs.Own.{HasNone, IsAtLog, IsOf, IsOnRecord, IsPolled, WaitsNot, is_of_log, rows_in}
 use Rattle.bac_site_laws.specs.Steps.{Ended, Fewer, IsAskedBy, Step, after_step}
 use Rattle.bac_site_laws.proofs.Has.{beside_last, found_is, found_last}
 use Rattle.bac_site_laws.proofs.LogRows.{turn_rows}
@@ -180,9 +180,20 @@ module _ (log : Id) where
   -- ---- what one step makes of it
 
   -- its poll had a turn
-  pub record HasTurn (o : Option PlaceAs) (q : PollState) (rows : List PutAs) (new : PollerAs) : Type 0 where
+  -- by what it is at
+  abbrev pub ComesBy : Doing → PollState → Step → Type 0
+  ComesBy (doing.Hears came) q step = IsOf q came.datagram step
+  ComesBy doing.Loses q step = step ≡ Ended (Fault walk.Lost)
+  ComesBy doing.Asks q step = ⊥
+  ComesBy (doing.Resends datagram) q step = ⊥
+  ComesBy doing.Waits q step = ⊥
+  ComesBy (doing.Tells end) q step = ⊥
+  ComesBy (doing.Ended why) q step = ⊥
+
+  pub record HasTurn (what : Doing) (o : Option PlaceAs) (q : PollState) (rows : List PutAs) (new : PollerAs) : Type 0 where
     pub step : Step
     pub asked : IsAskedBy q step
+    pub comes : ComesBy what q step
     pub behind : Option PlaceAs
     pub placed : IsPlaced o (after_step q step) behind rows
     pub goes : (after_step q step).end ≡ None → IsAtLog log behind (after_step q step).poll new
@@ -193,8 +204,8 @@ module _ (log : Id) where
     pub none : rows ≡ []
     pub stays : IsAtLog log o q new
 
-  abbrev pub Went : Option PlaceAs → PollState → List PutAs → PollerAs → Type 0
-  Went o q rows new = HasNoTurn o q rows new ⊎ HasTurn o q rows new
+  abbrev pub Went : Doing → Option PlaceAs → PollState → List PutAs → PollerAs → Type 0
+  Went what o q rows new = HasNoTurn o q rows new ⊎ HasTurn what o q rows new
 
   at_new : (p : PollerAs) (d : DeviceState) (q : PollState) (o : Option PlaceAs) (r : RowsAs) (what : Doing) → WaitsNot log d.logs → IsOnRecord log o r.logs →
       IsAtLog log o q (record p { poll = at_log d (record { log = log; poll = q }); doing = what; rows = record r { puts = [] } })
@@ -224,14 +235,14 @@ module _ (log : Id) where
 
   -- ---- what comes of its question
 
-  module _ (p : PollerAs) (d : DeviceState) (o : Option PlaceAs) (q : PollState) (waits : WaitsNot log d.logs) (on : IsOnRecord log o p.rows.logs) (empty : p.rows.puts ≡ []) where
+  module _ (what : Doing) (p : PollerAs) (d : DeviceState) (o : Option PlaceAs) (q : PollState) (waits : WaitsNot log d.logs) (on : IsOnRecord log o p.rows.logs) (empty : p.rows.puts ≡ []) where
     me : Polled
     me = record { log = log; poll = q }
 
     here : PollerAs
     here = record p { poll = at_log d me }
 
-    busy_went : (puts : List Put) (mid : PollerAs) → Settles (later (at_log d me)) here puts mid → Went o q (rows_in (map put_as puts)) mid
+    busy_went : (puts : List Put) (mid : PollerAs) → Settles (later (at_log d me)) here puts mid → Went what o q (rows_in (map put_as puts)) mid
     unfolding me here
     busy_went puts mid (r, same, (rows, is)) =
         let X : PollerAs → Type 0 = λ x. IsAtLog log o q x in
@@ -245,9 +256,9 @@ module _ (log : Id) where
     fewer_placed None = (refl, refl)
     fewer_placed (Some place) = (refl, refl, refl)
 
-    halved_went : (puts : List Put) (mid : PollerAs) → Settles (halved (answered (at_log d me)) me) here puts mid → Went o q (rows_in (map put_as puts)) mid
+    halved_went : ComesBy what q Fewer → (puts : List Put) (mid : PollerAs) → Settles (halved (answered (at_log d me)) me) here puts mid → Went what o q (rows_in (map put_as puts)) mid
     unfolding me here
-    halved_went puts mid (r, same, (rows, is)) =
+    halved_went comes puts mid (r, same, (rows, is)) =
         let X : PollerAs → Type 0 = λ x. IsAtLog log o (after_too_many q) x in
         let Y : RowsAs → Type 0 = λ x. IsOnRecord log o x.logs in
         let none : rows_in (map put_as puts) ≡ [] = ap rows_in rows ∙ ap (λ (x : RowsAs). rows_in x.puts) same ∙ ap rows_in empty in
@@ -255,6 +266,7 @@ module _ (log : Id) where
         inr (record {
           step = Fewer;
           asked = tt;
+          comes = comes;
           behind = o;
           placed = subst Z (sym none) (fewer_placed o);
           goes = λ end. subst X (sym is) (at_new p (record (answered d) { many = (after_too_many q).walk.count }) (after_too_many q) o r _ waits (subst Y (sym same) on));
@@ -262,10 +274,10 @@ module _ (log : Id) where
         })
 
     -- its poll has this turn
-    turn_by : (e : Option PollEnd) (d2 : DeviceState) (step : Step) (t : LogTurned) (puts : List Put) (mid : PollerAs) → d2.logs ≡ d.logs → IsAskedBy q step →
-        record t { end = e } ≡ after_step q step → Settles (with_log (at_log d2 me) me (record t { end = e })) here puts mid → Went o q (rows_in (map put_as puts)) mid
+    turn_by : (e : Option PollEnd) (d2 : DeviceState) (step : Step) (t : LogTurned) (puts : List Put) (mid : PollerAs) → d2.logs ≡ d.logs → IsAskedBy q step → ComesBy what q step →
+        record t { end = e } ≡ after_step q step → Settles (with_log (at_log d2 me) me (record t { end = e })) here puts mid → Went what o q (rows_in (map put_as puts)) mid
     unfolding me here
-    turn_by None d2 step t puts mid logs asked same (r, takes, (rows, is)) =
+    turn_by None d2 step t puts mid logs asked comes same (r, takes, (rows, is)) =
         let a = taken o p.rows r (record t { end = None }) on empty takes in
         let X : PollerAs → Type 0 = λ x. IsAtLog log a.behind t.poll x in
         let W : List TaskAs → Type 0 = λ x. WaitsNot log x in
@@ -277,12 +289,13 @@ module _ (log : Id) where
         inr (record {
           step = step;
           asked = asked;
+          comes = comes;
           behind = a.behind;
           placed = subst Z all (subst V same a.placed);
           goes = λ end. subst U same (subst X (sym is) (at_new p d2 t.poll a.behind r _ (subst W (sym logs) waits) a.on));
           over = subst N same (λ why end. absurd (cc));
         })
-    turn_by (Some why) d2 step t puts mid logs asked same (r, takes, ended) =
+    turn_by (Some why) d2 step t puts mid logs asked comes same (r, takes, ended) =
         let a = taken o p.rows r (record t { end = Some why }) on empty takes in
         let W : List TaskAs → Type 0 = λ x. WaitsNot log x in
         let V : LogTurned → Type 0 = λ x. IsPlaced o x a.behind a.puts in
@@ -293,6 +306,7 @@ module _ (log : Id) where
         inr (record {
           step = step;
           asked = asked;
+          comes = comes;
           behind = a.behind;
           placed = subst Z all (subst V same a.placed);
           goes = subst U same (λ end. absurd (cc));
@@ -300,11 +314,11 @@ module _ (log : Id) where
         })
 
     -- the device is silent: its log is lost, and none behind it is asked
-    silent_went : (puts : List Put) (mid : PollerAs) →
+    silent_went : ComesBy what q (Ended (Fault walk.Lost)) → (puts : List Put) (mid : PollerAs) →
         Settles (record (leaves (record (at_log d me) { polled = Some me }) [] Silent) { log = Some (ends q (Fault walk.Lost)) }) here puts mid →
-        Went o q (rows_in (map put_as puts)) mid
+        Went what o q (rows_in (map put_as puts)) mid
     unfolding me here
-    silent_went puts mid (r, takes, (rows, is)) =
+    silent_went comes puts mid (r, takes, (rows, is)) =
         let a = taken o p.rows r (ends q (Fault walk.Lost)) on empty takes in
         let told = told_beside d.logs r in
         let s : RowsAs = raising (with_entries r (map not_asked d.logs)) (status_at Silent) in
@@ -314,42 +328,43 @@ module _ (log : Id) where
         inr (record {
           step = Ended (Fault walk.Lost);
           asked = tt;
+          comes = comes;
           behind = a.behind;
           placed = subst Z all a.placed;
           goes = λ end. absurd (cc);
           over = λ reason end. at_end mid (ap (λ (x : PollerAs). x.poll.stage) is);
         })
 
-    lost_went : (puts : List Put) (mid : PollerAs) → Settles (lost (at_log d me) me) here puts mid → Went o q (rows_in (map put_as puts)) mid
+    lost_went : ComesBy what q (Ended (Fault walk.Lost)) → (puts : List Put) (mid : PollerAs) → Settles (lost (at_log d me) me) here puts mid → Went what o q (rows_in (map put_as puts)) mid
     unfolding me
-    lost_went puts mid settles = by d.doubt settles
+    lost_went comes puts mid settles = by d.doubt settles
       where
         by : (b : Bool) → Settles (if b then record (leaves (record (at_log d me) { polled = Some me }) [] Silent) { log = Some (ends q (Fault walk.Lost)) }
-            else with_log (record (at_log d me) { doubt = true }) me (ends q (Fault walk.Lost))) here puts mid → Went o q (rows_in (map put_as puts)) mid
-        by true settles = silent_went puts mid settles
-        by false settles = turn_by (Some (Fault walk.Lost)) (record d { doubt = true }) (Ended (Fault walk.Lost)) (ends q (Fault walk.Lost)) puts mid refl tt refl settles
+            else with_log (record (at_log d me) { doubt = true }) me (ends q (Fault walk.Lost))) here puts mid → Went what o q (rows_in (map put_as puts)) mid
+        by true settles = silent_went comes puts mid settles
+        by false settles = turn_by (Some (Fault walk.Lost)) (record d { doubt = true }) (Ended (Fault walk.Lost)) (ends q (Fault walk.Lost)) puts mid refl tt comes refl settles
 
-    answer_went : (v : Verdict) (datagram : List ℕ) (puts : List Put) (mid : PollerAs) → Settles (after_log (answered (at_log d me)) v datagram) here puts mid →
-        Went o q (rows_in (map put_as puts)) mid
+    answer_went : (v : Verdict) (datagram : List ℕ) → ((step : Step) → ((after_step q step ≡ log_after q v datagram) ⊎ (step ≡ Fewer)) → ComesBy what q step) → (puts : List Put) (mid : PollerAs) → Settles (after_log (answered (at_log d me)) v datagram) here puts mid →
+        Went what o q (rows_in (map put_as puts)) mid
     unfolding me
-    answer_went v datagram puts mid settles = by (is_too_many q v) settles
+    answer_went v datagram comes puts mid settles = by (is_too_many q v) settles
       where
         by : (b : Bool) → Settles (if b then halved (answered (at_log d me)) me else with_log (answered (at_log d me)) me (log_after q v datagram)) here puts mid →
-            Went o q (rows_in (map put_as puts)) mid
-        by true settles = halved_went puts mid settles
+            Went what o q (rows_in (map put_as puts)) mid
+        by true settles = halved_went (comes Fewer (inr refl)) puts mid settles
         by false settles =
             let s = answer_step q v datagram in
-            turn_by (log_after q v datagram).end (answered d) s.step (log_after q v datagram) puts mid refl s.asked s.is settles
+            turn_by (log_after q v datagram).end (answered d) s.step (log_after q v datagram) puts mid refl s.asked (comes s.step (inl (sym s.is))) s.is settles
 
-    came_went : (datagram : List ℕ) (now : CivilTime) (t : Turned) (puts : List Put) (mid : PollerAs) → Takes (at_log d me) datagram now t → Settles t here puts mid →
-        Went o q (rows_in (map put_as puts)) mid
+    came_went : (datagram : List ℕ) (now : CivilTime) (t : Turned) (puts : List Put) (mid : PollerAs) → ((step : Step) → IsOf q datagram step → ComesBy what q step) → Takes (at_log d me) datagram now t → Settles t here puts mid →
+        Went what o q (rows_in (map put_as puts)) mid
     unfolding me
-    came_went datagram now t puts mid takes settles =
+    came_went datagram now t puts mid comes takes settles =
         let v : Verdict = verdict_to (asked_of_device (at_log d me)) (apdu_in datagram) in
         let S : Turned → Type 0 = λ x. Settles x here puts mid in
         matched (is_busy v && nat_lt d.busy d.retries) takes
         (λ is. busy_went puts mid (subst S is settles))
-        (λ is. answer_went v datagram puts mid (subst S is settles))
+        (λ is. answer_went v datagram comes puts mid (subst S is settles))
 
   -- ---- any step
 
@@ -374,9 +389,9 @@ module _ (log : Id) where
         empty = puts ∙ at.empty;
       }
 
-  stay : (o : Option PlaceAs) (q : PollState) (rows : List PutAs) (p x new : PollerAs) → IsAtLog log o q p → rows ≡ [] → new ≡ x → x.poll ≡ p.poll → x.rows.logs ≡ p.rows.logs → x.rows.puts ≡ p.rows.puts →
-      Went o q rows new
-  stay o q rows p x new at none is poll logs puts =
+  stay : (what : Doing) (o : Option PlaceAs) (q : PollState) (rows : List PutAs) (p x new : PollerAs) → IsAtLog log o q p → rows ≡ [] → new ≡ x → x.poll ≡ p.poll → x.rows.logs ≡ p.rows.logs → x.rows.puts ≡ p.rows.puts →
+      Went what o q rows new
+  stay what o q rows p x new at none is poll logs puts =
       let X : PollerAs → Type 0 = λ y. IsAtLog log o q y in
       inl (record { none = none; stays = subst X (sym is) (still o q p x at poll logs puts) })
 
@@ -386,22 +401,22 @@ module _ (log : Id) where
       let X : PollerAs → Type 0 = λ x. Settles t x puts mid in subst X (here_is o q p at) settles
 
   hears_went : (o : Option PlaceAs) (q : PollState) (p : PollerAs) (came : Came) (t : Turned) (puts : List Put) (mid : PollerAs) → IsAtLog log o q p →
-      Comes (seeks p) p came t → Settles t p puts mid → Went o q (rows_in (map put_as puts)) mid
+      Comes (seeks p) p came t → Settles t p puts mid → Went (doing.Hears came) o q (rows_in (map put_as puts)) mid
   unfolding me here
   hears_went o q p came t puts mid at comes settles =
       let X : PollerAs → Type 0 = λ x. Comes (seeks x) x came t in
-      came_went p p.poll o q at.waits at.record_of at.empty came.datagram came.at t puts mid (subst X (here_is o q p at) comes) (settled o q p t puts mid at settles)
+      came_went (doing.Hears came) p p.poll o q at.waits at.record_of at.empty came.datagram came.at t puts mid (λ step is. is) (subst X (here_is o q p at) comes) (settled o q p t puts mid at settles)
 
   loses_went : (o : Option PlaceAs) (q : PollState) (p : PollerAs) (puts : List Put) (mid : PollerAs) → IsAtLog log o q p → Settles (lost_of p) p puts mid →
-      Went o q (rows_in (map put_as puts)) mid
+      Went doing.Loses o q (rows_in (map put_as puts)) mid
   unfolding me here
   loses_went o q p puts mid at settles =
       let X : PollerAs → Type 0 = λ x. Settles (lost_of x) x puts mid in
-      lost_went p p.poll o q at.waits at.record_of at.empty puts mid (subst X (here_is o q p at) settles)
+      lost_went doing.Loses p p.poll o q at.waits at.record_of at.empty refl puts mid (subst X (here_is o q p at) settles)
 
   asks_went : (o : Option PlaceAs) (q : PollState) (p : PollerAs) (k : Question) (r : Request) (wanted : Next) (mid : PollerAs) → IsAtLog log o q p → k ≡ Confirmed r →
-      AsksNext k p wanted mid → Went o q (wanted_rows wanted) mid
-  asks_went o q p (Confirmed request) r (next.Send octets to) mid at is gives = stay o q [] p _ mid at refl gives.2 refl refl refl
+      AsksNext k p wanted mid → Went doing.Asks o q (wanted_rows wanted) mid
+  asks_went o q p (Confirmed request) r (next.Send octets to) mid at is gives = stay doing.Asks o q [] p _ mid at refl gives.2 refl refl refl
   asks_went o q p (Confirmed request) r (next.Wait within) mid at is gives = absurd gives
   asks_went o q p (Confirmed request) r next.Read mid at is gives = absurd gives
   asks_went o q p (Confirmed request) r (next.Keep puts) mid at is gives = absurd gives
@@ -434,24 +449,24 @@ module _ (log : Id) where
   told_rows false text next.End is = refl
 
   tells_went : (o : Option PlaceAs) (q : PollState) (p : PollerAs) (lines : List LineAs) (end : Option DeviceEnd) (wanted : Next) (mid : PollerAs) → IsAtLog log o q p →
-      TellsNext lines end p wanted mid → Went o q (wanted_rows wanted) mid
+      TellsNext lines end p wanted mid → Went (doing.Tells end) o q (wanted_rows wanted) mid
   tells_went o q p (line ∷ lines) end wanted mid at tells =
-      stay o q (wanted_rows wanted) p _ mid at (told_rows line.good line.text wanted tells.0) tells.1 refl refl refl
-  tells_went o q p [] end wanted mid at tells = stay o q (wanted_rows wanted) p _ mid at (no_rows wanted tells.0) tells.1 refl refl refl
+      stay (doing.Tells end) o q (wanted_rows wanted) p _ mid at (told_rows line.good line.text wanted tells.0) tells.1 refl refl refl
+  tells_went o q p [] end wanted mid at tells = stay (doing.Tells end) o q (wanted_rows wanted) p _ mid at (no_rows wanted tells.0) tells.1 refl refl refl
 
   gives_went : (o : Option PlaceAs) (q : PollState) (what : Doing) (p : PollerAs) (wanted : Next) (mid : PollerAs) → IsAtLog log o q p → Wants what p wanted mid →
-      Went o q (wanted_rows wanted) mid
-  gives_went o q (doing.Ended why) p wanted mid at gives = stay o q (wanted_rows wanted) p p mid at (no_rows wanted gives.0) gives.1 refl refl refl
+      Went what o q (wanted_rows wanted) mid
+  gives_went o q (doing.Ended why) p wanted mid at gives = stay (doing.Ended why) o q (wanted_rows wanted) p p mid at (no_rows wanted gives.0) gives.1 refl refl refl
   gives_went o q doing.Asks p wanted mid at gives =
       asks_went o q p (asked_of_device p.poll) (asked_by_poll q) wanted mid at (asked_is o q p at) gives
-  gives_went o q (doing.Resends datagram) p (next.Send octets to) mid at gives = stay o q [] p _ mid at refl gives.2 refl refl refl
+  gives_went o q (doing.Resends datagram) p (next.Send octets to) mid at gives = stay (doing.Resends datagram) o q [] p _ mid at refl gives.2 refl refl refl
   gives_went o q (doing.Resends datagram) p (next.Wait within) mid at gives = absurd gives
   gives_went o q (doing.Resends datagram) p next.Read mid at gives = absurd gives
   gives_went o q (doing.Resends datagram) p (next.Keep puts) mid at gives = absurd gives
   gives_went o q (doing.Resends datagram) p (next.Print text) mid at gives = absurd gives
   gives_went o q (doing.Resends datagram) p (next.Warn text) mid at gives = absurd gives
   gives_went o q (doing.Resends datagram) p next.End mid at gives = absurd gives
-  gives_went o q doing.Waits p wanted mid at gives = stay o q (wanted_rows wanted) p p mid at (no_rows wanted gives.0) gives.1 refl refl refl
+  gives_went o q doing.Waits p wanted mid at gives = stay doing.Waits o q (wanted_rows wanted) p p mid at (no_rows wanted gives.0) gives.1 refl refl refl
   gives_went o q (doing.Hears came) p (next.Keep puts) mid at (t, comes, settles) = hears_went o q p came t puts.items mid at comes settles
   gives_went o q (doing.Hears came) p (next.Send octets to) mid at gives = absurd gives
   gives_went o q (doing.Hears came) p (next.Wait within) mid at gives = absurd gives
@@ -474,8 +489,8 @@ module _ (log : Id) where
   step_rows (Answered from datagram now) = []
   step_rows Missed = []
 
-  heard_went : (o : Option PlaceAs) (q : PollState) (p mid : PollerAs) (from datagram : List ℕ) (now : CivilTime) → IsAtLog log o q p → mid ≡ heard_by from datagram now p → Went o q [] mid
-  heard_went o q p mid from datagram now at is = stay o q [] p (heard_by from datagram now p) mid at refl is (same (is_answer p from datagram)).0 (same (is_answer p from datagram)).1 (same (is_answer p from datagram)).2
+  heard_went : (o : Option PlaceAs) (q : PollState) (p mid : PollerAs) (from datagram : List ℕ) (now : CivilTime) → IsAtLog log o q p → mid ≡ heard_by from datagram now p → Went p.doing o q [] mid
+  heard_went o q p mid from datagram now at is = stay p.doing o q [] p (heard_by from datagram now p) mid at refl is (same (is_answer p from datagram)).0 (same (is_answer p from datagram)).1 (same (is_answer p from datagram)).2
     where
       same : (b : Bool) → let x : PollerAs = if b then record p { transactions = closed p.transactions; doing = doing.Hears (record { from = from; datagram = datagram; at = now }); rows = record p.rows { answered = Some now } } else p in
           (x.poll ≡ p.poll) × (x.rows.logs ≡ p.rows.logs) × (x.rows.puts ≡ p.rows.puts)
@@ -501,11 +516,11 @@ module _ (log : Id) where
       same_if p (seeks p) _ _ (same_if p (nat_lt p.sought p.retries) _ _ (refl, refl, refl) (refl, refl, refl))
       (same_if p p.poll.doubt _ _ (refl, refl, refl) (same_without p p.transactions.pending))
 
-  missed_went : (o : Option PlaceAs) (q : PollState) (p mid : PollerAs) → IsAtLog log o q p → mid ≡ missed p → Went o q [] mid
+  missed_went : (o : Option PlaceAs) (q : PollState) (p mid : PollerAs) → IsAtLog log o q p → mid ≡ missed p → Went p.doing o q [] mid
   unfolding IsSame
-  missed_went o q p mid at is = let s = same_missed p in stay o q [] p (missed p) mid at refl is s.0 s.1 s.2
+  missed_went o q p mid at is = let s = same_missed p in stay p.doing o q [] p (missed p) mid at refl is s.0 s.1 s.2
 
-  pub own_went : (o : Option PlaceAs) (q : PollState) (p : PollerAs) (own : Own) (mid : PollerAs) → IsAtLog log o q p → OwnStep p own mid → Went o q (step_rows own) mid
+  pub own_went : (o : Option PlaceAs) (q : PollState) (p : PollerAs) (own : Own) (mid : PollerAs) → IsAtLog log o q p → OwnStep p own mid → Went p.doing o q (step_rows own) mid
   own_went o q p (Wanted ids wanted) mid at gives =
       gives_went o q p.doing (lent ids p) wanted mid (still o q p (lent ids p) at refl refl refl) gives
   own_went o q p (Answered from datagram now) mid at (fits, is) = heard_went o q p mid from datagram now at is

@@ -1,13 +1,19 @@
 -- What the poll of a device keeps of the log that is polled. Read `KeepsTurns`, then `NumbersOnce`.
-use Rattle.std.specs.Prelude.{◌≡◌, ◌≢◌, ℕ, ◌==◌, ◌||◌, Bool, true, false, List, [], ◌∷◌, ◌++◌, filter, map, position}
+use Rattle.std.specs.Prelude.{◌≡◌, ◌≢◌, ◌⊎◌, ℕ, ◌==◌, ◌||◌, Bool, true, false, List, [], ◌∷◌, ◌++◌, filter, map, position}
 use Rattle.std.specs.Prelude.{Option, None, Some}
 use Rattle.bac_wire.specs.Primitive.{Id}
 use Rattle.bac_archive3.specs.declared.row.Put.{Put}
 use Rattle.bac_desks.specs.Chain.{Chain}
 use Rattle.bac_drive.specs.declared.machine.Next.{Next}
 use Rattle.bac_drive.specs.declared.machine.Next.TheVariants as next
+use Rattle.bac_link.specs.Datagrams.{apdu_in}
+use Rattle.bac_link.specs.Exchanges.{verdict_of}
+use Rattle.bac_walk.specs.declared.outcome.WalkFault.TheVariants as walk
+use Rattle.bac_poll.specs.Poll.{asked_by_poll}
 use Rattle.bac_poll.specs.State.{PollState}
+use Rattle.bac_poll_steps.specs.declared.turn.PollEnd.TheVariants.{Fault}
 use Rattle.bac_poll_laws.specs.Laws.{IsStanding, Whichever}
+use Rattle.bac_device_poll.specs.Logs.{log_after}
 use Rattle.bac_device_poll.specs.State.{LogAs as TaskAs}
 use Rattle.bac_device_poll.specs.declared.stage.Stage.TheVariants as stage
 use Rattle.bac_device_poll.specs.declared.task.Polled.{Polled}
@@ -15,9 +21,11 @@ use Rattle.bac_device_poller.specs.Entries.{is_log, log_in, logs_beside}
 use Rattle.bac_device_poller.specs.Poller.{PollerAs}
 use Rattle.bac_device_poller.specs.Puts.{PlaceAs, PutAs, put_as}
 use Rattle.bac_device_poller.specs.Rows.{LogAs}
+use Rattle.bac_device_poller.specs.declared.doing.Doing.{Doing}
+use Rattle.bac_device_poller.specs.declared.doing.Doing.TheVariants as doing
 use Rattle.bac_site_poller.specs.SiteLaws.{Answered, Missed, Own, OwnStep, Wanted}
 use Rattle.bac_site_laws.specs.Rows.{GoOn, IsNumbered, Stand}
-use Rattle.bac_site_laws.specs.Steps.{AreAsked, Step, rows_by}
+use Rattle.bac_site_laws.specs.Steps.{AreAsked, Ended, Fewer, Step, after_step, rows_by}
 
 -- ---- what is kept
 
@@ -40,6 +48,40 @@ kept_of [] = []
 kept_of (Wanted ids wanted ∷ own) = wanted_rows wanted ++ kept_of own
 kept_of (Answered from datagram now ∷ own) = kept_of own
 kept_of (Missed ∷ own) = kept_of own
+
+-- the answer that a poll has heard, if it has one
+abbrev pub heard_of : Doing → List (List ℕ)
+heard_of (doing.Hears came) = came.datagram ∷ []
+heard_of doing.Asks = []
+heard_of (doing.Resends datagram) = []
+heard_of doing.Waits = []
+heard_of doing.Loses = []
+heard_of (doing.Tells end) = []
+heard_of (doing.Ended why) = []
+
+-- the answers that come to a device's questions, in their order
+abbrev pub answers_of : List Own → List (List ℕ)
+answers_of [] = []
+answers_of (Wanted ids wanted ∷ own) = answers_of own
+answers_of (Answered from datagram now ∷ own) = datagram ∷ answers_of own
+answers_of (Missed ∷ own) = answers_of own
+
+-- a datagram is one of these
+abbrev pub IsOneAmong : List (List ℕ) → List ℕ → Type 0
+IsOneAmong [] datagram = ⊥
+IsOneAmong (answer ∷ answers) datagram = (answer ≡ datagram) ⊎ IsOneAmong answers datagram
+
+-- a step is what a datagram makes of a log's poll: by what it is to its question, or half as many are asked for
+abbrev pub IsOf : PollState → List ℕ → Step → Type 0
+IsOf q datagram step =
+    (after_step q step ≡ log_after q (verdict_of (asked_by_poll q) (apdu_in datagram)) datagram) ⊎ (step ≡ Fewer)
+
+-- each of these steps is what one of these answers makes of the log's poll; or its question is lost
+abbrev pub AreOf : List (List ℕ) → PollState → List Step → Type 0
+AreOf answers q [] = Unit {0}
+AreOf answers q (step ∷ steps) =
+    (((datagram : List ℕ) × IsOneAmong answers datagram × IsOf q datagram step) ⊎ (step ≡ Ended (Fault walk.Lost)))
+    × AreOf answers (after_step q step).poll steps
 
 -- ---- a log that is polled
 
@@ -79,12 +121,13 @@ OwnStepAt log p own new = IsPolled log p × OwnStep p own new
 -- ---- the laws
 
 -- What a device's poll keeps while a log is polled is the rows of that log's own turns, one after the other, from where
--- it stands: whatever happens, and whatever else is put beside them.
+-- it stands; and each turn is what an answer of the device makes of the log's poll, or the loss of its question.
 abbrev pub KeepsTurns : Type 0
 KeepsTurns =
     (log : Id) (place : PlaceAs) (q : PollState) (p new : PollerAs) (own : List Own) →
     IsAtLog log (Some place) q p → Chain (OwnStepAt log) p own new →
-    (steps : List Step) × AreAsked q steps × (kept_of own ≡ rows_by place.log place.epoch q steps)
+    (steps : List Step) × AreAsked q steps × AreOf (heard_of p.doing ++ answers_of own) q steps
+    × (kept_of own ≡ rows_by place.log place.epoch q steps)
 
 -- So its rows go on, from where it stands: each number comes once.
 abbrev pub NumbersOnce : Type 0
