@@ -46,16 +46,20 @@ use Rattle.bac_poll_steps.specs.declared.turn.Line.TheVariants.{BeganAnew}
 use Rattle.bac_poll_steps.specs.declared.turn.PollEnd.TheVariants.{Contradicts}
 use Rattle.bac_poll_steps.specs.declared.turn.PollEnd.{PollEnd}
 
+-- a sequence number
+abbrev pub IsNumber : ℕ → Type 0
+IsNumber n = (1 ≤ n) × (n ≤ 4294967295)
+
 -- gaps alone, each of which ends at a number
 abbrev pub AreGaps : List Item → Type 0
 AreGaps [] = Unit {0}
-AreGaps (Gap first before ∷ items) = (1 ≤ before) × AreGaps items
+AreGaps (Gap first before ∷ items) = IsNumber before × AreGaps items
 AreGaps (Logged shown entry ∷ items) = ⊥
 
 -- the first of records has a number
 abbrev pub HasFirst : List Numbered → Type 0
 HasFirst [] = Unit {0}
-HasFirst (held ∷ others) = 1 ≤ held.number
+HasFirst (held ∷ others) = IsNumber held.number
 
 pub record Fine (n : ℕ) (t : Turned) : Type 0 where
   pub begins : (t.begins ≡ None) ⊎ (n ≡ 1)
@@ -69,18 +73,18 @@ IsOne n Finds = Unit {0}
 IsOne n Renews = Unit {0}
 IsOne n Starts = n ≡ 1
 
-after_some : (a b : ℕ) → 1 ≤ number_after a b
-after_some a b = let m : ℕ = (a + b + 4294967294) % 4294967295 in omega arith
+after_some : (a b : ℕ) → IsNumber (number_after a b)
+after_some a b = let m : ℕ = (a + b + 4294967294) % 4294967295 in (omega arith, omega arith)
 
-first_some : (a b : ℕ) (rs : List Numbered) → HasFirst rs → 1 ≤ number_or (number_after a b) (first_in rs)
+first_some : (a b : ℕ) (rs : List Numbered) → HasFirst rs → IsNumber (number_or (number_after a b) (first_in rs))
 first_some a b [] has = after_some a b
 first_some a b (r ∷ rs) has = has
 
-ends_some : (c : Bool) (a b : ℕ) → 1 ≤ b → AreGaps (if c then [] else Gap a b ∷ [])
+ends_some : (c : Bool) (a b : ℕ) → IsNumber b → AreGaps (if c then [] else Gap a b ∷ [])
 ends_some true a b some = tt
 ends_some false a b some = (some, tt)
 
-gap_fine : (a b : ℕ) → 1 ≤ b → AreGaps (gap_up_to a b)
+gap_fine : (a b : ℕ) → IsNumber b → AreGaps (gap_up_to a b)
 gap_fine a b some = ends_some (a == b) a b some
 
 module _ (n : ℕ) where
@@ -268,21 +272,21 @@ module _ (n : ℕ) where
 
   -- ---- what was dropped
 
-  gone_fine : (p : PollState) (first : ℕ) (held : List Numbered) → 1 ≤ first → Fine n (brings_gone p first held)
+  gone_fine : (p : PollState) (first : ℕ) (held : List Numbered) → IsNumber first → Fine n (brings_gone p first held)
   gone_fine p first held some =
       let f = brings_fine (standing_at p first) held in
       record { begins = f.begins; missing = gap_fine p.next first some; gap = f.gap; alone = f.alone }
 
-  both_fine : (p : PollState) (told : ToldAs) (first : ℕ) (held : List Numbered) → 1 ≤ first → Fine n (brings_both p told first held)
+  both_fine : (p : PollState) (told : ToldAs) (first : ℕ) (held : List Numbered) → IsNumber first → Fine n (brings_both p told first held)
   both_fine p told first held some =
       let f = brings_fine (standing_at (renewed p told) first) held in
       record { begins = f.begins; missing = gap_fine p.next first some; gap = gap_fine 1 first some; alone = λ d. absurd (let e = sym (brings_sure (standing_at (renewed p told) first) held) ∙ d in cc) }
 
-  doubtful_fine : (p : PollState) (first : ℕ) (held : List Numbered) → 1 ≤ first → Fine n (brings_doubtful p first held)
+  doubtful_fine : (p : PollState) (first : ℕ) (held : List Numbered) → IsNumber first → Fine n (brings_doubtful p first held)
   doubtful_fine p first held some =
       let f = gone_fine p first held some in record { begins = f.begins; missing = f.missing; gap = f.gap; alone = λ d. brings_gap (standing_at p first) held }
 
-  by_gone_fine : (p : PollState) (first : ℕ) (held : List Numbered) (g : Gone) → 1 ≤ first → Fine n (by_gone p first held g)
+  by_gone_fine : (p : PollState) (first : ℕ) (held : List Numbered) (g : Gone) → IsNumber first → Fine n (by_gone p first held g)
   by_gone_fine p first held gone.Dropped some = gone_fine (confirmed (retold p)) first held some
   by_gone_fine p first held gone.Doubtful some = doubtful_fine (confirmed (retold p)) first held some
   by_gone_fine p first held gone.Both some = both_fine (retold p) p.told first held some
@@ -357,7 +361,7 @@ module _ (n : ℕ) where
       let f = brings_fine (standing_at (confirmed p) first) held in
       record { begins = inr one; missing = f.missing; gap = f.gap; alone = f.alone }
 
-  starts_at_fine : (p : PollState) (first : ℕ) (held : List Numbered) (o : Option ℕ) → n ≡ 1 → 1 ≤ first → Fine n (starts_at p first held o)
+  starts_at_fine : (p : PollState) (first : ℕ) (held : List Numbered) (o : Option ℕ) → n ≡ 1 → IsNumber first → Fine n (starts_at p first held o)
   starts_at_fine p first held None one some = here_fine p first held one
   starts_at_fine p first held (Some counted) one some =
       let f = brings_fine (standing_at (confirmed p) first) held in

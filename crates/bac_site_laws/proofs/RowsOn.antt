@@ -34,7 +34,7 @@ both_of false c is = absurd (cc)
 module _ (P : Numbered → Type 0) (F : ℕ → Type 0) (number : (h : Numbered) → P h → (1 ≤ h.number) × (h.number ≤ 4294967295)) where
   first_of : (n : ℕ) (rs : List Numbered) → IsRun P n rs → HasFirst rs
   first_of n [] run = tt
-  first_of n (r ∷ rs) run = (number r run.1).0
+  first_of n (r ∷ rs) run = number r run.1
 
   one_at : (p : PollState) (aim : Aim) → IsAimed p aim → IsOne p.next aim
   one_at p Finds aimed = tt
@@ -61,7 +61,7 @@ module _ (P : Numbered → Type 0) (F : ℕ → Type 0) (number : (h : Numbered)
     where
       by : (rs : List Numbered) → HoldsOfEach P rs → HasFirst rs
       by [] all = tt
-      by (r ∷ rs) all = (number r all.0).0
+      by (r ∷ rs) all = number r all.0
 
   held_first : (p : PollState) (stage : Stage) → p.stage ≡ stage → IsAt P F p p.stage → IsReady p.next stage p.held
   held_first p stage is at = let X : Stage → Type 0 = λ s. IsReady p.next s p.held in subst X is (ready p p.stage at)

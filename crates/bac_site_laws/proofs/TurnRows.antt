@@ -18,7 +18,7 @@ use Rattle.bac_device_poller.specs.Puts.{PutAs, Puts, era_of, gap_columns, none_
 use Rattle.bac_device_poller.specs.Puts.{with_anew, with_epoch, with_first, with_gap, with_gap_row, with_gaps, with_put}
 use Rattle.bac_device_poller.specs.Puts.{with_record, with_records, with_rest, with_round, with_turn}
 use Rattle.bac_site_laws.specs.Rows.{Begins, GoOn, IsSaid, Missing, Recorded, Renewed, Says, Stand, behind, era, row_of}
-use Rattle.bac_site_laws.proofs.Fine.{AreGaps, Fine}
+use Rattle.bac_site_laws.proofs.Fine.{AreGaps, Fine, IsNumber}
 
 module _ (P : Numbered → Type 0) (F : ℕ → Type 0) (log : ℕ) where
   -- one row more
@@ -77,37 +77,37 @@ module _ (P : Numbered → Type 0) (F : ℕ → Type 0) (log : ℕ) where
     Leads : Puts → ℕ → Type 0
     Leads s n = (t : Stand) × UpTo s t × (t.next ≡ n)
 
-    rest_on : (b : Bool) (doubtful : Bool) (s : Puts) (t : Stand) (before : ℕ) → nat_le before 1 ≡ b → 1 ≤ before → (doubtful ≡ false → F before) →
+    rest_on : (b : Bool) (doubtful : Bool) (s : Puts) (t : Stand) (before : ℕ) → nat_le before 1 ≡ b → IsNumber before → (doubtful ≡ false → F before) →
         t.next ≡ 1 → UpTo s t → Leads (if b then s else with_gap_row doubtful s 1 (before - 1)) before
     unfolding Leads
     rest_on true doubtful s t before is some ends one up =
-        let below = leb-true before 1 is in (t, up, one ∙ omega (arith, some, below))
+        let below = leb-true before 1 is in (t, up, one ∙ omega (arith, some.0, below))
     rest_on false doubtful s t before is some ends one up =
         let above = leb-false before 1 is in
-        let back : before - 1 + 1 ≡ before = omega (arith, some) in
+        let back : before - 1 + 1 ≡ before = omega (arith, some.0) in
         let X : ℕ → Type 0 = λ n. UpTo (with_gap_row doubtful s n (before - 1)) (record t { next = before - 1 + 1 }) in
         (
           record t { next = before - 1 + 1 },
-          subst X one (row_on doubtful s t (before - 1) up (inl (omega (arith, above, one)), λ sure. inl (subst F (sym back) (ends sure)))),
+          subst X one (row_on doubtful s t (before - 1) up (omega (arith, some.1), inl (omega (arith, above, one)), λ sure. inl (subst F (sym back) (ends sure)))),
           back,
         )
 
-    gap_by : (b : Bool) (doubtful : Bool) (s : Puts) (t : Stand) (first before : ℕ) → nat_le before first ≡ b → 1 ≤ before → (doubtful ≡ false → F before) →
+    gap_by : (b : Bool) (doubtful : Bool) (s : Puts) (t : Stand) (first before : ℕ) → nat_le before first ≡ b → IsNumber before → (doubtful ≡ false → F before) →
         t.next ≡ first → UpTo s t →
         Leads (if b then with_rest doubtful (with_round (with_gap_row doubtful s first 4294967295)) before else with_gap_row doubtful s first (before - 1)) before
     unfolding Leads
     gap_by true doubtful s t first before is some ends from up =
         let X : ℕ → Type 0 = λ n. UpTo (with_gap_row doubtful s n 4294967295) (record t { next = 4294967295 + 1 }) in
-        let gap = subst X from (row_on doubtful s t 4294967295 up (inr refl, λ sure. inr refl)) in
+        let gap = subst X from (row_on doubtful s t 4294967295 up (omega arith, inr refl, λ sure. inr refl)) in
         rest_on (nat_le before 1) doubtful _ (record { epoch = t.epoch + 1; next = 1 }) before refl some ends refl
         (epoch_on (with_gap_row doubtful s first 4294967295) (record t { next = 4294967295 + 1 }) _ gap)
     gap_by false doubtful s t first before is some ends from up =
         let above = leb-false before first is in
-        let back : before - 1 + 1 ≡ before = omega (arith, some) in
+        let back : before - 1 + 1 ≡ before = omega (arith, some.0) in
         let X : ℕ → Type 0 = λ n. UpTo (with_gap_row doubtful s n (before - 1)) (record t { next = before - 1 + 1 }) in
         (
           record t { next = before - 1 + 1 },
-          subst X from (row_on doubtful s t (before - 1) up (inl (omega (arith, above, from)), λ sure. inl (subst F (sym back) (ends sure)))),
+          subst X from (row_on doubtful s t (before - 1) up (omega (arith, some.1), inl (omega (arith, above, from)), λ sure. inl (subst F (sym back) (ends sure)))),
           back,
         )
 

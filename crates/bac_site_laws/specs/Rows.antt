@@ -51,7 +51,7 @@ behind s (Begins counted number) = record s { next = if counted then s.next else
 abbrev pub IsSaid : (Numbered → Type 0) → (ℕ → Type 0) → Stand → Says → Type 0
 IsSaid P F s (Recorded held) = P held × (held.number ≡ s.next) × (s.next ≤ 4294967295)
 IsSaid P F s (Missing last doubtful) =
-    ((s.next ≤ last) ⊎ (last ≡ 4294967295))
+    (last ≤ 4294967295) × ((s.next ≤ last) ⊎ (last ≡ 4294967295))
     × (doubtful ≡ false → F (last + 1) ⊎ (last ≡ 4294967295))
 IsSaid P F s (Renewed why) = Unit {0}
 IsSaid P F s (Begins counted number) = s.next ≡ 1
