@@ -29,8 +29,8 @@ use Rattle.bac_site_poller.specs.Seat.{Wants, lent}
 use Rattle.bac_device_poller.specs.Puts.{PlaceAs, PutAs}
 use Rattle.bac_device_poller.specs.Turns.{IsPlaced}
 use Rattle.bac_site_poller.specs.SiteLaws.{Answered, Missed, Own, OwnStep, Wanted}
-use Rattle.bac_site_laws.specs.Own.{AreOf, IsAtLog, IsOf, IsOneAmong, IsPolled, KeepsTurns, NumbersOnce, OwnStepAt, answers_of}
-use Rattle.bac_site_laws.specs.Own.{heard_of, kept_of}
+use Rattle.bac_site_laws.specs.Own.{AreOf, AreRowsOf, EndsBy, HadTurns, IsAtLog, IsOf, IsOneAmong, IsPolled, KeepsTurns, NumbersOnce, OwnStepAt, answers_of}
+use Rattle.bac_site_laws.specs.Own.{heard_of, kept_of, poll_after}
 use Rattle.bac_site_laws.specs.Rows.{GoOn, IsNumbered, Stand}
 use Rattle.bac_site_laws.specs.Steps.{AreAsked, Ended, IsAskedBy, Step, after_step, put_of, rows_by}
 use Rattle.bac_site_laws.proofs.OwnSteps.{ComesBy, HasNoTurn, HasTurn, own_went, step_rows}
@@ -40,10 +40,6 @@ use Rattle.bac_site_laws.proofs.RowsOn.{any_steps, numbered, rows_on}
 abbrev pub rows_at : Option PlaceAs → PollState → List Step → List PutAs
 rows_at None q steps = []
 rows_at (Some place) q steps = rows_by place.log place.epoch q steps
-
--- what is kept is the rows of such turns, by these answers
-abbrev pub AreKept : List (List ℕ) → Option PlaceAs → PollState → List PutAs → Type 0
-AreKept answers o q rows = (steps : List Step) × AreAsked q steps × AreOf answers q steps × (rows ≡ rows_at o q steps)
 
 -- of these answers none is lacking among those
 abbrev pub IsWithin : List (List ℕ) → List (List ℕ) → Type 0
@@ -71,10 +67,6 @@ within_right : (xs ys : List (List ℕ)) → IsWithin ys (xs ++ ys)
 within_right [] ys datagram is = is
 within_right (x ∷ xs) ys datagram is = inr (within_right xs ys datagram is)
 
-none_kept : (answers : List (List ℕ)) (o : Option PlaceAs) (q : PollState) (rows : List PutAs) → rows ≡ [] → AreKept answers o q rows
-none_kept answers None q rows none = ([], tt, tt, none)
-none_kept answers (Some place) q rows none = ([], tt, tt, none)
-
 kept_cons : (log : Id) (own : Own) (more : List Own) → kept_of (own ∷ more) ≡ step_rows log own ++ kept_of more
 kept_cons log (Wanted ids wanted) more = refl
 kept_cons log (Answered from datagram now) more = refl
@@ -87,39 +79,9 @@ asked_more : (q : PollState) (step : Step) (steps : List Step) → AreAsked (aft
 asked_more q step [] are none is = is
 asked_more q step (next ∷ steps) are none is = (is, none, are)
 
-turn_more : (answers : List (List ℕ)) (o : Option PlaceAs) (q : PollState) (step : Step) (behind : Option PlaceAs) (rows more : List PutAs) → IsAskedBy q step →
-    IsFrom answers q step → IsPlaced o (after_step q step) behind rows → (after_step q step).end ≡ None → AreKept answers behind (after_step q step).poll more →
-    AreKept answers o q (rows ++ more)
-turn_more answers None q step behind rows more is from placed none (steps, are, of, same) =
-    let X : Option PlaceAs → Type 0 = λ x. more ≡ rows_at x (after_step q step).poll steps in
-    ([], tt, tt, ap (λ (l : List PutAs). l ++ more) placed.1 ∙ subst X placed.0 same)
-turn_more answers (Some place) q step None rows more is from placed none (steps, are, of, same) =
-    ([], tt, tt, ap (λ (l : List PutAs). l ++ more) placed ∙ same)
-turn_more answers (Some place) q step (Some behind) rows more is from placed none (steps, are, of, same) =
-    let t : Turned = after_step q step in
-    let X : ℕ → Type 0 = λ n. more ≡ rows_by n behind.epoch t.poll steps in
-    let Y : ℕ → Type 0 = λ n. more ≡ rows_by place.log n t.poll steps in
-    let epoch : behind.epoch ≡ (put_of place.log place.epoch t).epoch = ap (λ (x : PlaceAs). x.epoch) placed.1 in
-    (
-      step ∷ steps,
-      asked_more q step steps are none is,
-      (from, of),
-      ap (λ (l : List PutAs). l ++ more) placed.0 ∙ ap (λ (l : List PutAs). (put_of place.log place.epoch t).puts ++ l) (subst Y epoch (subst X placed.2 same)),
-    )
-
--- a turn that ends the poll is the last
-turn_last : (answers : List (List ℕ)) (o : Option PlaceAs) (q : PollState) (step : Step) (behind : Option PlaceAs) (rows more : List PutAs) → IsAskedBy q step →
-    IsFrom answers q step → IsPlaced o (after_step q step) behind rows → more ≡ [] → AreKept answers o q (rows ++ more)
-turn_last answers None q step behind rows more is from placed none = ([], tt, tt, ap (λ (l : List PutAs). l ++ more) placed.1 ∙ none)
-turn_last answers (Some place) q step None rows more is from placed none = ([], tt, tt, ap (λ (l : List PutAs). l ++ more) placed ∙ none)
-turn_last answers (Some place) q step (Some behind) rows more is from placed none =
-    let t : Turned = after_step q step in
-    (
-      step ∷ [],
-      is,
-      (from, tt),
-      ap (λ (l : List PutAs). l ++ more) placed.0 ∙ ap (λ (l : List PutAs). (put_of place.log place.epoch t).puts ++ l) none,
-    )
+ends_more : (q : PollState) (step : Step) (steps : List Step) → EndsBy (after_step q step).poll steps → EndsBy q (step ∷ steps)
+ends_more q step [] ends = elim ends [ ]
+ends_more q step (next ∷ steps) ends = ends
 
 -- ---- what is heard
 
@@ -255,47 +217,135 @@ module _ (log : Id) where
   comes_from (doing.Tells end) q step is = absurd is
   comes_from (doing.Ended why) q step is = absurd is
 
-  -- behind one step, by what is kept behind it
-  one_more : (own : Own) (p mid : PollerAs) (o : Option PlaceAs) (q : PollState) (answers : List (List ℕ)) (more : List PutAs) → IsAtLog log o q p → OwnStep p own mid →
-      IsWithin (heard_of p.doing) answers →
-      ((o2 : Option PlaceAs) (q2 : PollState) → IsAtLog log o2 q2 mid → AreKept answers o2 q2 more) → ((IsPolled log mid → ⊥) → more ≡ []) →
-      AreKept answers o q (step_rows log own ++ more)
-  one_more own p mid o q answers more at is heard rest over = by (own_went log o q p own mid at is)
+  -- a poll had turns by these answers, and this is kept of it
+  Kept : List (List ℕ) → Option PlaceAs → PollState → List PutAs → PollerAs → Type 0
+  Kept answers o q rows new = (steps : List Step) × HadTurns log o q answers rows new steps
+
+  turn_more : (answers : List (List ℕ)) (o : Option PlaceAs) (q : PollState) (step : Step) (behind : Option PlaceAs) (rows more : List PutAs) (new : PollerAs) → IsAskedBy q step →
+      IsFrom answers q step → IsPlaced o (after_step q step) behind rows → (after_step q step).end ≡ None → Kept answers behind (after_step q step).poll more new →
+      Kept answers o q (rows ++ more) new
+  unfolding Kept
+  turn_more answers o q step behind rows more new is from placed none (steps, had) = (
+    step ∷ steps,
+    record {
+      asked = asked_more q step steps had.asked none is;
+      of = (from, had.of);
+      rows_are = (behind, rows, more, refl, placed, had.rows_are);
+      leads = on had.leads;
+    },
+  )
     where
-      ends : (t : HasTurn log p.doing o q (step_rows log own) mid) (e : Option PollEnd) → (after_step q t.step).end ≡ e → AreKept answers o q (step_rows log own ++ more)
+      on : ((b : Option PlaceAs) × IsAtLog log b (poll_after (after_step q step).poll steps) new) ⊎ EndsBy (after_step q step).poll steps →
+          ((b : Option PlaceAs) × IsAtLog log b (poll_after q (step ∷ steps)) new) ⊎ EndsBy q (step ∷ steps)
+      on (inl there) = inl there
+      on (inr ends) = inr (ends_more q step steps ends)
+
+  -- a turn that ends the poll is the last
+  turn_last : (answers : List (List ℕ)) (o : Option PlaceAs) (q : PollState) (step : Step) (behind : Option PlaceAs) (rows more : List PutAs) (new : PollerAs) (why : PollEnd) → IsAskedBy q step →
+      IsFrom answers q step → IsPlaced o (after_step q step) behind rows → (after_step q step).end ≡ Some why → more ≡ [] → Kept answers o q (rows ++ more) new
+  unfolding Kept
+  turn_last answers o q step behind rows more new why is from placed some none = (
+    step ∷ [],
+    record { asked = is; of = (from, tt); rows_are = (behind, rows, more, refl, placed, none); leads = inr (why, some) },
+  )
+
+  -- behind one step, by what is kept behind it
+  one_more : (own : Own) (p mid : PollerAs) (o : Option PlaceAs) (q : PollState) (answers : List (List ℕ)) (more : List PutAs) (new : PollerAs) → IsAtLog log o q p → OwnStep p own mid →
+      IsWithin (heard_of p.doing) answers →
+      ((o2 : Option PlaceAs) (q2 : PollState) → IsAtLog log o2 q2 mid → Kept answers o2 q2 more new) → ((IsPolled log mid → ⊥) → more ≡ []) →
+      Kept answers o q (step_rows log own ++ more) new
+  one_more own p mid o q answers more new at is heard rest over = by (own_went log o q p own mid at is)
+    where
+      ends : (t : HasTurn log p.doing o q (step_rows log own) mid) (e : Option PollEnd) → (after_step q t.step).end ≡ e → Kept answers o q (step_rows log own ++ more) new
       ends t None none =
-          turn_more answers o q t.step t.behind (step_rows log own) more t.asked
+          turn_more answers o q t.step t.behind (step_rows log own) more new t.asked
           (from_more (heard_of p.doing) answers q t.step heard (comes_from p.doing q t.step t.comes)) t.placed none (rest t.behind (after_step q t.step).poll (t.goes none))
       ends t (Some why) some =
-          turn_last answers o q t.step t.behind (step_rows log own) more t.asked
-          (from_more (heard_of p.doing) answers q t.step heard (comes_from p.doing q t.step t.comes)) t.placed (over (t.over why some))
-      by : HasNoTurn log o q (step_rows log own) mid ⊎ HasTurn log p.doing o q (step_rows log own) mid → AreKept answers o q (step_rows log own ++ more)
+          turn_last answers o q t.step t.behind (step_rows log own) more new why t.asked
+          (from_more (heard_of p.doing) answers q t.step heard (comes_from p.doing q t.step t.comes)) t.placed some (over (t.over why some))
+      by : HasNoTurn log o q (step_rows log own) mid ⊎ HasTurn log p.doing o q (step_rows log own) mid → Kept answers o q (step_rows log own ++ more) new
       by (inl same) =
-          let Y : List PutAs → Type 0 = λ l. AreKept answers o q (l ++ more) in
+          let Y : List PutAs → Type 0 = λ l. Kept answers o q (l ++ more) new in
           subst Y (sym same.none) (rest o q same.stays)
       by (inr turn) = ends turn (after_step q turn.step).end refl
 
-  kept_more : (some all : List (List ℕ)) (o : Option PlaceAs) (q : PollState) (rows : List PutAs) → IsWithin some all → AreKept some o q rows → AreKept all o q rows
-  kept_more some all o q rows within (steps, are, of, same) = (steps, are, of_more some all q steps within of, same)
+  kept_more : (some all : List (List ℕ)) (o : Option PlaceAs) (q : PollState) (rows : List PutAs) (new : PollerAs) → IsWithin some all → Kept some o q rows new → Kept all o q rows new
+  unfolding Kept
+  kept_more some all o q rows new within (steps, had) = (
+    steps,
+    record { asked = had.asked; of = of_more some all q steps within had.of; rows_are = had.rows_are; leads = had.leads },
+  )
 
-  pub own_rows : (own : List Own) (p new : PollerAs) (o : Option PlaceAs) (q : PollState) → IsAtLog log o q p → Chain (OwnStepAt log) p own new →
-      AreKept (heard_of p.doing ++ answers_of own) o q (kept_of own)
+  none_kept : (answers : List (List ℕ)) (o : Option PlaceAs) (q : PollState) (new : PollerAs) → IsAtLog log o q new → Kept answers o q [] new
+  unfolding Kept
+  none_kept answers o q new at = ([], record { asked = tt; of = tt; rows_are = refl; leads = inl (o, at) })
+
+  own_rows : (own : List Own) (p new : PollerAs) (o : Option PlaceAs) (q : PollState) → IsAtLog log o q p → Chain (OwnStepAt log) p own new →
+      Kept (heard_of p.doing ++ answers_of own) o q (kept_of own) new
   unfolding all_of
-  own_rows [] p new o q at chain = none_kept (heard_of p.doing ++ []) o q [] refl
+  own_rows [] p new o q at same =
+      let X : PollerAs → Type 0 = λ x. IsAtLog log o q x in none_kept (heard_of p.doing ++ []) o q new (subst X (sym same) at)
   own_rows (own ∷ more) p new o q at (mid, (polled, is), chain) =
       let A = heard_of p.doing ++ answers_of (own ∷ more) in
-      let X : List PutAs → Type 0 = λ l. AreKept A o q l in
+      let X : List PutAs → Type 0 = λ l. Kept A o q l new in
       subst X (sym (kept_cons log own more))
-      (one_more own p mid o q A (kept_of more) at is (within_left (heard_of p.doing) (answers_of (own ∷ more)))
-      (λ o2 q2 there. kept_more (heard_of mid.doing ++ answers_of more) A o2 q2 (kept_of more) (step_within p own mid more is) (own_rows more mid new o2 q2 there chain))
+      (one_more own p mid o q A (kept_of more) new at is (within_left (heard_of p.doing) (answers_of (own ∷ more)))
+      (λ o2 q2 there. kept_more (heard_of mid.doing ++ answers_of more) A o2 q2 (kept_of more) new (step_within p own mid more is) (own_rows more mid new o2 q2 there chain))
       (λ not. over_none more mid new not chain))
 
+  pub had_turns : (own : List Own) (p new : PollerAs) (o : Option PlaceAs) (q : PollState) → IsAtLog log o q p → Chain (OwnStepAt log) p own new →
+      (steps : List Step) × HadTurns log o q (heard_of p.doing ++ answers_of own) (kept_of own) new steps
+  unfolding Kept
+  had_turns own p new o q at chain = own_rows own p new o q at chain
+
 pub keeps_turns : KeepsTurns
-keeps_turns = λ log place q p new own at chain. own_rows log own p new (Some place) q at chain
+keeps_turns = λ log place q p new own at chain. had_turns log own p new place q at chain
+
+-- ---- from a place on
+
+asked_first : (q : PollState) (step : Step) (steps : List Step) → AreAsked q (step ∷ steps) → IsAskedBy q step
+asked_first q step [] are = are
+asked_first q step (next ∷ steps) are = are.0
+
+asked_rest : (q : PollState) (step : Step) (steps : List Step) → AreAsked q (step ∷ steps) → AreAsked (after_step q step).poll steps
+asked_rest q step [] are = tt
+asked_rest q step (next ∷ steps) are = are.2
+
+-- other steps behind the first, of which there are none if it ends the poll
+asked_other : (q : PollState) (step : Step) (steps some : List Step) → AreAsked q (step ∷ steps) → (steps ≡ [] → some ≡ []) → AreAsked (after_step q step).poll some → AreAsked q (step ∷ some)
+asked_other q step steps [] are none some = asked_first q step steps are
+asked_other q step [] (next ∷ others) are none some = absurd (let e = none refl in cc)
+asked_other q step (s ∷ steps) (next ∷ others) are none some = (are.0, are.1, some)
+
+-- the rows of turns are those of as many of them as the log has epochs for
+rows_of_steps : (o : Option PlaceAs) (q : PollState) (steps : List Step) (rows : List PutAs) → AreAsked q steps → AreRowsOf o q steps rows →
+    (some : List Step) × AreAsked q some × (rows ≡ rows_at o q some) × (steps ≡ [] → some ≡ [])
+rows_of_steps None q [] rows are is = ([], tt, is, λ none. refl)
+rows_of_steps (Some place) q [] rows are is = ([], tt, is, λ none. refl)
+rows_of_steps None q (step ∷ steps) rows are (behind, now, more, same, placed, rest) =
+    let X : Option PlaceAs → Type 0 = λ x. AreRowsOf x (after_step q step).poll steps more in
+    let b = rows_of_steps None (after_step q step).poll steps more (asked_rest q step steps are) (subst X placed.0 rest) in
+    ([], tt, same ∙ ap (λ (l : List PutAs). l ++ more) placed.1 ∙ b.2, λ none. absurd (cc))
+rows_of_steps (Some place) q (step ∷ steps) rows are (None, now, more, same, placed, rest) =
+    let b = rows_of_steps None (after_step q step).poll steps more (asked_rest q step steps are) rest in
+    ([], tt, same ∙ ap (λ (l : List PutAs). l ++ more) placed ∙ b.2, λ none. absurd (cc))
+rows_of_steps (Some place) q (step ∷ steps) rows are (Some behind, now, more, same, placed, rest) =
+    let t : Turned = after_step q step in
+    let b = rows_of_steps (Some behind) t.poll steps more (asked_rest q step steps are) rest in
+    let X : ℕ → Type 0 = λ n. more ≡ rows_by n behind.epoch t.poll b.0 in
+    let Y : ℕ → Type 0 = λ n. more ≡ rows_by place.log n t.poll b.0 in
+    let epoch : behind.epoch ≡ (put_of place.log place.epoch t).epoch = ap (λ (x : PlaceAs). x.epoch) placed.1 in
+    (
+      step ∷ b.0,
+      asked_other q step steps b.0 are b.3 b.1,
+      same ∙ ap (λ (l : List PutAs). l ++ more) placed.0 ∙ ap (λ (l : List PutAs). (put_of place.log place.epoch t).puts ++ l) (subst Y epoch (subst X placed.2 b.2)),
+      λ none. absurd (cc),
+    )
 
 pub numbers_once : EachShownOnce → NumbersOnce
 numbers_once law = λ log place q p new own at stands chain.
-    let (steps, are, of, same) = own_rows log own p new (Some place) q at chain in
-    let rows = rows_on IsNumbered Whichever numbered law tt place.log place.epoch q steps stands (any_steps q steps are) in
+    let (steps, had) = had_turns log own p new (Some place) q at chain in
+    let b = rows_of_steps (Some place) q steps (kept_of own) had.asked had.rows_are in
+    let rows = rows_on IsNumbered Whichever numbered law tt place.log place.epoch q b.0 stands (any_steps q b.0 b.1) in
     let X : List PutAs → Type 0 = λ l. GoOn IsNumbered Whichever place.log (record { epoch = place.epoch; next = q.next }) l rows.0 in
-    (rows.0, subst X (sym same) rows.1)
+    (rows.0, subst X (sym b.2) rows.1)

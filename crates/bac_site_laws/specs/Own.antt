@@ -11,6 +11,7 @@ use Rattle.bac_link.specs.Exchanges.{verdict_of}
 use Rattle.bac_walk.specs.declared.outcome.WalkFault.TheVariants as walk
 use Rattle.bac_poll.specs.Poll.{asked_by_poll}
 use Rattle.bac_poll.specs.State.{PollState}
+use Rattle.bac_poll_steps.specs.declared.turn.PollEnd.{PollEnd}
 use Rattle.bac_poll_steps.specs.declared.turn.PollEnd.TheVariants.{Fault}
 use Rattle.bac_poll_laws.specs.Laws.{IsStanding, Whichever}
 use Rattle.bac_device_poll.specs.Logs.{log_after}
@@ -21,11 +22,12 @@ use Rattle.bac_device_poller.specs.Entries.{is_log, log_in, logs_beside}
 use Rattle.bac_device_poller.specs.Poller.{PollerAs}
 use Rattle.bac_device_poller.specs.Puts.{PlaceAs, PutAs, put_as}
 use Rattle.bac_device_poller.specs.Rows.{LogAs}
+use Rattle.bac_device_poller.specs.Turns.{IsPlaced}
 use Rattle.bac_device_poller.specs.declared.doing.Doing.{Doing}
 use Rattle.bac_device_poller.specs.declared.doing.Doing.TheVariants as doing
 use Rattle.bac_site_poller.specs.SiteLaws.{Answered, Missed, Own, OwnStep, Wanted}
 use Rattle.bac_site_laws.specs.Rows.{GoOn, IsNumbered, Stand}
-use Rattle.bac_site_laws.specs.Steps.{AreAsked, Ended, Fewer, Step, after_step, rows_by}
+use Rattle.bac_site_laws.specs.Steps.{AreAsked, Ended, Fewer, Step, after_step}
 
 -- ---- what is kept
 
@@ -120,14 +122,39 @@ OwnStepAt log p own new = IsPolled log p × OwnStep p own new
 
 -- ---- the laws
 
--- What a device's poll keeps while a log is polled is the rows of that log's own turns, one after the other, from where
--- it stands; and each turn is what an answer of the device makes of the log's poll, or the loss of its question.
+-- what is known of a log behind such steps
+abbrev pub poll_after : PollState → List Step → PollState
+poll_after q [] = q
+poll_after q (step ∷ steps) = poll_after (after_step q step).poll steps
+
+-- the last of them ends its poll
+abbrev pub EndsBy : PollState → List Step → Type 0
+EndsBy q [] = ⊥
+EndsBy q (step ∷ []) = (why : PollEnd) × ((after_step q step).end ≡ Some why)
+EndsBy q (step ∷ next ∷ steps) = EndsBy (after_step q step).poll (next ∷ steps)
+
+-- these are the rows of their turns, one behind the other, from a place on; none, once the log has no epoch left
+abbrev pub AreRowsOf : Option PlaceAs → PollState → List Step → List PutAs → Type 0
+AreRowsOf place q [] rows = rows ≡ []
+AreRowsOf place q (step ∷ steps) rows =
+    (behind : Option PlaceAs) × (now more : List PutAs) × (rows ≡ now ++ more)
+    × IsPlaced place (after_step q step) behind now × AreRowsOf behind (after_step q step).poll steps more
+
+-- A log's poll had these turns, each of them by what one of these answers makes of it or by the loss of its question,
+-- and no other: it is where they lead, or has ended by the last of them; and these are the rows that they put.
+pub record HadTurns (log : Id) (place : Option PlaceAs) (q : PollState) (answers : List (List ℕ)) (rows : List PutAs) (new : PollerAs)
+    (steps : List Step) : Type 0 where
+  pub asked : AreAsked q steps
+  pub of : AreOf answers q steps
+  pub rows_are : AreRowsOf place q steps rows
+  pub leads : ((behind : Option PlaceAs) × IsAtLog log behind (poll_after q steps) new) ⊎ EndsBy q steps
+
+-- What a device's poll keeps while a log is polled is the rows of that log's own turns, from where it stands.
 abbrev pub KeepsTurns : Type 0
 KeepsTurns =
-    (log : Id) (place : PlaceAs) (q : PollState) (p new : PollerAs) (own : List Own) →
-    IsAtLog log (Some place) q p → Chain (OwnStepAt log) p own new →
-    (steps : List Step) × AreAsked q steps × AreOf (heard_of p.doing ++ answers_of own) q steps
-    × (kept_of own ≡ rows_by place.log place.epoch q steps)
+    (log : Id) (place : Option PlaceAs) (q : PollState) (p new : PollerAs) (own : List Own) →
+    IsAtLog log place q p → Chain (OwnStepAt log) p own new →
+    (steps : List Step) × HadTurns log place q (heard_of p.doing ++ answers_of own) (kept_of own) new steps
 
 -- So its rows go on, from where it stands: each number comes once.
 abbrev pub NumbersOnce : Type 0
