@@ -1,18 +1,17 @@
 -- The same where the rows of a site are put in batches.
-use Rattle.std.proofs.Common.{◌≡◌, ◌∙◌, ℕ, ◌+◌, ◌++◌, List, filter, map, ap, sym, arith}
+use Rattle.std.proofs.Common.{◌≡◌, ◌∙◌, ℕ, ◌+◌, ◌++◌, List, map, ap, sym}
 use Rattle.std.specs.List.{sum_by}
 use Rattle.std.proofs.lemmas.List.{map-append}
 use Rattle.std.proofs.lemmas.List.Elements.{filter-append}
 use Rattle.std.proofs.lemmas.List.Sums.{sum_by-append}
 use Rattle.bac_archive3.specs.declared.row.Put.{Put}
-use Rattle.bac_drive.specs.Event.{Event}
 use Rattle.bac_drive.specs.Laws.{puts_of}
 use Rattle.bac_batch.specs.Laws.{LosesNothing}
 use Rattle.bac_device_poller.specs.Puts.{PutAs, put_as}
 use Rattle.bac_site_poller.specs.Site.{GivesSite, SiteHears}
 use Rattle.bac_site_poller.specs.SiteLaws.{SiteReads}
 use Rattle.bac_site_laws.specs.Own.{is_of_log, rows_in}
-use Rattle.bac_site_laws.specs.Tracks.{BatchedRowsAreOwn, rows_put}
+use Rattle.bac_site_laws.specs.Tracks.{BatchedRowsAreOwn}
 use Rattle.bac_site_laws.proofs.Tracks.{rows_are_own}
 
 rows_both : (g : PutAs → ℕ) (xs ys : List Put) → sum_by g (rows_in (map put_as (xs ++ ys))) ≡ sum_by g (rows_in (map put_as xs)) + sum_by g (rows_in (map put_as ys))

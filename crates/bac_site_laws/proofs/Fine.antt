@@ -1,6 +1,6 @@
 -- What a turn puts in front of its records: a beginning only where an epoch's first number comes next, and gaps.
-use Rattle.std.proofs.Common.{◌≡◌, ◌≤◌, ◌⊎◌, inl, inr, ℕ, ◌+◌, ◌%◌, ◌-◌, ◌==◌, ◌&&◌, ◌||◌, nat_lt, not, Bool, true, false}
-use Rattle.std.proofs.Common.{if◌then◌else◌, Option, None, Some, List, [], ◌∷◌, ◌++◌, length, refl, sym, subst, ap, arith}
+use Rattle.std.proofs.Common.{◌≡◌, ◌≤◌, ◌⊎◌, inl, inr, ℕ, ◌+◌, ◌%◌, ◌==◌, ◌&&◌, ◌||◌, nat_lt, not, Bool, true, false}
+use Rattle.std.proofs.Common.{if◌then◌else◌, Option, None, Some, List, [], ◌∷◌, ◌++◌, length, refl, sym, arith}
 use Rattle.std.proofs.Common.{◌∙◌}
 use Rattle.std.proofs.lemmas.Bool.{eqb-false}
 use Rattle.std.specs.Option.{is_some}
@@ -12,27 +12,26 @@ use Rattle.bac_known.specs.declared.known.Means.{Means}
 use Rattle.bac_known.specs.declared.known.Means.TheVariants as means
 use Rattle.bac_known.specs.declared.known.Shown.{Shown}
 use Rattle.bac_known.specs.declared.known.Shown.TheVariants as shown
-use Rattle.bac_known.specs.declared.word.Word.{Word}
 use Rattle.bac_poll.specs.Back.{back, back_alone, back_by, back_done, back_lost, back_more, back_shown, is_front}
 use Rattle.bac_poll.specs.Back.{shown_last, went_back}
-use Rattle.bac_poll.specs.Epochs.{another, another_by, another_of, asks_back, asks_oldest, brings_behind, renews}
+use Rattle.bac_poll.specs.Epochs.{another, another_by, another_of, asks_oldest, brings_behind, renews}
 use Rattle.bac_poll.specs.Epochs.{renews_none, renews_of}
 use Rattle.bac_poll.specs.Gone.{asks_restart, asks_revision, asks_word, brings_both, brings_doubtful, brings_gone}
 use Rattle.bac_poll.specs.Gone.{by_gone, by_word, gone_of, retold}
-use Rattle.bac_poll.specs.Joins.{again, again_by, again_equal, again_from, ahead, ahead_none, asks_again, asks_each}
-use Rattle.bac_poll.specs.Joins.{asks_newest, at_hour, brings_ahead, each, each_all, each_by, each_means, each_next}
-use Rattle.bac_poll.specs.Joins.{found, goes_nowhere, goes_on, hour, joined, joins, joins_by, joins_from, lost}
+use Rattle.bac_poll.specs.Joins.{again_by, again_equal, again_from, ahead, ahead_none, asks_again, asks_each}
+use Rattle.bac_poll.specs.Joins.{at_hour, brings_ahead, each_all, each_by, each_means, each_next}
+use Rattle.bac_poll.specs.Joins.{found, goes_nowhere, goes_on, hour, joined, joins_by, joins_from, lost}
 use Rattle.bac_poll.specs.Joins.{lost_ahead, moved_ahead, prior}
 use Rattle.bac_poll.specs.Known.{means_in, number_in, record_at, records_behind, shown_in}
 use Rattle.bac_poll_steps.specs.Known.{word_of}
 use Rattle.bac_poll.specs.Oldest.{by_count, by_number, drops, is_cut, sees, sees_before, sees_by, sees_last, sees_newest}
 use Rattle.bac_poll.specs.Oldest.{is_first, logged, sees_news, sees_none, sees_same, weighed}
-use Rattle.bac_poll.specs.Poll.{after_count, after_heard, after_reply, at_stage, came, count_at, more_of, oldest, oldest_none}
+use Rattle.bac_poll.specs.Poll.{after_heard, at_stage, came, count_at, more_of, oldest, oldest_none}
 use Rattle.bac_poll.specs.Poll.{renews_by, up_to, up_to_none}
-use Rattle.bac_poll.specs.Starts.{starts, starts_at, starts_behind, starts_at_count, starts_by, starts_from, starts_here}
+use Rattle.bac_poll.specs.Starts.{starts, starts_at, starts_at_count, starts_by, starts_from, starts_here}
 use Rattle.bac_poll.specs.Starts.{starts_none, starts_refused, starts_told}
 use Rattle.bac_poll.specs.State.{KeptAs, PollState, Reply, ToldAs}
-use Rattle.bac_poll.specs.Turns.{Turned, anew, asks, asks_at, behind, brings, brings_to, confirmed, end_of, ends, first_in}
+use Rattle.bac_poll.specs.Turns.{Turned, anew, asks, brings, brings_to, confirmed, ends, first_in}
 use Rattle.bac_poll.specs.Turns.{first_number, gap_up_to, last_in, number_or, renewed, standing_at}
 use Rattle.bac_poll_steps.specs.declared.gone.Gone.{Gone}
 use Rattle.bac_poll_steps.specs.declared.gone.Gone.TheVariants as gone

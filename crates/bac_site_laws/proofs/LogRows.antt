@@ -1,6 +1,6 @@
 -- All that is put of a turn is rows of a log.
 use Rattle.std.proofs.Common.{◌≡◌, ◌∙◌, ℕ, ◌+◌, ◌-◌, ◌==◌, nat_le, Bool, true, false, if◌then◌else◌, List, [], ◌∷◌, ◌++◌}
-use Rattle.std.proofs.Common.{filter, Option, None, Some, refl, sym, ap, subst}
+use Rattle.std.proofs.Common.{Option, None, Some, refl, sym, ap}
 use Rattle.std.proofs.lemmas.List.Elements.{filter-append}
 use Rattle.bac_link.specs.declared.item.Item.{Item}
 use Rattle.bac_link.specs.declared.item.Item.TheVariants.{Gap, Logged}
@@ -9,7 +9,7 @@ use Rattle.bac_poll.specs.Turns.{Turned}
 use Rattle.bac_poll_steps.specs.declared.turn.Beginning.{Beginning}
 use Rattle.bac_poll_steps.specs.declared.turn.Line.{Line}
 use Rattle.bac_device_poller.specs.Puts.{PutAs, Puts, with_anew, with_epoch, with_first, with_gap, with_gap_row, with_gaps}
-use Rattle.bac_device_poller.specs.Puts.{with_put, with_record, with_records, with_rest, with_round, with_turn, why_anew}
+use Rattle.bac_device_poller.specs.Puts.{with_put, with_record, with_records, with_rest, with_turn, why_anew}
 use Rattle.bac_site_laws.specs.Own.{is_of_log, rows_in}
 
 -- all of them are

@@ -1,5 +1,5 @@
 -- Entries of a log have numbers.
-use Rattle.std.proofs.Common.{◌≡◌, ◌≤◌, inl, inr, ℕ, ◌+◌, ◌%◌, List, [], ◌∷◌, refl, sym, subst, arith}
+use Rattle.std.proofs.Common.{◌≤◌, inr, ℕ, ◌+◌, ◌%◌, List, [], ◌∷◌, refl, sym, subst, arith}
 use Rattle.bac_link.specs.Delivery.{History, Moment}
 use Rattle.bac_log.specs.TrendLog.{sequence_number}
 use Rattle.bac_walk.specs.declared.batch.Numbered.{Numbered}
@@ -11,11 +11,11 @@ use Rattle.bac_site_laws.proofs.RowsOn.{rows_on}
 shown_number : (k : ℕ) → (1 ≤ sequence_number k) × (sequence_number k ≤ 4294967295)
 shown_number k = let m : ℕ = (k + 4294967294) % 4294967295 in (omega arith, omega arith)
 
-logged_number : (H : History) (h : Numbered) → IsLogged H h → (1 ≤ h.number) × (h.number ≤ 4294967295)
+pub logged_number : (H : History) (h : Numbered) → IsLogged H h → (1 ≤ h.number) × (h.number ≤ 4294967295)
 logged_number H h (k, is, entry) =
     let X : ℕ → Type 0 = λ n. (1 ≤ n) × (n ≤ 4294967295) in subst X (sym is) (shown_number k)
 
-one_gone : (moments : List Moment) → WasGoneBefore moments 1
+pub one_gone : (moments : List Moment) → WasGoneBefore moments 1
 one_gone [] = refl
 one_gone (m ∷ moments) = inr (one_gone moments)
 

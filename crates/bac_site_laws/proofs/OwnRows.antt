@@ -6,7 +6,9 @@ use Rattle.bac_desks.specs.Chain.{Chain}
 use Rattle.bac_poll.specs.State.{PollState}
 use Rattle.bac_poll.specs.Turns.{Turned}
 use Rattle.bac_poll_steps.specs.declared.turn.PollEnd.{PollEnd}
-use Rattle.bac_poll_laws.specs.Laws.{EachShownOnce, IsStanding, Whichever}
+use Rattle.bac_walk.specs.declared.batch.Numbered.{Numbered}
+use Rattle.bac_poll_laws.specs.Laws.{EachShownOnce, IsAmong, IsOneOf, Whichever}
+use Rattle.bac_poll_laws.specs.Logged.{IsLogged}
 use Rattle.bac_archive3.specs.declared.row.Put.{Put}
 use Rattle.bac_link.specs.Transactions.{closed}
 use Rattle.bac_link.specs.declared.transactions.Pending.{Pending}
@@ -30,11 +32,14 @@ use Rattle.bac_device_poller.specs.Puts.{PlaceAs, PutAs}
 use Rattle.bac_device_poller.specs.Turns.{IsPlaced}
 use Rattle.bac_site_poller.specs.SiteLaws.{Answered, Missed, Own, OwnStep, Wanted}
 use Rattle.bac_site_laws.specs.Own.{AreOf, AreRowsOf, EndsBy, HadTurns, IsAtLog, IsOf, IsOneAmong, IsPolled, KeepsTurns, NumbersOnce, OwnStepAt, answers_of}
-use Rattle.bac_site_laws.specs.Own.{heard_of, kept_of, poll_after}
+use Rattle.bac_site_laws.specs.Laws.{WasGoneBefore}
+use Rattle.bac_site_laws.specs.Own.{RowsAreTold, heard_of, kept_of, poll_after}
 use Rattle.bac_site_laws.specs.Rows.{GoOn, IsNumbered, Stand}
-use Rattle.bac_site_laws.specs.Steps.{AreAsked, Ended, IsAskedBy, Step, after_step, put_of, rows_by}
+use Rattle.bac_site_laws.specs.Steps.{AreAsked, AreSteps, Ended, IsAskedBy, IsStep, Step, after_step, put_of, rows_by}
 use Rattle.bac_site_laws.proofs.OwnSteps.{ComesBy, HasNoTurn, HasTurn, own_went, step_rows}
+use Rattle.bac_site_laws.proofs.Logged.{logged_number, one_gone}
 use Rattle.bac_site_laws.proofs.RowsOn.{any_steps, numbered, rows_on}
+use Rattle.bac_site_laws.proofs.Standing.{each_all}
 
 -- the rows of turns of a log with a place; of one without nothing is kept
 abbrev pub rows_at : Option PlaceAs → PollState → List Step → List PutAs
@@ -317,18 +322,49 @@ asked_other q step steps [] are none some = asked_first q step steps are
 asked_other q step [] (next ∷ others) are none some = absurd (let e = none refl in cc)
 asked_other q step (s ∷ steps) (next ∷ others) are none some = (are.0, are.1, some)
 
+-- some steps are the first of others
+IsFront : List Step → List Step → Type 0
+IsFront [] steps = Unit {0}
+IsFront (step ∷ some) [] = ⊥
+IsFront (step ∷ some) (next ∷ steps) = (step ≡ next) × IsFront some steps
+
+none_front : (some steps : List Step) → IsFront some steps → steps ≡ [] → some ≡ []
+unfolding IsFront
+none_front [] steps is none = refl
+none_front (step ∷ some) [] is none = elim is [ ]
+none_front (step ∷ some) (next ∷ steps) is none = absurd (cc)
+
+-- so the first of steps that show some are such
+front_steps : (P : Numbered → Type 0) (F : ℕ → Type 0) (q : PollState) (some steps : List Step) → IsFront some steps → AreSteps P F q steps → AreSteps P F q some
+unfolding IsFront
+front_steps P F q [] steps is are = tt
+front_steps P F q (step ∷ some) [] is are = elim is [ ]
+front_steps P F q (step ∷ []) (one ∷ []) is are = let X : Step → Type 0 = λ x. IsStep P F q x in subst X (sym is.0) are
+front_steps P F q (step ∷ []) (one ∷ next ∷ steps) is are = let X : Step → Type 0 = λ x. IsStep P F q x in subst X (sym is.0) are.0
+front_steps P F q (step ∷ second ∷ some) (one ∷ []) is are = elim is.1 [ ]
+front_steps P F q (step ∷ second ∷ some) (one ∷ next ∷ steps) is are =
+    let X : Step → Type 0 = λ x. IsStep P F q x in
+    let Y : Step → Type 0 = λ x. (after_step q x).end ≡ None in
+    let Z : Step → Type 0 = λ x. AreSteps P F (after_step q x).poll (second ∷ some) in
+    (
+      subst X (sym is.0) are.0,
+      subst Y (sym is.0) are.1,
+      subst Z (sym is.0) (front_steps P F (after_step q one).poll (second ∷ some) (next ∷ steps) is.1 are.2),
+    )
+
 -- the rows of turns are those of as many of them as the log has epochs for
 rows_of_steps : (o : Option PlaceAs) (q : PollState) (steps : List Step) (rows : List PutAs) → AreAsked q steps → AreRowsOf o q steps rows →
-    (some : List Step) × AreAsked q some × (rows ≡ rows_at o q some) × (steps ≡ [] → some ≡ [])
-rows_of_steps None q [] rows are is = ([], tt, is, λ none. refl)
-rows_of_steps (Some place) q [] rows are is = ([], tt, is, λ none. refl)
+    (some : List Step) × AreAsked q some × (rows ≡ rows_at o q some) × IsFront some steps
+unfolding IsFront
+rows_of_steps None q [] rows are is = ([], tt, is, tt)
+rows_of_steps (Some place) q [] rows are is = ([], tt, is, tt)
 rows_of_steps None q (step ∷ steps) rows are (behind, now, more, same, placed, rest) =
     let X : Option PlaceAs → Type 0 = λ x. AreRowsOf x (after_step q step).poll steps more in
     let b = rows_of_steps None (after_step q step).poll steps more (asked_rest q step steps are) (subst X placed.0 rest) in
-    ([], tt, same ∙ ap (λ (l : List PutAs). l ++ more) placed.1 ∙ b.2, λ none. absurd (cc))
+    ([], tt, same ∙ ap (λ (l : List PutAs). l ++ more) placed.1 ∙ b.2, tt)
 rows_of_steps (Some place) q (step ∷ steps) rows are (None, now, more, same, placed, rest) =
     let b = rows_of_steps None (after_step q step).poll steps more (asked_rest q step steps are) rest in
-    ([], tt, same ∙ ap (λ (l : List PutAs). l ++ more) placed ∙ b.2, λ none. absurd (cc))
+    ([], tt, same ∙ ap (λ (l : List PutAs). l ++ more) placed ∙ b.2, tt)
 rows_of_steps (Some place) q (step ∷ steps) rows are (Some behind, now, more, same, placed, rest) =
     let t : Turned = after_step q step in
     let b = rows_of_steps (Some behind) t.poll steps more (asked_rest q step steps are) rest in
@@ -337,9 +373,9 @@ rows_of_steps (Some place) q (step ∷ steps) rows are (Some behind, now, more, 
     let epoch : behind.epoch ≡ (put_of place.log place.epoch t).epoch = ap (λ (x : PlaceAs). x.epoch) placed.1 in
     (
       step ∷ b.0,
-      asked_other q step steps b.0 are b.3 b.1,
+      asked_other q step steps b.0 are (none_front b.0 steps b.3) b.1,
       same ∙ ap (λ (l : List PutAs). l ++ more) placed.0 ∙ ap (λ (l : List PutAs). (put_of place.log place.epoch t).puts ++ l) (subst Y epoch (subst X placed.2 b.2)),
-      λ none. absurd (cc),
+      (refl, b.3),
     )
 
 pub numbers_once : EachShownOnce → NumbersOnce
@@ -349,3 +385,22 @@ numbers_once law = λ log place q p new own at stands chain.
     let rows = rows_on IsNumbered Whichever numbered law tt place.log place.epoch q b.0 stands (any_steps q b.0 b.1) in
     let X : List PutAs → Type 0 = λ l. GoOn IsNumbered Whichever place.log (record { epoch = place.epoch; next = q.next }) l rows.0 in
     (rows.0, subst X (sym b.2) rows.1)
+
+pub rows_are_told : EachShownOnce → RowsAreTold
+rows_are_told law = λ log place q p new own at chain.
+    let (steps, had) = had_turns log own p new (Some place) q at chain in
+    let b = rows_of_steps (Some place) q steps (kept_of own) had.asked had.rows_are in
+    let start : Stand = record { epoch = place.epoch; next = q.next } in (
+      steps,
+      had,
+      λ shown fronts numbers one stands are.
+          let rows = rows_on (IsAmong shown) (IsOneOf fronts) (each_all IsNumbered shown numbers) law one place.log place.epoch q b.0 stands
+          (front_steps (IsAmong shown) (IsOneOf fronts) q b.0 steps b.3 are) in
+          let X : List PutAs → Type 0 = λ l. GoOn (IsAmong shown) (IsOneOf fronts) place.log start l rows.0 in
+          (rows.0, subst X (sym b.2) rows.1),
+      λ H moments stands are.
+          let rows = rows_on (IsLogged H) (WasGoneBefore moments) (logged_number H) law (one_gone moments) place.log place.epoch q b.0 stands
+          (front_steps (IsLogged H) (WasGoneBefore moments) q b.0 steps b.3 are) in
+          let X : List PutAs → Type 0 = λ l. GoOn (IsLogged H) (WasGoneBefore moments) place.log start l rows.0 in
+          (rows.0, subst X (sym b.2) rows.1),
+    )

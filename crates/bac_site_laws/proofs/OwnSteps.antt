@@ -1,6 +1,6 @@
 -- One step of the poll of a device, while a log is polled: what it keeps of that.
 use Rattle.std.proofs.Common.{◌≡◌, ◌≢◌, ◌∙◌, ◌⊎◌, inl, inr, ℕ, ◌+◌, ◌==◌, ◌&&◌, nat_lt, Bool, true, false, if◌then◌else◌, MatchBool}
-use Rattle.std.proofs.Common.{List, [], ◌∷◌, ◌++◌, append-nil, filter, is_some, map, position, Option, None, Some, refl, sym, ap, subst}
+use Rattle.std.proofs.Common.{List, [], ◌∷◌, ◌++◌, append-nil, map, position, Option, None, Some, refl, sym, ap, subst}
 use Rattle.std.proofs.lemmas.List.Elements.{filter-append}
 use Rattle.std.proofs.lemmas.Option.{same_Some}
 use Rattle.bac_wire.specs.Primitive.{Id}
@@ -9,16 +9,15 @@ use Rattle.bac_archive3.specs.declared.row.Put.{Put}
 use Rattle.bac_link.specs.Datagrams.{apdu_in}
 use Rattle.bac_link.specs.declared.exchanges.Verdict.{Verdict}
 use Rattle.bac_walk.specs.declared.outcome.WalkFault.TheVariants as walk
-use Rattle.bac_answers.specs.declared.entry.Entry.{Entry}
 use Rattle.bac_drive.specs.declared.machine.Next.{Next}
 use Rattle.bac_drive.specs.declared.machine.Next.TheVariants as next
 use Rattle.bac_poll.specs.Poll.{after_too_many}
 use Rattle.bac_poll.specs.State.{PollState, ToldAs}
-use Rattle.bac_poll.specs.Turns.{Turned as LogTurned, asks as log_asks, ends}
+use Rattle.bac_poll.specs.Turns.{Turned as LogTurned, ends}
 use Rattle.bac_poll_steps.specs.declared.turn.Line.{Line}
 use Rattle.bac_poll_steps.specs.declared.turn.PollEnd.{PollEnd}
 use Rattle.bac_poll_steps.specs.declared.turn.PollEnd.TheVariants.{Fault}
-use Rattle.bac_device_poll.specs.Logs.{after_loss, begins_with, halved, is_too_many, log_after, lost, with_log}
+use Rattle.bac_device_poll.specs.Logs.{begins_with, halved, is_too_many, log_after, lost, with_log}
 use Rattle.bac_device_poll.specs.Poll.{Takes, answered, asked_of_device, later, verdict_to}
 use Rattle.bac_device_poll.specs.Refusals.{is_busy}
 use Rattle.bac_device_poll.specs.State.{DeviceState, LogAs as TaskAs}
@@ -30,10 +29,10 @@ use Rattle.bac_device_poller.specs.Entries.{RowsAs, is_log, log_in, logs_beside,
 use Rattle.bac_device_poller.specs.Entries.{without}
 use Rattle.bac_device_poller.specs.declared.doing.Doing.{Doing}
 use Rattle.bac_device_poller.specs.Naming.{has_word, with_word}
-use Rattle.bac_device_poller.specs.Poller.{IsEnded, PollerAs, Settles, left_by, left_at, putting_answered, rows_with, stepped}
-use Rattle.bac_device_poller.specs.Puts.{PlaceAs, PutAs, Puts, put_as}
+use Rattle.bac_device_poller.specs.Poller.{PollerAs, Settles, putting_answered, rows_with}
+use Rattle.bac_device_poller.specs.Puts.{PlaceAs, PutAs, put_as}
 use Rattle.bac_device_poller.specs.Rows.{LogAs}
-use Rattle.bac_device_poller.specs.Turns.{IsPlaced, TakesOf, keeping, retelling, telling_any_end, telling_line, telling_turn, turning}
+use Rattle.bac_device_poller.specs.Turns.{IsPlaced, TakesOf, keeping, telling_any_end, telling_line, telling_turn, turning}
 use Rattle.std.proofs.Common.{nat_le}
 use Rattle.bac_link.specs.Transactions.{closed}
 use Rattle.bac_link.specs.declared.request.Request.{Request}
@@ -59,7 +58,7 @@ use Rattle.bac_site_laws.specs.Own.{HasNone, IsAtLog, IsOf, IsOnRecord, IsPolled
 use Rattle.bac_site_laws.specs.Steps.{Ended, Fewer, IsAskedBy, Step, after_step}
 use Rattle.bac_site_laws.proofs.Has.{beside_last, found_is, found_last}
 use Rattle.bac_site_laws.proofs.LogRows.{turn_rows}
-use Rattle.bac_site_laws.proofs.StepsOf.{IsStepOf, answer_step}
+use Rattle.bac_site_laws.proofs.StepsOf.{answer_step}
 
 -- a device at a log
 abbrev pub at_log : DeviceState → Polled → DeviceState

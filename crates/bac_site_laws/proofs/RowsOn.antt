@@ -1,10 +1,10 @@
 -- The rows of a log's poll go on, one turn after the other.
-use Rattle.std.proofs.Common.{◌≡◌, ◌∙◌, ◌≤◌, inl, inr, ℕ, ◌+◌, ◌==◌, ◌&&◌, nat_le, Bool, true, false, if◌then◌else◌, Option, None, Some}
-use Rattle.std.proofs.Common.{List, [], ◌∷◌, ◌++◌, length, refl, sym, ap, subst, arith}
+use Rattle.std.proofs.Common.{◌≡◌, ◌≤◌, ℕ, ◌==◌, ◌&&◌, nat_le, Bool, true, false, if◌then◌else◌, Option, None, Some}
+use Rattle.std.proofs.Common.{List, [], ◌∷◌, length, refl, sym, subst, arith}
 use Rattle.std.proofs.lemmas.Bool.{leb-true}
 use Rattle.bac_log.specs.declared.entry.Entry.{Entry}
 use Rattle.bac_link.specs.Heard.{AckParameters, heard_in}
-use Rattle.bac_link.specs.Ordinals.{distance, is_number, number_after}
+use Rattle.bac_link.specs.Ordinals.{is_number, number_after}
 use Rattle.bac_walk.specs.Walks.{Ask, Bring, End, NextAct, Refuse, asks_oldest_now, fits, is_past, verdict, with_numbers}
 use Rattle.bac_walk.specs.Place.{WalkPlace}
 use Rattle.bac_walk.specs.declared.batch.Numbered.{Numbered}
@@ -16,10 +16,10 @@ use Rattle.bac_poll_steps.specs.declared.stage.Aim.TheVariants.{Finds, Renews, S
 use Rattle.bac_poll_steps.specs.declared.stage.Stage.{Stage}
 use Rattle.bac_poll_steps.specs.declared.stage.Stage.TheVariants.{Joins, Prior, Ahead, Again, Each, Oldest, ByNumber}
 use Rattle.bac_poll_steps.specs.declared.stage.Stage.TheVariants.{Counts, UpTo, Back, Revision, Restart}
-use Rattle.bac_poll_laws.specs.Laws.{Answer, Clears, Counted, EachShownOnce, HasSome, HoldsOfEach, IsAimed, IsAt, IsClearAt}
-use Rattle.bac_poll_laws.specs.Laws.{IsRun, IsStanding, Replied, Restarted, Revised, ShowsOnly, Whichever, after_answer}
+use Rattle.bac_poll_laws.specs.Laws.{Clears, Counted, EachShownOnce, HoldsOfEach, IsAimed, IsAt, IsClearAt}
+use Rattle.bac_poll_laws.specs.Laws.{IsRun, IsStanding, Replied, Restarted, Revised, ShowsOnly, Whichever}
 use Rattle.bac_site_laws.specs.Rows.{GoOn, IsNumbered, Stand}
-use Rattle.bac_site_laws.specs.Steps.{AreAsked, AreSteps, Ended, Fewer, IsAsked, IsAskedBy, IsShown, IsStep, Step, Took, after_step}
+use Rattle.bac_site_laws.specs.Steps.{AreAsked, AreSteps, Ended, Fewer, IsAskedBy, IsStep, Step, Took, after_step}
 use Rattle.bac_site_laws.specs.Steps.{put_of, rows_by}
 use Rattle.bac_site_laws.proofs.Fine.{Fine, HasFirst, HasFirstOf, IsOne, IsReady, count_fine, end_fine, heard_fine, quiet}
 use Rattle.bac_site_laws.proofs.Fine.{restarted_fine, revised_fine}

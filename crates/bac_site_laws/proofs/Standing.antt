@@ -1,20 +1,19 @@
 -- A step of a log's poll, by what holds of the records and of the numbers that it shows.
-use Rattle.std.proofs.Common.{◌≡◌, ◌∙◌, ◌⊎◌, inl, inr, ℕ, ◌==◌, Bool, true, false, Option, None, Some, List, [], ◌∷◌, ◌++◌}
+use Rattle.std.proofs.Common.{◌≡◌, ◌∙◌, inl, inr, ℕ, ◌==◌, Bool, true, false, Option, None, Some, List, [], ◌∷◌, ◌++◌}
 use Rattle.std.proofs.Common.{length, refl, sym, subst}
 use Rattle.bac_link.specs.Ordinals.{number_after}
 use Rattle.bac_link.specs.declared.item.Item.{Item}
 use Rattle.bac_link.specs.declared.item.Item.TheVariants.{Gap, Logged}
 use Rattle.bac_walk.specs.declared.batch.Numbered.{Numbered}
-use Rattle.bac_known.specs.declared.date_time.DateTime.{DateTime}
-use Rattle.bac_poll.specs.Poll.{after, after_count, after_restart, after_revision, after_too_many, more_of, reply_in}
+use Rattle.bac_poll.specs.Poll.{after, after_too_many, more_of, reply_in}
 use Rattle.bac_poll.specs.State.{PollState, Reply}
-use Rattle.bac_poll.specs.Turns.{Turned, asks, ends, first_in, first_number, number_or}
+use Rattle.bac_poll.specs.Turns.{Turned, first_in, first_number, number_or}
 use Rattle.bac_poll_steps.specs.declared.stage.Aim.{Aim}
 use Rattle.bac_poll_steps.specs.declared.stage.Stage.{Stage}
 use Rattle.bac_poll_steps.specs.declared.stage.Stage.TheVariants.{Joins, Prior, Ahead, Again, Each, Oldest, ByNumber}
 use Rattle.bac_poll_steps.specs.declared.stage.Stage.TheVariants.{Counts, UpTo, Back, Revision, Restart}
 use Rattle.bac_poll_laws.specs.Laws.{Answer, Clears, Counted, Covers, EachShownOnce, EndAt, Goes, HoldsOfEach, IsAmong}
-use Rattle.bac_poll_laws.specs.Laws.{IsAt, IsClearAt, IsEach, IsFrontOf, IsOneOf, IsRun, IsStanding, IsWhole, Replied}
+use Rattle.bac_poll_laws.specs.Laws.{IsAt, IsClearAt, IsOneOf, IsRun, IsStanding, IsWhole, Replied}
 use Rattle.bac_poll_laws.specs.Laws.{Restarted, Revised, ShowsOnly, after_answer, is_bare}
 use Rattle.bac_site_laws.specs.Steps.{Ended, Fewer, IsAsked, IsShown, IsStep, Step, Took, after_step}
 

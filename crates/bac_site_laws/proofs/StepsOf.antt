@@ -1,5 +1,5 @@
 -- What an answer to the question of a log makes of its poll, as a step.
-use Rattle.std.proofs.Common.{◌≡◌, ℕ, Bool, true, false, if◌then◌else◌, List, Option, None, Some, refl, sym, subst}
+use Rattle.std.proofs.Common.{◌≡◌, ℕ, Bool, true, false, if◌then◌else◌, List, refl}
 use Rattle.bac_link.specs.declared.exchanges.Verdict.{Verdict}
 use Rattle.bac_link.specs.declared.exchanges.Verdict.TheVariants.{Ack, BadReply, Refused}
 use Rattle.bac_walk.specs.declared.outcome.WalkFault.TheVariants as walk
@@ -14,7 +14,6 @@ use Rattle.bac_device_poll.specs.Logs.{log_after, read_as, wanted_at, with_recor
 use Rattle.bac_device_poll.specs.Refusals.{is_busy}
 use Rattle.bac_device_poll.specs.Values.{number_of, told_by, value_by}
 use Rattle.bac_device_poll.specs.Word.{moment_of, restart_of}
-use Rattle.bac_device_poll.specs.declared.logs.Wanted.{Wanted}
 use Rattle.bac_device_poll.specs.declared.logs.Wanted.TheVariants as wanted
 use Rattle.bac_site_laws.specs.Steps.{Ended, IsAskedBy, Step, Took, after_step}
 

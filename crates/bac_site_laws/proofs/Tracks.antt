@@ -1,6 +1,6 @@
 -- Each device of a site has its own steps, and what a site puts of logs is what they keep.
-use Rattle.std.proofs.Common.{◌≡◌, ◌∙◌, ◌⊎◌, inl, inr, ℕ, ◌+◌, suc, zero, max, Bool, true, false, if◌then◌else◌, All, List, [], ◌∷◌, ◌++◌}
-use Rattle.std.proofs.Common.{append-nil, append_assoc, drop, filter, get_or, map, remove, slice_get, take, Option, Some, None, Ok, Err, refl, sym, ap, subst, arith}
+use Rattle.std.proofs.Common.{◌≡◌, ◌∙◌, inl, inr, ℕ, ◌+◌, suc, zero, max, Bool, true, false, if◌then◌else◌, All, List, [], ◌∷◌, ◌++◌}
+use Rattle.std.proofs.Common.{append-nil, append_assoc, drop, get_or, map, remove, slice_get, take, Option, Some, None, Ok, Err, refl, sym, ap, subst, arith}
 use Rattle.std.specs.List.{sum_by}
 use Rattle.std.proofs.lemmas.List.{map-append}
 use Rattle.std.proofs.lemmas.List.Elements.{All-append, All-cons, All-drop, All-head, All-nil, All-push, All-tail}
@@ -17,21 +17,20 @@ use Rattle.bac_drive.specs.Happens.{Does, Learns}
 use Rattle.bac_drive.specs.Laws.{puts_of}
 use Rattle.bac_drive.specs.declared.machine.Next.{Next}
 use Rattle.bac_drive.specs.declared.machine.Next.TheVariants as next
-use Rattle.bac_link.specs.Transactions.{closed}
-use Rattle.bac_device_poller.specs.Poller.{PollerAs, heard_by, is_answer, missed}
+use Rattle.bac_device_poller.specs.Poller.{PollerAs, is_answer, missed}
 use Rattle.bac_device_poller.specs.Puts.{PutAs, put_as}
 use Rattle.bac_device_poller.specs.Telling.{IsToldBy}
 use Rattle.bac_device_poller.specs.declared.doing.Doing.{Doing}
 use Rattle.bac_device_poller.specs.declared.doing.Doing.TheVariants as doing
 use Rattle.bac_site_poller.specs.News.{news_line}
 use Rattle.bac_site_poller.specs.Seat.{is_due, is_known, noticed, seat_heard, seat_read}
-use Rattle.bac_site_poller.specs.Site.{GivesFrom, GivesNews, GivesSite, GivesWaiting, Rests, SiteState, due_from, given, heeded}
-use Rattle.bac_site_poller.specs.Site.{SiteHears, noted, put_by, site_heard, site_read}
-use Rattle.bac_site_poller.specs.SiteLaws.{Answered, Missed, Own, OwnStep, SiteReads, SiteSteps, Wanted, seats_of}
+use Rattle.bac_site_poller.specs.Site.{GivesFrom, GivesNews, GivesWaiting, Rests, SiteState, due_from, given, heeded}
+use Rattle.bac_site_poller.specs.Site.{SiteHears, noted, put_by, site_heard}
+use Rattle.bac_site_poller.specs.SiteLaws.{Answered, Missed, Own, OwnStep, SiteReads, SiteSteps, Wanted}
 use Rattle.bac_site_poller.specs.declared.news.News.{News}
 use Rattle.bac_site_poller.specs.declared.seat.Seat.{Seat}
 use Rattle.bac_site_laws.specs.Own.{is_of_log, kept_of, rows_in, wanted_rows}
-use Rattle.bac_site_laws.specs.Tracks.{AreTracks, IsTrack, RowsAreOwn, Track, rows_put}
+use Rattle.bac_site_laws.specs.Tracks.{IsTrack, RowsAreOwn, Track, rows_put}
 
 -- ---- rows of events
 

@@ -3,7 +3,6 @@ use Rattle.std.proofs.Common.{◌≡◌, ◌∙◌, append-nil, ◌≤◌, ◌�
 use Rattle.std.proofs.Common.{if◌then◌else◌, List, [], ◌∷◌, ◌++◌, map, Option, None, Some, refl, sym, ap, subst, arith}
 use Rattle.std.proofs.lemmas.Bool.{eqb-true, eqb-false, leb-false, leb-true}
 use Rattle.sqlite_value.specs.declared.value.Value.TheVariants.{Int, Text}
-use Rattle.sqlite_value.specs.Order.{Row as Values}
 use Rattle.sqlite.specs.Values.{or_null}
 use Rattle.bac_link.specs.Ordinals.{number_after}
 use Rattle.bac_link.specs.declared.item.Item.{Item}
@@ -14,7 +13,7 @@ use Rattle.bac_poll.specs.Turns.{Turned}
 use Rattle.bac_poll_steps.specs.declared.turn.Beginning.{Beginning}
 use Rattle.bac_poll_steps.specs.declared.turn.Line.{Line}
 use Rattle.bac_poll_laws.specs.Laws.{Covers, EndAt, IsWhole, start_of}
-use Rattle.bac_device_poller.specs.Puts.{PutAs, Puts, era_of, gap_columns, none_from, record_columns, why_anew, why_first}
+use Rattle.bac_device_poller.specs.Puts.{PutAs, Puts, era_of, gap_columns, record_columns, why_anew, why_first}
 use Rattle.bac_device_poller.specs.Puts.{with_anew, with_epoch, with_first, with_gap, with_gap_row, with_gaps, with_put}
 use Rattle.bac_device_poller.specs.Puts.{with_record, with_records, with_rest, with_round, with_turn}
 use Rattle.bac_site_laws.specs.Rows.{Begins, GoOn, IsSaid, Missing, Recorded, Renewed, Says, Stand, behind, era, row_of}

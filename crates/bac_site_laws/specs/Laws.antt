@@ -14,11 +14,12 @@ use Rattle.bac_site_laws.specs.Steps.{AreAsked, AreSteps, Step, rows_by}
 abbrev pub RowsGoOn : Type 0
 RowsGoOn =
     (log epoch : ℕ) (p : PollState) (steps : List Step) → IsStanding IsNumbered Whichever p → AreAsked p steps →
-    (t : Stand) × GoOn IsNumbered Whichever log (record { epoch = epoch; next = p.next }) (rows_by log epoch p steps) t
+    (t : Stand)
+    × GoOn IsNumbered Whichever log (record { epoch = epoch; next = p.next }) (rows_by log epoch p steps) t
 
 -- No gap is a lie: if replies show none but these records, and say of no other numbers than these that nothing stands
--- before them, each record that is put is one of those, as it was shown, and each gap ends at one of these, or is marked
--- as doubtful.
+-- before them, each record that is put is one of those, as it was shown, and each gap ends at one of these, or is
+-- marked as doubtful.
 abbrev pub GapsAreTold : Type 0
 GapsAreTold =
     (shown : List Numbered) (fronts : List ℕ) → HoldsOfEach IsNumbered shown → IsOneOf fronts 1 →
@@ -40,4 +41,5 @@ RowsAreLogged =
     (H : History) (moments : List Moment) (log epoch : ℕ) (p : PollState) (steps : List Step) →
     IsStanding (IsLogged H) (WasGoneBefore moments) p → AreSteps (IsLogged H) (WasGoneBefore moments) p steps →
     (t : Stand)
-    × GoOn (IsLogged H) (WasGoneBefore moments) log (record { epoch = epoch; next = p.next }) (rows_by log epoch p steps) t
+    × GoOn (IsLogged H) (WasGoneBefore moments) log (record { epoch = epoch; next = p.next })
+    (rows_by log epoch p steps) t

@@ -1,8 +1,7 @@
 -- What the poll of a device keeps of the log that is polled. Read `KeepsTurns`, then `NumbersOnce`.
-use Rattle.std.specs.Prelude.{◌≡◌, ◌≢◌, ◌⊎◌, ℕ, ◌==◌, ◌||◌, Bool, true, false, List, [], ◌∷◌, ◌++◌, filter, map, position}
-use Rattle.std.specs.Prelude.{Option, None, Some}
+use Rattle.std.specs.Prelude.{◌≡◌, ◌≢◌, ◌⊎◌, ℕ, ◌==◌, ◌||◌, Bool, false, List}
+use Rattle.std.specs.Prelude.{[], ◌∷◌, ◌++◌, filter, map, position, Option, Some}
 use Rattle.bac_wire.specs.Primitive.{Id}
-use Rattle.bac_archive3.specs.declared.row.Put.{Put}
 use Rattle.bac_desks.specs.Chain.{Chain}
 use Rattle.bac_drive.specs.declared.machine.Next.{Next}
 use Rattle.bac_drive.specs.declared.machine.Next.TheVariants as next
@@ -13,11 +12,13 @@ use Rattle.bac_poll.specs.Poll.{asked_by_poll}
 use Rattle.bac_poll.specs.State.{PollState}
 use Rattle.bac_poll_steps.specs.declared.turn.PollEnd.{PollEnd}
 use Rattle.bac_poll_steps.specs.declared.turn.PollEnd.TheVariants.{Fault}
-use Rattle.bac_poll_laws.specs.Laws.{IsStanding, Whichever}
+use Rattle.bac_link.specs.Delivery.{History, Moment}
+use Rattle.bac_walk.specs.declared.batch.Numbered.{Numbered}
+use Rattle.bac_poll_laws.specs.Laws.{HoldsOfEach, IsAmong, IsOneOf, IsStanding, Whichever}
+use Rattle.bac_poll_laws.specs.Logged.{IsLogged}
 use Rattle.bac_device_poll.specs.Logs.{log_after}
 use Rattle.bac_device_poll.specs.State.{LogAs as TaskAs}
 use Rattle.bac_device_poll.specs.declared.stage.Stage.TheVariants as stage
-use Rattle.bac_device_poll.specs.declared.task.Polled.{Polled}
 use Rattle.bac_device_poller.specs.Entries.{is_log, log_in, logs_beside}
 use Rattle.bac_device_poller.specs.Poller.{PollerAs}
 use Rattle.bac_device_poller.specs.Puts.{PlaceAs, PutAs, put_as}
@@ -26,8 +27,9 @@ use Rattle.bac_device_poller.specs.Turns.{IsPlaced}
 use Rattle.bac_device_poller.specs.declared.doing.Doing.{Doing}
 use Rattle.bac_device_poller.specs.declared.doing.Doing.TheVariants as doing
 use Rattle.bac_site_poller.specs.SiteLaws.{Answered, Missed, Own, OwnStep, Wanted}
+use Rattle.bac_site_laws.specs.Laws.{WasGoneBefore}
 use Rattle.bac_site_laws.specs.Rows.{GoOn, IsNumbered, Stand}
-use Rattle.bac_site_laws.specs.Steps.{AreAsked, Ended, Fewer, Step, after_step}
+use Rattle.bac_site_laws.specs.Steps.{AreAsked, AreSteps, Ended, Fewer, Step, after_step}
 
 -- ---- what is kept
 
@@ -142,8 +144,8 @@ AreRowsOf place q (step ∷ steps) rows =
 
 -- A log's poll had these turns, each of them by what one of these answers makes of it or by the loss of its question,
 -- and no other: it is where they lead, or has ended by the last of them; and these are the rows that they put.
-pub record HadTurns (log : Id) (place : Option PlaceAs) (q : PollState) (answers : List (List ℕ)) (rows : List PutAs) (new : PollerAs)
-    (steps : List Step) : Type 0 where
+pub record HadTurns (log : Id) (place : Option PlaceAs) (q : PollState) (answers : List (List ℕ))
+    (rows : List PutAs) (new : PollerAs) (steps : List Step) : Type 0 where
   pub asked : AreAsked q steps
   pub of : AreOf answers q steps
   pub rows_are : AreRowsOf place q steps rows
@@ -162,3 +164,23 @@ NumbersOnce =
     (log : Id) (place : PlaceAs) (q : PollState) (p new : PollerAs) (own : List Own) →
     IsAtLog log (Some place) q p → IsStanding IsNumbered Whichever q → Chain (OwnStepAt log) p own new →
     (t : Stand) × GoOn IsNumbered Whichever place.log (record { epoch = place.epoch; next = q.next }) (kept_of own) t
+
+-- And what they say is what its device said. If its answers show none but these records, and say of no other numbers
+-- than these that nothing stands before them, each record that is kept is one of those, and each gap ends at one of
+-- these, or is marked as doubtful. Where its answers show none but entries of its log, and say that nothing stands
+-- before a number only where nothing did at one of these moments, each record is an entry of the log, under its number,
+-- and what a gap covers that isn't doubtful was gone at one of these.
+abbrev pub RowsAreTold : Type 0
+RowsAreTold =
+    (log : Id) (place : PlaceAs) (q : PollState) (p new : PollerAs) (own : List Own) →
+    IsAtLog log (Some place) q p → Chain (OwnStepAt log) p own new →
+    (steps : List Step) × HadTurns log (Some place) q (heard_of p.doing ++ answers_of own) (kept_of own) new steps
+    × ((shown : List Numbered) (fronts : List ℕ) → HoldsOfEach IsNumbered shown → IsOneOf fronts 1 →
+    IsStanding (IsAmong shown) (IsOneOf fronts) q → AreSteps (IsAmong shown) (IsOneOf fronts) q steps →
+    (t : Stand)
+    × GoOn (IsAmong shown) (IsOneOf fronts) place.log (record { epoch = place.epoch; next = q.next }) (kept_of own) t)
+    × ((H : History) (moments : List Moment) →
+    IsStanding (IsLogged H) (WasGoneBefore moments) q → AreSteps (IsLogged H) (WasGoneBefore moments) q steps →
+    (t : Stand)
+    × GoOn (IsLogged H) (WasGoneBefore moments) place.log (record { epoch = place.epoch; next = q.next })
+    (kept_of own) t)

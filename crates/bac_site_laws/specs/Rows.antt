@@ -2,7 +2,6 @@
 -- `GoOn`.
 use Rattle.std.specs.Prelude.{◌≡◌, ◌≤◌, ◌⊎◌, ℕ, ◌+◌, ◌*◌, pos, Bool, true, false, if◌then◌else◌, List, [], ◌∷◌, Option}
 use Rattle.sqlite_value.specs.declared.value.Value.TheVariants.{Int, Text}
-use Rattle.sqlite_value.specs.Order.{Row as Values}
 use Rattle.sqlite.specs.Values.{or_null}
 use Rattle.bac_walk.specs.declared.batch.Numbered.{Numbered}
 use Rattle.bac_device_poller.specs.Puts.{PutAs, gap_columns, record_columns, why_first}

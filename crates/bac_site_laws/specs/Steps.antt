@@ -6,10 +6,10 @@ use Rattle.bac_poll.specs.State.{PollState}
 use Rattle.bac_poll.specs.Turns.{Turned, asks, ends}
 use Rattle.bac_poll_steps.specs.declared.stage.Stage.TheVariants.{Revision, Restart}
 use Rattle.bac_poll_steps.specs.declared.turn.PollEnd.{PollEnd}
-use Rattle.bac_poll_laws.specs.Laws.{Answer, Clears, Counted, IsAmong, IsBefore, IsOneOf, IsStanding, Replied, Restarted}
+use Rattle.bac_poll_laws.specs.Laws.{Answer, Clears, Counted}
+use Rattle.bac_poll_laws.specs.Laws.{Replied, Restarted}
 use Rattle.bac_poll_laws.specs.Laws.{Revised, ShowsOnly, after_answer}
 use Rattle.bac_device_poller.specs.Puts.{PutAs, Puts, with_turn}
-use Rattle.bac_site_laws.specs.Rows.{GoOn, Stand}
 
 -- what comes of the question of a log: an answer; its poll ends, by a refusal, a bad reply or a loss; or its device
 -- can't send so many records, and half as many are asked for

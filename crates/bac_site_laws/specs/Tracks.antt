@@ -1,5 +1,5 @@
 -- The events of a site, as those of each of its devices. Read `RowsAreOwn`.
-use Rattle.std.specs.Prelude.{◌≡◌, ℕ, ◌+◌, List, [], ◌∷◌, ◌++◌, All, map}
+use Rattle.std.specs.Prelude.{◌≡◌, ℕ, ◌+◌, List, All, map}
 use Rattle.std.specs.List.{sum_by}
 use Rattle.bac_desks.specs.Chain.{Chain}
 use Rattle.bac_drive.specs.Event.{Event}

@@ -2,7 +2,7 @@
 //! ensures is the law.
 
 ghost use Rattle.bac_site_laws.specs.Laws.{GapsAreTold, RowsAreLogged, RowsGoOn};
-ghost use Rattle.bac_site_laws.specs.Own.{KeepsTurns, NumbersOnce};
+ghost use Rattle.bac_site_laws.specs.Own.{KeepsTurns, NumbersOnce, RowsAreTold};
 ghost use Rattle.bac_site_laws.specs.Tracks.{BatchedRowsAreOwn, RowsAreOwn};
 
 use bac_batch::loses_nothing;
@@ -42,6 +42,15 @@ pub fn keeps_turns()
 /// So what it keeps of that log covers each number once.
 pub fn numbers_once()
     ensures { NumbersOnce }
+{
+    each_shown_once();
+}
+
+/// And it is what its device said: each record is one that its answers showed, and a gap that isn't
+/// marked as doubtful ends where one of them said that nothing stands before it; where they show
+/// what the log holds, records are its entries, and such a gap lies over what was gone.
+pub fn rows_are_told()
+    ensures { RowsAreTold }
 {
     each_shown_once();
 }

@@ -6,5 +6,5 @@ mod laws;
 
 pub use laws::{
     batched_rows_are_own, gaps_are_told, keeps_turns, numbers_once, rows_are_logged, rows_are_own,
-    rows_go_on,
+    rows_are_told, rows_go_on,
 };
