@@ -22,8 +22,7 @@ rows_both g xs ys =
 pub batched_rows_are_own : LosesNothing GivesSite SiteHears SiteReads → BatchedRowsAreOwn
 batched_rows_are_own law = λ old new es nothing chain.
     let (inner, last, inside) = law old new es nothing chain in
-    let (tracks, are) = rows_are_own old.machine last inner inside.run in
-    (
+    let (tracks, are) = rows_are_own old.machine last inner inside.run in (
       tracks,
       record {
         own = are.own;

@@ -268,6 +268,7 @@ module _ (log : Id) where
       ends t (Some why) some =
           turn_last answers o q t.step t.behind (step_rows log own) more new why t.asked
           (from_more (heard_of p.doing) answers q t.step heard (comes_from p.doing q t.step t.comes)) t.placed some (over (t.over why some))
+
       by : HasNoTurn log o q (step_rows log own) mid ⊎ HasTurn log p.doing o q (step_rows log own) mid → Kept answers o q (step_rows log own ++ more) new
       by (inl same) =
           let Y : List PutAs → Type 0 = λ l. Kept answers o q (l ++ more) new in
@@ -345,8 +346,7 @@ front_steps P F q (step ∷ second ∷ some) (one ∷ []) is are = elim is.1 [ ]
 front_steps P F q (step ∷ second ∷ some) (one ∷ next ∷ steps) is are =
     let X : Step → Type 0 = λ x. IsStep P F q x in
     let Y : Step → Type 0 = λ x. (after_step q x).end ≡ None in
-    let Z : Step → Type 0 = λ x. AreSteps P F (after_step q x).poll (second ∷ some) in
-    (
+    let Z : Step → Type 0 = λ x. AreSteps P F (after_step q x).poll (second ∷ some) in (
       subst X (sym is.0) are.0,
       subst Y (sym is.0) are.1,
       subst Z (sym is.0) (front_steps P F (after_step q one).poll (second ∷ some) (next ∷ steps) is.1 are.2),
@@ -370,8 +370,7 @@ rows_of_steps (Some place) q (step ∷ steps) rows are (Some behind, now, more, 
     let b = rows_of_steps (Some behind) t.poll steps more (asked_rest q step steps are) rest in
     let X : ℕ → Type 0 = λ n. more ≡ rows_by n behind.epoch t.poll b.0 in
     let Y : ℕ → Type 0 = λ n. more ≡ rows_by place.log n t.poll b.0 in
-    let epoch : behind.epoch ≡ (put_of place.log place.epoch t).epoch = ap (λ (x : PlaceAs). x.epoch) placed.1 in
-    (
+    let epoch : behind.epoch ≡ (put_of place.log place.epoch t).epoch = ap (λ (x : PlaceAs). x.epoch) placed.1 in (
       step ∷ b.0,
       asked_other q step steps b.0 are (none_front b.0 steps b.3) b.1,
       same ∙ ap (λ (l : List PutAs). l ++ more) placed.0 ∙ ap (λ (l : List PutAs). (put_of place.log place.epoch t).puts ++ l) (subst Y epoch (subst X placed.2 b.2)),

@@ -135,6 +135,7 @@ act_one w (Some first) count (e ∷ es) = by (is_past w first) ((count == length
     fit : fits w first (length (e ∷ es)) ≡ true → (1 ≤ first) × (first ≤ 4294967295)
     fit is =
         is_one first (both_of (is_number first) _ (both_of (nat_le (length (e ∷ es)) w.count) _ is).1).0
+
     by : (b c : Bool) → ((count == length (e ∷ es)) && fits w first (length (e ∷ es))) ≡ c → BringsOne (if b then End else (if c then Bring first else Refuse))
     by true c is = tt
     by false false is = tt

@@ -417,6 +417,7 @@ heard_went from datagram now t is = by (is_answer t.now.poller from datagram) re
     none : (b : Bool) (x : PollerAs) → b ≡ false → (if b then x else t.now.poller) ≡ t.now.poller
     none true x is = absurd (cc)
     none false x is = refl
+
     by : (b : Bool) → is_answer t.now.poller from datagram ≡ b → Went t (seat_heard from datagram now t.now)
     by true fits = went_on t (seat_heard from datagram now t.now) (Answered from datagram now) is (fits, refl) refl
     by false fits = went_not t (seat_heard from datagram now t.now) is (none (is_answer t.now.poller from datagram) _ fits)
@@ -481,6 +482,7 @@ heard_told l s now (Ok heard) at = by heard.datagram (site_heard now (Ok heard) 
       where
         first : AllWent (seat_heard heard.from datagram now) l.active
         first = all_went (seat_heard heard.from datagram now) (heard_went heard.from datagram now) l.active at.goes
+
         known : (b : Bool) → new.active ≡ heeded b heard.from datagram (map (seat_heard heard.from datagram now) s.active) → Told l new
         known true active = active_told l s new (seat_heard heard.from datagram now) at first active waiting ended
         known false active = then_noticed (all_went (noticed heard.from datagram) (noticed_went heard.from datagram) first.lists first.all)
@@ -589,8 +591,7 @@ unfolding total now_of
 rows_are_own = λ old new es chain.
     let ran = run old [] es old new (begins old) chain in
     let l = ran.lists in
-    let ts = l.active ++ (l.waiting ++ l.ended) in
-    (
+    let ts = l.active ++ (l.waiting ++ l.ended) in (
       ts,
       record {
         own = All-append IsTrack l.active (l.waiting ++ l.ended) ran.at.goes (All-append IsTrack l.waiting l.ended ran.at.stands ran.at.done);

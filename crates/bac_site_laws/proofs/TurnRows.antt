@@ -84,8 +84,7 @@ module _ (P : Numbered → Type 0) (F : ℕ → Type 0) (log : ℕ) where
     rest_on false doubtful s t before is some ends one up =
         let above = leb-false before 1 is in
         let back : before - 1 + 1 ≡ before = omega (arith, some.0) in
-        let X : ℕ → Type 0 = λ n. UpTo (with_gap_row doubtful s n (before - 1)) (record t { next = before - 1 + 1 }) in
-        (
+        let X : ℕ → Type 0 = λ n. UpTo (with_gap_row doubtful s n (before - 1)) (record t { next = before - 1 + 1 }) in (
           record t { next = before - 1 + 1 },
           subst X one (row_on doubtful s t (before - 1) up (omega (arith, some.1), inl (omega (arith, above, one)), λ sure. inl (subst F (sym back) (ends sure)))),
           back,
@@ -103,8 +102,7 @@ module _ (P : Numbered → Type 0) (F : ℕ → Type 0) (log : ℕ) where
     gap_by false doubtful s t first before is some ends from up =
         let above = leb-false before first is in
         let back : before - 1 + 1 ≡ before = omega (arith, some.0) in
-        let X : ℕ → Type 0 = λ n. UpTo (with_gap_row doubtful s n (before - 1)) (record t { next = before - 1 + 1 }) in
-        (
+        let X : ℕ → Type 0 = λ n. UpTo (with_gap_row doubtful s n (before - 1)) (record t { next = before - 1 + 1 }) in (
           record t { next = before - 1 + 1 },
           subst X from (row_on doubtful s t (before - 1) up (omega (arith, some.1), inl (omega (arith, above, from)), λ sure. inl (subst F (sym back) (ends sure)))),
           back,
@@ -129,10 +127,12 @@ module _ (P : Numbered → Type 0) (F : ℕ → Type 0) (log : ℕ) where
       where
         few : (1 ≤ h.number) × (h.number ≤ 4294967295)
         few = number h holds
+
         row : UpTo (with_put s (record { tree = 5; is_new = true; columns = record_columns (era_of s) h })) (record t { next = t.next + 1 })
         row =
             put_on s t (Recorded h) _ up (holds, sym from, omega (arith, from, few.1))
             (ap (λ (e : ℕ). let put : PutAs = record { tree = 5; is_new = true; columns = record_columns e h } in put) (era_is s t up)) refl
+
         by : (b : Bool) → (h.number == 4294967295) ≡ b →
             Leads (if b then with_round (with_put s (record { tree = 5; is_new = true; columns = record_columns (era_of s) h }))
             else with_put s (record { tree = 5; is_new = true; columns = record_columns (era_of s) h })) (number_after h.number 1)
@@ -163,6 +163,7 @@ module _ (P : Numbered → Type 0) (F : ℕ → Type 0) (log : ℕ) where
         both =
             put_on s t (Begins begins.counted begins.number) _ up (from ∙ one)
             (ap (λ (e : ℕ). let put : PutAs = record { tree = 6; is_new = begins.counted; columns = Int (pos e) ∷ Int (pos begins.number) ∷ or_null Text (why_first begins.counted) ∷ [] } in put) (era_is s t up)) refl
+
         by : (c : Bool) → c ≡ begins.counted → Leads (with_first s (Some begins)) (if begins.counted then n else begins.number)
         by c is = (behind t (Begins begins.counted begins.number), both, next begins.counted)
           where
