@@ -1,12 +1,11 @@
 -- What a turn puts in front of its records: a beginning only where an epoch's first number comes next, and gaps.
-use Rattle.std.proofs.Common.{◌≡◌, ◌≤◌, ◌⊎◌, inl, inr, ℕ, ◌+◌, ◌%◌, ◌==◌, ◌&&◌, ◌||◌, nat_lt, not, Bool, true, false}
-use Rattle.std.proofs.Common.{if◌then◌else◌, Option, None, Some, List, [], ◌∷◌, ◌++◌, length, refl, sym, arith}
+use Rattle.std.proofs.Common.{◌≡◌, inl, inr, ℕ, ◌==◌, ◌&&◌, ◌||◌, nat_lt, not, Bool, true, false}
+use Rattle.std.proofs.Common.{if◌then◌else◌, Option, None, Some, List, [], ◌∷◌, ◌++◌, length, refl, sym}
 use Rattle.std.proofs.Common.{◌∙◌}
 use Rattle.std.proofs.lemmas.Bool.{eqb-false}
 use Rattle.std.specs.Option.{is_some}
 use Rattle.bac_link.specs.Ordinals.{is_ahead, number_after}
-use Rattle.bac_link.specs.declared.item.Item.{Item}
-use Rattle.bac_link.specs.declared.item.Item.TheVariants.{Gap, Logged}
+use Rattle.bac_link.specs.declared.item.Item.TheVariants.{Gap}
 use Rattle.bac_walk.specs.declared.batch.Numbered.{Numbered}
 use Rattle.bac_known.specs.declared.known.Means.{Means}
 use Rattle.bac_known.specs.declared.known.Means.TheVariants as means
@@ -44,47 +43,7 @@ use Rattle.bac_poll_steps.specs.declared.turn.Line.{Line}
 use Rattle.bac_poll_steps.specs.declared.turn.Line.TheVariants.{BeganAnew}
 use Rattle.bac_poll_steps.specs.declared.turn.PollEnd.TheVariants.{Contradicts}
 use Rattle.bac_poll_steps.specs.declared.turn.PollEnd.{PollEnd}
-
--- a sequence number
-abbrev pub IsNumber : ℕ → Type 0
-IsNumber n = (1 ≤ n) × (n ≤ 4294967295)
-
--- gaps alone, each of which ends at a number
-abbrev pub AreGaps : List Item → Type 0
-AreGaps [] = Unit {0}
-AreGaps (Gap first before ∷ items) = IsNumber before × AreGaps items
-AreGaps (Logged shown entry ∷ items) = ⊥
-
--- the first of records has a number
-abbrev pub HasFirst : List Numbered → Type 0
-HasFirst [] = Unit {0}
-HasFirst (held ∷ others) = IsNumber held.number
-
-pub record Fine (n : ℕ) (t : Turned) : Type 0 where
-  pub begins : (t.begins ≡ None) ⊎ (n ≡ 1)
-  pub missing : AreGaps t.missing
-  pub gap : AreGaps t.gap
-  pub alone : t.doubtful ≡ true → t.gap ≡ []
-
--- where the beginning of the first epoch is looked for, its first number comes next
-abbrev pub IsOne : ℕ → Aim → Type 0
-IsOne n Finds = Unit {0}
-IsOne n Renews = Unit {0}
-IsOne n Starts = n ≡ 1
-
-after_some : (a b : ℕ) → IsNumber (number_after a b)
-after_some a b = let m : ℕ = (a + b + 4294967294) % 4294967295 in (omega arith, omega arith)
-
-first_some : (a b : ℕ) (rs : List Numbered) → HasFirst rs → IsNumber (number_or (number_after a b) (first_in rs))
-first_some a b [] has = after_some a b
-first_some a b (r ∷ rs) has = has
-
-ends_some : (c : Bool) (a b : ℕ) → IsNumber b → AreGaps (if c then [] else Gap a b ∷ [])
-ends_some true a b some = tt
-ends_some false a b some = (some, tt)
-
-gap_fine : (a b : ℕ) → IsNumber b → AreGaps (gap_up_to a b)
-gap_fine a b some = ends_some (a == b) a b some
+use Rattle.bac_site_laws.proofs.Front.{AreGaps, Fine, HasFirst, IsNumber, IsOne, after_some, first_some, gap_fine}
 
 module _ (n : ℕ) where
   split : (b : Bool) (x y : Turned) → Fine n x → Fine n y → Fine n (if b then x else y)

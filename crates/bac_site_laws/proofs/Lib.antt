@@ -1,3 +1,4 @@
+mod Front
 mod Fine
 mod Standing
 mod TurnRows
@@ -5,8 +6,10 @@ mod RowsOn
 mod Has
 mod StepsOf
 mod LogRows
+mod Beside
 mod OwnSteps
 mod OwnRows
+mod EventRows
 mod Tracks
 mod BatchedTracks
 mod Logged

@@ -1,7 +1,6 @@
 -- One step of the poll of a device, while a log is polled: what it keeps of that.
-use Rattle.std.proofs.Common.{◌≡◌, ◌≢◌, ◌∙◌, ◌⊎◌, inl, inr, ℕ, ◌+◌, ◌==◌, ◌&&◌, nat_lt, Bool, true, false, if◌then◌else◌, MatchBool}
-use Rattle.std.proofs.Common.{List, [], ◌∷◌, ◌++◌, append-nil, map, position, Option, None, Some, refl, sym, ap, subst}
-use Rattle.std.proofs.lemmas.List.Elements.{filter-append}
+use Rattle.std.proofs.Common.{◌≡◌, ◌≢◌, ◌∙◌, ◌⊎◌, inl, inr, ℕ, ◌+◌, ◌==◌, ◌&&◌, nat_lt, Bool, true, false, if◌then◌else◌}
+use Rattle.std.proofs.Common.{List, [], ◌∷◌, ◌++◌, map, position, Option, None, Some, refl, sym, ap, subst}
 use Rattle.std.proofs.lemmas.Option.{same_Some}
 use Rattle.bac_wire.specs.Primitive.{Id}
 use Rattle.bac_wire.specs.Stamp.{CivilTime}
@@ -12,9 +11,8 @@ use Rattle.bac_walk.specs.declared.outcome.WalkFault.TheVariants as walk
 use Rattle.bac_drive.specs.declared.machine.Next.{Next}
 use Rattle.bac_drive.specs.declared.machine.Next.TheVariants as next
 use Rattle.bac_poll.specs.Poll.{after_too_many}
-use Rattle.bac_poll.specs.State.{PollState, ToldAs}
+use Rattle.bac_poll.specs.State.{PollState}
 use Rattle.bac_poll.specs.Turns.{Turned as LogTurned, ends}
-use Rattle.bac_poll_steps.specs.declared.turn.Line.{Line}
 use Rattle.bac_poll_steps.specs.declared.turn.PollEnd.{PollEnd}
 use Rattle.bac_poll_steps.specs.declared.turn.PollEnd.TheVariants.{Fault}
 use Rattle.bac_device_poll.specs.Logs.{begins_with, halved, is_too_many, log_after, lost, with_log}
@@ -25,14 +23,14 @@ use Rattle.bac_device_poll.specs.Turns.{Turned, not_asked}
 use Rattle.bac_device_poll.specs.declared.stage.Stage.{Stage}
 use Rattle.bac_device_poll.specs.declared.stage.Stage.TheVariants as stage
 use Rattle.bac_device_poll.specs.declared.task.Polled.{Polled}
-use Rattle.bac_device_poller.specs.Entries.{RowsAs, is_log, log_in, logs_beside, putting_log, with_entries, with_log as with_row}
+use Rattle.bac_device_poller.specs.Entries.{RowsAs, is_log, log_in, logs_beside, with_entries}
 use Rattle.bac_device_poller.specs.Entries.{without}
 use Rattle.bac_device_poller.specs.declared.doing.Doing.{Doing}
-use Rattle.bac_device_poller.specs.Naming.{has_word, with_word}
-use Rattle.bac_device_poller.specs.Poller.{PollerAs, Settles, putting_answered, rows_with}
+use Rattle.bac_device_poller.specs.Naming.{has_word}
+use Rattle.bac_device_poller.specs.Poller.{PollerAs, Settles, rows_with}
 use Rattle.bac_device_poller.specs.Puts.{PlaceAs, PutAs, put_as}
 use Rattle.bac_device_poller.specs.Rows.{LogAs}
-use Rattle.bac_device_poller.specs.Turns.{IsPlaced, TakesOf, keeping, telling_any_end, telling_line, telling_turn, turning}
+use Rattle.bac_device_poller.specs.Turns.{IsPlaced, TakesOf, keeping, telling_line, telling_turn, turning}
 use Rattle.std.proofs.Common.{nat_le}
 use Rattle.bac_link.specs.Transactions.{closed}
 use Rattle.bac_link.specs.declared.request.Request.{Request}
@@ -54,76 +52,11 @@ use Rattle.bac_device_poller.specs.declared.doing.Doing.TheVariants as doing
 use Rattle.bac_site_poller.specs.Seat.{Wants, lent}
 use Rattle.bac_site_poller.specs.SiteLaws.{Answered, Missed, Own, OwnStep, Wanted}
 use Rattle.bac_site_laws.specs.Own.{wanted_rows}
-use Rattle.bac_site_laws.specs.Own.{HasNone, IsAtLog, IsOf, IsOnRecord, IsPolled, WaitsNot, is_of_log, rows_in}
+use Rattle.bac_site_laws.specs.Own.{HasNone, IsAtLog, IsOf, IsOnRecord, IsPolled, WaitsNot, rows_in}
 use Rattle.bac_site_laws.specs.Steps.{Ended, Fewer, IsAskedBy, Step, after_step}
 use Rattle.bac_site_laws.proofs.Has.{beside_last, found_is, found_last}
-use Rattle.bac_site_laws.proofs.LogRows.{turn_rows}
 use Rattle.bac_site_laws.proofs.StepsOf.{answer_step}
-
--- a device at a log
-abbrev pub at_log : DeviceState → Polled → DeviceState
-at_log d q = record d { stage = stage.Log; polled = Some q }
-
-matched : {A B C : Type 0} (b : Bool) → MatchBool b A B → (A → C) → (B → C) → C
-matched true m f g = f m
-matched false m f g = g m
-
--- ---- what is put beside the rows of a log
-
-rows_more : (puts : List PutAs) (put : PutAs) → rows_in (put ∷ []) ≡ [] → rows_in (puts ++ put ∷ []) ≡ rows_in puts
-rows_more puts put none =
-    filter-append is_of_log puts (put ∷ []) ∙ ap (λ (l : List PutAs). rows_in puts ++ l) none ∙ append-nil (rows_in puts)
-
--- the same rows of logs, and the same logs
-record Beside (r s : RowsAs) : Type 0 where
-  rows : rows_in s.puts ≡ rows_in r.puts
-  logs : s.logs ≡ r.logs
-
-same_beside : (r : RowsAs) → Beside r r
-same_beside r = record { rows = refl; logs = refl }
-
-answered_beside : (o : Option CivilTime) (r : RowsAs) → Beside r (putting_answered o r)
-answered_beside None r = same_beside r
-answered_beside (Some at) r = record { rows = rows_more r.puts _ refl; logs = refl }
-
-told_beside : (tasks : List TaskAs) (r : RowsAs) → Beside r (with_entries r (map not_asked tasks))
-told_beside [] r = same_beside r
-told_beside (task ∷ tasks) r =
-    let rest = told_beside tasks _ in record { rows = rest.rows; logs = rest.logs }
-
-line_beside : (r : RowsAs) (called : List ℕ) (o : Option Line) → ((telling_line r called o).puts ≡ r.puts) × ((telling_line r called o).logs ≡ r.logs)
-line_beside r called None = (refl, refl)
-line_beside r called (Some line) = (refl, refl)
-
-end_beside : (r : RowsAs) (called : List ℕ) (behind : Option PlaceAs) (o : Option PollEnd) (n : ℕ) →
-    ((telling_any_end r called behind o n).puts ≡ r.puts) × ((telling_any_end r called behind o n).logs ≡ r.logs)
-end_beside r called behind None n = (refl, refl)
-end_beside r called behind (Some why) n = (refl, refl)
-
--- a log's own row
-record Retold (r s : RowsAs) (l : LogAs) : Type 0 where
-  rows : rows_in s.puts ≡ rows_in r.puts
-  row : LogAs
-  logs : s.logs ≡ r.logs ++ row ∷ []
-  place : row.place ≡ l.place
-  instance : row.instance ≡ l.instance
-
-word_beside : (b : Bool) (r : RowsAs) (l : LogAs) (word : ToldAs) →
-    Retold r (if b then with_row r l else putting_log r (with_word word l)) l
-word_beside true r l word = record { rows = refl; row = l; logs = refl; place = refl; instance = refl }
-word_beside false r l word =
-    record { rows = rows_more r.puts _ refl; row = with_word word l; logs = refl; place = refl; instance = refl }
-
--- ---- the rows of a turn
-
-empty_rows : (puts : List PutAs) → puts ≡ [] → rows_in puts ≡ puts
-empty_rows puts none = ap rows_in none ∙ sym none
-
-placed_rows : (o : Option PlaceAs) (t : LogTurned) (behind : Option PlaceAs) (puts : List PutAs) → IsPlaced o t behind puts → rows_in puts ≡ puts
-placed_rows None t behind puts placed = empty_rows puts placed.1
-placed_rows (Some place) t None puts none = empty_rows puts none
-placed_rows (Some place) t (Some behind) puts placed =
-    ap rows_in placed.0 ∙ turn_rows place.log place.epoch t ∙ sym placed.0
+use Rattle.bac_site_laws.proofs.Beside.{answered_beside, at_log, end_beside, line_beside, matched, placed_rows, told_beside, word_beside}
 
 module _ (log : Id) where
   -- what of a log is put, and where it stands then

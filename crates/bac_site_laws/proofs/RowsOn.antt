@@ -21,7 +21,8 @@ use Rattle.bac_poll_laws.specs.Laws.{IsRun, IsStanding, Replied, Restarted, Revi
 use Rattle.bac_site_laws.specs.Rows.{GoOn, IsNumbered, Stand}
 use Rattle.bac_site_laws.specs.Steps.{AreAsked, AreSteps, Ended, Fewer, IsAskedBy, IsStep, Step, Took, after_step}
 use Rattle.bac_site_laws.specs.Steps.{put_of, rows_by}
-use Rattle.bac_site_laws.proofs.Fine.{Fine, HasFirst, HasFirstOf, IsOne, IsReady, count_fine, end_fine, heard_fine, quiet}
+use Rattle.bac_site_laws.proofs.Front.{Fine, HasFirst, IsOne}
+use Rattle.bac_site_laws.proofs.Fine.{HasFirstOf, IsReady, count_fine, end_fine, heard_fine, quiet}
 use Rattle.bac_site_laws.proofs.Fine.{restarted_fine, revised_fine}
 use Rattle.bac_site_laws.proofs.Standing.{one_step}
 use Rattle.bac_site_laws.proofs.TurnRows.{go_both, turn_on}

@@ -4,158 +4,30 @@ use Rattle.std.proofs.Common.{append-nil, append_assoc, drop, get_or, map, remov
 use Rattle.std.specs.List.{sum_by}
 use Rattle.std.proofs.lemmas.List.{map-append}
 use Rattle.std.proofs.lemmas.List.Elements.{All-append, All-cons, All-drop, All-head, All-nil, All-push, All-tail}
-use Rattle.std.proofs.lemmas.List.Elements.{All-take, filter-append}
+use Rattle.std.proofs.lemmas.List.Elements.{All-take}
 use Rattle.std.proofs.lemmas.List.Sums.{sum_by-append, sum_by-cons, sum_by-remove}
 use Rattle.std.proofs.lemmas.Option.{get_or_from_slice_get, slice_get_within}
 use Rattle.bac_wire.specs.Stamp.{CivilTime}
-use Rattle.bac_archive3.specs.declared.row.Put.{Put}
 use Rattle.bac_desks.specs.Chain.{Chain}
 use Rattle.bac_desks.proofs.Lists.{get_map}
 use Rattle.bac_ports.specs.Port.{Receiving}
 use Rattle.bac_drive.specs.Event.{Event, Kept, Printed, Read, Sent, Waited, Warned}
-use Rattle.bac_drive.specs.Happens.{Does, Learns}
-use Rattle.bac_drive.specs.Laws.{puts_of}
+use Rattle.bac_drive.specs.Happens.{Learns}
 use Rattle.bac_drive.specs.declared.machine.Next.{Next}
-use Rattle.bac_drive.specs.declared.machine.Next.TheVariants as next
 use Rattle.bac_device_poller.specs.Poller.{PollerAs, is_answer, missed}
-use Rattle.bac_device_poller.specs.Puts.{PutAs, put_as}
-use Rattle.bac_device_poller.specs.Telling.{IsToldBy}
+use Rattle.bac_device_poller.specs.Puts.{PutAs}
 use Rattle.bac_device_poller.specs.declared.doing.Doing.{Doing}
 use Rattle.bac_device_poller.specs.declared.doing.Doing.TheVariants as doing
 use Rattle.bac_site_poller.specs.News.{news_line}
 use Rattle.bac_site_poller.specs.Seat.{is_due, is_known, noticed, seat_heard, seat_read}
-use Rattle.bac_site_poller.specs.Site.{GivesFrom, GivesNews, GivesWaiting, Rests, SiteState, due_from, given, heeded}
+use Rattle.bac_site_poller.specs.Site.{GivesFrom, GivesNews, GivesWaiting, SiteState, due_from, given, heeded}
 use Rattle.bac_site_poller.specs.Site.{SiteHears, noted, put_by, site_heard}
 use Rattle.bac_site_poller.specs.SiteLaws.{Answered, Missed, Own, OwnStep, SiteReads, SiteSteps, Wanted}
 use Rattle.bac_site_poller.specs.declared.news.News.{News}
 use Rattle.bac_site_poller.specs.declared.seat.Seat.{Seat}
-use Rattle.bac_site_laws.specs.Own.{is_of_log, kept_of, rows_in, wanted_rows}
+use Rattle.bac_site_laws.specs.Own.{kept_of, wanted_rows}
 use Rattle.bac_site_laws.specs.Tracks.{IsTrack, RowsAreOwn, Track, rows_put}
-
--- ---- rows of events
-
-event_rows : Event → List PutAs
-event_rows (Kept puts) = rows_in (map put_as puts)
-event_rows (Sent octets to answer) = []
-event_rows (Waited within heard) = []
-event_rows (Read ms) = []
-event_rows (Printed text) = []
-event_rows (Warned text) = []
-
-rows_cons : (e : Event) (es : List Event) → rows_put (e ∷ es) ≡ event_rows e ++ rows_put es
-unfolding event_rows
-rows_cons (Kept puts) es =
-    ap rows_in (map-append put_as puts (puts_of es)) ∙ filter-append is_of_log (map put_as puts) (map put_as (puts_of es))
-rows_cons (Sent octets to answer) es = refl
-rows_cons (Waited within heard) es = refl
-rows_cons (Read ms) es = refl
-rows_cons (Printed text) es = refl
-rows_cons (Warned text) es = refl
-
-rows_sum : (g : PutAs → ℕ) (e : Event) (es : List Event) → sum_by g (rows_put (e ∷ es)) ≡ sum_by g (event_rows e) + sum_by g (rows_put es)
-rows_sum g e es = ap (sum_by g) (rows_cons e es) ∙ sum_by-append g (event_rows e) (rows_put es)
-
-rows_more : (g : PutAs → ℕ) (done : List Event) (e : Event) → sum_by g (rows_put (done ++ e ∷ [])) ≡ sum_by g (rows_put done) + sum_by g (event_rows e)
-rows_more g [] e = omega (arith, rows_sum g e [])
-rows_more g (d ∷ done) e = omega (arith, rows_sum g d (done ++ e ∷ []), rows_sum g d done, rows_more g done e)
-
-does_rows : (wanted : Next) (e : Event) → Does wanted e → event_rows e ≡ wanted_rows wanted
-unfolding event_rows
-does_rows (next.Send octets to) (Sent sent peer answer) does = refl
-does_rows (next.Send octets to) (Waited within heard) does = absurd does
-does_rows (next.Send octets to) (Read ms) does = absurd does
-does_rows (next.Send octets to) (Kept all) does = absurd does
-does_rows (next.Send octets to) (Printed said) does = absurd does
-does_rows (next.Send octets to) (Warned said) does = absurd does
-does_rows (next.Wait most) (Sent sent peer answer) does = absurd does
-does_rows (next.Wait most) (Waited within heard) does = refl
-does_rows (next.Wait most) (Read ms) does = absurd does
-does_rows (next.Wait most) (Kept all) does = absurd does
-does_rows (next.Wait most) (Printed said) does = absurd does
-does_rows (next.Wait most) (Warned said) does = absurd does
-does_rows next.Read (Sent sent peer answer) does = absurd does
-does_rows next.Read (Waited within heard) does = absurd does
-does_rows next.Read (Read ms) does = refl
-does_rows next.Read (Kept all) does = absurd does
-does_rows next.Read (Printed said) does = absurd does
-does_rows next.Read (Warned said) does = absurd does
-does_rows (next.Keep puts) (Sent sent peer answer) does = absurd does
-does_rows (next.Keep puts) (Waited within heard) does = absurd does
-does_rows (next.Keep puts) (Read ms) does = absurd does
-does_rows (next.Keep puts) (Kept all) does = ap (λ (l : List Put). rows_in (map put_as l)) does
-does_rows (next.Keep puts) (Printed said) does = absurd does
-does_rows (next.Keep puts) (Warned said) does = absurd does
-does_rows (next.Print text) (Sent sent peer answer) does = absurd does
-does_rows (next.Print text) (Waited within heard) does = absurd does
-does_rows (next.Print text) (Read ms) does = absurd does
-does_rows (next.Print text) (Kept all) does = absurd does
-does_rows (next.Print text) (Printed said) does = refl
-does_rows (next.Print text) (Warned said) does = absurd does
-does_rows (next.Warn text) (Sent sent peer answer) does = absurd does
-does_rows (next.Warn text) (Waited within heard) does = absurd does
-does_rows (next.Warn text) (Read ms) does = absurd does
-does_rows (next.Warn text) (Kept all) does = absurd does
-does_rows (next.Warn text) (Printed said) does = absurd does
-does_rows (next.Warn text) (Warned said) does = refl
-does_rows next.End (Sent sent peer answer) does = absurd does
-does_rows next.End (Waited within heard) does = absurd does
-does_rows next.End (Read ms) does = absurd does
-does_rows next.End (Kept all) does = absurd does
-does_rows next.End (Printed said) does = absurd does
-does_rows next.End (Warned said) does = absurd does
-
-told_none : (good : Bool) (text : List ℕ) (wanted : Next) → IsToldBy good text wanted → wanted_rows wanted ≡ []
-told_none true text (next.Keep puts) is = absurd is
-told_none true text (next.Send octets to) is = refl
-told_none true text (next.Wait most) is = refl
-told_none true text next.Read is = refl
-told_none true text (next.Print line) is = refl
-told_none true text (next.Warn line) is = refl
-told_none true text next.End is = refl
-told_none false text (next.Keep puts) is = absurd is
-told_none false text (next.Send octets to) is = refl
-told_none false text (next.Wait most) is = refl
-told_none false text next.Read is = refl
-told_none false text (next.Print line) is = refl
-told_none false text (next.Warn line) is = refl
-told_none false text next.End is = refl
-
-rests_none : (s : SiteState) (wanted : Next) → Rests s wanted → wanted_rows wanted ≡ []
-rests_none s (next.Keep puts) is = absurd is
-rests_none s (next.Send octets to) is = refl
-rests_none s (next.Wait most) is = refl
-rests_none s next.Read is = refl
-rests_none s (next.Print line) is = refl
-rests_none s (next.Warn line) is = refl
-rests_none s next.End is = refl
-
--- ---- own steps
-
-own_kept : Own → List PutAs
-own_kept (Wanted ids wanted) = wanted_rows wanted
-own_kept (Answered from datagram now) = []
-own_kept Missed = []
-
-own_cons : (o : Own) (own : List Own) → kept_of (o ∷ own) ≡ own_kept o ++ kept_of own
-unfolding own_kept
-own_cons (Wanted ids wanted) own = refl
-own_cons (Answered from datagram now) own = refl
-own_cons Missed own = refl
-
-own_more : (g : PutAs → ℕ) (own : List Own) (o : Own) → sum_by g (kept_of (own ++ o ∷ [])) ≡ sum_by g (kept_of own) + sum_by g (own_kept o)
-own_more g [] o = omega (arith, ap (sum_by g) (own_cons o []) ∙ sum_by-append g (own_kept o) [])
-own_more g (d ∷ own) o =
-    omega (
-      arith,
-      ap (sum_by g) (own_cons d (own ++ o ∷ [])) ∙ sum_by-append g (own_kept d) (kept_of (own ++ o ∷ [])),
-      ap (sum_by g) (own_cons d own) ∙ sum_by-append g (own_kept d) (kept_of own),
-      own_more g own o,
-    )
-
-chain_more : (a : PollerAs) (own : List Own) (b c : PollerAs) (step : Own) → Chain OwnStep a own b → OwnStep b step c → Chain OwnStep a (own ++ step ∷ []) c
-chain_more a [] b c step same is =
-    let P : PollerAs → Type 0 = λ x. OwnStep x step c in (c, subst P same is, refl)
-chain_more a (e ∷ own) b c step (mid, first, chain) is = (mid, first, chain_more mid own b c step chain is)
+use Rattle.bac_site_laws.proofs.EventRows.{rows_more, does_rows, told_none, rests_none, own_kept, own_more, chain_more}
 
 -- ---- tracks of a site
 
@@ -283,7 +155,6 @@ record Gave (l : Lists) (wanted : Next) (new : SiteState) : Type 0 where
 
 from_gave : (old : SiteState) (l rest : Lists) (t : Track) (s : Seat) (wanted : Next) (new : SiteState) → At old rest → IsTrack t → s ≡ t.now →
     ((f : Seat → List Own → ℕ) → total f rest + f t.start t.own ≡ total f l) → GivesFrom old s wanted new → Gave l wanted new
-unfolding own_kept
 from_gave old l rest t s wanted new at is same whole (p, gives, put) =
     let o : SiteState = record old { ids = p.rows.ids } in
     let u : Track = record { start = t.start; own = t.own ++ Wanted old.ids wanted ∷ []; now = record s { poller = p } } in
@@ -411,7 +282,6 @@ all_went h one (t ∷ ts) all =
     }
 
 heard_went : (from datagram : List ℕ) (now : CivilTime) (t : Track) → IsTrack t → Went t (seat_heard from datagram now t.now)
-unfolding own_kept
 heard_went from datagram now t is = by (is_answer t.now.poller from datagram) refl
   where
     none : (b : Bool) (x : PollerAs) → b ≡ false → (if b then x else t.now.poller) ≡ t.now.poller
@@ -426,7 +296,6 @@ noticed_went : (from datagram : List ℕ) (t : Track) → IsTrack t → Went t (
 noticed_went from datagram t is = went_not t (noticed from datagram t.now) is refl
 
 read_went : (ms : ℕ) (t : Track) → IsTrack t → Went t (seat_read ms t.now)
-unfolding own_kept
 read_went ms t is = by (is_due ms t.now)
   where
     by : (b : Bool) → Went t (if b then record t.now { poller = missed t.now.poller; is_repeated = true } else t.now)

@@ -17,7 +17,7 @@ use Rattle.bac_device_poller.specs.Puts.{PutAs, Puts, era_of, gap_columns, recor
 use Rattle.bac_device_poller.specs.Puts.{with_anew, with_epoch, with_first, with_gap, with_gap_row, with_gaps, with_put}
 use Rattle.bac_device_poller.specs.Puts.{with_record, with_records, with_rest, with_round, with_turn}
 use Rattle.bac_site_laws.specs.Rows.{Begins, GoOn, IsSaid, Missing, Recorded, Renewed, Says, Stand, behind, era, row_of}
-use Rattle.bac_site_laws.proofs.Fine.{AreGaps, Fine, IsNumber}
+use Rattle.bac_site_laws.proofs.Front.{AreGaps, Fine, IsNumber}
 
 module _ (P : Numbered → Type 0) (F : ℕ → Type 0) (log : ℕ) where
   -- one row more
