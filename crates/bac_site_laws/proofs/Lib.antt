@@ -1,0 +1,15 @@
+mod Front
+mod Fine
+mod Standing
+mod TurnRows
+mod RowsOn
+mod Has
+mod StepsOf
+mod LogRows
+mod Beside
+mod OwnSteps
+mod OwnRows
+mod EventRows
+mod Tracks
+mod BatchedTracks
+mod Logged
