@@ -18,8 +18,8 @@ use std::mem::replace;
 /// How many replies a batch has at most.
 const MOST_REPLIES: u32 = 64;
 
-/// From 48 replies on it is put as soon as nothing is there to be heard: it is written while answers
-/// are on their way, and not while they wait.
+/// From 48 replies on it is put as soon as nothing is there to be heard: so it is written while
+/// answers are on their way, and not while they wait.
 const ROOM_AT_REST: u32 = 16;
 
 /// How long rows are held, in milliseconds, by the clock as it was read last.
