@@ -1,9 +1,9 @@
 // Puts records into an archive of format 3 by sqlite3's own INSERT, for archive3.py: one prepared statement, one transaction.
 //
-//     archive3 FILE FIRST COUNT TURNS
+//     archive3 FILE FIRST COUNT
 //
-// FILE is an archive; its records of log 1, epoch 0, begin at FIRST. Puts COUNT records, TURNS times, and prints how many
-// microseconds BEGIN to COMMIT took each time. The file is in WAL mode with synchronous FULL, as the kit's sqlite has it.
+// FILE is an archive; its records of log 1, epoch 0, begin at FIRST. Prints how many microseconds BEGIN to COMMIT took. The file
+// is in WAL mode with synchronous FULL, as the kit's sqlite has it.
 #include <sqlite3.h>
 #include <stdio.h>
 #include <stdlib.h>
@@ -25,7 +25,15 @@ static long long now(void) {
     return at.tv_sec * 1000000LL + at.tv_nsec / 1000;
 }
 
-static void put_all(sqlite3_stmt *put, long long first, long long many) {
+int main(int count, char **words) {
+    if (count != 4) return 2;
+    long long first = atoll(words[2]), many = atoll(words[3]);
+    sqlite3_stmt *put;
+    done(sqlite3_open(words[1], &base), SQLITE_OK);
+    run("PRAGMA journal_mode = WAL");
+    run("PRAGMA synchronous = FULL");
+    done(sqlite3_prepare_v2(base, "INSERT INTO items (id, last, stamp, value, datum, flags) VALUES (?1, ?2, ?3, ?4, ?5, ?6)", -1,
+                            &put, NULL), SQLITE_OK);
     long long began = now();
     run("BEGIN");
     for (long long n = first; n < first + many; n++) {
@@ -41,20 +49,7 @@ static void put_all(sqlite3_stmt *put, long long first, long long many) {
         sqlite3_reset(put);
     }
     run("COMMIT");
-    printf("%lld ", now() - began);
-}
-
-int main(int count, char **words) {
-    if (count != 5) return 2;
-    long long first = atoll(words[2]), many = atoll(words[3]), turns = atoll(words[4]);
-    sqlite3_stmt *put;
-    done(sqlite3_open(words[1], &base), SQLITE_OK);
-    run("PRAGMA journal_mode = WAL");
-    run("PRAGMA synchronous = FULL");
-    done(sqlite3_prepare_v2(base, "INSERT INTO items (id, last, stamp, value, datum, flags) VALUES (?1, ?2, ?3, ?4, ?5, ?6)", -1,
-                            &put, NULL), SQLITE_OK);
-    for (long long turn = 0; turn < turns; turn++) put_all(put, first + turn * many, many);
-    printf("\n");
+    printf("%lld\n", now() - began);
     sqlite3_finalize(put);
     done(sqlite3_close(base), SQLITE_OK);
     return 0;

@@ -1,10 +1,10 @@
 #!/usr/bin/env python3
 """archive3.py [PROGRAM [ROWS]]: what archives of format 3 cost, by PROGRAM (crates/bac_archive3_trial), beside bounds.
 
-Batches of 64 replies with 64 records each are put, eight in a run of a program as a run of keep puts many, by turns with sqlite3's
-own INSERTs of the same rows by a prepared statement, a transaction a batch (archive3.c), both into a file of 100,000 rows in WAL
-mode with synchronous FULL on the same disk: the time from BEGIN to COMMIT, medians. The first batch of each run is told apart: its
-first statement pays for what the open freed. And a file of ROWS rows, 1,000,000 where none is given, is opened and told what it holds."""
+A batch of 64 replies with 64 records each is put, by turns with sqlite3's own INSERTs of the same rows by a prepared statement in
+one transaction (archive3.c), both into a file of 100,000 rows in WAL mode with synchronous FULL on the same disk: the time from
+BEGIN to COMMIT, medians. The C library lets go what the open freed as it is freed: else the first statement behind an open pays for
+that, where a run has asked the file before it puts anything. And a file of ROWS rows, 1,000,000 where none is given, is opened and told what it holds."""
 import os
 import re
 import sqlite3
@@ -16,7 +16,7 @@ import time
 
 HERE = os.path.dirname(os.path.abspath(__file__))
 CREATION = f"{HERE}/../crates/bac_archive3/src/creation.rt"
-BATCH, EACH, TURNS, BEFORE = 64 * 64, 8, 21, 100_000
+BATCH, TURNS, BEFORE = 64 * 64, 21, 100_000
 LOGS = 100
 # The greatest memory of a child counts what its parent has, so a small one starts it.
 MEASURE = """
@@ -62,23 +62,17 @@ def stamp(n):
 
 def asked(lines):
     """What the program answers."""
-    return subprocess.run([PROGRAM], input=lines, capture_output=True, text=True, check=True, cwd=ROOM).stdout.strip()
+    at_once = {**os.environ, "GLIBC_TUNABLES": "glibc.malloc.mxfast=0"}
+    return subprocess.run([PROGRAM], input=lines, capture_output=True, text=True, check=True, cwd=ROOM, env=at_once).stdout.strip()
 
 
 def put_by_program(first):
-    lines = "".join(f"record 1 0 {n} {stamp(n)} {n} real(41a00000) 0000\n" for n in range(first, first + EACH * BATCH))
-    return list(map(int, asked(f"{lines}timed puts program.db {BATCH}\n").split()))
+    lines = "".join(f"record 1 0 {n} {stamp(n)} {n} real(41a00000) 0000\n" for n in range(first, first + BATCH))
+    return int(asked(f"{lines}timed put program.db\n"))
 
 
 def put_by_sqlite(first):
-    words = [f"{ROOM}/plain", f"{ROOM}/plain.db", str(first), str(BATCH), str(EACH)]
-    return list(map(int, subprocess.run(words, capture_output=True, text=True, check=True).stdout.split()))
-
-
-def told(what, program, plain):
-    ours, theirs = statistics.median(program) / 1000, statistics.median(plain) / 1000
-    print(f"{what} of {BATCH} rows: {ours:.1f} ms, sqlite3's INSERTs {theirs:.1f} ms: {ours / theirs:.2f} times, at most 1.3 "
-          f"(at best {min(program) / 1000:.1f} and {min(plain) / 1000:.1f} ms: {min(program) / min(plain):.2f})")
+    return int(subprocess.run([f"{ROOM}/plain", f"{ROOM}/plain.db", str(first), str(BATCH)], capture_output=True, text=True, check=True).stdout)
 
 
 def puts():
@@ -88,12 +82,13 @@ def puts():
     for _turn in range(TURNS):
         program.append(put_by_program(first))
         plain.append(put_by_sqlite(first))
-        first += EACH * BATCH
+        first += BATCH
     read = [sqlite3.connect(f"{ROOM}/{name}").execute("SELECT * FROM items ORDER BY id").fetchall() for name in ("program.db", "plain.db")]
-    if read[0] != read[1] or len(read[0]) != BEFORE + TURNS * EACH * BATCH:
+    if read[0] != read[1] or len(read[0]) != BEFORE + TURNS * BATCH:
         sys.exit("the rows differ")
-    told("put", sum(program, []), sum(plain, []))
-    told("the first put of a run", [each[0] for each in program], [each[0] for each in plain])
+    ours, theirs = statistics.median(program) / 1000, statistics.median(plain) / 1000
+    print(f"put of {BATCH} rows: {ours:.1f} ms, sqlite3's INSERTs {theirs:.1f} ms: {ours / theirs:.2f} times, at most 1.3 "
+          f"(at best {min(program) / 1000:.1f} and {min(plain) / 1000:.1f} ms: {min(program) / min(plain):.2f})")
 
 
 def stands(rows):

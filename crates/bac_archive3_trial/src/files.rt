@@ -3,7 +3,7 @@
 use crate::jobs::{Job, done, take};
 use crate::text::{failed, refused};
 use crate::why::Why;
-use bac_archive3::{Put, follow_on, is_archive, is_nothing};
+use bac_archive3::{follow_on, is_archive, is_nothing};
 use bac_files::DiskFiles;
 use sqlite::{Alter, Connection, Unknown};
 use std::alloc::Global;
@@ -56,54 +56,6 @@ fn told_of(rt: &HostRuntime, file: &str, job: Job<'_>) -> Result<(String, u128),
         Err(why) => return Err(Why::NotOpened(why)),
     };
     let told = done_in(rt, &mut conn, job);
-    match files.close(conn) {
-        Ok(()) => told,
-        Err(error) => Err(Why::Database(error)),
-    }
-}
-
-/// Puts these rows in an open database, and tells how many microseconds that took.
-fn put_in<S: Alter>(
-    rt: &HostRuntime,
-    conn: &mut Connection<S>,
-    rows: &[Put],
-) -> Result<String, Why> {
-    let (told, took) = done_in(rt, conn, Job::Put(rows))?;
-    match told.as_str() {
-        "put" => Ok(format!(in rt.alloc(); "{took}")?),
-        _ => Ok(told),
-    }
-}
-
-/// The same of each so many of the rows in turn, a word each.
-fn puts_in<S: Alter>(
-    rt: &HostRuntime,
-    conn: &mut Connection<S>,
-    rows: &[Put],
-    size: usize,
-) -> Result<String, Why> {
-    let mut text = String::new(rt.alloc());
-    for these in rows.chunks(size) {
-        text.push_str(put_in(rt, conn, these)?.as_str())?;
-        text.push_str(" ")?;
-    }
-    Ok(text)
-}
-
-/// Puts so many of these rows after the other in a file that is opened once, and tells how many
-/// microseconds each put took.
-pub(crate) fn timed_puts(
-    rt: &HostRuntime,
-    file: &str,
-    rows: &[Put],
-    size: usize,
-) -> Result<String, Why> {
-    let mut files = DiskFiles::new(rt, Unknown);
-    let mut conn = match files.open(file, true) {
-        Ok(conn) => conn,
-        Err(why) => return Err(Why::NotOpened(why)),
-    };
-    let told = puts_in(rt, &mut conn, rows, size.max(1));
     match files.close(conn) {
         Ok(()) => told,
         Err(error) => Err(Why::Database(error)),

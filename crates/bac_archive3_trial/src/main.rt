@@ -22,7 +22,7 @@ mod text;
 mod why;
 mod words;
 
-use crate::files::{cut, do_in, is_same, timed, timed_puts};
+use crate::files::{cut, do_in, is_same, timed};
 use crate::jobs::Job;
 use crate::kills::{End, each};
 use crate::rows::row_of;
@@ -81,10 +81,6 @@ fn of_file<'a>(rt: &HostRuntime, line: &'a str, batch: &'a [Put]) -> Result<Stri
     if call == "timed" {
         let (call, rest) = rest.split_once(' ').ok_or(Why::Line)?;
         let (file, words) = rest.split_once(' ').unwrap_or((rest, ""));
-        if call == "puts" {
-            let size = number::<usize>(&mut words.split_whitespace())?;
-            return timed_puts(rt, file, batch, size);
-        }
         let job = job_of(call, words, &mut words.split_whitespace(), batch)?;
         return timed(rt, file, job);
     }
@@ -131,7 +127,7 @@ fn answer(rt: &HostRuntime, line: &str, batches: &mut Batches) -> Result<Option<
         }
     }
     let told = of_file(rt, line, batches.now.as_slice())?;
-    if line.starts_with("put ") || line.starts_with("timed put") {
+    if line.starts_with("put ") || line.starts_with("timed put ") {
         batches.now = Vec::new(alloc);
     }
     Ok(Some(told))
