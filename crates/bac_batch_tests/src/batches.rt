@@ -185,34 +185,6 @@ fn a_batch_has_64_replies(rt: HostRuntime) -> Result<(), Fail> {
     check(rt.alloc(), &says, &[], &wants)
 }
 
-/// Rows of so many replies, and three waits behind them.
-fn at_rest(alloc: Global, replies: usize, wants: &[Given]) -> Result<(), Fail> {
-    let mut says = [Said::Rows(1); 51];
-    for at in replies..51 {
-        says[at] = Said::Wait(500);
-    }
-    let mut all = [LATER; 55];
-    for at in 0..wants.len().min(4) {
-        if let Some(place) = all.get_mut(replies + at) {
-            *place = wants[at];
-        }
-    }
-    check(alloc, &says, &[], &all[..(replies + wants.len()).min(55)])
-}
-
-#[test]
-fn a_batch_that_is_nearly_full_is_put_at_rest(rt: HostRuntime) -> Result<(), Fail> {
-    let full = [
-        Given::Wait(0),
-        Given::Rows(1, 48),
-        Given::Wait(500),
-        Given::Wait(500),
-    ];
-    at_rest(rt.alloc(), 48, &full)?;
-    let less = [Given::Wait(100), Given::Wait(100), Given::Wait(100)];
-    at_rest(rt.alloc(), 47, &less)
-}
-
 #[test]
 fn rows_are_held_for_100_ms(rt: HostRuntime) -> Result<(), Fail> {
     let says = [
