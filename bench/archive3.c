@@ -1,12 +1,14 @@
 // Puts records into an archive of format 3 by sqlite3's own INSERT, for archive3.py: one prepared statement, one transaction.
 //
-//     archive3 FILE FIRST COUNT
+//     archive3 FILE FIRST COUNT TIMES
 //
-// FILE is an archive; its records of log 1, epoch 0, begin at FIRST. Prints how many microseconds BEGIN to COMMIT took. The file
-// is in WAL mode with synchronous FULL, as the kit's sqlite has it.
+// FILE is an archive; its records of log 1, epoch 0, begin at FIRST. Prints how many microseconds BEGIN to COMMIT took of each of
+// TIMES batches of COUNT records, 4096 at most, whose texts are made before. The file is in WAL mode with synchronous FULL, as
+// the kit's sqlite has it.
 #include <sqlite3.h>
 #include <stdio.h>
 #include <stdlib.h>
+#include <string.h>
 #include <time.h>
 
 static sqlite3 *base;
@@ -25,31 +27,41 @@ static long long now(void) {
     return at.tv_sec * 1000000LL + at.tv_nsec / 1000;
 }
 
-int main(int count, char **words) {
-    if (count != 4) return 2;
-    long long first = atoll(words[2]), many = atoll(words[3]);
-    sqlite3_stmt *put;
-    done(sqlite3_open(words[1], &base), SQLITE_OK);
-    run("PRAGMA journal_mode = WAL");
-    run("PRAGMA synchronous = FULL");
-    done(sqlite3_prepare_v2(base, "INSERT INTO items (id, last, stamp, value, datum, flags) VALUES (?1, ?2, ?3, ?4, ?5, ?6)", -1,
-                            &put, NULL), SQLITE_OK);
+#define MOST 4096
+static char stamps[MOST][32];
+
+static void batch(sqlite3_stmt *put, long long first, long long many) {
+    for (long long at = 0; at < many; at++) {
+        long long n = first + at;
+        snprintf(stamps[at], sizeof stamps[at], "2026-11-29T%02lld:%02lld:%02lld.00", n / 3600 % 24, n / 60 % 60, n % 60);
+    }
     long long began = now();
     run("BEGIN");
-    for (long long n = first; n < first + many; n++) {
-        char stamp[32];
-        int size = snprintf(stamp, sizeof stamp, "2026-11-29T%02lld:%02lld:%02lld.00", n / 3600 % 24, n / 60 % 60, n % 60);
-        sqlite3_bind_int64(put, 1, (1LL << 47) + n);
-        sqlite3_bind_null(put, 2);
-        sqlite3_bind_text(put, 3, stamp, size, SQLITE_STATIC);
-        sqlite3_bind_double(put, 4, (double)n);
-        sqlite3_bind_text(put, 5, "real(41a00000)", 14, SQLITE_STATIC);
-        sqlite3_bind_text(put, 6, "0000", 4, SQLITE_STATIC);
+    for (long long at = 0; at < many; at++) {
+        sqlite3_bind_int64(put, 1, (1LL << 47) + first + at);
+        sqlite3_bind_text(put, 2, stamps[at], (int)strlen(stamps[at]), SQLITE_STATIC);
+        sqlite3_bind_double(put, 3, (double)(first + at));
+        sqlite3_bind_text(put, 4, "real(41a00000)", 14, SQLITE_STATIC);
+        sqlite3_bind_text(put, 5, "0000", 4, SQLITE_STATIC);
         done(sqlite3_step(put), SQLITE_DONE);
         sqlite3_reset(put);
     }
     run("COMMIT");
-    printf("%lld\n", now() - began);
+    printf("%lld ", now() - began);
+}
+
+int main(int count, char **words) {
+    if (count != 5) return 2;
+    long long first = atoll(words[2]), many = atoll(words[3]), times = atoll(words[4]);
+    if (many < 0 || many > MOST) return 2;
+    sqlite3_stmt *put;
+    done(sqlite3_open(words[1], &base), SQLITE_OK);
+    run("PRAGMA journal_mode = WAL");
+    run("PRAGMA synchronous = FULL");
+    done(sqlite3_prepare_v2(base, "INSERT INTO items (id, stamp, value, datum, flags) VALUES (?1, ?2, ?3, ?4, ?5)", -1, &put,
+                            NULL), SQLITE_OK);
+    for (long long turn = 0; turn < times; turn++) batch(put, first + turn * many, many);
+    printf("\n");
     sqlite3_finalize(put);
     done(sqlite3_close(base), SQLITE_OK);
     return 0;

@@ -1,10 +1,10 @@
 #!/usr/bin/env python3
 """archive3.py [PROGRAM [ROWS]]: what archives of format 3 cost, by PROGRAM (crates/bac_archive3_trial), beside bounds.
 
-A batch of 64 replies with 64 records each is put, by turns with sqlite3's own INSERTs of the same rows by a prepared statement in
-one transaction (archive3.c), both into a file of 100,000 rows in WAL mode with synchronous FULL on the same disk: the time from
-BEGIN to COMMIT, medians. The C library lets go what the open freed as it is freed: else the first statement behind an open pays for
-that, where a run has asked the file before it puts anything. And a file of ROWS rows, 1,000,000 where none is given, is opened and told what it holds."""
+Batches of 64 replies with 64 records each are put, eight in each run, by turns with sqlite3's own INSERTs of the same rows by a
+prepared statement in one transaction (archive3.c), both into a file of 100,000 rows in WAL mode with synchronous FULL on the same disk:
+the time from BEGIN to COMMIT, medians. The first of a run pays for what the open freed, so it is told apart. And a file of ROWS rows,
+1,000,000 where none is given, is opened and told what it holds."""
 import os
 import re
 import sqlite3
@@ -16,7 +16,7 @@ import time
 
 HERE = os.path.dirname(os.path.abspath(__file__))
 CREATION = f"{HERE}/../crates/bac_archive3/src/creation.rt"
-BATCH, TURNS, BEFORE = 64 * 64, 21, 100_000
+BATCH, TIMES, TURNS, BEFORE = 64 * 64, 8, 11, 100_000
 LOGS = 100
 # The greatest memory of a child counts what its parent has, so a small one starts it.
 MEASURE = """
@@ -62,17 +62,18 @@ def stamp(n):
 
 def asked(lines):
     """What the program answers."""
-    at_once = {**os.environ, "GLIBC_TUNABLES": "glibc.malloc.mxfast=0"}
-    return subprocess.run([PROGRAM], input=lines, capture_output=True, text=True, check=True, cwd=ROOM, env=at_once).stdout.strip()
+    return subprocess.run([PROGRAM], input=lines, capture_output=True, text=True, check=True, cwd=ROOM).stdout.strip()
 
 
 def put_by_program(first):
-    lines = "".join(f"record 1 0 {n} {stamp(n)} {n} real(41a00000) 0000\n" for n in range(first, first + BATCH))
-    return int(asked(f"{lines}timed put program.db\n"))
+    lines = "".join(f"record 1 0 {n} {stamp(n)} {n} real(41a00000) 0000\n" + "next\n" * ((n - first) % BATCH == BATCH - 1)
+                    for n in range(first, first + TIMES * BATCH))
+    return list(map(int, asked(f"{lines}timed-each program.db\n").split()))
 
 
 def put_by_sqlite(first):
-    return int(subprocess.run([f"{ROOM}/plain", f"{ROOM}/plain.db", str(first), str(BATCH)], capture_output=True, text=True, check=True).stdout)
+    words = [f"{ROOM}/plain", f"{ROOM}/plain.db", str(first), str(BATCH), str(TIMES)]
+    return list(map(int, subprocess.run(words, capture_output=True, text=True, check=True).stdout.split()))
 
 
 def puts():
@@ -82,13 +83,13 @@ def puts():
     for _turn in range(TURNS):
         program.append(put_by_program(first))
         plain.append(put_by_sqlite(first))
-        first += BATCH
+        first += TIMES * BATCH
     read = [sqlite3.connect(f"{ROOM}/{name}").execute("SELECT * FROM items ORDER BY id").fetchall() for name in ("program.db", "plain.db")]
-    if read[0] != read[1] or len(read[0]) != BEFORE + TURNS * BATCH:
+    if read[0] != read[1] or len(read[0]) != BEFORE + TURNS * TIMES * BATCH:
         sys.exit("the rows differ")
-    ours, theirs = statistics.median(program) / 1000, statistics.median(plain) / 1000
-    print(f"put of {BATCH} rows: {ours:.1f} ms, sqlite3's INSERTs {theirs:.1f} ms: {ours / theirs:.2f} times, at most 1.3 "
-          f"(at best {min(program) / 1000:.1f} and {min(plain) / 1000:.1f} ms: {min(program) / min(plain):.2f})")
+    for name, taken in ("all", lambda run: run), ("the first of each run", lambda run: run[:1]), ("later ones", lambda run: run[1:]):
+        ours, theirs = (statistics.median(t for run in runs for t in taken(run)) / 1000 for runs in (program, plain))
+        print(f"put of {BATCH} rows, {name}: {ours:.2f} ms, sqlite3's INSERTs {theirs:.2f} ms: {ours / theirs:.2f} times, at most 1.3")
 
 
 def stands(rows):

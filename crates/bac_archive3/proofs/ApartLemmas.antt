@@ -1,5 +1,5 @@
 -- What the spans that are listed tell of the items of an archive.
-use Rattle.std.proofs.Common.{◌≡◌, sym, subst, ◌∙◌, ℕ, ◌<◌, ◌≤◌, pos, List, [], ◌∷◌, ◌++◌, map, refl, arith, int_cmp, Less}
+use Rattle.std.proofs.Common.{◌≡◌, sym, subst, ◌∙◌, ℕ, ◌<◌, ◌≤◌, pos, List, [], ◌∷◌, ◌++◌, map, arith, int_cmp, Less}
 use Rattle.std.specs.Cmp.{IsTotalOrder}
 use Rattle.std.specs.List.{AllByRecursion}
 use Rattle.std.specs.List.Sorted.{IsPermutation, IsSorted}
@@ -72,7 +72,7 @@ apart_rise items rows each sorted (spans, of, rise) =
 pub lie_over : (s : State) → HasArchive s.now.schema → DoNotRise s → ¬ LieApart (s.now.trees 5)
 lie_over s has (rows, begins, none) apart =
     let (more, are) = answers_first Spans s rows has begins in
-    none (front_rises 0 rows more (apart_rise (s.now.trees 5) (rows ++ more) are.each (are.rising refl) apart))
+    none (front_rises 0 rows more (apart_rise (s.now.trees 5) (rows ++ more) are.each are.order apart))
 
 -- an item without a log or a beginning
 pub not_begun : (s : State) → HasArchive s.now.schema → HasOrphan s → ¬ AreBegun s.now.trees

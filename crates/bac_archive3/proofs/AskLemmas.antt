@@ -23,10 +23,11 @@ use Rattle.sqlite_schema.specs.declared.schema.Schema.{Schema}
 use Rattle.sqlite_tied.specs.Compute.{everything}
 use Rattle.sqlite.specs.declared.error.Error.{Error}
 use Rattle.sqlite.specs.Clock.{timed}
+use Rattle.sqlite.specs.Effect.{Database}
 use Rattle.sqlite.specs.Held.{Held, state}
 use Rattle.sqlite.specs.Listing.{understood, reads_listing}
 use Rattle.sqlite.specs.State.{State, HasCleanDisk, Shown, ShowsRows, Begins, Survives, CommitsShowing, Fails, IsUnchanged, IsNotRun, FailsToQuery, FailsToShow}
-use Rattle.sqlite.proofs.StateLemmas.{survives_weaker}
+use Rattle.sqlite.proofs.StateLemmas.{survives_then, survives_weaker}
 use Rattle.sqlite.proofs.Callers.{IsPlain, command_of, reads_as, begins_as, never_commits, unchanged_then}
 use Rattle.bac_archive3.specs.Schema.{HasArchive}
 use Rattle.bac_archive3.specs.Ask.{IsAnswer, IsAsWas, IsLeft, asked, falls, rises, tree_of}
@@ -170,12 +171,12 @@ scan_rises tree project db rows key a =
     (rises_by tree project a.ordered (All-permutation ShowsKey _ _ (same_outputs tree project rising db rows a) (all_show (scan tree project rising) key (map env_of (overlay db [] tree)))) a.sorted)
 
 scans : (q : Question) (db : Trees) (rows : List Values) → Gives (query_of q) (overlay db []) [] rows → IsAnswer q db rows
-scans Archive db rows a = record { each = scan_rows 0 (terms Archive) [] db rows a; falling = λ either. absurd (elim either [ inl e ↦ cc | inr e ↦ cc ]); rising = λ e. absurd cc }
-scans Devices db rows a = record { each = scan_rows 1 (terms Devices) rising db rows a; falling = λ either. absurd (elim either [ inl e ↦ cc | inr e ↦ cc ]); rising = λ e. absurd cc }
-scans Logs db rows a = record { each = scan_rows 3 (terms Logs) falling db rows a; falling = λ either. absurd (elim either [ inl e ↦ cc | inr e ↦ cc ]); rising = λ e. absurd cc }
-scans Spans db rows a = record { each = scan_rows 5 (terms Spans) rising db rows a; falling = λ either. absurd (elim either [ inl e ↦ cc | inr e ↦ cc ]); rising = λ _. scan_rises 5 (terms Spans) db rows (λ e. refl) a }
-scans Beginnings db rows a = record { each = scan_rows 6 (terms Beginnings) falling db rows a; falling = λ _. scan_falls 6 (terms Beginnings) db rows (λ e. refl) a; rising = λ e. absurd cc }
-scans Items db rows a = record { each = scan_rows 5 (terms Items) falling db rows a; falling = λ _. scan_falls 5 (terms Items) db rows (λ e. refl) a; rising = λ e. absurd cc }
+scans Archive db rows a = record { each = scan_rows 0 (terms Archive) [] db rows a; order = tt }
+scans Devices db rows a = record { each = scan_rows 1 (terms Devices) rising db rows a; order = scan_rises 1 (terms Devices) db rows (λ e. refl) a }
+scans Logs db rows a = record { each = scan_rows 3 (terms Logs) falling db rows a; order = scan_falls 3 (terms Logs) db rows (λ e. refl) a }
+scans Spans db rows a = record { each = scan_rows 5 (terms Spans) rising db rows a; order = scan_rises 5 (terms Spans) db rows (λ e. refl) a }
+scans Beginnings db rows a = record { each = scan_rows 6 (terms Beginnings) falling db rows a; order = scan_falls 6 (terms Beginnings) db rows (λ e. refl) a }
+scans Items db rows a = record { each = scan_rows 5 (terms Items) falling db rows a; order = scan_falls 5 (terms Items) db rows (λ e. refl) a }
 
 pub answers : (q : Question) (old new : State) (rows : List Values) → HasArchive old.now.schema → Shown (asked q) [] old new rows → IsAnswer q old.now.trees rows
 answers q old new rows has it =
@@ -223,6 +224,18 @@ same_length f table rows same = omega (arith, length_permutation _ _ same, lengt
 pub commits_nothing : (sql : List ℕ) (params : Values) (old new : State) → (HasCleanDisk old → IsPlain (understood old.now.schema sql))
     → Survives old new (CommitsShowing sql params old) → Survives old new (λ _. ⊥)
 commits_nothing sql params old new plain h = survives_weaker old new _ _ (λ clean db. never_commits sql params old db (plain (omega (arith, clean, h.clean)))) h
+
+-- an archive that wasn't changed is still one
+pub has_still : (a b : State) → IsUnchanged a b → HasArchive a.now.schema → HasArchive b.now.schema
+has_still a b same has = subst (λ (d : Database). HasArchive d.schema) (sym same.0.now_is) has
+
+-- nor does a crash of two that come one after the other leave what neither leaves
+pub crash_then : (a b c : State) → (HasCleanDisk a → HasArchive a.now.schema) → (HasCleanDisk b → HasArchive a.now.schema → IsUnchanged a b)
+    → ((HasCleanDisk a → HasArchive a.now.schema) → Survives a b (λ _. ⊥)) → ((HasCleanDisk b → HasArchive b.now.schema) → Survives b c (λ _. ⊥)) → Survives a c (λ _. ⊥)
+crash_then a b c has same one two =
+    let first = one has in
+    survives_then a b c _ _ _ (λ _ db none. none) (λ _ db none. none) first
+    (two (λ clean. let early = has (omega (arith, clean, first.clean)) in has_still a b (same clean early) early))
 
 -- the answer to a plain question changes nothing
 pub shown_same : (sql : List ℕ) (params : Values) (old new : State) (rows : List Values) → IsPlain (understood old.now.schema sql) → Shown sql params old new rows → IsUnchanged old new

@@ -2,6 +2,7 @@ mod SchemaLemmas
 pub mod AroundLemmas
 pub mod AskLemmas
 pub mod ReadLemmas
+mod KnownLemmas
 pub mod NewestLemmas
 pub mod RowsLemmas
 mod CreateLemmas

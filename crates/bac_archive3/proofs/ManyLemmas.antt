@@ -1,5 +1,5 @@
 -- What the statement that puts so many items does under the schema of an archive.
-use Rattle.std.proofs.Common.{◌≡◌, ◌≢◌, ℕ, zero, suc, Bool, true, false, not, if◌then◌else◌, ◌==◌, ◌&&◌, ◌+◌, ◌<◌, List, arith, [], ◌∷◌, ◌++◌, map, flat_map, length, take, drop, set, slice_get, Option, Some, None, Ok, inl, inr, refl, sym, ap, subst, ◌∙◌, append_assoc, append-nil, length-append}
+use Rattle.std.proofs.Common.{◌≡◌, ◌≢◌, ℕ, zero, suc, Bool, true, false, not, if◌then◌else◌, ◌==◌, ◌&&◌, ◌+◌, ◌<◌, List, arith, [], ◌∷◌, ◌++◌, map, flat_map, length, take, drop, set, slice_get, Option, Some, None, is_some, Ok, inl, inr, refl, sym, ap, subst, ◌∙◌, append_assoc, append-nil, length-append}
 use Rattle.std.specs.List.{AllByRecursion}
 use Rattle.std.proofs.lemmas.Bool.{eqb-true, both_ways}
 use Rattle.std.proofs.lemmas.List.{map-append, get_or-append-add}
@@ -25,10 +25,10 @@ use Rattle.sqlite.specs.State.{State, mode_of, Executes}
 use Rattle.sqlite.specs.Listing.{understood}
 use Rattle.sqlite.proofs.Callers.{IsPlain, command_of, statement_of, runs_as}
 use Rattle.bac_archive3.specs.Schema.{HasArchive, items}
-use Rattle.bac_archive3.specs.Put.{AreAtOnce, AreFree, AreMany, IsPut, given, given_item, left, many_text, row_of, text_of_all}
+use Rattle.bac_archive3.specs.Put.{AreAtOnce, AreFree, AreMany, IsPut, given, given_all, given_record, is_record, left, many_text, row_of, text_of_all}
 use Rattle.bac_archive3.specs.declared.row.ItemRow.{ItemRow}
 use Rattle.bac_archive3.specs.declared.row.Put.{Put}
-use Rattle.bac_archive3.specs.declared.row.Put.TheVariants.{Item}
+use Rattle.bac_archive3.specs.declared.row.Put.TheVariants.{NewDevice, Device, NewLog, Log, Beginning, Lowered, Item}
 use Rattle.bac_archive3.proofs.AroundLemmas.{around, is_around, one_step_around}
 use Rattle.bac_archive3.proofs.RowsLemmas.{cast_int, cast_null, same_value, went}
 use Rattle.bac_archive3.proofs.InsertLemmas.{Sets, sets_by}
@@ -37,12 +37,12 @@ use Rattle.bac_archive3.proofs.InsertLemmas.{Sets, sets_by}
 
 -- what a row of values has from a place on
 abbrev terms_from : ℕ → List Term
-terms_from at = col 0 at ∷ lit Null ∷ col 0 (at + 1) ∷ col 0 (at + 2) ∷ col 0 (at + 3) ∷ col 0 (at + 4) ∷ col 0 (at + 5) ∷ []
+terms_from at = col 0 at ∷ lit Null ∷ lit Null ∷ col 0 (at + 1) ∷ col 0 (at + 2) ∷ col 0 (at + 3) ∷ col 0 (at + 4) ∷ []
 
 -- and so many rows of values
 abbrev terms_of : ℕ → ℕ → List Term
 terms_of at zero = []
-terms_of at (suc count) = terms_from at ++ terms_of (at + 6) count
+terms_of at (suc count) = terms_from at ++ terms_of (at + 5) count
 
 abbrev many_terms : List Term
 many_terms = terms_of 0 32
@@ -123,26 +123,31 @@ items_put old new xs it fresh = record {
 behind : (before row : Row) (at k : ℕ) → length before ≡ at → column (before ++ row) (at + k) ≡ column row k
 behind before row at k e = subst (λ n. column (before ++ row) (n + k) ≡ column row k) e (get_or-append-add before row k Null)
 
--- the rows of values are those of the items
-sources_are : (before : Row) (xs : List ItemRow) (at : ℕ) → length before ≡ at → value_rows (before ++ flat_map given (map Item xs)) 7 (length xs) (terms_of at (length xs)) ≡ map item_source xs
-sources_are before [] at e = refl
-sources_are before (x ∷ xs) at e =
-    let row = given (Item x) ++ flat_map given (map Item xs) in
+-- these are records: none has a last number
+abbrev pub AreRecords : List ItemRow → Type 0
+AreRecords items = AllByRecursion (λ i. i.last ≡ None) items
+
+-- the rows of values are those of the records
+sources_are : (before : Row) (xs : List ItemRow) (at : ℕ) → length before ≡ at → AreRecords xs
+    → value_rows (before ++ flat_map given_record (map Item xs)) 7 (length xs) (terms_of at (length xs)) ≡ map item_source xs
+sources_are before [] at e records = refl
+sources_are before (x ∷ xs) at e records =
+    let row = given_record (Item x) ++ flat_map given_record (map Item xs) in
     let first : column (before ++ row) at ≡ Int x.id = subst (λ n. column (before ++ row) n ≡ Int x.id) (omega arith) (behind before row at 0 e) in
     let one = behind before row at 1 e in
     let two = behind before row at 2 e in
     let three = behind before row at 3 e in
     let four = behind before row at 4 e in
-    let five = behind before row at 5 e in
-    let more = sources_are (before ++ given (Item x)) xs (at + 6) (omega (arith, e, length-append before (given (Item x)))) in
-    let same = append_assoc before (given (Item x)) (flat_map given (map Item xs)) in
-    let here : eval_all (terms_from at) ((before ++ row) ∷ []) ≡ item_source x = rw (first, one, two, three, four, five) in
-    ap (λ r. r ∷ value_rows (before ++ row) 7 (length xs) (terms_of (at + 6) (length xs))) here ∙ ap (λ rs. item_source x ∷ rs) (rw same at more)
+    let more = sources_are (before ++ given_record (Item x)) xs (at + 5) (omega (arith, e, length-append before (given_record (Item x)))) records.1 in
+    let same = append_assoc before (given_record (Item x)) (flat_map given_record (map Item xs)) in
+    let here : eval_all (terms_from at) ((before ++ row) ∷ []) ≡ item_source x = rw (first, one, two, three, four, records.0) in
+    ap (λ r. r ∷ value_rows (before ++ row) 7 (length xs) (terms_of (at + 5) (length xs))) here ∙ ap (λ rs. item_source x ∷ rs) (rw same at more)
 
-pub puts_many : (xs : List ItemRow) → length xs ≡ 32 → (old new : State) (count : ℕ) → HasArchive old.now.schema → Executes many_text (flat_map given (map Item xs)) old new (Ok count) → IsPut old.now new.now (map Item xs)
-puts_many xs len old new count has ran =
+pub puts_many : (xs : List ItemRow) → length xs ≡ 32 → AreRecords xs → (old new : State) (count : ℕ) → HasArchive old.now.schema → Executes many_text (flat_map given_record (map Item xs)) old new (Ok count)
+    → IsPut old.now new.now (map Item xs)
+puts_many xs len records old new count has ran =
     let db = old.now.trees in
-    let all_given = flat_map given (map Item xs) in
+    let all_given = flat_map given_record (map Item xs) in
     let command = Insert 3 (Values many_terms 7) in
     let schema = around old.now.schema has in
     let at = is_around old.now.schema has in
@@ -156,7 +161,7 @@ puts_many xs len old new count has ran =
     let trees : done.0.trees ≡ written.0 = ap (λ (it : Written). it.trees) (same_value counted.2) ∙ same_value counted.1 in
     let edit = edit_of db (record items { tree = 5 }) [] Chosen 0 sources.0 in
     let step = one_step_around old.now.schema has _ db written.0 edit written.1 in
-    let these : value_rows all_given 7 32 many_terms ≡ map item_source xs = subst (λ n. value_rows all_given 7 n (terms_of 0 n) ≡ map item_source xs) len (sources_are [] xs 0 refl) in
+    let these : value_rows all_given 7 32 many_terms ≡ map item_source xs = subst (λ n. value_rows all_given 7 n (terms_of 0 n) ≡ map item_source xs) len (sources_are [] xs 0 refl records) in
     let plain : value_rows (all_given ++ []) 7 32 many_terms ≡ value_rows all_given 7 32 many_terms = ap (λ p. value_rows p 7 32 many_terms) (append-nil all_given) in
     let news : edit.news ≡ map item_row xs =
     ap (λ all. (edit_of db (record items { tree = 5 }) [] Chosen 0 all).news) (sources.1.1 ∙ plain ∙ these) ∙ ap (numbered Chosen (db 5)) (rows_are xs) ∙ numbered_is (db 5) xs in
@@ -187,33 +192,55 @@ take_next xs n x e =
     let one : suc n ≡ n + 1 = omega arith in
     subst (λ k. take k xs ≡ take n xs ++ x ∷ []) one (take_suc xs n x e)
 
--- the first of these are so many items
+-- a record is an item without a last number
+record_is : (put : Put) → is_record put ≡ true → (i : ItemRow) × (put ≡ Item i) × (i.last ≡ None)
+record_is (Item i) is = (i, refl, none i.last is)
+  where
+    none : (last : Option ℕ) → not (is_some last) ≡ true → last ≡ None
+    none None is = refl
+    none (Some n) is = absurd (let e = is in cc)
+record_is (NewDevice d) is = absurd (let e = is in cc)
+record_is (Device d) is = absurd (let e = is in cc)
+record_is (NewLog l) is = absurd (let e = is in cc)
+record_is (Log l) is = absurd (let e = is in cc)
+record_is (Beginning b) is = absurd (let e = is in cc)
+record_is (Lowered b) is = absurd (let e = is in cc)
+
+-- one more record
+record_more : (xs : List ItemRow) (x : ItemRow) → AreRecords xs → x.last ≡ None → AreRecords (xs ++ x ∷ [])
+record_more [] x all one = (one, tt)
+record_more (y ∷ ys) x all one = (all.0, record_more ys x all.1 one)
+
+-- the first of these are so many records
 abbrev pub AreItems : List Put → ℕ → Type 0
-AreItems puts n = (items : List ItemRow) × (length items ≡ n) × (take n puts ≡ map Item items)
+AreItems puts n = (items : List ItemRow) × (length items ≡ n) × AreRecords items × (take n puts ≡ map Item items)
 
-pub items_next : (puts : List Put) (n : ℕ) (item : ItemRow) → slice_get puts n ≡ Some (Item item) → AreItems puts n → AreItems puts (n + 1)
-items_next puts n item is (items, len, front) = (
-  items ++ item ∷ [],
-  omega (arith, len, length-append items (item ∷ [])),
-  take_next puts n (Item item) is ∙ ap (λ l. l ++ Item item ∷ []) front ∙ sym (map-append Item items (item ∷ [])),
-)
+pub items_next : (puts : List Put) (n : ℕ) (put : Put) → slice_get puts n ≡ Some put → is_record put ≡ true → AreItems puts n → AreItems puts (n + 1)
+items_next puts n put is record_too (items, len, records, front) =
+    let it = record_is put record_too in (
+      items ++ it.0 ∷ [],
+      omega (arith, len, length-append items (it.0 ∷ [])),
+      record_more items it.0 records it.2,
+      take_next puts n (Item it.0) (is ∙ ap Some it.1) ∙ ap (λ l. l ++ Item it.0 ∷ []) front ∙ sym (map-append Item items (it.0 ∷ [])),
+    )
 
--- what is bound for items
-pub items_given : (xs : List ItemRow) → flat_map given_item (map Item xs) ≡ flat_map given (map Item xs)
-items_given [] = refl
-items_given (x ∷ xs) = ap (λ l. given (Item x) ++ l) (items_given xs)
+-- what is bound for so many
+pub many_given : (xs : List ItemRow) → length xs ≡ 32 → given_all (map Item xs) ≡ flat_map given_record (map Item xs)
+many_given [] len = absurd (omega (arith, len))
+many_given (x ∷ []) len = absurd (omega (arith, len))
+many_given (x ∷ y ∷ xs) len = refl
 
 -- what is bound for the first, with the next one
-pub bound_next : (rows : List (List ValueRef)) (puts : List Put) (n : ℕ) (row : List ValueRef) (put : Put) → n < length rows → slice_get puts n ≡ Some put → bound row ≡ given_item put
-    → bound (flat_map (λ r. r) (take n rows)) ≡ flat_map given_item (take n puts) → bound (flat_map (λ r. r) (take (n + 1) (set rows n row))) ≡ flat_map given_item (take (n + 1) puts)
+pub bound_next : (rows : List (List ValueRef)) (puts : List Put) (n : ℕ) (row : List ValueRef) (put : Put) → n < length rows → slice_get puts n ≡ Some put → bound row ≡ given_record put
+    → bound (flat_map (λ r. r) (take n rows)) ≡ flat_map given_record (take n puts) → bound (flat_map (λ r. r) (take (n + 1) (set rows n row))) ≡ flat_map given_record (take (n + 1) puts)
 bound_next rows puts n row put lt is one was =
     ap (λ l. bound (flat_map (λ r. r) l)) (take-set_at rows n (n + 1) row refl lt)
     ∙ ap bound (flat_map-append (λ (r : List ValueRef). r) (take n rows) (row ∷ []))
     ∙ map-append _ (flat_map (λ r. r) (take n rows)) (row ++ [])
     ∙ ap (λ l. l ++ bound (row ++ [])) was
-    ∙ ap (λ l. flat_map given_item (take n puts) ++ l) (ap bound (append-nil row) ∙ one ∙ sym (append-nil (given_item put)))
-    ∙ sym (flat_map-append given_item (take n puts) (put ∷ []))
-    ∙ ap (flat_map given_item) (sym (take_next puts n put is))
+    ∙ ap (λ l. flat_map given_record (take n puts) ++ l) (ap bound (append-nil row) ∙ one ∙ sym (append-nil (given_record put)))
+    ∙ sym (flat_map-append given_record (take n puts) (put ∷ []))
+    ∙ ap (flat_map given_record) (sym (take_next puts n put is))
 
 pub one_first : (puts : List Put) → puts ≢ [] → AreAtOnce (take 1 puts)
 one_first [] some = absurd (some refl)

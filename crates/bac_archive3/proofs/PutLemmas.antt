@@ -1,5 +1,5 @@
 -- What puts come to, one after the other.
-use Rattle.std.proofs.Common.{◌≡◌, ◌≢◌, ℕ, Bool, true, false, if◌then◌else◌, ◌==◌, List, [], ◌∷◌, ◌++◌, flat_map, map, append-nil, inl, inr, Ok, Err, Result, OnOk, IsTrue, eq-eqb, refl, sym, ap, subst, ◌∙◌}
+use Rattle.std.proofs.Common.{◌≡◌, ◌≢◌, ℕ, Bool, true, false, if◌then◌else◌, ◌==◌, List, [], ◌∷◌, ◌++◌, map, inl, inr, Ok, Err, Result, OnOk, IsTrue, eq-eqb, refl, sym, ap, subst, ◌∙◌}
 use Rattle.std.specs.List.{AllByRecursion}
 use Rattle.std.proofs.lemmas.Bool.{eqb-true, both_ways}
 use Rattle.sqlite_value.specs.Order.{Row as Values}
@@ -12,10 +12,10 @@ use Rattle.sqlite.specs.Effect.{Database}
 use Rattle.sqlite.specs.State.{State, ExecutesInside, Executes}
 use Rattle.bac_archive3.specs.Schema.{HasArchive}
 use Rattle.bac_archive3.specs.Making.{IsFilled, IsMade}
-use Rattle.bac_archive3.specs.Put.{AreAtOnce, AreFree, IsPut, Puts, after, given, is_new, left, row_of, table_of, text_of, text_of_all, with_row}
+use Rattle.bac_archive3.specs.Put.{AreAtOnce, AreFree, IsPut, Puts, after, given, given_all, is_new, left, many_text, row_of, table_of, text_of, text_of_all, with_row}
 use Rattle.bac_archive3.specs.declared.row.Put.{Put}
 use Rattle.bac_archive3.specs.declared.row.Put.TheVariants.{NewDevice, Device, NewLog, Log, Beginning, Lowered, Item}
-use Rattle.bac_archive3.proofs.ManyLemmas.{many_said, puts_many}
+use Rattle.bac_archive3.proofs.ManyLemmas.{many_given, many_said, puts_many}
 use Rattle.bac_archive3.proofs.InsertLemmas.{Sets, Adds, adds_device, adds_log, adds_item, adds_beginning}
 use Rattle.bac_archive3.proofs.ChangeLemmas.{changes_device, changes_log, lowers}
 
@@ -62,14 +62,15 @@ pub puts_one : (put : Put) (old new : State) (count : ℕ) → HasArchive old.no
 puts_one put old new count has ran = record { put = is_put put old new count has ran.0; mode = ran.1.mode; committed = ran.1.committed_is }
 
 -- what one statement puts
-pub puts_these : (these : List Put) (old new : State) (count : ℕ) → AreAtOnce these → HasArchive old.now.schema → ExecutesInside 0 (text_of_all these) (flat_map given these) old new (Ok count) → Puts old new these
+pub puts_these : (these : List Put) (old new : State) (count : ℕ) → AreAtOnce these → HasArchive old.now.schema → ExecutesInside 0 (text_of_all these) (given_all these) old new (Ok count) → Puts old new these
 puts_these these old new count (inl one) has ran =
-    let alone = subst (λ p. ExecutesInside 0 (text_of one.0) p old new (Ok count)) (append-nil (given one.0)) (subst (λ t. ExecutesInside 0 (text_of_all t) (flat_map given t) old new (Ok count)) one.1 ran) in
+    let alone = subst (λ t. ExecutesInside 0 (text_of_all t) (given_all t) old new (Ok count)) one.1 ran in
     subst (Puts old new) (sym one.1) (puts_one one.0 old new count has alone)
-puts_these these old new count (inr (xs, len, are)) has ran =
-    let said = subst (λ t. ExecutesInside 0 (text_of_all t) (flat_map given t) old new (Ok count)) are ran in
-    let all = subst (λ t. ExecutesInside 0 t (flat_map given (map Item xs)) old new (Ok count)) (many_said xs len) said in
-    subst (Puts old new) (sym are) (record { put = puts_many xs len old new count has all.0; mode = all.1.mode; committed = all.1.committed_is })
+puts_these these old new count (inr (xs, len, records, are)) has ran =
+    let said = subst (λ t. ExecutesInside 0 (text_of_all t) (given_all t) old new (Ok count)) are ran in
+    let all = subst (λ t. ExecutesInside 0 t (given_all (map Item xs)) old new (Ok count)) (many_said xs len) said in
+    let bound = subst (λ p. ExecutesInside 0 many_text p old new (Ok count)) (many_given xs len) all in
+    subst (Puts old new) (sym are) (record { put = puts_many xs len records old new count has bound.0; mode = bound.1.mode; committed = bound.1.committed_is })
 
 -- ---- one after the other
 

@@ -7,10 +7,10 @@ use Rattle.sqlite.specs.declared.error.Error.TheVariants.{SqliteFailure, QueryRe
 use Rattle.sqlite.specs.declared.error.ErrorCode.TheVariants.{OutOfMemory}
 use Rattle.sqlite.specs.Reading.{IsReadError}
 use Rattle.std.proofs.lemmas.List.{map-append, take_more, take-append-drop}
-use Rattle.std.specs.List.{Contains}
+use Rattle.std.specs.List.{AllByRecursion, Contains}
 use Rattle.std.specs.List.Sorted.{IsPermutation}
-use Rattle.std.proofs.lemmas.List.Elements.{Contains-append_left, Contains-push}
-use Rattle.std.proofs.lemmas.List.Sorted.{IsPermutation-map, IsPermutation-sym, length_permutation, Contains-permutation}
+use Rattle.std.proofs.lemmas.List.Elements.{All-map, Contains-append_left, Contains-push, recursion_from_All}
+use Rattle.std.proofs.lemmas.List.Sorted.{All-permutation, IsPermutation-sym, length_permutation, Contains-permutation}
 use Rattle.sqlite_trees.specs.Tree.{Trees}
 use Rattle.sqlite_trees.specs.declared.store.Store.{Ghosts}
 use Rattle.sqlite.specs.Held.{Held, state}
@@ -23,7 +23,6 @@ use Rattle.bac_archive3.specs.Stands.{FailsToTell, HasUnread, IsNotTold, kinds_o
 use Rattle.bac_archive3.specs.declared.asking.Question.TheVariants.{Archive, Devices, Logs, Items}
 use Rattle.bac_archive3.specs.declared.asking.Question.{Question}
 use Rattle.bac_archive3.specs.declared.asking.Tables.{Tables}
-use Rattle.std.proofs.lemmas.Simd.{map-map}
 use Rattle.sqlite_value.specs.declared.value.Value.{Value}
 use Rattle.bac_archive3.proofs.RowsLemmas.{because}
 
@@ -112,15 +111,19 @@ not_told g old new tables e are (inr (inl one)) = inr (inl (unread_row Archive (
 not_told g old new tables e are (inr (inr (inl one))) = inr (inl (unread_row Devices (state g old).now.trees tables.devices.items e are.devices one))
 not_told g old new tables e are (inr (inr (inr one))) = inr (inl (unread_row Logs (state g old).now.trees tables.logs.items e are.logs one))
 
+-- a row of a table has no other columns than those that are read
+pub whole_rows : (n m : ℕ) (table rows : List Values) → ((r : Values) → first n (shown m r) ≡ shown m r) → IsPermutation (map (shown m) table) rows → map (first n) rows ≡ rows
+whole_rows n m table rows whole same =
+    agree rows (recursion_from_All _ rows (All-permutation (λ r. first n r ≡ r) _ _ same (All-map (λ r. first n r ≡ r) (shown m) table (λ i d lt. whole (get_or table i d)))))
+  where
+    agree : (xs : List Values) → AllByRecursion (λ r. first n r ≡ r) xs → map (first n) xs ≡ xs
+    agree [] all = refl
+    agree (x ∷ xs) all = ap (λ y. y ∷ map (first n) xs) all.0 ∙ ap (λ ys. x ∷ ys) (agree xs all.1)
+
 -- rows that were read are those of their table
 pub told_rows : {X : Type 0} (n m : ℕ) (f : X → Values) (table : List Values) (rows : List Values) (told : List X) → ((r : Values) → first n (shown m r) ≡ shown m r)
     → IsPermutation (map (shown m) table) rows → map f told ≡ map (first n) rows → IsPermutation (map (shown m) table) (map f told)
-told_rows n m f table rows told whole same read =
-    subst (IsPermutation (map (shown m) table)) (sym read) (subst (λ l. IsPermutation l (map (first n) rows)) (map-map (first n) (shown m) table ∙ agree table) (IsPermutation-map (first n) (map (shown m) table) rows same))
-  where
-    agree : (xs : List Values) → map (λ r. first n (shown m r)) xs ≡ map (shown m) xs
-    agree [] = refl
-    agree (x ∷ xs) = ap (λ y. y ∷ map (λ r. first n (shown m r)) xs) (whole x) ∙ ap (λ ys. shown m x ∷ ys) (agree xs)
+told_rows n m f table rows told whole same read = subst (IsPermutation (map (shown m) table)) (sym (read ∙ whole_rows n m table rows whole same)) same
 
 -- the moment of an answer's row is that of a row of its table
 pub moment_of : (table rows : List Values) (made : Value) → IsPermutation (map (shown 1) table) rows → (row : Values) × Contains rows row × (column row 1 ≡ made)

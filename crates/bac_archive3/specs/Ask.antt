@@ -1,5 +1,5 @@
 -- What an archive is asked, and what it answers.
-use Rattle.std.specs.Prelude.{◌≡◌, ◌⊎◌, ℕ, ◌+◌, suc, zero, List, [], ◌∷◌, ◌++◌, map, codes}
+use Rattle.std.specs.Prelude.{◌≡◌, ◌⊎◌, ⊤, ℕ, ◌+◌, suc, zero, List, [], ◌∷◌, ◌++◌, map, codes}
 use Rattle.std.specs.List.Sorted.{IsPermutation, IsSorted}
 use Rattle.std.specs.declared.cmp.Ordering.{Ordering}
 use Rattle.sqlite_value.specs.Order.{Row as Values, column, value_cmp}
@@ -64,11 +64,19 @@ falls a b = value_cmp (column b 0) (column a 0)
 abbrev pub rises : Values → Values → Ordering
 rises a b = value_cmp (column a 0) (column b 0)
 
+-- in which order the rows of an answer come
+abbrev pub AreInOrder : Question → List Values → Type 0
+AreInOrder Archive rows = ⊤
+AreInOrder Devices rows = IsSorted rises rows
+AreInOrder Logs rows = IsSorted falls rows
+AreInOrder Beginnings rows = IsSorted falls rows
+AreInOrder Items rows = IsSorted falls rows
+AreInOrder Spans rows = IsSorted rises rows
+
 -- the answer to a question: each row of its table
 pub record IsAnswer (question : Question) (trees : Trees) (rows : List Values) : Type 0 where
   pub each : IsPermutation (map (shown (width question)) (trees (tree_of question))) rows
-  pub falling : (question ≡ Beginnings) ⊎ (question ≡ Items) → IsSorted falls rows
-  pub rising : question ≡ Spans → IsSorted rises rows
+  pub order : AreInOrder question rows
 
 -- the answers to the first four
 pub record AreAnswers (trees : Trees) (tables : Tables) : Type 0 where

@@ -4,6 +4,7 @@ pub mod Making
 pub mod Ask
 pub mod Read
 pub mod Stands
+pub mod Known
 pub mod Archive
 pub mod Keep
 pub mod Items

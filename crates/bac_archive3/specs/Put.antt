@@ -1,7 +1,7 @@
 -- Rows are put: all of a batch, or none.
-use Rattle.std.specs.Prelude.{◌≡◌, ◌⊎◌, ⊤, ℕ, ℤ, pos, Bool, true, false, if◌then◌else◌, ◌==◌, ◌&&◌}
+use Rattle.std.specs.Prelude.{◌≡◌, ◌⊎◌, ⊤, ℕ, ℤ, pos, Bool, true, false, not, if◌then◌else◌, ◌==◌, ◌&&◌}
 use Rattle.std.specs.Prelude.{List, [], ◌∷◌, ◌++◌, map, flat_map, fold, drop, take, length}
-use Rattle.std.specs.Prelude.{codes, Err, IsTrue}
+use Rattle.std.specs.Prelude.{codes, Err, IsTrue, None, is_some}
 use Rattle.std.specs.List.{AllByRecursion, Contains, list_any}
 use Rattle.std.specs.Ordering.{is_eq}
 use Rattle.std.specs.String.{string_bytes}
@@ -77,15 +77,25 @@ columns_of (Item i) = item_columns i
 abbrev pub given : Put → Values
 given put = bound_columns (columns_of put)
 
--- what is bound for an item, and as many NULLs for another row
-abbrev pub given_item : Put → Values
-given_item (Item i) = bound_columns (item_columns i)
-given_item (NewDevice d) = Null ∷ Null ∷ Null ∷ Null ∷ Null ∷ Null ∷ []
-given_item (Device d) = Null ∷ Null ∷ Null ∷ Null ∷ Null ∷ Null ∷ []
-given_item (NewLog l) = Null ∷ Null ∷ Null ∷ Null ∷ Null ∷ Null ∷ []
-given_item (Log l) = Null ∷ Null ∷ Null ∷ Null ∷ Null ∷ Null ∷ []
-given_item (Beginning b) = Null ∷ Null ∷ Null ∷ Null ∷ Null ∷ Null ∷ []
-given_item (Lowered b) = Null ∷ Null ∷ Null ∷ Null ∷ Null ∷ Null ∷ []
+-- an item that is a record, and no gap: it has no last number
+abbrev pub is_record : Put → Bool
+is_record (Item i) = not (is_some i.last)
+is_record (NewDevice d) = false
+is_record (Device d) = false
+is_record (NewLog l) = false
+is_record (Log l) = false
+is_record (Beginning b) = false
+is_record (Lowered b) = false
+
+-- what is bound for a record, without a last number, and as many NULLs for a row of another table
+abbrev pub given_record : Put → Values
+given_record (Item i) = take 1 (given (Item i)) ++ drop 2 (given (Item i))
+given_record (NewDevice d) = Null ∷ Null ∷ Null ∷ Null ∷ Null ∷ []
+given_record (Device d) = Null ∷ Null ∷ Null ∷ Null ∷ Null ∷ []
+given_record (NewLog l) = Null ∷ Null ∷ Null ∷ Null ∷ Null ∷ []
+given_record (Log l) = Null ∷ Null ∷ Null ∷ Null ∷ Null ∷ []
+given_record (Beginning b) = Null ∷ Null ∷ Null ∷ Null ∷ Null ∷ []
+given_record (Lowered b) = Null ∷ Null ∷ Null ∷ Null ∷ Null ∷ []
 
 -- the table that it is of, at its place
 abbrev pub table_of : Put → Table
@@ -210,30 +220,34 @@ text_of (Beginning b) = beginning_text
 text_of (Lowered b) = lower_text
 text_of (Item i) = item_text
 
--- the one that puts so many items, one after the other
+-- the one that puts so many records, one after the other
 abbrev pub many_text : List ℕ
 many_text =
-    codes "INSERT INTO items (id, last, stamp, value, datum, flags) VALUES (?, ?, ?, ?, ?, ?), "
-    ++ codes "(?, ?, ?, ?, ?, ?), (?, ?, ?, ?, ?, ?), (?, ?, ?, ?, ?, ?), (?, ?, ?, ?, ?, ?), (?, ?, ?, ?, ?, ?), "
-    ++ codes "(?, ?, ?, ?, ?, ?), (?, ?, ?, ?, ?, ?), (?, ?, ?, ?, ?, ?), (?, ?, ?, ?, ?, ?), (?, ?, ?, ?, ?, ?), "
-    ++ codes "(?, ?, ?, ?, ?, ?), (?, ?, ?, ?, ?, ?), (?, ?, ?, ?, ?, ?), (?, ?, ?, ?, ?, ?), (?, ?, ?, ?, ?, ?), "
-    ++ codes "(?, ?, ?, ?, ?, ?), (?, ?, ?, ?, ?, ?), (?, ?, ?, ?, ?, ?), (?, ?, ?, ?, ?, ?), (?, ?, ?, ?, ?, ?), "
-    ++ codes "(?, ?, ?, ?, ?, ?), (?, ?, ?, ?, ?, ?), (?, ?, ?, ?, ?, ?), (?, ?, ?, ?, ?, ?), (?, ?, ?, ?, ?, ?), "
-    ++ codes "(?, ?, ?, ?, ?, ?), (?, ?, ?, ?, ?, ?), (?, ?, ?, ?, ?, ?), (?, ?, ?, ?, ?, ?), (?, ?, ?, ?, ?, ?), "
-    ++ codes "(?, ?, ?, ?, ?, ?)"
+    codes "INSERT INTO items (id, stamp, value, datum, flags) VALUES (?, ?, ?, ?, ?), (?, ?, ?, ?, ?), "
+    ++ codes "(?, ?, ?, ?, ?), (?, ?, ?, ?, ?), (?, ?, ?, ?, ?), (?, ?, ?, ?, ?), (?, ?, ?, ?, ?), (?, ?, ?, ?, ?), "
+    ++ codes "(?, ?, ?, ?, ?), (?, ?, ?, ?, ?), (?, ?, ?, ?, ?), (?, ?, ?, ?, ?), (?, ?, ?, ?, ?), (?, ?, ?, ?, ?), "
+    ++ codes "(?, ?, ?, ?, ?), (?, ?, ?, ?, ?), (?, ?, ?, ?, ?), (?, ?, ?, ?, ?), (?, ?, ?, ?, ?), (?, ?, ?, ?, ?), "
+    ++ codes "(?, ?, ?, ?, ?), (?, ?, ?, ?, ?), (?, ?, ?, ?, ?), (?, ?, ?, ?, ?), (?, ?, ?, ?, ?), (?, ?, ?, ?, ?), "
+    ++ codes "(?, ?, ?, ?, ?), (?, ?, ?, ?, ?), (?, ?, ?, ?, ?), (?, ?, ?, ?, ?), (?, ?, ?, ?, ?), (?, ?, ?, ?, ?)"
 
--- as many items as one statement puts
+-- as many records as one statement puts
 abbrev pub AreMany : List Put → Type 0
-AreMany these = (items : List ItemRow) × (length items ≡ 32) × (these ≡ map Item items)
+AreMany these =
+    (items : List ItemRow) × (length items ≡ 32) × AllByRecursion (λ i. i.last ≡ None) items × (these ≡ map Item items)
 
--- one row, or so many items
+-- one row, or so many records
 abbrev pub AreAtOnce : List Put → Type 0
 AreAtOnce these = ((put : Put) × (these ≡ put ∷ [])) ⊎ AreMany these
 
--- the one that these rows are put by: that of the row itself, or of several items
+-- the one that these rows are put by: that of the row itself, or of several records
 abbrev pub text_of_all : List Put → List ℕ
 text_of_all (put ∷ []) = text_of put
 text_of_all puts = many_text
+
+-- and what is bound there
+abbrev pub given_all : List Put → Values
+given_all (put ∷ []) = given put
+given_all puts = flat_map given_record puts
 
 -- ---- why it is not done
 
@@ -245,7 +259,7 @@ pub record GivesUp {S : Type 0} (g : Ghosts S) (old new : Held S) (puts : List P
   pub at : puts ≡ before ++ these ++ behind
   pub mid : Held S
   pub done : Puts (state g old) (state g mid) before
-  pub why : ExecutesInside 0 (text_of_all these) (flat_map given these) (state g mid) (state g new) (Err e)
+  pub why : ExecutesInside 0 (text_of_all these) (given_all these) (state g mid) (state g new) (Err e)
 
 -- Why a batch isn't put: a transaction is open already; or the database gives up on one of its rows, or on the commit.
 abbrev pub FailsToPut : {S : Type 0} → Ghosts S → Held S → List Put → Error → Type 0

@@ -4,7 +4,7 @@ ghost use Rattle.std.specs.Prelude.{◌≡◌, [], OnOk, IfErr, IfOk};
 ghost use Rattle.sqlite.specs.State.{HasCleanDisk, Survives, IsUnchanged, FailsToQuery};
 ghost use Rattle.sqlite.specs.Held.{state};
 ghost use Rattle.bac_archive3.specs.Ask.{AreAnswers, FailsToAnswer, IsAnswer, IsLeft, asked};
-ghost use Rattle.bac_archive3.specs.Schema.{HasArchive};
+ghost use Rattle.bac_archive3.specs.Schema.{HasArchive, OverArchive};
 
 use sqlite::{Alter, Connection, Error, Row};
 
@@ -51,44 +51,47 @@ pub(crate) fn asked(question: Question) -> &'static str
 }
 
 /// The rows of a table.
-fn rows_of<S: Alter>(conn: &mut Connection<S>, question: Question) -> Result<Vec<Row>, Error>
-    requires { HasCleanDisk (state S.Store conn.old)
-        → HasArchive (state S.Store conn.old).now.schema }
-    ensures told { HasCleanDisk (state S.Store conn.new)
-        → IfOk result
-        (λ rows. IsAnswer question (state S.Store conn.old).now.trees rows.items) }
-    ensures same { HasCleanDisk (state S.Store conn.new)
-        → OnOk result (IsUnchanged (state S.Store conn.old) (state S.Store conn.new)) }
-    ensures left { HasCleanDisk (state S.Store conn.new)
-        → IsLeft (state S.Store conn.old) (state S.Store conn.new) }
+pub(crate) fn rows_of<S: Alter>(
+    conn: &mut Connection<S>,
+    question: Question,
+) -> Result<Vec<Row>, Error>
+    ensures told { OverArchive (state S.Store conn.old) (state S.Store conn.new)
+        (IfOk result (λ rows. IsAnswer question (state S.Store conn.old).now.trees rows.items)) }
+    ensures same { OverArchive (state S.Store conn.old) (state S.Store conn.new)
+        (OnOk result (IsUnchanged (state S.Store conn.old) (state S.Store conn.new))) }
+    ensures left { OverArchive (state S.Store conn.old) (state S.Store conn.new)
+        (IsLeft (state S.Store conn.old) (state S.Store conn.new)) }
     ensures cause { HasCleanDisk (state S.Store conn.new)
         → IfErr result
         (FailsToQuery (asked question) [] (state S.Store conn.old) (state S.Store conn.new)) }
-    ensures crash { Survives (state S.Store conn.old) (state S.Store conn.new) (λ _. ⊥) }
+    ensures crash { (HasCleanDisk (state S.Store conn.old)
+        → HasArchive (state S.Store conn.old).now.schema)
+        → Survives (state S.Store conn.old) (state S.Store conn.new) (λ _. ⊥) }
+    ensures clean { HasCleanDisk (state S.Store conn.new) → HasCleanDisk (state S.Store conn.old) }
 {
     let rows = conn.query_all(asked(question), &[])?;
     Ok(rows)
 }
 
 /// The rows of two tables.
-fn rows_of_two<S: Alter>(
+pub(crate) fn rows_of_two<S: Alter>(
     conn: &mut Connection<S>,
     one: Question,
     two: Question,
 ) -> Result<(Vec<Row>, Vec<Row>), Error>
-    requires { HasCleanDisk (state S.Store conn.old)
-        → HasArchive (state S.Store conn.old).now.schema }
-    ensures told { HasCleanDisk (state S.Store conn.new)
-        → IfOk result
-        (λ rows. IsAnswer one (state S.Store conn.old).now.trees rows.0.items
-        × IsAnswer two (state S.Store conn.old).now.trees rows.1.items) }
-    ensures same { HasCleanDisk (state S.Store conn.new)
-        → OnOk result (IsUnchanged (state S.Store conn.old) (state S.Store conn.new)) }
-    ensures left { HasCleanDisk (state S.Store conn.new)
-        → IsLeft (state S.Store conn.old) (state S.Store conn.new) }
-    ensures cause { HasCleanDisk (state S.Store conn.new)
-        → IfErr result (FailsToAnswer S.Store conn.old conn.new) }
-    ensures crash { Survives (state S.Store conn.old) (state S.Store conn.new) (λ _. ⊥) }
+    ensures told { OverArchive (state S.Store conn.old) (state S.Store conn.new)
+        (IfOk result (λ rows. IsAnswer one (state S.Store conn.old).now.trees rows.0.items
+        × IsAnswer two (state S.Store conn.old).now.trees rows.1.items)) }
+    ensures same { OverArchive (state S.Store conn.old) (state S.Store conn.new)
+        (OnOk result (IsUnchanged (state S.Store conn.old) (state S.Store conn.new))) }
+    ensures left { OverArchive (state S.Store conn.old) (state S.Store conn.new)
+        (IsLeft (state S.Store conn.old) (state S.Store conn.new)) }
+    ensures cause { OverArchive (state S.Store conn.old) (state S.Store conn.new)
+        (IfErr result (FailsToAnswer S.Store conn.old conn.new)) }
+    ensures crash { (HasCleanDisk (state S.Store conn.old)
+        → HasArchive (state S.Store conn.old).now.schema)
+        → Survives (state S.Store conn.old) (state S.Store conn.new) (λ _. ⊥) }
+    ensures clean { HasCleanDisk (state S.Store conn.new) → HasCleanDisk (state S.Store conn.old) }
 {
     let first = rows_of(conn, one)?;
     let second = rows_of(conn, two)?;

@@ -1,7 +1,6 @@
 //! A part that follows on an archive.
 
-ghost use Rattle.std.specs.Prelude.{◌≡◌, ◌⊎◌, ◌++◌, IfErr, IfOk, IsTrue, OnErr, OnOk, map, reverse};
-ghost use Rattle.std.specs.String.{string_bytes};
+ghost use Rattle.std.specs.Prelude.{◌≡◌, ◌++◌, IfErr, IfOk, IsTrue, OnErr, OnOk, map, reverse};
 ghost use Rattle.sqlite.specs.State.{HasCleanDisk, Survives};
 ghost use Rattle.sqlite.specs.Held.{state};
 ghost use Rattle.bac_archive3.specs.Ask.{IsLeft};
@@ -68,7 +67,7 @@ fn with_items(before: Vec<Put>, newest: Vec<ItemRow>) -> Result<Vec<Put>, Error>
 }
 
 /// What an archive tells, as what is put into the part that follows on it.
-fn puts_of(alloc: Global, told: Standing) -> Result<Vec<Put>, Error>
+pub fn puts_of(alloc: Global, told: Standing) -> Result<Vec<Put>, Error>
     ensures puts { IfOk result (λ puts. puts.items ≡ puts_of told) }
     ensures cause { IfErr result (λ e. e ≡ Error.SqliteFailure ErrorCode.OutOfMemory) }
 {
@@ -116,6 +115,8 @@ pub fn follow_on<A: Alter, B: Alter>(
     ensures cause { HasCleanDisk (state A.Store part.new)
         → HasCleanDisk (state B.Store archive.new) → IfErr result
         (FailsToFollow A.Store B.Store part.old archive.old archive.new) }
+    ensures clean { (HasCleanDisk (state A.Store part.new) → HasCleanDisk (state A.Store part.old))
+        × (HasCleanDisk (state B.Store archive.new) → HasCleanDisk (state B.Store archive.old)) }
 {
     let told = stands(alloc, archive)?;
     let made = told.made.clone()?;

@@ -1,30 +1,29 @@
 //! Rows are put: all of a batch, or none.
 
-ghost use Rattle.std.specs.Prelude.{◌≡◌, ◌≢◌, ◌∷◌, ◌≤◌, ◌<◌, [], OnOk, OnErr, IfErr, IsTrue};
+ghost use Rattle.std.specs.Prelude.{◌≡◌, ◌≢◌, ◌≤◌, ◌<◌, [], OnOk, OnErr, IfErr, IsTrue};
 ghost use Rattle.std.specs.Prelude.{flat_map, length, take};
 ghost use Rattle.sqlite.specs.State.{HasCleanDisk, Survives, KeepsCommit, ExecutesInside};
 ghost use Rattle.sqlite.specs.Held.{state};
 ghost use Rattle.sqlite.specs.Values.{bound};
 ghost use Rattle.bac_archive3.specs.Schema.{HasArchive, OverArchive};
 ghost use Rattle.bac_archive3.specs.Put.{AreAtOnce, FailsToPut, GivesUp, IsPut, Puts};
-ghost use Rattle.bac_archive3.specs.Put.{given, given_item, text_of, text_of_all, PutsJoin};
-ghost use Rattle.bac_archive3.specs.Put.{PutsKeepVersion, PutsLoseNothing};
+ghost use Rattle.bac_archive3.specs.Put.{given, given_all, given_record, is_record, text_of};
+ghost use Rattle.bac_archive3.specs.Put.{PutsJoin, PutsKeepVersion, PutsLoseNothing, text_of_all};
 
 use crate::ending::finish;
-use crate::row::{Put, beginning_bound, device_bound, item_bound, item_values, log_bound};
+use crate::row::{Put, beginning_bound, device_bound, item_bound, log_bound, record_values};
 use sqlite::{Alter, Connection, Error, ErrorCode, Transaction};
 use sqlite_value::value::ValueRef;
 
-/// The statement that puts so many items.
-const MANY: &str = "INSERT INTO items (id, last, stamp, value, datum, flags) VALUES \
-    (?, ?, ?, ?, ?, ?), (?, ?, ?, ?, ?, ?), (?, ?, ?, ?, ?, ?), (?, ?, ?, ?, ?, ?), \
-    (?, ?, ?, ?, ?, ?), (?, ?, ?, ?, ?, ?), (?, ?, ?, ?, ?, ?), (?, ?, ?, ?, ?, ?), \
-    (?, ?, ?, ?, ?, ?), (?, ?, ?, ?, ?, ?), (?, ?, ?, ?, ?, ?), (?, ?, ?, ?, ?, ?), \
-    (?, ?, ?, ?, ?, ?), (?, ?, ?, ?, ?, ?), (?, ?, ?, ?, ?, ?), (?, ?, ?, ?, ?, ?), \
-    (?, ?, ?, ?, ?, ?), (?, ?, ?, ?, ?, ?), (?, ?, ?, ?, ?, ?), (?, ?, ?, ?, ?, ?), \
-    (?, ?, ?, ?, ?, ?), (?, ?, ?, ?, ?, ?), (?, ?, ?, ?, ?, ?), (?, ?, ?, ?, ?, ?), \
-    (?, ?, ?, ?, ?, ?), (?, ?, ?, ?, ?, ?), (?, ?, ?, ?, ?, ?), (?, ?, ?, ?, ?, ?), \
-    (?, ?, ?, ?, ?, ?), (?, ?, ?, ?, ?, ?), (?, ?, ?, ?, ?, ?), (?, ?, ?, ?, ?, ?)";
+/// The statement that puts 32 records.
+const MANY: &str = "INSERT INTO items (id, stamp, value, datum, flags) VALUES \
+    (?, ?, ?, ?, ?), (?, ?, ?, ?, ?), (?, ?, ?, ?, ?), (?, ?, ?, ?, ?), (?, ?, ?, ?, ?), \
+    (?, ?, ?, ?, ?), (?, ?, ?, ?, ?), (?, ?, ?, ?, ?), (?, ?, ?, ?, ?), (?, ?, ?, ?, ?), \
+    (?, ?, ?, ?, ?), (?, ?, ?, ?, ?), (?, ?, ?, ?, ?), (?, ?, ?, ?, ?), (?, ?, ?, ?, ?), \
+    (?, ?, ?, ?, ?), (?, ?, ?, ?, ?), (?, ?, ?, ?, ?), (?, ?, ?, ?, ?), (?, ?, ?, ?, ?), \
+    (?, ?, ?, ?, ?), (?, ?, ?, ?, ?), (?, ?, ?, ?, ?), (?, ?, ?, ?, ?), (?, ?, ?, ?, ?), \
+    (?, ?, ?, ?, ?), (?, ?, ?, ?, ?), (?, ?, ?, ?, ?), (?, ?, ?, ?, ?), (?, ?, ?, ?, ?), \
+    (?, ?, ?, ?, ?), (?, ?, ?, ?, ?)";
 
 /// The statement that puts a row.
 fn text_of(put: &Put) -> &'static str
@@ -71,7 +70,19 @@ fn bound_of(put: &Put) -> ([ValueRef<'_>; 11], usize)
     }
 }
 
-/// How many of these rows, from the first on, one statement puts: 32 items, or one row.
+/// Whether it is a record: an item that has no last number.
+fn is_record(put: &Put) -> bool
+    ensures { result ≡ is_record put.now }
+{
+    match put {
+        Put::Item(row) => row.last.is_none(),
+        Put::NewDevice(_) | Put::Device(_) => false,
+        Put::NewLog(_) | Put::Log(_) => false,
+        Put::Beginning(_) | Put::Lowered(_) => false,
+    }
+}
+
+/// How many of these rows, from the first on, one statement puts: 32 records, or one row.
 fn at_once(puts: &[Put]) -> usize
     requires { puts.now ≢ [] }
     ensures some { 0 < result }
@@ -79,34 +90,36 @@ fn at_once(puts: &[Put]) -> usize
     ensures so_many { AreAtOnce (take result puts.now) }
 {
     for at in 0..32 {
-        match puts.get(at) {
-            Some(Put::Item(_item)) => {}
-            _ => return 1,
+        let Some(put) = puts.get(at) else {
+            return 1;
+        };
+        if !is_record(put) {
+            return 1;
         }
     }
     32
 }
 
-/// What is bound for an item; of another row nothing.
-fn item_or_nulls(put: &Put) -> [ValueRef<'_>; 6]
-    ensures { bound result ≡ given_item put.now }
+/// What is bound for a record; of a row of another table nothing.
+fn record_or_nulls(put: &Put) -> [ValueRef<'_>; 5]
+    ensures { bound result ≡ given_record put.now }
 {
     match put {
-        Put::Item(row) => item_values(row),
-        Put::NewDevice(_) | Put::Device(_) => [ValueRef::Null; 6],
-        Put::NewLog(_) | Put::Log(_) => [ValueRef::Null; 6],
-        Put::Beginning(_) | Put::Lowered(_) => [ValueRef::Null; 6],
+        Put::Item(row) => record_values(row),
+        Put::NewDevice(_) | Put::Device(_) => [ValueRef::Null; 5],
+        Put::NewLog(_) | Put::Log(_) => [ValueRef::Null; 5],
+        Put::Beginning(_) | Put::Lowered(_) => [ValueRef::Null; 5],
     }
 }
 
-/// What is bound for so many items, one after the other.
-fn many_bound(these: &[Put]) -> [[ValueRef<'_>; 6]; 32]
+/// What is bound for so many records, one after the other.
+fn many_bound(these: &[Put]) -> [[ValueRef<'_>; 5]; 32]
     requires { length these.now ≡ 32 }
-    ensures { bound (flat_map (λ row. row) result) ≡ flat_map given_item these.now }
+    ensures { bound (flat_map (λ row. row) result) ≡ flat_map given_record these.now }
 {
-    let mut rows = [[ValueRef::Null; 6]; 32];
+    let mut rows = [[ValueRef::Null; 5]; 32];
     for at in 0..32 {
-        rows[at] = item_or_nulls(&these[at]);
+        rows[at] = record_or_nulls(&these[at]);
     }
     rows
 }
@@ -131,7 +144,7 @@ fn put_these<S: Alter>(tx: &mut Transaction<'_, S>, these: &[Put]) -> Result<usi
     ensures same_reference { tx.new.conn.ghost_name ≡ tx.old.conn.ghost_name }
     ensures runs { HasCleanDisk (state S.Store tx.new.conn.now)
         → IsTrue (state S.Store tx.old.conn.now).in_transaction
-        → ExecutesInside 0 (text_of_all these.now) (flat_map given these.now)
+        → ExecutesInside 0 (text_of_all these.now) (given_all these.now)
         (state S.Store tx.old.conn.now) (state S.Store tx.new.conn.now) result }
     ensures crash { Survives (state S.Store tx.old.conn.now) (state S.Store tx.new.conn.now)
         (λ _. ⊥) }

@@ -215,3 +215,15 @@ pub(crate) fn logs_of(alloc: Global, rows: &[Row]) -> Result<Vec<LogRow>, Error>
     }
     Ok(all)
 }
+
+/// Beginnings, in the order of their rows.
+pub(crate) fn beginnings_of(alloc: Global, rows: &[Row]) -> Result<Vec<BeginningRow>, Error>
+    ensures read { IfOk result (λ all. map beginning_columns all.items ≡ map (first 3) rows.now) }
+    ensures cause { IfErr result (FailsToReadOne beginning_kinds rows.now) }
+{
+    let mut all = Vec::new(alloc);
+    for row in rows {
+        all.push(beginning_of(row)?)?;
+    }
+    Ok(all)
+}

@@ -6,7 +6,7 @@ ghost use Rattle.sqlite_value.specs.declared.value.Value.TheVariants.{Int, Real,
 ghost use Rattle.sqlite_value.specs.Value.{owned};
 ghost use Rattle.sqlite.specs.Values.{bound, or_null};
 ghost use Rattle.bac_archive3.specs.Put.{beginning_columns, bound_columns, device_columns, flag};
-ghost use Rattle.bac_archive3.specs.Put.{item_columns, log_columns};
+ghost use Rattle.bac_archive3.specs.Put.{given_record, item_columns, log_columns};
 
 use sqlite_value::value::ValueRef;
 
@@ -203,9 +203,22 @@ pub(crate) fn log_bound(row: &LogRow) -> [ValueRef<'_>; 11]
     ]
 }
 
-/// What is bound for a record or a gap.
-pub(crate) fn item_values(row: &ItemRow) -> [ValueRef<'_>; 6]
-    ensures { bound result ≡ bound_columns (item_columns row.now) }
+/// What is bound for a record by a statement that leaves the last number out.
+pub(crate) fn record_values(row: &ItemRow) -> [ValueRef<'_>; 5]
+    ensures { bound result ≡ given_record (Put.Item row.now) }
+{
+    [
+        ValueRef::Int(row.id),
+        octets_or_null(&row.stamp),
+        real_or_null(row.value),
+        octets_or_null(&row.datum),
+        octets_or_null(&row.flags),
+    ]
+}
+
+/// What is bound for a record or a gap: the first six.
+pub(crate) fn item_bound(row: &ItemRow) -> [ValueRef<'_>; 11]
+    ensures { bound (take 6 result) ≡ bound_columns (item_columns row.now) }
 {
     [
         ValueRef::Int(row.id),
@@ -214,21 +227,6 @@ pub(crate) fn item_values(row: &ItemRow) -> [ValueRef<'_>; 6]
         real_or_null(row.value),
         octets_or_null(&row.datum),
         octets_or_null(&row.flags),
-    ]
-}
-
-/// The same, as the first six.
-pub(crate) fn item_bound(row: &ItemRow) -> [ValueRef<'_>; 11]
-    ensures { bound (take 6 result) ≡ bound_columns (item_columns row.now) }
-{
-    let [id, last, stamp, value, datum, flags] = item_values(row);
-    [
-        id,
-        last,
-        stamp,
-        value,
-        datum,
-        flags,
         ValueRef::Null,
         ValueRef::Null,
         ValueRef::Null,

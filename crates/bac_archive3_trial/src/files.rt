@@ -3,7 +3,7 @@
 use crate::jobs::{Job, done, take};
 use crate::text::{failed, refused};
 use crate::why::Why;
-use bac_archive3::{follow_on, is_archive, is_nothing};
+use bac_archive3::{Put, follow_on, is_nothing, put};
 use bac_files::DiskFiles;
 use sqlite::{Alter, Connection, Unknown};
 use std::alloc::Global;
@@ -56,6 +56,42 @@ fn told_of(rt: &HostRuntime, file: &str, job: Job<'_>) -> Result<(String, u128),
         Err(why) => return Err(Why::NotOpened(why)),
     };
     let told = done_in(rt, &mut conn, job);
+    match files.close(conn) {
+        Ok(()) => told,
+        Err(error) => Err(Why::Database(error)),
+    }
+}
+
+/// Puts batch after batch, and tells how many microseconds each took.
+fn put_each<S: Alter>(
+    rt: &HostRuntime,
+    conn: &mut Connection<S>,
+    batches: &[Vec<Put>],
+) -> Result<String, Why> {
+    let mut text = String::new(rt.alloc());
+    for batch in batches {
+        let began = Instant::now(rt)?;
+        match put(conn, batch.as_slice()) {
+            Ok(()) => {}
+            Err(error) => return Err(Why::Database(error)),
+        }
+        write!(text, "{} ", began.elapsed(rt)?.as_micros())?;
+    }
+    Ok(text)
+}
+
+/// The same in a file, as one run of a program does.
+pub(crate) fn timed_each(
+    rt: &HostRuntime,
+    file: &str,
+    batches: &[Vec<Put>],
+) -> Result<String, Why> {
+    let mut files = DiskFiles::new(rt, Unknown);
+    let mut conn = match files.open(file, true) {
+        Ok(conn) => conn,
+        Err(why) => return Err(Why::NotOpened(why)),
+    };
+    let told = put_each(rt, &mut conn, batches);
     match files.close(conn) {
         Ok(()) => told,
         Err(error) => Err(Why::Database(error)),

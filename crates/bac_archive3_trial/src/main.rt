@@ -22,7 +22,7 @@ mod text;
 mod why;
 mod words;
 
-use crate::files::{cut, do_in, is_same, timed};
+use crate::files::{cut, do_in, is_same, timed, timed_each};
 use crate::jobs::Job;
 use crate::kills::{End, each};
 use crate::rows::row_of;
@@ -34,11 +34,12 @@ use std::io;
 use std::io::{BufRead, BufReader, BufWriter, Write};
 use std::str::SplitWhitespace;
 
-/// The batch of the lines so far, and the one before it.
+/// The batch of the lines so far, the one before it, and those that are put in one run.
 #[derive(Drop)]
 struct Batches {
     before: Vec<Put>,
     now: Vec<Put>,
+    waiting: Vec<Vec<Put>>,
 }
 
 /// The range that words tell.
@@ -115,6 +116,15 @@ fn answer(rt: &HostRuntime, line: &str, batches: &mut Batches) -> Result<Option<
             batches.before = std::mem::replace(&mut batches.now, Vec::new(alloc));
             return Ok(None);
         }
+        Some("next") => {
+            let batch = std::mem::replace(&mut batches.now, Vec::new(alloc));
+            batches.waiting.push(batch)?;
+            return Ok(None);
+        }
+        Some("timed-each") => {
+            let waiting = std::mem::replace(&mut batches.waiting, Vec::new(alloc));
+            return Ok(Some(timed_each(rt, word(&mut words)?, waiting.as_slice())?));
+        }
         Some("ended") => {
             let (before, now) = (batches.before.as_slice(), batches.now.as_slice());
             return Ok(Some(each(alloc, end_of(word(&mut words)?)?, before, now)?));
@@ -139,6 +149,7 @@ fn main(rt: HostRuntime) -> io::Result<()> {
     let mut batches = Batches {
         before: Vec::new(alloc),
         now: Vec::new(alloc),
+        waiting: Vec::new(alloc),
     };
     for line in BufReader::new(alloc, rt.reader())?.lines(alloc) {
         let line = line?;

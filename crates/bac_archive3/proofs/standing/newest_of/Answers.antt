@@ -74,7 +74,7 @@ rows-preserved g c =
           let step = unchanged_then old mid (state g.S.Store new) was.1 (rw (c.in_ok-row.was) at (moved.same clean)) in
           let has = subst (λ (d : Database). HasArchive d.schema) (sym step.0.now_is) (c.requires (omega (arith, clean_mid, c.rows.invariant.1.clean))) in
           let all = answers_first Items (state g.S.Store new) (was.0.0 ++ row ∷ []) has (given_begin g.S.Store (asked Items) [] new _ given) in
-          let sorted = subst (IsSorted falls) (joined was.0.0 row all.0) (all.1.falling (inr refl)) in
+          let sorted = subst (IsSorted falls) (joined was.0.0 row all.0) all.1.order in
           let id = c.in_ok-epoch.ensures.read in
           let meets = subst (λ (e : ℕ). Meets item_columns 3 e (is_last c.args.last.now e) c.rows.found (first 6 row) c.in_ok-found.found) id.2 c.in_ok-found.ensures.meets in
           let told = told_more_row numbers 3 (is_last c.args.last.now) item_columns (first 6) (λ x y le. omega (arith, le)) (λ r. refl) (omega arith) was.0.0 all.0 row id.0 _ c.rows.found c.in_ok-found.found
@@ -95,7 +95,7 @@ returns-in_default-clause-told g c clean =
     let has = subst (λ (d : Database). HasArchive d.schema) (sym was.1.0.now_is) (c.requires (omega (arith, clean_mid, c.rows.invariant.1.clean))) in
     let all = answers Items mid (state g.S.Store now) was.0.0 has shown_all in
     subst (λ (d : Database). TellsNewest numbers 3 (is_last c.args.last.now) (map (shown 5) (d.trees 5)) (map item_columns c.rows.found.rows.items)) was.1.0.now_is
-    (tells_newest numbers 3 (is_last c.args.last.now) (first 6) (shown 5) (λ r. refl) (λ r. refl) (mid.now.trees 5) was.0.0 (map item_columns c.rows.found.rows.items) all.each (all.falling (inr refl)) was.0.2.0.kept was.0.2.0.there)
+    (tells_newest numbers 3 (is_last c.args.last.now) (first 6) (shown 5) (λ r. refl) (λ r. refl) (mid.now.trees 5) was.0.0 (map item_columns c.rows.found.rows.items) all.each all.order was.0.2.0.kept was.0.2.0.there)
 
 pub returns-in_default-clause-same : goal.returns-in_default-clause-same
 returns-in_default-clause-same g c clean =

@@ -35,7 +35,7 @@ all_told (Ok s) trees tables last newest are made devices logs rows next begun i
   devices = told_rows 11 10 device_columns (trees 1) tables.devices.items s.devices.items (λ r. refl) are.devices.each devices;
   logs = told_rows 10 9 log_columns (trees 3) tables.logs.items s.logs.items (λ r. refl) are.logs.each logs;
   last = subst (λ l. TellsNewest epochs 1 (λ _. true) (map (shown 2) (trees 6)) (map beginning_columns l)) (sym rows.0)
-      (tells_newest epochs 1 (λ _. true) (first 3) (shown 2) (λ r. refl) (λ r. refl) (trees 6) tables.beginnings.items (map beginning_columns last) are.beginnings.each (are.beginnings.falling (inl refl)) begun.0 begun.1);
+      (tells_newest epochs 1 (λ _. true) (first 3) (shown 2) (λ r. refl) (λ r. refl) (trees 6) tables.beginnings.items (map beginning_columns last) are.beginnings.each are.beginnings.order begun.0 begun.1);
   newest = subst (λ l. TellsNewest numbers 3 (is_last l) (map (shown 5) (trees 5)) (map item_columns s.newest.items)) (sym rows.0)
       (subst (λ l. TellsNewest numbers 3 (is_last last) (map (shown 5) (trees 5)) (map item_columns l)) (sym rows.1) items);
   next_device = next.0;
@@ -54,7 +54,7 @@ returns-clause-stands g c clean =
     let tables = c.in_ok-tables.tables in
     let last = c.in_ok-last.last in
     let are = c.in_ok-tables.ensures.told early in
-    let begun = (rw c.as_slice.ensures.value at c.in_ok-last.ensures.told) (are.beginnings.falling (inl refl)) in
+    let begun = (rw c.as_slice.ensures.value at c.in_ok-last.ensures.told) are.beginnings.order in
     let one = (c.in_ok-tables.ensures.same early).0.now_is in
     let items = rw c.as_slice-2.ensures.value at (c.in_ok-newest.ensures.told clean) in
     all_told c.told_of.result old.now.trees tables last.items c.in_ok-newest.newest.items are c.told_of.ensures.made c.told_of.ensures.devices c.told_of.ensures.logs
