@@ -186,6 +186,30 @@ fn a_batch_has_64_replies(rt: HostRuntime) -> Result<(), Fail> {
 }
 
 #[test]
+fn from_48_replies_on_a_batch_is_put_at_rest(rt: HostRuntime) -> Result<(), Fail> {
+    let mut says = [Said::Rows(1); 50];
+    says[48] = Said::Wait(500);
+    says[49] = Said::Wait(500);
+    let mut wants = [LATER; 52];
+    wants[48] = Given::Wait(0);
+    wants[49] = Given::Rows(1, 48);
+    wants[50] = Given::Wait(500);
+    wants[51] = Given::End;
+    check(rt.alloc(), &says, &[], &wants)
+}
+
+#[test]
+fn behind_47_replies_it_is_held(rt: HostRuntime) -> Result<(), Fail> {
+    let mut says = [Said::Rows(1); 49];
+    says[47] = Said::Wait(500);
+    says[48] = Said::Wait(500);
+    let mut wants = [LATER; 49];
+    wants[47] = Given::Wait(100);
+    wants[48] = Given::Wait(100);
+    check(rt.alloc(), &says, &[], &wants)
+}
+
+#[test]
 fn rows_are_held_for_100_ms(rt: HostRuntime) -> Result<(), Fail> {
     let says = [
         Said::Read,

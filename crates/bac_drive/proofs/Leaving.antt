@@ -1,14 +1,17 @@
 -- Events that lead on from where others led.
-use Rattle.std.proofs.Common.{◌≡◌, ◌==◌, true, length, List, [], ◌∷◌, ◌++◌, refl, sym, subst, inl, arith}
+use Rattle.std.proofs.Common.{◌≡◌, ◌≢◌, ◌∙◌, ◌==◌, IsTrue, Result, Ok, Err, OnOk, OnErr, true, length, List, [], ◌∷◌, ◌++◌, refl, sym, subst, inl, arith}
 use Rattle.std.proofs.lemmas.Bool.{eqb-true}
 use Rattle.bac_archive3.specs.declared.row.Put.{Put}
-use Rattle.sqlite.specs.State.{State, Survives}
+use Rattle.sqlite.specs.State.{HasCleanDisk, State, Survives}
+use Rattle.sqlite.specs.declared.error.Error.{Error}
 use Rattle.sqlite_trees.specs.Tree.{Trees}
 use Rattle.bac_archive3.specs.Schema.{HasArchive}
 use Rattle.bac_desks.specs.Chain.{Chain}
 use Rattle.bac_desks.proofs.Lists.{joined}
 use Rattle.bac_drive.specs.Event.{Event, Kept, Printed, Read, Sent, Waited, Warned}
-use Rattle.bac_drive.specs.Happens.{Acts, Changes, Happens, Leaves, Scene}
+use Rattle.bac_drive.specs.Happens.{Acts, Changes, Happens, IsUnending, Leaves, Scene, StaysSettled}
+use Rattle.bac_drive.specs.declared.driving.Fault.{Fault}
+use Rattle.bac_drive.specs.declared.driving.Fault.TheVariants as fault
 
 pub leaves_then : {M P C : Type 0} (acts : Acts M P C) (old mid : Scene M P C) (es : List Event) (trees : Trees) → Chain (Happens acts) old es mid →
     Leaves acts mid trees → Leaves acts old trees
@@ -34,3 +37,17 @@ stays s = record { clean = omega arith; shield = λ h. h; counts = omega arith; 
 pub is_none : (puts : List Put) → (length puts == 0) ≡ true → puts ≡ []
 is_none [] is = refl
 is_none (put ∷ puts) is = absurd (omega (arith, eqb-true (length (put ∷ puts)) 0 is))
+
+-- any other fault says nothing of how many events there were
+pub is_no_end : (es : List Event) (why : Fault) → why ≢ fault.Unending → IsUnending es why
+is_no_end es (fault.Archive error) other = tt
+is_no_end es fault.Output other = tt
+is_no_end es fault.Errors other = tt
+is_no_end es fault.Memory other = tt
+is_no_end es fault.Unending other = absurd (other refl)
+
+-- a put commits what it puts, and otherwise leaves what was committed
+pub settled_by : (P : Type 0) (old new : State) (r : Result (Unit {0}) Error) → (HasCleanDisk new → OnOk r (P × (new.committed ≡ new.now)))
+    → (HasCleanDisk new → IsTrue new.is_open → OnErr r ((new.now ≡ old.now) × (new.committed ≡ old.committed))) → StaysSettled old new r
+settled_by P old new (Ok value) all neither = λ clean same. (all clean).1
+settled_by P old new (Err error) all neither = λ clean same is_open. let it = neither clean is_open in it.1 ∙ same ∙ sym it.0

@@ -1,15 +1,16 @@
 -- What driving a machine is. Read `Happens`, then `Runs`, `Stops` and `Leaves`.
-use Rattle.std.specs.Prelude.{◌≡◌, ℕ, Bool, true, false, IsTrue, Option, List}
+use Rattle.std.specs.Prelude.{◌≡◌, ℕ, Bool, true, false, IsTrue, Option, List, length, Result, Ok, Err}
 use Rattle.std.specs.Io.KnownBytes.{Appends}
 use Rattle.sqlite.specs.Effect.{Database}
 use Rattle.sqlite.specs.Held.{Held, state}
-use Rattle.sqlite.specs.State.{State}
+use Rattle.sqlite.specs.State.{HasCleanDisk, State}
 use Rattle.sqlite_trees.specs.Tree.{Trees}
 use Rattle.sqlite_trees.specs.declared.store.Store.{Ghosts}
 use Rattle.bac_archive3.specs.Put.{FailsToPut, IsPut}
 use Rattle.bac_archive3.specs.declared.row.Put.{Put}
 use Rattle.bac_desks.specs.Chain.{Chain}
 use Rattle.bac_ports.specs.Port.{Receiving, Sending}
+use Rattle.bac_print.specs.Output.{AppendsPart}
 use Rattle.bac_drive.specs.Event.{Event, Kept, Printed, Read, Sent, Waited, Warned}
 use Rattle.bac_drive.specs.declared.driving.Fault.{Fault}
 use Rattle.bac_drive.specs.declared.driving.Fault.TheVariants as fault
@@ -107,28 +108,50 @@ abbrev pub Runs : {M P C : Type 0} → Acts M P C → Scene M P C → Scene M P 
 Runs {M = M} {P = P} {C = C} acts old new =
     (es : List Event) × (last : Scene M P C) × Chain (Happens acts) old es last × Ends acts last new
 
--- a fault comes here: of the archive, which gives up on the rows that the machine wants to be put; of the output or the
--- errors, where it wants a text there; or another
-abbrev pub Fails : {M P C S : Type 0} → Ghosts S → Acts M P C → Scene M P C → Fault → Type 0
-Fails {M = M} {S = S} g acts at (fault.Archive error) =
-    (wanted : Next) × (mid : M) × (puts : List Put) × acts.gives at.machine wanted mid × Does wanted (Kept puts)
-    × ((held : Held S) × ((state g held).now ≡ at.database) × FailsToPut g held puts error)
-Fails {M = M} g acts at fault.Output =
-    (wanted : Next) × (mid : M) × (text : List ℕ) × acts.gives at.machine wanted mid × Does wanted (Printed text)
-Fails {M = M} g acts at fault.Errors =
-    (wanted : Next) × (mid : M) × (text : List ℕ) × acts.gives at.machine wanted mid × Does wanted (Warned text)
-Fails g acts at other = Unit {0}
+-- A fault comes here, and this is left: the archive gives up on the rows that the machine wants to be put; the output
+-- or the errors refuse a text that it wants there, and have a part of it at most; or there is no memory for what it
+-- wants next, or no more is done. Nothing else is done then.
+abbrev pub Fails : {M P C S : Type 0} → Ghosts S → Acts M P C → (at left : Scene M P C) → Fault → Type 0
+Fails {M = M} {S = S} g acts at left (fault.Archive error) =
+    (left ≡ record at { machine = left.machine; database = left.database })
+    × ((wanted : Next) × (mid : M) × (puts : List Put) × acts.gives at.machine wanted mid × Does wanted (Kept puts)
+    × ((held : Held S) × ((state g held).now ≡ at.database) × FailsToPut g held puts error))
+Fails {M = M} g acts at left fault.Output =
+    (left ≡ record at { machine = left.machine; output = left.output })
+    × ((wanted : Next) × (mid : M) × (text : List ℕ) × acts.gives at.machine wanted mid
+    × Does wanted (Printed text) × AppendsPart at.output left.output text)
+Fails {M = M} g acts at left fault.Errors =
+    (left ≡ record at { machine = left.machine; errors = left.errors })
+    × ((wanted : Next) × (mid : M) × (text : List ℕ) × acts.gives at.machine wanted mid
+    × Does wanted (Warned text) × AppendsPart at.errors left.errors text)
+Fails g acts at left fault.Memory = left ≡ record at { machine = left.machine }
+Fails g acts at left fault.Unending = left ≡ at
 
 -- and the database, if it is open still, is as it was
-abbrev pub IsStopped : {M P C S : Type 0} → Ghosts S → Acts M P C → Scene M P C → State → Fault → Type 0
-IsStopped g acts at new fault = Fails g acts at fault × (IsTrue new.is_open → new.now ≡ at.database)
+abbrev pub IsStopped : {M P C S : Type 0} → Ghosts S → Acts M P C → (at left : Scene M P C) → (is_open : Bool) →
+    Fault → Type 0
+IsStopped g acts at left is_open fault =
+    Fails g acts at left fault × (IsTrue is_open → left.database ≡ at.database)
+
+-- no more is done behind as many events as 64 bits count
+abbrev pub IsUnending : List Event → Fault → Type 0
+IsUnending es fault.Unending = length es ≡ 18446744073709551615
+IsUnending es other = Unit {0}
 
 -- Events lead to where it is so.
-abbrev pub Stops : {M P C S : Type 0} → Ghosts S → Acts M P C → Scene M P C → State → Fault → Type 0
-Stops {M = M} {P = P} {C = C} g acts old new fault =
-    (es : List Event) × (last : Scene M P C) × Chain (Happens acts) old es last × IsStopped g acts last new fault
+abbrev pub Stops : {M P C S : Type 0} → Ghosts S → Acts M P C → (old left : Scene M P C) → (is_open : Bool) →
+    Fault → Type 0
+Stops {M = M} {P = P} {C = C} g acts old left is_open fault =
+    (es : List Event) × (last : Scene M P C) × Chain (Happens acts) old es last
+    × IsStopped g acts last left is_open fault × IsUnending es fault
 
 -- These trees are those of the database behind such events.
 abbrev pub Leaves : {M P C : Type 0} → Acts M P C → Scene M P C → Trees → Type 0
 Leaves {M = M} {P = P} {C = C} acts old trees =
     (es : List Event) × (last : Scene M P C) × Chain (Happens acts) old es last × (trees ≡ last.database.trees)
+
+-- Where all that was done in a database was committed, it is so still, unless an error shut it.
+abbrev pub StaysSettled : {T E : Type 0} → (old new : State) → Result T E → Type 0
+StaysSettled old new (Ok value) = HasCleanDisk new → old.committed ≡ old.now → new.committed ≡ new.now
+StaysSettled old new (Err error) =
+    HasCleanDisk new → old.committed ≡ old.now → IsTrue new.is_open → new.committed ≡ new.now

@@ -1,12 +1,13 @@
 //! The loop.
 
-ghost use Rattle.std.specs.Prelude.{◌≡◌, IfErr, IfOk, OnErr, OnOk, IsTrue};
+ghost use Rattle.std.specs.Prelude.{◌≡◌, ◌≢◌, Err, IfErr, IfOk, OnErr, OnOk, IsTrue};
 ghost use Rattle.sqlite.specs.Held.{state};
 ghost use Rattle.sqlite.specs.State.{HasCleanDisk, Survives};
 ghost use Rattle.sqlite.specs.Effect.{Database};
 ghost use Rattle.bac_archive3.specs.Put.{FailsToPut, IsPut};
 ghost use Rattle.bac_archive3.specs.Schema.{HasArchive};
-ghost use Rattle.bac_drive.specs.Happens.{IsStopped, Leaves, Runs, Stops, Takes, acting, scene};
+ghost use Rattle.bac_drive.specs.Happens.{IsStopped, Leaves, Runs, StaysSettled, Stops, Takes};
+ghost use Rattle.bac_drive.specs.Happens.{acting, scene};
 
 use crate::machine::{Machine, Next};
 use bac_archive3::{Put, put};
@@ -44,6 +45,7 @@ fn keep<S: Alter>(conn: &mut Connection<S>, puts: &[Put]) -> Result<(), Error>
         → OnErr result ((state S.Store conn.new).now ≡ (state S.Store conn.old).now) }
     ensures cause { HasCleanDisk (state S.Store conn.new)
         → IfErr result (FailsToPut S.Store conn.old puts.now) }
+    ensures settled { StaysSettled (state S.Store conn.old) (state S.Store conn.new) result }
     ensures crash { Survives (state S.Store conn.old) (state S.Store conn.new)
         (λ trees. (db : Database) × IsPut (state S.Store conn.old).now db puts.now
         × (trees ≡ db.trees)) }
@@ -78,7 +80,11 @@ fn step<M: Machine, P: Port, C: Clock, S: Alter, W: Write, V: Write>(
         → IfErr result (IsStopped S.Store
         (acting M.gives M.hears M.reads P.sends P.receives_within C.reads)
         (scene machine.old port.old clock.old (state S.Store conn.old).now
-        (W.contents output.old) (V.contents errors.old)) (state S.Store conn.new)) }
+        (W.contents output.old) (V.contents errors.old))
+        (scene machine.new port.new clock.new (state S.Store conn.new).now
+        (W.contents output.new) (V.contents errors.new)) (state S.Store conn.new).is_open) }
+    ensures ends { result ≢ Err Fault.Unending }
+    ensures settled { StaysSettled (state S.Store conn.old) (state S.Store conn.new) result }
     ensures crash { Survives (state S.Store conn.old) (state S.Store conn.new)
         (Leaves (acting M.gives M.hears M.reads P.sends P.receives_within C.reads)
         (scene machine.old port.old clock.old (state S.Store conn.old).now
@@ -137,13 +143,17 @@ pub fn drive<M: Machine, P: Port, C: Clock, S: Alter, W: Write, V: Write>(
         (W.contents output.old) (V.contents errors.old))
         (scene machine.new port.new clock.new (state S.Store conn.new).now
         (W.contents output.new) (V.contents errors.new))) }
-    // So it is after a fault, up to what failed: the archive has what was put by then, and if it
-    // gave up, then on the next batch.
+    // So it is after a fault, up to what failed, and nothing else is done: the archive has what was
+    // put by then, and if it gave up, then on the next batch.
     ensures stops { HasCleanDisk (state S.Store conn.new)
         → IfErr result (Stops S.Store
         (acting M.gives M.hears M.reads P.sends P.receives_within C.reads)
         (scene machine.old port.old clock.old (state S.Store conn.old).now
-        (W.contents output.old) (V.contents errors.old)) (state S.Store conn.new)) }
+        (W.contents output.old) (V.contents errors.old))
+        (scene machine.new port.new clock.new (state S.Store conn.new).now
+        (W.contents output.new) (V.contents errors.new)) (state S.Store conn.new).is_open) }
+    // Nothing that it put is left uncommitted.
+    ensures settled { StaysSettled (state S.Store conn.old) (state S.Store conn.new) result }
     // Killed at any moment, it leaves the archive behind such events.
     ensures crash { Survives (state S.Store conn.old) (state S.Store conn.new)
         (Leaves (acting M.gives M.hears M.reads P.sends P.receives_within C.reads)

@@ -109,12 +109,15 @@ pub returns-in-Ok-Keep-clause-stops : goal.returns-in-Ok-Keep-clause-stops
 returns-in-Ok-Keep-clause-stops g c clean =
     let G : Next → Type 0 = λ n. g.M.Machine.gives c.args.machine.now n c.next.new.self in (
       (
-        next.Keep c.in-Ok-Keep.puts,
-        c.next.new.self,
-        c.as_slice.result.now,
-        subst G c.in-Ok-Keep.field-0-is c.in-Ok-Keep.ensures,
-        c.as_slice.ensures.value,
-        (c.args.conn.now, refl, c.in-Err-keep.ensures.cause clean),
+        refl,
+        (
+          next.Keep c.in-Ok-Keep.puts,
+          c.next.new.self,
+          c.as_slice.result.now,
+          subst G c.in-Ok-Keep.field-0-is c.in-Ok-Keep.ensures,
+          c.as_slice.ensures.value,
+          (c.args.conn.now, refl, c.in-Err-keep.ensures.cause clean),
+        ),
       ),
       λ is_open. c.in-Err-keep.ensures.neither clean is_open,
     )
@@ -122,13 +125,33 @@ returns-in-Ok-Keep-clause-stops g c clean =
 pub returns-in-Ok-Print-clause-stops : goal.returns-in-Ok-Print-clause-stops
 returns-in-Ok-Print-clause-stops g c clean =
     let G : Next → Type 0 = λ n. g.M.Machine.gives c.args.machine.now n c.next.new.self in (
-      (next.Print c.in-Ok-Print.text, c.next.new.self, c.as_slice-in-Ok-Print.result.now, subst G c.in-Ok-Print.field-0-is c.in-Ok-Print.ensures, c.as_slice-in-Ok-Print.ensures.value),
+      (
+        refl,
+        (
+          next.Print c.in-Ok-Print.text,
+          c.next.new.self,
+          c.as_slice-in-Ok-Print.result.now,
+          subst G c.in-Ok-Print.field-0-is c.in-Ok-Print.ensures,
+          c.as_slice-in-Ok-Print.ensures.value,
+          c.in-Err-write_text.ensures.err,
+        ),
+      ),
       λ is_open. refl,
     )
 
 pub returns-in-Ok-Warn-clause-stops : goal.returns-in-Ok-Warn-clause-stops
 returns-in-Ok-Warn-clause-stops g c clean =
     let G : Next → Type 0 = λ n. g.M.Machine.gives c.args.machine.now n c.next.new.self in (
-      (next.Warn c.in-Ok-Warn.text, c.next.new.self, c.as_slice-in-Ok-Warn.result.now, subst G c.in-Ok-Warn.field-0-is c.in-Ok-Warn.ensures, c.as_slice-in-Ok-Warn.ensures.value),
+      (
+        refl,
+        (
+          next.Warn c.in-Ok-Warn.text,
+          c.next.new.self,
+          c.as_slice-in-Ok-Warn.result.now,
+          subst G c.in-Ok-Warn.field-0-is c.in-Ok-Warn.ensures,
+          c.as_slice-in-Ok-Warn.ensures.value,
+          c.in-Err-write_text-2.ensures.err,
+        ),
+      ),
       λ is_open. refl,
     )
