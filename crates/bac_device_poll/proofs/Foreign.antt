@@ -1,23 +1,18 @@
 -- Nothing of a device that isn't the one on record is kept.
-use Rattle.std.proofs.Common.{◌≡◌, ◌∙◌, ℕ, ◌==◌, Bool, true, false, if◌then◌else◌, List, [], ◌∷◌, ◌++◌, map, Option}
-use Rattle.std.proofs.Common.{None, Some, ap, sym, refl, subst}
+use Rattle.std.proofs.Common.{◌≡◌, Bool, true, false, if◌then◌else◌, List, [], ◌∷◌, map, Option}
+use Rattle.std.proofs.Common.{Some, sym, refl, subst}
 use Rattle.std.specs.Bool.{Decides}
-use Rattle.std.specs.List.{All}
 use Rattle.std.specs.Str.{bytes_eq}
 use Rattle.std.proofs.lemmas.Bool.Decides.{Decides-eqb}
 use Rattle.std.proofs.lemmas.Slice.Eq.{bytes_eq-Decides}
-use Rattle.bac_wire.specs.Primitive.{Id}
 use Rattle.bac_device_poll.specs.Identity.{met, met_as, whose}
 use Rattle.bac_device_poll.specs.Laws.{IsForeign, IsLeft, KeepsNoOther, PutsNone}
 use Rattle.bac_device_poll.specs.State.{DeviceState, LogAs}
-use Rattle.bac_device_poll.specs.Turns.{Turned, leaves, not_asked}
-use Rattle.bac_answers.specs.declared.entry.Entry.{Entry}
-use Rattle.bac_answers.specs.declared.entry.Entry.TheVariants as entry
-use Rattle.bac_device_poll.specs.declared.turn.DeviceEnd.TheVariants.{Foreign}
+use Rattle.bac_device_poll.specs.Turns.{not_asked}
 use Rattle.bac_answers.specs.declared.who.Who.{Who}
 use Rattle.bac_answers.specs.declared.who.Who.TheVariants.{Address, Device, Name}
 use Rattle.bac_answers.specs.declared.who.Whose.{Whose}
-use Rattle.bac_answers.specs.declared.who.Whose.TheVariants.{Another, New, Now, Same, Untold}
+use Rattle.bac_answers.specs.declared.who.Whose.TheVariants.{Another, Same, Untold}
 
 -- a test of what isn't so fails
 fails : {P : Type 0} (b : Bool) → Decides b P → (P → ⊥) → b ≡ false

@@ -15,7 +15,8 @@ use Rattle.bac_device_poll.specs.Laws.{added_by, added_in, at_stage, ended_by, e
 use Rattle.bac_device_poll.specs.Laws.{not_asked_in, waiting}
 use Rattle.bac_device_poll.specs.Listing.{after_count, after_element, after_objects, are_same, listed, lists}
 use Rattle.bac_device_poll.specs.Listing.{may_differ, new_among, new_log, others_in, told_others, unlisted}
-use Rattle.bac_device_poll.specs.Logs.{after_loss, begins_with, halved, log_at, loss_at, stage_behind, with_log}
+use Rattle.bac_device_poll.specs.Logs.{after_loss, begins_with, halved, has_ended, left_behind, log_at, loss_at}
+use Rattle.bac_device_poll.specs.Logs.{polled_behind, stage_behind, with_log}
 use Rattle.bac_device_poll.specs.Naming.{after_description, is_changed, is_other, names, names_next, names_with}
 use Rattle.bac_device_poll.specs.Naming.{read_at, told_read, unnamed}
 use Rattle.bac_device_poll.specs.Poll.{Answers}
@@ -390,23 +391,23 @@ loss_goes p none = subst (λ (q : Option Polled). Goes p (loss_at p q)) (sym non
 abbrev Polls : DeviceState → Option Polled → Stage → Turned → Type 0
 Polls p o s t = ended_in t.log o ++ (not_asked_in t.entries ++ left t.device) ≡ (at_stage s o ++ waiting p) ++ added_in t.entries
 
-goes_or_ends : (e : Option PollEnd) (r : Polled) (l : List Id) →
+goes_or_ends : (e : Bool) (r : Polled) (l : List Id) →
     ended_by e r.log ++ (at_stage (stage_behind e) (Some r) ++ l) ≡ r.log ∷ l
-goes_or_ends None r l = refl
-goes_or_ends (Some why) r l = refl
+goes_or_ends false r l = refl
+goes_or_ends true r l = refl
 
 -- the same, and what is polled then
 abbrev pub PollsOn : DeviceState → Option Polled → Stage → Turned → Type 0
 PollsOn p o s t = Polls p o s t × IsApt t.device.stage t.device
 
-apt_behind : (e : Option PollEnd) (p : DeviceState) (r : Polled) → p.polled ≡ Some r → IsApt (stage_behind e) p
-apt_behind None p r is = (r, is)
-apt_behind (Some why) p r is = tt
+apt_behind : (e : Bool) (p : DeviceState) (r : Polled) → p.polled ≡ Some r → IsApt (stage_behind e) p
+apt_behind false p r is = (r, is)
+apt_behind true p r is = tt
 
 log_polls : (p : DeviceState) (q : Polled) (t : LogTurned) → PollsOn p (Some q) stage.Log (with_log p q t)
 log_polls p q t = (
-  goes_or_ends t.end (record q { poll = t.poll }) (waiting p) ∙ sym (append-nil (q.log ∷ waiting p)),
-  apt_behind t.end (with_log p q t).device (record q { poll = t.poll }) refl,
+  goes_or_ends (has_ended t.end (left_behind q.left t.records)) (polled_behind q t) (waiting p) ∙ sym (append-nil (q.log ∷ waiting p)),
+  apt_behind (has_ended t.end (left_behind q.left t.records)) (with_log p q t).device (polled_behind q t) refl,
 )
 
 halved_polls : (p : DeviceState) (q : Polled) → p.stage ≡ stage.Log → PollsOn p (Some q) stage.Log (halved p q)
@@ -424,7 +425,7 @@ answer_polls false p q t at = log_polls p q t
 pub lost_if : (b : Bool) (p : DeviceState) (q : Polled) (t : LogTurned) (why : DeviceEnd) (e : PollEnd) → t.end ≡ Some e →
     PollsOn p (Some q) stage.Log (if b then record (leaves (record p { polled = Some q }) [] why) { log = Some t } else with_log (record p { doubt = true }) q t)
 lost_if true p q t why e is = (
-  ap (λ (o : Option PollEnd). ended_by o q.log ++ (not_asked_in (map not_asked p.logs) ++ [])) is
+  ap (λ (o : Option PollEnd). ended_by (has_ended o (left_behind q.left t.records)) q.log ++ (not_asked_in (map not_asked p.logs) ++ [])) is
       ∙ ap (λ (l : List Id). q.log ∷ l) (append-nil _ ∙ not_asked_all p.logs)
       ∙ sym (append-nil (q.log ∷ waiting p)) ∙ ap (λ (l : List Id). (q.log ∷ waiting p) ++ l) (sym (not_asked_old p.logs)),
   refl,

@@ -14,6 +14,7 @@ use Rattle.bac_device_poll.specs.Logs.{loss_at}
 use Rattle.bac_device_poll.specs.Refusals.{is_busy}
 use Rattle.bac_link.specs.Datagrams.{apdu_in}
 use Rattle.bac_device_poll.specs.Poll.{Answers, Takes, answered, asked_of_device, fresh, later, verdict_to}
+use Rattle.bac_device_poll.specs.Poll.{with_steps}
 use Rattle.bac_device_poll.specs.State.{DeviceState, LogAs}
 use Rattle.bac_device_poll.specs.Turns.{Turned}
 use Rattle.bac_device_poll.specs.declared.stage.Stage.{Stage}
@@ -177,6 +178,6 @@ none_waits p apt at =
     ap (λ (s : Stage). at_stage s p.polled ++ waiting p) at ∙ ap (map (λ (t : LogAs). t.log)) (subst (λ (s : Stage). IsApt s p) at apt)
 
 pub none_left_out : NoneLeftOut
-none_left_out known logs many retries clock turns run =
-    let all : Run (fresh known logs many retries clock) turns = runs _ turns refl run in
+none_left_out known logs many retries clock steps turns run =
+    let all : Run (with_steps steps (fresh known logs many retries clock)) turns = runs _ turns refl run in
     (all.accounts, λ at. none_waits _ all.apt at)

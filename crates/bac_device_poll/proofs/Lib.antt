@@ -5,3 +5,4 @@ mod LeftOut
 mod LeftOutRuns
 mod OnlyAsked
 mod RefusedOne
+mod Steps

@@ -1,33 +1,31 @@
 -- A refusal ends what was asked, and nothing else.
 use Rattle.std.proofs.Common.{◌≡◌, ◌∙◌, ℕ, ◌&&◌, nat_lt, Bool, true, false, if◌then◌else◌, List, [], ◌∷◌, ◌++◌}
-use Rattle.std.proofs.Common.{MatchBool, Option, None, Some, ap, sym, refl, subst, append-nil}
+use Rattle.std.proofs.Common.{MatchBool, Option, None, Some, ap, sym, refl, subst}
 use Rattle.std.proofs.lemmas.Bool.{false≢true}
 use Rattle.bac_wire.specs.Primitive.{Id}
 use Rattle.bac_wire.specs.Stamp.{CivilTime}
-use Rattle.bac_link.specs.Datagrams.{apdu_in}
 use Rattle.bac_link.specs.declared.exchanges.Refusal.{Refusal}
 use Rattle.bac_link.specs.declared.exchanges.Verdict.{Verdict}
 use Rattle.bac_link.specs.declared.exchanges.Verdict.TheVariants.{Refused}
 use Rattle.bac_poll.specs.State.{PollState, ToldAs}
-use Rattle.bac_poll.specs.Turns.{Turned as LogTurned, ends}
+use Rattle.bac_poll.specs.Turns.{ends}
 use Rattle.bac_poll_steps.specs.declared.turn.PollEnd.TheVariants.{Fault}
 use Rattle.bac_walk.specs.declared.outcome.WalkFault.TheVariants as walk
 use Rattle.bac_device_poll.proofs.LeftOut.{Stays, clocks_stay, lists_stay, named, unlisted_stays}
 use Rattle.bac_device_poll.specs.Clock.{after_clock}
 use Rattle.bac_device_poll.specs.Identity.{after_name}
 use Rattle.bac_device_poll.specs.Laws.{EndsLog, IsKnownStill, RefusalsEndOne, RefusedAt, StaysUnknown, added_in}
-use Rattle.bac_device_poll.specs.Laws.{not_asked_in, unknown, untold, waiting}
+use Rattle.bac_device_poll.specs.Laws.{not_asked_in, unknown, untold}
 use Rattle.bac_device_poll.specs.Listing.{unlisted}
 use Rattle.bac_device_poll.specs.Logs.{begins_with, halved, is_records, is_too_many, log_after, log_at, read_as}
 use Rattle.bac_device_poll.specs.Logs.{wanted_at, with_log, with_records}
 use Rattle.bac_device_poll.specs.Naming.{after_description, names_with, told_read, unnamed}
-use Rattle.bac_device_poll.specs.Poll.{Answers, answered, asked_of_device, later, verdict_to}
+use Rattle.bac_device_poll.specs.Poll.{Answers, answered, later}
 use Rattle.bac_device_poll.specs.Refusals.{is_busy, is_long, is_passing}
 use Rattle.bac_device_poll.specs.State.{DeviceState, LogAs}
 use Rattle.bac_device_poll.specs.Turns.{Turned, asks}
 use Rattle.bac_answers.specs.declared.entry.Entry.{Entry}
 use Rattle.bac_answers.specs.declared.entry.Entry.TheVariants as entry
-use Rattle.bac_answers.specs.declared.entry.Naming.{Naming}
 use Rattle.bac_answers.specs.declared.entry.Offset.{Offset}
 use Rattle.bac_device_poll.specs.declared.logs.Wanted.{Wanted}
 use Rattle.bac_device_poll.specs.declared.logs.Wanted.TheVariants.{Count, Records, Restart, Revision}

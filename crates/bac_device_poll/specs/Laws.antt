@@ -1,6 +1,6 @@
 -- What holds of a device's poll, whoever answers.
-use Rattle.std.specs.Prelude.{◌≡◌, ◌≢◌, ◌⊎◌, ℕ, ◌&&◌, nat_lt, Bool, true, false, MatchBool, List, [], ◌∷◌, ◌++◌, map}
-use Rattle.std.specs.Prelude.{Option, None, Some}
+use Rattle.std.specs.Prelude.{◌≡◌, ◌≢◌, ◌⊎◌, ℕ, ◌<◌, ◌&&◌, nat_lt, Bool, true, false, MatchBool, List, [], ◌∷◌, ◌++◌}
+use Rattle.std.specs.Prelude.{count_by, map, Option, None, Some}
 use Rattle.std.specs.List.{flat_map}
 use Rattle.bac_wire.specs.Primitive.{Id}
 use Rattle.bac_wire.specs.Stamp.{CivilTime}
@@ -11,12 +11,13 @@ use Rattle.bac_link.specs.declared.request.Request.TheVariants as request
 use Rattle.bac_poll.specs.DateTime.{undated}
 use Rattle.bac_poll.specs.State.{ToldAs}
 use Rattle.bac_poll.specs.Turns.{Turned as LogTurned, ends}
-use Rattle.bac_poll_steps.specs.declared.turn.PollEnd.{PollEnd}
 use Rattle.bac_poll_steps.specs.declared.turn.PollEnd.TheVariants.{Fault}
+use Rattle.bac_walk.specs.declared.batch.Numbered.{Numbered}
 use Rattle.bac_walk.specs.declared.outcome.WalkFault.TheVariants as walk
 use Rattle.bac_device_poll.specs.Identity.{after_i_am, after_instance, after_name}
-use Rattle.bac_device_poll.specs.Logs.{after_end, after_loss, halved, is_records, is_too_many, wanted_at}
-use Rattle.bac_device_poll.specs.Poll.{Takes, answered, asked_of_device, fresh, later, verdict_to}
+use Rattle.bac_device_poll.specs.Logs.{after_end, after_loss, halved, has_ended, is_records, is_too_many, left_behind}
+use Rattle.bac_device_poll.specs.Logs.{wanted_at}
+use Rattle.bac_device_poll.specs.Poll.{Takes, answered, asked_of_device, fresh, later, verdict_to, with_steps}
 use Rattle.bac_device_poll.specs.Refusals.{is_passing}
 use Rattle.bac_device_poll.specs.State.{DeviceState, LogAs}
 use Rattle.bac_device_poll.specs.Turns.{Turned, asks}
@@ -105,16 +106,16 @@ waiting p = map (λ (t : LogAs). t.log) p.logs
 abbrev pub left : DeviceState → List Id
 left p = at_stage p.stage p.polled ++ waiting p
 
--- a log whose poll has ended
-abbrev pub ended_by : Option PollEnd → Id → List Id
-ended_by None log = []
-ended_by (Some why) log = log ∷ []
+-- a log, if its poll has ended
+abbrev pub ended_by : Bool → Id → List Id
+ended_by false log = []
+ended_by true log = log ∷ []
 
 -- the one that is polled, if its turn ends it
 abbrev pub ended_in : Option LogTurned → Option Polled → List Id
 ended_in None polled = []
 ended_in (Some t) None = []
-ended_in (Some t) (Some q) = ended_by t.end q.log
+ended_in (Some t) (Some q) = ended_by (has_ended t.end (left_behind q.left t.records)) q.log
 
 -- a log that is told as not asked
 abbrev pub not_asked_by : Entry → List Id
@@ -166,11 +167,40 @@ found_in turns = flat_map (λ (t : Turned). added_in t.entries) turns
 -- still polled.
 abbrev pub NoneLeftOut : Type 0
 NoneLeftOut =
-    (known : Known) (logs : List LogAs) (many retries : ℕ) (clock : Bool) (turns : List Turned) →
-    let p : DeviceState = fresh known logs many retries clock in
+    (known : Known) (logs : List LogAs) (many retries : ℕ) (clock : Bool) (steps : Option ℕ) (turns : List Turned) →
+    let p : DeviceState = with_steps steps (fresh known logs many retries clock) in
     Runs p turns →
     (settled p turns ++ left (behind p turns) ≡ waiting p ++ found_in turns)
     × ((behind p turns).stage ≡ stage.Ended → left (behind p turns) ≡ [])
+
+-- ---- how many replies with records a log has in a run
+
+-- there are records
+abbrev pub has_records : List Numbered → Bool
+has_records [] = false
+has_records (first ∷ others) = true
+
+-- the log that is polled brings some, if it has a turn
+abbrev pub brings_in : Option LogTurned → Bool
+brings_in None = false
+brings_in (Some t) = has_records t.records
+
+-- it does with this turn
+abbrev pub brings : Turned → Bool
+brings t = brings_in t.log
+
+-- the same log is polled still behind each of these
+abbrev pub AreStill : List Turned → Type 0
+AreStill [] = Unit {0}
+AreStill (t ∷ turns) = (t.device.stage ≡ stage.Log) × AreStill turns
+
+-- A log has no more replies with records in a run than it may: as long as it is polled still, fewer came, whatever else
+-- did; so with the last one its poll ends.
+abbrev pub StepsAreCounted : Type 0
+StepsAreCounted =
+    (p : DeviceState) (q : Polled) (n : ℕ) (turns : List Turned) →
+    p.stage ≡ stage.Log → p.polled ≡ Some q → q.left ≡ Some n → 0 < n → Runs p turns → AreStill turns →
+    count_by brings turns < n
 
 -- ---- a refusal ends what was asked, and nothing else
 

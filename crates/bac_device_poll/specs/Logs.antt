@@ -1,8 +1,9 @@
 -- The logs of a device are polled, one after the other.
-use Rattle.std.specs.Prelude.{ℕ, Bool, true, false, ◌&&◌, nat_lt, if◌then◌else◌, List, [], ◌∷◌, Option, None}
-use Rattle.std.specs.Prelude.{Some}
+use Rattle.std.specs.Prelude.{ℕ, ◌-◌, ◌==◌, nat_lt, Bool, true, false, ◌&&◌, if◌then◌else◌, List, [], ◌∷◌}
+use Rattle.std.specs.Prelude.{Option, None, Some}
 use Rattle.bac_link.specs.declared.exchanges.Verdict.{Verdict}
 use Rattle.bac_link.specs.declared.exchanges.Verdict.TheVariants.{Ack, BadReply, Refused}
+use Rattle.bac_walk.specs.declared.batch.Numbered.{Numbered}
 use Rattle.bac_walk.specs.declared.outcome.WalkFault.TheVariants as walk
 use Rattle.bac_poll.specs.Poll.{after, after_count, after_restart, after_revision, after_too_many}
 use Rattle.bac_poll.specs.State.{PollState}
@@ -39,7 +40,11 @@ begins_with p [] entries = is_done p entries
 begins_with p (task ∷ logs) entries =
     asks (record p {
       stage = Log;
-      polled = Some (record { log = task.log; poll = begun task.log (device_of p.who) p.many p.told task.begin });
+      polled = Some (record {
+        log = task.log;
+        poll = begun task.log (device_of p.who) p.many p.told task.begin;
+        left = p.steps;
+      });
       logs = logs;
     }) entries
 
@@ -83,24 +88,54 @@ abbrev pub log_after : PollState → Verdict → List ℕ → LogTurned
 log_after q verdict datagram =
     if is_busy verdict then with_records q verdict datagram else read_as q (wanted_at q.stage) verdict datagram
 
--- what is asked behind a turn of a log
-abbrev pub stage_behind : Option PollEnd → Stage
-stage_behind None = Log
-stage_behind (Some why) = Between
+-- ---- how many replies with records a log has in a run
+
+-- how many more it may have behind these records, which one reply brought: one less, if there are any
+abbrev pub left_behind : Option ℕ → List Numbered → Option ℕ
+left_behind left [] = left
+left_behind None (first ∷ others) = None
+left_behind (Some n) (first ∷ others) = Some (n - 1)
+
+-- it may have none
+abbrev pub is_used_up : Option ℕ → Bool
+is_used_up None = false
+is_used_up (Some n) = n == 0
+
+-- its poll ends by itself, or since it may have no more
+abbrev pub has_ended : Option PollEnd → (left : Option ℕ) → Bool
+has_ended None left = is_used_up left
+has_ended (Some why) left = true
+
+-- ---- a turn of the log that is polled
+
+-- what is asked behind it, whether the poll of the log has ended or goes on
+abbrev pub stage_behind : Bool → Stage
+stage_behind true = Between
+stage_behind false = Log
 
 -- how it goes on
-abbrev pub step_behind : Option PollEnd → Step
-step_behind None = Ask
-step_behind (Some why) = GoOn
+abbrev pub step_behind : Bool → Step
+step_behind true = GoOn
+step_behind false = Ask
 
--- the log that is polled has this turn
-abbrev pub with_log : DeviceState → Polled → LogTurned → Turned
-with_log p q t = record {
-  device = record p { stage = stage_behind t.end; polled = Some (record q { poll = t.poll }) };
+-- what is known of the log then
+abbrev pub polled_behind : Polled → LogTurned → Polled
+polled_behind q t = record q { poll = t.poll; left = left_behind q.left t.records }
+
+-- the turn, with which the poll of the log has ended, or goes on
+abbrev pub logged : (ended : Bool) → DeviceState → Polled → LogTurned → Turned
+logged ended p q t = record {
+  device = record p { stage = stage_behind ended; polled = Some (polled_behind q t) };
   entries = [];
   log = Some t;
-  step = step_behind t.end;
+  step = step_behind ended;
 }
+
+-- The log that is polled has this turn. Its poll ends by itself, or with the last reply with records that it may have.
+abbrev pub with_log : DeviceState → Polled → LogTurned → Turned
+with_log p q t = logged (has_ended t.end (left_behind q.left t.records)) p q t
+
+-- ---- too many records
 
 -- what is read as records
 abbrev pub is_records : Wanted → Bool

@@ -1,6 +1,6 @@
 -- How a device is polled: what is asked, and what an answer makes of it. Read `Takes` from the end.
-use Rattle.std.specs.Prelude.{◌≡◌, ℕ, ◌+◌, ◌&&◌, nat_lt, not, Bool, false, MatchBool, List, [], Option, None}
-use Rattle.std.specs.Prelude.{Some}
+use Rattle.std.specs.Prelude.{◌≡◌, ℕ, ◌+◌, ◌&&◌, nat_lt, max, not, Bool, false, MatchBool, List, [], Option, None}
+use Rattle.std.specs.Prelude.{Some, option_map}
 use Rattle.bac_wire.specs.Primitive.{Id}
 use Rattle.bac_wire.specs.Stamp.{CivilTime}
 use Rattle.bac_apdu.specs.Apdu.{Apdu}
@@ -146,7 +146,7 @@ Takes p datagram now t =
 
 -- ---- its beginning
 
--- A device of which this is on record, whose logs are polled in this order.
+-- A device of which this is on record, whose logs are polled in this order, each to its end.
 abbrev pub fresh : Known → List LogAs → (many : ℕ) → (retries : ℕ) → (clock : Bool) → DeviceState
 fresh known logs many retries clock = record {
   stage = Instance;
@@ -159,6 +159,7 @@ fresh known logs many retries clock = record {
   stopped = known.stopped.items;
   many = many;
   retries = retries;
+  steps = None;
   busy = 0;
   doubt = false;
   listed = not known.whole;
@@ -168,3 +169,7 @@ fresh known logs many retries clock = record {
   polled = None;
   logs = logs;
 }
+
+-- The same device, each of whose logs has so many replies with records in this run, one at least.
+abbrev pub with_steps : Option ℕ → DeviceState → DeviceState
+with_steps steps p = record p { steps = option_map (λ (n : ℕ). max n 1) steps }

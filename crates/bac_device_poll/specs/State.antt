@@ -43,6 +43,7 @@ pub record DeviceState : Type 0 where
   pub stopped : List Id  -- logs of it that are on record, and aren't asked any more
   pub many : ℕ  -- how many records its logs are asked for at a time
   pub retries : ℕ  -- how often a request is repeated
+  pub steps : Option ℕ  -- how many replies with records each of its logs has in this run, if not as many as come
   pub busy : ℕ  -- how often it was too busy for its question
   pub doubt : Bool  -- whether a log was lost just now, so that the next question is sent once
   pub listed : Bool  -- whether its Object_List was read, where that is wanted

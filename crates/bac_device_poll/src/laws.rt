@@ -1,7 +1,7 @@
 //! What holds of a device's poll, whoever answers.
 
 ghost use Rattle.bac_device_poll.specs.Laws.{AsksReadings, KeepsNoOther, NoneLeftOut};
-ghost use Rattle.bac_device_poll.specs.Laws.{RefusalsEndOne};
+ghost use Rattle.bac_device_poll.specs.Laws.{RefusalsEndOne, StepsAreCounted};
 
 /// A device is asked by ReadProperty, ReadRange and Who-Is alone.
 pub fn asks_readings()
@@ -17,6 +17,11 @@ pub fn keeps_no_other()
 /// ended, or it was told as not asked.
 pub fn none_left_out()
     ensures { NoneLeftOut }
+{}
+
+/// A log has no more replies with records in a run than it may.
+pub fn steps_are_counted()
+    ensures { StepsAreCounted }
 {}
 
 /// A refusal ends what was asked, or is asked again if it passes, and all else is as it was.

@@ -3,8 +3,8 @@
 ghost use Rattle.std.specs.Prelude.{◌≡◌, ◌++◌, ◌∷◌, [], IfOk, OnOk, MatchOption, Some, map};
 ghost use Rattle.bac_poll.specs.Turns.{ends, turned as log_turned};
 ghost use Rattle.bac_device_poll.specs.Logs.{after_end, after_log, after_loss, begins, halved};
-ghost use Rattle.bac_device_poll.specs.Logs.{is_done, is_records, is_too_many, log_after, log_at};
-ghost use Rattle.bac_device_poll.specs.Logs.{lost, read_as};
+ghost use Rattle.bac_device_poll.specs.Logs.{has_ended, is_done, is_records, is_too_many};
+ghost use Rattle.bac_device_poll.specs.Logs.{left_behind, log_after, log_at, lost, read_as};
 ghost use Rattle.bac_device_poll.specs.Logs.{stage_behind, step_behind, wanted_at, with_log};
 ghost use Rattle.bac_device_poll.specs.Logs.{with_records};
 ghost use Rattle.bac_device_poll.specs.State.{LogAs};
@@ -19,7 +19,7 @@ use bac_answers::{
 };
 use bac_link::Verdict;
 use bac_poll::{LogPoll, PollEnd, Stage as LogStage, Turn as LogTurn};
-use bac_walk::WalkFault;
+use bac_walk::{Numbered, WalkFault};
 use bac_wire::Datagram;
 use std::alloc::{AllocError, Global};
 use std::mem::replace;
@@ -140,24 +140,40 @@ fn is_too_many(poll: &LogPoll, verdict: Verdict) -> bool
     is_too_long(verdict) && is_records(wanted_at(poll.stage())) && 1 < poll.count().number()
 }
 
-// What is asked behind a turn of a log.
-fn stage_behind(end: Option<PollEnd>) -> Stage
-    ensures { result ≡ stage_behind end }
+// How many more replies with records a log may have behind these.
+fn left_behind(left: Option<u32>, records: &[Numbered]) -> Option<u32>
+    ensures { result ≡ left_behind left records.now }
 {
-    match end {
-        Some(_) => Stage::Between,
-        None => Stage::Log,
+    match (left, records) {
+        (left, []) => left,
+        (None, [_, ..]) => None,
+        (Some(left), [_, ..]) => Some(left.saturating_sub(1)),
     }
 }
 
-// How it goes on.
-fn step_behind(end: Option<PollEnd>) -> Step
-    ensures { result ≡ step_behind end }
+// Whether the poll of a log has ended: by itself, or since it may have no more of them.
+fn has_ended(end: Option<PollEnd>, left: Option<u32>) -> bool
+    ensures { result ≡ has_ended end left }
 {
-    match end {
-        Some(_) => Step::GoOn,
-        None => Step::Ask,
+    match (end, left) {
+        (Some(_), _) => true,
+        (None, Some(left)) => left == 0,
+        (None, None) => false,
     }
+}
+
+// What is asked behind a turn of a log.
+fn stage_behind(ended: bool) -> Stage
+    ensures { result ≡ stage_behind ended }
+{
+    if ended { Stage::Between } else { Stage::Log }
+}
+
+// How it goes on.
+fn step_behind(ended: bool) -> Step
+    ensures { result ≡ step_behind ended }
+{
+    if ended { Step::GoOn } else { Step::Ask }
 }
 
 // Tells of each of these logs that it isn't asked.
@@ -223,7 +239,7 @@ impl DevicePoll {
         match first_of(&mut self.logs) {
             Some(task) => {
                 let device = device_of(&self.who);
-                self.polled = Some(task.poll(alloc, device, self.many, told));
+                self.polled = Some(task.poll(alloc, device, self.many, told, self.steps));
                 self.stage = Stage::Log;
                 Ok(Turn::asks(entries))
             }
@@ -236,13 +252,15 @@ impl DevicePoll {
         ensures { turned self.new result
             ≡ with_log self.old polled (log_turned polled.poll turn) }
     {
-        self.stage = stage_behind(turn.end);
-        let step = step_behind(turn.end);
-        self.polled = Some(polled);
+        let Polled { log, poll, left } = polled;
+        let left = left_behind(left, turn.entries.as_slice());
+        let ended = has_ended(turn.end, left);
+        self.stage = stage_behind(ended);
+        self.polled = Some(Polled { log, poll, left });
         Turn {
             entries: none(alloc),
             log: Some(turn),
-            step,
+            step: step_behind(ended),
         }
     }
 
@@ -271,11 +289,11 @@ impl DevicePoll {
     fn halve(&mut self, alloc: Global, polled: Polled) -> Turn
         ensures { turned self.new result ≡ halved self.old polled }
     {
-        let Polled { log, poll } = polled;
+        let Polled { log, poll, left } = polled;
         let mut poll = poll;
         poll.too_many();
         self.many = poll.count();
-        self.polled = Some(Polled { log, poll });
+        self.polled = Some(Polled { log, poll, left });
         Turn::asks(none(alloc))
     }
 
@@ -290,10 +308,10 @@ impl DevicePoll {
         ensures { IfOk result (λ turn. turned self.new turn
             ≡ with_log self.old polled (log_after polled.poll verdict datagram.now)) }
     {
-        let Polled { log, poll } = polled;
+        let Polled { log, poll, left } = polled;
         let mut poll = poll;
         let turn = take_log(alloc, &mut poll, verdict, datagram)?;
-        Ok(self.end_turn(alloc, Polled { log, poll }, turn))
+        Ok(self.end_turn(alloc, Polled { log, poll, left }, turn))
     }
 
     // The log that is polled is lost.

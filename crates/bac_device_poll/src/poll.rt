@@ -6,6 +6,7 @@ ghost use Rattle.bac_link.specs.Requests.{IsSendable, IsTooLong};
 ghost use Rattle.bac_device_poll.specs.Naming.{subject};
 ghost use Rattle.bac_device_poll.specs.Poll.{Answers, IsFit, Takes, asked_of_device, asks_element};
 ghost use Rattle.bac_device_poll.specs.Poll.{asks_for, asks_log, fresh, later, verdict_to};
+ghost use Rattle.bac_device_poll.specs.Poll.{with_steps};
 ghost use Rattle.bac_device_poll.specs.Turns.{turned};
 
 use crate::question::Question;
@@ -83,6 +84,7 @@ pub struct DevicePoll {
     pub(crate) stopped: Vec<ObjectId>,
     pub(crate) many: Count,
     pub(crate) retries: u8,
+    pub(crate) steps: Option<u32>,
     pub(crate) busy: u8,
     pub(crate) doubt: bool,
     pub(crate) listed: bool,
@@ -110,6 +112,7 @@ impl Model for DevicePoll {
       stopped = p.stopped.items;
       many = p.many;
       retries = p.retries;
+      steps = p.steps;
       busy = p.busy;
       doubt = p.doubt;
       listed = p.listed;
@@ -153,6 +156,7 @@ impl DevicePoll {
             stopped,
             many,
             retries,
+            steps: None,
             busy: 0,
             doubt: false,
             listed: !whole,
@@ -162,6 +166,19 @@ impl DevicePoll {
             polled: None,
             logs,
         }
+    }
+
+    /// The same, each of whose logs ends in this run with its reply of that number that has
+    /// records, where 0 stands for 1; the next run goes on behind it. `None`: as many as come.
+    pub fn with_steps(self, steps: Option<u32>) -> DevicePoll
+        ensures { result ≡ with_steps steps self }
+    {
+        let mut poll = self;
+        poll.steps = match steps {
+            Some(most) => Some(most.max(1)),
+            None => None,
+        };
+        poll
     }
 
     /// What the next answer is for.

@@ -59,10 +59,20 @@ impl LogTask {
         self.log
     }
 
-    /// Its poll: its device told this before.
-    pub(crate) fn poll(self, alloc: Global, device: ObjectId, many: Count, told: Told) -> Polled
-        ensures { result ≡ record
-            { log = self.log; poll = begun self.log device many (told_as told) self.begin } }
+    /// Its poll: its device told this before. It may have so many replies with records.
+    pub(crate) fn poll(
+        self,
+        alloc: Global,
+        device: ObjectId,
+        many: Count,
+        told: Told,
+        left: Option<u32>,
+    ) -> Polled
+        ensures { result ≡ record {
+          log = self.log;
+          poll = begun self.log device many (told_as told) self.begin;
+          left = left;
+        } }
     {
         let LogTask { log, begin } = self;
         let poll = match begin {
@@ -72,7 +82,7 @@ impl LogTask {
             }
         };
         match poll {
-            Some(poll) => Polled { log, poll },
+            Some(poll) => Polled { log, poll, left },
             None => unreachable!(),
         }
     }
@@ -83,4 +93,6 @@ impl LogTask {
 pub struct Polled {
     pub log: ObjectId,
     pub poll: LogPoll,
+    /// How many more of its replies may have records in this run, if not as many as come.
+    pub left: Option<u32>,
 }

@@ -6,11 +6,11 @@ use Rattle.bac_wire.specs.Stamp.{CivilTime}
 use Rattle.bac_link.specs.Datagrams.{apdu_in}
 use Rattle.bac_link.specs.declared.exchanges.Verdict.{Verdict}
 use Rattle.bac_poll.specs.Turns.{Turned as LogTurned, ends}
-use Rattle.bac_poll_steps.specs.declared.turn.PollEnd.{PollEnd}
 use Rattle.bac_poll_steps.specs.declared.turn.PollEnd.TheVariants.{Fault}
 use Rattle.bac_walk.specs.declared.outcome.WalkFault.TheVariants as walk
-use Rattle.bac_device_poll.specs.Laws.{ended_in, left, not_asked_in, waiting}
-use Rattle.bac_device_poll.specs.Logs.{after_loss, begins_with, halved, is_too_many, log_after, with_log}
+use Rattle.bac_device_poll.specs.Laws.{ended_by, ended_in, left, not_asked_in, waiting}
+use Rattle.bac_device_poll.specs.Logs.{after_end, after_loss, begins_with, halved, has_ended, is_too_many, left_behind}
+use Rattle.bac_device_poll.specs.Logs.{log_after, logged, with_log}
 use Rattle.bac_device_poll.specs.Poll.{Takes, answered, asked_of_device, verdict_to}
 use Rattle.bac_device_poll.specs.Refusals.{is_busy}
 use Rattle.bac_device_poll.specs.State.{DeviceState, LogAs}
@@ -56,16 +56,25 @@ begins p (task ∷ logs) is = record {
 
 -- ---- a turn of the log that is polled
 
-logged_by : (o : Option PollEnd) (p : DeviceState) (q : Polled) (t : LogTurned) (was now : Bool) (busy : ℕ) →
-    Polls (at_log p q was) now (with_log (at_log (record p { busy = busy }) q now) q (record t { end = o }))
-logged_by None p q t was now busy = record { left = refl; goes = (_, refl, refl); doubt = refl }
-logged_by (Some why) p q t was now busy =
-    let b = begins (record p { busy = busy; stage = stage.Between; polled = Some (record q { poll = t.poll }); doubt = now }) p.logs refl in
-    record { left = ap (λ (l : List Id). q.log ∷ l) (sym b.left); goes = b.goes; doubt = b.doubt }
+logged_by : (ended : Bool) (p : DeviceState) (q : Polled) (t : LogTurned) (was now : Bool) (busy : ℕ) →
+    has_ended t.end (left_behind q.left t.records) ≡ ended →
+    Polls (at_log p q was) now (logged ended (at_log (record p { busy = busy }) q now) q t)
+logged_by false p q t was now busy is = record {
+  left = ap (λ (e : Bool). ended_by e q.log ++ (q.log ∷ waiting p)) (sym is);
+  goes = (_, refl, refl);
+  doubt = refl;
+}
+logged_by true p q t was now busy is =
+    let d : DeviceState = (logged true (at_log (record p { busy = busy }) q now) q t).device in
+    let b = begins d p.logs refl in record {
+      left = ap (λ (l : List Id). q.log ∷ l) (sym b.left) ∙ ap (λ (e : Bool). ended_by e q.log ++ left (after_end d).device) (sym is);
+      goes = b.goes;
+      doubt = b.doubt;
+    }
 
-logged : (p : DeviceState) (q : Polled) (t : LogTurned) (was now : Bool) (busy : ℕ) →
+turn_polls : (p : DeviceState) (q : Polled) (t : LogTurned) (was now : Bool) (busy : ℕ) →
     Polls (at_log p q was) now (with_log (at_log (record p { busy = busy }) q now) q t)
-logged p q t was now busy = logged_by t.end p q t was now busy
+turn_polls p q t was now busy = logged_by (has_ended t.end (left_behind q.left t.records)) p q t was now busy refl
 
 -- ---- an answer
 
@@ -76,7 +85,7 @@ matched false m f g = g m
 answer : (many : Bool) (p : DeviceState) (q : Polled) (t : LogTurned) (doubt : Bool) →
     Polls (at_log p q doubt) false (if many then halved (answered (at_log p q doubt)) q else with_log (answered (at_log p q doubt)) q t)
 answer true p q t doubt = record { left = refl; goes = (_, refl, refl); doubt = refl }
-answer false p q t doubt = logged p q t doubt false 0
+answer false p q t doubt = turn_polls p q t doubt false 0
 
 pub came : (p : DeviceState) (q : Polled) (doubt : Bool) (datagram : List ℕ) (now : CivilTime) (t : Turned) →
     Takes (at_log p q doubt) datagram now t → Polls (at_log p q doubt) false t
@@ -94,7 +103,7 @@ all_told [] = refl
 all_told (task ∷ logs) = ap (λ (l : List Id). task.log ∷ l) (all_told logs)
 
 pub lost : (p : DeviceState) (q : Polled) (doubt : Bool) → Polls (at_log p q doubt) true (after_loss (at_log p q doubt))
-lost p q false = logged p q (ends q.poll (Fault walk.Lost)) false true p.busy
+lost p q false = turn_polls p q (ends q.poll (Fault walk.Lost)) false true p.busy
 lost p q true = record {
   left = ap (λ (l : List Id). q.log ∷ l) (sym (all_told p.logs) ∙ sym (append-nil (not_asked_in (map not_asked p.logs))));
   goes = tt;

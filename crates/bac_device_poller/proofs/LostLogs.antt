@@ -32,6 +32,7 @@ record NextOf (task : LogAs) (rest : List LogAs) (p : DeviceState) (u : Turned) 
   pub polled : u.device.polled ≡ Some (record {
     log = task.log;
     poll = begun task.log (device_of p.who) p.many p.told task.begin;
+    left = p.steps;
   })
   pub logs : u.device.logs ≡ rest
   pub goes : end_at u.step ≡ None

@@ -7,7 +7,6 @@ use Rattle.bac_drive.specs.declared.machine.Next.TheVariants as next
 use Rattle.bac_poll.specs.State.{ToldAs}
 use Rattle.bac_poll.specs.Turns.{Turned as LogTurned, ends}
 use Rattle.bac_poll_steps.specs.declared.turn.Line.{Line}
-use Rattle.bac_poll_steps.specs.declared.turn.PollEnd.{PollEnd}
 use Rattle.bac_poll_steps.specs.declared.turn.PollEnd.TheVariants.{Fault}
 use Rattle.bac_walk.specs.declared.outcome.WalkFault.TheVariants as walk
 use Rattle.bac_device_poll.specs.Laws.{left}
@@ -15,6 +14,7 @@ use Rattle.bac_device_poll.specs.Logs.{after_loss}
 use Rattle.bac_device_poll.specs.State.{DeviceState, LogAs}
 use Rattle.bac_device_poll.specs.Turns.{Turned, not_asked}
 use Rattle.bac_device_poll.specs.declared.task.Polled.{Polled}
+use Rattle.bac_device_poller.specs.Ending.{reason_line}
 use Rattle.bac_device_poller.specs.Entries.{RowsAs, log_in, putting_log, raising, with_entries, with_log, without}
 use Rattle.bac_device_poller.specs.Naming.{has_word, with_word}
 use Rattle.bac_device_poller.specs.Poller.{PollerAs, Settles, end_at, putting_answered}
@@ -23,7 +23,9 @@ use Rattle.bac_device_poller.specs.Rows.{LogAs as LogRowAs}
 use Rattle.bac_device_poller.specs.Silence.{EndsSilent, end_of, not_asked_as}
 use Rattle.bac_device_poller.specs.Status.{greater_of}
 use Rattle.bac_device_poller.specs.Telling.{LineAs}
-use Rattle.bac_device_poller.specs.Turns.{TakesOf, keeping, retelling, telling_any_end, telling_line, telling_turn}
+use Rattle.bac_device_poller.specs.Turns.{TakesOf, ended_by, ending_of, keeping, retelling, telling_any, telling_any_end}
+use Rattle.bac_device_poller.specs.Turns.{telling_end, telling_line, telling_turn}
+use Rattle.bac_device_poller.specs.declared.ending.Ending.{Ending}
 use Rattle.bac_device_poller.specs.declared.status.Status.TheVariants.{NoReply}
 use Rattle.bac_device_poller.proofs.LogTurns.{at_log, behind}
 use Rattle.bac_device_poller.proofs.Silence.{Settled, by_log, end_with, lost_is, settled}
@@ -35,26 +37,31 @@ line_called : (r : RowsAs) (called : List ℕ) (o : Option Line) → (telling_li
 line_called r called None = refl
 line_called r called (Some line) = refl
 
-end_called : (r : RowsAs) (called : List ℕ) (behind : Option PlaceAs) (o : Option PollEnd) (n : ℕ) →
+any_called : (r : RowsAs) (o : Option (List ℕ)) → (telling_any r o).called ≡ r.called
+any_called r None = refl
+any_called r (Some text) = refl
+
+end_called : (r : RowsAs) (called : List ℕ) (behind : Option PlaceAs) (o : Option Ending) (n : ℕ) →
     (telling_any_end r called behind o n).called ≡ r.called
 end_called r called behind None n = refl
-end_called r called behind (Some why) n = refl
+end_called r called behind (Some why) n = any_called (telling_end r called (ending_of behind why) n) (reason_line called (ending_of behind why))
 
 retold_called : (b : Bool) (r : RowsAs) (l : LogRowAs) (word : ToldAs) →
     (if b then with_log r l else putting_log r (with_word word l)).called ≡ r.called
 retold_called true r l word = refl
 retold_called false r l word = refl
 
-turn_called : (r : RowsAs) (l : LogRowAs) (behind : Option PlaceAs) (t : LogTurned) (word : ToldAs) (to : LogRowAs) →
-    (retelling (telling_turn r l.called behind t) to word).called ≡ r.called
-turn_called r l behind t word to =
-    retold_called (has_word word to) (telling_turn r l.called behind t) to word
-    ∙ end_called (telling_line r l.called t.line) l.called behind t.end t.poll.next ∙ line_called r l.called t.line
+turn_called : (r : RowsAs) (l : LogRowAs) (behind : Option PlaceAs) (rest : Option ℕ) (t : LogTurned) (word : ToldAs) (to : LogRowAs) →
+    (retelling (telling_turn r l.called behind rest t) to word).called ≡ r.called
+turn_called r l behind rest t word to =
+    retold_called (has_word word to) (telling_turn r l.called behind rest t) to word
+    ∙ end_called (telling_line r l.called t.line) l.called behind (ended_by t.end rest) t.poll.next ∙ line_called r l.called t.line
 
-taken_called : (o : Option LogRowAs) (old : RowsAs) (t : LogTurned) (new : RowsAs) → TakesOf o old t new → new.called ≡ old.called
-taken_called None old t new is = ap (λ (r : RowsAs). r.called) is
-taken_called (Some l) old t new (behind, puts, placed, is) =
-    ap (λ (r : RowsAs). r.called) is ∙ turn_called (keeping old behind puts t) l behind t t.poll.word (record l { place = behind })
+taken_called : (o : Option LogRowAs) (rest : Option ℕ) (old : RowsAs) (t : LogTurned) (new : RowsAs) → TakesOf o rest old t new →
+    new.called ≡ old.called
+taken_called None rest old t new is = ap (λ (r : RowsAs). r.called) is
+taken_called (Some l) rest old t new (behind, puts, placed, is) =
+    ap (λ (r : RowsAs). r.called) is ∙ turn_called (keeping old behind puts t) l behind rest t t.poll.word (record l { place = behind })
 
 -- ---- those that wait
 
@@ -78,7 +85,7 @@ silent_lines true p q old puts new sure (mid, takes, (are, is)) = (
   ap (λ (x : PollerAs). x.rows.lines) is ∙ answered_lines (with_entries mid (map not_asked p.logs)).answered (raising (with_entries mid (map not_asked p.logs)) NoReply)
       ∙ told_lines mid p.logs
       ∙ ap (λ (called : List ℕ). mid.lines ++ map (not_asked_as called) p.logs)
-      (taken_called (log_in q.log old.rows.logs) (without q.log old.rows) (lost_turn p q) mid takes),
+      (taken_called (log_in q.log old.rows.logs) q.left (without q.log old.rows) (lost_turn p q) mid takes),
 )
   where
     lost_turn : DeviceState → Polled → LogTurned

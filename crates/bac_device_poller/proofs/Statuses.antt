@@ -1,5 +1,5 @@
 -- The status of a device's poll rises by what is told, and by why it is left.
-use Rattle.std.proofs.Common.{◌≡◌, ◌⊎◌, ◌∙◌, ◌≤◌, ◌<◌, inl, inr, ℕ, nat_lt, Bool, true, false, if◌then◌else◌, List, [], ◌∷◌}
+use Rattle.std.proofs.Common.{◌≡◌, ◌⊎◌, ◌∙◌, ◌≤◌, ◌<◌, inl, inr, ℕ, min, nat_lt, Bool, true, false, if◌then◌else◌, List, [], ◌∷◌}
 use Rattle.std.proofs.Common.{◌++◌, Option, Some, None, refl, sym, ap, subst, arith, is_some}
 use Rattle.std.proofs.lemmas.Bool.{ltb-false, ltb-true}
 use Rattle.std.proofs.lemmas.List.Elements.{Contains-append_left, Contains-push}
@@ -9,12 +9,10 @@ use Rattle.bac_answers.specs.declared.entry.Entry.{Entry}
 use Rattle.bac_answers.specs.declared.entry.Entry.TheVariants.{Added, Another, Clock, Known, KnownNow, Named}
 use Rattle.bac_answers.specs.declared.entry.Entry.TheVariants.{NotAsked, Others, Read, Untold}
 use Rattle.bac_answers.specs.declared.entry.Naming.{Naming}
-use Rattle.bac_walk.specs.declared.outcome.WalkFault.TheVariants as walk
 use Rattle.bac_wire.specs.Stamp.{CivilTime}
 use Rattle.bac_poll.specs.State.{ToldAs}
 use Rattle.bac_poll.specs.Turns.{Turned as LogTurned}
 use Rattle.bac_poll_steps.specs.declared.turn.Line.{Line}
-use Rattle.bac_poll_steps.specs.declared.turn.PollEnd.{PollEnd}
 use Rattle.bac_poll_steps.specs.declared.turn.PollEnd.TheVariants.{CaughtUp, Contradicts, Fault, NoneByNumber}
 use Rattle.bac_poll_steps.specs.declared.turn.PollEnd.TheVariants.{SaysMore, ShowsNone}
 use Rattle.bac_drive.specs.declared.machine.Next.{Next}
@@ -29,7 +27,7 @@ use Rattle.bac_device_poll.specs.declared.turn.DeviceEnd.{DeviceEnd}
 use Rattle.bac_device_poll.specs.declared.turn.DeviceEnd.TheVariants.{Done as IsDone, Foreign, Silent}
 use Rattle.bac_device_poll.specs.declared.turn.Step.{Step}
 use Rattle.bac_device_poll.specs.declared.turn.Step.TheVariants.{Ask, AskLater, End, GoOn}
-use Rattle.bac_device_poller.specs.Ending.{ended_line, is_caught_up}
+use Rattle.bac_device_poller.specs.Ending.{ended_line, is_caught_up, reason_line}
 use Rattle.bac_device_poller.specs.Entries.{RowsAs, added_as, failing, log_in, raising, renaming, telling, with_entries}
 use Rattle.bac_device_poller.specs.Entries.{putting_log, with_entry, with_log, without}
 use Rattle.bac_device_poller.specs.Ids.{free_id}
@@ -41,14 +39,15 @@ use Rattle.bac_device_poller.specs.Rows.{LogAs}
 use Rattle.bac_device_poller.specs.Status.{code, greater_of, status_at, status_of}
 use Rattle.bac_device_poller.specs.StatusLaws.{HasWarning, LogsAreCounted, RisesAsTold, StatusIsTold, end_status, left_status}
 use Rattle.bac_device_poller.specs.Telling.{LineAs}
-use Rattle.bac_device_poller.specs.Turns.{TakesLog, TakesOf, keeping, retelling, telling_any_end, telling_end, telling_line}
-use Rattle.bac_device_poller.specs.Turns.{telling_turn, turning}
+use Rattle.bac_device_poller.specs.Turns.{TakesLog, TakesOf, ended_by, ending_of, keeping, retelling, telling_any}
+use Rattle.bac_device_poller.specs.Turns.{telling_any_end, telling_end, telling_ending, telling_line, telling_turn, turning}
 use Rattle.bac_device_poller.specs.declared.doing.Doing.{Doing}
 use Rattle.bac_device_poller.specs.declared.doing.Doing.TheVariants as doing
 use Rattle.bac_device_poller.specs.declared.ending.Ending.{Ending}
 use Rattle.bac_device_poller.specs.declared.ending.Ending.TheVariants.{Epochs, NotAsked as LogNotAsked, Poll}
+use Rattle.bac_device_poller.specs.declared.ending.Ending.TheVariants.{StepLimit as AtLimit}
 use Rattle.bac_device_poller.specs.declared.status.Status.{Status}
-use Rattle.bac_device_poller.specs.declared.status.Status.TheVariants.{BadReply, Done, File, NoReply, Refused}
+use Rattle.bac_device_poller.specs.declared.status.Status.TheVariants.{BadReply, Done, File, NoReply, Refused, StepLimit}
 
 -- ---- the greater one of two
 
@@ -72,6 +71,7 @@ greater_done NoReply = refl
 greater_done Refused = refl
 greater_done BadReply = refl
 greater_done File = refl
+greater_done StepLimit = refl
 
 -- ---- rows
 
@@ -167,12 +167,20 @@ ended_grows r called why next = record {
     by (Poll NoneByNumber) = inr (bad (Poll NoneByNumber) refl)
     by (Poll Contradicts) = inr (bad (Poll Contradicts) refl)
     by (Poll (Fault fault)) = inr (bad (Poll (Fault fault)) refl)
+    by AtLimit = inr (bad AtLimit refl)
     by Epochs = inr (bad Epochs refl)
     by LogNotAsked = inr (bad LogNotAsked refl)
 
-any_end_grows : (r : RowsAs) (called : List ℕ) (behind : Option PlaceAs) (end : Option PollEnd) (next : ℕ) → Grows r (telling_any_end r called behind end next)
+any_grows : (r : RowsAs) (text : Option (List ℕ)) → Grows r (telling_any r text)
+any_grows r None = still r r refl refl
+any_grows r (Some text) = tells r false text
+
+ending_grows : (r : RowsAs) (called : List ℕ) (why : Ending) (next : ℕ) → Grows r (telling_ending r called why next)
+ending_grows r called why next = chained (ended_grows r called why next) (any_grows (telling_end r called why next) (reason_line called why))
+
+any_end_grows : (r : RowsAs) (called : List ℕ) (behind : Option PlaceAs) (end : Option Ending) (next : ℕ) → Grows r (telling_any_end r called behind end next)
 any_end_grows r called behind None next = still r r refl refl
-any_end_grows r called behind (Some why) next = ended_grows r called _ next
+any_end_grows r called behind (Some why) next = ending_grows r called (ending_of behind why) next
 
 line_grows : (r : RowsAs) (called : List ℕ) (line : Option Line) → Grows r (telling_line r called line)
 line_grows r called None = still r r refl refl
@@ -185,23 +193,23 @@ retold_grows r l word = by (has_word word l)
     by true = still r (with_log r l) refl refl
     by false = still r (putting_log r (with_word word l)) refl refl
 
-turning_grows : (r : RowsAs) (l : LogAs) (behind : Option PlaceAs) (puts : List PutAs) (t : LogTurned) → Grows r (turning r l behind puts t)
-turning_grows r l behind puts t =
+turning_grows : (r : RowsAs) (l : LogAs) (behind : Option PlaceAs) (puts : List PutAs) (left : Option ℕ) (t : LogTurned) → Grows r (turning r l behind puts left t)
+turning_grows r l behind puts left t =
     let kept = keeping r behind puts t in
     let lined = telling_line kept l.called t.line in
-    let told = telling_turn kept l.called behind t in
+    let told = telling_turn kept l.called behind left t in
     chained (still r kept refl refl)
     (chained (line_grows kept l.called t.line)
-    (chained (any_end_grows lined l.called behind t.end t.poll.next) (retold_grows told (record l { place = behind }) t.poll.word)))
+    (chained (any_end_grows lined l.called behind (ended_by t.end left) t.poll.next) (retold_grows told (record l { place = behind }) t.poll.word)))
 
-of_grows : (o : Option LogAs) (old : RowsAs) (t : LogTurned) (new : RowsAs) → TakesOf o old t new → Grows old new
-of_grows None old t new same = let G : RowsAs → Type 0 = λ r. Grows old r in subst G (sym same) (still old old refl refl)
-of_grows (Some l) old t new (behind, puts, placed, is) = let G : RowsAs → Type 0 = λ r. Grows old r in subst G (sym is) (turning_grows old l behind puts t)
+of_grows : (o : Option LogAs) (left : Option ℕ) (old : RowsAs) (t : LogTurned) (new : RowsAs) → TakesOf o left old t new → Grows old new
+of_grows None left old t new same = let G : RowsAs → Type 0 = λ r. Grows old r in subst G (sym same) (still old old refl refl)
+of_grows (Some l) left old t new (behind, puts, placed, is) = let G : RowsAs → Type 0 = λ r. Grows old r in subst G (sym is) (turning_grows old l behind puts left t)
 
 log_grows : (o : Option LogTurned) (polled : Option Polled) (old new : RowsAs) → TakesLog o polled old new → Grows old new
 log_grows None polled old new same = let G : RowsAs → Type 0 = λ r. Grows old r in subst G (sym same) (still old old refl refl)
 log_grows (Some t) None old new same = let G : RowsAs → Type 0 = λ r. Grows old r in subst G (sym same) (still old old refl refl)
-log_grows (Some t) (Some q) old new takes = chained (still old (without q.log old) refl refl) (of_grows (log_in q.log old.logs) (without q.log old) t new takes)
+log_grows (Some t) (Some q) old new takes = chained (still old (without q.log old) refl refl) (of_grows (log_in q.log old.logs) q.left (without q.log old) t new takes)
 
 -- ---- the end
 
@@ -361,31 +369,35 @@ status_is_told p q wanted g = wants p.doing p q wanted refl g
 
 -- ---- logs
 
-none_left : (w : PollEnd) → code (status_of (Poll w)) ≤ 6
-none_left CaughtUp = omega arith
-none_left SaysMore = omega arith
-none_left ShowsNone = omega arith
-none_left NoneByNumber = omega arith
-none_left Contradicts = omega arith
-none_left (Fault walk.Lost) = omega arith
-none_left (Fault (walk.Refused refusal)) = omega arith
-none_left (Fault walk.BadReply) = omega arith
+-- no more than that of a log without an epoch, unless it ended at the limit
+abbrev least : Ending → ℕ
+least w = min (code (status_of w)) (code File)
 
-end_counts : (r : RowsAs) (called : List ℕ) (behind : Option PlaceAs) (why : PollEnd) (next : ℕ) → code (status_of (Poll why)) ≤ code (telling_any_end r called behind (Some why) next).status
-end_counts r called None why next = let x = greater_right r.status File in let y = none_left why in omega (arith, x, y)
-end_counts r called (Some behind) why next = greater_right r.status (status_of (Poll why))
+end_counts : (r : RowsAs) (called : List ℕ) (behind : Option PlaceAs) (why : Ending) (next : ℕ) →
+    least why ≤ code (telling_any_end r called behind (Some why) next).status
+end_counts r called behind why next =
+    let e : Ending = ending_of behind why in
+    let g = any_grows (telling_end r called e next) (reason_line called e) in
+    let x = g.rises in
+    let y = at behind in
+    omega (arith, x, y)
+  where
+    at : (o : Option PlaceAs) → least why ≤ code (telling_end r called (ending_of o why) next).status
+    at None = let x = greater_right r.status File in omega (arith, x)
+    at (Some place) = let x = greater_right r.status (status_of why) in omega (arith, x)
 
-turn_counts : (r : RowsAs) (l : LogAs) (behind : Option PlaceAs) (puts : List PutAs) (u : LogTurned) (why : PollEnd) → u.end ≡ Some why → code (status_of (Poll why)) ≤ code (turning r l behind puts u).status
-turn_counts r l behind puts u why is =
+turn_counts : (r : RowsAs) (l : LogAs) (behind : Option PlaceAs) (puts : List PutAs) (left : Option ℕ) (u : LogTurned) (why : Ending) →
+    ended_by u.end left ≡ Some why → least why ≤ code (turning r l behind puts left u).status
+turn_counts r l behind puts left u why is =
     let lined = telling_line (keeping r behind puts u) l.called u.line in
-    let C : Option PollEnd → Type 0 = λ o. code (status_of (Poll why)) ≤ code (telling_any_end lined l.called behind o u.poll.next).status in
-    let told : C u.end = subst C (sym is) (end_counts lined l.called behind why u.poll.next) in
-    let g = retold_grows (telling_turn (keeping r behind puts u) l.called behind u) (record l { place = behind }) u.poll.word in
+    let C : Option Ending → Type 0 = λ o. least why ≤ code (telling_any_end lined l.called behind o u.poll.next).status in
+    let told : C (ended_by u.end left) = subst C (sym is) (end_counts lined l.called behind why u.poll.next) in
+    let g = retold_grows (telling_turn (keeping r behind puts u) l.called behind left u) (record l { place = behind }) u.poll.word in
     let h = g.rises in
     omega (arith, told, h)
 
 pub logs_are_counted : LogsAreCounted
-logs_are_counted t p q puts u why polled l (mid, takes, ended) log end one held =
+logs_are_counted t p q puts u why polled l (mid, takes, ended) log one end held =
     let v : Turned = stepped t.step t.device in
     let still_polled = is_some t.device.polled in
     let inner = with_entries (with_entries mid t.entries) v.entries in
@@ -393,16 +405,17 @@ logs_are_counted t p q puts u why polled l (mid, takes, ended) log end one held 
     let e : code q.rows.status ≡ code r.status = ap (λ (x : PollerAs). code x.rows.status) ended.1 in
     let first : TakesLog (Some u) t.device.polled p.rows mid = let L : Option LogTurned → Type 0 = λ o. TakesLog o t.device.polled p.rows mid in subst L log takes in
     let second : TakesLog (Some u) (Some polled) p.rows mid = let L : Option Polled → Type 0 = λ o. TakesLog (Some u) o p.rows mid in subst L one first in
-    let third : TakesOf (Some l) (without polled.log p.rows) u mid = let L : Option LogAs → Type 0 = λ o. TakesOf o (without polled.log p.rows) u mid in subst L held second in
-    let counts = at third in
+    let third : TakesOf (Some l) polled.left (without polled.log p.rows) u mid =
+    let L : Option LogAs → Type 0 = λ o. TakesOf o polled.left (without polled.log p.rows) u mid in subst L held second in
+    let counts : least why ≤ code mid.status = at third in
     let a = entries_grow mid t.entries in
     let b = entries_grow (with_entries mid t.entries) v.entries in
     let c = step_ends v.step still_polled inner in
     let x = a.rises in let y = b.rises in let z = c.rises in
     omega (arith, e, counts, x, y, z)
   where
-    at : TakesOf (Some l) (without polled.log p.rows) u mid → code (status_of (Poll why)) ≤ code mid.status
+    at : TakesOf (Some l) polled.left (without polled.log p.rows) u mid → least why ≤ code mid.status
     at (behind, rows, placed, is) =
-        let n : code mid.status ≡ code (turning (without polled.log p.rows) l behind rows u).status = ap (λ (x : RowsAs). code x.status) is in
-        let m = turn_counts (without polled.log p.rows) l behind rows u why end in
+        let n : code mid.status ≡ code (turning (without polled.log p.rows) l behind rows polled.left u).status = ap (λ (x : RowsAs). code x.status) is in
+        let m = turn_counts (without polled.log p.rows) l behind rows polled.left u why end in
         omega (arith, n, m)

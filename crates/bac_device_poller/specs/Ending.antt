@@ -1,7 +1,9 @@
 -- What is told of a log: while it is polled, and how that ended.
 use Rattle.std.specs.Prelude.{ℕ, ◌-◌, ◌==◌, nat_lt, Bool, true, false, if◌then◌else◌, codes, decimal, List, [], ◌∷◌}
-use Rattle.std.specs.Prelude.{◌++◌}
-use Rattle.bac_query.specs.Ends.{refusal_text}
+use Rattle.std.specs.Prelude.{◌++◌, Option, None, Some}
+use Rattle.bac_link.specs.declared.exchanges.Refusal.{Refusal}
+use Rattle.bac_query.specs.Ends.{cause_text, refusal_text}
+use Rattle.bac_walk.specs.declared.outcome.WalkFault.{WalkFault}
 use Rattle.bac_walk.specs.declared.outcome.WalkFault.TheVariants.{BadReply, Lost, Refused}
 use Rattle.bac_poll.specs.Turns.{number_before}
 use Rattle.bac_poll_steps.specs.declared.turn.Line.{Line}
@@ -11,7 +13,7 @@ use Rattle.bac_poll_steps.specs.declared.turn.PollEnd.TheVariants.{CaughtUp, Con
 use Rattle.bac_poll_steps.specs.declared.turn.PollEnd.TheVariants.{SaysMore, ShowsNone}
 use Rattle.bac_device_poller.specs.declared.counts.Counts.{Counts}
 use Rattle.bac_device_poller.specs.declared.ending.Ending.{Ending}
-use Rattle.bac_device_poller.specs.declared.ending.Ending.TheVariants.{Poll, Epochs, NotAsked}
+use Rattle.bac_device_poller.specs.declared.ending.Ending.TheVariants.{Poll, StepLimit, Epochs, NotAsked}
 
 -- so many quarter hours from those on record
 abbrev pub earlier_text : ℕ → List ℕ
@@ -56,6 +58,7 @@ ending_text (Poll Contradicts) = codes "its records contradict each other"
 ending_text (Poll (Fault Lost)) = codes "lost"
 ending_text (Poll (Fault (Refused refusal))) = refusal_text refusal
 ending_text (Poll (Fault BadReply)) = codes "bad reply"
+ending_text StepLimit = codes "step limit"
 ending_text Epochs = codes "began anew once too often"
 ending_text NotAsked = codes "not asked"
 
@@ -78,6 +81,34 @@ summary_text kept why next =
 abbrev pub ended_line : List ℕ → Counts → Ending → (next : ℕ) → List ℕ
 ended_line name kept why next = name ++ (32 ∷ (summary_text kept why next ++ 10 ∷ []))
 
+-- ---- behind that line
+
+-- what a refusal means, in the standard's words
+abbrev pub refused_line : List ℕ → Refusal → List ℕ
+refused_line name refusal = name ++ (codes ": " ++ (cause_text refusal ++ 10 ∷ []))
+
+-- which tool says what is wrong with a reply
+abbrev pub bad_reply_line : List ℕ → List ℕ
+bad_reply_line name = name ++ codes ": the reply isn't as asked for: bac log tells what is wrong with it\n"
+
+-- the line that tells it of a log with this name, if there is one
+abbrev pub fault_line : List ℕ → WalkFault → Option (List ℕ)
+fault_line name Lost = None
+fault_line name (Refused refusal) = Some (refused_line name refusal)
+fault_line name BadReply = Some (bad_reply_line name)
+
+-- a log whose poll didn't fail has none
+abbrev pub reason_line : List ℕ → Ending → Option (List ℕ)
+reason_line name (Poll CaughtUp) = None
+reason_line name (Poll SaysMore) = None
+reason_line name (Poll ShowsNone) = None
+reason_line name (Poll NoneByNumber) = None
+reason_line name (Poll Contradicts) = None
+reason_line name (Poll (Fault fault)) = fault_line name fault
+reason_line name StepLimit = None
+reason_line name Epochs = None
+reason_line name NotAsked = None
+
 -- whether a log is caught up
 abbrev pub is_caught_up : Ending → Bool
 is_caught_up (Poll CaughtUp) = true
@@ -86,5 +117,6 @@ is_caught_up (Poll ShowsNone) = false
 is_caught_up (Poll NoneByNumber) = false
 is_caught_up (Poll Contradicts) = false
 is_caught_up (Poll (Fault fault)) = false
+is_caught_up StepLimit = false
 is_caught_up Epochs = false
 is_caught_up NotAsked = false

@@ -142,6 +142,7 @@ pub record IsBegun (task : LogAs) (behind : List LogAs) (old new : PollerAs) : T
   pub polled : new.poll.polled ≡ Some (record {
     log = task.log;
     poll = begun task.log (device_of old.poll.who) old.poll.many old.poll.told task.begin;
+    left = old.poll.steps;
   })
   pub logs : new.poll.logs ≡ behind
   pub asks : asks_next new.doing ≡ true

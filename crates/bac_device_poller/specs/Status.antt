@@ -6,9 +6,10 @@ use Rattle.bac_poll_steps.specs.declared.turn.PollEnd.TheVariants.{SaysMore, Sho
 use Rattle.bac_device_poll.specs.declared.turn.DeviceEnd.{DeviceEnd}
 use Rattle.bac_device_poll.specs.declared.turn.DeviceEnd.TheVariants as end
 use Rattle.bac_device_poller.specs.declared.ending.Ending.{Ending}
-use Rattle.bac_device_poller.specs.declared.ending.Ending.TheVariants.{Epochs, NotAsked, Poll}
+use Rattle.bac_device_poller.specs.declared.ending.Ending.TheVariants.{Epochs, NotAsked, Poll, StepLimit as AtLimit}
 use Rattle.bac_device_poller.specs.declared.status.Status.{Status}
 use Rattle.bac_device_poller.specs.declared.status.Status.TheVariants.{BadReply, Done, File, NoReply, Refused}
+use Rattle.bac_device_poller.specs.declared.status.Status.TheVariants.{StepLimit}
 
 -- a status, as a program ends with it
 abbrev pub code : Status → ℕ
@@ -17,6 +18,7 @@ code NoReply = 2
 code Refused = 3
 code BadReply = 4
 code File = 6
+code StepLimit = 8
 
 -- the greater one of two
 abbrev pub greater_of : Status → Status → Status
@@ -32,6 +34,7 @@ status_of (Poll Contradicts) = BadReply
 status_of (Poll (Fault walk.Lost)) = NoReply
 status_of (Poll (Fault (walk.Refused refusal))) = Refused
 status_of (Poll (Fault walk.BadReply)) = BadReply
+status_of AtLimit = StepLimit
 status_of Epochs = File
 status_of NotAsked = NoReply
 

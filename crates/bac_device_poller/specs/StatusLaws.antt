@@ -1,9 +1,8 @@
 -- What the status of a device's poll says, whoever answers. Read `StatusIsTold` and `LogsAreCounted`.
-use Rattle.std.specs.Prelude.{◌≡◌, ◌⊎◌, ◌<◌, ◌≤◌, false, List, Option, None, Some}
+use Rattle.std.specs.Prelude.{◌≡◌, ◌⊎◌, ◌<◌, ◌≤◌, min, false, List, Option, None, Some}
 use Rattle.std.specs.List.{Contains}
 use Rattle.bac_archive3.specs.declared.row.Put.{Put}
 use Rattle.bac_poll.specs.Turns.{Turned as LogTurned}
-use Rattle.bac_poll_steps.specs.declared.turn.PollEnd.{PollEnd}
 use Rattle.bac_device_poll.specs.Turns.{Turned}
 use Rattle.bac_device_poll.specs.declared.task.Polled.{Polled}
 use Rattle.bac_device_poll.specs.declared.turn.DeviceEnd.{DeviceEnd}
@@ -13,11 +12,12 @@ use Rattle.bac_device_poller.specs.Poller.{GivesBy, PollerAs, Settles}
 use Rattle.bac_device_poller.specs.Rows.{LogAs}
 use Rattle.bac_device_poller.specs.Status.{code, status_at, status_of}
 use Rattle.bac_device_poller.specs.Telling.{LineAs}
+use Rattle.bac_device_poller.specs.Turns.{ended_by}
 use Rattle.bac_device_poller.specs.declared.doing.Doing.{Doing}
 use Rattle.bac_device_poller.specs.declared.doing.Doing.TheVariants as doing
-use Rattle.bac_device_poller.specs.declared.ending.Ending.TheVariants.{Poll}
+use Rattle.bac_device_poller.specs.declared.ending.Ending.{Ending}
 use Rattle.bac_device_poller.specs.declared.status.Status.{Status}
-use Rattle.bac_device_poller.specs.declared.status.Status.TheVariants.{Done}
+use Rattle.bac_device_poller.specs.declared.status.Status.TheVariants.{Done, File}
 
 -- one of these lines goes to the errors
 abbrev pub HasWarning : List LineAs → Type 0
@@ -50,8 +50,10 @@ pub record RisesAsTold (p q : PollerAs) : Type 0 where
 abbrev pub StatusIsTold : Type 0
 StatusIsTold = (p q : PollerAs) (wanted : Next) → GivesBy p.doing p wanted q → RisesAsTold p q
 
--- A log that is on record, and whose poll ends so, leaves no less than the status of that.
+-- A log that is on record, and whose poll ends so, leaves no less than the status of that; one that has no epoch left,
+-- no less than that of this.
 abbrev pub LogsAreCounted : Type 0
-LogsAreCounted = (t : Turned) (p q : PollerAs) (puts : List Put) (u : LogTurned) (why : PollEnd) (polled : Polled)
-    (l : LogAs) → Settles t p puts q → t.log ≡ Some u → u.end ≡ Some why → t.device.polled ≡ Some polled →
-    log_in polled.log p.rows.logs ≡ Some l → code (status_of (Poll why)) ≤ code q.rows.status
+LogsAreCounted = (t : Turned) (p q : PollerAs) (puts : List Put) (u : LogTurned) (why : Ending) (polled : Polled)
+    (l : LogAs) → Settles t p puts q → t.log ≡ Some u → t.device.polled ≡ Some polled →
+    ended_by u.end polled.left ≡ Some why → log_in polled.log p.rows.logs ≡ Some l →
+    min (code (status_of why)) (code File) ≤ code q.rows.status

@@ -5,9 +5,10 @@ use Rattle.bac_poll.specs.State.{ToldAs}
 use Rattle.bac_poll.specs.Turns.{Turned}
 use Rattle.bac_poll_steps.specs.declared.turn.Line.{Line}
 use Rattle.bac_poll_steps.specs.declared.turn.PollEnd.{PollEnd}
+use Rattle.bac_device_poll.specs.Logs.{is_used_up}
 use Rattle.bac_device_poll.specs.declared.task.Polled.{Polled}
 use Rattle.bac_device_poller.specs.Counts.{no_counts}
-use Rattle.bac_device_poller.specs.Ending.{ended_line, is_caught_up, told_line}
+use Rattle.bac_device_poller.specs.Ending.{ended_line, is_caught_up, reason_line, told_line}
 use Rattle.bac_device_poller.specs.Entries.{RowsAs, log_in, putting_log, raising, telling, with_log, without}
 use Rattle.bac_device_poller.specs.Naming.{has_word, with_word}
 use Rattle.bac_device_poller.specs.Puts.{IsPut, PlaceAs, PutAs}
@@ -15,7 +16,7 @@ use Rattle.bac_device_poller.specs.Rows.{LogAs}
 use Rattle.bac_device_poller.specs.Status.{status_of}
 use Rattle.bac_device_poller.specs.declared.counts.Counts.{Counts}
 use Rattle.bac_device_poller.specs.declared.ending.Ending.{Ending}
-use Rattle.bac_device_poller.specs.declared.ending.Ending.TheVariants.{Epochs, Poll}
+use Rattle.bac_device_poller.specs.declared.ending.Ending.TheVariants.{Epochs, Poll, StepLimit}
 
 -- ---- rows
 
@@ -48,10 +49,19 @@ retelling r l word = if has_word word l then with_log r l else putting_log r (wi
 
 -- ---- lines
 
--- how the poll of a log ended: of one without a place by that
-abbrev pub ending_of : Option PlaceAs → PollEnd → Ending
+-- a log that may have no more replies with records in this run has ended at the limit
+abbrev pub limit_end : (left : Option ℕ) → Option Ending
+limit_end left = if is_used_up left then Some StepLimit else None
+
+-- how the poll of a log ended, if it has: by itself, or so
+abbrev pub ended_by : Option PollEnd → (left : Option ℕ) → Option Ending
+ended_by (Some why) left = Some (Poll why)
+ended_by None left = limit_end left
+
+-- of one without a place by that
+abbrev pub ending_of : Option PlaceAs → Ending → Ending
 ending_of None why = Epochs
-ending_of (Some behind) why = Poll why
+ending_of (Some behind) why = why
 
 -- what is told while it is polled
 abbrev pub telling_line : RowsAs → (called : List ℕ) → Option Line → RowsAs
@@ -64,32 +74,41 @@ telling_end r called why next =
     let line : List ℕ = ended_line called r.kept why next in
     record (telling (raising r (status_of why)) (is_caught_up why) line) { kept = no_counts }
 
--- if it has
-abbrev pub telling_any_end : RowsAs → (called : List ℕ) → Option PlaceAs → Option PollEnd → (next : ℕ) → RowsAs
-telling_any_end r called behind None next = r
-telling_any_end r called behind (Some why) next = telling_end r called (ending_of behind why) next
+-- a line to the errors, if there is one
+abbrev pub telling_any : RowsAs → Option (List ℕ) → RowsAs
+telling_any r None = r
+telling_any r (Some text) = telling r false text
 
--- both
-abbrev pub telling_turn : RowsAs → (called : List ℕ) → Option PlaceAs → Turned → RowsAs
-telling_turn r called behind t =
-    telling_any_end (telling_line r called t.line) called behind t.end t.poll.next
+-- and behind it why it failed
+abbrev pub telling_ending : RowsAs → (called : List ℕ) → Ending → (next : ℕ) → RowsAs
+telling_ending r called why next = telling_any (telling_end r called why next) (reason_line called why)
+
+-- if it has
+abbrev pub telling_any_end : RowsAs → (called : List ℕ) → Option PlaceAs → Option Ending → (next : ℕ) → RowsAs
+telling_any_end r called behind None next = r
+telling_any_end r called behind (Some why) next = telling_ending r called (ending_of behind why) next
+
+-- both, of one that may have so many more replies with records
+abbrev pub telling_turn : RowsAs → (called : List ℕ) → Option PlaceAs → (left : Option ℕ) → Turned → RowsAs
+telling_turn r called behind left t =
+    telling_any_end (telling_line r called t.line) called behind (ended_by t.end left) t.poll.next
 
 -- ---- a turn
 
 -- a log with its turn: its rows are put, and its word with them; and behind them its lines are told
-abbrev pub turning : RowsAs → LogAs → Option PlaceAs → List PutAs → Turned → RowsAs
-turning r l behind puts t =
-    retelling (telling_turn (keeping r behind puts t) l.called behind t) (record l { place = behind }) t.poll.word
+abbrev pub turning : RowsAs → LogAs → Option PlaceAs → List PutAs → (left : Option ℕ) → Turned → RowsAs
+turning r l behind puts left t =
+    retelling (telling_turn (keeping r behind puts t) l.called behind left t) (record l { place = behind }) t.poll.word
 
 -- of a log that is on record
-abbrev pub TakesOf : Option LogAs → RowsAs → Turned → RowsAs → Type 0
-TakesOf None old t new = new ≡ old
-TakesOf (Some l) old t new =
+abbrev pub TakesOf : Option LogAs → (left : Option ℕ) → RowsAs → Turned → RowsAs → Type 0
+TakesOf None left old t new = new ≡ old
+TakesOf (Some l) left old t new =
     (behind : Option PlaceAs) × (puts : List PutAs) × IsPlaced l.place t behind puts
-    × (new ≡ turning old l behind puts t)
+    × (new ≡ turning old l behind puts left t)
 
 -- What is put, and told, of a turn of the log that is polled, if there is one.
 abbrev pub TakesLog : Option Turned → Option Polled → RowsAs → RowsAs → Type 0
 TakesLog None polled old new = new ≡ old
 TakesLog (Some t) None old new = new ≡ old
-TakesLog (Some t) (Some q) old new = TakesOf (log_in q.log old.logs) (without q.log old) t new
+TakesLog (Some t) (Some q) old new = TakesOf (log_in q.log old.logs) q.left (without q.log old) t new

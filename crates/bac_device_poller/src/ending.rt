@@ -19,6 +19,8 @@ use std::alloc::{AllocError, Global};
 #[derive(Clone, Copy, Debug, PartialEq, Eq)]
 pub enum Ending {
     Poll(PollEnd),
+    /// It had as many replies with records as it may have in this run, so there may be more.
+    StepLimit,
     /// It began anew, or its numbers came round, once more than a log can have epochs.
     Epochs,
     /// Its device is silent.
@@ -130,6 +132,7 @@ fn push_ending(text: &mut Vec<u8>, why: Ending) -> Result<(), AllocError>
         Ending::Poll(PollEnd::Fault(WalkFault::Lost)) => text.extend_from_slice(b"lost"),
         Ending::Poll(PollEnd::Fault(WalkFault::Refused(refusal))) => push_refusal(text, refusal),
         Ending::Poll(PollEnd::Fault(WalkFault::BadReply)) => text.extend_from_slice(b"bad reply"),
+        Ending::StepLimit => text.extend_from_slice(b"step limit"),
         Ending::Epochs => text.extend_from_slice(b"began anew once too often"),
         Ending::NotAsked => text.extend_from_slice(b"not asked"),
     }
@@ -195,6 +198,7 @@ pub fn is_caught_up(why: Ending) -> bool
         Ending::Poll(PollEnd::NoneByNumber) => false,
         Ending::Poll(PollEnd::Contradicts) => false,
         Ending::Poll(PollEnd::Fault(_)) => false,
+        Ending::StepLimit => false,
         Ending::Epochs => false,
         Ending::NotAsked => false,
     }

@@ -20,6 +20,7 @@ mod log_record;
 mod naming;
 mod poller;
 mod putting;
+mod reason;
 mod rows;
 mod status;
 mod status_laws;

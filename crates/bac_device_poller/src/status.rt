@@ -21,6 +21,8 @@ pub enum Status {
     BadReply,
     /// The archive has no number left for a log, or for an epoch of one.
     File,
+    /// A log ended at its step limit, so there may be more.
+    StepLimit,
 }
 
 impl Status {
@@ -34,6 +36,7 @@ impl Status {
             Status::Refused => 3,
             Status::BadReply => 4,
             Status::File => 6,
+            Status::StepLimit => 8,
         }
     }
 
@@ -62,6 +65,7 @@ pub fn status_of(why: Ending) -> Status
         Ending::Poll(PollEnd::Fault(WalkFault::Lost)) => Status::NoReply,
         Ending::Poll(PollEnd::Fault(WalkFault::Refused(_))) => Status::Refused,
         Ending::Poll(PollEnd::Fault(WalkFault::BadReply)) => Status::BadReply,
+        Ending::StepLimit => Status::StepLimit,
         Ending::Epochs => Status::File,
         Ending::NotAsked => Status::NoReply,
     }

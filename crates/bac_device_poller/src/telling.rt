@@ -121,8 +121,8 @@ pub(crate) fn others_line(
     Ok(line)
 }
 
-// A line that begins with what is told of.
-fn line_of(alloc: Global, called: &[u8], rest: &[u8]) -> Result<Vec<u8>, AllocError>
+/// A line that begins with what is told of.
+pub(crate) fn line_of(alloc: Global, called: &[u8], rest: &[u8]) -> Result<Vec<u8>, AllocError>
     ensures { IfOk result (λ line. line.items ≡ called.now ++ rest.now) }
 {
     let mut line = Vec::new(alloc);

@@ -7,20 +7,22 @@ ghost use Rattle.bac_device_poll.specs.Turns.{of_log};
 ghost use Rattle.bac_device_poller.specs.Entries.{log_in, without};
 ghost use Rattle.bac_device_poller.specs.Puts.{place_as, put_as};
 ghost use Rattle.bac_device_poller.specs.Turns.{IsPlaced, TakesLog, TakesOf, counts_behind};
-ghost use Rattle.bac_device_poller.specs.Turns.{ending_of, keeping};
-ghost use Rattle.bac_device_poller.specs.Turns.{retelling, telling_any_end, telling_end};
+ghost use Rattle.bac_device_poller.specs.Turns.{ended_by, ending_of, keeping};
+ghost use Rattle.bac_device_poller.specs.Turns.{limit_end, retelling, telling_any};
+ghost use Rattle.bac_device_poller.specs.Turns.{telling_any_end, telling_end, telling_ending};
 ghost use Rattle.bac_device_poller.specs.Turns.{telling_line, telling_turn};
 
 use crate::counts::Counts;
 use crate::ending::{Ending, ended_line, is_caught_up, told_line};
 use crate::log_record::LogRecord;
 use crate::putting::{NotPut, put_turn};
+use crate::reason::reason_line;
 use crate::rows::Rows;
 use crate::status::status_of;
 use bac_archive3::Put;
 use bac_device_poll::Polled;
 use bac_keep::Place;
-use bac_poll::{Line, LogPoll, PollEnd, Told, Turn};
+use bac_poll::{Line, PollEnd, Told, Turn};
 use std::alloc::{AllocError, Global};
 
 // What a turn puts, from a place on, and where the next row stands then.
@@ -66,12 +68,33 @@ impl LogRecord {
     }
 }
 
-// How the poll of a log ended.
-fn ending_of(behind: Option<Place>, why: PollEnd) -> Ending
+// The end at the limit, if a log may have no more replies with records.
+fn limit_end(left: Option<u32>) -> Option<Ending>
+    ensures { result ≡ limit_end left }
+{
+    match left {
+        Some(0) => Some(Ending::StepLimit),
+        Some(_) => None,
+        None => None,
+    }
+}
+
+// How the poll of a log ended, if it has.
+fn ended_by(end: Option<PollEnd>, left: Option<u32>) -> Option<Ending>
+    ensures { result ≡ ended_by end left }
+{
+    match end {
+        Some(why) => Some(Ending::Poll(why)),
+        None => limit_end(left),
+    }
+}
+
+// The same of one with this place.
+fn ending_of(behind: Option<Place>, why: Ending) -> Ending
     ensures { result ≡ ending_of (option_map place_as behind) why }
 {
     match behind {
-        Some(_) => Ending::Poll(why),
+        Some(_) => why,
         None => Ending::Epochs,
     }
 }
@@ -146,20 +169,46 @@ impl Rows {
         self.tell(is_caught_up(why), text)
     }
 
+    // A line goes to the errors, if there is one.
+    fn tell_any(&mut self, text: Option<Vec<u8>>) -> Result<(), AllocError>
+        ensures { OnOk result (self.new
+            ≡ telling_any self.old (option_map (λ t. t.items) text)) }
+    {
+        match text {
+            Some(text) => self.tell(false, text),
+            None => Ok(()),
+        }
+    }
+
+    // How that ended, and why it failed.
+    fn tell_ending(
+        &mut self,
+        alloc: Global,
+        called: &[u8],
+        why: Ending,
+        next: u32,
+    ) -> Result<(), AllocError>
+        ensures { OnOk result (self.new ≡ telling_ending self.old called.now why next) }
+    {
+        self.tell_end(alloc, called, why, next)?;
+        let reason = reason_line(alloc, called, why)?;
+        self.tell_any(reason)
+    }
+
     // If it has.
     fn tell_any_end(
         &mut self,
         alloc: Global,
         called: &[u8],
         behind: Option<Place>,
-        end: Option<PollEnd>,
+        end: Option<Ending>,
         next: u32,
     ) -> Result<(), AllocError>
         ensures { OnOk result (self.new
             ≡ telling_any_end self.old called.now (option_map place_as behind) end next) }
     {
         match end {
-            Some(why) => self.tell_end(alloc, called, ending_of(behind, why), next),
+            Some(why) => self.tell_ending(alloc, called, ending_of(behind, why), next),
             None => Ok(()),
         }
     }
@@ -170,15 +219,16 @@ impl Rows {
         alloc: Global,
         called: &[u8],
         behind: Option<Place>,
-        poll: &LogPoll,
+        polled: &Polled,
         turn: &Turn,
     ) -> Result<(), AllocError>
         ensures { OnOk result (self.new
-            ≡ telling_turn self.old called.now (option_map place_as behind)
-            (turned poll.now turn.now)) }
+            ≡ telling_turn self.old called.now (option_map place_as behind) polled.now.left
+            (turned polled.now.poll turn.now)) }
     {
         self.tell_line(alloc, called, turn.line)?;
-        self.tell_any_end(alloc, called, behind, turn.end, poll.next())
+        let end = ended_by(turn.end, polled.left);
+        self.tell_any_end(alloc, called, behind, end, polled.poll.next())
     }
 
     // A log that is on record has a turn.
@@ -186,28 +236,29 @@ impl Rows {
         &mut self,
         alloc: Global,
         held: LogRecord,
-        poll: &LogPoll,
+        polled: &Polled,
         turn: &Turn,
     ) -> Result<(), AllocError>
-        ensures { OnOk result (TakesOf (Some held) self.old (turned poll.now turn.now) self.new) }
+        ensures { OnOk result (TakesOf (Some held) polled.now.left self.old
+            (turned polled.now.poll turn.now) self.new) }
     {
         let (behind, puts) = held.placed(alloc, turn)?;
         self.keep(behind, puts, turn)?;
-        self.tell_turn(alloc, held.called(), behind, poll, turn)?;
+        self.tell_turn(alloc, held.called(), behind, polled, turn)?;
         let mut held = held;
         held.set_place(behind);
-        self.retell(alloc, held, poll.word())?;
+        self.retell(alloc, held, polled.poll.word())?;
         Ok(())
     }
 
     // A log has one, if it is on record.
     fn turn_of(&mut self, alloc: Global, polled: &Polled, turn: &Turn) -> Result<(), AllocError>
-        ensures { OnOk result (TakesOf (log_in polled.now.log self.old.logs)
+        ensures { OnOk result (TakesOf (log_in polled.now.log self.old.logs) polled.now.left
             (without polled.now.log self.old) (turned polled.now.poll turn.now) self.new) }
     {
         match self.take(polled.log) {
             Some(held) => {
-                self.take_turn(alloc, held, &polled.poll, turn)?;
+                self.take_turn(alloc, held, polled, turn)?;
                 Ok(())
             }
             None => Ok(()),

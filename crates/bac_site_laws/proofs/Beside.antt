@@ -6,7 +6,6 @@ use Rattle.bac_wire.specs.Stamp.{CivilTime}
 use Rattle.bac_poll.specs.State.{ToldAs}
 use Rattle.bac_poll.specs.Turns.{Turned as LogTurned}
 use Rattle.bac_poll_steps.specs.declared.turn.Line.{Line}
-use Rattle.bac_poll_steps.specs.declared.turn.PollEnd.{PollEnd}
 use Rattle.bac_device_poll.specs.State.{DeviceState, LogAs as TaskAs}
 use Rattle.bac_device_poll.specs.Turns.{not_asked}
 use Rattle.bac_device_poll.specs.declared.stage.Stage.TheVariants as stage
@@ -16,7 +15,9 @@ use Rattle.bac_device_poller.specs.Naming.{with_word}
 use Rattle.bac_device_poller.specs.Poller.{putting_answered}
 use Rattle.bac_device_poller.specs.Puts.{PlaceAs, PutAs}
 use Rattle.bac_device_poller.specs.Rows.{LogAs}
-use Rattle.bac_device_poller.specs.Turns.{IsPlaced, telling_any_end, telling_line}
+use Rattle.bac_device_poller.specs.Ending.{reason_line}
+use Rattle.bac_device_poller.specs.Turns.{IsPlaced, ending_of, telling_any, telling_any_end, telling_end, telling_line}
+use Rattle.bac_device_poller.specs.declared.ending.Ending.{Ending}
 use Rattle.bac_site_laws.specs.Own.{is_of_log, rows_in}
 use Rattle.bac_site_laws.proofs.LogRows.{turn_rows}
 
@@ -55,10 +56,15 @@ pub line_beside : (r : RowsAs) (called : List ℕ) (o : Option Line) → ((telli
 line_beside r called None = (refl, refl)
 line_beside r called (Some line) = (refl, refl)
 
-pub end_beside : (r : RowsAs) (called : List ℕ) (behind : Option PlaceAs) (o : Option PollEnd) (n : ℕ) →
+any_beside : (r : RowsAs) (o : Option (List ℕ)) → ((telling_any r o).puts ≡ r.puts) × ((telling_any r o).logs ≡ r.logs)
+any_beside r None = (refl, refl)
+any_beside r (Some text) = (refl, refl)
+
+pub end_beside : (r : RowsAs) (called : List ℕ) (behind : Option PlaceAs) (o : Option Ending) (n : ℕ) →
     ((telling_any_end r called behind o n).puts ≡ r.puts) × ((telling_any_end r called behind o n).logs ≡ r.logs)
 end_beside r called behind None n = (refl, refl)
-end_beside r called behind (Some why) n = (refl, refl)
+end_beside r called behind (Some why) n =
+    let e : Ending = ending_of behind why in any_beside (telling_end r called e n) (reason_line called e)
 
 -- a log's own row
 pub record Retold (r s : RowsAs) (l : LogAs) : Type 0 where

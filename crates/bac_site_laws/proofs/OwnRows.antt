@@ -16,7 +16,7 @@ use Rattle.bac_walk.specs.declared.outcome.WalkFault.TheVariants as walk
 use Rattle.bac_drive.specs.declared.machine.Next.{Next}
 use Rattle.bac_drive.specs.declared.machine.Next.TheVariants as next
 use Rattle.bac_poll_steps.specs.declared.turn.PollEnd.TheVariants.{Fault}
-use Rattle.bac_device_poll.specs.Logs.{after_end}
+use Rattle.bac_device_poll.specs.Logs.{after_end, has_ended, left_behind}
 use Rattle.bac_device_poll.specs.Poll.{asked_of_device}
 use Rattle.bac_device_poll.specs.Turns.{Turned as DeviceTurned}
 use Rattle.bac_device_poll.specs.declared.question.Question.{Question}
@@ -33,7 +33,7 @@ use Rattle.bac_device_poller.specs.Turns.{IsPlaced}
 use Rattle.bac_site_poller.specs.SiteLaws.{Answered, Missed, Own, OwnStep, Wanted}
 use Rattle.bac_site_laws.specs.Own.{AreOf, AreRowsOf, EndsBy, HadTurns, IsAtLog, IsOf, IsOneAmong, IsPolled, KeepsTurns, NumbersOnce, OwnStepAt, answers_of}
 use Rattle.bac_site_laws.specs.Laws.{WasGoneBefore}
-use Rattle.bac_site_laws.specs.Own.{RowsAreTold, heard_of, kept_of, poll_after}
+use Rattle.bac_site_laws.specs.Own.{RowsAreTold, heard_of, is_last, kept_of, left_after, poll_after}
 use Rattle.bac_site_laws.specs.Rows.{GoOn, IsNumbered, Stand}
 use Rattle.bac_site_laws.specs.Steps.{AreAsked, AreSteps, Ended, IsAskedBy, IsStep, Step, after_step, put_of, rows_by}
 use Rattle.bac_site_laws.proofs.OwnSteps.{ComesBy, HasNoTurn, HasTurn, own_went, step_rows}
@@ -84,9 +84,15 @@ asked_more : (q : PollState) (step : Step) (steps : List Step) → AreAsked (aft
 asked_more q step [] are none is = is
 asked_more q step (next ∷ steps) are none is = (is, none, are)
 
-ends_more : (q : PollState) (step : Step) (steps : List Step) → EndsBy (after_step q step).poll steps → EndsBy q (step ∷ steps)
-ends_more q step [] ends = elim ends [ ]
-ends_more q step (next ∷ steps) ends = ends
+ends_more : (n : Option ℕ) (q : PollState) (step : Step) (steps : List Step) → EndsBy (left_behind n (after_step q step).records) (after_step q step).poll steps →
+    EndsBy n q (step ∷ steps)
+ends_more n q step [] ends = elim ends [ ]
+ends_more n q step (next ∷ steps) ends = ends
+
+-- one that doesn't end it, doesn't by itself
+goes_none : (e : Option PollEnd) (n : Option ℕ) → has_ended e n ≡ false → e ≡ None
+goes_none None n goes = refl
+goes_none (Some why) n goes = absurd (cc)
 
 -- ---- what is heard
 
@@ -196,7 +202,7 @@ quiet_within p mid answers quiet =
 step_within : (p : PollerAs) (own : Own) (mid : PollerAs) (more : List Own) → OwnStep p own mid → IsWithin (all_of mid more) (all_of p (own ∷ more))
 unfolding all_of
 step_within p (Wanted ids wanted) mid more gives = quiet_within p mid (answers_of more) (gives_quiet p.doing (lent ids p) wanted mid refl gives)
-step_within p Missed mid more is =
+step_within p Missed mid more (waits, is) =
     let Q : PollerAs → Type 0 = λ x. IsQuiet x in quiet_within p mid (answers_of more) (subst Q (sym is) (missed_quiet p))
 step_within p (Answered from datagram now) mid more (fits, is) =
     let doing_is : heard_of mid.doing ≡ datagram ∷ [] = ap (λ (x : PollerAs). heard_of x.doing) is ∙ by (is_answer p from datagram) fits in
@@ -223,89 +229,91 @@ module _ (log : Id) where
   comes_from (doing.Ended why) q step is = absurd is
 
   -- a poll had turns by these answers, and this is kept of it
-  Kept : List (List ℕ) → Option PlaceAs → PollState → List PutAs → PollerAs → Type 0
-  Kept answers o q rows new = (steps : List Step) × HadTurns log o q answers rows new steps
+  Kept : List (List ℕ) → Option PlaceAs → Option ℕ → PollState → List PutAs → PollerAs → Type 0
+  Kept answers o n q rows new = (steps : List Step) × HadTurns {left = n} log o q answers rows new steps
 
-  turn_more : (answers : List (List ℕ)) (o : Option PlaceAs) (q : PollState) (step : Step) (behind : Option PlaceAs) (rows more : List PutAs) (new : PollerAs) → IsAskedBy q step →
-      IsFrom answers q step → IsPlaced o (after_step q step) behind rows → (after_step q step).end ≡ None → Kept answers behind (after_step q step).poll more new →
-      Kept answers o q (rows ++ more) new
+  turn_more : (answers : List (List ℕ)) (o : Option PlaceAs) (n : Option ℕ) (q : PollState) (step : Step) (behind : Option PlaceAs) (rows more : List PutAs) (new : PollerAs) → IsAskedBy q step →
+      IsFrom answers q step → IsPlaced o (after_step q step) behind rows → is_last n q step ≡ false → Kept answers behind (left_behind n (after_step q step).records) (after_step q step).poll more new →
+      Kept answers o n q (rows ++ more) new
   unfolding Kept
-  turn_more answers o q step behind rows more new is from placed none (steps, had) = (
+  turn_more answers o n q step behind rows more new is from placed none (steps, had) = (
     step ∷ steps,
     record {
-      asked = asked_more q step steps had.asked none is;
+      asked = asked_more q step steps had.asked (goes_none (after_step q step).end (left_behind n (after_step q step).records) none) is;
       of = (from, had.of);
       rows_are = (behind, rows, more, refl, placed, had.rows_are);
       leads = on had.leads;
     },
   )
     where
-      on : ((b : Option PlaceAs) × IsAtLog log b (poll_after (after_step q step).poll steps) new) ⊎ EndsBy (after_step q step).poll steps →
-          ((b : Option PlaceAs) × IsAtLog log b (poll_after q (step ∷ steps)) new) ⊎ EndsBy q (step ∷ steps)
+      on : ((b : Option PlaceAs) × IsAtLog log b (left_after (left_behind n (after_step q step).records) (after_step q step).poll steps) (poll_after (after_step q step).poll steps) new)
+          ⊎ EndsBy (left_behind n (after_step q step).records) (after_step q step).poll steps →
+          ((b : Option PlaceAs) × IsAtLog log b (left_after n q (step ∷ steps)) (poll_after q (step ∷ steps)) new) ⊎ EndsBy n q (step ∷ steps)
       on (inl there) = inl there
-      on (inr ends) = inr (ends_more q step steps ends)
+      on (inr ends) = inr (ends_more n q step steps ends)
 
   -- a turn that ends the poll is the last
-  turn_last : (answers : List (List ℕ)) (o : Option PlaceAs) (q : PollState) (step : Step) (behind : Option PlaceAs) (rows more : List PutAs) (new : PollerAs) (why : PollEnd) → IsAskedBy q step →
-      IsFrom answers q step → IsPlaced o (after_step q step) behind rows → (after_step q step).end ≡ Some why → more ≡ [] → Kept answers o q (rows ++ more) new
+  turn_last : (answers : List (List ℕ)) (o : Option PlaceAs) (n : Option ℕ) (q : PollState) (step : Step) (behind : Option PlaceAs) (rows more : List PutAs) (new : PollerAs) → IsAskedBy q step →
+      IsFrom answers q step → IsPlaced o (after_step q step) behind rows → is_last n q step ≡ true → more ≡ [] → Kept answers o n q (rows ++ more) new
   unfolding Kept
-  turn_last answers o q step behind rows more new why is from placed some none = (
+  turn_last answers o n q step behind rows more new is from placed last none = (
     step ∷ [],
-    record { asked = is; of = (from, tt); rows_are = (behind, rows, more, refl, placed, none); leads = inr (why, some) },
+    record { asked = is; of = (from, tt); rows_are = (behind, rows, more, refl, placed, none); leads = inr last },
   )
 
   -- behind one step, by what is kept behind it
-  one_more : (own : Own) (p mid : PollerAs) (o : Option PlaceAs) (q : PollState) (answers : List (List ℕ)) (more : List PutAs) (new : PollerAs) → IsAtLog log o q p → OwnStep p own mid →
+  one_more : (own : Own) (p mid : PollerAs) (o : Option PlaceAs) (n : Option ℕ) (q : PollState) (answers : List (List ℕ)) (more : List PutAs) (new : PollerAs) → IsAtLog log o n q p → OwnStep p own mid →
       IsWithin (heard_of p.doing) answers →
-      ((o2 : Option PlaceAs) (q2 : PollState) → IsAtLog log o2 q2 mid → Kept answers o2 q2 more new) → ((IsPolled log mid → ⊥) → more ≡ []) →
-      Kept answers o q (step_rows log own ++ more) new
-  one_more own p mid o q answers more new at is heard rest over = by (own_went log o q p own mid at is)
+      ((o2 : Option PlaceAs) (n2 : Option ℕ) (q2 : PollState) → IsAtLog log o2 n2 q2 mid → Kept answers o2 n2 q2 more new) → ((IsPolled log mid → ⊥) → more ≡ []) →
+      Kept answers o n q (step_rows log own ++ more) new
+  one_more own p mid o n q answers more new at is heard rest over = by (own_went log o n q p own mid at is)
     where
-      ends : (t : HasTurn log p.doing o q (step_rows log own) mid) (e : Option PollEnd) → (after_step q t.step).end ≡ e → Kept answers o q (step_rows log own ++ more) new
-      ends t None none =
-          turn_more answers o q t.step t.behind (step_rows log own) more new t.asked
-          (from_more (heard_of p.doing) answers q t.step heard (comes_from p.doing q t.step t.comes)) t.placed none (rest t.behind (after_step q t.step).poll (t.goes none))
-      ends t (Some why) some =
-          turn_last answers o q t.step t.behind (step_rows log own) more new why t.asked
-          (from_more (heard_of p.doing) answers q t.step heard (comes_from p.doing q t.step t.comes)) t.placed some (over (t.over why some))
+      ends : (t : HasTurn log p.doing o n q (step_rows log own) mid) (e : Bool) → is_last n q t.step ≡ e → Kept answers o n q (step_rows log own ++ more) new
+      ends t false goes =
+          turn_more answers o n q t.step t.behind (step_rows log own) more new t.asked
+          (from_more (heard_of p.doing) answers q t.step heard (comes_from p.doing q t.step t.comes)) t.placed goes
+          (rest t.behind (left_behind n (after_step q t.step).records) (after_step q t.step).poll (t.goes goes))
+      ends t true last =
+          turn_last answers o n q t.step t.behind (step_rows log own) more new t.asked
+          (from_more (heard_of p.doing) answers q t.step heard (comes_from p.doing q t.step t.comes)) t.placed last (over (t.over last))
 
-      by : HasNoTurn log o q (step_rows log own) mid ⊎ HasTurn log p.doing o q (step_rows log own) mid → Kept answers o q (step_rows log own ++ more) new
+      by : HasNoTurn log o n q (step_rows log own) mid ⊎ HasTurn log p.doing o n q (step_rows log own) mid → Kept answers o n q (step_rows log own ++ more) new
       by (inl same) =
-          let Y : List PutAs → Type 0 = λ l. Kept answers o q (l ++ more) new in
-          subst Y (sym same.none) (rest o q same.stays)
-      by (inr turn) = ends turn (after_step q turn.step).end refl
+          let Y : List PutAs → Type 0 = λ l. Kept answers o n q (l ++ more) new in
+          subst Y (sym same.none) (rest o n q same.stays)
+      by (inr turn) = ends turn (is_last n q turn.step) refl
 
-  kept_more : (some all : List (List ℕ)) (o : Option PlaceAs) (q : PollState) (rows : List PutAs) (new : PollerAs) → IsWithin some all → Kept some o q rows new → Kept all o q rows new
+  kept_more : (some all : List (List ℕ)) (o : Option PlaceAs) (n : Option ℕ) (q : PollState) (rows : List PutAs) (new : PollerAs) → IsWithin some all → Kept some o n q rows new → Kept all o n q rows new
   unfolding Kept
-  kept_more some all o q rows new within (steps, had) = (
+  kept_more some all o n q rows new within (steps, had) = (
     steps,
     record { asked = had.asked; of = of_more some all q steps within had.of; rows_are = had.rows_are; leads = had.leads },
   )
 
-  none_kept : (answers : List (List ℕ)) (o : Option PlaceAs) (q : PollState) (new : PollerAs) → IsAtLog log o q new → Kept answers o q [] new
+  none_kept : (answers : List (List ℕ)) (o : Option PlaceAs) (n : Option ℕ) (q : PollState) (new : PollerAs) → IsAtLog log o n q new → Kept answers o n q [] new
   unfolding Kept
-  none_kept answers o q new at = ([], record { asked = tt; of = tt; rows_are = refl; leads = inl (o, at) })
+  none_kept answers o n q new at = ([], record { asked = tt; of = tt; rows_are = refl; leads = inl (o, at) })
 
-  own_rows : (own : List Own) (p new : PollerAs) (o : Option PlaceAs) (q : PollState) → IsAtLog log o q p → Chain (OwnStepAt log) p own new →
-      Kept (heard_of p.doing ++ answers_of own) o q (kept_of own) new
+  own_rows : (own : List Own) (p new : PollerAs) (o : Option PlaceAs) (n : Option ℕ) (q : PollState) → IsAtLog log o n q p → Chain (OwnStepAt log) p own new →
+      Kept (heard_of p.doing ++ answers_of own) o n q (kept_of own) new
   unfolding all_of
-  own_rows [] p new o q at same =
-      let X : PollerAs → Type 0 = λ x. IsAtLog log o q x in none_kept (heard_of p.doing ++ []) o q new (subst X (sym same) at)
-  own_rows (own ∷ more) p new o q at (mid, (polled, is), chain) =
+  own_rows [] p new o n q at same =
+      let X : PollerAs → Type 0 = λ x. IsAtLog log o n q x in none_kept (heard_of p.doing ++ []) o n q new (subst X (sym same) at)
+  own_rows (own ∷ more) p new o n q at (mid, (polled, is), chain) =
       let A = heard_of p.doing ++ answers_of (own ∷ more) in
-      let X : List PutAs → Type 0 = λ l. Kept A o q l new in
+      let X : List PutAs → Type 0 = λ l. Kept A o n q l new in
       subst X (sym (kept_cons log own more))
-      (one_more own p mid o q A (kept_of more) new at is (within_left (heard_of p.doing) (answers_of (own ∷ more)))
-      (λ o2 q2 there. kept_more (heard_of mid.doing ++ answers_of more) A o2 q2 (kept_of more) new (step_within p own mid more is) (own_rows more mid new o2 q2 there chain))
+      (one_more own p mid o n q A (kept_of more) new at is (within_left (heard_of p.doing) (answers_of (own ∷ more)))
+      (λ o2 n2 q2 there. kept_more (heard_of mid.doing ++ answers_of more) A o2 n2 q2 (kept_of more) new (step_within p own mid more is) (own_rows more mid new o2 n2 q2 there chain))
       (λ not. over_none more mid new not chain))
 
-  pub had_turns : (own : List Own) (p new : PollerAs) (o : Option PlaceAs) (q : PollState) → IsAtLog log o q p → Chain (OwnStepAt log) p own new →
-      (steps : List Step) × HadTurns log o q (heard_of p.doing ++ answers_of own) (kept_of own) new steps
+  pub had_turns : (own : List Own) (p new : PollerAs) (o : Option PlaceAs) (n : Option ℕ) (q : PollState) → IsAtLog log o n q p → Chain (OwnStepAt log) p own new →
+      (steps : List Step) × HadTurns {left = n} log o q (heard_of p.doing ++ answers_of own) (kept_of own) new steps
   unfolding Kept
-  had_turns own p new o q at chain = own_rows own p new o q at chain
+  had_turns own p new o n q at chain = own_rows own p new o n q at chain
 
 pub keeps_turns : KeepsTurns
-keeps_turns = λ log place q p new own at chain. had_turns log own p new place q at chain
+keeps_turns = λ log place left q p new own at chain. had_turns log own p new place left q at chain
 
 -- ---- from a place on
 
@@ -378,16 +386,16 @@ rows_of_steps (Some place) q (step ∷ steps) rows are (Some behind, now, more, 
     )
 
 pub numbers_once : EachShownOnce → NumbersOnce
-numbers_once law = λ log place q p new own at stands chain.
-    let (steps, had) = had_turns log own p new (Some place) q at chain in
+numbers_once law = λ log place left q p new own at stands chain.
+    let (steps, had) = had_turns log own p new (Some place) left q at chain in
     let b = rows_of_steps (Some place) q steps (kept_of own) had.asked had.rows_are in
     let rows = rows_on IsNumbered Whichever numbered law tt place.log place.epoch q b.0 stands (any_steps q b.0 b.1) in
     let X : List PutAs → Type 0 = λ l. GoOn IsNumbered Whichever place.log (record { epoch = place.epoch; next = q.next }) l rows.0 in
     (rows.0, subst X (sym b.2) rows.1)
 
 pub rows_are_told : EachShownOnce → RowsAreTold
-rows_are_told law = λ log place q p new own at chain.
-    let (steps, had) = had_turns log own p new (Some place) q at chain in
+rows_are_told law = λ log place left q p new own at chain.
+    let (steps, had) = had_turns log own p new (Some place) left q at chain in
     let b = rows_of_steps (Some place) q steps (kept_of own) had.asked had.rows_are in
     let start : Stand = record { epoch = place.epoch; next = q.next } in (
       steps,

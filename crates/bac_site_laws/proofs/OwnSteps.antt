@@ -15,7 +15,8 @@ use Rattle.bac_poll.specs.State.{PollState}
 use Rattle.bac_poll.specs.Turns.{Turned as LogTurned, ends}
 use Rattle.bac_poll_steps.specs.declared.turn.PollEnd.{PollEnd}
 use Rattle.bac_poll_steps.specs.declared.turn.PollEnd.TheVariants.{Fault}
-use Rattle.bac_device_poll.specs.Logs.{begins_with, halved, is_too_many, log_after, lost, with_log}
+use Rattle.bac_device_poll.specs.Logs.{begins_with, halved, has_ended, is_too_many, is_used_up, left_behind, log_after}
+use Rattle.bac_device_poll.specs.Logs.{logged, lost, with_log}
 use Rattle.bac_device_poll.specs.Poll.{Takes, answered, asked_of_device, later, verdict_to}
 use Rattle.bac_device_poll.specs.Refusals.{is_busy}
 use Rattle.bac_device_poll.specs.State.{DeviceState, LogAs as TaskAs}
@@ -30,7 +31,7 @@ use Rattle.bac_device_poller.specs.Naming.{has_word}
 use Rattle.bac_device_poller.specs.Poller.{PollerAs, Settles, rows_with}
 use Rattle.bac_device_poller.specs.Puts.{PlaceAs, PutAs, put_as}
 use Rattle.bac_device_poller.specs.Rows.{LogAs}
-use Rattle.bac_device_poller.specs.Turns.{IsPlaced, TakesOf, keeping, telling_line, telling_turn, turning}
+use Rattle.bac_device_poller.specs.Turns.{IsPlaced, TakesOf, ended_by, keeping, telling_line, telling_turn, turning}
 use Rattle.std.proofs.Common.{nat_le}
 use Rattle.bac_link.specs.Transactions.{closed}
 use Rattle.bac_link.specs.declared.request.Request.{Request}
@@ -52,7 +53,7 @@ use Rattle.bac_device_poller.specs.declared.doing.Doing.TheVariants as doing
 use Rattle.bac_site_poller.specs.Seat.{Wants, lent}
 use Rattle.bac_site_poller.specs.SiteLaws.{Answered, Missed, Own, OwnStep, Wanted}
 use Rattle.bac_site_laws.specs.Own.{wanted_rows}
-use Rattle.bac_site_laws.specs.Own.{HasNone, IsAtLog, IsOf, IsOnRecord, IsPolled, WaitsNot, rows_in}
+use Rattle.bac_site_laws.specs.Own.{HasNone, IsAtLog, IsOf, IsOnRecord, IsPolled, WaitsNot, is_last, rows_in}
 use Rattle.bac_site_laws.specs.Steps.{Ended, Fewer, IsAskedBy, Step, after_step}
 use Rattle.bac_site_laws.proofs.Has.{beside_last, found_is, found_last}
 use Rattle.bac_site_laws.proofs.StepsOf.{answer_step}
@@ -78,15 +79,15 @@ module _ (log : Id) where
         once = subst Y (sym (beside_last log xs m none is)) none;
       })
 
-  turn_taken : (old : RowsAs) (row : LogAs) (behind : Option PlaceAs) (puts : List PutAs) (t : LogTurned) → old.puts ≡ [] → is_log log row ≡ true →
+  turn_taken : (old : RowsAs) (row : LogAs) (behind : Option PlaceAs) (puts : List PutAs) (m : Option ℕ) (t : LogTurned) → old.puts ≡ [] → is_log log row ≡ true →
       HasNone log (logs_beside (position (is_log log) old.logs) old.logs) → rows_in puts ≡ puts →
-      let r : RowsAs = turning (without log old) row behind puts t in
+      let r : RowsAs = turning (without log old) row behind puts m t in
       (rows_in r.puts ≡ puts) × IsOnRecord log behind r.logs
-  turn_taken old row behind puts t empty is once all =
+  turn_taken old row behind puts m t empty is once all =
       let a : RowsAs = keeping (without log old) behind puts t in
-      let b : RowsAs = telling_turn a row.called behind t in
+      let b : RowsAs = telling_turn a row.called behind m t in
       let line = line_beside a row.called t.line in
-      let end = end_beside (telling_line a row.called t.line) row.called behind t.end t.poll.next in
+      let end = end_beside (telling_line a row.called t.line) row.called behind (ended_by t.end m) t.poll.next in
       let l : LogAs = record row { place = behind } in
       let w = word_beside (has_word t.poll.word l) b l t.poll.word in
       let puts_is : b.puts ≡ a.puts = end.0 ∙ line.0 in
@@ -97,14 +98,14 @@ module _ (log : Id) where
             (w.logs ∙ ap (λ (x : List LogAs). x ++ w.row ∷ []) logs_is),
       )
 
-  taken : (o : Option PlaceAs) (old r : RowsAs) (t : LogTurned) → IsOnRecord log o old.logs → old.puts ≡ [] →
-      TakesOf (log_in log old.logs) (without log old) t r → Taken o t r
-  taken o old r t on empty takes =
-      let X : Option LogAs → Type 0 = λ x. TakesOf x (without log old) t r in
+  taken : (o : Option PlaceAs) (m : Option ℕ) (old r : RowsAs) (t : LogTurned) → IsOnRecord log o old.logs → old.puts ≡ [] →
+      TakesOf (log_in log old.logs) m (without log old) t r → Taken o t r
+  taken o m old r t on empty takes =
+      let X : Option LogAs → Type 0 = λ x. TakesOf x m (without log old) t r in
       let (behind, puts, placed, is) = subst X on.found takes in
       let Y : Option PlaceAs → Type 0 = λ x. IsPlaced x t behind puts in
       let placed_at = subst Y on.stands placed in
-      let all = turn_taken old on.row behind puts t empty (found_is log on.row old.logs on.found) on.once (placed_rows o t behind puts placed_at) in
+      let all = turn_taken old on.row behind puts m t empty (found_is log on.row old.logs on.found) on.once (placed_rows o t behind puts placed_at) in
       let Z : RowsAs → Type 0 = λ x. (rows_in x.puts ≡ puts) × IsOnRecord log behind x.logs in
       let both = subst Z (sym is) all in
       record { behind = behind; puts = puts; placed = placed_at; rows = both.0; on = both.1 }
@@ -122,36 +123,42 @@ module _ (log : Id) where
   ComesBy (doing.Tells end) q step = ⊥
   ComesBy (doing.Ended why) q step = ⊥
 
-  pub record HasTurn (what : Doing) (o : Option PlaceAs) (q : PollState) (rows : List PutAs) (new : PollerAs) : Type 0 where
+  pub record HasTurn (what : Doing) (o : Option PlaceAs) (n : Option ℕ) (q : PollState) (rows : List PutAs) (new : PollerAs) : Type 0 where
     pub step : Step
     pub asked : IsAskedBy q step
     pub comes : ComesBy what q step
     pub behind : Option PlaceAs
     pub placed : IsPlaced o (after_step q step) behind rows
-    pub goes : (after_step q step).end ≡ None → IsAtLog log behind (after_step q step).poll new
-    pub over : (why : PollEnd) → (after_step q step).end ≡ Some why → IsPolled log new → ⊥
+    pub goes : is_last n q step ≡ false → IsAtLog log behind (left_behind n (after_step q step).records) (after_step q step).poll new
+    pub over : is_last n q step ≡ true → IsPolled log new → ⊥
 
   -- or none
-  pub record HasNoTurn (o : Option PlaceAs) (q : PollState) (rows : List PutAs) (new : PollerAs) : Type 0 where
+  pub record HasNoTurn (o : Option PlaceAs) (n : Option ℕ) (q : PollState) (rows : List PutAs) (new : PollerAs) : Type 0 where
     pub none : rows ≡ []
-    pub stays : IsAtLog log o q new
+    pub stays : IsAtLog log o n q new
 
-  abbrev pub Went : Doing → Option PlaceAs → PollState → List PutAs → PollerAs → Type 0
-  Went what o q rows new = HasNoTurn o q rows new ⊎ HasTurn what o q rows new
+  abbrev pub Went : Doing → Option PlaceAs → Option ℕ → PollState → List PutAs → PollerAs → Type 0
+  Went what o n q rows new = HasNoTurn o n q rows new ⊎ HasTurn what o n q rows new
 
-  at_new : (p : PollerAs) (d : DeviceState) (q : PollState) (o : Option PlaceAs) (r : RowsAs) (what : Doing) → WaitsNot log d.logs → IsOnRecord log o r.logs →
-      IsAtLog log o q (record p { poll = at_log d (record { log = log; poll = q }); doing = what; rows = record r { puts = [] } })
-  at_new p d q o r what waits on = record { stage = refl; polled = refl; waits = waits; record_of = on; empty = refl }
+  at_new : (p : PollerAs) (d : DeviceState) (n : Option ℕ) (q : PollState) (o : Option PlaceAs) (r : RowsAs) (what : Doing) → is_used_up n ≡ false →
+      WaitsNot log d.logs → IsOnRecord log o r.logs →
+      IsAtLog log o n q (record p { poll = at_log d (record { log = log; poll = q; left = n }); doing = what; rows = record r { puts = [] } })
+  at_new p d n q o r what more waits on = record { stage = refl; polled = refl; more = more; waits = waits; record_of = on; empty = refl }
+
+  -- one that may have no more ends with that
+  more_then : (e : Option PollEnd) (n : Option ℕ) → has_ended e n ≡ false → is_used_up n ≡ false
+  more_then None n goes = goes
+  more_then (Some why) n goes = absurd (cc)
 
   -- nothing is polled any more
   at_end : (new : PollerAs) → new.poll.stage ≡ stage.Ended → IsPolled log new → ⊥
-  at_end new ended (q, at, polled) = absurd (let e : stage.Ended ≡ stage.Log = sym ended ∙ at in cc)
+  at_end new ended (q, n, at, polled) = absurd (let e : stage.Ended ≡ stage.Log = sym ended ∙ at in cc)
 
   -- or another log is
-  at_other : (new : PollerAs) (other : Id) (x : PollState) → new.poll.polled ≡ Some (record { log = other; poll = x }) → other ≢ log → IsPolled log new → ⊥
-  at_other new other x is not (q, at, polled) =
-      let a : Polled = record { log = other; poll = x } in
-      let b : Polled = record { log = log; poll = q } in
+  at_other : (new : PollerAs) (other : Polled) → new.poll.polled ≡ Some other → other.log ≢ log → IsPolled log new → ⊥
+  at_other new other is not (q, n, at, polled) =
+      let a : Polled = other in
+      let b : Polled = record { log = log; poll = q; left = n } in
       let e : Some a ≡ Some b = sym is ∙ polled in
       not (ap (λ (y : Polled). y.log) (same_Some a b e))
 
@@ -163,35 +170,35 @@ module _ (log : Id) where
       let s : RowsAs = raising r (status_at Done) in
       (ap rows_in rows ∙ (answered_beside s.answered s).rows, at_end mid (ap (λ (x : PollerAs). x.poll.stage) is))
   next_at (task ∷ tasks) p d r puts mid none (rows, is) =
-      (ap rows_in rows, at_other mid task.log _ (ap (λ (x : PollerAs). x.poll.polled) is) none.0)
+      (ap rows_in rows, at_other mid _ (ap (λ (x : PollerAs). x.poll.polled) is) none.0)
 
   -- ---- what comes of its question
 
-  module _ (what : Doing) (p : PollerAs) (d : DeviceState) (o : Option PlaceAs) (q : PollState) (waits : WaitsNot log d.logs) (on : IsOnRecord log o p.rows.logs) (empty : p.rows.puts ≡ []) where
+  module _ (what : Doing) (p : PollerAs) (d : DeviceState) (o : Option PlaceAs) (n : Option ℕ) (q : PollState) (more : is_used_up n ≡ false) (waits : WaitsNot log d.logs) (on : IsOnRecord log o p.rows.logs) (empty : p.rows.puts ≡ []) where
     me : Polled
-    me = record { log = log; poll = q }
+    me = record { log = log; poll = q; left = n }
 
     here : PollerAs
     here = record p { poll = at_log d me }
 
-    busy_went : (puts : List Put) (mid : PollerAs) → Settles (later (at_log d me)) here puts mid → Went what o q (rows_in (map put_as puts)) mid
+    busy_went : (puts : List Put) (mid : PollerAs) → Settles (later (at_log d me)) here puts mid → Went what o n q (rows_in (map put_as puts)) mid
     unfolding me here
     busy_went puts mid (r, same, (rows, is)) =
-        let X : PollerAs → Type 0 = λ x. IsAtLog log o q x in
+        let X : PollerAs → Type 0 = λ x. IsAtLog log o n q x in
         let Y : RowsAs → Type 0 = λ x. IsOnRecord log o x.logs in
         inl (record {
           none = ap rows_in rows ∙ ap (λ (x : RowsAs). rows_in x.puts) same ∙ ap rows_in empty;
-          stays = subst X (sym is) (at_new p (record d { busy = d.busy + 1; doubt = false }) q o r _ waits (subst Y (sym same) on));
+          stays = subst X (sym is) (at_new p (record d { busy = d.busy + 1; doubt = false }) n q o r _ more waits (subst Y (sym same) on));
         })
 
     fewer_placed : (x : Option PlaceAs) → IsPlaced x (after_step q Fewer) x []
     fewer_placed None = (refl, refl)
     fewer_placed (Some place) = (refl, refl, refl)
 
-    halved_went : ComesBy what q Fewer → (puts : List Put) (mid : PollerAs) → Settles (halved (answered (at_log d me)) me) here puts mid → Went what o q (rows_in (map put_as puts)) mid
+    halved_went : ComesBy what q Fewer → (puts : List Put) (mid : PollerAs) → Settles (halved (answered (at_log d me)) me) here puts mid → Went what o n q (rows_in (map put_as puts)) mid
     unfolding me here
     halved_went comes puts mid (r, same, (rows, is)) =
-        let X : PollerAs → Type 0 = λ x. IsAtLog log o (after_too_many q) x in
+        let X : PollerAs → Type 0 = λ x. IsAtLog log o n (after_too_many q) x in
         let Y : RowsAs → Type 0 = λ x. IsOnRecord log o x.logs in
         let none : rows_in (map put_as puts) ≡ [] = ap rows_in rows ∙ ap (λ (x : RowsAs). rows_in x.puts) same ∙ ap rows_in empty in
         let Z : List PutAs → Type 0 = λ x. IsPlaced o (after_step q Fewer) o x in
@@ -201,38 +208,39 @@ module _ (log : Id) where
           comes = comes;
           behind = o;
           placed = subst Z (sym none) (fewer_placed o);
-          goes = λ end. subst X (sym is) (at_new p (record (answered d) { many = (after_too_many q).walk.count }) (after_too_many q) o r _ waits (subst Y (sym same) on));
-          over = λ why end. absurd (cc);
+          goes = λ end. subst X (sym is) (at_new p (record (answered d) { many = (after_too_many q).walk.count }) n (after_too_many q) o r _ more waits (subst Y (sym same) on));
+          over = λ end. absurd (let both : false ≡ true = sym more ∙ end in cc);
         })
 
     -- its poll has this turn
-    turn_by : (e : Option PollEnd) (d2 : DeviceState) (step : Step) (t : LogTurned) (puts : List Put) (mid : PollerAs) → d2.logs ≡ d.logs → IsAskedBy q step → ComesBy what q step →
-        record t { end = e } ≡ after_step q step → Settles (with_log (at_log d2 me) me (record t { end = e })) here puts mid → Went what o q (rows_in (map put_as puts)) mid
+    turn_by : (ended : Bool) (d2 : DeviceState) (step : Step) (t : LogTurned) (puts : List Put) (mid : PollerAs) → d2.logs ≡ d.logs → IsAskedBy q step → ComesBy what q step →
+        t ≡ after_step q step → has_ended t.end (left_behind n t.records) ≡ ended → Settles (logged ended (at_log d2 me) me t) here puts mid → Went what o n q (rows_in (map put_as puts)) mid
     unfolding me here
-    turn_by None d2 step t puts mid logs asked comes same (r, takes, (rows, is)) =
-        let a = taken o p.rows r (record t { end = None }) on empty takes in
-        let X : PollerAs → Type 0 = λ x. IsAtLog log a.behind t.poll x in
+    turn_by false d2 step t puts mid logs asked comes same last (r, takes, (rows, is)) =
+        let left : Option ℕ = left_behind n t.records in
+        let a = taken o left p.rows r t on empty takes in
+        let X : PollerAs → Type 0 = λ x. IsAtLog log a.behind left t.poll x in
         let W : List TaskAs → Type 0 = λ x. WaitsNot log x in
         let all : a.puts ≡ rows_in (map put_as puts) = sym a.rows ∙ sym (ap rows_in rows) in
         let Z : List PutAs → Type 0 = λ x. IsPlaced o (after_step q step) a.behind x in
         let V : LogTurned → Type 0 = λ x. IsPlaced o x a.behind a.puts in
-        let U : LogTurned → Type 0 = λ x. IsAtLog log a.behind x.poll mid in
-        let N : LogTurned → Type 0 = λ x. (why : PollEnd) → x.end ≡ Some why → IsPolled log mid → ⊥ in
+        let U : LogTurned → Type 0 = λ x. IsAtLog log a.behind (left_behind n x.records) x.poll mid in
+        let N : LogTurned → Type 0 = λ x. has_ended x.end (left_behind n x.records) ≡ false in
         inr (record {
           step = step;
           asked = asked;
           comes = comes;
           behind = a.behind;
           placed = subst Z all (subst V same a.placed);
-          goes = λ end. subst U same (subst X (sym is) (at_new p d2 t.poll a.behind r _ (subst W (sym logs) waits) a.on));
-          over = subst N same (λ why end. absurd (cc));
+          goes = λ end. subst U same (subst X (sym is) (at_new p d2 left t.poll a.behind r _ (more_then t.end left last) (subst W (sym logs) waits) a.on));
+          over = λ end. absurd (let both : false ≡ true = sym (subst N same last) ∙ end in cc);
         })
-    turn_by (Some why) d2 step t puts mid logs asked comes same (r, takes, ended) =
-        let a = taken o p.rows r (record t { end = Some why }) on empty takes in
+    turn_by true d2 step t puts mid logs asked comes same last (r, takes, ended) =
+        let a = taken o (left_behind n t.records) p.rows r t on empty takes in
         let W : List TaskAs → Type 0 = λ x. WaitsNot log x in
         let V : LogTurned → Type 0 = λ x. IsPlaced o x a.behind a.puts in
-        let U : LogTurned → Type 0 = λ x. x.end ≡ None → IsAtLog log a.behind x.poll mid in
-        let b = next_at d2.logs here (with_log (at_log d2 me) me (record t { end = Some why })).device r puts mid (subst W (sym logs) waits) ended in
+        let N : LogTurned → Type 0 = λ x. has_ended x.end (left_behind n x.records) ≡ true in
+        let b = next_at d2.logs here (logged true (at_log d2 me) me t).device r puts mid (subst W (sym logs) waits) ended in
         let all : a.puts ≡ rows_in (map put_as puts) = sym a.rows ∙ sym b.0 in
         let Z : List PutAs → Type 0 = λ x. IsPlaced o (after_step q step) a.behind x in
         inr (record {
@@ -241,17 +249,17 @@ module _ (log : Id) where
           comes = comes;
           behind = a.behind;
           placed = subst Z all (subst V same a.placed);
-          goes = subst U same (λ end. absurd (cc));
-          over = λ reason end. b.1;
+          goes = λ end. absurd (let both : true ≡ false = sym (subst N same last) ∙ end in cc);
+          over = λ end. b.1;
         })
 
     -- the device is silent: its log is lost, and none behind it is asked
     silent_went : ComesBy what q (Ended (Fault walk.Lost)) → (puts : List Put) (mid : PollerAs) →
         Settles (record (leaves (record (at_log d me) { polled = Some me }) [] Silent) { log = Some (ends q (Fault walk.Lost)) }) here puts mid →
-        Went what o q (rows_in (map put_as puts)) mid
+        Went what o n q (rows_in (map put_as puts)) mid
     unfolding me here
     silent_went comes puts mid (r, takes, (rows, is)) =
-        let a = taken o p.rows r (ends q (Fault walk.Lost)) on empty takes in
+        let a = taken o n p.rows r (ends q (Fault walk.Lost)) on empty takes in
         let told = told_beside d.logs r in
         let s : RowsAs = raising (with_entries r (map not_asked d.logs)) (status_at Silent) in
         let beside = answered_beside s.answered s in
@@ -264,32 +272,33 @@ module _ (log : Id) where
           behind = a.behind;
           placed = subst Z all a.placed;
           goes = λ end. absurd (cc);
-          over = λ reason end. at_end mid (ap (λ (x : PollerAs). x.poll.stage) is);
+          over = λ end. at_end mid (ap (λ (x : PollerAs). x.poll.stage) is);
         })
 
-    lost_went : ComesBy what q (Ended (Fault walk.Lost)) → (puts : List Put) (mid : PollerAs) → Settles (lost (at_log d me) me) here puts mid → Went what o q (rows_in (map put_as puts)) mid
+    lost_went : ComesBy what q (Ended (Fault walk.Lost)) → (puts : List Put) (mid : PollerAs) → Settles (lost (at_log d me) me) here puts mid → Went what o n q (rows_in (map put_as puts)) mid
     unfolding me
     lost_went comes puts mid settles = by d.doubt settles
       where
         by : (b : Bool) → Settles (if b then record (leaves (record (at_log d me) { polled = Some me }) [] Silent) { log = Some (ends q (Fault walk.Lost)) }
-            else with_log (record (at_log d me) { doubt = true }) me (ends q (Fault walk.Lost))) here puts mid → Went what o q (rows_in (map put_as puts)) mid
+            else with_log (record (at_log d me) { doubt = true }) me (ends q (Fault walk.Lost))) here puts mid → Went what o n q (rows_in (map put_as puts)) mid
         by true settles = silent_went comes puts mid settles
-        by false settles = turn_by (Some (Fault walk.Lost)) (record d { doubt = true }) (Ended (Fault walk.Lost)) (ends q (Fault walk.Lost)) puts mid refl tt comes refl settles
+        by false settles = turn_by true (record d { doubt = true }) (Ended (Fault walk.Lost)) (ends q (Fault walk.Lost)) puts mid refl tt comes refl refl settles
 
     answer_went : (v : Verdict) (datagram : List ℕ) → ((step : Step) → ((after_step q step ≡ log_after q v datagram) ⊎ (step ≡ Fewer)) → ComesBy what q step) → (puts : List Put) (mid : PollerAs) → Settles (after_log (answered (at_log d me)) v datagram) here puts mid →
-        Went what o q (rows_in (map put_as puts)) mid
+        Went what o n q (rows_in (map put_as puts)) mid
     unfolding me
     answer_went v datagram comes puts mid settles = by (is_too_many q v) settles
       where
         by : (b : Bool) → Settles (if b then halved (answered (at_log d me)) me else with_log (answered (at_log d me)) me (log_after q v datagram)) here puts mid →
-            Went what o q (rows_in (map put_as puts)) mid
+            Went what o n q (rows_in (map put_as puts)) mid
         by true settles = halved_went (comes Fewer (inr refl)) puts mid settles
         by false settles =
             let s = answer_step q v datagram in
-            turn_by (log_after q v datagram).end (answered d) s.step (log_after q v datagram) puts mid refl s.asked (comes s.step (inl (sym s.is))) s.is settles
+            let t : LogTurned = log_after q v datagram in
+            turn_by (has_ended t.end (left_behind n t.records)) (answered d) s.step t puts mid refl s.asked (comes s.step (inl (sym s.is))) s.is refl settles
 
     came_went : (datagram : List ℕ) (now : CivilTime) (t : Turned) (puts : List Put) (mid : PollerAs) → ((step : Step) → IsOf q datagram step → ComesBy what q step) → Takes (at_log d me) datagram now t → Settles t here puts mid →
-        Went what o q (rows_in (map put_as puts)) mid
+        Went what o n q (rows_in (map put_as puts)) mid
     unfolding me
     came_went datagram now t puts mid comes takes settles =
         let v : Verdict = verdict_to (asked_of_device (at_log d me)) (apdu_in datagram) in
@@ -301,65 +310,66 @@ module _ (log : Id) where
   -- ---- any step
 
   -- a device that is at a log, in that form
-  here_is : (o : Option PlaceAs) (q : PollState) (p : PollerAs) → IsAtLog log o q p → p ≡ record p { poll = at_log p.poll (record { log = log; poll = q }) }
-  here_is o q p at =
+  here_is : (o : Option PlaceAs) (n : Option ℕ) (q : PollState) (p : PollerAs) → IsAtLog log o n q p → p ≡ record p { poll = at_log p.poll (record { log = log; poll = q; left = n }) }
+  here_is o n q p at =
       let one : DeviceState → PollerAs = λ x. record p { poll = x } in
       ap one
       (ap (λ (x : Stage). record p.poll { stage = x }) at.stage ∙ ap (λ (x : Option Polled). record p.poll { stage = stage.Log; polled = x }) at.polled)
 
   -- the poll of its log stays as it was, and so do its rows
-  still : (o : Option PlaceAs) (q : PollState) (p new : PollerAs) → IsAtLog log o q p → new.poll ≡ p.poll → new.rows.logs ≡ p.rows.logs → new.rows.puts ≡ p.rows.puts →
-      IsAtLog log o q new
-  still o q p new at poll logs puts =
+  still : (o : Option PlaceAs) (n : Option ℕ) (q : PollState) (p new : PollerAs) → IsAtLog log o n q p → new.poll ≡ p.poll → new.rows.logs ≡ p.rows.logs → new.rows.puts ≡ p.rows.puts →
+      IsAtLog log o n q new
+  still o n q p new at poll logs puts =
       let W : List TaskAs → Type 0 = λ x. WaitsNot log x in
       let R : List LogAs → Type 0 = λ x. IsOnRecord log o x in
       record {
         stage = ap (λ (x : DeviceState). x.stage) poll ∙ at.stage;
         polled = ap (λ (x : DeviceState). x.polled) poll ∙ at.polled;
+        more = at.more;
         waits = subst W (sym (ap (λ (x : DeviceState). x.logs) poll)) at.waits;
         record_of = subst R (sym logs) at.record_of;
         empty = puts ∙ at.empty;
       }
 
-  stay : (what : Doing) (o : Option PlaceAs) (q : PollState) (rows : List PutAs) (p x new : PollerAs) → IsAtLog log o q p → rows ≡ [] → new ≡ x → x.poll ≡ p.poll → x.rows.logs ≡ p.rows.logs → x.rows.puts ≡ p.rows.puts →
-      Went what o q rows new
-  stay what o q rows p x new at none is poll logs puts =
-      let X : PollerAs → Type 0 = λ y. IsAtLog log o q y in
-      inl (record { none = none; stays = subst X (sym is) (still o q p x at poll logs puts) })
+  stay : (what : Doing) (o : Option PlaceAs) (n : Option ℕ) (q : PollState) (rows : List PutAs) (p x new : PollerAs) → IsAtLog log o n q p → rows ≡ [] → new ≡ x → x.poll ≡ p.poll → x.rows.logs ≡ p.rows.logs → x.rows.puts ≡ p.rows.puts →
+      Went what o n q rows new
+  stay what o n q rows p x new at none is poll logs puts =
+      let X : PollerAs → Type 0 = λ y. IsAtLog log o n q y in
+      inl (record { none = none; stays = subst X (sym is) (still o n q p x at poll logs puts) })
 
-  settled : (o : Option PlaceAs) (q : PollState) (p : PollerAs) (t : Turned) (puts : List Put) (mid : PollerAs) → IsAtLog log o q p → Settles t p puts mid →
-      let h : PollerAs = record p { poll = at_log p.poll (record { log = log; poll = q }) } in Settles t h puts mid
-  settled o q p t puts mid at settles =
-      let X : PollerAs → Type 0 = λ x. Settles t x puts mid in subst X (here_is o q p at) settles
+  settled : (o : Option PlaceAs) (n : Option ℕ) (q : PollState) (p : PollerAs) (t : Turned) (puts : List Put) (mid : PollerAs) → IsAtLog log o n q p → Settles t p puts mid →
+      let h : PollerAs = record p { poll = at_log p.poll (record { log = log; poll = q; left = n }) } in Settles t h puts mid
+  settled o n q p t puts mid at settles =
+      let X : PollerAs → Type 0 = λ x. Settles t x puts mid in subst X (here_is o n q p at) settles
 
-  hears_went : (o : Option PlaceAs) (q : PollState) (p : PollerAs) (came : Came) (t : Turned) (puts : List Put) (mid : PollerAs) → IsAtLog log o q p →
-      Comes (seeks p) p came t → Settles t p puts mid → Went (doing.Hears came) o q (rows_in (map put_as puts)) mid
+  hears_went : (o : Option PlaceAs) (n : Option ℕ) (q : PollState) (p : PollerAs) (came : Came) (t : Turned) (puts : List Put) (mid : PollerAs) → IsAtLog log o n q p →
+      Comes (seeks p) p came t → Settles t p puts mid → Went (doing.Hears came) o n q (rows_in (map put_as puts)) mid
   unfolding me here
-  hears_went o q p came t puts mid at comes settles =
+  hears_went o n q p came t puts mid at comes settles =
       let X : PollerAs → Type 0 = λ x. Comes (seeks x) x came t in
-      came_went (doing.Hears came) p p.poll o q at.waits at.record_of at.empty came.datagram came.at t puts mid (λ step is. is) (subst X (here_is o q p at) comes) (settled o q p t puts mid at settles)
+      came_went (doing.Hears came) p p.poll o n q at.more at.waits at.record_of at.empty came.datagram came.at t puts mid (λ step is. is) (subst X (here_is o n q p at) comes) (settled o n q p t puts mid at settles)
 
-  loses_went : (o : Option PlaceAs) (q : PollState) (p : PollerAs) (puts : List Put) (mid : PollerAs) → IsAtLog log o q p → Settles (lost_of p) p puts mid →
-      Went doing.Loses o q (rows_in (map put_as puts)) mid
+  loses_went : (o : Option PlaceAs) (n : Option ℕ) (q : PollState) (p : PollerAs) (puts : List Put) (mid : PollerAs) → IsAtLog log o n q p → Settles (lost_of p) p puts mid →
+      Went doing.Loses o n q (rows_in (map put_as puts)) mid
   unfolding me here
-  loses_went o q p puts mid at settles =
+  loses_went o n q p puts mid at settles =
       let X : PollerAs → Type 0 = λ x. Settles (lost_of x) x puts mid in
-      lost_went doing.Loses p p.poll o q at.waits at.record_of at.empty refl puts mid (subst X (here_is o q p at) settles)
+      lost_went doing.Loses p p.poll o n q at.more at.waits at.record_of at.empty refl puts mid (subst X (here_is o n q p at) settles)
 
-  asks_went : (o : Option PlaceAs) (q : PollState) (p : PollerAs) (k : Question) (r : Request) (wanted : Next) (mid : PollerAs) → IsAtLog log o q p → k ≡ Confirmed r →
-      AsksNext k p wanted mid → Went doing.Asks o q (wanted_rows wanted) mid
-  asks_went o q p (Confirmed request) r (next.Send octets to) mid at is gives = stay doing.Asks o q [] p _ mid at refl gives.2 refl refl refl
-  asks_went o q p (Confirmed request) r (next.Wait within) mid at is gives = absurd gives
-  asks_went o q p (Confirmed request) r next.Read mid at is gives = absurd gives
-  asks_went o q p (Confirmed request) r (next.Keep puts) mid at is gives = absurd gives
-  asks_went o q p (Confirmed request) r (next.Print text) mid at is gives = absurd gives
-  asks_went o q p (Confirmed request) r (next.Warn text) mid at is gives = absurd gives
-  asks_went o q p (Confirmed request) r next.End mid at is gives = absurd gives
-  asks_went o q p WhoIs r wanted mid at is gives = absurd (cc)
-  asks_went o q p Nothing r wanted mid at is gives = absurd (cc)
+  asks_went : (o : Option PlaceAs) (n : Option ℕ) (q : PollState) (p : PollerAs) (k : Question) (r : Request) (wanted : Next) (mid : PollerAs) → IsAtLog log o n q p → k ≡ Confirmed r →
+      AsksNext k p wanted mid → Went doing.Asks o n q (wanted_rows wanted) mid
+  asks_went o n q p (Confirmed request) r (next.Send octets to) mid at is gives = stay doing.Asks o n q [] p _ mid at refl gives.2 refl refl refl
+  asks_went o n q p (Confirmed request) r (next.Wait within) mid at is gives = absurd gives
+  asks_went o n q p (Confirmed request) r next.Read mid at is gives = absurd gives
+  asks_went o n q p (Confirmed request) r (next.Keep puts) mid at is gives = absurd gives
+  asks_went o n q p (Confirmed request) r (next.Print text) mid at is gives = absurd gives
+  asks_went o n q p (Confirmed request) r (next.Warn text) mid at is gives = absurd gives
+  asks_went o n q p (Confirmed request) r next.End mid at is gives = absurd gives
+  asks_went o n q p WhoIs r wanted mid at is gives = absurd (cc)
+  asks_went o n q p Nothing r wanted mid at is gives = absurd (cc)
 
-  asked_is : (o : Option PlaceAs) (q : PollState) (p : PollerAs) → IsAtLog log o q p → asked_of_device p.poll ≡ Confirmed (asked_by_poll q)
-  asked_is o q p at = ap (λ (x : PollerAs). asked_of_device x.poll) (here_is o q p at)
+  asked_is : (o : Option PlaceAs) (n : Option ℕ) (q : PollState) (p : PollerAs) → IsAtLog log o n q p → asked_of_device p.poll ≡ Confirmed (asked_by_poll q)
+  asked_is o n q p at = ap (λ (x : PollerAs). asked_of_device x.poll) (here_is o n q p at)
 
   no_rows : (wanted : Next) → wanted ≡ next.Read → wanted_rows wanted ≡ []
   no_rows wanted is = ap wanted_rows is
@@ -380,40 +390,40 @@ module _ (log : Id) where
   told_rows false text (next.Warn line) is = refl
   told_rows false text next.End is = refl
 
-  tells_went : (o : Option PlaceAs) (q : PollState) (p : PollerAs) (lines : List LineAs) (end : Option DeviceEnd) (wanted : Next) (mid : PollerAs) → IsAtLog log o q p →
-      TellsNext lines end p wanted mid → Went (doing.Tells end) o q (wanted_rows wanted) mid
-  tells_went o q p (line ∷ lines) end wanted mid at tells =
-      stay (doing.Tells end) o q (wanted_rows wanted) p _ mid at (told_rows line.good line.text wanted tells.0) tells.1 refl refl refl
-  tells_went o q p [] end wanted mid at tells = stay (doing.Tells end) o q (wanted_rows wanted) p _ mid at (no_rows wanted tells.0) tells.1 refl refl refl
+  tells_went : (o : Option PlaceAs) (n : Option ℕ) (q : PollState) (p : PollerAs) (lines : List LineAs) (end : Option DeviceEnd) (wanted : Next) (mid : PollerAs) → IsAtLog log o n q p →
+      TellsNext lines end p wanted mid → Went (doing.Tells end) o n q (wanted_rows wanted) mid
+  tells_went o n q p (line ∷ lines) end wanted mid at tells =
+      stay (doing.Tells end) o n q (wanted_rows wanted) p _ mid at (told_rows line.good line.text wanted tells.0) tells.1 refl refl refl
+  tells_went o n q p [] end wanted mid at tells = stay (doing.Tells end) o n q (wanted_rows wanted) p _ mid at (no_rows wanted tells.0) tells.1 refl refl refl
 
-  gives_went : (o : Option PlaceAs) (q : PollState) (what : Doing) (p : PollerAs) (wanted : Next) (mid : PollerAs) → IsAtLog log o q p → Wants what p wanted mid →
-      Went what o q (wanted_rows wanted) mid
-  gives_went o q (doing.Ended why) p wanted mid at gives = stay (doing.Ended why) o q (wanted_rows wanted) p p mid at (no_rows wanted gives.0) gives.1 refl refl refl
-  gives_went o q doing.Asks p wanted mid at gives =
-      asks_went o q p (asked_of_device p.poll) (asked_by_poll q) wanted mid at (asked_is o q p at) gives
-  gives_went o q (doing.Resends datagram) p (next.Send octets to) mid at gives = stay (doing.Resends datagram) o q [] p _ mid at refl gives.2 refl refl refl
-  gives_went o q (doing.Resends datagram) p (next.Wait within) mid at gives = absurd gives
-  gives_went o q (doing.Resends datagram) p next.Read mid at gives = absurd gives
-  gives_went o q (doing.Resends datagram) p (next.Keep puts) mid at gives = absurd gives
-  gives_went o q (doing.Resends datagram) p (next.Print text) mid at gives = absurd gives
-  gives_went o q (doing.Resends datagram) p (next.Warn text) mid at gives = absurd gives
-  gives_went o q (doing.Resends datagram) p next.End mid at gives = absurd gives
-  gives_went o q doing.Waits p wanted mid at gives = stay doing.Waits o q (wanted_rows wanted) p p mid at (no_rows wanted gives.0) gives.1 refl refl refl
-  gives_went o q (doing.Hears came) p (next.Keep puts) mid at (t, comes, settles) = hears_went o q p came t puts.items mid at comes settles
-  gives_went o q (doing.Hears came) p (next.Send octets to) mid at gives = absurd gives
-  gives_went o q (doing.Hears came) p (next.Wait within) mid at gives = absurd gives
-  gives_went o q (doing.Hears came) p next.Read mid at gives = absurd gives
-  gives_went o q (doing.Hears came) p (next.Print text) mid at gives = absurd gives
-  gives_went o q (doing.Hears came) p (next.Warn text) mid at gives = absurd gives
-  gives_went o q (doing.Hears came) p next.End mid at gives = absurd gives
-  gives_went o q doing.Loses p (next.Keep puts) mid at settles = loses_went o q p puts.items mid at settles
-  gives_went o q doing.Loses p (next.Send octets to) mid at gives = absurd gives
-  gives_went o q doing.Loses p (next.Wait within) mid at gives = absurd gives
-  gives_went o q doing.Loses p next.Read mid at gives = absurd gives
-  gives_went o q doing.Loses p (next.Print text) mid at gives = absurd gives
-  gives_went o q doing.Loses p (next.Warn text) mid at gives = absurd gives
-  gives_went o q doing.Loses p next.End mid at gives = absurd gives
-  gives_went o q (doing.Tells end) p wanted mid at gives = tells_went o q p p.rows.lines end wanted mid at gives
+  gives_went : (o : Option PlaceAs) (n : Option ℕ) (q : PollState) (what : Doing) (p : PollerAs) (wanted : Next) (mid : PollerAs) → IsAtLog log o n q p → Wants what p wanted mid →
+      Went what o n q (wanted_rows wanted) mid
+  gives_went o n q (doing.Ended why) p wanted mid at gives = stay (doing.Ended why) o n q (wanted_rows wanted) p p mid at (no_rows wanted gives.0) gives.1 refl refl refl
+  gives_went o n q doing.Asks p wanted mid at gives =
+      asks_went o n q p (asked_of_device p.poll) (asked_by_poll q) wanted mid at (asked_is o n q p at) gives
+  gives_went o n q (doing.Resends datagram) p (next.Send octets to) mid at gives = stay (doing.Resends datagram) o n q [] p _ mid at refl gives.2 refl refl refl
+  gives_went o n q (doing.Resends datagram) p (next.Wait within) mid at gives = absurd gives
+  gives_went o n q (doing.Resends datagram) p next.Read mid at gives = absurd gives
+  gives_went o n q (doing.Resends datagram) p (next.Keep puts) mid at gives = absurd gives
+  gives_went o n q (doing.Resends datagram) p (next.Print text) mid at gives = absurd gives
+  gives_went o n q (doing.Resends datagram) p (next.Warn text) mid at gives = absurd gives
+  gives_went o n q (doing.Resends datagram) p next.End mid at gives = absurd gives
+  gives_went o n q doing.Waits p wanted mid at gives = stay doing.Waits o n q (wanted_rows wanted) p p mid at (no_rows wanted gives.0) gives.1 refl refl refl
+  gives_went o n q (doing.Hears came) p (next.Keep puts) mid at (t, comes, settles) = hears_went o n q p came t puts.items mid at comes settles
+  gives_went o n q (doing.Hears came) p (next.Send octets to) mid at gives = absurd gives
+  gives_went o n q (doing.Hears came) p (next.Wait within) mid at gives = absurd gives
+  gives_went o n q (doing.Hears came) p next.Read mid at gives = absurd gives
+  gives_went o n q (doing.Hears came) p (next.Print text) mid at gives = absurd gives
+  gives_went o n q (doing.Hears came) p (next.Warn text) mid at gives = absurd gives
+  gives_went o n q (doing.Hears came) p next.End mid at gives = absurd gives
+  gives_went o n q doing.Loses p (next.Keep puts) mid at settles = loses_went o n q p puts.items mid at settles
+  gives_went o n q doing.Loses p (next.Send octets to) mid at gives = absurd gives
+  gives_went o n q doing.Loses p (next.Wait within) mid at gives = absurd gives
+  gives_went o n q doing.Loses p next.Read mid at gives = absurd gives
+  gives_went o n q doing.Loses p (next.Print text) mid at gives = absurd gives
+  gives_went o n q doing.Loses p (next.Warn text) mid at gives = absurd gives
+  gives_went o n q doing.Loses p next.End mid at gives = absurd gives
+  gives_went o n q (doing.Tells end) p wanted mid at gives = tells_went o n q p p.rows.lines end wanted mid at gives
 
   -- what a step of a device keeps of the log
   abbrev pub step_rows : Own → List PutAs
@@ -421,8 +431,8 @@ module _ (log : Id) where
   step_rows (Answered from datagram now) = []
   step_rows Missed = []
 
-  heard_went : (o : Option PlaceAs) (q : PollState) (p mid : PollerAs) (from datagram : List ℕ) (now : CivilTime) → IsAtLog log o q p → mid ≡ heard_by from datagram now p → Went p.doing o q [] mid
-  heard_went o q p mid from datagram now at is = stay p.doing o q [] p (heard_by from datagram now p) mid at refl is (same (is_answer p from datagram)).0 (same (is_answer p from datagram)).1 (same (is_answer p from datagram)).2
+  heard_went : (o : Option PlaceAs) (n : Option ℕ) (q : PollState) (p mid : PollerAs) (from datagram : List ℕ) (now : CivilTime) → IsAtLog log o n q p → mid ≡ heard_by from datagram now p → Went p.doing o n q [] mid
+  heard_went o n q p mid from datagram now at is = stay p.doing o n q [] p (heard_by from datagram now p) mid at refl is (same (is_answer p from datagram)).0 (same (is_answer p from datagram)).1 (same (is_answer p from datagram)).2
     where
       same : (b : Bool) → let x : PollerAs = if b then record p { transactions = closed p.transactions; doing = doing.Hears (record { from = from; datagram = datagram; at = now }); rows = record p.rows { answered = Some now } } else p in
           (x.poll ≡ p.poll) × (x.rows.logs ≡ p.rows.logs) × (x.rows.puts ≡ p.rows.puts)
@@ -448,12 +458,12 @@ module _ (log : Id) where
       same_if p (seeks p) _ _ (same_if p (nat_lt p.sought p.retries) _ _ (refl, refl, refl) (refl, refl, refl))
       (same_if p p.poll.doubt _ _ (refl, refl, refl) (same_without p p.transactions.pending))
 
-  missed_went : (o : Option PlaceAs) (q : PollState) (p mid : PollerAs) → IsAtLog log o q p → mid ≡ missed p → Went p.doing o q [] mid
+  missed_went : (o : Option PlaceAs) (n : Option ℕ) (q : PollState) (p mid : PollerAs) → IsAtLog log o n q p → mid ≡ missed p → Went p.doing o n q [] mid
   unfolding IsSame
-  missed_went o q p mid at is = let s = same_missed p in stay p.doing o q [] p (missed p) mid at refl is s.0 s.1 s.2
+  missed_went o n q p mid at is = let s = same_missed p in stay p.doing o n q [] p (missed p) mid at refl is s.0 s.1 s.2
 
-  pub own_went : (o : Option PlaceAs) (q : PollState) (p : PollerAs) (own : Own) (mid : PollerAs) → IsAtLog log o q p → OwnStep p own mid → Went p.doing o q (step_rows own) mid
-  own_went o q p (Wanted ids wanted) mid at gives =
-      gives_went o q p.doing (lent ids p) wanted mid (still o q p (lent ids p) at refl refl refl) gives
-  own_went o q p (Answered from datagram now) mid at (fits, is) = heard_went o q p mid from datagram now at is
-  own_went o q p Missed mid at is = missed_went o q p mid at is
+  pub own_went : (o : Option PlaceAs) (n : Option ℕ) (q : PollState) (p : PollerAs) (own : Own) (mid : PollerAs) → IsAtLog log o n q p → OwnStep p own mid → Went p.doing o n q (step_rows own) mid
+  own_went o n q p (Wanted ids wanted) mid at gives =
+      gives_went o n q p.doing (lent ids p) wanted mid (still o n q p (lent ids p) at refl refl refl) gives
+  own_went o n q p (Answered from datagram now) mid at (fits, is) = heard_went o n q p mid from datagram now at is
+  own_went o n q p Missed mid at (waits, is) = missed_went o n q p mid at is

@@ -1,5 +1,5 @@
 -- Each device of a site has its own steps, and what a site puts of logs is what they keep.
-use Rattle.std.proofs.Common.{◌≡◌, ◌∙◌, inl, inr, ℕ, ◌+◌, suc, zero, max, Bool, true, false, if◌then◌else◌, All, List, [], ◌∷◌, ◌++◌}
+use Rattle.std.proofs.Common.{◌≡◌, ◌∙◌, inl, inr, ℕ, ◌+◌, ◌&&◌, nat_le, suc, zero, max, Bool, true, false, if◌then◌else◌, All, List, [], ◌∷◌, ◌++◌}
 use Rattle.std.proofs.Common.{append-nil, append_assoc, drop, get_or, map, remove, slice_get, take, Option, Some, None, Ok, Err, refl, sym, ap, subst, arith}
 use Rattle.std.specs.List.{sum_by}
 use Rattle.std.proofs.lemmas.List.{map-append}
@@ -14,14 +14,14 @@ use Rattle.bac_ports.specs.Port.{Receiving}
 use Rattle.bac_drive.specs.Event.{Event, Kept, Printed, Read, Sent, Waited, Warned}
 use Rattle.bac_drive.specs.Happens.{Learns}
 use Rattle.bac_drive.specs.declared.machine.Next.{Next}
-use Rattle.bac_device_poller.specs.Poller.{PollerAs, is_answer, missed}
+use Rattle.bac_device_poller.specs.Poller.{PollerAs, is_answer, is_waiting, missed}
 use Rattle.bac_device_poller.specs.Puts.{PutAs}
 use Rattle.bac_device_poller.specs.declared.doing.Doing.{Doing}
 use Rattle.bac_device_poller.specs.declared.doing.Doing.TheVariants as doing
 use Rattle.bac_site_poller.specs.News.{news_line}
-use Rattle.bac_site_poller.specs.Seat.{is_due, is_known, noticed, seat_heard, seat_read}
+use Rattle.bac_site_poller.specs.Seat.{noticed, seat_heard, seat_read}
 use Rattle.bac_site_poller.specs.Site.{GivesFrom, GivesNews, GivesWaiting, SiteState, due_from, given, heeded}
-use Rattle.bac_site_poller.specs.Site.{SiteHears, noted, put_by, site_heard}
+use Rattle.bac_site_poller.specs.Site.{SiteHears, is_asked_at, noted, put_by, site_heard}
 use Rattle.bac_site_poller.specs.SiteLaws.{Answered, Missed, Own, OwnStep, SiteReads, SiteSteps, Wanted}
 use Rattle.bac_site_poller.specs.declared.news.News.{News}
 use Rattle.bac_site_poller.specs.declared.seat.Seat.{Seat}
@@ -296,11 +296,16 @@ noticed_went : (from datagram : List ℕ) (t : Track) → IsTrack t → Went t (
 noticed_went from datagram t is = went_not t (noticed from datagram t.now) is refl
 
 read_went : (ms : ℕ) (t : Track) → IsTrack t → Went t (seat_read ms t.now)
-read_went ms t is = by (is_due ms t.now)
+read_went ms t is = by (is_waiting t.now.poller.doing) refl
   where
-    by : (b : Bool) → Went t (if b then record t.now { poller = missed t.now.poller; is_repeated = true } else t.now)
-    by true = went_on t (record t.now { poller = missed t.now.poller; is_repeated = true }) Missed is refl refl
-    by false = went_not t t.now is refl
+    by : (w : Bool) → is_waiting t.now.poller.doing ≡ w →
+        Went t (if w && nat_le t.now.due ms then record t.now { poller = missed t.now.poller; is_repeated = true } else t.now)
+    by true waits = due (nat_le t.now.due ms)
+      where
+        due : (b : Bool) → Went t (if b then record t.now { poller = missed t.now.poller; is_repeated = true } else t.now)
+        due true = went_on t (record t.now { poller = missed t.now.poller; is_repeated = true }) Missed is (waits, refl) refl
+        due false = went_not t t.now is refl
+    by false waits = went_not t t.now is refl
 
 -- what is counted stays as it is
 record Told (l : Lists) (new : SiteState) : Type 0 where
@@ -345,9 +350,9 @@ unfolding total
 heard_told l s now (Err fault) at = same_told l s (site_heard now (Err fault) s) at refl refl refl
 heard_told l s now (Ok heard) at = by heard.datagram (site_heard now (Ok heard) s) refl refl refl
   where
-    by : (o : Option (List ℕ)) (new : SiteState) → new.active ≡ given heard.from o now s.active → new.waiting ≡ s.waiting → new.ended ≡ s.ended → Told l new
+    by : (o : Option (List ℕ)) (new : SiteState) → new.active ≡ given (is_asked_at s heard.from) heard.from o now s.active → new.waiting ≡ s.waiting → new.ended ≡ s.ended → Told l new
     by None new active waiting ended = same_told l s new at active waiting ended
-    by (Some datagram) new active waiting ended = known (is_known heard.from s.active) active
+    by (Some datagram) new active waiting ended = known (is_asked_at s heard.from) active
       where
         first : AllWent (seat_heard heard.from datagram now) l.active
         first = all_went (seat_heard heard.from datagram now) (heard_went heard.from datagram now) l.active at.goes

@@ -1,5 +1,5 @@
 -- What the poll of a device keeps of the log that is polled. Read `KeepsTurns`, then `NumbersOnce`.
-use Rattle.std.specs.Prelude.{◌≡◌, ◌≢◌, ◌⊎◌, ℕ, ◌==◌, ◌||◌, Bool, false, List}
+use Rattle.std.specs.Prelude.{◌≡◌, ◌≢◌, ◌⊎◌, ℕ, ◌==◌, ◌||◌, Bool, true, false, List}
 use Rattle.std.specs.Prelude.{[], ◌∷◌, ◌++◌, filter, map, position, Option, Some}
 use Rattle.bac_wire.specs.Primitive.{Id}
 use Rattle.bac_desks.specs.Chain.{Chain}
@@ -10,13 +10,12 @@ use Rattle.bac_link.specs.Exchanges.{verdict_of}
 use Rattle.bac_walk.specs.declared.outcome.WalkFault.TheVariants as walk
 use Rattle.bac_poll.specs.Poll.{asked_by_poll}
 use Rattle.bac_poll.specs.State.{PollState}
-use Rattle.bac_poll_steps.specs.declared.turn.PollEnd.{PollEnd}
 use Rattle.bac_poll_steps.specs.declared.turn.PollEnd.TheVariants.{Fault}
 use Rattle.bac_link.specs.Delivery.{History, Moment}
 use Rattle.bac_walk.specs.declared.batch.Numbered.{Numbered}
 use Rattle.bac_poll_laws.specs.Laws.{HoldsOfEach, IsAmong, IsOneOf, IsStanding, Whichever}
 use Rattle.bac_poll_laws.specs.Logged.{IsLogged}
-use Rattle.bac_device_poll.specs.Logs.{log_after}
+use Rattle.bac_device_poll.specs.Logs.{has_ended, is_used_up, left_behind, log_after}
 use Rattle.bac_device_poll.specs.State.{LogAs as TaskAs}
 use Rattle.bac_device_poll.specs.declared.stage.Stage.TheVariants as stage
 use Rattle.bac_device_poller.specs.Entries.{is_log, log_in, logs_beside}
@@ -106,17 +105,20 @@ abbrev pub WaitsNot : Id → List TaskAs → Type 0
 WaitsNot log [] = Unit {0}
 WaitsNot log (task ∷ tasks) = (task.log ≢ log) × WaitsNot log tasks
 
--- A device's poll is at a log, whose poll stands so, and its rows there.
-pub record IsAtLog (log : Id) (place : Option PlaceAs) (q : PollState) (p : PollerAs) : Type 0 where
+-- A device's poll is at a log, whose poll stands so, and its rows there. It may have so many more replies with records.
+pub record IsAtLog (log : Id) (place : Option PlaceAs) (left : Option ℕ) (q : PollState) (p : PollerAs) : Type 0 where
   pub stage : p.poll.stage ≡ stage.Log
-  pub polled : p.poll.polled ≡ Some (record { log = log; poll = q })
+  pub polled : p.poll.polled ≡ Some (record { log = log; poll = q; left = left })
+  pub more : is_used_up left ≡ false
   pub waits : WaitsNot log p.poll.logs
   pub record_of : IsOnRecord log place p.rows.logs
   pub empty : p.rows.puts ≡ []
 
 -- this log is polled
 abbrev pub IsPolled : Id → PollerAs → Type 0
-IsPolled log p = (q : PollState) × (p.poll.stage ≡ stage.Log) × (p.poll.polled ≡ Some (record { log = log; poll = q }))
+IsPolled log p =
+    (q : PollState) × (left : Option ℕ) × (p.poll.stage ≡ stage.Log)
+    × (p.poll.polled ≡ Some (record { log = log; poll = q; left = left }))
 
 -- what happens to the poll of a device while this log is polled
 abbrev pub OwnStepAt : Id → PollerAs → Own → PollerAs → Type 0
@@ -129,11 +131,22 @@ abbrev pub poll_after : PollState → List Step → PollState
 poll_after q [] = q
 poll_after q (step ∷ steps) = poll_after (after_step q step).poll steps
 
+-- how many more replies with records it may have then
+abbrev pub left_after : Option ℕ → PollState → List Step → Option ℕ
+left_after left q [] = left
+left_after left q (step ∷ steps) =
+    left_after (left_behind left (after_step q step).records) (after_step q step).poll steps
+
+-- the poll of a log ends with this step: by itself, or since it may have no more of them
+abbrev pub is_last : Option ℕ → PollState → Step → Bool
+is_last left q step = has_ended (after_step q step).end (left_behind left (after_step q step).records)
+
 -- the last of them ends its poll
-abbrev pub EndsBy : PollState → List Step → Type 0
-EndsBy q [] = ⊥
-EndsBy q (step ∷ []) = (why : PollEnd) × ((after_step q step).end ≡ Some why)
-EndsBy q (step ∷ next ∷ steps) = EndsBy (after_step q step).poll (next ∷ steps)
+abbrev pub EndsBy : Option ℕ → PollState → List Step → Type 0
+EndsBy left q [] = ⊥
+EndsBy left q (step ∷ []) = is_last left q step ≡ true
+EndsBy left q (step ∷ next ∷ steps) =
+    EndsBy (left_behind left (after_step q step).records) (after_step q step).poll (next ∷ steps)
 
 -- these are the rows of their turns, one behind the other, from a place on; none, once the log has no epoch left
 abbrev pub AreRowsOf : Option PlaceAs → PollState → List Step → List PutAs → Type 0
@@ -144,25 +157,27 @@ AreRowsOf place q (step ∷ steps) rows =
 
 -- A log's poll had these turns, each of them by what one of these answers makes of it or by the loss of its question,
 -- and no other: it is where they lead, or has ended by the last of them; and these are the rows that they put.
-pub record HadTurns (log : Id) (place : Option PlaceAs) (q : PollState) (answers : List (List ℕ))
+pub record HadTurns {left : Option ℕ} (log : Id) (place : Option PlaceAs) (q : PollState) (answers : List (List ℕ))
     (rows : List PutAs) (new : PollerAs) (steps : List Step) : Type 0 where
   pub asked : AreAsked q steps
   pub of : AreOf answers q steps
   pub rows_are : AreRowsOf place q steps rows
-  pub leads : ((behind : Option PlaceAs) × IsAtLog log behind (poll_after q steps) new) ⊎ EndsBy q steps
+  pub leads : ((behind : Option PlaceAs) × IsAtLog log behind (left_after left q steps) (poll_after q steps) new)
+      ⊎ EndsBy left q steps
 
 -- What a device's poll keeps while a log is polled is the rows of that log's own turns, from where it stands.
 abbrev pub KeepsTurns : Type 0
 KeepsTurns =
-    (log : Id) (place : Option PlaceAs) (q : PollState) (p new : PollerAs) (own : List Own) →
-    IsAtLog log place q p → Chain (OwnStepAt log) p own new →
-    (steps : List Step) × HadTurns log place q (heard_of p.doing ++ answers_of own) (kept_of own) new steps
+    (log : Id) (place : Option PlaceAs) (left : Option ℕ) (q : PollState) (p new : PollerAs) (own : List Own) →
+    IsAtLog log place left q p → Chain (OwnStepAt log) p own new →
+    (steps : List Step)
+    × HadTurns {left = left} log place q (heard_of p.doing ++ answers_of own) (kept_of own) new steps
 
 -- So its rows go on, from where it stands: each number comes once.
 abbrev pub NumbersOnce : Type 0
 NumbersOnce =
-    (log : Id) (place : PlaceAs) (q : PollState) (p new : PollerAs) (own : List Own) →
-    IsAtLog log (Some place) q p → IsStanding IsNumbered Whichever q → Chain (OwnStepAt log) p own new →
+    (log : Id) (place : PlaceAs) (left : Option ℕ) (q : PollState) (p new : PollerAs) (own : List Own) →
+    IsAtLog log (Some place) left q p → IsStanding IsNumbered Whichever q → Chain (OwnStepAt log) p own new →
     (t : Stand) × GoOn IsNumbered Whichever place.log (record { epoch = place.epoch; next = q.next }) (kept_of own) t
 
 -- And what they say is what its device said. If its answers show none but these records, and say of no other numbers
@@ -172,9 +187,10 @@ NumbersOnce =
 -- and what a gap covers that isn't doubtful was gone at one of these.
 abbrev pub RowsAreTold : Type 0
 RowsAreTold =
-    (log : Id) (place : PlaceAs) (q : PollState) (p new : PollerAs) (own : List Own) →
-    IsAtLog log (Some place) q p → Chain (OwnStepAt log) p own new →
-    (steps : List Step) × HadTurns log (Some place) q (heard_of p.doing ++ answers_of own) (kept_of own) new steps
+    (log : Id) (place : PlaceAs) (left : Option ℕ) (q : PollState) (p new : PollerAs) (own : List Own) →
+    IsAtLog log (Some place) left q p → Chain (OwnStepAt log) p own new →
+    (steps : List Step)
+    × HadTurns {left = left} log (Some place) q (heard_of p.doing ++ answers_of own) (kept_of own) new steps
     × ((shown : List Numbered) (fronts : List ℕ) → HoldsOfEach IsNumbered shown → IsOneOf fronts 1 →
     IsStanding (IsAmong shown) (IsOneOf fronts) q → AreSteps (IsAmong shown) (IsOneOf fronts) q steps →
     (t : Stand)

@@ -1,6 +1,6 @@
 -- Each poll of a site goes on by its own steps alone.
 use Rattle.std.proofs.Common.{◌≡◌, inl, inr, ℕ, Bool, true, false, if◌then◌else◌, List, [], ◌∷◌, ◌++◌, All, map, max}
-use Rattle.std.proofs.Common.{remove, Option, Some, None, Ok, Err, refl, sym, subst}
+use Rattle.std.proofs.Common.{◌&&◌, nat_le, remove, Option, Some, None, Ok, Err, refl, sym, subst}
 use Rattle.std.specs.List.{Contains}
 use Rattle.std.proofs.lemmas.List.Elements.{All-append, All-contains_itself, All-map, All-push, All-weaker}
 use Rattle.std.proofs.lemmas.List.Elements.{Contains-append_left, Contains-append_right}
@@ -9,12 +9,12 @@ use Rattle.bac_ports.specs.Port.{Receiving}
 use Rattle.bac_drive.specs.Event.{Event, Kept, Printed, Read, Sent, Waited, Warned}
 use Rattle.bac_drive.specs.declared.machine.Next.{Next}
 use Rattle.bac_wire.specs.Stamp.{CivilTime}
-use Rattle.bac_device_poller.specs.Poller.{PollerAs, is_answer, missed}
+use Rattle.bac_device_poller.specs.Poller.{PollerAs, is_answer, is_waiting, missed}
 use Rattle.bac_device_poller.specs.declared.doing.Doing.{Doing}
 use Rattle.bac_device_poller.specs.declared.doing.Doing.TheVariants as doing
-use Rattle.bac_site_poller.specs.Seat.{is_due, is_known, noticed, seat_heard, seat_read}
+use Rattle.bac_site_poller.specs.Seat.{noticed, seat_heard, seat_read}
 use Rattle.bac_site_poller.specs.Site.{GivesFrom, GivesNews, GivesSite, GivesWaiting, SiteState, due_from, given, noted}
-use Rattle.bac_site_poller.specs.Site.{put_by, site_heard, site_read}
+use Rattle.bac_site_poller.specs.Site.{is_asked_at, put_by, site_heard, site_read}
 use Rattle.bac_site_poller.specs.SiteLaws.{Answered, GoAlone, IsGoneOn, Missed, Own, OwnStep, Wanted, seats_of}
 use Rattle.bac_site_poller.specs.SiteLaws.{SiteSteps}
 use Rattle.bac_site_poller.specs.declared.news.News.{News}
@@ -104,20 +104,25 @@ seat_heard_gone start from datagram now s on = by (is_answer s.poller from datag
         let P : Seat → Type 0 = λ x. IsGoneOn start x in subst P (sym ((others_not_heeded from datagram now s).0 fits)) on
 
 seat_read_gone : (start : List Seat) (now : ℕ) (s : Seat) → IsGoneOn start s → IsGoneOn start (seat_read now s)
-seat_read_gone start now s on = by (is_due now s)
+seat_read_gone start now s on = by (is_waiting s.poller.doing) refl
   where
-    by : (b : Bool) → IsGoneOn start (if b then record s { poller = missed s.poller; is_repeated = true } else s)
-    by true = goes_on start s (record s { poller = missed s.poller; is_repeated = true }) Missed refl on
-    by false = on
+    by : (w : Bool) → is_waiting s.poller.doing ≡ w →
+        IsGoneOn start (if w && nat_le s.due now then record s { poller = missed s.poller; is_repeated = true } else s)
+    by true waits = due (nat_le s.due now)
+      where
+        due : (b : Bool) → IsGoneOn start (if b then record s { poller = missed s.poller; is_repeated = true } else s)
+        due true = goes_on start s (record s { poller = missed s.poller; is_repeated = true }) Missed (waits, refl) on
+        due false = on
+    by false waits = on
 
 heard_gone : (start : List Seat) (now : CivilTime) (heard : Receiving) (s : SiteState) → Gone start s → Gone start (site_heard now heard s)
 heard_gone start now (Err fault) s gone = record { active = gone.active; waiting = gone.waiting; ended = gone.ended }
 heard_gone start now (Ok heard) s gone = record { active = by heard.datagram; waiting = gone.waiting; ended = gone.ended }
   where
-    by : (o : Option (List ℕ)) → All (IsGoneOn start) (given heard.from o now s.active)
+    by : (o : Option (List ℕ)) → All (IsGoneOn start) (given (is_asked_at s heard.from) heard.from o now s.active)
     by None = gone.active
     by (Some datagram) =
-        all_heeded (IsGoneOn start) heard.from datagram (λ x on. stays start x (noticed heard.from datagram x) refl on) (is_known heard.from s.active) (map (seat_heard heard.from datagram now) s.active)
+        all_heeded (IsGoneOn start) heard.from datagram (λ x on. stays start x (noticed heard.from datagram x) refl on) (is_asked_at s heard.from) (map (seat_heard heard.from datagram now) s.active)
         (All-map (IsGoneOn start) (seat_heard heard.from datagram now) s.active
         (All-weaker (IsGoneOn start) (λ x. IsGoneOn start (seat_heard heard.from datagram now x)) (λ x on. seat_heard_gone start heard.from datagram now x on) s.active gone.active))
 

@@ -21,9 +21,9 @@ use Rattle.bac_device_poller.specs.Telling.{IsToldBy, LineAs}
 use Rattle.bac_device_poller.specs.declared.doing.Doing.{Doing}
 use Rattle.bac_device_poller.specs.declared.doing.Doing.TheVariants as doing
 use Rattle.bac_site_poller.specs.News.{news_line}
-use Rattle.bac_site_poller.specs.Seat.{Wants, is_known, lent, seat_heard, seat_read}
+use Rattle.bac_site_poller.specs.Seat.{Wants, lent, seat_heard, seat_read}
 use Rattle.bac_site_poller.specs.Site.{GivesFrom, GivesNews, GivesWaiting, SiteState, due_from, given, noted}
-use Rattle.bac_site_poller.specs.Site.{put_by, site_heard}
+use Rattle.bac_site_poller.specs.Site.{is_asked_at, put_by, site_heard}
 use Rattle.bac_site_poller.specs.SiteLaws.{AllHaveEnded, BeginsUnasked, HasEnded, IsNew, is_of, SiteSteps}
 use Rattle.bac_site_poller.specs.declared.news.News.{News}
 use Rattle.bac_site_poller.specs.declared.seat.Seat.{Seat}
@@ -95,11 +95,11 @@ heard_all : (peer : List ℕ) (now : CivilTime) (heard : Receiving) (s : SiteSta
 heard_all peer now (Err fault) s = refl
 heard_all peer now (Ok heard) s = ap (λ (n : ℕ). n + count_by (is_of peer) s.waiting + count_by (is_of peer) s.ended) (by heard.datagram)
   where
-    by : (o : Option (List ℕ)) → count_by (is_of peer) (given heard.from o now s.active) ≡ count_by (is_of peer) s.active
+    by : (o : Option (List ℕ)) → count_by (is_of peer) (given (is_asked_at s heard.from) heard.from o now s.active) ≡ count_by (is_of peer) s.active
     by None = refl
     by (Some datagram) =
         let from = heard.from in
-        sum_heeded (λ (x : Seat). tally (is_of peer x)) from datagram (λ x. refl) (is_known from s.active) (map (seat_heard from datagram now) s.active)
+        sum_heeded (λ (x : Seat). tally (is_of peer x)) from datagram (λ x. refl) (is_asked_at s from) (map (seat_heard from datagram now) s.active)
         ∙ same_all (seat_heard from datagram now) (peer_heard from datagram now) peer s.active
 
 told_all : (peer : List ℕ) (e : Event) (mid new : SiteState) → ToldSite mid e new → count_all peer new ≡ count_all peer mid

@@ -12,9 +12,9 @@ use Rattle.bac_drive.specs.Event.{Event, Kept, Printed, Read, Sent, Waited, Warn
 use Rattle.bac_drive.specs.declared.machine.Next.{Next}
 use Rattle.bac_wire.specs.Stamp.{CivilTime}
 use Rattle.bac_site_poller.specs.Hosts.{limit_of}
-use Rattle.bac_site_poller.specs.Seat.{is_at, is_known, seat_heard, seat_read}
+use Rattle.bac_site_poller.specs.Seat.{is_at, seat_heard, seat_read}
 use Rattle.bac_site_poller.specs.Site.{GivesFrom, GivesNews, GivesWaiting, HasPlaceAt, MayAsk, SiteState, due_from}
-use Rattle.bac_site_poller.specs.Site.{given, limit_at, noted, put_by, site_heard}
+use Rattle.bac_site_poller.specs.Site.{given, is_asked_at, limit_at, noted, put_by, site_heard}
 use Rattle.bac_site_poller.specs.SiteLaws.{KeepsToLimits}
 use Rattle.bac_site_poller.specs.declared.news.News.{News}
 use Rattle.bac_device_poller.specs.declared.doing.Doing.{Doing}
@@ -108,11 +108,11 @@ heard_same : (peer : List ℕ) (now : CivilTime) (heard : Receiving) (s : SiteSt
 heard_same peer now (Err fault) s = refl
 heard_same peer now (Ok heard) s = by heard.datagram
   where
-    by : (o : Option (List ℕ)) → count_by (is_at peer) (given heard.from o now s.active) ≡ count_by (is_at peer) s.active
+    by : (o : Option (List ℕ)) → count_by (is_at peer) (given (is_asked_at s heard.from) heard.from o now s.active) ≡ count_by (is_at peer) s.active
     by None = refl
     by (Some datagram) =
         let from = heard.from in
-        sum_heeded (λ (x : Seat). tally (is_at peer x)) from datagram (λ x. refl) (is_known from s.active) (map (seat_heard from datagram now) s.active)
+        sum_heeded (λ (x : Seat). tally (is_at peer x)) from datagram (λ x. refl) (is_asked_at s from) (map (seat_heard from datagram now) s.active)
         ∙ same_count (seat_heard from datagram now) (peer_heard from datagram now) peer s.active
 
 told_same : (peer : List ℕ) (e : Event) (mid new : SiteState) → ToldSite mid e new → asked peer new ≡ asked peer mid

@@ -1,5 +1,6 @@
 pub mod Places
 pub mod Strays
+pub mod MayBe
 pub mod Statuses
 pub mod Same
 pub mod Told

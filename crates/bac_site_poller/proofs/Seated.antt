@@ -15,9 +15,9 @@ use Rattle.bac_device_poller.specs.Poller.{PollerAs, heard_by, is_waiting, misse
 use Rattle.bac_device_poller.specs.declared.doing.Doing.{Doing}
 use Rattle.bac_device_poller.specs.declared.doing.Doing.TheVariants as doing
 use Rattle.bac_site_poller.specs.Asked.{IsOf, home_of}
-use Rattle.bac_site_poller.specs.Seat.{is_due, is_known, lent, noticed, seat_heard, seat_read}
+use Rattle.bac_site_poller.specs.Seat.{is_due, lent, noticed, seat_heard, seat_read}
 use Rattle.bac_site_poller.specs.Site.{GivesFrom, GivesNews, GivesSite, GivesWaiting, SiteState, due_from, given, noted}
-use Rattle.bac_site_poller.specs.Site.{put_by, site_heard, site_read}
+use Rattle.bac_site_poller.specs.Site.{is_asked_at, put_by, site_heard, site_read}
 use Rattle.bac_site_poller.specs.SiteLaws.{IsUnasked}
 use Rattle.bac_site_poller.specs.declared.news.News.{News}
 use Rattle.bac_site_poller.specs.declared.seat.Seat.{Seat}
@@ -210,11 +210,11 @@ heard_seated start events within now (Ok heard) s seated = record {
   ended = seated.ended;
 }
   where
-    by : (o : Option (List ℕ)) → heard.datagram ≡ o → All (Sits start (events ++ Waited within (Ok heard) ∷ [])) (given heard.from o now s.active)
+    by : (o : Option (List ℕ)) → heard.datagram ≡ o → All (Sits start (events ++ Waited within (Ok heard) ∷ [])) (given (is_asked_at s heard.from) heard.from o now s.active)
     by None is = all_later start events (Waited within (Ok heard) ∷ []) s.active seated.active
     by (Some datagram) is =
         let P : Seat → Type 0 = Sits start (events ++ Waited within (Ok heard) ∷ []) in
-        all_heeded P heard.from datagram (λ x sits. sits_noticed start (events ++ Waited within (Ok heard) ∷ []) heard.from datagram x sits) (is_known heard.from s.active) (map (seat_heard heard.from datagram now) s.active)
+        all_heeded P heard.from datagram (λ x sits. sits_noticed start (events ++ Waited within (Ok heard) ∷ []) heard.from datagram x sits) (is_asked_at s heard.from) (map (seat_heard heard.from datagram now) s.active)
         (All-map P (seat_heard heard.from datagram now) s.active
         (All-weaker (Sits start events) (λ x. P (seat_heard heard.from datagram now x)) (λ x sits. sits_heard start events within heard datagram now x is sits) s.active seated.active))
 

@@ -21,9 +21,9 @@ use Rattle.bac_device_poller.specs.declared.doing.Doing.TheVariants as doing
 use Rattle.bac_device_poller.specs.declared.status.Status.{Status}
 use Rattle.bac_device_poller.specs.declared.status.Status.TheVariants.{Done}
 use Rattle.bac_device_poller.proofs.Statuses.{greater_left, greater_right, wants}
-use Rattle.bac_site_poller.specs.Seat.{Wants, is_due, is_known, lent, seat_heard, seat_read}
+use Rattle.bac_site_poller.specs.Seat.{Wants, is_due, lent, seat_heard, seat_read}
 use Rattle.bac_site_poller.specs.Site.{GivesFrom, GivesNews, GivesWaiting, SiteState, due_from, given, noted}
-use Rattle.bac_site_poller.specs.Site.{put_by, site_heard, site_read}
+use Rattle.bac_site_poller.specs.Site.{is_asked_at, put_by, site_heard, site_read}
 use Rattle.bac_site_poller.specs.SiteLaws.{IsNew, seats_of}
 use Rattle.bac_site_poller.specs.Status.{AreCounted, EndsAreCounted, IsCountedIn, StatusNeverFalls, site_status}
 use Rattle.bac_site_poller.specs.Status.{with_seat}
@@ -219,19 +219,20 @@ mapped_above n f keeps (s ∷ seats) =
     let first = higher n (code s.poller.rows.status) (code (f s).poller.rows.status) k.rises in
     omega (arith, first, mapped_above n f keeps seats, sum_by-cons g s seats, sum_by-cons g (f s) (map f seats))
 
-given_above : (n : ℕ) (from : List ℕ) (o : Option (List ℕ)) (now : CivilTime) (seats : List Seat) → count_by (is_above n) seats ≤ count_by (is_above n) (given from o now seats)
-given_above n from None now seats = omega arith
-given_above n from (Some datagram) now seats =
+given_above : (n : ℕ) (known : Bool) (from : List ℕ) (o : Option (List ℕ)) (now : CivilTime) (seats : List Seat) →
+    count_by (is_above n) seats ≤ count_by (is_above n) (given known from o now seats)
+given_above n known from None now seats = omega arith
+given_above n known from (Some datagram) now seats =
     let f : Seat → Seat = seat_heard from datagram now in
     omega (
       arith,
       mapped_above n f (λ x. heard_keeps from datagram now x.poller) seats,
-      sum_heeded (λ (x : Seat). tally (is_above n x)) from datagram (λ x. refl) (is_known from seats) (map f seats),
+      sum_heeded (λ (x : Seat). tally (is_above n x)) from datagram (λ x. refl) known (map f seats),
     )
 
 heard_above : (n : ℕ) (now : CivilTime) (heard : Receiving) (s : SiteState) → count_above n s ≤ count_above n (site_heard now heard s)
 heard_above n now (Err fault) s = omega arith
-heard_above n now (Ok heard) s = omega (arith, given_above n heard.from heard.datagram now s.active)
+heard_above n now (Ok heard) s = omega (arith, given_above n (is_asked_at s heard.from) heard.from heard.datagram now s.active)
 
 read_above : (n ms : ℕ) (s : SiteState) → count_above n s ≤ count_above n (site_read ms s)
 read_above n ms s = omega (arith, mapped_above n (seat_read (max s.time ms)) (read_keeps (max s.time ms)) s.active)
@@ -312,11 +313,11 @@ heard_held : (now : CivilTime) (heard : Receiving) (s : SiteState) → Held s �
 heard_held now (Err fault) s h = record { active = h.active; waiting = h.waiting; ended = h.ended }
 heard_held now (Ok heard) s h = record { active = by heard.datagram; waiting = h.waiting; ended = h.ended }
   where
-    by : (o : Option (List ℕ)) → All Counts (given heard.from o now s.active)
+    by : (o : Option (List ℕ)) → All Counts (given (is_asked_at s heard.from) heard.from o now s.active)
     by None = h.active
     by (Some datagram) =
         let f : Seat → Seat = seat_heard heard.from datagram now in
-        all_heeded Counts heard.from datagram (λ x on. on) (is_known heard.from s.active) (map f s.active)
+        all_heeded Counts heard.from datagram (λ x on. on) (is_asked_at s heard.from) (map f s.active)
         (mapped_held f (λ x. heard_keeps heard.from datagram now x.poller) s.active h.active)
 
 read_held : (ms : ℕ) (s : SiteState) → Held s → Held (site_read ms s)

@@ -9,8 +9,8 @@ use Rattle.bac_wire.specs.Stamp.{CivilTime}
 use Rattle.bac_ports.specs.Port.{Receiving}
 use Rattle.bac_answers.specs.declared.way.Way.{Way}
 use Rattle.bac_device_poller.specs.Poller.{PollerAs, is_answer, missed}
-use Rattle.bac_site_poller.specs.Seat.{is_at, is_due, is_first, is_known, seat_heard, seat_read}
-use Rattle.bac_site_poller.specs.Site.{IsWithin, SiteState, given, site_heard}
+use Rattle.bac_site_poller.specs.Seat.{is_at, is_due, is_first, seat_heard, seat_read}
+use Rattle.bac_site_poller.specs.Site.{IsWithin, SiteState, given, is_asked_at, site_heard}
 use Rattle.bac_site_poller.specs.SiteLaws.{OthersNotHeeded, StaysWithin}
 use Rattle.bac_site_poller.specs.declared.seat.Seat.{Seat}
 use Rattle.bac_site_poller.proofs.Same.{way_heard, way_missed}
@@ -82,11 +82,11 @@ heard_within : (s : SiteState) → IsWithin s → (now : CivilTime) (heard : Rec
 heard_within s within now (Err fault) = within
 heard_within s within now (Ok heard) = by heard.datagram
   where
-    by : (o : Option (List ℕ)) → IsWithin (record s { is_stale = true; active = given heard.from o now s.active })
+    by : (o : Option (List ℕ)) → IsWithin (record s { is_stale = true; active = given (is_asked_at s heard.from) heard.from o now s.active })
     by None = within
     by (Some datagram) =
         let from = heard.from in
-        let known = is_known from s.active in
+        let known = is_asked_at s from in
         let seats = map (seat_heard from datagram now) s.active in
         let more = mapped (seat_heard from datagram now) (peer_heard from datagram now) (none_heard from datagram now) s.limits.at_once s.limits.at_host s.limits.most s.active within.0 within.1 within.2 in (
           omega (arith, more.0, sum_heeded (λ (x : Seat). tally (is_first x)) from datagram (λ x. refl) known seats),

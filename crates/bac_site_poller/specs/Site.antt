@@ -1,5 +1,5 @@
 -- The polls of many devices over one port, as a machine. Read `GivesSite`, `SiteHears` and `site_read`.
-use Rattle.std.specs.Prelude.{◌≡◌, ◌⊎◌, ℕ, ◌+◌, ◌-◌, ◌<◌, ◌≤◌, ◌&&◌, nat_lt, min, max, Bool, true, false}
+use Rattle.std.specs.Prelude.{◌≡◌, ◌⊎◌, ℕ, ◌+◌, ◌-◌, ◌<◌, ◌≤◌, ◌&&◌, ◌||◌, nat_lt, min, max, Bool, true, false}
 use Rattle.std.specs.Prelude.{if◌then◌else◌}
 use Rattle.std.specs.Prelude.{List, [], ◌∷◌, ◌++◌, All, length, map, remove, slice_get, count_by, Option, None, Some}
 use Rattle.std.specs.Prelude.{Ok, Err}
@@ -55,21 +55,24 @@ fresh_site limits begun ids =
 
 -- ---- what comes
 
--- what came from an address where no device is asked is noticed of each whose open request it would answer
+-- whether a device of the site is at an address: one that is asked now, that waits for its turn, or that has ended
+abbrev pub is_asked_at : SiteState → List ℕ → Bool
+is_asked_at s from = is_known from s.active || (is_known from s.waiting || is_known from s.ended)
+
+-- what came from an address where no device of the site is, is noticed of each whose open request it would answer
 abbrev pub heeded : (known : Bool) → List ℕ → List ℕ → List Seat → List Seat
 heeded known from datagram seats = if known then seats else map (noticed from datagram) seats
 
 -- A datagram came, if it fits one: each poll whose open question it answers has it, and every other one is as it was.
-abbrev pub given : List ℕ → Option (List ℕ) → (now : CivilTime) → List Seat → List Seat
-given from None now seats = seats
-given from (Some datagram) now seats =
-    heeded (is_known from seats) from datagram (map (seat_heard from datagram now) seats)
+abbrev pub given : (known : Bool) → List ℕ → Option (List ℕ) → (now : CivilTime) → List Seat → List Seat
+given known from None now seats = seats
+given known from (Some datagram) now seats = heeded known from datagram (map (seat_heard from datagram now) seats)
 
 -- the same of what came while it waited
 abbrev pub site_heard : (now : CivilTime) → Receiving → SiteState → SiteState
 site_heard now (Err fault) s = record s { is_stale = true }
 site_heard now (Ok heard) s =
-    record s { is_stale = true; active = given heard.from heard.datagram now s.active }
+    record s { is_stale = true; active = given (is_asked_at s heard.from) heard.from heard.datagram now s.active }
 
 -- What came, at the moment as the clock was read last.
 abbrev pub SiteHears : SiteState → Receiving → SiteState → Type 0

@@ -1,6 +1,7 @@
 -- What a site makes of what comes and of time, whoever answers.
 use Rattle.std.specs.Prelude.{true, false, ◌≡◌, ◌⊎◌, ◌≤◌, ◌&&◌, ◌||◌, ◌==◌, nat_lt, max, is_some, ℕ, Bool}
-use Rattle.std.specs.Prelude.{if◌then◌else◌, List, remove, length, [], ◌∷◌, ◌++◌, count_by, Option, None, Some}
+use Rattle.std.specs.Prelude.{if◌then◌else◌, List, remove, length, slice_get, [], ◌∷◌, ◌++◌, count_by, Option, None}
+use Rattle.std.specs.Prelude.{Some, Ok}
 use Rattle.std.specs.List.{All, Contains}
 use Rattle.std.specs.Str.{bytes_eq}
 use Rattle.bac_wire.specs.Stamp.{CivilTime}
@@ -14,17 +15,18 @@ use Rattle.bac_batch.specs.Batch.{Batched, GivesBatched, HearsBatched, ReadsBatc
 use Rattle.bac_batch.specs.Laws.{BatchedSteps, HoldsNothing, Inside, joined}
 use Rattle.bac_link.specs.declared.transactions.Pending.{Pending}
 use Rattle.bac_ports.specs.Port.{Receiving, Sending}
+use Rattle.bac_ports.specs.declared.port.Heard.{Heard}
 use Rattle.bac_poll.specs.Turns.{Turned as LogTurned}
 use Rattle.bac_device_poll.specs.Logs.{after_end}
 use Rattle.bac_device_poll.specs.declared.turn.DeviceEnd.{DeviceEnd}
-use Rattle.bac_device_poller.specs.Poller.{PollerAs, heard_by, is_answer, lost_of, missed, seeks}
+use Rattle.bac_device_poller.specs.Poller.{PollerAs, heard_by, is_answer, is_waiting, lost_of, missed, seeks}
 use Rattle.bac_device_poller.specs.declared.doing.Doing.{Doing}
 use Rattle.bac_device_poller.specs.declared.doing.Doing.TheVariants as doing
 use Rattle.bac_device_poller.specs.declared.ids.Ids.{Ids}
 use Rattle.bac_site_poller.specs.Asked.{AreCome, IsOf, question_of}
-use Rattle.bac_site_poller.specs.Seat.{Wants, is_at, lent, noticed, seat_heard}
+use Rattle.bac_site_poller.specs.Seat.{Wants, is_at, is_stray, lent, noticed, seat_heard}
 use Rattle.bac_site_poller.specs.Site.{GivesSite, IsNextAsked, IsWithin, SiteHears, SiteState, fresh_site}
-use Rattle.bac_site_poller.specs.Site.{limit_at, site_heard, site_read}
+use Rattle.bac_site_poller.specs.Site.{is_asked_at, limit_at, site_heard, site_read}
 use Rattle.bac_site_poller.specs.declared.limits.Limits.{Limits}
 use Rattle.bac_site_poller.specs.declared.seat.Seat.{Seat}
 
@@ -55,6 +57,18 @@ abbrev pub OthersNotHeeded : Type 0
 OthersNotHeeded = (from datagram : List ℕ) (now : CivilTime) (s : Seat) →
     (is_answer s.poller from datagram ≡ false → seat_heard from datagram now s ≡ s)
     × (noticed from datagram s ≡ record s { stray = (noticed from datagram s).stray })
+
+-- What came would answer the open request of a device, but for where it came from, and no device of the site is there.
+abbrev pub MayBeStray : SiteState → Heard → Seat → Type 0
+MayBeStray s heard seat =
+    (datagram : List ℕ) × (heard.datagram ≡ Some datagram) × (is_stray heard.from datagram seat ≡ true)
+    × (is_asked_at s heard.from ≡ false)
+
+-- Only where so it is, it is noticed of a device from where else an answer came.
+abbrev pub StraysMayBe : Type 0
+StraysMayBe = (s : SiteState) (now : CivilTime) (heard : Heard) (place : ℕ) (old new : Seat) →
+    slice_get s.active place ≡ Some old → slice_get (site_heard now (Ok heard) s).active place ≡ Some new →
+    (new.stray ≡ old.stray) ⊎ ((new.stray ≡ Some heard.from) × MayBeStray s heard old)
 
 -- What comes, and time, leave no more open than may be.
 abbrev pub StaysWithin : Type 0
@@ -97,7 +111,7 @@ abbrev pub OwnStep : PollerAs → Own → PollerAs → Type 0
 OwnStep p (Wanted ids wanted) q = Wants p.doing (lent ids p) wanted q
 OwnStep p (Answered from datagram now) q =
     (is_answer p from datagram ≡ true) × (q ≡ heard_by from datagram now p)
-OwnStep p Missed q = q ≡ missed p
+OwnStep p Missed q = (is_waiting p.doing ≡ true) × (q ≡ missed p)
 
 -- the poll of a device is what such steps made of that of one of these
 abbrev pub IsGoneOn : List Seat → Seat → Type 0

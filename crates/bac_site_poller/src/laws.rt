@@ -5,11 +5,18 @@ ghost use Rattle.bac_site_poller.specs.SiteLaws.{BatchesWithin, BeginsUnasked, G
 ghost use Rattle.bac_site_poller.specs.SiteLaws.{KeepsToLimits};
 ghost use Rattle.bac_site_poller.specs.SiteLaws.{LossesBringNone, OpenWithin, OthersNotHeeded};
 ghost use Rattle.bac_site_poller.specs.SiteLaws.{RepeatsAreMarked, SiteRowsCame, SiteSendsAsk};
-ghost use Rattle.bac_site_poller.specs.SiteLaws.{StaysWithin, WantsWithin, WithinLimits};
+ghost use Rattle.bac_site_poller.specs.SiteLaws.{StaysWithin, StraysMayBe, WantsWithin};
+ghost use Rattle.bac_site_poller.specs.SiteLaws.{WithinLimits};
 
 /// A datagram changes nothing for a device that it isn't an answer of.
 pub fn others_not_heeded()
     ensures { OthersNotHeeded }
+{}
+
+/// From where else an answer came is noticed of a device only where it may be so: no device of the
+/// site is there.
+pub fn strays_may_be()
+    ensures { StraysMayBe }
 {}
 
 /// What comes, and time, leave no more open than may be.

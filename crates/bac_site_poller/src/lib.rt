@@ -18,7 +18,8 @@ pub use hosts::Host;
 pub use laws::{
     all_have_ended, ask_in_turn, batches_come, batches_end, batches_within, begins_unasked,
     go_alone, keeps_to_limits, losses_bring_none, open_within, others_not_heeded,
-    repeats_are_marked, site_rows_came, site_sends_ask, stays_within, wants_within, within_limits,
+    repeats_are_marked, site_rows_came, site_sends_ask, stays_within, strays_may_be, wants_within,
+    within_limits,
 };
 pub use limits::Limits;
 pub use news::News;

@@ -4,7 +4,7 @@ ghost use Rattle.std.specs.Prelude.{IfErr, OnOk};
 ghost use Rattle.sqlite.specs.Held.{state};
 ghost use Rattle.sqlite.specs.State.{HasCleanDisk, Survives};
 ghost use Rattle.bac_archive3.specs.Schema.{HasArchive};
-ghost use Rattle.bac_drive.specs.Happens.{Leaves, Runs, Stops, scene};
+ghost use Rattle.bac_drive.specs.Happens.{Leaves, Runs, StaysSettled, Stops, scene};
 ghost use Rattle.bac_site_poller.specs.SiteLaws.{site_acts};
 
 use crate::site::SitePoller;
@@ -40,7 +40,10 @@ pub fn poll_devices<P: Port, C: Clock, S: Alter, W: Write, V: Write>(
         → IfErr result (Stops S.Store
         (site_acts P.sends P.receives_within C.reads)
         (scene site.old port.old clock.old (state S.Store conn.old).now
-        (W.contents output.old) (V.contents errors.old)) (state S.Store conn.new)) }
+        (W.contents output.old) (V.contents errors.old))
+        (scene site.new port.new clock.new (state S.Store conn.new).now
+        (W.contents output.new) (V.contents errors.new)) (state S.Store conn.new).is_open) }
+    ensures settled { StaysSettled (state S.Store conn.old) (state S.Store conn.new) result }
     ensures crash { Survives (state S.Store conn.old) (state S.Store conn.new)
         (Leaves
         (site_acts P.sends P.receives_within C.reads)

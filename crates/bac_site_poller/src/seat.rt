@@ -66,7 +66,7 @@ impl Seat {
         self.poller.awaits(datagram)
     }
 
-    /// A datagram came from an address where no device is asked.
+    /// A datagram came from an address where no device of the site is.
     pub fn notice(&mut self, from: [u8; 6], datagram: &Datagram)
         ensures { self.new ≡ noticed from datagram.now self.old }
     {
@@ -169,14 +169,21 @@ pub fn hear_all(seats: &mut [Seat], from: [u8; 6], datagram: &Datagram, now: Sta
     }
 }
 
-/// Whether one of them is asked at an address.
+/// Whether one of them is at an address.
 pub fn is_known(seats: &[Seat], from: [u8; 6]) -> bool
     ensures { result ≡ is_known from seats.now }
 {
     seats.iter().any(|seat| seat.poller.peer() == from)
 }
 
-/// A datagram came from an address where none of them is asked.
+/// The same of those that wait for their turn.
+pub fn is_queued(seats: &VecDeque<Seat>, from: [u8; 6]) -> bool
+    ensures { result ≡ is_known from seats.now.items }
+{
+    seats.iter().any(|seat| seat.poller.peer() == from)
+}
+
+/// A datagram came from an address where no device of the site is.
 pub fn notice_all(seats: &mut [Seat], from: [u8; 6], datagram: &Datagram)
     ensures { seats.new ≡ map (noticed from datagram.now) seats.old }
 {

@@ -8,7 +8,8 @@ ghost use Rattle.bac_site_poller.specs.News.{news_line};
 ghost use Rattle.bac_site_poller.specs.Site.{GivesFrom, GivesNews, GivesSite, GivesWaiting};
 ghost use Rattle.bac_site_poller.specs.Site.{HasPlace, HasPlaceAt, IsActed, IsAsked, IsNextAsked};
 ghost use Rattle.bac_site_poller.specs.Site.{MayAct, MayAsk, NoneAsked, Rests, SiteHears};
-ghost use Rattle.bac_site_poller.specs.Site.{fresh_site, given, hosts_lost, is_crowded, limit_at};
+ghost use Rattle.bac_site_poller.specs.Site.{fresh_site, given, hosts_lost, is_asked_at};
+ghost use Rattle.bac_site_poller.specs.Site.{is_crowded, limit_at};
 ghost use Rattle.bac_site_poller.specs.Site.{news_lost, noted, put, site_heard, site_read};
 ghost use Rattle.bac_site_poller.specs.Site.{stray_by};
 ghost use Rattle.bac_site_poller.specs.Status.{site_status};
@@ -21,8 +22,8 @@ use crate::limits::Limits;
 use crate::moment::moment_after;
 use crate::news::{News, news_line};
 use crate::seat::{
-    Seat, acting, count_at, count_first, greatest, greatest_queued, hear_all, is_known, nearest,
-    notice_all, read_all, want,
+    Seat, acting, count_at, count_first, greatest, greatest_queued, hear_all, is_known, is_queued,
+    nearest, notice_all, read_all, want,
 };
 use bac_device_poller::{DevicePoller, Doing, Ids, Status, told_by};
 use bac_drive::{Machine, Next};
@@ -124,12 +125,24 @@ impl SitePoller {
         greatest(queued, self.ended.as_slice())
     }
 
+    // Whether a device of the site is at an address: one that is asked now, that waits for its
+    // turn, or that has ended.
+    fn is_asked_at(&self, from: [u8; 6]) -> bool
+        ensures { result ≡ is_asked_at self.now from }
+    {
+        is_known(self.active.as_slice(), from)
+            || is_queued(&self.waiting, from)
+            || is_known(self.ended.as_slice(), from)
+    }
+
     // A datagram came from an address, at a moment.
     fn hear_from(&mut self, from: [u8; 6], datagram: &Datagram, now: Stamp)
-        ensures { self.new
-            ≡ record self.old { active = given from (Some datagram.now) now self.old.active } }
+        ensures { self.new ≡ record self.old {
+          active
+              = given (is_asked_at self.old from) from (Some datagram.now) now self.old.active;
+        } }
     {
-        let is_known = is_known(self.active.as_slice(), from);
+        let is_known = self.is_asked_at(from);
         hear_all(self.active.as_mut_slice(), from, datagram, now);
         if !is_known {
             notice_all(self.active.as_mut_slice(), from, datagram);

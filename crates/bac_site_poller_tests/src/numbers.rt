@@ -32,6 +32,9 @@ const PUT: [i64; 4] = [
 /// The line of the log.
 const CAUGHT_UP: &[u8] = b"device 1 3 records 0 gaps caught up, next 3\n";
 
+/// That of one that has one reply with records.
+const LIMITED: &[u8] = b"device 1 3 records 0 gaps step limit, next 3\n";
+
 /// A record that is kept.
 fn kept(alloc: Global, number: u32, stamp: &str, datum: &str) -> Result<Kept, Fail> {
     let stamp = DateTime::read(stamp).ok_or("no date and time")?;
@@ -61,8 +64,8 @@ fn standing(alloc: Global) -> Result<Standing, Fail> {
     })
 }
 
-/// A device with that log.
-fn site_of(alloc: Global) -> Result<SitePoller, Fail> {
+/// A device with that log, which has so many replies with records, if not as many as come.
+fn site_of(alloc: Global, steps: Option<u32>) -> Result<SitePoller, Fail> {
     let mut tasks = Vec::new(alloc);
     tasks.push(task(1, Begin::Behind(standing(alloc)?))?)?;
     let mut logs = Vec::new(alloc);
@@ -72,7 +75,7 @@ fn site_of(alloc: Global) -> Result<SitePoller, Fail> {
         route: None,
     };
     let mut site = site(alloc, 1, 1)?;
-    site.add(poller(alloc, 1, way, "device", tasks, logs)?)?;
+    site.add(poller(alloc, 1, way, "device", tasks, logs, steps)?)?;
     Ok(site)
 }
 
@@ -96,7 +99,7 @@ fn ids_of(alloc: Global, puts: &[Put]) -> Result<Vec<i64>, AllocError> {
 #[test]
 fn numbers_come_round(rt: HostRuntime) -> Result<(), Fail> {
     let alloc = rt.alloc();
-    let mut rig = Rig::new(alloc, site_of(alloc)?);
+    let mut rig = Rig::new(alloc, site_of(alloc, None)?);
     rig.records.push_back(NEWS)?;
     rig.records.push_back(NEWEST)?;
     let ended = rig.drive(alloc)?;
@@ -106,5 +109,38 @@ fn numbers_come_round(rt: HostRuntime) -> Result<(), Fail> {
     let ids = ids_of(alloc, rig.puts.as_slice())?;
     assert!(rt; ids.as_slice() == PUT.as_slice());
     assert!(rt; rig.printed.as_slice() == CAUGHT_UP);
+    assert!(rt; rig.status() == 0);
+    Ok(())
+}
+
+#[test]
+fn a_log_ends_at_its_step_limit(rt: HostRuntime) -> Result<(), Fail> {
+    let alloc = rt.alloc();
+    for steps in [0, 1] {
+        let mut rig = Rig::new(alloc, site_of(alloc, Some(steps))?);
+        rig.records.push_back(NEWS)?;
+        rig.records.push_back(NEWEST)?;
+        let ended = rig.drive(alloc)?;
+        assert!(rt; ended);
+        // Who it is, its word, and records once.
+        assert!(rt; rig.sends.len() == 4);
+        let ids = ids_of(alloc, rig.puts.as_slice())?;
+        assert!(rt; ids.as_slice() == PUT.as_slice());
+        assert!(rt; rig.printed.as_slice() == LIMITED);
+        assert!(rt; rig.status() == 8);
+    }
+    Ok(())
+}
+
+#[test]
+fn one_that_is_caught_up_with_its_last_reply_is_so(rt: HostRuntime) -> Result<(), Fail> {
+    let alloc = rt.alloc();
+    let mut rig = Rig::new(alloc, site_of(alloc, Some(2))?);
+    rig.records.push_back(NEWS)?;
+    rig.records.push_back(NEWEST)?;
+    let ended = rig.drive(alloc)?;
+    assert!(rt; ended);
+    assert!(rt; rig.printed.as_slice() == CAUGHT_UP);
+    assert!(rt; rig.status() == 0);
     Ok(())
 }

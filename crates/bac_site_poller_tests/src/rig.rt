@@ -83,6 +83,11 @@ impl Rig {
         }
     }
 
+    /// The status that the site leaves, so far.
+    pub fn status(&self) -> u8 {
+        self.site.status().code()
+    }
+
     /// When a request that comes now is answered.
     fn answered_at(&mut self) -> u64 {
         if !self.is_slow {

@@ -69,7 +69,8 @@ pub(crate) fn task(instance: u16, begin: Begin) -> Result<LogTask, Fail> {
     Ok(task)
 }
 
-/// A device with this id that isn't known yet. Each of its requests is repeated once.
+/// A device with this id that isn't known yet. Each of its requests is repeated once, and each of
+/// its logs has so many replies with records, if not as many as come.
 pub(crate) fn poller(
     alloc: Global,
     id: u16,
@@ -77,6 +78,7 @@ pub(crate) fn poller(
     called: &str,
     tasks: Vec<LogTask>,
     logs: Vec<LogRecord>,
+    steps: Option<u32>,
 ) -> Result<DevicePoller, Fail> {
     let known = Known {
         who: None,
@@ -86,7 +88,7 @@ pub(crate) fn poller(
         stopped: Vec::new(alloc),
     };
     let many = Count::new(100).ok_or("no count")?;
-    let poll = DevicePoll::new(alloc, known, tasks, many, 1, false);
+    let poll = DevicePoll::new(alloc, known, tasks, many, 1, false).with_steps(steps);
     let transactions = match &way.route {
         Some(route) => Transactions::through(1, route.clone()?),
         None => Transactions::new(1),
@@ -119,7 +121,7 @@ pub(crate) fn device(
         tasks.push(task(*instance, begin)?)?;
         logs.push(log_record(alloc, called, *instance)?)?;
     }
-    poller(alloc, id, way, called, tasks, logs)
+    poller(alloc, id, way, called, tasks, logs, None)
 }
 
 /// One at a host, without a router.

@@ -21,16 +21,26 @@ const SENDS: [u8; 26] = [
 
 /// Their lines, in the order in which the logs end.
 const BETWEEN: &[u8] = b"first 1 0 records 0 gaps refused: abort 4, next 1\n\
+    first 1: segmentation not supported: the answer is too long for one \
+    datagram; --index=0 and on reads an array in parts, --count=20 a log\n\
     third 3 0 records 0 gaps refused: abort 4, next 1\n\
+    third 3: segmentation not supported: the answer is too long for one \
+    datagram; --index=0 and on reads an array in parts, --count=20 a log\n\
     first 11 0 records 0 gaps refused: abort 4, next 1\n\
+    first 11: segmentation not supported: the answer is too long for one \
+    datagram; --index=0 and on reads an array in parts, --count=20 a log\n\
     silent 2 not asked\nsilent 12 not asked\nsilent 22 not asked\n\
     silent: no answer\n";
 
 /// Those of a device that doesn't answer for some of its logs.
 const LOST: &[u8] = b"third 100 0 records 0 gaps lost, next 1\n\
     third 3 0 records 0 gaps refused: abort 4, next 1\n\
+    third 3: segmentation not supported: the answer is too long for one \
+    datagram; --index=0 and on reads an array in parts, --count=20 a log\n\
     third 101 0 records 0 gaps lost, next 1\n\
     third 33 0 records 0 gaps refused: abort 4, next 1\n\
+    third 33: segmentation not supported: the answer is too long for one \
+    datagram; --index=0 and on reads an array in parts, --count=20 a log\n\
     third 102 0 records 0 gaps lost, next 1\n";
 
 /// Those of one that falls silent.
@@ -38,8 +48,13 @@ const FALLEN: &[u8] = b"third 100 0 records 0 gaps lost, next 1\n\
     third 101 0 records 0 gaps lost, next 1\n\
     third 102 not asked\nthird 103 not asked\n";
 
-/// The line of one that refuses all.
-const REFUSED: &[u8] = b"first 1 0 records 0 gaps refused: error 2 32, next 1\n";
+/// The lines of one that refuses all.
+const REFUSED: &[u8] = b"first 1 0 records 0 gaps refused: error 2 32, next 1\n\
+    first 1: unknown property\n";
+
+/// The line of a silent device, to whose question the answer of another device would fit that came
+/// late.
+const LATE: &[u8] = b"silent 2 not asked\nsilent: no answer\n";
 
 #[test]
 fn silent_devices_are_waited_for_once(rt: HostRuntime) -> Result<(), Fail> {
@@ -114,5 +129,20 @@ fn a_device_may_refuse_all(rt: HostRuntime) -> Result<(), Fail> {
     assert!(rt; rig.sends.as_slice() == [5; 8].as_slice());
     assert!(rt; rig.printed.as_slice() == REFUSED);
     assert!(rt; rig.ms == 6000);
+    Ok(())
+}
+
+#[test]
+fn a_late_answer_of_another_device_is_no_stray(rt: HostRuntime) -> Result<(), Fail> {
+    let alloc = rt.alloc();
+    let mut site = site(alloc, 1, 1)?;
+    site.add(at_host(alloc, 1, "first", &[])?)?;
+    site.add(at_host(alloc, 2, "silent", &[2])?)?;
+    site.add(at_host(alloc, 3, "third", &[])?)?;
+    let mut rig = Rig::new(alloc, site);
+    rig.delay = 3500;
+    let ended = rig.drive(alloc)?;
+    assert!(rt; ended);
+    assert!(rt; rig.printed.as_slice() == LATE);
     Ok(())
 }

@@ -9,19 +9,20 @@ use Rattle.bac_device_poller.proofs.rows.Rows.take_turn.Goals as goal
 
 pub returns : goal.returns
 returns c =
-    let p = c.args.poll.now in
+    let q = c.args.polled.now in
+    let p = q.poll in
     let t = turned p c.args.turn.now in
     let x = option_map place_as c.in_ok-behind.behind in
     let ps = map put_as c.in_ok-behind.puts.items in
     let l = c.args.held in
     let kept = c.in_ok-keep.ensures p in
-    let told = c.in_ok-tell_turn.ensures ∙ ap (λ (called : List ℕ). telling_turn c.keep.new.self called x t) c.called.ensures
-    ∙ ap (λ (r : RowsAs). telling_turn r l.called x t) kept in (
+    let told = c.in_ok-tell_turn.ensures ∙ ap (λ (called : List ℕ). telling_turn c.keep.new.self called x q.left t) c.called.ensures
+    ∙ ap (λ (r : RowsAs). telling_turn r l.called x q.left t) kept in (
       x,
       ps,
       c.in_ok-behind.ensures p,
       c.in_ok-retell.ensures
           ∙ ap (λ (r : RowsAs). retelling r c.set_place.new.self (told_as c.word.result.now)) told
-          ∙ ap (λ (m : LogAs). retelling (telling_turn (keeping c.args.self.now x ps t) l.called x t) m (told_as c.word.result.now)) c.set_place.ensures
-          ∙ ap (λ (w : ToldAs). retelling (telling_turn (keeping c.args.self.now x ps t) l.called x t) (record l { place = x }) w) c.word.ensures,
+          ∙ ap (λ (m : LogAs). retelling (telling_turn (keeping c.args.self.now x ps t) l.called x q.left t) m (told_as c.word.result.now)) c.set_place.ensures
+          ∙ ap (λ (w : ToldAs). retelling (telling_turn (keeping c.args.self.now x ps t) l.called x q.left t) (record l { place = x }) w) c.word.ensures,
     )
