@@ -3,14 +3,15 @@ use Rattle.std.proofs.Common.{◌≡◌, inl, inr, ap, subst, sym, Result, Ok, E
 use Rattle.sqlite.specs.Effect.{Database as Db}
 use Rattle.sqlite.specs.declared.error.Error.{Error}
 use Rattle.sqlite.specs.Held.{Held, state}
-use Rattle.sqlite.specs.State.{IsUnchanged, State}
+use Rattle.sqlite.specs.State.{IsUnchanged}
 use Rattle.sqlite.proofs.Callers.{unchanged_then}
 use Rattle.sqlite_trees.specs.declared.store.Store.{Ghosts}
-use Rattle.bac_archive3.specs.Ask.{IsAsWas}
+use Rattle.bac_archive3.specs.Ask.{IsAsWas, IsLeft}
+use Rattle.bac_archive3.specs.Known.{FailsToKnow}
+use Rattle.bac_archive3.specs.Stands.{HasUnread}
 use Rattle.bac_archive3.specs.Schema.{HasArchive}
 use Rattle.bac_archive3.proofs.AskLemmas.{left_then}
 pub use Rattle.bac_archive3.proofs.AskLemmas.{as_was_behind}
-use Rattle.bac_check3.specs.Tables.{FailsToAnswer, HasUnread, IsUntold}
 use Rattle.bac_check3.specs.Uncounts.{FailsToCount, FailsToRange, HasBackward, HasOverlap, HasTooMany, HasUnreadItem, IsAsLeft, IsUncounted, WhyUncounted}
 use Rattle.bac_check3.specs.declared.tally.Uncounted.{Uncounted}
 use Rattle.bac_check3.specs.declared.tally.Uncounted.TheVariants.{Overlap, Backward, Memory, Database}
@@ -26,10 +27,6 @@ if_ok_then (Err e) P Q h f = tt
 pub if_err_then : {A E : Type 0} (r : Result A E) (P Q : E → Type 0) → IfErr r P → ((e : E) → P e → Q e) → IfErr r Q
 if_err_then (Ok a) P Q h f = tt
 if_err_then (Err e) P Q h f = f e h
-
--- an archive that wasn't changed is still one
-pub has_still : (a b : State) → IsUnchanged a b → HasArchive a.now.schema → HasArchive b.now.schema
-has_still a b same has = subst (λ (d : Db). HasArchive d.schema) (sym same.0.now_is) has
 
 module _ {S : Type 0} (g : Ghosts S) where
   pub still : (a b : Held S) → IsAsWas g a b → (state g b).now ≡ (state g a).now
@@ -57,18 +54,18 @@ module _ {S : Type 0} (g : Ghosts S) where
   was_left a b (inr same) = inr (inl same)
 
   -- what a database that was as it was fails by, it fails by
-  answers_then : (a b c : Held S) (e : Error) → IsAsWas g a b → FailsToAnswer g b c e → FailsToAnswer g a c e
-  answers_then a b c e was (question, mid, is, fails) = (question, mid, as_was_both a b mid was is, fails)
+  knows_then : (a b c : Held S) (e : Error) → IsAsWas g a b → FailsToKnow g b c e → FailsToKnow g a c e
+  knows_then a b c e was (inl (question, mid, is, fails)) = inl (question, mid, as_was_both a b mid was is, fails)
+  knows_then a b c e was (inr it) = inr (subst (λ (d : Db). HasUnread d.trees e) (still a b was) it)
 
   range_then : (a b c : Held S) (e : Error) → IsAsWas g a b → FailsToRange g b c e → FailsToRange g a c e
   range_then a b c e was (range, mid, is, fails) = (range, mid, as_was_both a b mid was is, fails)
 
   counts_then : (a b c : Held S) (e : Error) → IsAsWas g a b → FailsToCount g b c e → FailsToCount g a c e
-  counts_then a b c e was (inl it) = inl (answers_then a b c e was it)
+  counts_then a b c e was (inl it) = inl (knows_then a b c e was it)
   counts_then a b c e was (inr (inl it)) = inr (inl (range_then a b c e was it))
-  counts_then a b c e was (inr (inr (inl it))) = inr (inr (inl (subst (λ (d : Db). HasUnread d.trees e) (still a b was) it)))
-  counts_then a b c e was (inr (inr (inr (inl it)))) = inr (inr (inr (inl (subst (λ (d : Db). HasUnreadItem (d.trees 5) e) (still a b was) it))))
-  counts_then a b c e was (inr (inr (inr (inr it)))) = inr (inr (inr (inr (subst (λ (d : Db). HasTooMany (d.trees 5) e) (still a b was) it))))
+  counts_then a b c e was (inr (inr (inl it))) = inr (inr (inl (subst (λ (d : Db). HasUnreadItem (d.trees 5) e) (still a b was) it)))
+  counts_then a b c e was (inr (inr (inr it))) = inr (inr (inr (subst (λ (d : Db). HasTooMany (d.trees 5) e) (still a b was) it)))
 
   why_then : (a b c : Held S) (why : Uncounted) → IsAsWas g a b → WhyUncounted g b c why → WhyUncounted g a c why
   why_then a b c (Overlap epoch before row) was it = subst (λ (d : Db). HasOverlap (d.trees 5) epoch before row) (still a b was) it
@@ -87,22 +84,6 @@ module _ {S : Type 0} (g : Ghosts S) where
   pub no_memory : (a b : Held S) → IsAsWas g a b → IsUncounted g a b Memory
   no_memory a b was = record { left = was_left a b was; cause = tt }
 
-  -- a table isn't told of what was as it was
-  pub untold_then : (a b c : Held S) (e : Error) → IsUnchanged (state g a) (state g b) → IsUntold g b c e → IsUntold g a c e
-  untold_then a b c e same it = record {
-    left = left_then (state g a) (state g b) (state g c) same it.left;
-    cause = elim it.cause [
-      | inl fails ↦ inl (answers_then a b c e (inr same) fails)
-      | inr unread ↦ inr (subst (λ (d : Db). HasUnread d.trees e) same.0.now_is unread)
-    ];
-  }
-
-  -- so nothing is counted
-  pub untold : (a b : Held S) (e : Error) → IsUntold g a b e → IsUncounted g a b (Database e)
-  untold a b e it = record {
-    left = inr it.left;
-    cause = elim it.cause [
-      | inl fails ↦ inl fails
-      | inr unread ↦ inr (inr (inl unread))
-    ];
-  }
+  -- what it has on record isn't told, so nothing is counted
+  pub unknown : (a b : Held S) (e : Error) → IsLeft (state g a) (state g b) → FailsToKnow g a b e → IsUncounted g a b (Database e)
+  unknown a b e left why = record { left = inr left; cause = inl why }

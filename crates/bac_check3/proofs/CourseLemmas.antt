@@ -22,7 +22,7 @@ use Rattle.bac_check3.specs.Rows.{CountsOn, is_behind, is_new, items_of, span_of
 use Rattle.bac_check3.specs.Holes.{Have, Rise, end_of}
 use Rattle.bac_check3.specs.Tallies.{IsTallied, last_in, newest_of}
 use Rattle.bac_check3.specs.Uncounts.{FailsOnRow, HasOverlap, IsUncounted}
-use Rattle.bac_check3.proofs.AskedLemmas.{has_still}
+use Rattle.bac_archive3.proofs.AskLemmas.{has_still}
 use Rattle.bac_check3.proofs.HoleLemmas.{in_cases, in_head, in_none, in_tail}
 
 -- one row more
@@ -150,5 +150,5 @@ module _ {S : Type 0} (g : Ghosts S) (epoch : ℕ) (old now : Connected S) (give
   row_fails Memory why = record { left = inr (inl same); cause = tt }
   row_fails (Database e) why = record {
     left = inr (inl same);
-    cause = inr (inr (inr (inl (items_of epoch, given, row, are, why))));
+    cause = inr (inr (inl (items_of epoch, given, row, are, why)));
   }

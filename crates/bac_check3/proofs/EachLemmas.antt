@@ -70,12 +70,6 @@ zip_at {Y = Y} R f xs k d ys y lt was one =
     subst (λ (l : List Y). AllZip R l (ys ++ y ∷ [])) (sym (map-append f (take k xs) (get_or xs k d ∷ [])) ∙ ap (map f) (sym (take_more xs k d lt)))
     (AllZip-push R (map f (take k xs)) ys (f (get_or xs k d)) y was one)
 
--- whether one more passes a test, by its place
-pub all_at : {X : Type 0} (test : X → Bool) (all : List X) (at : ℕ) (d : X) (so one : Bool) → at < length all
-    → so ≡ list_all test (take at all) → one ≡ test (get_or all at d) → (so && one) ≡ list_all test (take (at + 1) all)
-all_at test all at d so one lt before here =
-    ap (λ (b : Bool). b && one) before ∙ ap (λ (b : Bool). list_all test (take at all) && b) here ∙ sym (list_all_more test all at d lt)
-
 -- three texts behind one another
 pub three : (old a b c one two new : List ℕ) → one ≡ old ++ a → two ≡ one ++ b → new ≡ two ++ c → new ≡ old ++ (a ++ (b ++ c))
 three old a b c one two new p q r =

@@ -4,6 +4,4 @@ pub mod EachLemmas
 pub mod AskedLemmas
 pub mod RowLemmas
 pub mod CourseLemmas
-pub mod TableLemmas
-pub mod AnswerLemmas
 pub mod WholeLemmas

@@ -1,17 +1,32 @@
 -- What is counted of an archive, part by part.
-use Rattle.std.specs.Prelude.{◌≡◌, ◌==◌, not, ℕ, Bool, List, [], ◌++◌, None, Option, map, unwrap_or}
+use Rattle.std.specs.Prelude.{◌≡◌, ◌==◌, not, ℕ, Bool, false, List, [], ◌++◌, None, Some, Option, map, unwrap_or}
+use Rattle.std.specs.Prelude.{String, codes}
 use Rattle.std.specs.List.{AllZip, filter, find, list_any}
+use Rattle.std.specs.Str.{bytes_eq}
+use Rattle.std.specs.String.{string_bytes}
+use Rattle.std.specs.declared.alloc.Global.{Global}
 use Rattle.sqlite_trees.specs.Tree.{Trees}
+use Rattle.bac_archive3.specs.Known.{IsKnown}
+use Rattle.bac_archive3.specs.declared.known.Known.{Known}
+use Rattle.bac_archive3.specs.declared.row.BeginningRow.{BeginningRow}
 use Rattle.bac_check3.specs.Joins.{AreJoined}
 use Rattle.bac_check3.specs.Rows.{CountsCourse}
-use Rattle.bac_check3.specs.Tables.{AreBegun, AreDevices, AreLogs}
 use Rattle.bac_check3.specs.declared.counts.Counts.{Counts}
+use Rattle.bac_check3.specs.declared.course.Beginning.{Beginning}
 use Rattle.bac_check3.specs.declared.course.Course.{Course}
-use Rattle.bac_check3.specs.declared.tables.Beginning.{Beginning}
 
 -- nothing is counted yet
 abbrev pub IsEmpty : Counts → Type 0
 IsEmpty counts = (counts.devices.items ≡ []) × (counts.logs.items ≡ []) × (counts.courses.items ≡ [])
+
+-- only the log's count told where an epoch begins
+abbrev pub is_counted : Option (String Global) → Bool
+is_counted None = false
+is_counted (Some why) = bytes_eq (string_bytes why) (codes "counted")
+
+-- a beginning, by its row
+abbrev pub begun_of : BeginningRow → Beginning
+begun_of row = record { id = row.id; number = row.number; by_count = is_counted row.why }
 
 -- an epoch that has begun, of which nothing is counted yet
 abbrev pub course_of : Beginning → Course
@@ -41,13 +56,14 @@ is_unknown courses begun = not (list_any (has_id begun.id) courses)
 abbrev pub with_begun : List Course → List Beginning → List Course
 with_begun courses begun = map (updated_by begun) courses ++ map course_of (filter (is_unknown courses) begun)
 
--- The rows of one more part are counted.
+-- The rows of one more part are counted, of the devices, logs and epochs that it has on record.
 pub record CountsRows (part : Trees) (old new : Counts) : Type 0 where
-  pub devices : AreDevices part new.devices.items
-  pub logs : AreLogs part new.logs.items
-  pub begun : List Beginning
-  pub beginnings : AreBegun part begun
-  pub counted : AllZip (CountsCourse part) (with_begun old.courses.items begun) new.courses.items
+  pub known : Known
+  pub told : IsKnown part known
+  pub devices : new.devices ≡ known.devices
+  pub logs : new.logs ≡ known.logs
+  pub counted : AllZip (CountsCourse part) (with_begun old.courses.items (map begun_of known.beginnings.items))
+      new.courses.items
 
 -- The same, and whether its logs go on where what was counted of them ends.
 pub record CountsPart (part : Trees) (old new : Counts) (joined : Bool) : Type 0 where

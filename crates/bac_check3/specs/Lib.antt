@@ -1,6 +1,5 @@
 pub mod Holes
 pub mod Tallies
-pub mod Tables
 pub mod Rows
 pub mod Uncounts
 pub mod Joins

@@ -2,14 +2,15 @@
 use Rattle.std.specs.Prelude.{Bool, true, false, ◌==◌, ◌&&◌, ◌||◌, not, ℕ, ◌-◌, ◌+◌, ◌%◌, nat_lt, if◌then◌else◌, List}
 use Rattle.std.specs.Prelude.{[], ◌∷◌, ◌++◌, flat_map, codes, decimal, Option, None, Some, fold, is_none, is_some, max}
 use Rattle.std.specs.List.{list_all, list_any}
+use Rattle.std.specs.String.{string_bytes}
 use Rattle.bac_archive3.specs.Stands.{epochs}
+use Rattle.bac_archive3.specs.declared.row.DeviceRow.{DeviceRow}
+use Rattle.bac_archive3.specs.declared.row.LogRow.{LogRow}
 use Rattle.bac_check3.specs.Holes.{AreHoles, holes_of}
 use Rattle.bac_check3.specs.Joins.{is_later, log_of}
-use Rattle.bac_check3.specs.Tables.{name_text}
 use Rattle.bac_check3.specs.Tallies.{IsTallied, last_in}
 use Rattle.bac_check3.specs.declared.counts.Counts.{Counts}
 use Rattle.bac_check3.specs.declared.course.Course.{Course}
-use Rattle.bac_check3.specs.declared.tables.Log.{Log}
 use Rattle.bac_check3.specs.declared.tally.Hole.{Hole}
 use Rattle.bac_check3.specs.declared.tally.Span.{Span}
 use Rattle.bac_check3.specs.declared.tally.Tally.{Tally}
@@ -41,6 +42,21 @@ tally_text t = decimal t.first ++ (codes " to " ++ (decimal (last_in t) ++ (code
 -- the number of an epoch, by its id
 abbrev pub epoch_in : ℕ → ℕ
 epoch_in id = id % epochs
+
+-- ---- how a log is named
+
+-- the address of a device, and behind a router its network and its address there
+unfoldable pub place_text : DeviceRow → List ℕ
+place_text d = string_bytes d.address
+    ++ (if d.dnet == 0 then [] else 47 ∷ (decimal d.dnet ++ (47 ∷ string_bytes d.dadr)))
+
+-- the same, if it is the device with this id
+abbrev pub place_if : ℕ → DeviceRow → List ℕ
+place_if id d = if d.id == id then place_text d else []
+
+-- the address of its device, of which there is nothing if that has no row, and the instance of a log
+unfoldable pub name_text : List DeviceRow → LogRow → List ℕ
+name_text devices log = flat_map (place_if log.device) devices ++ (32 ∷ decimal log.instance)
 
 -- ---- epochs that are gone
 
@@ -139,7 +155,7 @@ abbrev pub are_whole : ℕ → List Course → Bool
 are_whole log courses = list_all (is_whole log courses) courses
 
 -- the lines of a log
-abbrev pub lines_of : Counts → Log → List ℕ
+abbrev pub lines_of : Counts → LogRow → List ℕ
 lines_of counts log = log_text (name_text counts.devices.items log) log.id counts.courses.items
 
 -- the lines of each log of the last part, in their order
@@ -147,7 +163,7 @@ abbrev pub check_text : Counts → List ℕ
 check_text counts = flat_map (lines_of counts) counts.logs.items
 
 -- nothing of a log is missing
-abbrev pub is_all_there : Counts → Log → Bool
+abbrev pub is_all_there : Counts → LogRow → Bool
 is_all_there counts log = are_whole log.id counts.courses.items
 
 -- nor of any of them

@@ -10,10 +10,10 @@ use Rattle.sqlite.specs.declared.error.Error.TheVariants.{SqliteFailure}
 use Rattle.sqlite.specs.declared.error.ErrorCode.TheVariants.{OperationInterrupted}
 use Rattle.bac_archive3.specs.Ask.{IsAsWas, IsLeft}
 use Rattle.bac_archive3.specs.Items.{AreFirst, bound_for, range_text}
+use Rattle.bac_archive3.specs.Known.{FailsToKnow}
 use Rattle.bac_archive3.specs.declared.items.Range.{Range}
 use Rattle.bac_check3.specs.Holes.{end_of}
 use Rattle.bac_check3.specs.Rows.{IsUnreadable, is_new, items_of, span_of}
-use Rattle.bac_check3.specs.Tables.{FailsToAnswer, HasUnread}
 use Rattle.bac_check3.specs.Tallies.{newest_of}
 use Rattle.bac_check3.specs.declared.tally.Span.{Span}
 use Rattle.bac_check3.specs.declared.tally.Tally.{Tally}
@@ -76,12 +76,11 @@ module _ {S : Type 0} (g : Ghosts S) where
   FailsToRange old new e = (range : Range) × (mid : Held S) × IsAsWas g old mid
       × FailsToQuery (range_text range) (bound_for range) (state g mid) (state g new) e
 
-  -- by which error a database answers: it gives up on a question for a table or for items; a row of a table or of an
-  -- item can't be read; or there are more items than are counted
+  -- by which error a database answers: what it has on record isn't told; it gives up on the question for items; a row
+  -- of an item can't be read; or there are more items than are counted
   abbrev pub FailsToCount : Held S → Held S → Error → Type 0
-  FailsToCount old new e = FailsToAnswer g old new e ⊎ (FailsToRange old new e
-      ⊎ (HasUnread (state g old).now.trees e ⊎ (HasUnreadItem ((state g old).now.trees 5) e
-      ⊎ HasTooMany ((state g old).now.trees 5) e)))
+  FailsToCount old new e = FailsToKnow g old new e ⊎ (FailsToRange old new e
+      ⊎ (HasUnreadItem ((state g old).now.trees 5) e ⊎ HasTooMany ((state g old).now.trees 5) e))
 
   -- why rows aren't counted
   abbrev pub WhyUncounted : Held S → Held S → Uncounted → Type 0

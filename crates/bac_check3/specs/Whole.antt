@@ -1,13 +1,13 @@
 -- What it means that nothing is missing.
 use Rattle.std.specs.Prelude.{◌≡◌, ◌⊎◌, ℕ, ◌≤◌, true, false, List, Some}
 use Rattle.std.specs.List.{Contains}
+use Rattle.bac_archive3.specs.declared.row.LogRow.{LogRow}
 use Rattle.bac_check3.specs.Holes.{Begins, HasOne, Have}
 use Rattle.bac_check3.specs.Joins.{log_of}
 use Rattle.bac_check3.specs.Lines.{has_all, has_lost, is_gone}
 use Rattle.bac_check3.specs.Tallies.{IsTallied}
 use Rattle.bac_check3.specs.declared.counts.Counts.{Counts}
 use Rattle.bac_check3.specs.declared.course.Course.{Course}
-use Rattle.bac_check3.specs.declared.tables.Log.{Log}
 use Rattle.bac_check3.specs.declared.tally.Span.{Span}
 
 -- each number that comes at this one or behind it, or behind one that is in a row, up to the last one that is in a row,
@@ -19,7 +19,7 @@ HasEach from spans = (n m : ℕ) → Have spans m → n ≤ m → Begins (Some f
 -- Where nothing is missing, no epoch of one of the logs is gone, nor one before it, and each has each number from its
 -- beginning on.
 abbrev pub WholeHasEach : Type 0
-WholeHasEach = (counts : Counts) (log : Log) (course : Course) (spans : List Span) → has_all counts ≡ true
+WholeHasEach = (counts : Counts) (log : LogRow) (course : Course) (spans : List Span) → has_all counts ≡ true
     → Contains counts.logs.items log → Contains counts.courses.items course → log_of course.begun.id ≡ log.id
     → IsTallied spans course.tally
     → (is_gone counts.courses.items course ≡ false) × (has_lost counts.courses.items course ≡ false)

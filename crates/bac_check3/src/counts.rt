@@ -10,10 +10,10 @@ ghost use Rattle.bac_check3.specs.Counted.{CountsPart, IsEmpty, with_begun};
 ghost use Rattle.bac_check3.specs.Rows.{CountsCourse};
 ghost use Rattle.bac_check3.specs.Uncounts.{IsUncounted};
 
-use crate::course::{Course, count_known, count_new, unknown};
+use crate::course::{Beginning, Course, all_begun, count_known, count_new, unknown};
 use crate::joins::are_joined;
-use crate::tables::{Beginning, Device, Log, tell};
 use crate::tally::Uncounted;
+use bac_archive3::{DeviceRow, LogRow, read_known};
 use sqlite::{Alter, Connection};
 use std::alloc::{AllocError, Global};
 
@@ -21,8 +21,8 @@ use std::alloc::{AllocError, Global};
 #[derive(Drop)]
 pub struct Counts {
     /// The devices and the logs of the last part.
-    pub devices: Vec<Device>,
-    pub logs: Vec<Log>,
+    pub devices: Vec<DeviceRow>,
+    pub logs: Vec<LogRow>,
     /// The epochs of all parts.
     pub courses: Vec<Course>,
 }
@@ -91,12 +91,13 @@ impl Counts {
         ensures clean { HasCleanDisk (state A.Store conn.new)
             → HasCleanDisk (state A.Store conn.old) }
     {
-        let told = tell(alloc, conn)?;
+        let known = read_known(alloc, conn)?;
+        let begun = all_begun(alloc, known.beginnings.as_slice())?;
         let joined = are_joined(conn, self.courses.as_slice())?;
-        let courses = count_all(alloc, conn, self.courses.as_slice(), told.begun.as_slice())?;
+        let courses = count_all(alloc, conn, self.courses.as_slice(), begun.as_slice())?;
         *self = Counts {
-            devices: told.devices,
-            logs: told.logs,
+            devices: known.devices,
+            logs: known.logs,
             courses,
         };
         Ok(joined)

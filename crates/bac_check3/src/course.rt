@@ -7,19 +7,29 @@ ghost use Rattle.sqlite.specs.Held.{state};
 ghost use Rattle.bac_archive3.specs.Ask.{IsAsWas};
 ghost use Rattle.bac_archive3.specs.Items.{AreItems};
 ghost use Rattle.bac_archive3.specs.Schema.{OverArchive};
-ghost use Rattle.bac_check3.specs.Counted.{begun_in, course_of, has_id, is_unknown, updated};
-ghost use Rattle.bac_check3.specs.Counted.{updated_by};
+ghost use Rattle.bac_check3.specs.Counted.{begun_in, begun_of, course_of, has_id, is_counted};
+ghost use Rattle.bac_check3.specs.Counted.{is_unknown, updated, updated_by};
 ghost use Rattle.bac_check3.specs.Rows.{CountsCourse, is_new, items_of, span_of};
 ghost use Rattle.bac_check3.specs.Tallies.{IsTallied, newest_of};
 ghost use Rattle.bac_check3.specs.Uncounts.{FailsOnRow, IsUncounted};
 ghost use Rattle.bac_check3.specs.declared.tally.Span.{Span as SpanOf};
 
 use crate::rows::{items_of, read_span};
-use crate::tables::Beginning;
 use crate::tally::{Span, Tally, Uncounted, take};
-use bac_archive3::items_in;
+use bac_archive3::{BeginningRow, items_in};
 use sqlite::{Alter, Connection, Error, ErrorCode, Row};
 use std::alloc::{AllocError, Global};
+
+/// The beginning of an epoch.
+#[derive(Clone, Copy)]
+pub struct Beginning {
+    /// 32768 times the id of the log's row, and the epoch.
+    pub id: u32,
+    /// The number from which its rows are kept.
+    pub number: u32,
+    /// Only the log's count told that.
+    pub by_count: bool,
+}
 
 /// An epoch of a log.
 #[derive(Drop)]
@@ -27,6 +37,38 @@ pub struct Course {
     pub begun: Beginning,
     /// What was counted of its rows, if there are any.
     pub tally: Option<Tally>,
+}
+
+/// Whether only the log's count told where an epoch begins.
+fn is_counted(why: &Option<String>) -> bool
+    ensures { result ≡ is_counted why.now }
+{
+    match why {
+        Some(why) => why.as_bytes() == "counted".as_bytes(),
+        None => false,
+    }
+}
+
+/// A beginning, by its row.
+fn begun_of(row: &BeginningRow) -> Beginning
+    ensures { result ≡ begun_of row.now }
+{
+    Beginning {
+        id: row.id,
+        number: row.number,
+        by_count: is_counted(&row.why),
+    }
+}
+
+/// Beginnings, by their rows.
+pub(crate) fn all_begun(alloc: Global, rows: &[BeginningRow]) -> Result<Vec<Beginning>, AllocError>
+    ensures { IfOk result (λ all. all.items ≡ map begun_of rows.now) }
+{
+    let mut all = Vec::new(alloc);
+    for row in rows {
+        all.push(begun_of(row))?;
+    }
+    Ok(all)
 }
 
 /// Whether a row lies behind another, if there is one.

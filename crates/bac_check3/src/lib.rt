@@ -10,12 +10,10 @@ mod joins;
 mod laws;
 mod lines;
 mod rows;
-mod tables;
 mod tally;
 
 pub use checking::{Ending, Unprinted, check, print};
 pub use counts::Counts;
-pub use course::Course;
+pub use course::{Beginning, Course};
 pub use laws::{holes_are_missing, whole_has_each};
-pub use tables::{Beginning, Device, Log};
 pub use tally::{Hole, Span, Tally, Uncounted, all_are_counted, front_hole, none_is_missing, take};

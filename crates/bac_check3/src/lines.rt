@@ -8,15 +8,14 @@ ghost use Rattle.bac_check3.specs.Lines.{doubtful_text, epoch_in, epoch_line, ep
 ghost use Rattle.bac_check3.specs.Lines.{from_before, gaps_text, gone_line, has_all, has_lost};
 ghost use Rattle.bac_check3.specs.Lines.{hole_line, holes_in, holes_text, is_complete, is_gone};
 ghost use Rattle.bac_check3.specs.Lines.{is_none_of, is_whole, log_text, lost_text, tally_text};
-ghost use Rattle.bac_check3.specs.Lines.{some_doubtful, text_in};
-ghost use Rattle.bac_check3.specs.Tables.{name_text, place_if, place_text};
+ghost use Rattle.bac_check3.specs.Lines.{name_text, place_if, place_text, some_doubtful, text_in};
 
 use crate::counts::Counts;
 use crate::course::Course;
 use crate::gone::{from_before, has_lost, is_gone};
 use crate::joins::log_of;
-use crate::tables::{Device, Log};
 use crate::tally::{Hole, Tally, front_hole};
+use bac_archive3::{DeviceRow, LogRow};
 use bac_print::push_number;
 use std::alloc::{AllocError, Global};
 
@@ -250,8 +249,8 @@ fn push_log(
 }
 
 /// Appends where a device is.
-#[tactic(auto, unfolding(crate::specs::Tables::place_text))]
-fn push_place(text: &mut Vec<u8>, device: &Device) -> Result<(), AllocError>
+#[tactic(auto, unfolding(crate::specs::Lines::place_text))]
+fn push_place(text: &mut Vec<u8>, device: &DeviceRow) -> Result<(), AllocError>
     ensures { OnOk result (text.new.items ≡ text.old.items ++ place_text device.now) }
 {
     text.extend_from_slice(device.address.as_bytes())?;
@@ -265,7 +264,7 @@ fn push_place(text: &mut Vec<u8>, device: &Device) -> Result<(), AllocError>
 }
 
 /// The same, if it is the device with this id.
-fn push_place_if(text: &mut Vec<u8>, id: u32, device: &Device) -> Result<(), AllocError>
+fn push_place_if(text: &mut Vec<u8>, id: u16, device: &DeviceRow) -> Result<(), AllocError>
     ensures { OnOk result (text.new.items ≡ text.old.items ++ place_if id device.now) }
 {
     if device.id == id {
@@ -275,7 +274,7 @@ fn push_place_if(text: &mut Vec<u8>, id: u32, device: &Device) -> Result<(), All
 }
 
 /// Appends where the device with this id is: nothing, if it has no row.
-fn push_place_of(text: &mut Vec<u8>, id: u32, devices: &[Device]) -> Result<(), AllocError>
+fn push_place_of(text: &mut Vec<u8>, id: u16, devices: &[DeviceRow]) -> Result<(), AllocError>
     ensures { OnOk result
         (text.new.items ≡ text.old.items ++ flat_map (place_if id) devices.now) }
 {
@@ -286,9 +285,9 @@ fn push_place_of(text: &mut Vec<u8>, id: u32, devices: &[Device]) -> Result<(), 
 }
 
 /// Appends the name of a log: its device's address and its instance.
-#[tactic(auto, unfolding(crate::specs::Tables::name_text))]
-fn push_name(text: &mut Vec<u8>, devices: &[Device], log: Log) -> Result<(), AllocError>
-    ensures { OnOk result (text.new.items ≡ text.old.items ++ name_text devices.now log) }
+#[tactic(auto, unfolding(crate::specs::Lines::name_text))]
+fn push_name(text: &mut Vec<u8>, devices: &[DeviceRow], log: &LogRow) -> Result<(), AllocError>
+    ensures { OnOk result (text.new.items ≡ text.old.items ++ name_text devices.now log.now) }
 {
     push_place_of(text, log.device, devices)?;
     text.extend_from_slice(b" ")?;
@@ -300,15 +299,20 @@ fn push_one(
     alloc: Global,
     text: &mut Vec<u8>,
     counts: &Counts,
-    log: Log,
+    log: &LogRow,
 ) -> Result<bool, AllocError>
-    ensures text { OnOk result (text.new.items ≡ text.old.items ++ lines_of counts.now log) }
+    ensures text { OnOk result (text.new.items ≡ text.old.items ++ lines_of counts.now log.now) }
     ensures whole { IfOk result
-        (λ whole. whole ≡ is_all_there counts.now log) }
+        (λ whole. whole ≡ is_all_there counts.now log.now) }
 {
     let mut name = Vec::new(alloc);
     push_name(&mut name, counts.devices.as_slice(), log)?;
-    push_log(text, name.as_slice(), log.id, counts.courses.as_slice())
+    push_log(
+        text,
+        name.as_slice(),
+        u32::from(log.id),
+        counts.courses.as_slice(),
+    )
 }
 
 /// Appends the lines of each of these logs; answers whether nothing is missing.
@@ -316,7 +320,7 @@ fn push_each(
     alloc: Global,
     text: &mut Vec<u8>,
     counts: &Counts,
-    logs: &[Log],
+    logs: &[LogRow],
 ) -> Result<bool, AllocError>
     ensures text { OnOk result
         (text.new.items ≡ text.old.items ++ flat_map (lines_of counts.now) logs.now) }
@@ -324,7 +328,7 @@ fn push_each(
 {
     let mut whole = true;
     for log in logs {
-        let so = push_one(alloc, text, counts, *log)?;
+        let so = push_one(alloc, text, counts, log)?;
         whole = whole & so;
     }
     Ok(whole)

@@ -1,2 +1,7 @@
-pub mod Opening
+pub mod Opened
+pub mod Begun
+pub mod Untouched
+pub mod Records
 pub mod Losing
+pub mod Idle
+pub mod Stops

@@ -1,21 +1,34 @@
--- What a run of keep leaves of an archive, whatever ends it.
-use Rattle.std.specs.Prelude.{ℕ, List, Option}
+-- Laws of a run of keep. Read `KillLosesNothing`.
+use Rattle.std.specs.Prelude.{IsTrue}
 use Rattle.sqlite.specs.Effect.{Database}
+use Rattle.sqlite.specs.Held.{Held, state}
 use Rattle.sqlite_trees.specs.Tree.{Trees}
+use Rattle.sqlite_trees.specs.declared.store.Store.{Ghosts}
 use Rattle.bac_archive3.specs.Put.{LoseNothing}
 use Rattle.bac_archive3.specs.Schema.{HasArchive}
-use Rattle.bac_archive3.specs.declared.standing.Standing.{Standing}
-use Rattle.bac_drive.specs.Happens.{Acts, scene}
-use Rattle.bac_batch.specs.Batch.{Batched, fresh_batch}
+use Rattle.bac_drive.specs.Happens.{Acts}
+use Rattle.bac_batch.specs.Batch.{Batched}
+use Rattle.bac_device_poller.specs.declared.status.Status.{Status}
 use Rattle.bac_site_poller.specs.Site.{SiteState}
-use Rattle.bac_keeping.specs.Keeping.{Remains, running}
+use Rattle.bac_keeping.specs.Keeping.{Around, Halts, Keeps, Remains}
+use Rattle.bac_keeping.specs.declared.run.KeepFault.{KeepFault}
+use Rattle.bac_keeping.specs.declared.run.Run.{Run}
 
--- A kill at any moment leaves all that an archive had.
-abbrev pub KeepLosesNothing : {A P C : Type 0} → (A → List ℕ) → (A → Standing → SiteState → Type 0) →
-    Acts (Batched SiteState) P C → Type 0
-KeepLosesNothing {A = A} {P = P} {C = C} made_at makes acts =
-    (plan : A) (port : P) (clock : C) (output errors : Option (List ℕ)) (old : Database) (trees : Trees) →
-    HasArchive old.schema →
-    Remains
-    (running (made_at plan) (makes plan) acts (λ site db. scene (fresh_batch site) port clock db output errors)) old
-    trees → LoseNothing old.trees trees
+-- Killed at any moment, a run leaves all that an archive had.
+abbrev pub KillLosesNothing : {P C : Type 0} → Acts (Batched SiteState) P C → Type 0
+KillLosesNothing {P = P} {C = C} acts =
+    (run : Run) (by : Around P C) (old : Database) (trees : Trees) → HasArchive old.schema
+    → Remains acts run by old trees → LoseNothing old.trees trees
+
+-- So it does where it comes to its end.
+abbrev pub EndLosesNothing : {P C : Type 0} → Acts (Batched SiteState) P C → Type 0
+EndLosesNothing {P = P} {C = C} acts =
+    (run : Run) (by left : Around P C) (old new : Database) (status : Status) → HasArchive old.schema
+    → Keeps acts run by left old new status → LoseNothing old.trees new.trees
+
+-- And so where it halts, whatever the fault is, if the database is open still.
+abbrev pub FaultLosesNothing : {P C S : Type 0} → Ghosts S → Acts (Batched SiteState) P C → Type 0
+FaultLosesNothing {P = P} {C = C} {S = S} g acts =
+    (run : Run) (by left : Around P C) (old new : Held S) (why : KeepFault) → HasArchive (state g old).now.schema
+    → Halts g acts run by left old new why → IsTrue (state g new).is_open
+    → LoseNothing (state g old).now.trees (state g new).now.trees

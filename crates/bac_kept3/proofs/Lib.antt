@@ -3,4 +3,3 @@ pub mod RowsLemmas
 pub mod PartsLemmas
 pub mod ShownLemmas
 pub mod RisingLemmas
-pub mod BeginningsLemmas

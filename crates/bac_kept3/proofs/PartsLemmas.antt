@@ -13,12 +13,12 @@ use Rattle.bac_archive3.proofs.AskLemmas.{left_then}
 use Rattle.bac_kept3.specs.Faults.{IsLeftAs}
 use Rattle.sqlite_trees.specs.Tree.{Trees}
 use Rattle.bac_archive3.specs.Items.{AreItems}
+use Rattle.bac_archive3.specs.Known.{IsKnown}
+use Rattle.bac_archive3.specs.declared.known.Known.{Known}
 use Rattle.bac_archive3.specs.declared.items.Range.{Range}
 use Rattle.bac_kept3.specs.Items.{Manner, PrintsFirst, PrintsRows}
-use Rattle.bac_kept3.specs.Known.{IsKnown}
 use Rattle.bac_kept3.specs.Parts.{HasFront, PrintsFront, PrintsLog, PrintsLogs, PrintsPart, PrintsSome}
 use Rattle.bac_kept3.specs.Shown.{Told, has_heads, shown_logs, told_of}
-use Rattle.bac_kept3.specs.declared.known.Known.{Known}
 use Rattle.bac_kept3.specs.declared.seen.Newest.{Newest}
 use Rattle.bac_kept3.specs.declared.shown.ShownLog.{ShownLog}
 use Rattle.bac_kept3.proofs.ShownLemmas.{take_one}

@@ -10,9 +10,9 @@ use Rattle.sqlite.specs.Held.{Held, state}
 use Rattle.sqlite.specs.State.{FailsToQuery}
 use Rattle.bac_archive3.specs.Ask.{IsAsWas, IsLeft}
 use Rattle.bac_archive3.specs.Items.{AreFirst, IsReadable, bound_for, is_of, range_text}
+use Rattle.bac_archive3.specs.Known.{FailsToKnow}
 use Rattle.bac_archive3.specs.declared.items.Range.{Range}
 use Rattle.bac_kept3.specs.Items.{range_of}
-use Rattle.bac_kept3.specs.Known.{FailsToKnow}
 use Rattle.bac_kept3.specs.Shown.{Told}
 use Rattle.bac_kept3.specs.declared.fault.Fault.{Fault}
 use Rattle.bac_kept3.specs.declared.fault.Fault.TheVariants.{Database, Memory, Write}

@@ -1,6 +1,5 @@
 pub mod Words
 pub mod Shown
-pub mod Known
 pub mod Heads
 pub mod Seen
 pub mod Lines

@@ -2,12 +2,12 @@
 use Rattle.std.specs.Prelude.{◌≡◌, ◌⊎◌, ◌&&◌, not, if◌then◌else◌, ℕ, Bool, List, [], ◌∷◌, ◌++◌, Option, length}
 use Rattle.sqlite_trees.specs.Tree.{Trees}
 use Rattle.sqlite_value.specs.Order.{Row as Values}
+use Rattle.bac_archive3.specs.Known.{IsKnown}
+use Rattle.bac_archive3.specs.declared.known.Known.{Known}
 use Rattle.bac_kept3.specs.Heads.{head_line}
 use Rattle.bac_kept3.specs.Items.{PrintsItems, PrintsItemsFront}
-use Rattle.bac_kept3.specs.Known.{IsKnown}
 use Rattle.bac_kept3.specs.Seen.{Notes, newest_in}
 use Rattle.bac_kept3.specs.Shown.{Told, has_heads, shown_logs}
-use Rattle.bac_kept3.specs.declared.known.Known.{Known}
 use Rattle.bac_kept3.specs.declared.seen.Newest.{Newest}
 use Rattle.bac_kept3.specs.declared.seen.Seen.{Seen}
 use Rattle.bac_kept3.specs.declared.words.Words.{Words}

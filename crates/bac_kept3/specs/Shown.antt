@@ -1,10 +1,10 @@
 -- The logs that are shown.
 use Rattle.std.specs.Prelude.{ℕ, ◌==◌, ◌&&◌, not, if◌then◌else◌, Bool, List, Option, None, Some, find, filter_map}
+use Rattle.bac_archive3.specs.declared.known.Known.{Known}
 use Rattle.bac_archive3.specs.declared.row.BeginningRow.{BeginningRow}
 use Rattle.bac_archive3.specs.declared.row.DeviceRow.{DeviceRow}
 use Rattle.bac_archive3.specs.declared.row.LogRow.{LogRow}
 use Rattle.bac_kept3.specs.Words.{is_chosen, names_one}
-use Rattle.bac_kept3.specs.declared.known.Known.{Known}
 use Rattle.bac_kept3.specs.declared.shown.ShownLog.{ShownLog}
 use Rattle.bac_kept3.specs.declared.words.Choice.{Choice}
 

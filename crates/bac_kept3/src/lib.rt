@@ -6,7 +6,6 @@
 mod csv_rows;
 mod fault;
 mod items;
-mod known;
 mod laws;
 mod lines;
 mod parts;

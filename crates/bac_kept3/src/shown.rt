@@ -10,9 +10,8 @@ ghost use Rattle.bac_kept3.specs.Heads.{head_line, place_text};
 ghost use Rattle.bac_kept3.specs.Shown.{device_with, has_heads, shown_logs, shown_of, told_of};
 
 use crate::fault::Fault;
-use crate::known::Known;
 use crate::words::Choice;
-use bac_archive3::{BeginningRow, DeviceRow, LogRow};
+use bac_archive3::{BeginningRow, DeviceRow, Known, LogRow};
 use bac_print::{push_number, write_text};
 use std::alloc::{AllocError, Global};
 use std::io::Write;

@@ -18,9 +18,8 @@ ghost use Rattle.bac_parts.specs.Begun.{WhyUnbegun, WhyUntold};
 
 use crate::archives::{and_shut, open_archive, take_archive};
 use crate::fault::FileFault;
-use crate::following::puts_of;
 use crate::works::{Done, Work, work_in};
-use bac_archive3::{Standing, is_nothing, make, stands};
+use bac_archive3::{Standing, is_nothing, make, puts_of, stands};
 use bac_files::{DiskFiles, FileOf, Place};
 use sqlite::{Alter, Connection, Error, Start};
 use sqlite_disk::Disk;

@@ -11,7 +11,6 @@
 mod archives;
 mod begun;
 mod fault;
-mod following;
 mod parts;
 mod waiting;
 mod works;

@@ -8,3 +8,7 @@ mod Polled
 mod Shares
 mod SiteLemmas
 mod StoppedLemmas
+mod Changed
+mod OwnIds
+pub mod Stored
+mod Told

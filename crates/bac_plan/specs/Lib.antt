@@ -11,3 +11,4 @@ pub mod Naming
 pub mod Stopping
 pub mod NamingLaws
 pub mod StoppingLaws
+pub mod Told

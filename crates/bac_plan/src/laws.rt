@@ -5,6 +5,8 @@ ghost use Rattle.bac_plan.specs.NamingLaws.{DeviceIdsAreNext, LogIdsAreNext};
 ghost use Rattle.bac_plan.specs.NamingLaws.{FreshLogsAreAsked, NamedArePolled, NamedLogsAreAsked};
 ghost use Rattle.bac_plan.specs.NamingLaws.{OthersStay};
 ghost use Rattle.bac_plan.specs.StoppingLaws.{NamedAreStopped, OthersGoOn};
+ghost use Rattle.bac_plan.specs.Told.{NamedAreTold, PutsKeepIds, PutsKeepRise, StoppedAreTold};
+ghost use Rattle.bac_plan.specs.Told.{ToldHaveOwnIds};
 
 /// Every log on record that isn't stopped, of a device that isn't, is polled in exactly one place,
 /// at the seat of its device; and no other log is polled.
@@ -53,4 +55,28 @@ pub fn named_are_stopped()
 /// A device that no words name gets no row by which it is stopped, and none of its logs does.
 pub fn others_go_on()
     ensures { OthersGoOn }
+{}
+
+/// The rows of devices, and those of logs, rise by their ids as SQLite keeps them, whatever is put;
+/// so no two devices that an archive tells have one id.
+pub fn told_have_own_ids()
+    ensures told { ToldHaveOwnIds }
+    ensures rise { PutsKeepRise }
+{}
+
+/// Each device and each log that is on record stays under its id, whatever is put.
+pub fn puts_keep_ids()
+    ensures { PutsKeepIds }
+{}
+
+/// Once the rows of [`rows_named`](crate::rows_named) are put, an archive tells each device and
+/// each log as the words leave it, and those that are new.
+pub fn named_are_told()
+    ensures { NamedAreTold }
+{}
+
+/// Once the rows of [`rows_stopped`](crate::rows_stopped) are put, it tells each device and each
+/// log as it is stopped, and the others as they were.
+pub fn stopped_are_told()
+    ensures { StoppedAreTold }
 {}

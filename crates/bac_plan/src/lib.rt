@@ -29,7 +29,8 @@ mod who;
 pub use fault::{NamingFault, PlanFault, StopFault};
 pub use laws::{
     device_ids_are_next, each_is_polled_once, fresh_logs_are_asked, log_ids_are_next,
-    named_are_polled, named_are_stopped, named_logs_are_asked, others_go_on, others_stay,
+    named_are_polled, named_are_stopped, named_are_told, named_logs_are_asked, others_go_on,
+    others_stay, puts_keep_ids, stopped_are_told, told_have_own_ids,
 };
 pub use named::{Choice, Named};
 pub use naming::rows_named;

@@ -7,7 +7,7 @@ use Rattle.bac_archive3.proofs.RowsLemmas.{because}
 use Rattle.bac_check3.specs.Counted.{course_of}
 use Rattle.bac_check3.specs.Rows.{CountsCourse}
 use Rattle.bac_check3.specs.Uncounts.{IsUncounted}
-use Rattle.bac_check3.specs.declared.tables.Beginning.{Beginning}
+use Rattle.bac_check3.specs.declared.course.Beginning.{Beginning}
 use Rattle.bac_check3.specs.declared.tally.Uncounted.TheVariants.{Memory}
 use Rattle.bac_check3.proofs.AskedLemmas.{as_was_both, has_was, no_memory, still, uncounted_then}
 use Rattle.bac_check3.proofs.EachLemmas.{zip_at}

@@ -119,6 +119,6 @@ returns-clause-uncounted g c clean has from =
     let was = c.rows.invariant.2 late has in
     let it : IsUncounted g.A.Store old now (Database (SqliteFailure OperationInterrupted)) = record {
       left = inr (inl was.2);
-      cause = inr (inr (inr (inr (refl, range, was.0, first_given g.A.Store range (state g.A.Store old) now was.0 has was.2 was.1, omega (arith, was.5, c.rows-test.false)))));
+      cause = inr (inr (inr (refl, range, was.0, first_given g.A.Store range (state g.A.Store old) now was.0 has was.2 was.1, omega (arith, was.5, c.rows-test.false))));
     } in
     subst (λ h. IsUncounted g.A.Store old h (Database (SqliteFailure OperationInterrupted))) same it

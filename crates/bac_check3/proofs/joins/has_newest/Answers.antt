@@ -17,7 +17,7 @@ returns-in-Ok-Some-clause-same g c clean has = on_ok c.is_it.result _ (c.in-Ok-S
 pub returns-in-Ok-Some-clause-uncounted : goal.returns-in-Ok-Some-clause-uncounted
 returns-in-Ok-Some-clause-uncounted g c clean has =
     if_err_then c.is_it.result _ _ c.is_it.ensures.only
-    (λ why it. rw it.1 (record { left = inr (inl (c.in-Ok-Some.ensures.same clean has)); cause = inr (inr (inr (inl (_, [], c.in-Ok-Some.row, rw c.in-Ok-Some.field-0-is at (c.in-Ok-Some.ensures.first clean has), it.2)))) }))
+    (λ why it. rw it.1 (record { left = inr (inl (c.in-Ok-Some.ensures.same clean has)); cause = inr (inr (inl (_, [], c.in-Ok-Some.row, rw c.in-Ok-Some.field-0-is at (c.in-Ok-Some.ensures.first clean has), it.2))) }))
 
 pub returns-in-Ok-None-clause-told : goal.returns-in-Ok-None-clause-told
 returns-in-Ok-None-clause-told g c clean has =

@@ -1,4 +1,4 @@
-use Rattle.bac_check3.specs.Tables.{place_if}
+use Rattle.bac_check3.specs.Lines.{place_if}
 use Rattle.bac_check3.proofs.EachLemmas.{text_more}
 use Rattle.bac_check3.proofs.lines.push_place_of.Goals as goal
 

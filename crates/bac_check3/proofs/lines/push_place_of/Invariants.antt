@@ -1,5 +1,5 @@
 use Rattle.std.proofs.Common.{◌≡◌, ◌++◌, flat_map, take}
-use Rattle.bac_check3.specs.Tables.{place_if}
+use Rattle.bac_check3.specs.Lines.{place_if}
 use Rattle.bac_check3.proofs.lines.push_place_of.Given as goal
 
 -- the place of that device, if it is among those so far

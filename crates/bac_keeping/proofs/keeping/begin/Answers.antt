@@ -1,43 +1,65 @@
-use Rattle.std.proofs.Common.{◌≡◌, ℕ, List, sym, subst}
-use Rattle.sqlite.specs.Effect.{Database}
+use Rattle.std.proofs.Common.{◌≡◌, ℕ, List, rules, subst, arith}
 use Rattle.sqlite.specs.Held.{state}
 use Rattle.sqlite.specs.State.{HasCleanDisk}
-use Rattle.sqlite.proofs.StateLemmas.{survives_then}
-use Rattle.bac_archive3.specs.Stands.{StandsAs}
-use Rattle.bac_keeping.specs.Keeping.{IsOpened}
+use Rattle.bac_archive3.proofs.RowsLemmas.{because}
+use Rattle.bac_plan.specs.declared.named.Named.{Named}
+use Rattle.bac_keeping.specs.Keeping.{IsTold}
+use Rattle.bac_keeping.specs.Parts.{HaltsNaming, HaltsOpening}
+use Rattle.bac_keeping.proofs.Begun.{begun_crash, named_by, not_named, not_opened}
 use Rattle.bac_keeping.proofs.keeping.begin.Goals as goal
 
-pub returns-in-Ok-site-clause-begun : goal.returns-in-Ok-site-clause-begun
-returns-in-Ok-site-clause-begun g c clean =
-    let old = state g.S.Store c.args.conn.now in
-    let mid = state g.S.Store c.open_at.new.conn in
-    let new = state g.S.Store c.stands.new.conn in
-    let early : HasCleanDisk mid = c.stands.ensures.clean clean in
-    let same : new.now ≡ mid.now = (c.in-Ok.ensures.same clean).0.now_is in
-    let O : List ℕ → Type 0 = λ m. IsOpened m old.now new.now in
-    let D : Database → Type 0 = λ db. IsOpened c.moment.result.now old.now db in
-    let T : Database → Type 0 = λ db. StandsAs db.trees c.in-Ok.told in (
-      subst O c.moment.ensures (subst D (sym same) (c.in_default.ensures.opened early)),
-      (c.in-Ok.told, subst T (sym same) (c.in-Ok.ensures.stands clean), c.in-Ok-site.ensures),
+pub returns-in_err-told-clause-halts : goal.returns-in_err-told-clause-halts
+returns-in_err-told-clause-halts g c clean =
+    because c.from_residual.result c.in_err-told.field-0.0 _ (search rules)
+    (not_opened g.S.Store c.args.run.now c.args.conn.now c.open_told.new.conn c.in_err-told.field-0.0
+    (subst (λ (m : List ℕ). HaltsOpening g.S.Store m c.args.conn.now c.open_told.new.conn c.in_err-told.field-0.0) c.as_str.ensures.value (c.in_err-told.ensures.halts clean)))
+
+pub returns-in_err-told-2-clause-halts : goal.returns-in_err-told-2-clause-halts
+returns-in_err-told-2-clause-halts g c clean =
+    let old = (state g.S.Store c.args.conn.now).now in
+    let mid = (state g.S.Store c.open_told.new.conn).now in
+    let early : HasCleanDisk (state g.S.Store c.open_told.new.conn) = omega (arith, clean, c.name_told.ensures.crash.clean) in
+    because c.from_residual-in_err-told-2.result c.in_err-told-2.field-0.0 _ (search rules)
+    (not_named g.S.Store c.args.run.now c.args.conn.now c.open_told.new.conn c.name_told.new.conn c.in_ok-told.told c.in_err-told-2.field-0.0
+    (subst (λ (m : List ℕ). IsTold m old mid c.in_ok-told.told) c.as_str.ensures.value (c.in_ok-told.ensures.told early))
+    (subst (λ (n : List Named). HaltsNaming g.S.Store n c.in_ok-told.told c.open_told.new.conn c.name_told.new.conn c.in_err-told-2.field-0.0) c.as_slice.ensures.value (c.in_err-told-2.ensures.halts clean)))
+
+pub returns-in_err-told-2-clause-crash : goal.returns-in_err-told-2-clause-crash
+returns-in_err-told-2-clause-crash g c =
+    begun_crash c.args.run.now _ (state g.S.Store c.open_told.new.conn) _ c.in_ok-told.told _ _ c.as_str.ensures.value c.as_slice.ensures.value c.in_ok-told.ensures.told
+    c.open_told.ensures.crash c.name_told.ensures.crash
+
+pub returns-in-Ok-clause-set : goal.returns-in-Ok-clause-set
+returns-in-Ok-clause-set g c clean =
+    let old = (state g.S.Store c.args.conn.now).now in
+    let mid = (state g.S.Store c.open_told.new.conn).now in
+    let new = (state g.S.Store c.name_told.new.conn).now in
+    let early : HasCleanDisk (state g.S.Store c.open_told.new.conn) = omega (arith, clean, c.name_told.ensures.crash.clean) in
+    let both = c.in_ok-told-2.ensures.told clean in
+    record {
+      named = named_by c.args.run.now old mid new c.in_ok-told.told _ _ c.as_str.ensures.value c.as_slice.ensures.value (c.in_ok-told.ensures.told early) both.0;
+      told = c.in_ok-told-2.told;
+      stands = both.1;
+      site_is = c.in-Ok.ensures.ok;
+    }
+
+pub returns-in-Ok-clause-crash : goal.returns-in-Ok-clause-crash
+returns-in-Ok-clause-crash g c =
+    begun_crash c.args.run.now _ (state g.S.Store c.open_told.new.conn) _ c.in_ok-told.told _ _ c.as_str.ensures.value c.as_slice.ensures.value c.in_ok-told.ensures.told
+    c.open_told.ensures.crash c.name_told.ensures.crash
+
+pub returns-in-Err-clause-halts : goal.returns-in-Err-clause-halts
+returns-in-Err-clause-halts g c clean =
+    let old = (state g.S.Store c.args.conn.now).now in
+    let mid = (state g.S.Store c.open_told.new.conn).now in
+    let new = (state g.S.Store c.name_told.new.conn).now in
+    let early : HasCleanDisk (state g.S.Store c.open_told.new.conn) = omega (arith, clean, c.name_told.ensures.crash.clean) in
+    let both = c.in_ok-told-2.ensures.told clean in (
+      named_by c.args.run.now old mid new c.in_ok-told.told _ _ c.as_str.ensures.value c.as_slice.ensures.value (c.in_ok-told.ensures.told early) both.0,
+      (c.in_ok-told-2.told, both.1, c.in-Err.ensures.err),
     )
 
-pub returns-in-Ok-site-clause-crash : goal.returns-in-Ok-site-clause-crash
-returns-in-Ok-site-clause-crash g c =
-    let old = state g.S.Store c.args.conn.now in
-    let O : List ℕ → Database → Type 0 = λ m db. IsOpened m old.now db in
-    survives_then old (state g.S.Store c.open_at.new.conn) (state g.S.Store c.stands.new.conn) _ _ _ (λ clean db it. (it.0, subst (λ m. O m it.0) c.moment.ensures it.1, it.2)) (λ clean db none. absurd none)
-    c.open_at.ensures.crash c.stands.ensures.crash
-
-pub returns-in-Err-site-clause-crash : goal.returns-in-Err-site-clause-crash
-returns-in-Err-site-clause-crash g c =
-    let old = state g.S.Store c.args.conn.now in
-    let O : List ℕ → Database → Type 0 = λ m db. IsOpened m old.now db in
-    survives_then old (state g.S.Store c.open_at.new.conn) (state g.S.Store c.stands.new.conn) _ _ _ (λ clean db it. (it.0, subst (λ m. O m it.0) c.moment.ensures it.1, it.2)) (λ clean db none. absurd none)
-    c.open_at.ensures.crash c.stands.ensures.crash
-
-pub returns-in-Err-stands-clause-crash : goal.returns-in-Err-stands-clause-crash
-returns-in-Err-stands-clause-crash g c =
-    let old = state g.S.Store c.args.conn.now in
-    let O : List ℕ → Database → Type 0 = λ m db. IsOpened m old.now db in
-    survives_then old (state g.S.Store c.open_at.new.conn) (state g.S.Store c.stands.new.conn) _ _ _ (λ clean db it. (it.0, subst (λ m. O m it.0) c.moment.ensures it.1, it.2)) (λ clean db none. absurd none)
-    c.open_at.ensures.crash c.stands.ensures.crash
+pub returns-in-Err-clause-crash : goal.returns-in-Err-clause-crash
+returns-in-Err-clause-crash g c =
+    begun_crash c.args.run.now _ (state g.S.Store c.open_told.new.conn) _ c.in_ok-told.told _ _ c.as_str.ensures.value c.as_slice.ensures.value c.in_ok-told.ensures.told
+    c.open_told.ensures.crash c.name_told.ensures.crash
