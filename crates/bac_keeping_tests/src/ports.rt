@@ -1,7 +1,5 @@
 //! A port over which one device answers, or none.
 
-ghost use Rattle.std.specs.Prelude.{Unit};
-
 use bac_desks::Clock;
 use bac_ports::{Heard, Port, SocketFault};
 use bac_wire::Datagram;

@@ -1,14 +1,19 @@
 //! A device that doesn't answer is on record behind its run; then it is stopped.
 
+ghost use Rattle.std.specs.Prelude.{OnOk};
+ghost use Rattle.sqlite.specs.Held.{state};
+ghost use Rattle.sqlite.specs.State.{HasCleanDisk};
+ghost use Rattle.bac_archive3.specs.Schema.{HasArchive};
+
 use crate::ports::{Refusing, Ticks};
-use bac_archive3::{Standing, stands};
+use bac_archive3::{Standing, open, stands};
 use bac_device_poller::Status;
 use bac_keeping::{Run, StopHalt, keep_site, stop_named};
 use bac_plan::{Choice, Named, Options, StopFault};
 use bac_site_poller::Limits;
 use bac_walk::Count;
 use bac_wire::Stamp;
-use sqlite::{Connection, MemStore};
+use sqlite::{Alter, Connection, MemStore};
 use std::alloc::{AllocError, Global};
 use std::test::Fail;
 
@@ -43,8 +48,20 @@ fn run(alloc: Global, named: Vec<Named>) -> Result<Run, Fail> {
     })
 }
 
+/// Opens the archive that is there.
+fn open_at<S: Alter>(conn: &mut Connection<S>) -> Result<(), Fail>
+    ensures archive { HasCleanDisk (state S.Store conn.new)
+        → OnOk result (HasArchive (state S.Store conn.new).now.schema) }
+{
+    match open(conn, "") {
+        Ok(()) => Ok(()),
+        Err(_) => Err(Fail::from("no archive")),
+    }
+}
+
 /// What is told of an archive.
-fn told(alloc: Global, conn: &mut Connection<MemStore>) -> Result<Standing, Fail> {
+fn told<S: Alter>(alloc: Global, conn: &mut Connection<S>) -> Result<Standing, Fail> {
+    open_at(conn)?;
     match stands(alloc, conn) {
         Ok(told) => Ok(told),
         Err(_) => Err(Fail::from("not told")),

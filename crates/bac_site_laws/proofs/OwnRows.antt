@@ -230,7 +230,7 @@ module _ (log : Id) where
 
   -- a poll had turns by these answers, and this is kept of it
   Kept : List (List ℕ) → Option PlaceAs → Option ℕ → PollState → List PutAs → PollerAs → Type 0
-  Kept answers o n q rows new = (steps : List Step) × HadTurns {left = n} log o q answers rows new steps
+  Kept answers o n q rows new = (steps : List Step) × HadTurns n log o q answers rows new steps
 
   turn_more : (answers : List (List ℕ)) (o : Option PlaceAs) (n : Option ℕ) (q : PollState) (step : Step) (behind : Option PlaceAs) (rows more : List PutAs) (new : PollerAs) → IsAskedBy q step →
       IsFrom answers q step → IsPlaced o (after_step q step) behind rows → is_last n q step ≡ false → Kept answers behind (left_behind n (after_step q step).records) (after_step q step).poll more new →
@@ -308,7 +308,7 @@ module _ (log : Id) where
       (λ not. over_none more mid new not chain))
 
   pub had_turns : (own : List Own) (p new : PollerAs) (o : Option PlaceAs) (n : Option ℕ) (q : PollState) → IsAtLog log o n q p → Chain (OwnStepAt log) p own new →
-      (steps : List Step) × HadTurns {left = n} log o q (heard_of p.doing ++ answers_of own) (kept_of own) new steps
+      (steps : List Step) × HadTurns n log o q (heard_of p.doing ++ answers_of own) (kept_of own) new steps
   unfolding Kept
   had_turns own p new o n q at chain = own_rows own p new o n q at chain
 

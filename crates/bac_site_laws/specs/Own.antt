@@ -155,15 +155,17 @@ AreRowsOf place q (step ∷ steps) rows =
     (behind : Option PlaceAs) × (now more : List PutAs) × (rows ≡ now ++ more)
     × IsPlaced place (after_step q step) behind now × AreRowsOf behind (after_step q step).poll steps more
 
--- A log's poll had these turns, each of them by what one of these answers makes of it or by the loss of its question,
--- and no other: it is where they lead, or has ended by the last of them; and these are the rows that they put.
-pub record HadTurns {left : Option ℕ} (log : Id) (place : Option PlaceAs) (q : PollState) (answers : List (List ℕ))
-    (rows : List PutAs) (new : PollerAs) (steps : List Step) : Type 0 where
-  pub asked : AreAsked q steps
-  pub of : AreOf answers q steps
-  pub rows_are : AreRowsOf place q steps rows
-  pub leads : ((behind : Option PlaceAs) × IsAtLog log behind (left_after left q steps) (poll_after q steps) new)
-      ⊎ EndsBy left q steps
+module _ (left : Option ℕ) where
+  -- A log's poll, which may have so many replies with records yet, had these turns, each of them by what one of these
+  -- answers makes of it or by the loss of its question, and no other: it is where they lead, or has ended by the last
+  -- of them; and these are the rows that they put.
+  pub record HadTurns (log : Id) (place : Option PlaceAs) (q : PollState) (answers : List (List ℕ))
+      (rows : List PutAs) (new : PollerAs) (steps : List Step) : Type 0 where
+    pub asked : AreAsked q steps
+    pub of : AreOf answers q steps
+    pub rows_are : AreRowsOf place q steps rows
+    pub leads : ((behind : Option PlaceAs) × IsAtLog log behind (left_after left q steps) (poll_after q steps) new)
+        ⊎ EndsBy left q steps
 
 -- What a device's poll keeps while a log is polled is the rows of that log's own turns, from where it stands.
 abbrev pub KeepsTurns : Type 0
@@ -171,7 +173,7 @@ KeepsTurns =
     (log : Id) (place : Option PlaceAs) (left : Option ℕ) (q : PollState) (p new : PollerAs) (own : List Own) →
     IsAtLog log place left q p → Chain (OwnStepAt log) p own new →
     (steps : List Step)
-    × HadTurns {left = left} log place q (heard_of p.doing ++ answers_of own) (kept_of own) new steps
+    × HadTurns left log place q (heard_of p.doing ++ answers_of own) (kept_of own) new steps
 
 -- So its rows go on, from where it stands: each number comes once.
 abbrev pub NumbersOnce : Type 0
@@ -190,7 +192,7 @@ RowsAreTold =
     (log : Id) (place : PlaceAs) (left : Option ℕ) (q : PollState) (p new : PollerAs) (own : List Own) →
     IsAtLog log (Some place) left q p → Chain (OwnStepAt log) p own new →
     (steps : List Step)
-    × HadTurns {left = left} log (Some place) q (heard_of p.doing ++ answers_of own) (kept_of own) new steps
+    × HadTurns left log (Some place) q (heard_of p.doing ++ answers_of own) (kept_of own) new steps
     × ((shown : List Numbered) (fronts : List ℕ) → HoldsOfEach IsNumbered shown → IsOneOf fronts 1 →
     IsStanding (IsAmong shown) (IsOneOf fronts) q → AreSteps (IsAmong shown) (IsOneOf fronts) q steps →
     (t : Stand)
