@@ -1,6 +1,6 @@
 -- What happens while a machine is driven, as steps of the machine.
 use Rattle.std.proofs.Common.{List, [], ◌∷◌, ap}
-use Rattle.bac_desks.specs.Chain.{Chain}
+use Rattle.bac_drive.specs.Chain.{Chain}
 use Rattle.bac_drive.specs.Event.{Event}
 use Rattle.bac_drive.specs.Happens.{Acts, Happens, Scene, Steps}
 use Rattle.bac_batch.specs.Laws.{StepsHappen}

@@ -5,7 +5,7 @@ use Rattle.std.proofs.lemmas.Grind.{flat_map-append}
 use Rattle.bac_archive3.specs.declared.row.Put.{Put}
 use Rattle.bac_drive.specs.Event.{Event, Kept, Printed, Read, Sent, Waited, Warned}
 use Rattle.bac_drive.specs.Laws.{puts_of}
-use Rattle.bac_desks.specs.Chain.{Chain}
+use Rattle.bac_drive.specs.Chain.{Chain}
 use Rattle.bac_batch.specs.Laws.{AreCutShort, is_line, is_traffic, joined, keeps_of, lines_of, rows_of, traffic_of}
 
 pub cut_append : (es fs gs hs : List Event) → AreCutShort es fs → AreCutShort gs hs → AreCutShort (es ++ gs) (fs ++ hs)

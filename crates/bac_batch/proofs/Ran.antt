@@ -4,8 +4,8 @@ use Rattle.std.proofs.Common.{append-nil}
 use Rattle.std.proofs.lemmas.List.{map-append}
 use Rattle.std.proofs.lemmas.List.Elements.{All-append, All-nil}
 use Rattle.bac_archive3.specs.declared.row.Put.{Put}
-use Rattle.bac_desks.specs.Chain.{Chain}
-use Rattle.bac_desks.proofs.Lists.{joined as chained}
+use Rattle.bac_drive.specs.Chain.{Chain}
+use Rattle.bac_drive.proofs.Chains.{joined as chained}
 use Rattle.bac_ports.specs.Port.{Receiving}
 use Rattle.bac_drive.specs.Event.{Event}
 use Rattle.bac_drive.specs.Happens.{Steps}

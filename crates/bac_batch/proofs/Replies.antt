@@ -3,8 +3,8 @@ use Rattle.std.proofs.Common.{◌≡◌, ◌∙◌, ℕ, ◌≤◌, List, [], �
 use Rattle.std.proofs.Common.{append-nil, append_assoc}
 use Rattle.std.proofs.lemmas.List.Elements.{All-cons, All-head, All-nil, All-tail}
 use Rattle.bac_archive3.specs.declared.row.Put.{Put}
-use Rattle.bac_desks.specs.Chain.{Chain}
-use Rattle.bac_desks.proofs.Lists.{pushed}
+use Rattle.bac_drive.specs.Chain.{Chain}
+use Rattle.bac_drive.proofs.Chains.{pushed}
 use Rattle.bac_ports.specs.Port.{Receiving}
 use Rattle.bac_drive.specs.Event.{Event, Kept, Printed, Read, Sent, Waited, Warned}
 use Rattle.bac_drive.specs.Happens.{Steps}

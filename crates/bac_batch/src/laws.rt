@@ -5,8 +5,7 @@ ghost use Rattle.bac_drive.specs.Happens.{acting};
 ghost use Rattle.bac_batch.specs.Laws.{BatchesAreReplies, EndsWhole, LinesStandBehind};
 ghost use Rattle.bac_batch.specs.Laws.{LosesNothing, StepsHappen, WaitsWithYoungRows};
 
-use bac_desks::Clock;
-use bac_drive::Machine;
+use bac_drive::{Clock, Machine};
 use bac_ports::Port;
 
 /// What happens while a machine is driven is steps of the machine, of which the other laws speak.

@@ -6,8 +6,8 @@ use Rattle.sqlite_value.specs.Order.{Row as Values}
 use Rattle.sqlite.specs.Values.{or_null}
 use Rattle.bac_archive3.specs.Put.{columns_of, is_new, table_of}
 use Rattle.bac_archive3.specs.declared.row.Put.{Put}
-use Rattle.bac_keep.specs.Items.{key, stamp_text, value_of}
-use Rattle.bac_keep.specs.declared.place.Place.{Place}
+use Rattle.bac_places.specs.Rows.{key, stamp_text, value_of}
+use Rattle.bac_places.specs.declared.place.Place.{Place}
 use Rattle.bac_link.specs.declared.item.Item.{Item}
 use Rattle.bac_link.specs.declared.item.Item.TheVariants.{Gap, Logged}
 use Rattle.bac_walk.specs.declared.batch.Numbered.{Numbered}

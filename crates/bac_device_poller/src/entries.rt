@@ -20,7 +20,7 @@ use crate::telling::{
 use crate::texts::text_in;
 use bac_archive3::{LogRow, Put};
 use bac_device_poll::{Entry, Naming, Offset, Others, Who};
-use bac_keep::Place;
+use bac_places::Place;
 use bac_wire::ObjectId;
 use std::alloc::{AllocError, Global};
 

@@ -13,7 +13,7 @@ use crate::naming::{source_text, units_text};
 use crate::texts::{copied, restart_in, text_in};
 use bac_archive3::LogRow;
 use bac_device_poll::{Naming, Reference, Text};
-use bac_keep::Place;
+use bac_places::Place;
 use bac_poll::Told;
 use std::alloc::{AllocError, Global};
 use std::marker::Model;

@@ -2,7 +2,7 @@
 
 ghost use Rattle.std.specs.Prelude.{◌≡◌, IfOk, OnOk, None, Some, true, false, map};
 ghost use Rattle.bac_archive3.specs.Put.{item_columns};
-ghost use Rattle.bac_keep.specs.Items.{era};
+ghost use Rattle.bac_places.specs.Rows.{era};
 ghost use Rattle.bac_poll.specs.State.{PollState};
 ghost use Rattle.bac_poll.specs.Turns.{turned};
 ghost use Rattle.bac_walk.specs.Walks.{gap_items};
@@ -15,7 +15,7 @@ ghost use Rattle.bac_device_poller.specs.Puts.{with_records, with_rest, with_rou
 
 use crate::datum::value_of;
 use bac_archive3::{BeginningRow, ItemRow, Put};
-use bac_keep::Place;
+use bac_places::Place;
 use bac_poll::{Beginning, Line, Turn};
 use bac_print::{push_datum, push_flags, push_moment};
 use bac_walk::{Gap, Numbered};

@@ -21,7 +21,7 @@ use crate::rows::Rows;
 use crate::status::status_of;
 use bac_archive3::Put;
 use bac_device_poll::Polled;
-use bac_keep::Place;
+use bac_places::Place;
 use bac_poll::{Line, PollEnd, Told, Turn};
 use std::alloc::{AllocError, Global};
 

@@ -6,8 +6,8 @@ use Rattle.sqlite.specs.State.{HasCleanDisk, State, Survives}
 use Rattle.sqlite.specs.declared.error.Error.{Error}
 use Rattle.sqlite_trees.specs.Tree.{Trees}
 use Rattle.bac_archive3.specs.Schema.{HasArchive}
-use Rattle.bac_desks.specs.Chain.{Chain}
-use Rattle.bac_desks.proofs.Lists.{joined}
+use Rattle.bac_drive.specs.Chain.{Chain}
+use Rattle.bac_drive.proofs.Chains.{joined}
 use Rattle.bac_drive.specs.Event.{Event, Kept, Printed, Read, Sent, Waited, Warned}
 use Rattle.bac_drive.specs.Happens.{Acts, Changes, Happens, IsUnending, Leaves, Scene, StaysSettled}
 use Rattle.bac_drive.specs.declared.driving.Fault.{Fault}

@@ -2,7 +2,7 @@
 use Rattle.std.proofs.Common.{List, [], ◌∷◌, sym, subst}
 use Rattle.bac_archive3.specs.Put.{IsPut, LoseNothing, PutsJoin, PutsLoseNothing}
 use Rattle.bac_archive3.proofs.PutLemmas.{put_nothing}
-use Rattle.bac_desks.specs.Chain.{Chain}
+use Rattle.bac_drive.specs.Chain.{Chain}
 use Rattle.bac_drive.specs.Event.{Event, Kept, Printed, Read, Sent, Waited, Warned}
 use Rattle.bac_drive.specs.Happens.{Acts, Changes, Happens, Scene}
 use Rattle.bac_drive.specs.Laws.{LosesNothing, RunsPut, puts_of}

@@ -1,3 +1,4 @@
+pub mod Chain
 pub mod Event
 pub mod Happens
 pub mod Laws

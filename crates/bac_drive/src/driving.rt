@@ -9,9 +9,9 @@ ghost use Rattle.bac_archive3.specs.Schema.{HasArchive};
 ghost use Rattle.bac_drive.specs.Happens.{IsStopped, Leaves, Runs, StaysSettled, Stops, Takes};
 ghost use Rattle.bac_drive.specs.Happens.{acting, scene};
 
+use crate::clock::Clock;
 use crate::machine::{Machine, Next};
 use bac_archive3::{Put, put};
-use bac_desks::Clock;
 use bac_ports::Port;
 use bac_print::write_text;
 use sqlite::{Alter, Connection, Error};

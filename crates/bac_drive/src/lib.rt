@@ -6,10 +6,12 @@
 //! archive after a front of them: what was there, and the rows of the batches so far (specs/Laws).
 #![tactic(auto)]
 
+mod clock;
 mod driving;
 mod laws;
 mod machine;
 
+pub use clock::{Clock, SteadyClock};
 pub use driving::{Fault, drive};
 pub use laws::runs_put;
 pub use machine::{Machine, Next};

@@ -6,8 +6,7 @@ ghost use Rattle.bac_site_poller.specs.SiteLaws.{site_acts};
 
 use bac_archive3::puts_are_one;
 use bac_batch::Batching;
-use bac_desks::Clock;
-use bac_drive::runs_put;
+use bac_drive::{Clock, runs_put};
 use bac_ports::Port;
 use bac_site_poller::SitePoller;
 use sqlite::Alter;

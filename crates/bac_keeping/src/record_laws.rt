@@ -8,8 +8,7 @@ ghost use Rattle.bac_site_poller.specs.SiteLaws.{site_acts};
 
 use bac_archive3::puts_are_one;
 use bac_batch::Batching;
-use bac_desks::Clock;
-use bac_drive::runs_put;
+use bac_drive::{Clock, runs_put};
 use bac_plan::{
     each_is_polled_once, fresh_logs_are_asked, named_are_polled, named_are_stopped, named_are_told,
     named_logs_are_asked, others_go_on, puts_keep_ids, stopped_are_told, told_have_own_ids,

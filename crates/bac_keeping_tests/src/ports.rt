@@ -1,6 +1,6 @@
 //! A port over which one device answers, or none.
 
-use bac_desks::Clock;
+use bac_drive::Clock;
 use bac_ports::{Heard, Port, SocketFault};
 use bac_wire::Datagram;
 

@@ -19,7 +19,7 @@ use bac_apdu::object_type::TREND_LOG;
 use bac_archive3::{BeginningRow, LogRow};
 use bac_device_poll::{Begin, LogTask};
 use bac_device_poller::LogRecord;
-use bac_keep::Place;
+use bac_places::Place;
 use bac_poll::Told;
 use bac_print::push_number;
 use bac_resume::{LogRows, Resumed, go_on};

@@ -4,7 +4,7 @@ use Rattle.std.specs.Str.{bytes_eq}
 use Rattle.sqlite_value.specs.Order.{Row as Values, column}
 use Rattle.bac_archive3.specs.Items.{number_at, number_in, text_at}
 use Rattle.bac_archive3.specs.Stands.{epochs}
-use Rattle.bac_keep.specs.declared.place.Place.{Place}
+use Rattle.bac_places.specs.declared.place.Place.{Place}
 use Rattle.bac_poll.specs.State.{KeptAs, StandingAs, standing_as, told_as}
 use Rattle.bac_resume.specs.Rows.{LogTold}
 use Rattle.bac_resume.specs.Stands.{known_at, newest_record, next_of}

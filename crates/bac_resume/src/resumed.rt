@@ -9,7 +9,7 @@ use crate::items::{kept_at, newest_stamp, next_of};
 use crate::rows::LogRows;
 use crate::texts::word_of;
 use bac_archive3::{BeginningRow, ItemRow, LogRow};
-use bac_keep::Place;
+use bac_places::Place;
 use bac_poll::{Standing, Told};
 use std::alloc::{AllocError, Global};
 

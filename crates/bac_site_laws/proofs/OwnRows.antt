@@ -2,7 +2,7 @@
 use Rattle.std.proofs.Common.{◌≡◌, ◌∙◌, ◌⊎◌, inl, inr, ℕ, nat_le, nat_lt, Bool, true, false, if◌then◌else◌, List, [], ◌∷◌, ◌++◌, Option, None, Some}
 use Rattle.std.proofs.Common.{refl, sym, ap, subst}
 use Rattle.bac_wire.specs.Primitive.{Id}
-use Rattle.bac_desks.specs.Chain.{Chain}
+use Rattle.bac_drive.specs.Chain.{Chain}
 use Rattle.bac_poll.specs.State.{PollState}
 use Rattle.bac_poll.specs.Turns.{Turned}
 use Rattle.bac_poll_steps.specs.declared.turn.PollEnd.{PollEnd}

@@ -8,8 +8,8 @@ use Rattle.std.proofs.lemmas.List.Elements.{All-take}
 use Rattle.std.proofs.lemmas.List.Sums.{sum_by-append, sum_by-cons, sum_by-remove}
 use Rattle.std.proofs.lemmas.Option.{get_or_from_slice_get, slice_get_within}
 use Rattle.bac_wire.specs.Stamp.{CivilTime}
-use Rattle.bac_desks.specs.Chain.{Chain}
-use Rattle.bac_desks.proofs.Lists.{get_map}
+use Rattle.bac_drive.specs.Chain.{Chain}
+use Rattle.bac_drive.proofs.Chains.{get_map}
 use Rattle.bac_ports.specs.Port.{Receiving}
 use Rattle.bac_drive.specs.Event.{Event, Kept, Printed, Read, Sent, Waited, Warned}
 use Rattle.bac_drive.specs.Happens.{Learns}

@@ -1,7 +1,7 @@
 -- The events of a site, as those of each of its devices. Read `RowsAreOwn`.
 use Rattle.std.specs.Prelude.{◌≡◌, ℕ, ◌+◌, List, All, map}
 use Rattle.std.specs.List.{sum_by}
-use Rattle.bac_desks.specs.Chain.{Chain}
+use Rattle.bac_drive.specs.Chain.{Chain}
 use Rattle.bac_drive.specs.Event.{Event}
 use Rattle.bac_drive.specs.Laws.{puts_of}
 use Rattle.bac_batch.specs.Batch.{Batched}

@@ -6,7 +6,7 @@ use Rattle.std.specs.List.{count_by}
 use Rattle.std.proofs.lemmas.Bool.{and_parts, eqb-true}
 use Rattle.std.proofs.lemmas.List.Elements.{All-head, All-tail, All-weaker}
 use Rattle.std.proofs.lemmas.List.Sums.{sum_by-append, sum_by-cons}
-use Rattle.bac_desks.specs.Chain.{Chain}
+use Rattle.bac_drive.specs.Chain.{Chain}
 use Rattle.bac_ports.specs.Port.{Receiving}
 use Rattle.bac_drive.specs.Event.{Event, Kept, Printed, Read, Sent, Waited, Warned}
 use Rattle.bac_drive.specs.declared.machine.Next.{Next}

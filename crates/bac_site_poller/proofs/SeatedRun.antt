@@ -3,7 +3,7 @@ use Rattle.std.proofs.Common.{◌≡◌, ◌∙◌, ◌&&◌, ◌||◌, inl, inr
 use Rattle.std.proofs.Common.{Option, refl, sym, ap, subst, append_assoc, append-nil}
 use Rattle.std.proofs.lemmas.List.Elements.{All-weaker}
 use Rattle.bac_archive3.specs.declared.row.Put.{Put}
-use Rattle.bac_desks.specs.Chain.{Chain}
+use Rattle.bac_drive.specs.Chain.{Chain}
 use Rattle.bac_link.specs.Transactions.{begun_with}
 use Rattle.bac_link.specs.declared.transactions.Pending.{Pending}
 use Rattle.bac_drive.specs.Event.{Event, Kept, Printed, Read, Sent, Waited, Warned}

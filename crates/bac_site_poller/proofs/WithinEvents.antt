@@ -1,6 +1,6 @@
 -- The limits are kept in a whole run.
 use Rattle.std.proofs.Common.{List, [], ◌∷◌, sym, subst}
-use Rattle.bac_desks.specs.Chain.{Chain}
+use Rattle.bac_drive.specs.Chain.{Chain}
 use Rattle.bac_drive.specs.Event.{Event, Kept, Printed, Read, Sent, Waited, Warned}
 use Rattle.bac_drive.specs.Happens.{Learns}
 use Rattle.bac_site_poller.specs.Site.{IsWithin, SiteHears, SiteState}

@@ -9,8 +9,7 @@ ghost use Rattle.bac_site_poller.specs.SiteLaws.{site_acts};
 
 use crate::site::SitePoller;
 use bac_batch::Batching;
-use bac_desks::Clock;
-use bac_drive::{Fault, drive};
+use bac_drive::{Clock, Fault, drive};
 use bac_ports::Port;
 use sqlite::{Alter, Connection};
 use std::alloc::Global;

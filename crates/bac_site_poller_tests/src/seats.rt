@@ -3,8 +3,8 @@
 use bac_archive3::{DeviceRow, LogRow};
 use bac_device_poll::{Begin, DevicePoll, Known, LogTask, Way};
 use bac_device_poller::{DevicePoller, Ids, LogRecord, Rows};
-use bac_keep::Place;
 use bac_link::Transactions;
+use bac_places::Place;
 use bac_poll::Told;
 use bac_print::push_number;
 use bac_site_poller::{Limits, SitePoller};

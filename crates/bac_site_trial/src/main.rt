@@ -17,7 +17,7 @@ mod words;
 
 use bac_archive3::{Put, Standing, open, put, stands};
 use bac_batch::Batching;
-use bac_desks::{Clock, SteadyClock};
+use bac_drive::{Clock, SteadyClock};
 use bac_files::DiskFiles;
 use bac_ports::UdpPort;
 use bac_print::write_text;

@@ -3,7 +3,7 @@ use Rattle.std.proofs.lemmas.List.{length_push}
 use Rattle.sqlite.specs.Held.{state}
 use Rattle.sqlite.specs.State.{HasCleanDisk}
 use Rattle.sqlite.proofs.StateLemmas.{survives_then, survives_weaker}
-use Rattle.bac_desks.proofs.Lists.{pushed}
+use Rattle.bac_drive.proofs.Chains.{pushed}
 use Rattle.bac_drive.specs.Happens.{Happens, Takes, acting, scene}
 use Rattle.bac_drive.proofs.Leaving.{archive_stays, is_no_end, leaves_then, stays}
 use Rattle.bac_drive.proofs.driving.drive.Goals as goal

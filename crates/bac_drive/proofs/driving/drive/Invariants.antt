@@ -1,7 +1,7 @@
 use Rattle.std.proofs.Common.{◌≡◌, length, List}
 use Rattle.sqlite.specs.Held.{state}
 use Rattle.sqlite.specs.State.{HasCleanDisk, Survives}
-use Rattle.bac_desks.specs.Chain.{Chain}
+use Rattle.bac_drive.specs.Chain.{Chain}
 use Rattle.bac_drive.specs.Event.{Event}
 use Rattle.bac_drive.specs.Happens.{Happens, Leaves, acting, scene}
 use Rattle.bac_drive.proofs.driving.drive.Given as goal
