@@ -5,3 +5,4 @@ pub mod Records
 pub mod Losing
 pub mod Idle
 pub mod Stops
+pub mod Settled

@@ -46,15 +46,20 @@ early_loses run old trees none_lost has (inl made) = absurd (never old.schema ha
 early_loses run old trees none_lost has (inr named) =
     let it = named_put run old named.0 has named.1 in subst (LoseNothing old.trees) (sym named.2) (none_lost old named.0 it.0 has it.1)
 
+-- a kill leaves an archive that was there with rows that were put
+pub remains_put : {P C : Type 0} (acts : Acts (Batched SiteState) P C) → PutsJoin → RunsPut acts → (run : Run) (by : Around P C) (old : Database) (trees : Trees) → HasArchive old.schema → Remains acts run by old trees
+    → (puts : List Put) × (db : Database) × IsPut old db puts × (trees ≡ db.trees)
+remains_put acts join runs_put run by old trees has (inl (inl made)) = absurd (never old.schema has made.0)
+remains_put acts join runs_put run by old trees has (inl (inr named)) = let it = named_put run old named.0 has named.1 in (it.0, named.0, it.1, named.2)
+remains_put acts join runs_put run by old trees has (inr (begun, site, set, (es, last, chain, is))) =
+    let it = named_put run old begun has set.named in
+    let on : IsPut begun last.database (puts_of es) = runs_put (at_first by site begun) last es chain in
+    (it.0 ++ puts_of es, last.database, join old begun last.database it.0 (puts_of es) it.1 on, is)
+
 pub kill_loses : {P C : Type 0} (acts : Acts (Batched SiteState) P C) → PutsJoin → PutsLoseNothing → RunsPut acts → KillLosesNothing acts
-kill_loses {P = P} {C = C} acts join none_lost runs_put = go
-  where
-    go : (run : Run) (by : Around P C) (old : Database) (trees : Trees) → HasArchive old.schema → Remains acts run by old trees → LoseNothing old.trees trees
-    go run by old trees has (inl early) = early_loses run old trees none_lost has early
-    go run by old trees has (inr (begun, site, set, (es, last, chain, is))) =
-        let it = named_put run old begun has set.named in
-        let on : IsPut begun last.database (puts_of es) = runs_put (at_first by site begun) last es chain in
-        subst (LoseNothing old.trees) (sym is) (none_lost old last.database (it.0 ++ puts_of es) has (join old begun last.database it.0 (puts_of es) it.1 on))
+kill_loses acts join none_lost runs_put = λ run by old trees has remains.
+    let it = remains_put acts join runs_put run by old trees has remains in
+    subst (LoseNothing old.trees) (sym it.3) (none_lost old it.1 it.0 has it.2)
 
 pub end_loses : {P C : Type 0} (acts : Acts (Batched SiteState) P C) → KillLosesNothing acts → EndLosesNothing acts
 end_loses {P = P} {C = C} acts killed = λ run by left old new status has (begun, site, last, set, (es, end, chain, ends), is).

@@ -1,9 +1,10 @@
 //! A run.
 
-ghost use Rattle.std.specs.Prelude.{IfErr, IfOk, OnOk};
+ghost use Rattle.std.specs.Prelude.{◌≡◌, IfErr, IfOk, OnOk};
 ghost use Rattle.sqlite.specs.Held.{state};
 ghost use Rattle.sqlite.specs.State.{HasCleanDisk, Survives};
 ghost use Rattle.bac_archive3.specs.Schema.{HasArchive};
+ghost use Rattle.bac_drive.specs.Happens.{StaysSettled};
 ghost use Rattle.bac_site_poller.specs.SiteLaws.{site_acts};
 ghost use Rattle.bac_keeping.specs.Keeping.{Halts, HaltsEarly, IsSet};
 ghost use Rattle.bac_keeping.specs.Keeping.{Keeps, Remains, RemainsEarly, around};
@@ -32,6 +33,9 @@ fn begin<S: Alter>(
         (state S.Store conn.new).now) }
     ensures archive { HasCleanDisk (state S.Store conn.new)
         → OnOk result (HasArchive (state S.Store conn.new).now.schema) }
+    ensures committed { HasCleanDisk (state S.Store conn.new)
+        → OnOk result ((state S.Store conn.new).committed ≡ (state S.Store conn.new).now) }
+    ensures settled { StaysSettled (state S.Store conn.old) (state S.Store conn.new) result }
     ensures halts { HasCleanDisk (state S.Store conn.new)
         → IfErr result (HaltsEarly S.Store run.now conn.old conn.new) }
     ensures crash { Survives (state S.Store conn.old) (state S.Store conn.new)
@@ -70,6 +74,10 @@ pub fn keep_site<P: Port, C: Clock, S: Alter, W: Write, V: Write>(
         (around port.old clock.old (W.contents output.old) (V.contents errors.old))
         (around port.new clock.new (W.contents output.new) (V.contents errors.new))
         conn.old conn.new) }
+    // All that it put is committed; and after a fault so is all that it left, if that shut nothing.
+    ensures committed { HasCleanDisk (state S.Store conn.new)
+        → OnOk result ((state S.Store conn.new).committed ≡ (state S.Store conn.new).now) }
+    ensures settled { StaysSettled (state S.Store conn.old) (state S.Store conn.new) result }
     // Killed at any moment, it leaves what was there, or an archive of which the same is so.
     ensures crash { Survives (state S.Store conn.old) (state S.Store conn.new)
         (Remains (site_acts P.sends P.receives_within C.reads) run.now

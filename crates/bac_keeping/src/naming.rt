@@ -1,10 +1,11 @@
 //! What words name goes on record.
 
-ghost use Rattle.std.specs.Prelude.{◌≡◌, IfErr, IfOk, OnOk};
+ghost use Rattle.std.specs.Prelude.{IfErr, IfOk, OnOk};
 ghost use Rattle.sqlite.specs.Held.{state};
 ghost use Rattle.sqlite.specs.State.{HasCleanDisk, Survives};
 ghost use Rattle.bac_archive3.specs.Schema.{HasArchive};
 ghost use Rattle.bac_archive3.specs.Stands.{StandsAs};
+ghost use Rattle.bac_drive.specs.Happens.{StaysSettled};
 ghost use Rattle.bac_keeping.specs.Parts.{AreNamedAndTold, ArePutAndTold, HaltsNaming};
 ghost use Rattle.bac_keeping.specs.Parts.{HaltsPutting, MayHaveNamed, MayHavePut};
 
@@ -27,6 +28,7 @@ fn put_told<S: Alter>(
         (state S.Store conn.new).now) }
     ensures archive { HasCleanDisk (state S.Store conn.new)
         → OnOk result (HasArchive (state S.Store conn.new).now.schema) }
+    ensures settled { StaysSettled (state S.Store conn.old) (state S.Store conn.new) result }
     ensures halts { HasCleanDisk (state S.Store conn.new)
         → IfErr result (HaltsPutting S.Store puts.now conn.old conn.new) }
     ensures crash { Survives (state S.Store conn.old) (state S.Store conn.new)
@@ -57,6 +59,7 @@ fn put_any<S: Alter>(
         (state S.Store conn.new).now) }
     ensures archive { HasCleanDisk (state S.Store conn.new)
         → OnOk result (HasArchive (state S.Store conn.new).now.schema) }
+    ensures settled { StaysSettled (state S.Store conn.old) (state S.Store conn.new) result }
     ensures halts { HasCleanDisk (state S.Store conn.new)
         → IfErr result (HaltsPutting S.Store puts.now conn.old conn.new) }
     ensures crash { Survives (state S.Store conn.old) (state S.Store conn.new)
@@ -84,6 +87,7 @@ pub(crate) fn name_told<S: Alter>(
         (state S.Store conn.new).now) }
     ensures archive { HasCleanDisk (state S.Store conn.new)
         → OnOk result (HasArchive (state S.Store conn.new).now.schema) }
+    ensures settled { StaysSettled (state S.Store conn.old) (state S.Store conn.new) result }
     ensures halts { HasCleanDisk (state S.Store conn.new)
         → IfErr result (HaltsNaming S.Store named.now told conn.old conn.new) }
     ensures crash { Survives (state S.Store conn.old) (state S.Store conn.new)

@@ -4,6 +4,7 @@ ghost use Rattle.std.specs.Prelude.{◌≡◌, IfErr, IfOk, OnErr, OnOk};
 ghost use Rattle.sqlite.specs.Held.{state};
 ghost use Rattle.sqlite.specs.State.{HasCleanDisk, Survives};
 ghost use Rattle.bac_archive3.specs.Schema.{HasArchive};
+ghost use Rattle.bac_drive.specs.Happens.{StaysSettled};
 ghost use Rattle.bac_keeping.specs.Keeping.{IsOpened, IsRefused, IsTold, MayHaveMade};
 ghost use Rattle.bac_keeping.specs.Parts.{HaltsOpening};
 
@@ -21,6 +22,7 @@ pub(crate) fn open_at<S: Alter>(conn: &mut Connection<S>, moment: &str) -> Resul
         → OnOk result (HasArchive (state S.Store conn.new).now.schema) }
     ensures committed { HasCleanDisk (state S.Store conn.new)
         → OnOk result ((state S.Store conn.new).committed ≡ (state S.Store conn.new).now) }
+    ensures settled { StaysSettled (state S.Store conn.old) (state S.Store conn.new) result }
     ensures refused { HasCleanDisk (state S.Store conn.new)
         → IfErr result (IsRefused S.Store moment.now conn.old conn.new) }
     ensures crash { Survives (state S.Store conn.old) (state S.Store conn.new)
@@ -42,6 +44,7 @@ pub(crate) fn open_told<S: Alter>(
         → OnOk result (HasArchive (state S.Store conn.new).now.schema) }
     ensures committed { HasCleanDisk (state S.Store conn.new)
         → OnOk result ((state S.Store conn.new).committed ≡ (state S.Store conn.new).now) }
+    ensures settled { StaysSettled (state S.Store conn.old) (state S.Store conn.new) result }
     ensures halts { HasCleanDisk (state S.Store conn.new)
         → IfErr result (HaltsOpening S.Store moment.now conn.old conn.new) }
     ensures crash { Survives (state S.Store conn.old) (state S.Store conn.new)

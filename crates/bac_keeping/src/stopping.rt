@@ -1,10 +1,11 @@
 //! What words name is stopped.
 
-ghost use Rattle.std.specs.Prelude.{◌≡◌, IfErr, IfOk, OnOk};
+ghost use Rattle.std.specs.Prelude.{IfErr, IfOk};
 ghost use Rattle.sqlite.specs.Held.{state};
 ghost use Rattle.sqlite.specs.State.{HasCleanDisk, Survives};
 ghost use Rattle.bac_archive3.specs.Schema.{HasArchive};
 ghost use Rattle.bac_archive3.specs.Stands.{StandsAs};
+ghost use Rattle.bac_drive.specs.Happens.{StaysSettled};
 ghost use Rattle.bac_keeping.specs.Stopping.{HaltsStopping, IsStopped, MayHaveStopped};
 ghost use Rattle.bac_keeping.specs.Stopping.{StopsNothing};
 
@@ -54,6 +55,7 @@ fn stop_told<S: Alter>(
         (state S.Store conn.new).now) }
     ensures neither { HasCleanDisk (state S.Store conn.new)
         → IfErr result (HaltsStopping S.Store named.now conn.old conn.new) }
+    ensures settled { StaysSettled (state S.Store conn.old) (state S.Store conn.new) result }
     ensures crash { Survives (state S.Store conn.old) (state S.Store conn.new)
         (MayHaveStopped named.now (state S.Store conn.old).now) }
 {
@@ -81,6 +83,8 @@ pub fn stop_named<S: Alter>(
     // A fault leaves the database as it was, and says why.
     ensures neither { HasCleanDisk (state S.Store conn.new)
         → IfErr result (StopsNothing S.Store named.now conn.old conn.new) }
+    // All that it put is committed; and after a fault so is all that was, if that shut nothing.
+    ensures settled { StaysSettled (state S.Store conn.old) (state S.Store conn.new) result }
     // Killed at any moment, it leaves what was there, or what is stopped.
     ensures crash { Survives (state S.Store conn.old) (state S.Store conn.new)
         (MayHaveStopped named.now (state S.Store conn.old).now) }

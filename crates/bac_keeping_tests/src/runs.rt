@@ -23,6 +23,7 @@ fn options() -> Result<Options, Fail> {
     Ok(Options {
         limits: Limits::new(64, 4, 1024, 3000),
         records,
+        steps: None,
         retries: 1,
         clocks: false,
         begun,

@@ -38,13 +38,13 @@ whole_is (Some n) = cast_int n
 both : {a b : Value} {xs ys : Values} → a ≡ b → xs ≡ ys → ◌≡◌ {A = Values} (a ∷ xs) (b ∷ ys)
 both p q = ap₂ (λ (v : Value) (vs : Values). v ∷ vs) p q
 
--- the row of a device, with other flags
-abbrev pub turned : (whole stopped : Bool) → DeviceRow → DeviceAs
-turned whole stopped d = record (device_as d) { whole = whole; stopped = stopped }
+-- the row of a device, with another revision and other flags
+abbrev pub turned : (revision : Option ℕ) (whole stopped : Bool) → DeviceRow → DeviceAs
+turned revision whole stopped d = record (device_as d) { revision = revision; whole = whole; stopped = stopped }
 
-pub device_kept : (d : DeviceRow) (whole stopped : Bool) → shown 10 (stored devices.columns (columns_of_device (turned whole stopped d))) ≡ columns_of_device (turned whole stopped d)
-device_kept d whole stopped =
-    both refl (both refl (both (cast_int (pos d.dnet)) (both refl (both (last_is d.instance) (both (text_is d.name) (both (last_is d.revision)
+pub device_kept : (d : DeviceRow) (revision : Option ℕ) (whole stopped : Bool) → shown 10 (stored devices.columns (columns_of_device (turned revision whole stopped d))) ≡ columns_of_device (turned revision whole stopped d)
+device_kept d revision whole stopped =
+    both refl (both refl (both (cast_int (pos d.dnet)) (both refl (both (last_is d.instance) (both (text_is d.name) (both (last_is revision)
     (both (cast_int (flag whole)) (both (cast_int (flag stopped)) (both (text_is d.answered) (both (whole_is d.offset) refl))))))))))
 
 -- the columns of a log, which is stopped, or isn't
@@ -119,8 +119,8 @@ free_logs (put ∷ puts) rows free =
 -- what is put is shown as it is
 
 pub device_shown : (put : Put) → (put_as put).tree ≡ 1 → shown 10 (stored devices.columns (put_as put).columns) ≡ (put_as put).columns
-device_shown (NewDevice d) is = device_kept d d.whole d.stopped
-device_shown (Device d) is = device_kept d d.whole d.stopped
+device_shown (NewDevice d) is = device_kept d d.revision d.whole d.stopped
+device_shown (Device d) is = device_kept d d.revision d.whole d.stopped
 device_shown (NewLog l) is = absurd (omega (arith, is))
 device_shown (Log l) is = absurd (omega (arith, is))
 device_shown (Beginning b) is = absurd (omega (arith, is))

@@ -1,5 +1,5 @@
 -- What an archive tells once rows are put.
-use Rattle.std.proofs.Common.{append_assoc, ◌≡◌, ℕ, pos, ◌≤◌, ◌==◌, ◌&&◌, ◌||◌, not, Bool, true, false, if◌then◌else◌, List, [], ◌∷◌, ◌++◌, map, Ok, Err, Result, refl, sym, ap, subst, ◌∙◌}
+use Rattle.std.proofs.Common.{append_assoc, ◌≡◌, ℕ, pos, ◌≤◌, ◌==◌, ◌&&◌, ◌||◌, not, Bool, true, false, if◌then◌else◌, List, [], ◌∷◌, ◌++◌, map, Ok, Err, Option, Result, refl, sym, ap, subst, ◌∙◌}
 use Rattle.std.specs.List.{AllByRecursion, Contains, flat_map}
 use Rattle.std.proofs.lemmas.List.Elements.{Contains-append_left, Contains-append_right}
 use Rattle.std.proofs.lemmas.List.Sorted.{Contains-permutation, IsPermutation-sym}
@@ -24,7 +24,7 @@ use Rattle.bac_archive3.proofs.LeftLemmas.{has_left, has_put, replaced_takes}
 use Rattle.bac_archive3.proofs.OrphanLemmas.{from_map, in_map}
 use Rattle.bac_device_poller.specs.Puts.{PutAs, put_as}
 use Rattle.bac_device_poller.specs.Rows.{DeviceAs, columns_of_device, device_as, device_put}
-use Rattle.bac_plan.specs.Changes.{asks_again, changes_device, device_change, log_change, log_put_again, named_as, names_whole, with_stopped}
+use Rattle.bac_plan.specs.Changes.{asks_again, changes_device, device_change, log_change, log_put_again, named_as, names_whole, revision_for, with_stopped}
 use Rattle.bac_plan.specs.Fresh.{FreshDevicesAs, FreshLogsAs, ◌>>=◌, with_devices, with_logs}
 use Rattle.bac_plan.specs.Naming.{named_rows, new_device_put, new_log_put, rows_of}
 use Rattle.bac_plan.specs.NamingLaws.{device_after}
@@ -132,9 +132,9 @@ shows_log trees s told l there =
 
 -- ---- rows that take the place of others
 
-module _ (changed whole stopped : DeviceRow → Bool) where
+module _ (changed : DeviceRow → Bool) (revision : DeviceRow → Option ℕ) (whole stopped : DeviceRow → Bool) where
   abbrev device_now : DeviceRow → DeviceAs
-  device_now d = turned (whole d) (stopped d) d
+  device_now d = turned (revision d) (whole d) (stopped d) d
 
   abbrev device_then : DeviceRow → DeviceAs
   device_then d = if changed d then device_now d else device_as d
@@ -153,7 +153,7 @@ module _ (changed whole stopped : DeviceRow → Bool) where
       → (d : DeviceRow) → Contains ds d → ShowsAt 10 (left_in 1 in_devices rows (device_rows ds)) (columns_of_device (device_then d))
   devices_changed rows ds apart all d there =
       subst (ShowsAt 10 (left_in 1 in_devices rows (device_rows ds))) (columns_then d)
-      (each_changed 1 in_devices (shown 10) (λ (d : DeviceRow). d.id) device_columns (λ d. columns_of_device (device_now d)) changed (λ r. refl) (λ d. refl) (λ d. refl) (λ d. device_kept d (whole d) (stopped d)) ds rows apart all d there)
+      (each_changed 1 in_devices (shown 10) (λ (d : DeviceRow). d.id) device_columns (λ d. columns_of_device (device_now d)) changed (λ r. refl) (λ d. refl) (λ d. refl) (λ d. device_kept d (revision d) (whole d) (stopped d)) ds rows apart all d there)
 
 module _ (changed : LogRow → Bool) (stopped : Bool) where
   abbrev log_then : LogRow → Values
@@ -187,7 +187,7 @@ stopped_devices named old new s t puts has rise stands are put told d there =
     ∙ elsewhere_stays 1 in_devices second (left_in 1 in_devices (old.trees 1) first) (flat_elsewhere 1 in_devices (log_put_again true) (λ l. refl) (stops named s.devices.items) s.logs.items) in
     tells_device new.trees t (stopped_after named (device_as d)) told
     (subst (λ (r : List Values). ShowsAt 10 r (columns_of_device (stopped_after named (device_as d)))) (sym (now ∙ cut))
-    (devices_changed (λ e. names_whole named (device_as e) && not e.stopped) (λ e. e.whole) (λ e. true) (old.trees 1) s.devices.items (devices_apart old.trees s rise stands) (shows_device old.trees s stands) d there))
+    (devices_changed (λ e. names_whole named (device_as e) && not e.stopped) (λ e. e.revision) (λ e. e.whole) (λ e. true) (old.trees 1) s.devices.items (devices_apart old.trees s rise stands) (shows_device old.trees s stands) d there))
 
 stopped_logs : (named : List Named) (old new : Database) (s t : Standing) (puts : List Put) → HasArchive old.schema → RowsRise old.trees → StandsAs old.trees s
     → map put_as puts ≡ stop_devices named s ++ stop_logs named s → IsPut old new puts → StandsAs new.trees t → (l : LogRow) → Contains s.logs.items l → TellsLog t (log_stopped named s l)
@@ -267,7 +267,7 @@ module _ (named : List Named) (old new : Database) (s t : Standing) (puts : List
 
   of_devices : (d : DeviceRow) → Contains s.devices.items d → TellsDevice t (device_after named (device_as d))
   of_devices d there =
-      let it = devices_changed (λ e. changes_device named (device_as e)) (λ e. e.whole || names_whole named (device_as e)) (λ e. false) (old.trees 1) s.devices.items
+      let it = devices_changed (λ e. changes_device named (device_as e)) (λ e. revision_for (names_whole named (device_as e)) (device_as e)) (λ e. e.whole || names_whole named (device_as e)) (λ e. false) (old.trees 1) s.devices.items
       (devices_apart old.trees s rise stands) (shows_device old.trees s stands) d there in
       tells_device new.trees t (device_after named (device_as d)) told
       (it.0, subst (λ (r : List Values). Contains r it.0) (sym devices_are) (new_beside 1 in_devices new_device_put (λ x. refl) (λ x. refl) f.devices one devices_free it.0 it.1), it.2)

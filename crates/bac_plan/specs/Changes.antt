@@ -23,9 +23,13 @@ names_device named d = list_any (λ n. is_at n d) named
 abbrev pub names_whole : List Named → DeviceAs → Bool
 names_whole named d = list_any (λ n. is_at n d && is_whole n) named
 
+-- Its Database_Revision is that of its Object_List as that was asked for: of a device whose list wasn't, none.
+abbrev pub revision_for : (whole : Bool) → DeviceAs → Option ℕ
+revision_for whole d = if whole && not d.whole then None else d.revision
+
 -- one that is named, maybe with all of them
 abbrev pub named_as : (whole : Bool) → DeviceAs → DeviceAs
-named_as whole d = record d { whole = d.whole || whole; stopped = false }
+named_as whole d = record d { revision = revision_for whole d; whole = d.whole || whole; stopped = false }
 
 -- the words change its row
 abbrev pub changes_device : List Named → DeviceAs → Bool

@@ -1,5 +1,6 @@
 pub mod Addresses
 pub mod Devices
+pub mod Clock
 pub mod Logs
 pub mod Pollers
 pub mod Site

@@ -3,7 +3,7 @@ use Rattle.std.specs.Prelude.{◌≡◌, ◌≤◌, ⊤, ℕ, List, filter, map,
 use Rattle.std.specs.List.{AllZip, Contains}
 use Rattle.bac_archive3.specs.declared.row.DeviceRow.{DeviceRow}
 use Rattle.bac_archive3.specs.declared.row.LogRow.{LogRow}
-use Rattle.bac_device_poll.specs.Poll.{fresh}
+use Rattle.bac_device_poll.specs.Poll.{fresh, with_steps}
 use Rattle.bac_device_poll.specs.State.{LogAs as TaskAs}
 use Rattle.bac_device_poll.specs.declared.poll.Known.{Known}
 use Rattle.bac_answers.specs.declared.way.Way.{Way}
@@ -12,6 +12,7 @@ use Rattle.bac_device_poller.specs.Poller.{PollerAs, fresh_poller}
 use Rattle.bac_device_poller.specs.Rows.{device_as}
 use Rattle.bac_link.specs.declared.transactions.Transactions.{Transactions}
 use Rattle.bac_resume.specs.Rows.{LogTold}
+use Rattle.bac_plan.specs.Clock.{asks_clock}
 use Rattle.bac_plan.specs.Devices.{IsUnreadable, IsWayOf, called_of, who_of}
 use Rattle.bac_plan.specs.Logs.{IsTask, is_asked, is_stopped, record_of, trend_log}
 use Rattle.bac_plan.specs.declared.fault.PlanFault.{PlanFault}
@@ -40,7 +41,8 @@ pub record IsPoller (options : Options) (told : List LogTold) (d : DeviceRow) (l
   pub way_is : IsWayOf d way
   pub known_is : IsKnown d logs known
   pub tasks_are : AllZip (IsTask told) (filter is_asked logs) tasks
-  pub is : p ≡ fresh_poller (fresh known tasks options.records options.retries options.clocks)
+  pub is : p ≡ fresh_poller
+      (with_steps options.steps (fresh known tasks options.records options.retries (asks_clock options d)))
       (transactions_on way options.retries) way options.retries
       (fresh_rows (device_as d) (called_of d) (map (record_of (called_of d) told) logs))
 

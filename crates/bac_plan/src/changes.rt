@@ -6,7 +6,7 @@ ghost use Rattle.std.specs.Option.{option_copied};
 ghost use Rattle.bac_device_poller.specs.Puts.{put_as};
 ghost use Rattle.bac_device_poller.specs.Rows.{device_as};
 ghost use Rattle.bac_plan.specs.Changes.{asks_again, device_change, device_of, log_change};
-ghost use Rattle.bac_plan.specs.Changes.{names_device, names_log, names_whole};
+ghost use Rattle.bac_plan.specs.Changes.{names_device, names_log, names_whole, revision_for};
 
 use crate::named::Named;
 use crate::rows::{device_row, log_row};
@@ -49,6 +49,17 @@ fn names_log(named: &[Named], device: &DeviceRow, instance: u32) -> bool
     false
 }
 
+// The revision of a device that is kept whole from now on isn't that of a list that was asked for.
+fn revision_for(device: &DeviceRow, whole: bool) -> Option<u32>
+    ensures { result ≡ revision_for whole (device_as device.now) }
+{
+    if whole && !device.whole {
+        None
+    } else {
+        device.revision
+    }
+}
+
 // Puts the row of a device, if the words change it.
 fn put_device(puts: &mut Vec<Put>, named: &[Named], device: &DeviceRow) -> Result<(), AllocError>
     ensures { OnOk result (map put_as puts.new.items
@@ -56,8 +67,9 @@ fn put_device(puts: &mut Vec<Put>, named: &[Named], device: &DeviceRow) -> Resul
 {
     let whole = names_whole(named, device);
     if (device.stopped && names_device(named, device)) || (whole && !device.whole) {
+        let revision = revision_for(device, whole);
         let whole = device.whole || whole;
-        puts.push(Put::Device(device_row(device, whole, false)?))?;
+        puts.push(Put::Device(device_row(device, revision, whole, false)?))?;
     }
     Ok(())
 }

@@ -9,6 +9,7 @@
 
 mod address;
 mod changes;
+mod clock;
 mod fault;
 mod fresh_device;
 mod fresh_log;

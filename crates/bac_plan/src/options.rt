@@ -11,9 +11,11 @@ pub struct Options {
     pub limits: Limits,
     /// How many records a request asks for.
     pub records: Count,
+    /// After how many replies with records the poll of a log ends; none: after all of them.
+    pub steps: Option<u32>,
     /// How often a request is repeated.
     pub retries: u8,
-    /// Whether the clocks of devices are asked for.
+    /// Whether the clocks of devices are asked for: that of each once a day.
     pub clocks: bool,
     /// This machine's clock in UTC, as the run begins.
     pub begun: Stamp,

@@ -3,6 +3,7 @@
 ghost use Rattle.std.specs.Prelude.{◌≡◌, IfErr, IfOk};
 ghost use Rattle.bac_plan.specs.Pollers.{IsKnown, IsPoller, IsPollerFault};
 
+use crate::clock::asks_clock;
 use crate::fault::PlanFault;
 use crate::logs::{records_of, stopped_of, tasks_of};
 use crate::options::Options;
@@ -46,15 +47,10 @@ pub(crate) fn poller_of(
     let tasks = tasks_of(alloc, logs, told)?;
     let called = called_of(alloc, &device)?;
     let records = records_of(alloc, called.as_slice(), logs, told)?;
+    let clock = asks_clock(alloc, options, &device)?;
     let transactions = transactions_on(&way, options.retries);
-    let poll = DevicePoll::new(
-        alloc,
-        known,
-        tasks,
-        options.records,
-        options.retries,
-        options.clocks,
-    );
+    let poll = DevicePoll::new(alloc, known, tasks, options.records, options.retries, clock);
+    let poll = poll.with_steps(options.steps);
     let rows = Rows::new(alloc, device, called, records);
     Ok(DevicePoller::new(poll, transactions, way, options.retries, rows))
 }

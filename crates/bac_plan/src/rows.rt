@@ -9,14 +9,17 @@ use crate::texts::copied;
 use bac_archive3::{DeviceRow, LogRow};
 use std::alloc::AllocError;
 
-/// The row of a device, which is kept whole, or isn't, and is stopped, or isn't.
+/// The row of a device, of which that revision is known, which is kept whole, or isn't, and is
+/// stopped, or isn't.
 pub(crate) fn device_row(
     device: &DeviceRow,
+    revision: Option<u32>,
     whole: bool,
     stopped: bool,
 ) -> Result<DeviceRow, AllocError>
     ensures { IfOk result (λ row. device_as row
-        ≡ record (device_as device.now) { whole = whole; stopped = stopped }) }
+        ≡ record (device_as device.now)
+        { revision = revision; whole = whole; stopped = stopped }) }
 {
     let name = copied(&device.name)?;
     let answered = copied(&device.answered)?;
@@ -27,7 +30,7 @@ pub(crate) fn device_row(
         dadr: device.dadr.clone()?,
         instance: device.instance,
         name,
-        revision: device.revision,
+        revision,
         whole,
         stopped,
         answered,

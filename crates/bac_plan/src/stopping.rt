@@ -88,7 +88,7 @@ fn put_device(puts: &mut Vec<Put>, named: &[Named], device: &DeviceRow) -> Resul
         ≡ map put_as puts.old.items ++ device_stop named.now (device_as device.now)) }
 {
     if names_whole(named, device) && !device.stopped {
-        puts.push(Put::Device(device_row(device, device.whole, true)?))?;
+        puts.push(Put::Device(device_row(device, device.revision, device.whole, true)?))?;
     }
     Ok(())
 }

@@ -1,7 +1,7 @@
 //! What words put on record, and stop: a device that is new and one that was stopped, a log that
 //! was stopped and one that is new, each named twice.
 
-use crate::site::standing;
+use crate::site::{device, standing};
 use bac_archive3::Put;
 use bac_plan::{Choice, Named, NamingFault, StopFault, rows_named, rows_stopped};
 use std::alloc::{AllocError, Global};
@@ -60,6 +60,39 @@ fn puts_what_is_named(rt: HostRuntime) -> Result<(), Fail> {
     assert!(rt; all[2] == (3, 3, false));
     assert!(rt; all[3] == (2, 6, false));
     assert!(rt; all[4] == (2, 7, false));
+    Ok(())
+}
+
+/// A device of which some logs were named has the revision that came with these; once all are named
+/// it has none, so its list is asked for. One that is whole by then keeps its own.
+#[test]
+fn whole_device_is_asked_for_its_list(rt: HostRuntime) -> Result<(), Fail> {
+    let alloc = rt.alloc();
+    let mut third = device(alloc, 3, "10.0.0.3:47808", 0)?;
+    third.revision = Some(8);
+    third.whole = true;
+    let mut first = device(alloc, 1, "10.0.0.1:47808", 0)?;
+    first.revision = Some(7);
+    let mut devices = Vec::new(alloc);
+    devices.push(third)?;
+    devices.push(first)?;
+    let mut told = standing(alloc)?;
+    told.devices = devices;
+    let mut words = Vec::new(alloc);
+    words.push(named(alloc, "10.0.0.1:47808", Choice::Whole)?)?;
+    words.push(named(alloc, "10.0.0.3:47808", Choice::Whole)?)?;
+    let Ok(puts) = rows_named(alloc, &told, words.as_slice()) else {
+        return Err(Fail::from("no rows"));
+    };
+    assert!(rt; puts.len() == 2);
+    let Put::Device(third) = &puts[0] else {
+        return Err(Fail::from("no device"));
+    };
+    assert!(rt; third.id == 3 && third.whole && third.revision == Some(8));
+    let Put::Device(first) = &puts[1] else {
+        return Err(Fail::from("no device"));
+    };
+    assert!(rt; first.id == 1 && first.whole && first.revision == None);
     Ok(())
 }
 

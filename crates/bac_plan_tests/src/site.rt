@@ -20,7 +20,7 @@ const FIRST: [u8; 17] = [
 /// The network header of one for 0a on network 7.
 const SECOND: [u8; 6] = [0x01, 0x24, 0x00, 0x07, 0x01, 0x0a];
 
-fn device(alloc: Global, id: u16, address: &str, dnet: u16) -> Result<DeviceRow, AllocError> {
+pub fn device(alloc: Global, id: u16, address: &str, dnet: u16) -> Result<DeviceRow, AllocError> {
     let dadr = if dnet == 0 { "" } else { "0a" };
     Ok(DeviceRow {
         id,
@@ -37,7 +37,7 @@ fn device(alloc: Global, id: u16, address: &str, dnet: u16) -> Result<DeviceRow,
     })
 }
 
-fn log(id: u16, device: u16, instance: u32, stopped: bool) -> LogRow {
+pub fn log(id: u16, device: u16, instance: u32, stopped: bool) -> LogRow {
     LogRow {
         id,
         device,
@@ -81,7 +81,7 @@ pub fn standing(alloc: Global) -> Result<Standing, AllocError> {
     })
 }
 
-fn options() -> Result<Options, Fail> {
+pub fn options() -> Result<Options, Fail> {
     let Ok(at) = DateTime::from_nanosecond(1_796_040_000_000_000_000) else {
         return Err(Fail::from("no date and time"));
     };
@@ -90,6 +90,7 @@ fn options() -> Result<Options, Fail> {
     Ok(Options {
         limits: Limits::new(64, 4, 1024, 3000),
         records,
+        steps: None,
         retries: 1,
         clocks: false,
         begun,

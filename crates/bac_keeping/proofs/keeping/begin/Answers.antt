@@ -1,10 +1,11 @@
-use Rattle.std.proofs.Common.{◌≡◌, ℕ, List, rules, subst, arith}
+use Rattle.std.proofs.Common.{ℕ, List, rules, subst, arith}
 use Rattle.sqlite.specs.Held.{state}
 use Rattle.sqlite.specs.State.{HasCleanDisk}
 use Rattle.bac_archive3.proofs.RowsLemmas.{because}
 use Rattle.bac_plan.specs.declared.named.Named.{Named}
 use Rattle.bac_keeping.specs.Keeping.{IsTold}
 use Rattle.bac_keeping.specs.Parts.{HaltsNaming, HaltsOpening}
+use Rattle.bac_keeping.proofs.Settled.{settled_as}
 use Rattle.bac_keeping.proofs.Begun.{begun_crash, named_by, not_named, not_opened}
 use Rattle.bac_keeping.proofs.keeping.begin.Goals as goal
 
@@ -63,3 +64,29 @@ pub returns-in-Err-clause-crash : goal.returns-in-Err-clause-crash
 returns-in-Err-clause-crash g c =
     begun_crash c.args.run.now _ (state g.S.Store c.open_told.new.conn) _ c.in_ok-told.told _ _ c.as_str.ensures.value c.as_slice.ensures.value c.in_ok-told.ensures.told
     c.open_told.ensures.crash c.name_told.ensures.crash
+
+pub returns-in_err-told-clause-settled : goal.returns-in_err-told-clause-settled
+returns-in_err-told-clause-settled g c =
+    settled_as c.from_residual.result c.in_err-told.field-0.0 (state g.S.Store c.args.conn.now) (state g.S.Store c.open_told.new.conn) (search rules) c.in_err-told.ensures.settled
+
+pub returns-in_err-told-2-clause-settled : goal.returns-in_err-told-2-clause-settled
+returns-in_err-told-2-clause-settled g c =
+    settled_as c.from_residual-in_err-told-2.result c.in_err-told-2.field-0.0 (state g.S.Store c.args.conn.now) (state g.S.Store c.name_told.new.conn) (search rules)
+    (λ clean was is_open.
+    let early : HasCleanDisk (state g.S.Store c.open_told.new.conn) = omega (arith, clean, c.name_told.ensures.crash.clean) in
+    c.in_err-told-2.ensures.settled clean (c.in_ok-told.ensures.committed early) is_open)
+
+pub returns-in-Ok-clause-committed : goal.returns-in-Ok-clause-committed
+returns-in-Ok-clause-committed g c clean =
+    let early : HasCleanDisk (state g.S.Store c.open_told.new.conn) = omega (arith, clean, c.name_told.ensures.crash.clean) in
+    c.in_ok-told-2.ensures.settled clean (c.in_ok-told.ensures.committed early)
+
+pub returns-in-Ok-clause-settled : goal.returns-in-Ok-clause-settled
+returns-in-Ok-clause-settled g c clean was =
+    let early : HasCleanDisk (state g.S.Store c.open_told.new.conn) = omega (arith, clean, c.name_told.ensures.crash.clean) in
+    c.in_ok-told-2.ensures.settled clean (c.in_ok-told.ensures.committed early)
+
+pub returns-in-Err-clause-settled : goal.returns-in-Err-clause-settled
+returns-in-Err-clause-settled g c clean was is_open =
+    let early : HasCleanDisk (state g.S.Store c.open_told.new.conn) = omega (arith, clean, c.name_told.ensures.crash.clean) in
+    c.in_ok-told-2.ensures.settled clean (c.in_ok-told.ensures.committed early)

@@ -53,3 +53,18 @@ returns-in-Ok-clause-crash g c =
     polled_crash (site_acts g.P.Port.sends g.P.Port.receives_within g.C.Clock.reads) c.args.run.now
     (around c.args.port.now c.args.clock.now (g.W.Write.contents c.args.output.now) (g.V.Write.contents c.args.errors.now)) (state g.S.Store c.args.conn.now) (state g.S.Store c.begin.new.conn)
     (state g.S.Store c.poll_devices.new.conn) c.in-Ok.site _ c.new-site.ensures c.in-Ok.ensures.set c.begin.ensures.crash c.poll_devices.ensures.crash
+
+pub returns-in-Ok-poll_devices-clause-committed : goal.returns-in-Ok-poll_devices-clause-committed
+returns-in-Ok-poll_devices-clause-committed g c clean =
+    let early : HasCleanDisk (state g.S.Store c.begin.new.conn) = omega (arith, clean, c.poll_devices.ensures.crash.clean) in
+    c.in-Ok-poll_devices.ensures.settled clean (c.in-Ok.ensures.committed early)
+
+pub returns-in-Ok-poll_devices-clause-settled : goal.returns-in-Ok-poll_devices-clause-settled
+returns-in-Ok-poll_devices-clause-settled g c clean was =
+    let early : HasCleanDisk (state g.S.Store c.begin.new.conn) = omega (arith, clean, c.poll_devices.ensures.crash.clean) in
+    c.in-Ok-poll_devices.ensures.settled clean (c.in-Ok.ensures.committed early)
+
+pub returns-in-Ok-clause-settled : goal.returns-in-Ok-clause-settled
+returns-in-Ok-clause-settled g c clean was is_open =
+    let early : HasCleanDisk (state g.S.Store c.begin.new.conn) = omega (arith, clean, c.poll_devices.ensures.crash.clean) in
+    c.in-Err-poll_devices.ensures.settled clean (c.in-Ok.ensures.committed early) is_open

@@ -1,4 +1,4 @@
-use Rattle.std.proofs.Common.{◌≡◌, [], subst, ◌∙◌, arith}
+use Rattle.std.proofs.Common.{◌≡◌, subst, ◌∙◌, arith}
 use Rattle.sqlite.specs.Effect.{Database}
 use Rattle.sqlite.specs.Held.{state}
 use Rattle.sqlite.specs.State.{HasCleanDisk}
@@ -6,6 +6,7 @@ use Rattle.sqlite.proofs.StateLemmas.{survives_then}
 use Rattle.bac_archive3.proofs.RowsLemmas.{if_err}
 use Rattle.bac_archive3.specs.Schema.{no_schema}
 use Rattle.bac_keeping.specs.Stopping.{MayHaveStopped, StopsNothing}
+use Rattle.bac_keeping.proofs.Settled.{settled_behind, settled_left, settled_same}
 use Rattle.bac_keeping.proofs.Opened.{left_is}
 use Rattle.bac_keeping.proofs.Untouched.{has_some, opened_there, stops_behind}
 use Rattle.bac_keeping.proofs.stopping.stop_named.Goals as goal
@@ -48,3 +49,19 @@ returns-in-Err-stands-clause-neither g c clean =
       c.in-Err-stands.ensures.cause clean,
       left_is mid (state g.S.Store c.stands.new.conn) (c.in_default.ensures.committed early) (c.in-Err-stands.ensures.left clean),
     )
+
+pub returns-in-Err-stands-clause-settled : goal.returns-in-Err-stands-clause-settled
+returns-in-Err-stands-clause-settled g c clean was is_open =
+    let mid = state g.S.Store c.open_at.new.conn in
+    let early : HasCleanDisk mid = c.stands.ensures.clean clean in
+    settled_left mid (state g.S.Store c.stands.new.conn) (c.in_default.ensures.committed early) (c.in-Err-stands.ensures.left clean) is_open
+
+pub returns-in-Ok-clause-settled : goal.returns-in-Ok-clause-settled
+returns-in-Ok-clause-settled g c =
+    let mid = state g.S.Store c.open_at.new.conn in
+    let now = state g.S.Store c.stands.new.conn in
+    settled_behind c.stop_told.result (state g.S.Store c.args.conn.now) now (state g.S.Store c.stop_told.new.conn)
+    (λ clean.
+    let later : HasCleanDisk now = omega (arith, clean, c.stop_told.ensures.crash.clean) in
+    settled_same mid now (c.in_default.ensures.committed (c.stands.ensures.clean later)) (c.in-Ok.ensures.same later))
+    c.stop_told.ensures.settled

@@ -1,8 +1,9 @@
-use Rattle.std.proofs.Common.{◌≡◌, List, refl, subst}
+use Rattle.std.proofs.Common.{List, refl, subst}
 use Rattle.sqlite.specs.Held.{state}
 use Rattle.sqlite.specs.State.{HasCleanDisk}
 use Rattle.bac_archive3.specs.Put.{FailsToPut}
 use Rattle.bac_archive3.specs.declared.row.Put.{Put}
+use Rattle.std.proofs.Common.{sym, ◌∙◌}
 use Rattle.bac_keeping.proofs.Untouched.{stopped_crash}
 use Rattle.bac_keeping.proofs.stopping.stop_told.Goals as goal
 
@@ -31,3 +32,14 @@ returns-in-Err-put-clause-neither g c clean =
 
 pub returns-in-Err-clause-neither : goal.returns-in-Err-clause-neither
 returns-in-Err-clause-neither g c clean = (refl, (c.args.told, c.requires.told clean, c.in-Err.ensures.err))
+
+pub returns-in-Ok-put-clause-settled : goal.returns-in-Ok-put-clause-settled
+returns-in-Ok-put-clause-settled g c clean was =
+    let early : HasCleanDisk (state g.S.Store c.args.conn.now) = c.put.ensures.clean clean in
+    (c.in-Ok-put.ensures.all clean (c.requires.archive early)).1
+
+pub returns-in-Err-put-clause-settled : goal.returns-in-Err-put-clause-settled
+returns-in-Err-put-clause-settled g c clean was is_open =
+    let early : HasCleanDisk (state g.S.Store c.args.conn.now) = c.put.ensures.clean clean in
+    let same = c.in-Err-put.ensures.neither clean is_open (c.requires.archive early) in
+    same.1 ∙ was ∙ sym same.0
