@@ -1,0 +1,4 @@
+pub mod Room
+pub mod Kept
+pub mod Files
+pub mod Laws
