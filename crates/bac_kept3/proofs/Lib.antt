@@ -3,3 +3,4 @@ pub mod RowsLemmas
 pub mod PartsLemmas
 pub mod ShownLemmas
 pub mod RisingLemmas
+pub mod LastLemmas

@@ -7,4 +7,8 @@ pub mod Csv
 pub mod Items
 pub mod Parts
 pub mod Faults
+pub mod Records
+pub mod Silence
+pub mod Lasts
+pub mod LastRows
 pub mod Laws

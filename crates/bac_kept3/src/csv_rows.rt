@@ -40,22 +40,22 @@ const NAMES: [&[u8]; 12] = [
 /// The texts of a log that stand in each of its rows.
 #[derive(Drop)]
 pub(crate) struct LogFields<'a> {
-    address: Vec<u8>,
-    device: Vec<u8>,
-    instance: Vec<u8>,
-    name: &'a [u8],
-    source: &'a [u8],
-    units: &'a [u8],
+    pub(crate) address: Vec<u8>,
+    pub(crate) device: Vec<u8>,
+    pub(crate) instance: Vec<u8>,
+    pub(crate) name: &'a [u8],
+    pub(crate) source: &'a [u8],
+    pub(crate) units: &'a [u8],
 }
 
 /// The texts of an item that aren't kept so.
 #[derive(Drop)]
-struct ItemFields {
-    epoch: Vec<u8>,
-    number: Vec<u8>,
-    value: Vec<u8>,
-    datum: Vec<u8>,
-    flags: Vec<u8>,
+pub(crate) struct ItemFields {
+    pub(crate) epoch: Vec<u8>,
+    pub(crate) number: Vec<u8>,
+    pub(crate) value: Vec<u8>,
+    pub(crate) datum: Vec<u8>,
+    pub(crate) flags: Vec<u8>,
 }
 
 /// A number as a text.
@@ -171,7 +171,7 @@ fn flags_text(alloc: Global, flags: &[u8]) -> Result<Vec<u8>, AllocError>
 
 impl ItemFields {
     /// Those of an item.
-    fn of(alloc: Global, item: &Item<'_>) -> Result<ItemFields, AllocError>
+    pub(crate) fn of(alloc: Global, item: &Item<'_>) -> Result<ItemFields, AllocError>
         ensures { IfOk result (AreItemFields item.now) }
     {
         let epoch = number_text(alloc, u64::from(item.epoch))?;
@@ -190,7 +190,7 @@ impl ItemFields {
 }
 
 /// The text of a row of these fields.
-fn row_of(alloc: Global, fields: &[&[u8]]) -> Result<Vec<u8>, AllocError>
+pub(crate) fn row_of(alloc: Global, fields: &[&[u8]]) -> Result<Vec<u8>, AllocError>
     ensures { IfOk result
         (λ text. text.items ≡ row_text default_writer (map (λ f. f.now) fields.now)) }
 {

@@ -37,7 +37,11 @@ fn device_with(devices: &[DeviceRow], id: u16) -> Option<&DeviceRow>
 }
 
 /// A log, with its device, if it is chosen. One whose device isn't on record is shown nowhere.
-fn shown_of<'a>(known: &'a Known, choice: Choice<'_>, log: &'a LogRow) -> Option<ShownLog<'a>>
+pub(crate) fn shown_of<'a>(
+    known: &'a Known,
+    choice: Choice<'_>,
+    log: &'a LogRow,
+) -> Option<ShownLog<'a>>
     ensures { option_map told_of result ≡ shown_of known.now choice.entry log.now }
 {
     let device = device_with(known.devices.as_slice(), log.device)?;
@@ -52,7 +56,7 @@ fn shown_of<'a>(known: &'a Known, choice: Choice<'_>, log: &'a LogRow) -> Option
 }
 
 /// These logs, and behind them one that there may be.
-fn with_shown<'a>(
+pub(crate) fn with_shown<'a>(
     all: Vec<ShownLog<'a>>,
     shown: Option<ShownLog<'a>>,
 ) -> Result<Vec<ShownLog<'a>>, AllocError>

@@ -1,0 +1,4 @@
+pub mod FoundLemmas
+pub mod TakingLemmas
+pub mod KeptLemmas
+pub mod SeekLemmas

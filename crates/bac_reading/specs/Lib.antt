@@ -1,0 +1,9 @@
+pub mod Fault
+pub mod Taking
+pub mod Report
+pub mod Scene
+pub mod Listing
+pub mod Kept
+pub mod Last
+pub mod Program
+pub mod Checking
