@@ -41,21 +41,43 @@ fn counts_the_parts_of_a_folder(rt: HostRuntime) -> Result<(), Fail> {
 #[test]
 fn tells_what_is_missing(rt: HostRuntime) -> Result<(), Fail> {
     create_dir_all(&rt, "check_holes")?;
-    // The first part is gone, so the numbers of its epochs are.
-    assert!(rt; make(&rt, "check_holes/000002.db", NEXT).is_ok());
-    let holes = checked(&rt, "check_holes");
-    let absent = checked(&rt, "check_holes/000009.db");
+    // The gap of the first log was taken out, and where its epoch begins was lowered.
+    let mut rows = String::from_str(rt.alloc(), SITE)?;
+    rows.push_str("DELETE FROM items WHERE id = (1 << 47) + 11;")?;
+    rows.push_str("UPDATE beginnings SET number = 8 WHERE id = 1 << 15;")?;
+    assert!(rt; make(&rt, "check_holes/site.db", rows.as_str()).is_ok());
+    let holes = checked(&rt, "check_holes/site.db");
     remove_dir_all(&rt, "check_holes")?;
+    let lines = "192.0.2.1:47808/5/0a 3 epoch 0: 10 to 13, 2 records, 0 gaps\n\
+        hole 8 9\n\
+        hole 11 12\n\
+        192.0.2.1:47808/5/0a 3 epoch 1: 1 to 1, 1 record, 0 gaps\n\
+        192.0.2.1:47808/5/0a 4 epoch 0: 500 to 500, 1 record, 0 gaps\n\
+        192.0.2.1:47808/5/0b 4 epoch 0: 7 to 7, 1 record, 0 gaps\n";
+    let told = "file fault\ncheck_holes/site.db: numbers are missing in it\n";
+    assert!(rt; holes.is(6, lines, told));
+    Ok(())
+}
+
+#[test]
+fn tells_of_files_that_are_no_archives(rt: HostRuntime) -> Result<(), Fail> {
+    create_dir_all(&rt, "check_none")?;
+    write(&rt, "check_none/000001.db", b"")?;
+    assert!(rt; make(&rt, "check_none/000002.db", NEXT).is_ok());
+    let absent = checked(&rt, "check_none/other.db");
+    let parts = checked(&rt, "check_none");
+    remove_dir_all(&rt, "check_none")?;
     assert!(rt;
         absent.is(
             6,
             "",
-            "file fault\ncheck_holes/000009.db: there is no such file\n"
+            "file fault\ncheck_none/other.db: there is no such file\n"
         )
     );
     let lines = "192.0.2.1:47808/5/0a 3 epoch 1: 1 to 2, 2 records, 0 gaps\n\
         192.0.2.1:47808/5/0a 4 epoch 0: 500 to 500, 1 record, 0 gaps\n\
         192.0.2.1:47808/5/0b 4 epoch 0: nothing\n";
-    assert!(rt; holes.is(0, lines, ""));
+    let told = "file fault\ncheck_none/000001.db: there is nothing in it\n";
+    assert!(rt; parts.is(6, lines, told));
     Ok(())
 }

@@ -1,5 +1,5 @@
 -- A part that was taken as an archive, and what came of it then.
-use Rattle.std.proofs.Common.{◌≡◌, ◌∙◌, ap, true, inl, inr, subst, IsTrue, Result, Ok, Err}
+use Rattle.std.proofs.Common.{◌≡◌, ◌∙◌, ap, true, inl, inr, subst, IsTrue, Ok, Err}
 use Rattle.sqlite_trees.specs.declared.store.Store.{Ghosts}
 use Rattle.sqlite.specs.Effect.{Database}
 use Rattle.sqlite.specs.Held.{Held as Connected, state}

@@ -1,5 +1,5 @@
 -- An archive that is printed, or not to its end.
-use Rattle.std.proofs.Common.{◌≡◌, ◌++◌, [], List, false, inl, inr, refl, sym, subst, append-nil, Ok, Err}
+use Rattle.std.proofs.Common.{◌≡◌, [], false, inl, inr, refl, sym, subst, append-nil, Ok, Err}
 use Rattle.sqlite.specs.declared.error.Error.{Error}
 use Rattle.bac_archive3.specs.Archive.{IsArchive}
 use Rattle.bac_files.specs.Parts.{Reading}

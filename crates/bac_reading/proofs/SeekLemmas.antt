@@ -1,15 +1,12 @@
 -- What comes of an archive that is looked into.
-use Rattle.std.proofs.Common.{◌≡◌, List, Some, inl, inr, refl, ap, subst, sym, Ok, Err}
-use Rattle.std.specs.List.{list_any}
+use Rattle.std.proofs.Common.{inl, inr, ap, Ok, Err}
 use Rattle.sqlite.specs.declared.error.Error.{Error}
 use Rattle.bac_files.specs.Parts.{Reading}
-use Rattle.bac_kept3.specs.Lasts.{is_sought, last_logs}
 use Rattle.bac_kept3.specs.Records.{FailsBy}
 use Rattle.bac_kept3.specs.declared.fault.Fault.{Fault as KeptFault}
-use Rattle.bac_kept3.specs.declared.lasts.Lasts.{Lasts}
 use Rattle.bac_reading.specs.Fault.{stop_of}
-use Rattle.bac_reading.specs.Last.{FailsToLook, SeeksBy, SeeksLess}
-use Rattle.bac_reading.specs.Taking.{IsClean, Read}
+use Rattle.bac_reading.specs.Last.{FailsToLook, SeeksBy}
+use Rattle.bac_reading.specs.Taking.{Read}
 use Rattle.bac_reading.specs.declared.last.Seeker.{Seeker}
 
 -- a record isn't found, for a cause

@@ -1,5 +1,5 @@
 -- Why a database isn't taken as an archive.
-use Rattle.std.proofs.Common.{◌≡◌, ◌≢◌, inl, inr, refl, sym, subst, Err}
+use Rattle.std.proofs.Common.{◌≢◌, inl, inr, refl, sym, subst, Err}
 use Rattle.sqlite_trees.specs.declared.store.Store.{Ghosts}
 use Rattle.sqlite.specs.Held.{Held as Connected, state}
 use Rattle.sqlite.specs.State.{HasCleanDisk, State}

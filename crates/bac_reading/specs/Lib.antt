@@ -7,3 +7,4 @@ pub mod Kept
 pub mod Last
 pub mod Program
 pub mod Checking
+pub mod Laws

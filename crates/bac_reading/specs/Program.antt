@@ -1,5 +1,5 @@
 -- What `bac kept` does. Read `RunsKept`.
-use Rattle.std.specs.Prelude.{◌≡◌, ◌⊎◌, ℕ, Bool, true, false, List, Result, Ok, Err}
+use Rattle.std.specs.Prelude.{◌≡◌, ◌⊎◌, ℕ, true, false, List, Result, Ok}
 use Rattle.bac_files.specs.Parts.{Listing, PartRules}
 use Rattle.bac_reading.specs.Kept.{PrintsArchive}
 use Rattle.bac_reading.specs.Last.{FindsLasts}

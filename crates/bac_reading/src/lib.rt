@@ -11,6 +11,7 @@ mod checking;
 mod fault;
 mod kept;
 mod last;
+mod laws;
 mod listing;
 mod program;
 mod report;
@@ -18,4 +19,5 @@ mod taking;
 
 pub use checking::run_check;
 pub use fault::{Fault, Trouble};
+pub use laws::{zero_is_whole, zero_prints_each};
 pub use program::{Asked, run_kept};

@@ -1,4 +1,4 @@
-use Rattle.std.proofs.Common.{◌≡◌, inl, inr, map, refl, subst}
+use Rattle.std.proofs.Common.{inl, inr, map, refl, subst}
 use Rattle.std.specs.Io.KnownBytes.{Appends}
 use Rattle.std.specs.String.{string_bytes}
 use Rattle.bac_files.specs.Parts.{part_rules}

@@ -1,4 +1,4 @@
-use Rattle.std.proofs.Common.{◌≡◌, ◌∙◌, inl, inr, refl, sym, true, false, rules}
+use Rattle.std.proofs.Common.{◌≡◌, inl, inr, refl, true, false, rules}
 use Rattle.bac_reading.specs.Report.{goes_on}
 use Rattle.bac_reading.proofs.kept.Printer.finish.Goals as goal
 

@@ -1,4 +1,4 @@
-use Rattle.std.proofs.Common.{◌≡◌, Some, ap, inr, refl, subst, sym}
+use Rattle.std.proofs.Common.{◌≡◌, ap, inr, refl, subst, sym}
 use Rattle.std.specs.List.{list_any}
 use Rattle.sqlite.specs.Effect.{Database}
 use Rattle.sqlite.specs.Held.{state}
