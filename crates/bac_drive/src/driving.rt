@@ -1,11 +1,13 @@
 //! The loop.
 
 ghost use Rattle.std.specs.Prelude.{◌≡◌, ◌≢◌, Err, IfErr, IfOk, OnErr, OnOk, IsTrue};
+ghost use Rattle.std.specs.Io.KnownBytes.{Appends};
 ghost use Rattle.sqlite.specs.Held.{state};
 ghost use Rattle.sqlite.specs.State.{HasCleanDisk, Survives};
 ghost use Rattle.sqlite.specs.Effect.{Database};
 ghost use Rattle.bac_archive3.specs.Put.{FailsToPut, IsPut};
 ghost use Rattle.bac_archive3.specs.Schema.{HasArchive};
+ghost use Rattle.bac_print.specs.Output.{AppendsPart};
 ghost use Rattle.bac_drive.specs.Happens.{IsStopped, Leaves, Runs, StaysSettled, Stops, Takes};
 ghost use Rattle.bac_drive.specs.Happens.{acting, scene};
 
@@ -13,7 +15,7 @@ use crate::clock::Clock;
 use crate::machine::{Machine, Next};
 use bac_archive3::{Put, put};
 use bac_ports::Port;
-use bac_print::write_text;
+use bac_print::{WriteRefused, write_text};
 use sqlite::{Alter, Connection, Error};
 use std::alloc::Global;
 use std::io::Write;
@@ -55,6 +57,18 @@ fn keep<S: Alter>(conn: &mut Connection<S>, puts: &[Put]) -> Result<(), Error>
         return Ok(());
     }
     put(conn, puts)
+}
+
+/// Writes a text, and flushes the output: a line is seen at once, though the run goes on for hours.
+fn show<W: Write>(output: &mut W, text: &[u8]) -> Result<(), WriteRefused>
+    ensures ok { OnOk result (Appends (W.contents output.old) (W.contents output.new) text.now) }
+    ensures err { OnErr result
+        (AppendsPart (W.contents output.old) (W.contents output.new) text.now) }
+{
+    if write_text(output, text).is_err() || output.flush().is_err() {
+        return Err(WriteRefused);
+    }
+    Ok(())
 }
 
 /// Does one thing that a machine wants: whether it has ended.
@@ -107,7 +121,7 @@ fn step<M: Machine, P: Port, C: Clock, S: Alter, W: Write, V: Write>(
             Ok(()) => Ok(false),
             Err(error) => Err(Fault::Archive(error)),
         },
-        Ok(Next::Print(text)) => match write_text(output, text.as_slice()) {
+        Ok(Next::Print(text)) => match show(output, text.as_slice()) {
             Ok(()) => Ok(false),
             Err(_) => Err(Fault::Output),
         },

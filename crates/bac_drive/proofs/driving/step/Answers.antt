@@ -63,8 +63,8 @@ returns-in-Ok-clause-takes g c clean =
       ),
     )
 
-pub returns-in-Ok-write_text-clause-takes : goal.returns-in-Ok-write_text-clause-takes
-returns-in-Ok-write_text-clause-takes g c clean =
+pub returns-in-Ok-show-clause-takes : goal.returns-in-Ok-show-clause-takes
+returns-in-Ok-show-clause-takes g c clean =
     let G : Next → Type 0 = λ n. g.M.Machine.gives c.args.machine.now n c.next.new.self in (
       Printed c.as_slice-in-Ok-Print.result.now,
       (
@@ -73,12 +73,12 @@ returns-in-Ok-write_text-clause-takes g c clean =
         subst G c.in-Ok-Print.field-0-is c.in-Ok-Print.ensures,
         c.as_slice-in-Ok-Print.ensures.value,
         refl,
-        (c.in-Ok-write_text.ensures.ok, refl),
+        (c.in-Ok-show.ensures.ok, refl),
       ),
     )
 
-pub returns-in-Ok-write_text-2-clause-takes : goal.returns-in-Ok-write_text-2-clause-takes
-returns-in-Ok-write_text-2-clause-takes g c clean =
+pub returns-in-Ok-write_text-clause-takes : goal.returns-in-Ok-write_text-clause-takes
+returns-in-Ok-write_text-clause-takes g c clean =
     let G : Next → Type 0 = λ n. g.M.Machine.gives c.args.machine.now n c.next.new.self in (
       Warned c.as_slice-in-Ok-Warn.result.now,
       (
@@ -87,7 +87,7 @@ returns-in-Ok-write_text-2-clause-takes g c clean =
         subst G c.in-Ok-Warn.field-0-is c.in-Ok-Warn.ensures,
         c.as_slice-in-Ok-Warn.ensures.value,
         refl,
-        (c.in-Ok-write_text-2.ensures.ok, refl),
+        (c.in-Ok-write_text.ensures.ok, refl),
       ),
     )
 
@@ -133,7 +133,7 @@ returns-in-Ok-Print-clause-stops g c clean =
           c.as_slice-in-Ok-Print.result.now,
           subst G c.in-Ok-Print.field-0-is c.in-Ok-Print.ensures,
           c.as_slice-in-Ok-Print.ensures.value,
-          c.in-Err-write_text.ensures.err,
+          c.in-Err-show.ensures.err,
         ),
       ),
       λ is_open. refl,
@@ -150,7 +150,7 @@ returns-in-Ok-Warn-clause-stops g c clean =
           c.as_slice-in-Ok-Warn.result.now,
           subst G c.in-Ok-Warn.field-0-is c.in-Ok-Warn.ensures,
           c.as_slice-in-Ok-Warn.ensures.value,
-          c.in-Err-write_text-2.ensures.err,
+          c.in-Err-write_text.ensures.err,
         ),
       ),
       λ is_open. refl,
