@@ -347,7 +347,7 @@ class LogPoll(Machine):
         total = yield ("count",)
         if total is None:
             return self.end(0, "shows no record")
-        if total == (until(self.next) if self.known or self.next > 1 else 0):
+        if total == (until(self.next) if self.has_logged() else 0):
             self.confirmed()
             return self.end()
         if not is_behind(self.next, total):
@@ -356,6 +356,10 @@ class LogPoll(Machine):
         return (yield from self.seen(reply.records) if reply.records else self.dropped([], total))
 
     # ---- dropped, or another life
+
+    def has_logged(self):
+        """Something was logged before the number that comes next."""
+        return bool(self.known) or self.stamp is not None or self.next > 1
 
     def is_first(self, number):
         """Nothing stands before it, and there is no gap to put: it is 1, where the epoch begins."""
@@ -407,7 +411,11 @@ class LogPoll(Machine):
         behind = self.stamp is None or is_before(self.stamp, stamp)
         outlived = records and behind and is_before(stamp, again.get(RESTART))
         told_before, self.told = self.told, again
-        if records and is_before(stamp, self.stamp) or word == "changed" and not outlived:
+        if not self.has_logged():
+            # Nothing that is held can be of another life.
+            self.confirmed()
+            self.gap(first)
+        elif records and is_before(stamp, self.stamp) or word == "changed" and not outlived:
             # Its records came before the word was told again.
             self.gap(first)
             self.new_epoch("began anew, or dropped records", told_before)
@@ -416,7 +424,7 @@ class LogPoll(Machine):
             if word != "same":
                 if first != self.next:
                     self.give("line", "dropped %d to %d, or began anew" % (self.next, until(first)))
-                elif self.known or self.next > 1:
+                else:
                     self.give("line", "goes on at %d, or began anew" % first)
             self.confirmed()
             self.gap(first, word != "same")

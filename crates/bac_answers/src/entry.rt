@@ -2,6 +2,7 @@
 
 use crate::text::Text;
 use crate::who::Who;
+use bac_walk::WalkFault;
 use bac_wire::ObjectId;
 
 /// The clock of a device, beside this machine's.
@@ -61,6 +62,8 @@ pub enum Entry {
     Clock(Option<Offset>),
     /// This trend log of its Object_List is new.
     Added(ObjectId),
+    /// It didn't tell its Object_List, for this reason.
+    Unlisted(WalkFault),
     /// It has so many objects whose records aren't kept.
     Others(Others),
     /// What this log of it is.

@@ -7,6 +7,8 @@ use Rattle.bac_wire.specs.Primitive.{Id}
 use Rattle.bac_wire.specs.Stamp.{CivilTime}
 use Rattle.bac_wire.specs.declared.stamp.Date4.{Date4}
 use Rattle.bac_link.specs.declared.exchanges.Verdict.{Verdict}
+use Rattle.bac_walk.specs.declared.outcome.WalkFault.{WalkFault}
+use Rattle.bac_walk.specs.declared.outcome.WalkFault.TheVariants as walk
 use Rattle.bac_poll.specs.Turns.{Turned as LogTurned}
 use Rattle.bac_poll_steps.specs.declared.turn.PollEnd.{PollEnd}
 use Rattle.bac_device_poll.specs.Clock.{after_clock, after_date, clocks}
@@ -14,13 +16,15 @@ use Rattle.bac_device_poll.specs.Identity.{after_i_am, after_instance, after_nam
 use Rattle.bac_device_poll.specs.Laws.{added_by, added_in, at_stage, ended_by, ended_in, left, not_asked_by}
 use Rattle.bac_device_poll.specs.Laws.{not_asked_in, waiting}
 use Rattle.bac_device_poll.specs.Listing.{after_count, after_element, after_objects, are_same, listed, lists}
-use Rattle.bac_device_poll.specs.Listing.{may_differ, new_among, new_log, others_in, told_others, unlisted}
-use Rattle.bac_device_poll.specs.Logs.{after_loss, begins_with, halved, has_ended, left_behind, log_at, loss_at}
+use Rattle.bac_device_poll.specs.Listing.{list_fault, may_differ, new_among, new_log, others_in, told_others, unlisted}
+use Rattle.bac_device_poll.specs.Logs.{begins_with, halved, has_ended, left_behind, log_at}
 use Rattle.bac_device_poll.specs.Logs.{polled_behind, stage_behind, with_log}
 use Rattle.bac_device_poll.specs.Naming.{after_description, is_changed, is_other, names, names_next, names_with}
 use Rattle.bac_device_poll.specs.Naming.{read_at, told_read, unnamed}
-use Rattle.bac_device_poll.specs.Poll.{Answers}
+use Rattle.bac_device_poll.specs.Loss.{after_loss, loss_at, passed_over}
+use Rattle.bac_device_poll.specs.Poll.{Answers, after_revision}
 use Rattle.bac_device_poll.specs.declared.poll.Known.{Known}
+use Rattle.bac_device_poll.specs.Refusals.{is_too_long}
 use Rattle.bac_device_poll.specs.State.{DeviceState, LogAs}
 use Rattle.bac_device_poll.specs.Turns.{Turned, asks, leaves, not_asked}
 use Rattle.bac_answers.specs.declared.entry.Entry.{Entry}
@@ -32,6 +36,7 @@ use Rattle.bac_device_poll.specs.declared.stage.Stage.{Stage}
 use Rattle.bac_device_poll.specs.declared.stage.Stage.TheVariants as stage
 use Rattle.bac_device_poll.specs.declared.task.Polled.{Polled}
 use Rattle.bac_device_poll.specs.declared.turn.DeviceEnd.{DeviceEnd}
+use Rattle.bac_device_poll.specs.declared.turn.DeviceEnd.TheVariants.{Silent}
 use Rattle.bac_answers.specs.declared.who.Who.{Who}
 use Rattle.bac_answers.specs.declared.who.Who.TheVariants as who
 use Rattle.bac_answers.specs.declared.who.Whose.{Whose}
@@ -300,9 +305,10 @@ date_goes : (p : DeviceState) (date : Option Date4) → p.polled ≡ None → Go
 date_goes p None none = clock_goes p None none
 date_goes p (Some date) none = asks_goes p _ [] refl none nothing
 
-pub unlisted_stays : (p : DeviceState) → Stays p [] (unlisted p)
-unlisted_stays p =
-    let stays : Stays (record p { objects = [] }) [] (unlisted p) = names_stay (record p { objects = [] }) [] in
+pub unlisted_stays : (p : DeviceState) (why : WalkFault) → Stays p (entry.Unlisted why ∷ []) (unlisted p why)
+unlisted_stays p why =
+    let es : List Entry = entry.Unlisted why ∷ [] in
+    let stays : Stays (record p { objects = [] }) es (unlisted p why) = names_stay (record p { objects = [] }) es in
     record {
       apt = stays.apt;
       same = stays.same;
@@ -312,34 +318,37 @@ unlisted_stays p =
       added = stays.added;
     }
 
-unlisted_goes : (p : DeviceState) → p.polled ≡ None → Goes p (unlisted p)
-unlisted_goes p none = goes_of p [] _ nothing (unlisted_stays p) none
+unlisted_goes : (p : DeviceState) (why : WalkFault) → p.polled ≡ None → Goes p (unlisted p why)
+unlisted_goes p why none =
+    goes_of p (entry.Unlisted why ∷ []) _ (record { asked = refl; old = refl }) (unlisted_stays p why) none
 
-long_goes : (b : Bool) (p : DeviceState) → p.polled ≡ None → Goes p (if b then asks (record p { stage = stage.Count }) [] else unlisted p)
-long_goes true p none = asks_goes p _ [] refl none nothing
-long_goes false p none = unlisted_goes p none
+long_goes : (b : Bool) (p : DeviceState) (why : WalkFault) → p.polled ≡ None →
+    Goes p (if b then asks (record p { stage = stage.Count }) [] else unlisted p why)
+long_goes true p why none = asks_goes p _ [] refl none nothing
+long_goes false p why none = unlisted_goes p why none
 
-objects_go : (p : DeviceState) (too_long : Bool) (objects : Option (List Id)) → p.polled ≡ None → Goes p (after_objects p too_long objects)
-objects_go p too_long None none = long_goes too_long p none
-objects_go p too_long (Some objects) none = listed_goes p objects none
+objects_go : (p : DeviceState) (v : Verdict) (objects : Option (List Id)) → p.polled ≡ None → Goes p (after_objects p v objects)
+objects_go p v None none = long_goes (is_too_long v) p (list_fault v) none
+objects_go p v (Some objects) none = listed_goes p objects none
 
 count_if : (b : Bool) (p : DeviceState) (count : ℕ) → p.polled ≡ None →
     Goes p (if b then listed p [] else asks (record p { stage = stage.Element 1 count; objects = [] }) [])
 count_if true p count none = listed_goes p [] none
 count_if false p count none = asks_goes p _ [] refl none nothing
 
-count_goes : (p : DeviceState) (count : Option ℕ) → p.polled ≡ None → Goes p (after_count p count)
-count_goes p None none = unlisted_goes p none
-count_goes p (Some count) none = count_if (count == 0) p count none
+count_goes : (p : DeviceState) (v : Verdict) (count : Option ℕ) → p.polled ≡ None → Goes p (after_count p v count)
+count_goes p v None none = unlisted_goes p (list_fault v) none
+count_goes p v (Some count) none = count_if (count == 0) p count none
 
 element_if : (b : Bool) (p : DeviceState) (index count : ℕ) (objects : List Id) → p.polled ≡ None →
     Goes p (if b then listed p objects else asks (record p { stage = stage.Element index count; objects = objects }) [])
 element_if true p index count objects none = listed_goes p objects none
 element_if false p index count objects none = asks_goes p _ _ refl none nothing
 
-element_goes : (p : DeviceState) (index count : ℕ) (object : Option Id) → p.polled ≡ None → Goes p (after_element p index count object)
-element_goes p index count None none = unlisted_goes p none
-element_goes p index count (Some object) none =
+element_goes : (p : DeviceState) (index count : ℕ) (v : Verdict) (object : Option Id) → p.polled ≡ None →
+    Goes p (after_element p index count v object)
+element_goes p index count v None none = unlisted_goes p (list_fault v) none
+element_goes p index count v (Some object) none =
     element_if (nat_le count index) p (index + 1) count (p.objects ++ object ∷ []) none
 
 description_goes : (p : DeviceState) (log : Id) (text : Option (List ℕ)) → p.polled ≡ None → Goes p (after_description p log text)
@@ -350,6 +359,12 @@ description_goes p log text none =
       log = stays.log;
       all = (goes_of (record p { naming = unnamed }) (entry.Named log (record p.naming { description = text }) ∷ []) _ (record { asked = refl; old = refl }) stays none).all;
     }
+
+revision_goes : (p : DeviceState) (revision : Option ℕ) → p.polled ≡ None → Goes p (after_revision p revision)
+revision_goes p revision none =
+    let q : DeviceState = record p { told = record p.told { revision = revision } } in
+    let goes : Goes q (clocks q) = goes_of q [] _ nothing (clocks_stay q) none in
+    record { apt = goes.apt; log = goes.log; all = goes.all }
 
 -- ---- all answers before its logs are polled
 
@@ -363,15 +378,12 @@ answers_go p stage.Instance v d now t none apt is = subst (Goes p) (sym is) (ins
 answers_go p stage.IAm v d now t none apt is = subst (Goes p) (sym is) (idle_goes p none apt)
 answers_go p stage.Name v d now t none apt is = subst (Goes p) (sym is.2) (name_goes p is.0 none)
 answers_go p stage.Restart v d now t none apt is = subst (Goes p) (sym is) (asks_goes p _ [] refl none nothing)
-answers_go p stage.Revision v d now t none apt is =
-    let q : DeviceState = record p { told = record p.told { revision = number_of (value_by v d) } } in
-    let goes : Goes q (clocks q) = goes_of q [] _ nothing (clocks_stay q) none in
-    subst (Goes p) (sym is) (record { apt = goes.apt; log = goes.log; all = goes.all })
+answers_go p stage.Revision v d now t none apt is = subst (Goes p) (sym is) (revision_goes p (number_of (value_by v d)) none)
 answers_go p stage.Date v d now t none apt is = subst (Goes p) (sym is) (date_goes p _ none)
 answers_go p (stage.Time date) v d now t none apt is = subst (Goes p) (sym is.2) (clock_goes p is.0 none)
-answers_go p stage.Objects v d now t none apt is = subst (Goes p) (sym is) (objects_go p _ _ none)
-answers_go p stage.Count v d now t none apt is = subst (Goes p) (sym is) (count_goes p (number_of (value_by v d)) none)
-answers_go p (stage.Element index count) v d now t none apt is = subst (Goes p) (sym is) (element_goes p index count _ none)
+answers_go p stage.Objects v d now t none apt is = subst (Goes p) (sym is) (objects_go p v _ none)
+answers_go p stage.Count v d now t none apt is = subst (Goes p) (sym is) (count_goes p v (number_of (value_by v d)) none)
+answers_go p (stage.Element index count) v d now t none apt is = subst (Goes p) (sym is) (element_goes p index count v _ none)
 answers_go p (stage.LogName log) v d now t none apt is = subst (Goes p) (sym is.2) (asks_goes p _ [] refl none nothing)
 answers_go p (stage.Source log) v d now t none apt is = subst (Goes p) (sym is) (asks_goes p _ [] refl none nothing)
 answers_go p (stage.Units log) v d now t none apt is = subst (Goes p) (sym is) (asks_goes p _ [] refl none nothing)
@@ -382,8 +394,34 @@ answers_go p stage.Between v d now t none apt is = subst (Goes p) (sym is) (idle
 answers_go p stage.Ended v d now t none apt is = subst (Goes p) (sym is) (idle_goes p none apt)
 
 -- no answer
+passed_goes : (s : Stage) (p : DeviceState) → p.polled ≡ None → Goes p (passed_over s p)
+passed_goes stage.Instance p none = leaves_goes p [] _ nothing
+passed_goes stage.IAm p none = leaves_goes p [] _ nothing
+passed_goes stage.Name p none = leaves_goes p [] _ nothing
+passed_goes stage.Restart p none = asks_goes p _ [] refl none nothing
+passed_goes stage.Revision p none = revision_goes p None none
+passed_goes stage.Date p none = date_goes p None none
+passed_goes (stage.Time date) p none = clock_goes p None none
+passed_goes stage.Objects p none = asks_goes p _ [] refl none nothing
+passed_goes stage.Count p none = unlisted_goes p walk.Lost none
+passed_goes (stage.Element index count) p none = unlisted_goes p walk.Lost none
+passed_goes (stage.LogName log) p none = asks_goes p _ [] refl none nothing
+passed_goes (stage.Source log) p none = asks_goes p _ [] refl none nothing
+passed_goes (stage.Units log) p none = asks_goes p _ [] refl none nothing
+passed_goes (stage.Description log) p none = description_goes p log None none
+passed_goes stage.Log p none = leaves_goes p [] _ nothing
+passed_goes stage.Between p none = leaves_goes p [] _ nothing
+passed_goes stage.Ended p none = leaves_goes p [] _ nothing
+
+doubted_goes : (b : Bool) (p : DeviceState) → p.polled ≡ None →
+    Goes p (if b then leaves p [] Silent else passed_over p.stage (record p { doubt = true }))
+doubted_goes true p none = leaves_goes p [] _ nothing
+doubted_goes false p none =
+    let goes : Goes (record p { doubt = true }) _ = passed_goes p.stage (record p { doubt = true }) none in
+    record { apt = goes.apt; log = goes.log; all = goes.all }
+
 pub loss_goes : (p : DeviceState) → p.polled ≡ None → Goes p (after_loss p)
-loss_goes p none = subst (λ (q : Option Polled). Goes p (loss_at p q)) (sym none) (leaves_goes p [] _ nothing)
+loss_goes p none = subst (λ (q : Option Polled). Goes p (loss_at p q)) (sym none) (doubted_goes p.doubt p none)
 
 -- ---- while a log is polled
 

@@ -9,8 +9,8 @@ use Rattle.bac_poll_steps.specs.declared.turn.PollEnd.TheVariants.{Fault}
 use Rattle.bac_walk.specs.declared.outcome.WalkFault.TheVariants as walk
 use Rattle.bac_device_poll.specs.Laws.{ComesAt, NoneLeftOut, Runs, added_in, at_stage, behind as after_all, ended_in}
 use Rattle.bac_device_poll.specs.Laws.{found_in, left, not_asked_in, settled, waiting}
-use Rattle.bac_device_poll.specs.Logs.{after_end, after_log, after_loss, begins_with, is_too_many, log_after, log_at}
-use Rattle.bac_device_poll.specs.Logs.{loss_at}
+use Rattle.bac_device_poll.specs.Logs.{after_end, after_log, begins_with, is_too_many, log_after, log_at}
+use Rattle.bac_device_poll.specs.Loss.{after_loss, loss_at}
 use Rattle.bac_device_poll.specs.Refusals.{is_busy}
 use Rattle.bac_link.specs.Datagrams.{apdu_in}
 use Rattle.bac_device_poll.specs.Poll.{Answers, Takes, answered, asked_of_device, fresh, later, verdict_to}

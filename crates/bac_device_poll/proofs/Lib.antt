@@ -3,6 +3,7 @@ mod Fits
 mod Foreign
 mod LeftOut
 mod LeftOutRuns
+mod LostOne
 mod OnlyAsked
 mod RefusedOne
 mod Steps

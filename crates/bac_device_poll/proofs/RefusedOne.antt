@@ -10,6 +10,7 @@ use Rattle.bac_link.specs.declared.exchanges.Verdict.TheVariants.{Refused}
 use Rattle.bac_poll.specs.State.{PollState, ToldAs}
 use Rattle.bac_poll.specs.Turns.{ends}
 use Rattle.bac_poll_steps.specs.declared.turn.PollEnd.TheVariants.{Fault}
+use Rattle.bac_walk.specs.declared.outcome.WalkFault.{WalkFault}
 use Rattle.bac_walk.specs.declared.outcome.WalkFault.TheVariants as walk
 use Rattle.bac_device_poll.proofs.LeftOut.{Stays, clocks_stay, lists_stay, named, unlisted_stays}
 use Rattle.bac_device_poll.specs.Clock.{after_clock}
@@ -36,7 +37,7 @@ use Rattle.bac_device_poll.specs.declared.task.Polled.{Polled}
 -- ---- a property
 
 -- what stays as it was, with entries that tell of no log
-unknown_as : (s : Stage) (p : DeviceState) (es : List Entry) (t : Turned) → Stays (record p { told = untold s p.told }) es t →
+pub unknown_as : (s : Stage) (p : DeviceState) (es : List Entry) (t : Turned) → Stays (record p { told = untold s p.told }) es t →
     not_asked_in es ≡ [] → added_in es ≡ [] → IsKnownStill s (unknown s p.naming) t → StaysUnknown s p t
 unknown_as s p es t stays asked added known = record {
   device = stays.same;
@@ -46,22 +47,23 @@ unknown_as s p es t stays asked added known = record {
   records = stays.log;
 }
 
-clock_unknown : (s : Stage) (p : DeviceState) (offset : Option Offset) → untold s p.told ≡ p.told →
+pub clock_unknown : (s : Stage) (p : DeviceState) (offset : Option Offset) → untold s p.told ≡ p.told →
     IsKnownStill s (unknown s p.naming) (after_clock p offset) → StaysUnknown s p (after_clock p offset)
 clock_unknown s p offset same known =
     unknown_as s p (entry.Clock offset ∷ []) _
     (subst (λ (x : ToldAs). Stays (record p { told = x }) (entry.Clock offset ∷ []) (after_clock p offset)) (sym same) (lists_stay p (entry.Clock offset ∷ [])))
     refl refl known
 
-list_unknown : (s : Stage) (p : DeviceState) → untold s p.told ≡ p.told →
-    IsKnownStill s (unknown s p.naming) (unlisted p) → StaysUnknown s p (unlisted p)
-list_unknown s p same known =
-    unknown_as s p [] _ (subst (λ (x : ToldAs). Stays (record p { told = x }) [] (unlisted p)) (sym same) (unlisted_stays p)) refl refl known
+pub list_unknown : (s : Stage) (p : DeviceState) (why : WalkFault) → untold s p.told ≡ p.told →
+    IsKnownStill s (unknown s p.naming) (unlisted p why) → StaysUnknown s p (unlisted p why)
+list_unknown s p why same known =
+    let es : List Entry = entry.Unlisted why ∷ [] in
+    unknown_as s p es _ (subst (λ (x : ToldAs). Stays (record p { told = x }) es (unlisted p why)) (sym same) (unlisted_stays p why)) refl refl known
 
-long_unknown : (b : Bool) (p : DeviceState) →
-    StaysUnknown stage.Objects p (if b then asks (record p { stage = stage.Count }) [] else unlisted p)
-long_unknown true p = record { device = refl; naming = tt; logs = refl; told = refl; records = refl }
-long_unknown false p = list_unknown stage.Objects p refl tt
+long_unknown : (b : Bool) (p : DeviceState) (why : WalkFault) →
+    StaysUnknown stage.Objects p (if b then asks (record p { stage = stage.Count }) [] else unlisted p why)
+long_unknown true p why = record { device = refl; naming = tt; logs = refl; told = refl; records = refl }
+long_unknown false p why = list_unknown stage.Objects p why refl tt
 
 -- the entries as the next log is begun
 begun_with : (p : DeviceState) (logs : List LogAs) (es : List Entry) → (begins_with p logs es).entries ≡ es
@@ -72,7 +74,7 @@ named_first : (p : DeviceState) (logs : List Id) (e : Entry) → (others : List 
 named_first p [] e = (told_read p, begun_with p p.logs (e ∷ told_read p))
 named_first p (log ∷ logs) e = ([], refl)
 
-description_unknown : (p : DeviceState) (log : Id) →
+pub description_unknown : (p : DeviceState) (log : Id) →
     StaysUnknown (stage.Description log) p (names_with (record p { naming = unnamed }) p.unnamed (entry.Named log (record p.naming { description = None }) ∷ []))
 description_unknown p log =
     let e : Entry = entry.Named log (record p.naming { description = None }) in
@@ -129,10 +131,10 @@ refused_at p stage.Revision r d now t is =
 refused_at p stage.Date r d now t is = subst (StaysUnknown stage.Date p) (sym is) (clock_unknown stage.Date p None refl tt)
 refused_at p (stage.Time date) r d now t is =
     subst (StaysUnknown (stage.Time date) p) (sym is.2) (clock_unknown (stage.Time date) p is.0 refl tt)
-refused_at p stage.Objects r d now t is = subst (StaysUnknown stage.Objects p) (sym is) (long_unknown (is_long r) p)
-refused_at p stage.Count r d now t is = subst (StaysUnknown stage.Count p) (sym is) (list_unknown stage.Count p refl tt)
+refused_at p stage.Objects r d now t is = subst (StaysUnknown stage.Objects p) (sym is) (long_unknown (is_long r) p (walk.Refused r))
+refused_at p stage.Count r d now t is = subst (StaysUnknown stage.Count p) (sym is) (list_unknown stage.Count p (walk.Refused r) refl tt)
 refused_at p (stage.Element index count) r d now t is =
-    subst (StaysUnknown (stage.Element index count) p) (sym is) (list_unknown (stage.Element index count) p refl tt)
+    subst (StaysUnknown (stage.Element index count) p) (sym is) (list_unknown (stage.Element index count) p (walk.Refused r) refl tt)
 refused_at p (stage.LogName log) r d now t is =
     subst (StaysUnknown (stage.LogName log) p) (sym (is.2 ∙ ap (λ (x : Option (List ℕ)). asks (record p { stage = stage.Source log; naming = record p.naming { name = x } }) []) is.1))
     (record { device = refl; naming = refl; logs = refl; told = refl; records = refl })

@@ -11,8 +11,9 @@ use Rattle.bac_poll.specs.Turns.{Turned as LogTurned, ends}
 use Rattle.bac_poll_steps.specs.declared.turn.PollEnd.{PollEnd}
 use Rattle.bac_poll_steps.specs.declared.turn.PollEnd.TheVariants.{Fault}
 use Rattle.bac_device_poll.specs.Laws.{ComesAt, StepsAreCounted, brings, has_records}
-use Rattle.bac_device_poll.specs.Logs.{halved, has_ended, is_too_many, left_behind, log_after, log_at, loss_at}
+use Rattle.bac_device_poll.specs.Logs.{halved, has_ended, is_too_many, left_behind, log_after, log_at}
 use Rattle.bac_device_poll.specs.Logs.{polled_behind, stage_behind, with_log}
+use Rattle.bac_device_poll.specs.Loss.{loss_at}
 use Rattle.bac_device_poll.specs.Poll.{Answers, answered, asked_of_device, verdict_to}
 use Rattle.bac_device_poll.specs.Refusals.{is_busy}
 use Rattle.bac_device_poll.specs.State.{DeviceState}

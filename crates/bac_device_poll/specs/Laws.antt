@@ -15,12 +15,13 @@ use Rattle.bac_poll_steps.specs.declared.turn.PollEnd.TheVariants.{Fault}
 use Rattle.bac_walk.specs.declared.batch.Numbered.{Numbered}
 use Rattle.bac_walk.specs.declared.outcome.WalkFault.TheVariants as walk
 use Rattle.bac_device_poll.specs.Identity.{after_i_am, after_instance, after_name}
-use Rattle.bac_device_poll.specs.Logs.{after_end, after_loss, halved, has_ended, is_records, is_too_many, left_behind}
+use Rattle.bac_device_poll.specs.Logs.{after_end, halved, has_ended, is_records, is_too_many, left_behind}
 use Rattle.bac_device_poll.specs.Logs.{wanted_at}
+use Rattle.bac_device_poll.specs.Loss.{after_loss}
 use Rattle.bac_device_poll.specs.Poll.{Takes, answered, asked_of_device, fresh, later, verdict_to, with_steps}
 use Rattle.bac_device_poll.specs.Refusals.{is_passing}
 use Rattle.bac_device_poll.specs.State.{DeviceState, LogAs}
-use Rattle.bac_device_poll.specs.Turns.{Turned, asks}
+use Rattle.bac_device_poll.specs.Turns.{Turned, asks, leaves}
 use Rattle.bac_answers.specs.declared.entry.Entry.{Entry}
 use Rattle.bac_answers.specs.declared.entry.Entry.TheVariants as entry
 use Rattle.bac_answers.specs.declared.entry.Naming.{Naming}
@@ -30,7 +31,7 @@ use Rattle.bac_device_poll.specs.declared.question.Question.TheVariants.{Confirm
 use Rattle.bac_device_poll.specs.declared.stage.Stage.{Stage}
 use Rattle.bac_device_poll.specs.declared.stage.Stage.TheVariants as stage
 use Rattle.bac_device_poll.specs.declared.task.Polled.{Polled}
-use Rattle.bac_device_poll.specs.declared.turn.DeviceEnd.TheVariants.{Foreign}
+use Rattle.bac_device_poll.specs.declared.turn.DeviceEnd.TheVariants.{Foreign, Silent}
 use Rattle.bac_device_poll.specs.declared.turn.Step.TheVariants.{End}
 use Rattle.bac_answers.specs.declared.who.Who.{Who}
 use Rattle.bac_answers.specs.declared.who.Who.TheVariants.{Address, Device, Name}
@@ -55,6 +56,7 @@ AsksReadings = (p : DeviceState) → IsReading (asked_of_device p)
 abbrev pub is_put : Entry → Bool
 is_put (entry.Another who) = false
 is_put entry.Untold = false
+is_put (entry.Unlisted why) = false
 is_put (entry.Others others) = false
 is_put (entry.NotAsked log) = false
 is_put other = true
@@ -271,3 +273,23 @@ RefusalsEndOne =
     (p : DeviceState) (r : Refusal) (datagram : List ℕ) (now : CivilTime) (t : Turned) →
     verdict_to (asked_of_device p) (apdu_in datagram) ≡ Refused r → Takes p datagram now t →
     MatchBool (is_passing r && nat_lt p.busy p.retries) (t ≡ later p) (RefusedAt p.stage (answered p) r t)
+
+-- ---- a question that isn't answered ends what was asked, and nothing else
+
+-- by what was asked: a device that doesn't tell who it is, is silent
+abbrev pub LostAt : Stage → DeviceState → Turned → Type 0
+LostAt stage.Instance p t = t ≡ leaves p [] Silent
+LostAt stage.Name p t = t ≡ leaves p [] Silent
+LostAt stage.IAm p t = Unit {0}
+LostAt stage.Log p t = Unit {0}
+LostAt stage.Between p t = Unit {0}
+LostAt stage.Ended p t = Unit {0}
+LostAt other p t = StaysUnknown other p t
+
+-- Before the logs of a device are polled, a question that isn't answered ends what was asked, and nothing else, as a
+-- refusal does; the next one is sent once. Where that isn't answered either, the device is silent.
+abbrev pub LossesEndOne : Type 0
+LossesEndOne =
+    (p : DeviceState) → p.polled ≡ None →
+    (p.doubt ≡ false → LostAt p.stage (record p { doubt = true }) (after_loss p))
+    × (p.doubt ≡ true → after_loss p ≡ leaves p [] Silent)

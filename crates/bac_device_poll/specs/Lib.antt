@@ -11,4 +11,5 @@ pub mod Source
 pub mod Naming
 pub mod Logs
 pub mod Poll
+pub mod Loss
 pub mod Laws

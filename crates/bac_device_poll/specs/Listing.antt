@@ -4,12 +4,17 @@ use Rattle.std.specs.Prelude.{◌++◌, map}
 use Rattle.std.specs.Prelude.{Option, None, Some}
 use Rattle.std.specs.List.{fold, list_any}
 use Rattle.bac_wire.specs.Primitive.{Id}
+use Rattle.bac_link.specs.declared.exchanges.Verdict.{Verdict}
+use Rattle.bac_link.specs.declared.exchanges.Verdict.TheVariants.{Ack, BadReply, Refused}
+use Rattle.bac_walk.specs.declared.outcome.WalkFault.{WalkFault}
+use Rattle.bac_walk.specs.declared.outcome.WalkFault.TheVariants as walk
 use Rattle.bac_poll.specs.Poll.{nothing_told}
 use Rattle.bac_device_poll.specs.Naming.{names}
+use Rattle.bac_device_poll.specs.Refusals.{is_too_long}
 use Rattle.bac_device_poll.specs.State.{DeviceState, LogAs, Starting}
 use Rattle.bac_device_poll.specs.Turns.{Turned, asks}
 use Rattle.bac_answers.specs.declared.entry.Entry.{Entry}
-use Rattle.bac_answers.specs.declared.entry.Entry.TheVariants.{Added}
+use Rattle.bac_answers.specs.declared.entry.Entry.TheVariants.{Added, Unlisted}
 use Rattle.bac_device_poll.specs.declared.stage.Stage.TheVariants.{Count, Element, Objects}
 pub use Rattle.bac_answers.specs.Listing.{may_differ, is_object, count_of, others_in, are_same, told_others}
 
@@ -58,25 +63,32 @@ listed p objects =
       logs = p.logs ++ map new_log (new_among p.logs p.stopped objects);
     }) (map Added (new_among p.logs p.stopped objects) ++ told_others p.others (others_in objects))
 
--- the list isn't told: its logs are those on record
-abbrev pub unlisted : DeviceState → Turned
-unlisted p = names (record p { objects = [] }) []
+-- the list isn't told, and that is: its logs are those on record
+abbrev pub unlisted : DeviceState → WalkFault → Turned
+unlisted p why = names (record p { objects = [] }) (Unlisted why ∷ [])
+
+-- why it isn't: it was refused, or the reply tells none
+abbrev pub list_fault : Verdict → WalkFault
+list_fault Ack = walk.BadReply
+list_fault (Refused refusal) = walk.Refused refusal
+list_fault BadReply = walk.BadReply
 
 -- The whole list; where it is too long for one answer it is asked for by index, of which 0 tells how long it is.
-abbrev pub after_objects : DeviceState → (too_long : Bool) → Option (List Id) → Turned
-after_objects p too_long None = if too_long then asks (record p { stage = Count }) [] else unlisted p
-after_objects p too_long (Some objects) = listed p objects
+abbrev pub after_objects : DeviceState → Verdict → Option (List Id) → Turned
+after_objects p verdict None =
+    if is_too_long verdict then asks (record p { stage = Count }) [] else unlisted p (list_fault verdict)
+after_objects p verdict (Some objects) = listed p objects
 
 -- how long it is
-abbrev pub after_count : DeviceState → Option ℕ → Turned
-after_count p None = unlisted p
-after_count p (Some count) =
+abbrev pub after_count : DeviceState → Verdict → Option ℕ → Turned
+after_count p verdict None = unlisted p (list_fault verdict)
+after_count p verdict (Some count) =
     if count == 0 then listed p [] else asks (record p { stage = Element 1 count; objects = [] }) []
 
 -- an element of so many
-abbrev pub after_element : DeviceState → (index : ℕ) → (count : ℕ) → Option Id → Turned
-after_element p index count None = unlisted p
-after_element p index count (Some object) =
+abbrev pub after_element : DeviceState → (index : ℕ) → (count : ℕ) → Verdict → Option Id → Turned
+after_element p index count verdict None = unlisted p (list_fault verdict)
+after_element p index count verdict (Some object) =
     if nat_le count index
     then listed p (p.objects ++ object ∷ [])
     else asks (record p { stage = Element (index + 1) count; objects = p.objects ++ object ∷ [] }) []

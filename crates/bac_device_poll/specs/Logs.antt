@@ -175,15 +175,6 @@ lost p q =
     then record (leaves (record p { polled = Some q }) [] Silent) { log = Some (ends q.poll (Fault walk.Lost)) }
     else with_log (record p { doubt = true }) q (ends q.poll (Fault walk.Lost))
 
--- a device that doesn't answer before its logs are polled is silent
-abbrev pub loss_at : DeviceState → Option Polled → Turned
-loss_at p None = leaves p [] Silent
-loss_at p (Some q) = lost p q
-
--- No answer came, to any send.
-abbrev pub after_loss : DeviceState → Turned
-after_loss p = loss_at p p.polled
-
 -- The poll of a log has ended: the next one.
 abbrev pub after_end : DeviceState → Turned
 after_end p = begins p []

@@ -16,7 +16,7 @@ use Rattle.bac_device_poll.specs.Clock.{IsOffset, after_clock, after_date, clock
 use Rattle.bac_device_poll.specs.Identity.{after_instance, after_name, device_of, itself, own_device}
 use Rattle.bac_device_poll.specs.Listing.{after_count, after_element, after_objects}
 use Rattle.bac_device_poll.specs.Logs.{after_log}
-use Rattle.bac_device_poll.specs.Refusals.{is_busy, is_too_long}
+use Rattle.bac_device_poll.specs.Refusals.{is_busy}
 use Rattle.bac_device_poll.specs.Naming.{after_description, after_log_name, after_source, after_units, subject, unnamed}
 use Rattle.bac_device_poll.specs.Source.{source_of}
 use Rattle.bac_device_poll.specs.State.{DeviceState, LogAs}
@@ -115,9 +115,9 @@ Answers p Revision v datagram now t = t ≡ after_revision p (number_of (value_b
 Answers p Date v datagram now t = t ≡ after_date p (date_of (value_by v datagram))
 Answers p (Time date) v datagram now t =
     (offset : Option Offset) × IsOffset date (time_of (value_by v datagram)) now offset × (t ≡ after_clock p offset)
-Answers p Objects v datagram now t = t ≡ after_objects p (is_too_long v) (objects_of (told_by v datagram))
-Answers p Count v datagram now t = t ≡ after_count p (number_of (value_by v datagram))
-Answers p (Element index count) v datagram now t = t ≡ after_element p index count (object_of (told_by v datagram))
+Answers p Objects v datagram now t = t ≡ after_objects p v (objects_of (told_by v datagram))
+Answers p Count v datagram now t = t ≡ after_count p v (number_of (value_by v datagram))
+Answers p (Element index count) v datagram now t = t ≡ after_element p index count v (object_of (told_by v datagram))
 Answers p (LogName log) v datagram now t =
     (name : Option (List ℕ)) × IsText (value_by v datagram) name × (t ≡ after_log_name p log name)
 Answers p (Source log) v datagram now t = t ≡ after_source p log (source_of (told_by v datagram))

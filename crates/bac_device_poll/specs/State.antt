@@ -45,7 +45,7 @@ pub record DeviceState : Type 0 where
   pub retries : ℕ  -- how often a request is repeated
   pub steps : Option ℕ  -- how many replies with records each of its logs has in this run, if not as many as come
   pub busy : ℕ  -- how often it was too busy for its question
-  pub doubt : Bool  -- whether a log was lost just now, so that the next question is sent once
+  pub doubt : Bool  -- whether the question before, or a log, was lost, so that the next one is sent once
   pub listed : Bool  -- whether its Object_List was read, where that is wanted
   pub objects : List Id  -- the elements of the list that it told so far
   pub unnamed : List Id  -- the logs whose names are still to be asked for

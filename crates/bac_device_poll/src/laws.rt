@@ -1,7 +1,7 @@
 //! What holds of a device's poll, whoever answers.
 
-ghost use Rattle.bac_device_poll.specs.Laws.{AsksReadings, KeepsNoOther, NoneLeftOut};
-ghost use Rattle.bac_device_poll.specs.Laws.{RefusalsEndOne, StepsAreCounted};
+ghost use Rattle.bac_device_poll.specs.Laws.{AsksReadings, KeepsNoOther, LossesEndOne};
+ghost use Rattle.bac_device_poll.specs.Laws.{NoneLeftOut, RefusalsEndOne, StepsAreCounted};
 
 /// A device is asked by ReadProperty, ReadRange and Who-Is alone.
 pub fn asks_readings()
@@ -27,4 +27,10 @@ pub fn steps_are_counted()
 /// A refusal ends what was asked, or is asked again if it passes, and all else is as it was.
 pub fn refusals_end_one()
     ensures { RefusalsEndOne }
+{}
+
+/// A question that isn't answered, before the logs of a device are polled, ends what was asked, and
+/// all else is as it was; of two in a row the device is silent.
+pub fn losses_end_one()
+    ensures { LossesEndOne }
 {}

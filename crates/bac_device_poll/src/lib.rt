@@ -13,6 +13,7 @@ mod identity;
 mod laws;
 mod listing;
 mod logs;
+mod loss;
 mod naming;
 mod poll;
 mod question;
@@ -24,7 +25,10 @@ mod word;
 pub use bac_answers::{
     Entry, Naming, Offset, Others, Reference, Text, Way, Who, Whose, moment_in, restart_in,
 };
-pub use laws::{asks_readings, keeps_no_other, none_left_out, refusals_end_one, steps_are_counted};
+pub use laws::{
+    asks_readings, keeps_no_other, losses_end_one, none_left_out, refusals_end_one,
+    steps_are_counted,
+};
 pub use logs::Wanted;
 pub use poll::{DevicePoll, Known};
 pub use question::Question;

@@ -1,19 +1,24 @@
 //! The Object_List of a device: which trend logs it has.
 
-ghost use Rattle.std.specs.Prelude.{◌≡◌, ◌++◌, IfOk, OnOk, map, option_map};
+ghost use Rattle.std.specs.Prelude.{◌≡◌, ◌++◌, [], IfOk, OnOk, map, option_map};
 ghost use Rattle.std.specs.List.{All};
 ghost use Rattle.bac_device_poll.specs.Listing.{after_count, after_element, after_objects};
-ghost use Rattle.bac_device_poll.specs.Listing.{is_known, is_polled, listed, lists, new_among};
-ghost use Rattle.bac_device_poll.specs.Listing.{new_log, unlisted};
-ghost use Rattle.bac_device_poll.specs.Turns.{turned};
+ghost use Rattle.bac_device_poll.specs.Listing.{is_known, is_polled, list_fault, listed, lists};
+ghost use Rattle.bac_device_poll.specs.Listing.{new_among, new_log, unlisted};
+ghost use Rattle.bac_device_poll.specs.Turns.{asks, turned};
+ghost use Rattle.bac_device_poll.specs.declared.stage.Stage.TheVariants.{Count};
 
 use crate::poll::DevicePoll;
 use crate::stage::Stage;
 use crate::task::{Begin, LogTask};
-use crate::turn::{Turn, none};
-use bac_answers::{Entry, added, is_among, is_object, may_differ, others_in, push_others};
+use crate::turn::{Turn, none, only};
+use bac_answers::{
+    Entry, added, is_among, is_object, is_too_long, may_differ, others_in, push_others,
+};
 use bac_apdu::object_type::TREND_LOG;
+use bac_link::Verdict;
 use bac_poll::Told;
+use bac_walk::WalkFault;
 use bac_wire::ObjectId;
 use std::alloc::{AllocError, Global};
 use std::mem::replace;
@@ -72,6 +77,17 @@ fn push_new(alloc: Global, tasks: &mut Vec<LogTask>, logs: &[ObjectId]) -> Resul
     Ok(())
 }
 
+// Why a list isn't told by an answer.
+fn list_fault(verdict: Verdict) -> WalkFault
+    ensures { result ≡ list_fault verdict }
+{
+    match verdict {
+        Verdict::Ack => WalkFault::BadReply,
+        Verdict::Refused(refusal) => WalkFault::Refused(refusal),
+        Verdict::BadReply => WalkFault::BadReply,
+    }
+}
+
 impl DevicePoll {
     /// Its list is asked for, if it may be another one.
     pub(crate) fn ask_list(
@@ -103,32 +119,40 @@ impl DevicePoll {
         self.ask_names(alloc, entries)
     }
 
-    // Its list isn't told: its logs are those on record.
-    fn miss_list(&mut self, alloc: Global) -> Result<Turn, AllocError>
-        ensures { IfOk result (λ turn. turned self.new turn ≡ unlisted self.old) }
+    /// Its list isn't told, for this reason: its logs are those on record.
+    pub(crate) fn miss_list(&mut self, alloc: Global, why: WalkFault) -> Result<Turn, AllocError>
+        ensures { IfOk result (λ turn. turned self.new turn ≡ unlisted self.old why) }
     {
+        let entries = only(alloc, Entry::Unlisted(why))?;
         self.objects = Vec::new(alloc);
-        self.ask_names(alloc, none(alloc))
+        self.ask_names(alloc, entries)
+    }
+
+    /// It is asked for by index.
+    pub(crate) fn ask_count(&mut self, alloc: Global) -> Turn
+        ensures { turned self.new result ≡ asks (record self.old { stage = Count }) [] }
+    {
+        self.stage = Stage::Count;
+        Turn::asks(none(alloc))
     }
 
     /// Takes its list, if it tells it whole; or that it is too long for one answer.
     pub(crate) fn hear_objects(
         &mut self,
         alloc: Global,
-        too_long: bool,
+        verdict: Verdict,
         objects: Option<Vec<ObjectId>>,
     ) -> Result<Turn, AllocError>
         ensures { IfOk result (λ turn. turned self.new turn
-            ≡ after_objects self.old too_long (option_map (λ v. v.items) objects)) }
+            ≡ after_objects self.old verdict (option_map (λ v. v.items) objects)) }
     {
         match objects {
             Some(objects) => self.hear_list(alloc, objects.as_slice()),
             None => {
-                if too_long {
-                    self.stage = Stage::Count;
-                    return Ok(Turn::asks(none(alloc)));
+                if is_too_long(verdict) {
+                    return Ok(self.ask_count(alloc));
                 }
-                self.miss_list(alloc)
+                self.miss_list(alloc, list_fault(verdict))
             }
         }
     }
@@ -137,9 +161,10 @@ impl DevicePoll {
     pub(crate) fn hear_count(
         &mut self,
         alloc: Global,
+        verdict: Verdict,
         count: Option<u32>,
     ) -> Result<Turn, AllocError>
-        ensures { IfOk result (λ turn. turned self.new turn ≡ after_count self.old count) }
+        ensures { IfOk result (λ turn. turned self.new turn ≡ after_count self.old verdict count) }
     {
         match count {
             Some(count) => {
@@ -150,7 +175,7 @@ impl DevicePoll {
                 self.stage = Stage::Element(1, count);
                 Ok(Turn::asks(none(alloc)))
             }
-            None => self.miss_list(alloc),
+            None => self.miss_list(alloc, list_fault(verdict)),
         }
     }
 
@@ -168,10 +193,11 @@ impl DevicePoll {
         alloc: Global,
         index: u32,
         count: u32,
+        verdict: Verdict,
         object: Option<ObjectId>,
     ) -> Result<Turn, AllocError>
         ensures { IfOk result (λ turn. turned self.new turn
-            ≡ after_element self.old index count object) }
+            ≡ after_element self.old index count verdict object) }
     {
         match object {
             Some(object) => {
@@ -182,7 +208,7 @@ impl DevicePoll {
                 self.stage = Stage::Element(index + 1, count);
                 Ok(Turn::asks(none(alloc)))
             }
-            None => self.miss_list(alloc),
+            None => self.miss_list(alloc, list_fault(verdict)),
         }
     }
 }

@@ -2,7 +2,7 @@
 
 ghost use Rattle.std.specs.Prelude.{◌≡◌, ◌++◌, ◌∷◌, [], IfOk, OnOk, MatchOption, Some, map};
 ghost use Rattle.bac_poll.specs.Turns.{ends, turned as log_turned};
-ghost use Rattle.bac_device_poll.specs.Logs.{after_end, after_log, after_loss, begins, halved};
+ghost use Rattle.bac_device_poll.specs.Logs.{after_end, after_log, begins, halved};
 ghost use Rattle.bac_device_poll.specs.Logs.{has_ended, is_done, is_records, is_too_many};
 ghost use Rattle.bac_device_poll.specs.Logs.{left_behind, log_after, log_at, lost, read_as};
 ghost use Rattle.bac_device_poll.specs.Logs.{stage_behind, step_behind, wanted_at, with_log};
@@ -314,8 +314,8 @@ impl DevicePoll {
         Ok(self.end_turn(alloc, Polled { log, poll, left }, turn))
     }
 
-    // The log that is polled is lost.
-    fn lose_log(&mut self, alloc: Global, polled: Polled) -> Result<Turn, AllocError>
+    /// The log that is polled is lost.
+    pub(crate) fn lose_log(&mut self, alloc: Global, polled: Polled) -> Result<Turn, AllocError>
         ensures { IfOk result (λ turn. turned self.new turn ≡ lost self.old polled) }
     {
         let lost = ended(alloc, &polled.poll, PollEnd::Fault(WalkFault::Lost));
@@ -330,16 +330,6 @@ impl DevicePoll {
         }
         self.doubt = true;
         Ok(self.end_turn(alloc, polled, lost))
-    }
-
-    /// No answer came, to any send of its question. After want of memory the poll is of no use.
-    pub fn lose(&mut self, alloc: Global) -> Result<Turn, AllocError>
-        ensures { IfOk result (λ turn. turned self.new turn ≡ after_loss self.old) }
-    {
-        match replace(&mut self.polled, None) {
-            Some(polled) => self.lose_log(alloc, polled),
-            None => self.leave(none(alloc), DeviceEnd::Silent),
-        }
     }
 
     /// The poll of a log has ended: the next one is begun, if there is one. After want of memory

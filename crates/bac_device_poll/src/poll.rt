@@ -14,9 +14,9 @@ use crate::stage::Stage;
 use crate::task::{LogTask, Polled};
 use crate::turn::{Step, Turn, none};
 use bac_answers::{
-    Naming, Others, Who, device_of, is_busy, is_too_long, itself, moment_in, offset, restart_in,
-    subject, told_date, told_device, told_number, told_object, told_objects, told_source,
-    told_text, told_time, told_units, unnamed,
+    Naming, Others, Who, device_of, is_busy, itself, moment_in, offset, restart_in, subject,
+    told_date, told_device, told_number, told_object, told_objects, told_source, told_text,
+    told_time, told_units, unnamed,
 };
 use bac_apdu::ReadProperty;
 use bac_link::{Request, Verdict, judge};
@@ -198,7 +198,8 @@ impl DevicePoll {
         }
     }
 
-    /// Whether its question is sent once, without a repeat: a log before it was lost.
+    /// Whether its question is sent once, without a repeat: the one before it wasn't answered, or
+    /// a log was lost.
     pub fn is_sent_once(&self) -> bool
         ensures { result ≡ self.now.doubt }
     {
@@ -319,11 +320,11 @@ impl DevicePoll {
             }
             Stage::Objects => {
                 let objects = told_objects(alloc, verdict, datagram)?;
-                self.hear_objects(alloc, is_too_long(verdict), objects)
+                self.hear_objects(alloc, verdict, objects)
             }
-            Stage::Count => self.hear_count(alloc, told_number(verdict, datagram)),
+            Stage::Count => self.hear_count(alloc, verdict, told_number(verdict, datagram)),
             Stage::Element(index, count) => {
-                self.hear_element(alloc, index, count, told_object(verdict, datagram))
+                self.hear_element(alloc, index, count, verdict, told_object(verdict, datagram))
             }
             Stage::LogName(log) => {
                 let name = told_text(alloc, verdict, datagram)?;

@@ -6,4 +6,6 @@ mod device;
 #[cfg(test)]
 mod fewer;
 #[cfg(test)]
+mod passed;
+#[cfg(test)]
 mod way;

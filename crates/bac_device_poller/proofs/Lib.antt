@@ -7,6 +7,7 @@ pub mod LogTurns
 pub mod Silence
 pub mod SilentSteps
 pub mod SilentRuns
+pub mod Passing
 pub mod WaitedOnce
 pub mod LostLogs
 pub mod SilentEnd

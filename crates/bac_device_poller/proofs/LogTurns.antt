@@ -9,8 +9,9 @@ use Rattle.bac_poll.specs.Turns.{Turned as LogTurned, ends}
 use Rattle.bac_poll_steps.specs.declared.turn.PollEnd.TheVariants.{Fault}
 use Rattle.bac_walk.specs.declared.outcome.WalkFault.TheVariants as walk
 use Rattle.bac_device_poll.specs.Laws.{ended_by, ended_in, left, not_asked_in, waiting}
-use Rattle.bac_device_poll.specs.Logs.{after_end, after_loss, begins_with, halved, has_ended, is_too_many, left_behind}
+use Rattle.bac_device_poll.specs.Logs.{after_end, begins_with, halved, has_ended, is_too_many, left_behind}
 use Rattle.bac_device_poll.specs.Logs.{log_after, logged, with_log}
+use Rattle.bac_device_poll.specs.Loss.{after_loss}
 use Rattle.bac_device_poll.specs.Poll.{Takes, answered, asked_of_device, verdict_to}
 use Rattle.bac_device_poll.specs.Refusals.{is_busy}
 use Rattle.bac_device_poll.specs.State.{DeviceState, LogAs}

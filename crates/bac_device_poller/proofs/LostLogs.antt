@@ -5,7 +5,8 @@ use Rattle.bac_drive.specs.declared.machine.Next.{Next}
 use Rattle.bac_drive.specs.declared.machine.Next.TheVariants as next
 use Rattle.bac_poll.specs.Poll.{asked_by_poll}
 use Rattle.bac_device_poll.specs.Identity.{device_of}
-use Rattle.bac_device_poll.specs.Logs.{after_loss, begins_with}
+use Rattle.bac_device_poll.specs.Logs.{begins_with}
+use Rattle.bac_device_poll.specs.Loss.{after_loss}
 use Rattle.bac_device_poll.specs.State.{DeviceState, LogAs, begun}
 use Rattle.bac_device_poll.specs.Turns.{Turned}
 use Rattle.bac_device_poll.specs.declared.question.Question.{Question}

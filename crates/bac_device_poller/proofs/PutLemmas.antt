@@ -33,16 +33,19 @@ either : (b : Bool) (n : ℕ) (s t : Puts) → s.log ≡ n → t.log ≡ n → (
 either true n s t is also = is
 either false n s t is also = also
 
+round_log : (s : Puts) → (with_round s).log ≡ s.log
+round_log s = either s.full s.log _ s refl refl
+
 first_log : (s : Puts) (o : Option Beginning) → (with_first s o).log ≡ s.log
 first_log s None = refl
-first_log s (Some begins) = refl
+first_log s (Some begins) = round_log s
 
 rest_log : (doubtful : Bool) (s : Puts) (before : ℕ) → (with_rest doubtful s before).log ≡ s.log
-rest_log doubtful s before = either (nat_le before 1) s.log s _ refl refl
+rest_log doubtful s before = either (nat_le before 1) s.log s _ refl (round_log s)
 
 gap_log : (doubtful : Bool) (s : Puts) (first before : ℕ) → (with_gap doubtful s first before).log ≡ s.log
 gap_log doubtful s first before =
-    either (nat_le before first) s.log _ _ (rest_log doubtful (with_round (with_gap_row doubtful s first 4294967295)) before) refl
+    either (nat_le before first) s.log _ _ (rest_log doubtful (with_gap_row doubtful s first 4294967295) before ∙ round_log s) (round_log s)
 
 gaps_log : (doubtful : Bool) (s : Puts) (items : List Item) → (with_gaps doubtful s items).log ≡ s.log
 gaps_log doubtful s [] = refl
@@ -54,7 +57,7 @@ anew_log : (s : Puts) (anew : Bool) (line : Option Line) → (with_anew s anew l
 anew_log s anew line = either anew s.log _ s refl refl
 
 record_log : (s : Puts) (held : Numbered) → (with_record s held).log ≡ s.log
-record_log s held = either (held.number == 4294967295) s.log _ _ refl refl
+record_log s held = round_log s
 
 records_log : (s : Puts) (rs : List Numbered) → (with_records s rs).log ≡ s.log
 records_log s [] = refl

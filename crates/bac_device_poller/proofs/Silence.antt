@@ -6,7 +6,7 @@ use Rattle.bac_archive3.specs.declared.row.Put.{Put}
 use Rattle.bac_poll.specs.Poll.{asked_by_poll}
 use Rattle.bac_device_poll.specs.Laws.{ended_in, left, not_asked_in}
 use Rattle.bac_device_poll.specs.Identity.{after_i_am}
-use Rattle.bac_device_poll.specs.Logs.{after_loss}
+use Rattle.bac_device_poll.specs.Loss.{after_loss}
 use Rattle.bac_device_poll.specs.Poll.{Takes, asked_of_device, asks_log, question_at}
 use Rattle.bac_device_poll.specs.State.{DeviceState}
 use Rattle.bac_device_poll.specs.Turns.{Turned}

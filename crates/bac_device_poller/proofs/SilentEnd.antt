@@ -10,12 +10,13 @@ use Rattle.bac_poll_steps.specs.declared.turn.Line.{Line}
 use Rattle.bac_poll_steps.specs.declared.turn.PollEnd.TheVariants.{Fault}
 use Rattle.bac_walk.specs.declared.outcome.WalkFault.TheVariants as walk
 use Rattle.bac_device_poll.specs.Laws.{left}
-use Rattle.bac_device_poll.specs.Logs.{after_loss}
+use Rattle.bac_device_poll.specs.Loss.{after_loss}
 use Rattle.bac_device_poll.specs.State.{DeviceState, LogAs}
 use Rattle.bac_device_poll.specs.Turns.{Turned, not_asked}
 use Rattle.bac_device_poll.specs.declared.task.Polled.{Polled}
 use Rattle.bac_device_poller.specs.Ending.{reason_line}
-use Rattle.bac_device_poller.specs.Entries.{RowsAs, log_in, putting_log, raising, with_entries, with_log, without}
+use Rattle.bac_device_poller.specs.Entries.{RowsAs, log_in, putting_log, raising, telling_any, with_entries, with_log}
+use Rattle.bac_device_poller.specs.Entries.{without}
 use Rattle.bac_device_poller.specs.Naming.{has_word, with_word}
 use Rattle.bac_device_poller.specs.Poller.{PollerAs, Settles, end_at, putting_answered}
 use Rattle.bac_device_poller.specs.Puts.{PlaceAs}
@@ -23,7 +24,8 @@ use Rattle.bac_device_poller.specs.Rows.{LogAs as LogRowAs}
 use Rattle.bac_device_poller.specs.Silence.{EndsSilent, end_of, not_asked_as}
 use Rattle.bac_device_poller.specs.Status.{greater_of}
 use Rattle.bac_device_poller.specs.Telling.{LineAs}
-use Rattle.bac_device_poller.specs.Turns.{TakesOf, ended_by, ending_of, keeping, retelling, telling_any, telling_any_end}
+use Rattle.bac_device_poller.specs.Turns.{TakesOf, ended_by, ending_of, keeping, next_behind, retelling}
+use Rattle.bac_device_poller.specs.Turns.{telling_any_end}
 use Rattle.bac_device_poller.specs.Turns.{telling_end, telling_line, telling_turn}
 use Rattle.bac_device_poller.specs.declared.ending.Ending.{Ending}
 use Rattle.bac_device_poller.specs.declared.status.Status.TheVariants.{NoReply}
@@ -51,17 +53,18 @@ retold_called : (b : Bool) (r : RowsAs) (l : LogRowAs) (word : ToldAs) →
 retold_called true r l word = refl
 retold_called false r l word = refl
 
-turn_called : (r : RowsAs) (l : LogRowAs) (behind : Option PlaceAs) (rest : Option ℕ) (t : LogTurned) (word : ToldAs) (to : LogRowAs) →
-    (retelling (telling_turn r l.called behind rest t) to word).called ≡ r.called
-turn_called r l behind rest t word to =
-    retold_called (has_word word to) (telling_turn r l.called behind rest t) to word
-    ∙ end_called (telling_line r l.called t.line) l.called behind (ended_by t.end rest) t.poll.next ∙ line_called r l.called t.line
+turn_called : (r : RowsAs) (l : LogRowAs) (behind : Option PlaceAs) (rest : Option ℕ) (next : ℕ) (t : LogTurned) (word : ToldAs) (to : LogRowAs) →
+    (retelling (telling_turn r l.called behind rest next t) to word).called ≡ r.called
+turn_called r l behind rest next t word to =
+    retold_called (has_word word to) (telling_turn r l.called behind rest next t) to word
+    ∙ end_called (telling_line r l.called t.line) l.called behind (ended_by t.end rest) next ∙ line_called r l.called t.line
 
 taken_called : (o : Option LogRowAs) (rest : Option ℕ) (old : RowsAs) (t : LogTurned) (new : RowsAs) → TakesOf o rest old t new →
     new.called ≡ old.called
 taken_called None rest old t new is = ap (λ (r : RowsAs). r.called) is
 taken_called (Some l) rest old t new (behind, puts, placed, is) =
-    ap (λ (r : RowsAs). r.called) is ∙ turn_called (keeping old behind puts t) l behind rest t t.poll.word (record l { place = behind })
+    let next : ℕ = next_behind behind l.next t.poll.next in
+    ap (λ (r : RowsAs). r.called) is ∙ turn_called (keeping old behind puts t) l behind rest next t t.poll.word (record l { place = behind; next = next })
 
 -- ---- those that wait
 

@@ -7,8 +7,10 @@ use Rattle.bac_wire.specs.Primitive.{Id}
 use Rattle.bac_archive3.specs.declared.row.Put.{Put}
 use Rattle.bac_answers.specs.declared.entry.Entry.{Entry}
 use Rattle.bac_answers.specs.declared.entry.Entry.TheVariants.{Added, Another, Clock, Known, KnownNow, Named}
-use Rattle.bac_answers.specs.declared.entry.Entry.TheVariants.{NotAsked, Others, Read, Untold}
+use Rattle.bac_answers.specs.declared.entry.Entry.TheVariants.{NotAsked, Others, Read, Unlisted, Untold}
 use Rattle.bac_answers.specs.declared.entry.Naming.{Naming}
+use Rattle.bac_answers.specs.declared.who.Who.{Who}
+use Rattle.bac_answers.specs.declared.who.Who.TheVariants.{Address, Device, Name}
 use Rattle.bac_wire.specs.Stamp.{CivilTime}
 use Rattle.bac_poll.specs.State.{ToldAs}
 use Rattle.bac_poll.specs.Turns.{Turned as LogTurned}
@@ -29,7 +31,7 @@ use Rattle.bac_device_poll.specs.declared.turn.Step.{Step}
 use Rattle.bac_device_poll.specs.declared.turn.Step.TheVariants.{Ask, AskLater, End, GoOn}
 use Rattle.bac_device_poller.specs.Ending.{ended_line, is_caught_up, reason_line}
 use Rattle.bac_device_poller.specs.Entries.{RowsAs, added_as, failing, log_in, raising, renaming, telling, with_entries}
-use Rattle.bac_device_poller.specs.Entries.{putting_log, with_entry, with_log, without}
+use Rattle.bac_device_poller.specs.Entries.{knowing, putting_log, telling_any, telling_known, with_entry, with_log, without}
 use Rattle.bac_device_poller.specs.Ids.{free_id}
 use Rattle.bac_device_poller.specs.Naming.{has_word, with_word}
 use Rattle.bac_device_poller.specs.Poller.{Settles, doing_with, end_at, is_none_told, left_at, left_by, lost_of, putting_answered}
@@ -38,8 +40,8 @@ use Rattle.bac_device_poller.specs.Puts.{PlaceAs, PutAs}
 use Rattle.bac_device_poller.specs.Rows.{LogAs}
 use Rattle.bac_device_poller.specs.Status.{code, greater_of, status_at, status_of}
 use Rattle.bac_device_poller.specs.StatusLaws.{HasWarning, LogsAreCounted, RisesAsTold, StatusIsTold, end_status, left_status}
-use Rattle.bac_device_poller.specs.Telling.{LineAs}
-use Rattle.bac_device_poller.specs.Turns.{TakesLog, TakesOf, ended_by, ending_of, keeping, retelling, telling_any}
+use Rattle.bac_device_poller.specs.Telling.{LineAs, unlisted_line, unlisted_reason}
+use Rattle.bac_device_poller.specs.Turns.{TakesLog, TakesOf, ended_by, ending_of, keeping, next_behind, retelling}
 use Rattle.bac_device_poller.specs.Turns.{telling_any_end, telling_end, telling_ending, telling_line, telling_turn, turning}
 use Rattle.bac_device_poller.specs.declared.doing.Doing.{Doing}
 use Rattle.bac_device_poller.specs.declared.doing.Doing.TheVariants as doing
@@ -130,13 +132,27 @@ renaming_grows : (o : Option LogAs) (r : RowsAs) (naming : Naming) → Grows r (
 renaming_grows None r naming = still r r refl refl
 renaming_grows (Some l) r naming = still r (renaming (Some l) r naming) refl refl
 
+-- the device is known by this
+known_grows : (r : RowsAs) (who : Who) → Grows r (telling_known r who)
+known_grows r (Device device) = still r r refl refl
+known_grows r (Name name) = still r r refl refl
+known_grows r Address = tells r false _
+
+-- a line more, if there is one
+any_grows : (r : RowsAs) (text : Option (List ℕ)) → Grows r (telling_any r text)
+any_grows r None = still r r refl refl
+any_grows r (Some text) = tells r false text
+
 entry_grows : (r : RowsAs) (e : Entry) → Grows r (with_entry r e)
-entry_grows r (Known who) = still r (with_entry r (Known who)) refl refl
-entry_grows r (KnownNow who) = still r (with_entry r (KnownNow who)) refl refl
+entry_grows r (Known who) = chained (still r (knowing r who) refl refl) (known_grows (knowing r who) who)
+entry_grows r (KnownNow who) = chained (still r (knowing r who) refl refl) (tells (knowing r who) true _)
 entry_grows r (Another who) = tells r false _
 entry_grows r Untold = tells r false _
 entry_grows r (Clock offset) = still r (with_entry r (Clock offset)) refl refl
 entry_grows r (Added log) = added_grows (free_id r.ids) r log
+entry_grows r (Unlisted why) =
+    let s : RowsAs = failing r (status_of (Poll (Fault why))) (unlisted_line r.called why) in
+    chained (fails r (status_of (Poll (Fault why))) (unlisted_line r.called why)) (any_grows s (unlisted_reason r.called why))
 entry_grows r (Others others) = tells r false _
 entry_grows r (Named log naming) = chained (still r (without log r) refl refl) (renaming_grows (log_in log r.logs) (without log r) naming)
 entry_grows r (Read revision) = still r (with_entry r (Read revision)) refl refl
@@ -171,10 +187,6 @@ ended_grows r called why next = record {
     by Epochs = inr (bad Epochs refl)
     by LogNotAsked = inr (bad LogNotAsked refl)
 
-any_grows : (r : RowsAs) (text : Option (List ℕ)) → Grows r (telling_any r text)
-any_grows r None = still r r refl refl
-any_grows r (Some text) = tells r false text
-
 ending_grows : (r : RowsAs) (called : List ℕ) (why : Ending) (next : ℕ) → Grows r (telling_ending r called why next)
 ending_grows r called why next = chained (ended_grows r called why next) (any_grows (telling_end r called why next) (reason_line called why))
 
@@ -197,10 +209,11 @@ turning_grows : (r : RowsAs) (l : LogAs) (behind : Option PlaceAs) (puts : List 
 turning_grows r l behind puts left t =
     let kept = keeping r behind puts t in
     let lined = telling_line kept l.called t.line in
-    let told = telling_turn kept l.called behind left t in
+    let next : ℕ = next_behind behind l.next t.poll.next in
+    let told = telling_turn kept l.called behind left next t in
     chained (still r kept refl refl)
     (chained (line_grows kept l.called t.line)
-    (chained (any_end_grows lined l.called behind (ended_by t.end left) t.poll.next) (retold_grows told (record l { place = behind }) t.poll.word)))
+    (chained (any_end_grows lined l.called behind (ended_by t.end left) next) (retold_grows told (record l { place = behind; next = next }) t.poll.word)))
 
 of_grows : (o : Option LogAs) (left : Option ℕ) (old : RowsAs) (t : LogTurned) (new : RowsAs) → TakesOf o left old t new → Grows old new
 of_grows None left old t new same = let G : RowsAs → Type 0 = λ r. Grows old r in subst G (sym same) (still old old refl refl)
@@ -390,9 +403,10 @@ turn_counts : (r : RowsAs) (l : LogAs) (behind : Option PlaceAs) (puts : List Pu
     ended_by u.end left ≡ Some why → least why ≤ code (turning r l behind puts left u).status
 turn_counts r l behind puts left u why is =
     let lined = telling_line (keeping r behind puts u) l.called u.line in
-    let C : Option Ending → Type 0 = λ o. least why ≤ code (telling_any_end lined l.called behind o u.poll.next).status in
-    let told : C (ended_by u.end left) = subst C (sym is) (end_counts lined l.called behind why u.poll.next) in
-    let g = retold_grows (telling_turn (keeping r behind puts u) l.called behind left u) (record l { place = behind }) u.poll.word in
+    let next : ℕ = next_behind behind l.next u.poll.next in
+    let C : Option Ending → Type 0 = λ o. least why ≤ code (telling_any_end lined l.called behind o next).status in
+    let told : C (ended_by u.end left) = subst C (sym is) (end_counts lined l.called behind why next) in
+    let g = retold_grows (telling_turn (keeping r behind puts u) l.called behind left next u) (record l { place = behind; next = next }) u.poll.word in
     let h = g.rises in
     omega (arith, told, h)
 

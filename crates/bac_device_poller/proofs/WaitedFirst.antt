@@ -10,19 +10,21 @@ use Rattle.bac_link.specs.declared.transactions.Transactions.{Transactions}
 use Rattle.bac_drive.specs.declared.machine.Next.{Next}
 use Rattle.bac_drive.specs.declared.machine.Next.TheVariants as next
 use Rattle.bac_device_poll.specs.Identity.{after_i_am}
-use Rattle.bac_device_poll.specs.Logs.{after_loss, loss_at}
-use Rattle.bac_device_poll.specs.Poll.{asked_of_device}
+use Rattle.bac_device_poll.specs.Loss.{after_loss, loss_at, passed_over}
+use Rattle.bac_device_poll.specs.Poll.{asked_of_device, question_at}
 use Rattle.bac_device_poll.specs.State.{DeviceState}
 use Rattle.bac_device_poll.specs.Turns.{Turned, leaves}
 use Rattle.bac_device_poll.specs.Way.{who_is_octets}
 use Rattle.bac_device_poll.specs.declared.question.Question.{Question}
 use Rattle.bac_device_poll.specs.declared.question.Question.TheVariants.{Confirmed, Nothing, WhoIs}
+use Rattle.bac_device_poll.specs.declared.stage.Stage.{Stage}
+use Rattle.bac_device_poll.specs.declared.stage.Stage.TheVariants as stage
 use Rattle.bac_device_poll.specs.declared.turn.DeviceEnd.{DeviceEnd}
 use Rattle.bac_device_poll.specs.declared.turn.DeviceEnd.TheVariants.{Silent}
 use Rattle.bac_device_poller.specs.Poller.{AsksNext, GivesBy, PollerAs, Settles, TellsNext, doing_with, given_up}
 use Rattle.bac_device_poller.specs.Poller.{is_none_told, is_waiting, is_who_is, lost_of, missed, sought_again}
 use Rattle.bac_device_poller.specs.Poller.{without_answer}
-use Rattle.bac_device_poller.specs.Silence.{Answered, Happening, IsAsking, IsUnanswered, Lent, Missed, Runs}
+use Rattle.bac_device_poller.specs.Silence.{Answered, Happening, IsAsking, IsFirst, IsUnanswered, Lent, Missed, Runs}
 use Rattle.bac_device_poller.specs.Silence.{Wanted, WaitsOnceFirst, first_in_vain, is_send, is_sent}
 use Rattle.bac_device_poller.specs.Telling.{LineAs}
 use Rattle.bac_device_poller.specs.declared.doing.Doing.{Doing}
@@ -68,6 +70,7 @@ record Asking (p : PollerAs) (question : Question) : Type 0 where
   pub polled : p.poll.polled ≡ None
   pub asks : asked_of_device p.poll ≡ question
   pub is : IsAsking question
+  pub first : IsFirst p.poll.stage
 
 -- so it is, unless nothing more is asked
 abbrev Goes : Option DeviceEnd → PollerAs → Type 0
@@ -110,7 +113,7 @@ sent_first (Confirmed request) old (next.Send octets to) new on (o, t, is) =
     let e : left_of new ≡ repeats_left old.transactions.retries (begun_with request old.transactions).pending =
     ap left_of is ∙ ap (λ (x : Question). out_left x n) on.asks in record {
       unheard = let P : PollerAs → Type 0 = λ p. Unheard p.doing p in
-          subst P (sym is) (Confirmed request, record { polled = on.polled; asks = on.asks; is = tt });
+          subst P (sym is) (Confirmed request, record { polled = on.polled; asks = on.asks; is = tt; first = on.first });
       less = omega (arith, e);
     }
 sent_first (Confirmed request) old wanted new on asks = absurd asks
@@ -118,7 +121,7 @@ sent_first WhoIs old (next.Send octets to) new on (o, t, is) =
     let n : PollerAs = record old { sought = 0; doing = doing.Waits } in
     let e : left_of new ≡ (old.retries - 0) + (old.transactions.retries + 1) = ap left_of is ∙ ap (λ (x : Question). out_left x n) on.asks in record {
       unheard = let P : PollerAs → Type 0 = λ p. Unheard p.doing p in
-          subst P (sym is) (WhoIs, record { polled = on.polled; asks = on.asks; is = tt });
+          subst P (sym is) (WhoIs, record { polled = on.polled; asks = on.asks; is = tt; first = on.first });
       less = omega (arith, e);
     }
 sent_first WhoIs old wanted new on asks = absurd asks
@@ -128,11 +131,11 @@ sent_first Nothing old wanted new on asks = absurd on.is
 
 told_on : (end : Option DeviceEnd) (old : PollerAs) (told : Bool) (lines : List LineAs) → Goes end old →
     Goes end (record old { doing = doing_with end told; rows = record old.rows { lines = lines } })
-told_on None old told lines (question, on) = (question, record { polled = on.polled; asks = on.asks; is = on.is })
+told_on None old told lines (question, on) = (question, record { polled = on.polled; asks = on.asks; is = on.is; first = on.first })
 told_on (Some why) old told lines on = tt
 
 same_on : (end : Option DeviceEnd) (old : PollerAs) (told : Bool) → Goes end old → Goes end (record old { doing = doing_with end told })
-same_on None old told (question, on) = (question, record { polled = on.polled; asks = on.asks; is = on.is })
+same_on None old told (question, on) = (question, record { polled = on.polled; asks = on.asks; is = on.is; first = on.first })
 same_on (Some why) old told on = tt
 
 tells_less : (lines : List LineAs) (end : Option DeviceEnd) (old : PollerAs) (wanted : Next) (new : PollerAs) → Goes end old →
@@ -168,9 +171,20 @@ tells_less (line ∷ lines) end old wanted new on (w, is) =
 
 -- ---- no answer came
 
-lost_request : (p : PollerAs) (request : Request) → Asking p (Confirmed request) → lost_of p ≡ leaves p.poll [] Silent
+silent_first : (s : Stage) (b : Bool) (p : DeviceState) → IsFirst s →
+    (d : DeviceState) × ((if b then leaves p [] Silent else passed_over s (record p { doubt = true })) ≡ leaves d [] Silent)
+silent_first s true p first = (p, refl)
+silent_first stage.Instance false p first = (record p { doubt = true }, refl)
+silent_first stage.IAm false p first = (record p { doubt = true }, refl)
+silent_first stage.Name false p first = (record p { doubt = true }, refl)
+silent_first other false p first = absurd first
+
+lost_request : (p : PollerAs) (request : Request) → Asking p (Confirmed request) → (d : DeviceState) × (lost_of p ≡ leaves d [] Silent)
 lost_request p request on =
-    ap (λ (b : Bool). if b then after_i_am p.poll None else after_loss p.poll) (ap is_who_is on.asks) ∙ ap (loss_at p.poll) on.polled
+    let silent = silent_first p.poll.stage p.poll.doubt p.poll on.first in (
+      silent.0,
+      ap (λ (b : Bool). if b then after_i_am p.poll None else after_loss p.poll) (ap is_who_is on.asks) ∙ ap (loss_at p.poll) on.polled ∙ silent.1,
+    )
 
 lost_who_is : (p : PollerAs) → Asking p WhoIs → lost_of p ≡ after_i_am p.poll None
 lost_who_is p on = ap (λ (b : Bool). if b then after_i_am p.poll None else after_loss p.poll) (ap is_who_is on.asks)
@@ -178,8 +192,9 @@ lost_who_is p on = ap (λ (b : Bool). if b then after_i_am p.poll None else afte
 loses_less : (question : Question) (old : PollerAs) (puts : List Put) (new : PollerAs) → Asking old question → Settles (lost_of old) old puts new →
     Less false new (lost_left question old)
 loses_less (Confirmed request) old puts new on settles =
-    let t : Turned = leaves old.poll [] Silent in
-    let s : Settled t old new = settled t old puts new (subst (λ (t : Turned). Settles t old puts new) (lost_request old request on) settles) in
+    let silent = lost_request old request on in
+    let t : Turned = leaves silent.0 [] Silent in
+    let s : Settled t old new = settled t old puts new (subst (λ (t : Turned). Settles t old puts new) silent.1 settles) in
     let e : left_of new ≡ 0 = ap (left_at (asked_of_device new.poll) new) s.doing ∙ left_with (asked_of_device new.poll) new (Some Silent) s.told in record {
       unheard = let P : Doing → Type 0 = λ d. Unheard d new in subst P (sym s.doing) (unheard_with (Some Silent) s.told new tt);
       less = omega (arith, e);
@@ -189,7 +204,15 @@ loses_less WhoIs old puts new on settles =
     let s : Settled t old new = settled t old puts new (subst (λ (t : Turned). Settles t old puts new) (lost_who_is old on) settles) in
     let q : Question = asked_of_device (behind t).device in
     let asks : asked_of_device new.poll ≡ q = ap asked_of_device s.poll in
-    let goes : Goes None new = (q, record { polled = ap (λ (d : DeviceState). d.polled) s.poll ∙ on.polled; asks = asks; is = tt }) in
+    let goes : Goes None new = (
+      q,
+      record {
+        polled = ap (λ (d : DeviceState). d.polled) s.poll ∙ on.polled;
+        asks = asks;
+        is = tt;
+        first = subst (λ (d : DeviceState). IsFirst d.stage) (sym s.poll) tt;
+      },
+    ) in
     let e : left_of new ≡ new.transactions.retries + 1 =
     ap (λ (x : Question). left_at x new new.doing) asks ∙ ap (left_at q new) s.doing ∙ left_with q new None s.told in
     let same : new.transactions.retries ≡ old.transactions.retries = ap (λ (t : Transactions). t.retries) s.transactions in record {
@@ -213,7 +236,7 @@ gives_less doing.Asks old wanted new at (question, on) gives =
 gives_less (doing.Resends datagram) old (next.Send octets to) new at (question, on) (o, t, is) =
     let e : left_of new ≡ out_left (asked_of_device old.poll) old = ap left_of is ∙ out_same (asked_of_device old.poll) old in record {
       unheard = let P : PollerAs → Type 0 = λ p. Unheard p.doing p in
-          subst P (sym is) (question, record { polled = on.polled; asks = on.asks; is = on.is });
+          subst P (sym is) (question, record { polled = on.polled; asks = on.asks; is = on.is; first = on.first });
       less = omega (arith, e);
     }
 gives_less (doing.Resends datagram) old wanted new at on gives = absurd gives
@@ -242,7 +265,7 @@ gives_less (doing.Ended why) old wanted new at on (w, is) =
 given_less : (p : PollerAs) (question : Question) (n : ℕ) → Asking p question → lost_left question p ≤ n → Less false (given_up p) n
 given_less p question n on fits =
     let e : left_of (given_up p) ≡ lost_left question (given_up p) = ap (λ (x : Question). lost_left x (given_up p)) on.asks in record {
-      unheard = (question, record { polled = on.polled; asks = on.asks; is = on.is });
+      unheard = (question, record { polled = on.polled; asks = on.asks; is = on.is; first = on.first });
       less = let f = e ∙ same question in omega (arith, f, fits);
     }
   where
@@ -268,7 +291,7 @@ request_again p request (Some r) on = by (nat_le p.transactions.retries r.repeat
         } in
         let less = leb-false p.transactions.retries r.repeats more in
         let e : left_of n ≡ (p.transactions.retries - (r.repeats + 1)) + 1 = ap (λ (x : Question). out_left x n + 1) on.asks in record {
-          unheard = (Confirmed request, record { polled = on.polled; asks = on.asks; is = tt });
+          unheard = (Confirmed request, record { polled = on.polled; asks = on.asks; is = tt; first = on.first });
           less = omega (arith, e, less);
         }
 
@@ -285,7 +308,7 @@ sought_less true p more on =
     let n : PollerAs = record p { sought = p.sought + 1; doing = doing.Resends (who_is_octets p.way.route) } in
     let less = ltb-true p.sought p.retries more in
     let e : left_of n ≡ (p.retries - (p.sought + 1)) + (p.transactions.retries + 1) + 1 = ap (λ (x : Question). out_left x n + 1) on.asks in record {
-      unheard = (WhoIs, record { polled = on.polled; asks = on.asks; is = tt });
+      unheard = (WhoIs, record { polled = on.polled; asks = on.asks; is = tt; first = on.first });
       less = omega (arith, e, less);
     }
 
@@ -317,12 +340,12 @@ missed_less (doing.Ended why) p at waits on = absurd (cc)
 
 -- ids that are lent change nothing of that
 lent_on : (what : Doing) (old : PollerAs) (ids : Ids) → Unheard what old → Unheard what (record old { rows = record old.rows { ids = ids } })
-lent_on doing.Asks old ids (question, on) = (question, record { polled = on.polled; asks = on.asks; is = on.is })
-lent_on doing.Waits old ids (question, on) = (question, record { polled = on.polled; asks = on.asks; is = on.is })
-lent_on (doing.Resends datagram) old ids (question, on) = (question, record { polled = on.polled; asks = on.asks; is = on.is })
+lent_on doing.Asks old ids (question, on) = (question, record { polled = on.polled; asks = on.asks; is = on.is; first = on.first })
+lent_on doing.Waits old ids (question, on) = (question, record { polled = on.polled; asks = on.asks; is = on.is; first = on.first })
+lent_on (doing.Resends datagram) old ids (question, on) = (question, record { polled = on.polled; asks = on.asks; is = on.is; first = on.first })
 lent_on (doing.Hears came) old ids on = absurd on
-lent_on doing.Loses old ids (question, on) = (question, record { polled = on.polled; asks = on.asks; is = on.is })
-lent_on (doing.Tells None) old ids (question, on) = (question, record { polled = on.polled; asks = on.asks; is = on.is })
+lent_on doing.Loses old ids (question, on) = (question, record { polled = on.polled; asks = on.asks; is = on.is; first = on.first })
+lent_on (doing.Tells None) old ids (question, on) = (question, record { polled = on.polled; asks = on.asks; is = on.is; first = on.first })
 lent_on (doing.Tells (Some why)) old ids on = tt
 lent_on (doing.Ended why) old ids on = tt
 
@@ -381,10 +404,17 @@ run_less old (Missed ∷ run) new on (mid, (waits, is), more) none =
     let rest = run_less mid run new l.unheard more none in
     omega (arith, l.less, rest, one_more Missed run)
 
+asks_first : (p : DeviceState) (s : Stage) → IsFirst s → IsAsking (question_at p s)
+asks_first p stage.Instance first = tt
+asks_first p stage.IAm first = tt
+asks_first p stage.Name first = tt
+asks_first p other first = absurd first
+
 pub waits_once_first : WaitsOnceFirst
-waits_once_first old new run polled asking asks more none =
+waits_once_first old new run polled first asks more none =
     let P : Doing → Type 0 = λ d. Unheard d old in
-    let on : Goes None old = (asked_of_device old.poll, record { polled = polled; asks = refl; is = asking }) in
+    let asking : IsAsking (asked_of_device old.poll) = asks_first old.poll old.poll.stage first in
+    let on : Goes None old = (asked_of_device old.poll, record { polled = polled; asks = refl; is = asking; first = first }) in
     let less = run_less old run new (subst P (sym asks) on) more none in
     let at : left_of old ≡ first_in_vain (asked_of_device old.poll) old.transactions.retries old.retries = ap (left_at (asked_of_device old.poll) old) asks in
     omega (arith, less, at)

@@ -8,26 +8,30 @@ use Rattle.bac_link.specs.declared.transactions.Pending.{Pending}
 use Rattle.bac_link.specs.declared.transactions.Transactions.{Transactions}
 use Rattle.bac_drive.specs.declared.machine.Next.{Next}
 use Rattle.bac_drive.specs.declared.machine.Next.TheVariants as next
-use Rattle.bac_poll.specs.Poll.{asked_by_poll}
-use Rattle.bac_device_poll.specs.Logs.{after_loss}
+use Rattle.bac_device_poll.specs.Identity.{after_i_am}
+use Rattle.bac_device_poll.specs.Loss.{after_loss}
+use Rattle.bac_device_poll.specs.Poll.{asked_of_device, asks_log, question_at}
 use Rattle.bac_device_poll.specs.State.{DeviceState}
 use Rattle.bac_device_poll.specs.Turns.{Turned}
 use Rattle.bac_device_poll.specs.declared.question.Question.{Question}
-use Rattle.bac_device_poll.specs.declared.question.Question.TheVariants.{Confirmed}
+use Rattle.bac_device_poll.specs.declared.question.Question.TheVariants.{Confirmed, Nothing, WhoIs}
+use Rattle.bac_device_poll.specs.declared.stage.Stage.{Stage}
+use Rattle.bac_device_poll.specs.declared.stage.Stage.TheVariants as stage
 use Rattle.bac_device_poll.specs.declared.task.Polled.{Polled}
 use Rattle.bac_device_poll.specs.declared.turn.DeviceEnd.{DeviceEnd}
 use Rattle.bac_device_poll.specs.declared.turn.DeviceEnd.TheVariants.{Silent}
 use Rattle.bac_device_poller.specs.Poller.{AsksNext, GivesBy, PollerAs, Settles, TellsNext, doing_with, end_at, given_up}
-use Rattle.bac_device_poller.specs.Poller.{is_none_told, is_waiting, missed, without_answer}
-use Rattle.bac_device_poller.specs.Silence.{Answered, Happening, IsPolling, IsUnanswered, Lent, Missed, Runs}
+use Rattle.bac_device_poller.specs.Poller.{is_none_told, is_waiting, is_who_is, lost_of, missed, sought_again, without_answer}
+use Rattle.bac_device_poller.specs.Silence.{Answered, Happening, IsAsking, IsMet, IsPolling, IsUnanswered, Lent, Missed, Runs}
 use Rattle.bac_device_poller.specs.Silence.{Wanted, WaitsOnce, end_of, is_send, is_sent, sends_in_vain}
 use Rattle.bac_device_poller.specs.Telling.{LineAs}
 use Rattle.bac_device_poller.specs.declared.doing.Doing.{Doing}
 use Rattle.bac_device_poller.specs.declared.doing.Doing.TheVariants as doing
-use Rattle.bac_device_poller.proofs.LogTurns.{GoesOn, at_log, behind}
-use Rattle.bac_device_poller.proofs.Silence.{Settled, asked_is, by_log, loss, lost_is, missed_is, settled}
+use Rattle.bac_device_poller.proofs.LogTurns.{at_log, behind}
+use Rattle.bac_device_poller.proofs.Passing.{AsksOn, GoesMet, passes}
+use Rattle.bac_device_poller.proofs.Silence.{Settled, by_log, end_with, settled}
 use Rattle.bac_device_poller.proofs.SilentSteps.{told_send}
-use Rattle.bac_device_poller.proofs.SilentRuns.{Goes, IsOn, asks_on_log, gives_on, missed_on, one_more, tally}
+use Rattle.bac_device_poller.proofs.SilentRuns.{one_more, tally}
 
 -- ---- how many sends are left while nothing is heard
 
@@ -71,8 +75,13 @@ Unheard doing.Loses = Unit {0}
 Unheard (doing.Tells end) = Unit {0}
 Unheard (doing.Ended why) = Unit {0}
 
+-- it told who it is, and is asked for more, unless nothing is
+abbrev IsOn : PollerAs → Type 0
+IsOn p = GoesMet (end_of p.doing) p.poll
+
 -- what a step leaves
 record Less (old : PollerAs) (sent : Bool) (new : PollerAs) (before : ℕ) : Type 0 where
+  pub on : IsOn new
   pub unheard : Unheard new.doing
   pub less : left_of new + tally sent ≤ before
 
@@ -94,28 +103,33 @@ asks_less : (doubt : Bool) (t : Transactions) (r : Request) → waits_left doubt
 asks_less true t r = omega arith
 asks_less false t r = omega arith
 
-asked_less : (old : PollerAs) (wanted : Next) (new : PollerAs) (q : Polled) → AsksNext (Confirmed (asked_by_poll q.poll)) old wanted new →
+asked_less : (old : PollerAs) (wanted : Next) (new : PollerAs) (r : Request) → AsksOn old.poll → AsksNext (Confirmed r) old wanted new →
     Less old (is_send wanted) new (vain old.poll.doubt old.transactions doing.Asks)
-asked_less old (next.Send octets to) new q (o, t, is) =
-    let r : Request = asked_by_poll q.poll in
+asked_less old (next.Send octets to) new r on (o, t, is) =
     let e : left_of new ≡ waits_left old.poll.doubt (begun_with r old.transactions) = ap left_of is in
     let less = asks_less old.poll.doubt old.transactions r in record {
+      on = let P : PollerAs → Type 0 = IsOn in subst P (sym is) on;
       unheard = let P : PollerAs → Type 0 = λ p. Unheard p.doing in subst P (sym is) tt;
       less = omega (arith, e, less);
     }
-asked_less old wanted new q asks = absurd asks
+asked_less old wanted new r on asks = absurd asks
+
+told_on : (end : Option DeviceEnd) (told : Bool) (p : DeviceState) → GoesMet end p → GoesMet (end_of (doing_with end told)) p
+told_on end told p on = subst (λ (o : Option DeviceEnd). GoesMet o p) (sym (end_with end told)) on
 
 tells_less : (lines : List LineAs) (end : Option DeviceEnd) (old : PollerAs) (wanted : Next) (new : PollerAs) →
-    TellsNext lines end old wanted new → Less old (is_send wanted) new (vain old.poll.doubt old.transactions (doing.Tells end))
-tells_less [] end old wanted new (w, is) =
+    GoesMet end old.poll → TellsNext lines end old wanted new → Less old (is_send wanted) new (vain old.poll.doubt old.transactions (doing.Tells end))
+tells_less [] end old wanted new on (w, is) =
     let e : left_of new ≡ vain old.poll.doubt old.transactions (doing_with end true) = ap left_of is in
     let none : tally (is_send wanted) ≡ 0 = ap (λ (w : Next). tally (is_send w)) w in record {
+      on = let P : PollerAs → Type 0 = IsOn in subst P (sym is) (told_on end true old.poll on);
       unheard = let P : PollerAs → Type 0 = λ p. Unheard p.doing in subst P (sym is) (unheard_with end true);
       less = omega (arith, e, none, vain_with old.poll.doubt old.transactions end true);
     }
-tells_less (line ∷ lines) end old wanted new (w, is) =
+tells_less (line ∷ lines) end old wanted new on (w, is) =
     let e : left_of new ≡ vain old.poll.doubt old.transactions (doing_with end (is_none_told lines)) = ap left_of is in
     let none : tally (is_send wanted) ≡ 0 = ap tally (told_send line.good line.text wanted w) in record {
+      on = let P : PollerAs → Type 0 = IsOn in subst P (sym is) (told_on end (is_none_told lines) old.poll on);
       unheard = let P : PollerAs → Type 0 = λ p. Unheard p.doing in subst P (sym is) (unheard_with end (is_none_told lines));
       less = omega (arith, e, none, vain_with old.poll.doubt old.transactions end (is_none_told lines));
     }
@@ -136,95 +150,113 @@ doubted : (t : Transactions) (end : Option DeviceEnd) → vain true t (doing.Tel
 doubted t None = omega arith
 doubted t (Some why) = omega arith
 
-lost_less : (doubt : Bool) (old : PollerAs) (new : PollerAs) (q : Polled) → IsPolling old q → old.poll.doubt ≡ doubt →
-    Settled (after_loss old.poll) old new → left_of new ≤ loses_left doubt
-lost_less doubt old new q on is s = by doubt is
+lost_less : (old : PollerAs) (new : PollerAs) → Settled (after_loss old.poll) old new → left_of new ≤ loses_left old.poll.doubt
+lost_less old new s = by old.poll.doubt refl
   where
     end : Option DeviceEnd
     end = end_at (behind (after_loss old.poll)).step
 
     told : left_of new ≡ vain true new.transactions (doing.Tells end)
     told = ap (λ (d : DeviceState). vain d.doubt new.transactions new.doing) s.poll
-        ∙ ap (λ (b : Bool). vain b new.transactions new.doing) (loss old q on).doubt
+        ∙ ap (λ (b : Bool). vain b new.transactions new.doing) (passes old.poll).doubt
         ∙ ap (vain true new.transactions) s.doing ∙ vain_with true new.transactions end s.told
 
     by : (b : Bool) → old.poll.doubt ≡ b → left_of new ≤ loses_left b
     by false at = let less = doubted new.transactions end in omega (arith, told, less)
     by true at =
         let none : vain true new.transactions (doing.Tells end) ≡ 0 =
-        ap (λ (o : Option DeviceEnd). vain true new.transactions (doing.Tells o)) (ends_silent old q on at) in
+        ap (λ (o : Option DeviceEnd). vain true new.transactions (doing.Tells o)) ((passes old.poll).silent at) in
         omega (arith, told, none)
 
 -- ---- what it wants
 
-gives_less : (what : Doing) (old : PollerAs) (wanted : Next) (new : PollerAs) → old.doing ≡ what → Unheard what →
-    GoesOn (end_of what) old.poll → GivesBy what old wanted new → Less old (is_send wanted) new (vain old.poll.doubt old.transactions what)
-gives_less doing.Asks old wanted new at unheard (q, stage, polled) gives =
-    asked_less old wanted new q (subst (λ (x : Question). AsksNext x old wanted new) (asked_is old q (stage, polled)) gives)
-gives_less (doing.Resends datagram) old (next.Send octets to) new at unheard on (o, t, is) =
+lost_met : (p : PollerAs) → AsksOn p.poll → lost_of p ≡ after_loss p.poll
+lost_met p (request, asks, met) = ap (λ (b : Bool). if b then after_i_am p.poll None else after_loss p.poll) (ap is_who_is asks)
+
+settled_on : (old new : PollerAs) → Settled (after_loss old.poll) old new → IsOn new
+settled_on old new s =
+    let u : Turned = behind (after_loss old.poll) in
+    let e : end_of new.doing ≡ end_at u.step = ap end_of s.doing ∙ end_with (end_at u.step) s.told in
+    subst (λ (p : DeviceState). GoesMet (end_of new.doing) p) (sym s.poll)
+    (subst (λ (o : Option DeviceEnd). GoesMet o u.device) (sym e) (passes old.poll).on)
+
+gives_less : (what : Doing) (old : PollerAs) (wanted : Next) (new : PollerAs) → old.doing ≡ what → Unheard what → IsOn old →
+    GoesMet (end_of what) old.poll → GivesBy what old wanted new → Less old (is_send wanted) new (vain old.poll.doubt old.transactions what)
+gives_less doing.Asks old wanted new at unheard is_on (request, asks, met) gives =
+    asked_less old wanted new request (request, asks, met) (subst (λ (x : Question). AsksNext x old wanted new) asks gives)
+gives_less (doing.Resends datagram) old (next.Send octets to) new at unheard is_on on (o, t, is) =
     let e : left_of new ≡ waits_left old.poll.doubt old.transactions = ap left_of is in record {
+      on = let P : PollerAs → Type 0 = IsOn in subst P (sym is) on;
       unheard = let P : PollerAs → Type 0 = λ p. Unheard p.doing in subst P (sym is) tt;
       less = omega (arith, e);
     }
-gives_less (doing.Resends datagram) old wanted new at unheard on gives = absurd gives
-gives_less doing.Waits old wanted new at unheard on (w, is) =
+gives_less (doing.Resends datagram) old wanted new at unheard is_on on gives = absurd gives
+gives_less doing.Waits old wanted new at unheard is_on on (w, is) =
     let e : left_of new ≡ waits_left old.poll.doubt old.transactions = ap left_of is ∙ ap (vain old.poll.doubt old.transactions) at in
     let none : tally (is_send wanted) ≡ 0 = ap (λ (w : Next). tally (is_send w)) w in record {
+      on = let P : PollerAs → Type 0 = IsOn in subst P (sym is) is_on;
       unheard = let P : PollerAs → Type 0 = λ p. Unheard p.doing in subst P (sym is) (subst Unheard (sym at) tt);
       less = omega (arith, e, none);
     }
-gives_less (doing.Hears came) old wanted new at unheard on gives = absurd unheard
-gives_less doing.Loses old (next.Keep puts) new at unheard (q, stage, polled) settles =
+gives_less (doing.Hears came) old wanted new at unheard is_on on gives = absurd unheard
+gives_less doing.Loses old (next.Keep puts) new at unheard is_on on settles =
     let s : Settled (after_loss old.poll) old new = settled (after_loss old.poll) old puts.items new
-    (subst (λ (t : Turned). Settles t old puts.items new) (lost_is old q (stage, polled)) settles) in
-    let less = lost_less old.poll.doubt old new q (stage, polled) refl s in record {
+    (subst (λ (t : Turned). Settles t old puts.items new) (lost_met old on) settles) in
+    let less = lost_less old new s in record {
+      on = settled_on old new s;
       unheard = let P : Doing → Type 0 = Unheard in subst P (sym s.doing) (unheard_with (end_at (behind (after_loss old.poll)).step) s.told);
       less = omega (arith, less);
     }
-gives_less doing.Loses old wanted new at unheard on gives = absurd gives
-gives_less (doing.Tells end) old wanted new at unheard on gives = tells_less old.rows.lines end old wanted new gives
-gives_less (doing.Ended why) old wanted new at unheard on (w, is) =
+gives_less doing.Loses old wanted new at unheard is_on on gives = absurd gives
+gives_less (doing.Tells end) old wanted new at unheard is_on on gives = tells_less old.rows.lines end old wanted new on gives
+gives_less (doing.Ended why) old wanted new at unheard is_on on (w, is) =
     let e : left_of new ≡ 0 = ap left_of is ∙ ap (vain old.poll.doubt old.transactions) at in
     let none : tally (is_send wanted) ≡ 0 = ap (λ (w : Next). tally (is_send w)) w in record {
+      on = let P : PollerAs → Type 0 = IsOn in subst P (sym is) is_on;
       unheard = let P : PollerAs → Type 0 = λ p. Unheard p.doing in subst P (sym is) (subst Unheard (sym at) tt);
       less = omega (arith, e, none);
     }
 
 -- ---- no answer in time
 
-timed_out : (p : PollerAs) (o : Option Pending) →
+timed_out : (p : PollerAs) (o : Option Pending) → AsksOn p.poll →
     Less p false (without_answer p o) (repeats_left p.transactions.retries o + 1)
-timed_out p None = by p.poll.doubt
+timed_out p None on = by p.poll.doubt on
   where
-    by : (b : Bool) → Less p false (record (given_up p) { poll = record p.poll { doubt = b } }) 1
-    by true = record { unheard = tt; less = omega arith }
-    by false = record { unheard = tt; less = omega arith }
-timed_out p (Some request) = by (nat_le p.transactions.retries request.repeats) refl
+    by : (b : Bool) → AsksOn (record p.poll { doubt = b }) → Less p false (record (given_up p) { poll = record p.poll { doubt = b } }) 1
+    by true on = record { on = on; unheard = tt; less = omega arith }
+    by false on = record { on = on; unheard = tt; less = omega arith }
+timed_out p (Some request) on = by (nat_le p.transactions.retries request.repeats) refl
   where
     by : (b : Bool) → nat_le p.transactions.retries request.repeats ≡ b → Less p false (if b then given_up p else record p {
       transactions = record p.transactions { pending = Some (record request { repeats = request.repeats + 1 }) };
       doing = doing.Resends request.request;
     }) (p.transactions.retries - request.repeats + 1)
-    by true more = done p.poll.doubt
+    by true more = done p.poll.doubt on
       where
-        done : (b : Bool) → Less p false (record (given_up p) { poll = record p.poll { doubt = b } }) (p.transactions.retries - request.repeats + 1)
-        done true = record { unheard = tt; less = omega arith }
-        done false = record { unheard = tt; less = omega arith }
-    by false more = let less = leb-false p.transactions.retries request.repeats more in again p.poll.doubt less
+        done : (b : Bool) → AsksOn (record p.poll { doubt = b }) → Less p false (record (given_up p) { poll = record p.poll { doubt = b } }) (p.transactions.retries - request.repeats + 1)
+        done true on = record { on = on; unheard = tt; less = omega arith }
+        done false on = record { on = on; unheard = tt; less = omega arith }
+    by false more = let less = leb-false p.transactions.retries request.repeats more in again p.poll.doubt on less
       where
-        again : (b : Bool) → request.repeats < p.transactions.retries → Less p false (record p {
+        again : (b : Bool) → AsksOn (record p.poll { doubt = b }) → request.repeats < p.transactions.retries → Less p false (record p {
           poll = record p.poll { doubt = b };
           transactions = record p.transactions { pending = Some (record request { repeats = request.repeats + 1 }) };
           doing = doing.Resends request.request;
         }) (p.transactions.retries - request.repeats + 1)
-        again true less = record { unheard = tt; less = omega (arith, less) }
-        again false less = record { unheard = tt; less = omega (arith, less) }
+        again true on less = record { on = on; unheard = tt; less = omega (arith, less) }
+        again false on less = record { on = on; unheard = tt; less = omega (arith, less) }
 
-missed_by : (doubt : Bool) (p : PollerAs) → p.poll.doubt ≡ doubt →
+missed_by : (doubt : Bool) (p : PollerAs) → AsksOn p.poll → p.poll.doubt ≡ doubt →
     Less p false (if doubt then given_up p else without_answer p p.transactions.pending) (waits_left doubt p.transactions)
-missed_by true p is =
-    let none : loses_left p.poll.doubt ≡ 0 = ap loses_left is in record { unheard = tt; less = omega (arith, none) }
-missed_by false p is = timed_out p p.transactions.pending
+missed_by true p on is =
+    let none : loses_left p.poll.doubt ≡ 0 = ap loses_left is in record { on = on; unheard = tt; less = omega (arith, none) }
+missed_by false p on is = timed_out p p.transactions.pending on
+
+missed_met : (p : PollerAs) → AsksOn p.poll →
+    missed p ≡ (if p.poll.doubt then given_up p else without_answer p p.transactions.pending)
+missed_met p (request, asks, met) =
+    ap (λ (b : Bool). if b then sought_again p else (if p.poll.doubt then given_up p else without_answer p p.transactions.pending)) (ap is_who_is asks)
 
 waits_is : (what : Doing) → is_waiting what ≡ true → what ≡ doing.Waits
 waits_is doing.Waits is = refl
@@ -235,20 +267,16 @@ waits_is doing.Loses is = absurd (cc)
 waits_is (doing.Tells end) is = absurd (cc)
 waits_is (doing.Ended why) is = absurd (cc)
 
-missed_less : (p : PollerAs) (q : Polled) → IsPolling p q → is_waiting p.doing ≡ true → Less p false (missed p) (left_of p)
-missed_less p q on waits =
+missed_less : (p : PollerAs) → AsksOn p.poll → is_waiting p.doing ≡ true → Less p false (missed p) (left_of p)
+missed_less p on waits =
     let at : p.doing ≡ doing.Waits = waits_is p.doing waits in
     let same : vain p.poll.doubt p.transactions doing.Waits ≡ left_of p = ap (vain p.poll.doubt p.transactions) (sym at) in
     subst (λ (n : ℕ). Less p false (missed p) n) same
-    (subst (λ (x : PollerAs). Less p false x (waits_left p.poll.doubt p.transactions)) (sym (missed_is p q on)) (missed_by p.poll.doubt p refl))
+    (subst (λ (x : PollerAs). Less p false x (waits_left p.poll.doubt p.transactions)) (sym (missed_met p on)) (missed_by p.poll.doubt p on refl))
 
 -- ---- a run
 
-record Step (old : PollerAs) (h : Happening) (new : PollerAs) : Type 0 where
-  pub on : IsOn new
-  pub less : Less old (is_sent h) new (left_of old)
-
-waiting_on : (what : Doing) (p : DeviceState) → is_waiting what ≡ true → GoesOn (end_of what) p → GoesOn None p
+waiting_on : (what : Doing) (p : DeviceState) → is_waiting what ≡ true → GoesMet (end_of what) p → AsksOn p
 waiting_on doing.Waits p is on = on
 waiting_on doing.Asks p is on = absurd (cc)
 waiting_on (doing.Resends datagram) p is on = absurd (cc)
@@ -256,12 +284,6 @@ waiting_on (doing.Hears came) p is on = absurd (cc)
 waiting_on doing.Loses p is on = absurd (cc)
 waiting_on (doing.Tells end) p is on = absurd (cc)
 waiting_on (doing.Ended why) p is on = absurd (cc)
-
-missed_step : (old new : PollerAs) → IsOn old → is_waiting old.doing ≡ true → new ≡ missed old → GoesOn None old.poll → Step old Missed new
-missed_step old new on waits is (q, stage, polled) = record {
-  on = let P : PollerAs → Type 0 = IsOn in subst P (sym is) (missed_on old waits on);
-  less = let P : PollerAs → Type 0 = λ x. Less old false x (left_of old) in subst P (sym is) (missed_less old q (stage, polled) waits);
-}
 
 run_less : (old : PollerAs) (run : List Happening) (new : PollerAs) → IsOn old → Unheard old.doing → Runs old run new → IsUnanswered run →
     left_of new + count_by is_sent run ≤ left_of old
@@ -273,19 +295,39 @@ run_less old (Lent ids ∷ run) new on unheard (mid, is, more) none =
     let rest = run_less mid run new (subst P (sym is) on) (subst Q (sym is) unheard) more none in
     omega (arith, e, rest, one_more (Lent ids) run)
 run_less old (Wanted wanted ∷ run) new on unheard (mid, gives, more) none =
-    let g : Goes old mid = gives_on old.doing old wanted mid on on gives in
-    let l : Less old (is_send wanted) mid (left_of old) = gives_less old.doing old wanted mid refl unheard on gives in
-    let rest = run_less mid run new g.on l.unheard more none in
+    let l : Less old (is_send wanted) mid (left_of old) = gives_less old.doing old wanted mid refl unheard on on gives in
+    let rest = run_less mid run new l.on l.unheard more none in
     omega (arith, l.less, rest, one_more (Wanted wanted) run)
 run_less old (Answered from datagram now ∷ run) new on unheard runs none = absurd none
 run_less old (Missed ∷ run) new on unheard (mid, (waits, is), more) none =
-    let s : Step old Missed mid = missed_step old mid on waits is (waiting_on old.doing old.poll waits on) in
-    let rest = run_less mid run new s.on s.less.unheard more none in
-    omega (arith, s.less.less, rest, one_more Missed run)
+    let P : PollerAs → Type 0 = λ x. Less old false x (left_of old) in
+    let l : Less old false mid (left_of old) = subst P (sym is) (missed_less old (waiting_on old.doing old.poll waits on) waits) in
+    let rest = run_less mid run new l.on l.unheard more none in
+    omega (arith, l.less, rest, one_more Missed run)
+
+asks_met : (p : DeviceState) (question : Question) → asked_of_device p ≡ question → IsMet p.stage → IsAsking question → AsksOn p
+asks_met p (Confirmed request) asks met is = (request, asks, met)
+asks_met p WhoIs asks met is = absurd (seeks_first p.stage asks met)
+  where
+    seeks_first : (s : Stage) → question_at p s ≡ WhoIs → IsMet s → ⊥
+    seeks_first stage.IAm asks met = met
+    seeks_first stage.Instance asks met = met
+    seeks_first stage.Name asks met = met
+    seeks_first stage.Between asks met = met
+    seeks_first stage.Ended asks met = met
+    seeks_first stage.Log asks met = by p.polled asks
+      where
+        by : (o : Option Polled) → asks_log o ≡ WhoIs → ⊥
+        by None asks = cc
+        by (Some q) asks = cc
+    seeks_first other asks met = cc
+asks_met p Nothing asks met is = absurd is
 
 pub waits_once : WaitsOnce
-waits_once old new q run on asks more none =
+waits_once old new run met asking asks more none =
     let P : Doing → Type 0 = Unheard in
-    let less = run_less old run new (asks_on_log old q on asks) (subst P (sym asks) tt) more none in
+    let Q : Doing → Type 0 = λ d. GoesMet (end_of d) old.poll in
+    let on : IsOn old = subst Q (sym asks) (asks_met old.poll (asked_of_device old.poll) refl met asking) in
+    let less = run_less old run new on (subst P (sym asks) tt) more none in
     let at : left_of old ≡ sends_in_vain old.poll.doubt old.transactions.retries = ap (vain old.poll.doubt old.transactions) asks in
     omega (arith, less, at)

@@ -48,6 +48,12 @@ line_text BeganAnew = codes "began anew"
 line_text BeganOrDropped = codes "began anew, or dropped records"
 line_text (DroppedOrBegan first before) = doubt_line first before
 
+-- why it failed
+abbrev pub fault_text : WalkFault → List ℕ
+fault_text Lost = codes "lost"
+fault_text (Refused refusal) = refusal_text refusal
+fault_text BadReply = codes "bad reply"
+
 -- how its poll ended
 abbrev pub ending_text : Ending → List ℕ
 ending_text (Poll CaughtUp) = codes "caught up"
@@ -55,9 +61,7 @@ ending_text (Poll SaysMore) = codes "shows no more, though it says that more is 
 ending_text (Poll ShowsNone) = codes "shows no record, and refuses its count"
 ending_text (Poll NoneByNumber) = codes "shows no record by number, and by time perhaps not all that it holds"
 ending_text (Poll Contradicts) = codes "its records contradict each other"
-ending_text (Poll (Fault Lost)) = codes "lost"
-ending_text (Poll (Fault (Refused refusal))) = refusal_text refusal
-ending_text (Poll (Fault BadReply)) = codes "bad reply"
+ending_text (Poll (Fault fault)) = fault_text fault
 ending_text StepLimit = codes "step limit"
 ending_text Epochs = codes "began anew once too often"
 ending_text NotAsked = codes "not asked"

@@ -4,19 +4,25 @@ use Rattle.std.specs.Prelude.{position}
 use Rattle.sqlite_value.specs.declared.value.Value.TheVariants.{Null}
 use Rattle.bac_wire.specs.Primitive.{Id}
 use Rattle.bac_wire.specs.Stamp.{CivilTime}
+use Rattle.bac_walk.specs.declared.outcome.WalkFault.{WalkFault}
+use Rattle.bac_poll_steps.specs.declared.turn.PollEnd.TheVariants.{Fault}
 use Rattle.bac_answers.specs.declared.entry.Entry.{Entry}
 use Rattle.bac_answers.specs.declared.entry.Entry.TheVariants.{Added, Another, Clock, Known, KnownNow, Named}
-use Rattle.bac_answers.specs.declared.entry.Entry.TheVariants.{NotAsked, Others, Read, Untold}
+use Rattle.bac_answers.specs.declared.entry.Entry.TheVariants.{NotAsked, Others, Read, Unlisted, Untold}
 use Rattle.bac_answers.specs.declared.entry.Naming.{Naming}
+use Rattle.bac_answers.specs.declared.who.Who.{Who}
+use Rattle.bac_answers.specs.declared.who.Who.TheVariants.{Address, Device, Name}
 use Rattle.bac_device_poller.specs.Counts.{no_counts}
 use Rattle.bac_device_poller.specs.Ids.{free_id, ids_behind}
 use Rattle.bac_device_poller.specs.Naming.{answered_at, known_as, named_as, offset_of}
 use Rattle.bac_device_poller.specs.Puts.{PutAs}
 use Rattle.bac_device_poller.specs.Rows.{DeviceAs, LogAs, device_put, log_put}
-use Rattle.bac_device_poller.specs.Status.{greater_of}
-use Rattle.bac_device_poller.specs.Telling.{LineAs, another_line, full_line, log_called, new_line, not_asked_line}
-use Rattle.bac_device_poller.specs.Telling.{others_line, untold_line}
+use Rattle.bac_device_poller.specs.Status.{greater_of, status_of}
+use Rattle.bac_device_poller.specs.Telling.{LineAs, alone_line, another_line, full_line, known_now_line, log_called}
+use Rattle.bac_device_poller.specs.Telling.{new_line, not_asked_line, others_line, unlisted_line, unlisted_reason}
+use Rattle.bac_device_poller.specs.Telling.{untold_line}
 use Rattle.bac_device_poller.specs.declared.counts.Counts.{Counts}
+use Rattle.bac_device_poller.specs.declared.ending.Ending.TheVariants.{Poll}
 use Rattle.bac_device_poller.specs.declared.ids.Ids.{Ids}
 use Rattle.bac_device_poller.specs.declared.status.Status.{Status}
 use Rattle.bac_device_poller.specs.declared.status.Status.TheVariants.{Done, File, NoReply}
@@ -65,6 +71,11 @@ raising r status = record r { status = greater_of r.status status }
 abbrev pub failing : RowsAs → Status → List ℕ → RowsAs
 failing r status text = telling (raising r status) false text
 
+-- a line to the errors, if there is one
+abbrev pub telling_any : RowsAs → Option (List ℕ) → RowsAs
+telling_any r None = r
+telling_any r (Some text) = telling r false text
+
 -- the row of the device is put, with when it answered last
 abbrev pub putting_device : RowsAs → RowsAs
 putting_device r = putting r (device_put (answered_at r.answered r.device))
@@ -103,6 +114,21 @@ putting_log r l = putting (with_log r l) (log_put false l)
 
 -- ---- what each entry makes of them
 
+-- the device is known by this from now on
+abbrev pub knowing : RowsAs → Who → RowsAs
+knowing r who = putting_device (record r { device = known_as who r.device })
+
+-- which is told of one that tells neither an instance nor a name
+abbrev pub telling_known : RowsAs → Who → RowsAs
+telling_known r (Device device) = r
+telling_known r (Name name) = r
+telling_known r Address = telling r false (alone_line r.called)
+
+-- it didn't tell its list, with the status of that
+abbrev pub telling_unlisted : RowsAs → WalkFault → RowsAs
+telling_unlisted r why =
+    telling_any (failing r (status_of (Poll (Fault why))) (unlisted_line r.called why)) (unlisted_reason r.called why)
+
 -- a log of the device of which nothing is known yet, with this id
 abbrev pub new_log : RowsAs → (id : ℕ) → Id → LogAs
 new_log r id log = record {
@@ -116,7 +142,8 @@ new_log r id log = record {
   restart = [];
   revision = None;
   stopped = false;
-  place = Some (record { log = id; epoch = 0 });
+  place = Some (record { log = id; epoch = 0; full = false });
+  next = 1;
   called = log_called r.called log;
 }
 
@@ -136,12 +163,13 @@ renaming (Some l) r naming = putting_log r (named_as naming l)
 
 -- what is put, or told, of an entry
 abbrev pub with_entry : RowsAs → Entry → RowsAs
-with_entry r (Known who) = putting_device (record r { device = known_as who r.device })
-with_entry r (KnownNow who) = putting_device (record r { device = known_as who r.device })
+with_entry r (Known who) = telling_known (knowing r who) who
+with_entry r (KnownNow who) = telling (knowing r who) true (known_now_line r.called who)
 with_entry r (Another who) = telling r false (another_line r.called who r.device.instance)
 with_entry r Untold = telling r false (untold_line r.called r.device.instance)
 with_entry r (Clock offset) = putting_device (record r { device = record r.device { offset = offset_of offset } })
 with_entry r (Added log) = added_as (free_id r.ids) r log
+with_entry r (Unlisted why) = telling_unlisted r why
 with_entry r (Others others) = telling r false (others_line r.called others)
 with_entry r (Named log naming) = renaming (log_in log r.logs) (without log r) naming
 with_entry r (Read revision) = putting_device (record r { device = record r.device { revision = Some revision } })

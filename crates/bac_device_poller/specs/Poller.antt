@@ -12,7 +12,8 @@ use Rattle.bac_link.specs.declared.transactions.Transactions.{Transactions}
 use Rattle.bac_drive.specs.declared.machine.Next.{Next}
 use Rattle.bac_drive.specs.declared.machine.Next.TheVariants as next
 use Rattle.bac_device_poll.specs.Identity.{after_i_am}
-use Rattle.bac_device_poll.specs.Logs.{after_end, after_loss}
+use Rattle.bac_device_poll.specs.Logs.{after_end}
+use Rattle.bac_device_poll.specs.Loss.{after_loss}
 use Rattle.bac_device_poll.specs.Poll.{Takes, asked_of_device}
 use Rattle.bac_device_poll.specs.State.{DeviceState}
 use Rattle.bac_device_poll.specs.Turns.{Turned, asks}

@@ -30,15 +30,16 @@ pub record PutAs : Type 0 where
 abbrev pub put_as : Put → PutAs
 put_as put = record { tree = (table_of put).tree; is_new = is_new put; columns = columns_of put }
 
--- the epoch in which the next row of a log stands, and what is put up to there
+-- the epoch of a log in which rows are put, whether its last number is put, and what is put up to there
 pub record Puts : Type 0 where
   pub log : ℕ
   pub epoch : ℕ
+  pub full : Bool
   pub puts : List PutAs
 
 -- nothing is put, from a place on
 abbrev pub none_from : Place → Puts
-none_from place = record { log = place.log; epoch = place.epoch; puts = [] }
+none_from place = record { log = place.log; epoch = place.epoch; full = place.full; puts = [] }
 
 -- of each epoch of each log its own number
 abbrev pub era_of : Puts → ℕ
@@ -48,11 +49,7 @@ era_of s = s.log * 32768 + s.epoch
 abbrev pub with_put : Puts → PutAs → Puts
 with_put s put = record s { puts = s.puts ++ put ∷ [] }
 
--- a new item; a beginning, new or in place of the one that was counted
-abbrev pub with_item : Puts → Values → Puts
-with_item s columns = with_put s (record { tree = 5; is_new = true; columns = columns })
-
--- the beginning of the epoch, and why it begins
+-- the beginning of the epoch, new or in place of the one that was counted, and why it begins
 abbrev pub with_beginning : Puts → (is_new : Bool) → (number : ℕ) → (why : Option (List ℕ)) → Puts
 with_beginning s is_new number why = with_put s (record {
   tree = 6;
@@ -80,15 +77,24 @@ gap_columns era first last doubtful = Int (pos (key era first)) ∷ Int (pos las
 
 -- an epoch begins, from 1 on
 abbrev pub with_epoch : Puts → (why : List ℕ) → Puts
-with_epoch s why = with_beginning (record s { epoch = s.epoch + 1 }) true 1 (Some why)
+with_epoch s why = with_beginning (record s { epoch = s.epoch + 1; full = false }) true 1 (Some why)
 
--- its numbers came round (clause 12.25)
+-- Where the last number of an epoch is put its numbers come round (clause 12.25): the next row is of the next epoch.
 abbrev pub with_round : Puts → Puts
-with_round s = with_epoch s (codes "numbers came round")
+with_round s = if s.full then with_epoch s (codes "numbers came round") else s
 
--- a gap as one row
+-- a new item of the epoch, up to a last number
+abbrev pub with_item : Puts → Values → (last : ℕ) → Puts
+with_item s columns last =
+    record (with_put s (record { tree = 5; is_new = true; columns = columns })) { full = last == 4294967295 }
+
+-- a gap in an epoch, as one row
+abbrev pub with_gap_in : Bool → Puts → (first : ℕ) → (last : ℕ) → Puts
+with_gap_in doubtful s first last = with_item s (gap_columns (era_of s) first last doubtful) last
+
+-- the same where the next row stands
 abbrev pub with_gap_row : Bool → Puts → (first : ℕ) → (last : ℕ) → Puts
-with_gap_row doubtful s first last = with_item s (gap_columns (era_of s) first last doubtful)
+with_gap_row doubtful s first last = with_gap_in doubtful (with_round s) first last
 
 -- what of a gap lies behind the number 4294967295
 abbrev pub with_rest : Bool → Puts → (before : ℕ) → Puts
@@ -98,7 +104,7 @@ with_rest doubtful s before = if nat_le before 1 then s else with_gap_row doubtf
 abbrev pub with_gap : Bool → Puts → (first : ℕ) → (before : ℕ) → Puts
 with_gap doubtful s first before =
     if nat_le before first
-    then with_rest doubtful (with_round (with_gap_row doubtful s first 4294967295)) before
+    then with_rest doubtful (with_gap_row doubtful s first 4294967295) before
     else with_gap_row doubtful s first (before - 1)
 
 -- of a turn's gaps there is one at most
@@ -107,12 +113,13 @@ with_gaps doubtful s [] = s
 with_gaps doubtful s (Gap first before ∷ items) = with_gaps doubtful (with_gap doubtful s first before) items
 with_gaps doubtful s (Logged number entry ∷ items) = with_gaps doubtful s items
 
--- a record, and behind the last number the next epoch
+-- a record in an epoch
+abbrev pub with_record_in : Puts → Numbered → Puts
+with_record_in s held = with_item s (record_columns (era_of s) held) held.number
+
+-- the same where the next row stands
 abbrev pub with_record : Puts → Numbered → Puts
-with_record s held =
-    if held.number == 4294967295
-    then with_round (with_item s (record_columns (era_of s) held))
-    else with_item s (record_columns (era_of s) held)
+with_record s held = with_record_in (with_round s) held
 
 -- all of them, in their order
 abbrev pub with_records : Puts → List Numbered → Puts
@@ -126,7 +133,8 @@ why_first counted = if counted then Some (codes "counted") else None
 -- the beginning of the first epoch: a new one by the count alone, and with the first records another in place of that
 abbrev pub with_first : Puts → Option Beginning → Puts
 with_first s None = s
-with_first s (Some begins) = with_beginning s begins.counted begins.number (why_first begins.counted)
+with_first s (Some begins) =
+    with_beginning (with_round s) begins.counted begins.number (why_first begins.counted)
 
 -- why an epoch begins, by what is told of it
 abbrev pub why_anew : Option Line → List ℕ
@@ -149,21 +157,22 @@ with_turn s t =
     (with_gaps false (with_anew (with_gaps t.doubtful (with_first s t.begins) t.missing) t.anew t.line) t.gap)
     t.records
 
--- where the next row of a log stands, by its log and epoch
+-- where the next row of a log stands: behind the rows of an epoch, or in the next one, where its last number is put
 pub record PlaceAs : Type 0 where
   pub log : ℕ
   pub epoch : ℕ
+  pub full : Bool
 
 -- the same of the code
 abbrev pub place_as : Place → PlaceAs
-place_as place = record { log = place.log; epoch = place.epoch }
+place_as place = record { log = place.log; epoch = place.epoch; full = place.full }
 
 -- behind what is put
 abbrev pub place_behind : Puts → PlaceAs
-place_behind s = record { log = s.log; epoch = s.epoch }
+place_behind s = record { log = s.log; epoch = s.epoch; full = s.full }
 
 -- These are the rows of a turn, from a place on, and there stands the next row of its log.
 abbrev pub IsPut : PlaceAs → Turned → PlaceAs → List PutAs → Type 0
 IsPut place t behind puts =
-    let s : Puts = with_turn (record { log = place.log; epoch = place.epoch; puts = [] }) t in
+    let s : Puts = with_turn (record { log = place.log; epoch = place.epoch; full = place.full; puts = [] }) t in
     (puts ≡ s.puts) × (behind ≡ place_behind s) × (behind.log ≡ place.log)

@@ -64,7 +64,7 @@ device_put d = record { tree = 1; is_new = false; columns = columns_of_device d 
 -- ---- a trend log
 
 -- its row, column by column, with the word of its device as that is kept; where the next row of its items stands, if it
--- has an epoch left; and how its lines call it
+-- has an epoch left; the number that comes next behind its rows; and how its lines call it
 pub record LogAs : Type 0 where
   pub id : ℕ
   pub device : ℕ
@@ -77,6 +77,7 @@ pub record LogAs : Type 0 where
   pub revision : Option ℕ
   pub stopped : Bool
   pub place : Option PlaceAs
+  pub next : ℕ
   pub called : List ℕ
 
 -- a restart as a column: NULL if none is told

@@ -8,12 +8,13 @@ use Rattle.bac_drive.specs.declared.machine.Next.{Next}
 use Rattle.bac_drive.specs.declared.machine.Next.TheVariants as next
 use Rattle.bac_device_poll.specs.Identity.{device_of}
 use Rattle.bac_device_poll.specs.Laws.{ended_in, left, not_asked_in}
-use Rattle.bac_device_poll.specs.Logs.{after_loss}
+use Rattle.bac_device_poll.specs.Loss.{after_loss}
 use Rattle.bac_device_poll.specs.Poll.{Takes, asked_of_device}
 use Rattle.bac_device_poll.specs.State.{DeviceState, LogAs, begun}
 use Rattle.bac_device_poll.specs.Turns.{Turned}
 use Rattle.bac_device_poll.specs.declared.question.Question.{Question}
 use Rattle.bac_device_poll.specs.declared.question.Question.TheVariants.{Confirmed, Nothing, WhoIs}
+use Rattle.bac_device_poll.specs.declared.stage.Stage.{Stage}
 use Rattle.bac_device_poll.specs.declared.stage.Stage.TheVariants as stage
 use Rattle.bac_device_poll.specs.declared.task.Polled.{Polled}
 use Rattle.bac_device_poll.specs.declared.turn.DeviceEnd.{DeviceEnd}
@@ -87,22 +88,39 @@ IsAsking Nothing = ⊥
 
 -- ---- a silent device is waited for once
 
--- how often one is asked in vain: a question of a log and its repeats, and the first question of the next log once; if
--- the log before was lost, only the latter
+-- it told who it is, and is asked for more
+abbrev pub IsMet : Stage → Type 0
+IsMet stage.Instance = ⊥
+IsMet stage.IAm = ⊥
+IsMet stage.Name = ⊥
+IsMet stage.Between = ⊥
+IsMet stage.Ended = ⊥
+IsMet other = Unit {0}
+
+-- how often one is asked in vain: a question and its repeats, and the next one once; if the one before wasn't answered,
+-- or a log was lost, only the latter
 abbrev pub sends_in_vain : (doubt : Bool) → (retries : ℕ) → ℕ
 sends_in_vain true retries = 1
 sends_in_vain false retries = retries + 2
 
--- A device that falls silent while its logs are polled is waited for once, and for one wait more, however many logs it
--- has: from where the question of a log is asked, no more than so many datagrams are sent to it before it answers.
+-- A device that falls silent behind who it is, is waited for once, and for one wait more, whatever else is to be asked
+-- of it, and however many logs it has: from where a question is asked, no more than so many datagrams are sent to it
+-- before it answers.
 abbrev pub WaitsOnce : Type 0
 WaitsOnce =
-    (old new : PollerAs) (q : Polled) (run : List Happening) → IsPolling old q → old.doing ≡ doing.Asks →
-    Runs old run new → IsUnanswered run →
+    (old new : PollerAs) (run : List Happening) → IsMet old.poll.stage → IsAsking (asked_of_device old.poll) →
+    old.doing ≡ doing.Asks → Runs old run new → IsUnanswered run →
     count_by is_sent run ≤ sends_in_vain old.poll.doubt old.transactions.retries
 
--- the same before its logs are polled: a question and its repeats; and behind a Who-Is, to which no I-Am came, the
--- question that is asked in its place
+-- it is asked who it is
+abbrev pub IsFirst : Stage → Type 0
+IsFirst stage.Instance = Unit {0}
+IsFirst stage.IAm = Unit {0}
+IsFirst stage.Name = Unit {0}
+IsFirst other = ⊥
+
+-- the same before it told that: a question and its repeats; and behind a Who-Is, to which no I-Am came, the question
+-- that is asked in its place
 abbrev pub first_in_vain : Question → (retries : ℕ) → (again : ℕ) → ℕ
 first_in_vain (Confirmed request) retries again = retries + 1
 first_in_vain WhoIs retries again = (again + 1) + (retries + 1)
@@ -111,7 +129,7 @@ first_in_vain Nothing retries again = 0
 -- A device that falls silent before that, or never answers, is waited for once.
 abbrev pub WaitsOnceFirst : Type 0
 WaitsOnceFirst =
-    (old new : PollerAs) (run : List Happening) → old.poll.polled ≡ None → IsAsking (asked_of_device old.poll) →
+    (old new : PollerAs) (run : List Happening) → old.poll.polled ≡ None → IsFirst old.poll.stage →
     old.doing ≡ doing.Asks → Runs old run new → IsUnanswered run →
     count_by is_sent run ≤ first_in_vain (asked_of_device old.poll) old.transactions.retries old.retries
 

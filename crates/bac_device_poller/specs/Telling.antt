@@ -3,9 +3,12 @@ use Rattle.std.specs.Prelude.{◌≡◌, ℕ, Bool, true, false, codes, decimal,
 use Rattle.bac_wire.specs.Primitive.{Id}
 use Rattle.bac_drive.specs.declared.machine.Next.{Next}
 use Rattle.bac_drive.specs.declared.machine.Next.TheVariants as next
+use Rattle.bac_walk.specs.declared.outcome.WalkFault.{WalkFault}
+use Rattle.bac_walk.specs.declared.outcome.WalkFault.TheVariants.{BadReply, Lost, Refused}
 use Rattle.bac_answers.specs.declared.entry.Others.{Others}
 use Rattle.bac_answers.specs.declared.who.Who.{Who}
 use Rattle.bac_answers.specs.declared.who.Who.TheVariants.{Address, Device, Name}
+use Rattle.bac_device_poller.specs.Ending.{fault_text, refused_line}
 
 -- a line; whether it is of a log that is caught up, or of what is new
 pub record LineAs : Type 0 where
@@ -51,6 +54,35 @@ another_line device who was = device ++ (codes ": another device answers: " ++ (
 -- the device doesn't tell that it is the one on record
 abbrev pub untold_line : List ℕ → Option ℕ → List ℕ
 untold_line device was = device ++ (codes ": the device doesn't tell " ++ (that_text was ++ 10 ∷ []))
+
+-- what it is known by
+abbrev pub means_text : Who → List ℕ
+means_text (Device id) = codes "instance"
+means_text (Name name) = codes "name"
+means_text Address = codes "address"
+
+-- it tells neither an instance nor a name
+abbrev pub alone_line : List ℕ → List ℕ
+alone_line device = device ++ codes ": the device is known by its address alone\n"
+
+-- it tells more of itself than before
+abbrev pub known_now_line : List ℕ → Who → List ℕ
+known_now_line device who = device ++ (codes ": the device is known by its " ++ (means_text who ++ codes " now\n"))
+
+-- it didn't tell its Object_List
+abbrev pub unlisted_line : List ℕ → WalkFault → List ℕ
+unlisted_line device why = device ++ (codes " didn't tell its Object_List: " ++ (fault_text why ++ 10 ∷ []))
+
+-- what is wrong with the reply
+abbrev pub no_list_line : List ℕ → List ℕ
+no_list_line device =
+    device ++ codes ": the reply doesn't acknowledge this request, is segmented, or can't be read\n"
+
+-- behind that line what it means, if there is more to say
+abbrev pub unlisted_reason : List ℕ → WalkFault → Option (List ℕ)
+unlisted_reason device Lost = None
+unlisted_reason device (Refused refusal) = Some (refused_line device refusal)
+unlisted_reason device BadReply = Some (no_list_line device)
 
 -- it has objects whose records aren't kept
 abbrev pub others_line : List ℕ → Others → List ℕ

@@ -9,7 +9,8 @@ use Rattle.bac_device_poll.specs.Logs.{is_used_up}
 use Rattle.bac_device_poll.specs.declared.task.Polled.{Polled}
 use Rattle.bac_device_poller.specs.Counts.{no_counts}
 use Rattle.bac_device_poller.specs.Ending.{ended_line, is_caught_up, reason_line, told_line}
-use Rattle.bac_device_poller.specs.Entries.{RowsAs, log_in, putting_log, raising, telling, with_log, without}
+use Rattle.bac_device_poller.specs.Entries.{RowsAs, log_in, putting_log, raising, telling, telling_any, with_log}
+use Rattle.bac_device_poller.specs.Entries.{without}
 use Rattle.bac_device_poller.specs.Naming.{has_word, with_word}
 use Rattle.bac_device_poller.specs.Puts.{IsPut, PlaceAs, PutAs}
 use Rattle.bac_device_poller.specs.Rows.{LogAs}
@@ -38,6 +39,11 @@ counts_with_turn t c = record {
 abbrev pub counts_behind : Option PlaceAs → Turned → Counts → Counts
 counts_behind None t c = c
 counts_behind (Some behind) t c = counts_with_turn t c
+
+-- the number that comes next behind its rows: of one without a place the one that came next before
+abbrev pub next_behind : Option PlaceAs → (was : ℕ) → (now : ℕ) → ℕ
+next_behind None was now = was
+next_behind (Some behind) was now = now
 
 -- its rows are put
 abbrev pub keeping : RowsAs → Option PlaceAs → List PutAs → Turned → RowsAs
@@ -74,11 +80,6 @@ telling_end r called why next =
     let line : List ℕ = ended_line called r.kept why next in
     record (telling (raising r (status_of why)) (is_caught_up why) line) { kept = no_counts }
 
--- a line to the errors, if there is one
-abbrev pub telling_any : RowsAs → Option (List ℕ) → RowsAs
-telling_any r None = r
-telling_any r (Some text) = telling r false text
-
 -- and behind it why it failed
 abbrev pub telling_ending : RowsAs → (called : List ℕ) → Ending → (next : ℕ) → RowsAs
 telling_ending r called why next = telling_any (telling_end r called why next) (reason_line called why)
@@ -89,16 +90,18 @@ telling_any_end r called behind None next = r
 telling_any_end r called behind (Some why) next = telling_ending r called (ending_of behind why) next
 
 -- both, of one that may have so many more replies with records
-abbrev pub telling_turn : RowsAs → (called : List ℕ) → Option PlaceAs → (left : Option ℕ) → Turned → RowsAs
-telling_turn r called behind left t =
-    telling_any_end (telling_line r called t.line) called behind (ended_by t.end left) t.poll.next
+abbrev pub telling_turn : RowsAs → (called : List ℕ) → Option PlaceAs → (left : Option ℕ) → (next : ℕ) → Turned → RowsAs
+telling_turn r called behind left next t =
+    telling_any_end (telling_line r called t.line) called behind (ended_by t.end left) next
 
 -- ---- a turn
 
 -- a log with its turn: its rows are put, and its word with them; and behind them its lines are told
 abbrev pub turning : RowsAs → LogAs → Option PlaceAs → List PutAs → (left : Option ℕ) → Turned → RowsAs
 turning r l behind puts left t =
-    retelling (telling_turn (keeping r behind puts t) l.called behind left t) (record l { place = behind }) t.poll.word
+    let next : ℕ = next_behind behind l.next t.poll.next in
+    retelling (telling_turn (keeping r behind puts t) l.called behind left next t)
+    (record l { place = behind; next = next }) t.poll.word
 
 -- of a log that is on record
 abbrev pub TakesOf : Option LogAs → (left : Option ℕ) → RowsAs → Turned → RowsAs → Type 0

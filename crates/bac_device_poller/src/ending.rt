@@ -3,8 +3,8 @@
 ghost use Rattle.std.specs.Prelude.{◌≡◌, ◌++◌, IfOk, OnOk};
 ghost use Rattle.bac_device_poller.specs.Ending.{counted_text, doubt_line, earlier_text};
 ghost use Rattle.bac_device_poller.specs.Ending.{ended_line};
-ghost use Rattle.bac_device_poller.specs.Ending.{ending_text, gone_text, hour_text, is_caught_up};
-ghost use Rattle.bac_device_poller.specs.Ending.{later_text};
+ghost use Rattle.bac_device_poller.specs.Ending.{ending_text, fault_text, gone_text, hour_text};
+ghost use Rattle.bac_device_poller.specs.Ending.{is_caught_up, later_text};
 ghost use Rattle.bac_device_poller.specs.Ending.{line_text, on_text, summary_text, told_line};
 ghost use Rattle.bac_poll.specs.Turns.{number_before};
 
@@ -111,6 +111,17 @@ fn push_line(text: &mut Vec<u8>, line: Line) -> Result<(), AllocError>
     }
 }
 
+/// Appends why a poll failed.
+pub(crate) fn push_fault(text: &mut Vec<u8>, fault: WalkFault) -> Result<(), AllocError>
+    ensures { OnOk result (text.new.items ≡ text.old.items ++ fault_text fault) }
+{
+    match fault {
+        WalkFault::Lost => text.extend_from_slice(b"lost"),
+        WalkFault::Refused(refusal) => push_refusal(text, refusal),
+        WalkFault::BadReply => text.extend_from_slice(b"bad reply"),
+    }
+}
+
 /// Appends how the poll of a log ended.
 fn push_ending(text: &mut Vec<u8>, why: Ending) -> Result<(), AllocError>
     ensures { OnOk result (text.new.items ≡ text.old.items ++ ending_text why) }
@@ -129,9 +140,7 @@ fn push_ending(text: &mut Vec<u8>, why: Ending) -> Result<(), AllocError>
         Ending::Poll(PollEnd::Contradicts) => {
             text.extend_from_slice(b"its records contradict each other")
         }
-        Ending::Poll(PollEnd::Fault(WalkFault::Lost)) => text.extend_from_slice(b"lost"),
-        Ending::Poll(PollEnd::Fault(WalkFault::Refused(refusal))) => push_refusal(text, refusal),
-        Ending::Poll(PollEnd::Fault(WalkFault::BadReply)) => text.extend_from_slice(b"bad reply"),
+        Ending::Poll(PollEnd::Fault(fault)) => push_fault(text, fault),
         Ending::StepLimit => text.extend_from_slice(b"step limit"),
         Ending::Epochs => text.extend_from_slice(b"began anew once too often"),
         Ending::NotAsked => text.extend_from_slice(b"not asked"),

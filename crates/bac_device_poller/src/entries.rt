@@ -1,34 +1,39 @@
 //! What a device brings beside the records of its logs is put, or told.
 
-ghost use Rattle.std.specs.Prelude.{◌≡◌, IfOk, OnOk, Some, false};
-ghost use Rattle.bac_device_poller.specs.Entries.{added_as, adding, failing, log_in, new_log};
-ghost use Rattle.bac_device_poller.specs.Entries.{putting_device, renaming, telling, with_entries};
+ghost use Rattle.std.specs.Prelude.{◌≡◌, IfOk, OnOk, Some, false, true};
+ghost use Rattle.bac_device_poller.specs.Entries.{added_as, adding, failing, knowing, log_in};
+ghost use Rattle.bac_device_poller.specs.Entries.{new_log, putting_device, renaming, telling};
+ghost use Rattle.bac_device_poller.specs.Entries.{telling_known, telling_unlisted, with_entries};
 ghost use Rattle.bac_device_poller.specs.Entries.{with_entry, without};
 ghost use Rattle.bac_device_poller.specs.Ids.{free_id};
-ghost use Rattle.bac_device_poller.specs.Naming.{known_as, offset_of};
-ghost use Rattle.bac_device_poller.specs.Telling.{another_line, full_line, log_called};
+ghost use Rattle.bac_device_poller.specs.Naming.{offset_of};
+ghost use Rattle.bac_device_poller.specs.Telling.{another_line, full_line, known_now_line};
+ghost use Rattle.bac_device_poller.specs.Telling.{log_called};
 ghost use Rattle.bac_device_poller.specs.Telling.{not_asked_line, others_line, untold_line};
 ghost use Rattle.bac_device_poller.specs.declared.status.Status.TheVariants.{File, NoReply};
 
+use crate::ending::Ending;
 use crate::log_record::LogRecord;
 use crate::naming::offset_of;
 use crate::rows::Rows;
-use crate::status::Status;
+use crate::status::{Status, status_of};
 use crate::telling::{
-    another_line, full_line, log_called, new_line, not_asked_line, others_line, untold_line,
+    alone_line, another_line, full_line, known_now_line, log_called, new_line, not_asked_line,
+    others_line, unlisted_line, unlisted_reason, untold_line,
 };
 use crate::texts::text_in;
 use bac_archive3::{LogRow, Put};
 use bac_device_poll::{Entry, Naming, Offset, Others, Who};
 use bac_places::Place;
+use bac_poll::PollEnd;
+use bac_walk::WalkFault;
 use bac_wire::ObjectId;
 use std::alloc::{AllocError, Global};
 
 impl Rows {
     // The device is known by this from now on.
     fn know(&mut self, alloc: Global, who: &Who) -> Result<(), AllocError>
-        ensures { OnOk result (self.new ≡ putting_device
-            (record self.old { device = known_as who.now self.old.device })) }
+        ensures { OnOk result (self.new ≡ knowing self.old who.now) }
     {
         match who {
             Who::Device(device) => self.device.instance = Some(device.instance()),
@@ -36,6 +41,48 @@ impl Rows {
             Who::Address => {}
         }
         self.put_device(alloc)
+    }
+
+    // It is told where that is its address alone.
+    fn tell_known(&mut self, alloc: Global, who: &Who) -> Result<(), AllocError>
+        ensures { OnOk result (self.new ≡ telling_known self.old who.now) }
+    {
+        match who {
+            Who::Device(_) => Ok(()),
+            Who::Name(_) => Ok(()),
+            Who::Address => {
+                let line = alone_line(alloc, self.called.as_slice())?;
+                self.tell(false, line)
+            }
+        }
+    }
+
+    // It is new, and known by this.
+    fn know_first(&mut self, alloc: Global, who: &Who) -> Result<(), AllocError>
+        ensures { OnOk result (self.new ≡ telling_known (knowing self.old who.now) who.now) }
+    {
+        self.know(alloc, who)?;
+        self.tell_known(alloc, who)
+    }
+
+    // It tells more of itself than before.
+    fn know_now(&mut self, alloc: Global, who: &Who) -> Result<(), AllocError>
+        ensures { OnOk result (self.new ≡ telling (knowing self.old who.now) true
+            (known_now_line self.old.called who.now)) }
+    {
+        let line = known_now_line(alloc, self.called.as_slice(), who)?;
+        self.know(alloc, who)?;
+        self.tell(true, line)
+    }
+
+    // It didn't tell its Object_List.
+    fn tell_unlisted(&mut self, alloc: Global, why: WalkFault) -> Result<(), AllocError>
+        ensures { OnOk result (self.new ≡ telling_unlisted self.old why) }
+    {
+        let line = unlisted_line(alloc, self.called.as_slice(), why)?;
+        let reason = unlisted_reason(alloc, self.called.as_slice(), why)?;
+        self.fail(status_of(Ending::Poll(PollEnd::Fault(why))), line)?;
+        self.tell_any(reason)
     }
 
     // Its clock.
@@ -121,6 +168,7 @@ impl Rows {
             restart: Vec::new(alloc),
             revision: None,
             place: Place::new(id, 0),
+            next: 1,
             called,
         })
     }
@@ -179,12 +227,13 @@ impl Rows {
         ensures { OnOk result (self.new ≡ with_entry self.old entry.now) }
     {
         match entry {
-            Entry::Known(who) => self.know(alloc, who),
-            Entry::KnownNow(who) => self.know(alloc, who),
+            Entry::Known(who) => self.know_first(alloc, who),
+            Entry::KnownNow(who) => self.know_now(alloc, who),
             Entry::Another(who) => self.tell_another(alloc, who),
             Entry::Untold => self.tell_untold(alloc),
             Entry::Clock(offset) => self.set_offset(alloc, *offset),
             Entry::Added(log) => self.add_new(alloc, *log),
+            Entry::Unlisted(why) => self.tell_unlisted(alloc, *why),
             Entry::Others(others) => self.tell_others(alloc, *others),
             Entry::Named(log, naming) => self.rename(alloc, *log, naming),
             Entry::Read(revision) => self.set_revision(alloc, *revision),

@@ -11,10 +11,9 @@ pub fn sends_questions()
     ensures { SendsQuestions }
 {}
 
-/// A device that falls silent while its logs are polled is waited for once, and for one wait more,
-/// however many logs it has: it is sent the question of a log with its repeats, and the first
-/// question of the next log once. One that never answers is sent its first question with its
-/// repeats.
+/// A device that falls silent, once it told who it is, is waited for once, and for one wait more,
+/// however many logs it has: it is sent a question with its repeats, and the next one once. One
+/// that never answers is sent its first question with its repeats.
 pub fn waits_once()
     ensures once { WaitsOnce }
     ensures first { WaitsOnceFirst }

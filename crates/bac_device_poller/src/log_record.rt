@@ -28,6 +28,8 @@ pub struct LogRecord {
     pub revision: Option<u32>,
     /// Where the next row of its items stands; none, if it has no epoch left.
     pub place: Option<Place>,
+    /// The number that comes next, behind its rows.
+    pub next: u32,
     /// How its lines call it.
     pub called: Vec<u8>,
 }
@@ -51,6 +53,7 @@ impl Model for LogRecord {
       revision = l.revision;
       stopped = l.row.stopped;
       place = option_map place_as l.place;
+      next = l.next;
       called = l.called.items;
     } };
 }

@@ -7,11 +7,12 @@ ghost use Rattle.bac_poll.specs.State.{PollState};
 ghost use Rattle.bac_poll.specs.Turns.{turned};
 ghost use Rattle.bac_walk.specs.Walks.{gap_items};
 ghost use Rattle.bac_device_poller.specs.Puts.{IsPut, place_as, gap_columns, none_from, put_as};
-ghost use Rattle.bac_device_poller.specs.Puts.{record_columns, why_anew};
+ghost use Rattle.bac_device_poller.specs.Puts.{record_columns, why_anew, why_first};
 ghost use Rattle.bac_device_poller.specs.Puts.{with_anew, with_beginning, with_epoch, with_first};
-ghost use Rattle.bac_device_poller.specs.Puts.{with_gap};
+ghost use Rattle.bac_device_poller.specs.Puts.{with_gap, with_gap_in, with_item};
 ghost use Rattle.bac_device_poller.specs.Puts.{with_gap_row, with_gaps, with_put, with_record};
-ghost use Rattle.bac_device_poller.specs.Puts.{with_records, with_rest, with_round, with_turn};
+ghost use Rattle.bac_device_poller.specs.Puts.{with_record_in, with_records, with_rest};
+ghost use Rattle.bac_device_poller.specs.Puts.{with_round, with_turn};
 
 use crate::datum::value_of;
 use bac_archive3::{BeginningRow, ItemRow, Put};
@@ -22,7 +23,7 @@ use bac_walk::{Gap, Numbered};
 use std::alloc::{AllocError, Global};
 use std::marker::Model;
 
-/// The last sequence number; behind it comes 1, in the next epoch.
+/// The last sequence number.
 const LAST: u32 = 4_294_967_295;
 
 /// Why a turn isn't put.
@@ -33,7 +34,7 @@ pub enum NotPut {
     Epochs,
 }
 
-/// The epoch in which the next row of a log stands, and what is put up to there.
+/// Where the next row of a log stands, and what is put up to there.
 #[derive(Drop)]
 pub(crate) struct Putting {
     place: Place,
@@ -49,6 +50,7 @@ impl Model for Putting {
     ghost view = { λ p. record {
       log = p.place.log;
       epoch = p.place.epoch;
+      full = p.place.full;
       puts = map put_as p.puts.items;
     } };
 }
@@ -178,14 +180,42 @@ impl Putting {
         self.begin_for(alloc, 1, why)
     }
 
-    /// Its numbers came round.
+    /// Its numbers come round, if the last one is put.
     fn come_round(&mut self, alloc: Global) -> Result<(), NotPut>
         ensures { OnOk result (self.new ≡ with_round self.old) }
     {
-        self.begin_next(alloc, "numbers came round")
+        if self.place.full {
+            return self.begin_next(alloc, "numbers came round");
+        }
+        Ok(())
     }
 
-    /// A gap within an epoch, from one number up to another.
+    /// An item of the epoch, up to a last number.
+    fn push_item(&mut self, row: ItemRow, last: u32) -> Result<(), NotPut>
+        ensures { OnOk result (self.new ≡ with_item self.old (item_columns row) last) }
+    {
+        self.push(Put::Item(row))?;
+        self.place = self.place.filled(last == LAST);
+        Ok(())
+    }
+
+    /// A gap in the epoch, from one number up to another.
+    fn push_gap_in(
+        &mut self,
+        alloc: Global,
+        doubtful: bool,
+        first: u32,
+        last: u32,
+    ) -> Result<(), NotPut>
+        ensures { OnOk result (self.new ≡ with_gap_in doubtful self.old first last) }
+    {
+        let Ok(row) = gap_row(alloc, self.place, first, last, doubtful) else {
+            return Err(NotPut::Memory);
+        };
+        self.push_item(row, last)
+    }
+
+    /// The same where the next row stands.
     fn push_gap_row(
         &mut self,
         alloc: Global,
@@ -195,10 +225,8 @@ impl Putting {
     ) -> Result<(), NotPut>
         ensures { OnOk result (self.new ≡ with_gap_row doubtful self.old first last) }
     {
-        let Ok(row) = gap_row(alloc, self.place, first, last, doubtful) else {
-            return Err(NotPut::Memory);
-        };
-        self.push(Put::Item(row))
+        self.come_round(alloc)?;
+        self.push_gap_in(alloc, doubtful, first, last)
     }
 
     /// What of a gap lies behind the last number.
@@ -217,7 +245,6 @@ impl Putting {
     {
         if gap.before <= gap.first {
             self.push_gap_row(alloc, doubtful, gap.first, LAST)?;
-            self.come_round(alloc)?;
             return self.push_rest(alloc, doubtful, gap.before);
         }
         self.push_gap_row(alloc, doubtful, gap.first, gap.before - 1)
@@ -233,18 +260,22 @@ impl Putting {
         }
     }
 
-    /// A record.
-    fn push_record(&mut self, alloc: Global, held: Numbered) -> Result<(), NotPut>
-        ensures { OnOk result (self.new ≡ with_record self.old held) }
+    /// A record in the epoch.
+    fn push_record_in(&mut self, alloc: Global, held: Numbered) -> Result<(), NotPut>
+        ensures { OnOk result (self.new ≡ with_record_in self.old held) }
     {
         let Ok(row) = record_row(alloc, self.place, held) else {
             return Err(NotPut::Memory);
         };
-        self.push(Put::Item(row))?;
-        if held.number == LAST {
-            return self.come_round(alloc);
-        }
-        Ok(())
+        self.push_item(row, held.number)
+    }
+
+    /// The same where the next row stands.
+    fn push_record(&mut self, alloc: Global, held: Numbered) -> Result<(), NotPut>
+        ensures { OnOk result (self.new ≡ with_record self.old held) }
+    {
+        self.come_round(alloc)?;
+        self.push_record_in(alloc, held)
     }
 
     /// Records.
@@ -258,15 +289,24 @@ impl Putting {
     }
 
     /// The beginning of the first epoch.
+    fn push_beginning(&mut self, alloc: Global, begins: Beginning) -> Result<(), NotPut>
+        ensures { OnOk result (self.new ≡ with_beginning self.old begins.counted begins.number
+            (why_first begins.counted)) }
+    {
+        if begins.counted {
+            return self.begin_for(alloc, begins.number, "counted");
+        }
+        self.lower(begins.number)
+    }
+
+    /// The same where the next row stands, if there is one.
     fn push_first(&mut self, alloc: Global, begins: Option<Beginning>) -> Result<(), NotPut>
         ensures { OnOk result (self.new ≡ with_first self.old begins) }
     {
         match begins {
             Some(begins) => {
-                if begins.counted {
-                    return self.begin_for(alloc, begins.number, "counted");
-                }
-                self.lower(begins.number)
+                self.come_round(alloc)?;
+                self.push_beginning(alloc, begins)
             }
             None => Ok(()),
         }

@@ -12,8 +12,12 @@ use bac_query::push_cause;
 use bac_walk::WalkFault;
 use std::alloc::{AllocError, Global};
 
-// What a refusal means.
-fn refused_line(alloc: Global, name: &[u8], refusal: Refusal) -> Result<Vec<u8>, AllocError>
+/// What a refusal means.
+pub(crate) fn refused_line(
+    alloc: Global,
+    name: &[u8],
+    refusal: Refusal,
+) -> Result<Vec<u8>, AllocError>
     ensures { IfOk result (λ line. line.items ≡ refused_line name.now refusal) }
 {
     let mut line = Vec::new(alloc);

@@ -1,10 +1,11 @@
 //! The rows of a device and of its logs, what is to be put of them, and what is to be told.
 
-ghost use Rattle.std.specs.Prelude.{◌≡◌, ◌<◌, [], IfOk, OnOk, IfSome, length, map, position};
+ghost use Rattle.std.specs.Prelude.{◌≡◌, ◌<◌, [], IfOk, OnOk, IfSome, length, map};
+ghost use Rattle.std.specs.Prelude.{option_map, position};
 ghost use Rattle.bac_archive3.specs.Put.{device_columns};
 ghost use Rattle.bac_device_poller.specs.Entries.{failing, fresh_rows, is_log, log_in, logs_beside};
 ghost use Rattle.bac_device_poller.specs.Entries.{putting, putting_device, putting_log, raising};
-ghost use Rattle.bac_device_poller.specs.Entries.{telling, with_log, without};
+ghost use Rattle.bac_device_poller.specs.Entries.{telling, telling_any, with_log, without};
 ghost use Rattle.bac_device_poller.specs.Naming.{answered_at, answered_or};
 ghost use Rattle.bac_device_poller.specs.Puts.{put_as};
 ghost use Rattle.bac_device_poller.specs.Rows.{columns_of_device, device_as, text_as};
@@ -172,6 +173,17 @@ impl Rows {
     {
         self.raise(status);
         self.tell(false, text)
+    }
+
+    /// A line goes to the errors, if there is one.
+    pub(crate) fn tell_any(&mut self, text: Option<Vec<u8>>) -> Result<(), AllocError>
+        ensures { OnOk result (self.new
+            ≡ telling_any self.old (option_map (λ t. t.items) text)) }
+    {
+        match text {
+            Some(text) => self.tell(false, text),
+            None => Ok(()),
+        }
     }
 
     /// The row of the device is to be put.

@@ -1,14 +1,19 @@
 //! The lines of a device, beside those of its logs' polls.
 
-ghost use Rattle.std.specs.Prelude.{◌≡◌, ◌++◌, IfOk, OnOk};
-ghost use Rattle.bac_device_poller.specs.Telling.{IsToldBy, another_line, full_line, log_called};
-ghost use Rattle.bac_device_poller.specs.Telling.{new_line, not_asked_line, not_text, other_text};
-ghost use Rattle.bac_device_poller.specs.Telling.{others_line, silent_line, that_text, untold_line};
+ghost use Rattle.std.specs.Prelude.{◌≡◌, ◌++◌, IfOk, OnOk, option_map};
+ghost use Rattle.bac_device_poller.specs.Telling.{IsToldBy, alone_line, another_line, full_line};
+ghost use Rattle.bac_device_poller.specs.Telling.{known_now_line, log_called, means_text};
+ghost use Rattle.bac_device_poller.specs.Telling.{new_line, no_list_line, not_asked_line, not_text};
+ghost use Rattle.bac_device_poller.specs.Telling.{other_text, others_line, silent_line, that_text};
+ghost use Rattle.bac_device_poller.specs.Telling.{unlisted_line, unlisted_reason, untold_line};
 ghost use Rattle.bac_device_poller.specs.Telling.{who_text};
 
+use crate::ending::push_fault;
+use crate::reason::refused_line;
 use bac_device_poll::{Others, Who};
 use bac_drive::Next;
 use bac_print::push_number;
+use bac_walk::WalkFault;
 use bac_wire::ObjectId;
 use std::alloc::{AllocError, Global};
 
@@ -101,6 +106,83 @@ pub(crate) fn untold_line(
     push_that(&mut line, was)?;
     line.extend_from_slice(b"\n")?;
     Ok(line)
+}
+
+// Appends what a device is known by.
+fn push_means(text: &mut Vec<u8>, who: &Who) -> Result<(), AllocError>
+    ensures { OnOk result (text.new.items ≡ text.old.items ++ means_text who.now) }
+{
+    match who {
+        Who::Device(_) => text.extend_from_slice(b"instance"),
+        Who::Name(_) => text.extend_from_slice(b"name"),
+        Who::Address => text.extend_from_slice(b"address"),
+    }
+}
+
+/// It tells neither an instance nor a name.
+pub(crate) fn alone_line(alloc: Global, device: &[u8]) -> Result<Vec<u8>, AllocError>
+    ensures { IfOk result (λ line. line.items ≡ alone_line device.now) }
+{
+    line_of(
+        alloc,
+        device,
+        b": the device is known by its address alone\n",
+    )
+}
+
+/// It tells more of itself than before.
+pub(crate) fn known_now_line(alloc: Global, device: &[u8], who: &Who) -> Result<Vec<u8>, AllocError>
+    ensures { IfOk result (λ line. line.items ≡ known_now_line device.now who.now) }
+{
+    let mut line = Vec::new(alloc);
+    line.extend_from_slice(device)?;
+    line.extend_from_slice(b": the device is known by its ")?;
+    push_means(&mut line, who)?;
+    line.extend_from_slice(b" now\n")?;
+    Ok(line)
+}
+
+/// It didn't tell its Object_List.
+pub(crate) fn unlisted_line(
+    alloc: Global,
+    device: &[u8],
+    why: WalkFault,
+) -> Result<Vec<u8>, AllocError>
+    ensures { IfOk result (λ line. line.items ≡ unlisted_line device.now why) }
+{
+    let mut line = Vec::new(alloc);
+    line.extend_from_slice(device)?;
+    line.extend_from_slice(b" didn't tell its Object_List: ")?;
+    push_fault(&mut line, why)?;
+    line.extend_from_slice(b"\n")?;
+    Ok(line)
+}
+
+// What is wrong with the reply.
+fn no_list_line(alloc: Global, device: &[u8]) -> Result<Vec<u8>, AllocError>
+    ensures { IfOk result (λ line. line.items ≡ no_list_line device.now) }
+{
+    line_of(
+        alloc,
+        device,
+        b": the reply doesn't acknowledge this request, is segmented, or can't be read\n",
+    )
+}
+
+/// Behind that line what it means, if there is more to say.
+pub(crate) fn unlisted_reason(
+    alloc: Global,
+    device: &[u8],
+    why: WalkFault,
+) -> Result<Option<Vec<u8>>, AllocError>
+    ensures { IfOk result (λ line. option_map (λ l. l.items) line
+        ≡ unlisted_reason device.now why) }
+{
+    match why {
+        WalkFault::Lost => Ok(None),
+        WalkFault::Refused(refusal) => Ok(Some(refused_line(alloc, device, refusal)?)),
+        WalkFault::BadReply => Ok(Some(no_list_line(alloc, device)?)),
+    }
 }
 
 /// It has so many objects whose records aren't kept.

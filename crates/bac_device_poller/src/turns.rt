@@ -8,7 +8,7 @@ ghost use Rattle.bac_device_poller.specs.Entries.{log_in, without};
 ghost use Rattle.bac_device_poller.specs.Puts.{place_as, put_as};
 ghost use Rattle.bac_device_poller.specs.Turns.{IsPlaced, TakesLog, TakesOf, counts_behind};
 ghost use Rattle.bac_device_poller.specs.Turns.{ended_by, ending_of, keeping};
-ghost use Rattle.bac_device_poller.specs.Turns.{limit_end, retelling, telling_any};
+ghost use Rattle.bac_device_poller.specs.Turns.{limit_end, next_behind, retelling};
 ghost use Rattle.bac_device_poller.specs.Turns.{telling_any_end, telling_end, telling_ending};
 ghost use Rattle.bac_device_poller.specs.Turns.{telling_line, telling_turn};
 
@@ -53,11 +53,23 @@ impl LogRecord {
         placed(alloc, self.place, turn)
     }
 
-    // Its next row stands there.
-    fn set_place(&mut self, place: Option<Place>)
-        ensures { self.new ≡ record self.old { place = option_map place_as place } }
+    // Its next row stands there, and this number comes next.
+    fn stand(&mut self, place: Option<Place>, next: u32)
+        ensures { self.new
+            ≡ record self.old { place = option_map place_as place; next = next } }
     {
         self.place = place;
+        self.next = next;
+    }
+
+    // The number that comes next behind its rows, with a turn.
+    fn next_behind(&self, behind: Option<Place>, now: u32) -> u32
+        ensures { result ≡ next_behind (option_map place_as behind) self.now.next now }
+    {
+        match behind {
+            Some(_) => now,
+            None => self.next,
+        }
     }
 
     // How its lines call it.
@@ -169,17 +181,6 @@ impl Rows {
         self.tell(is_caught_up(why), text)
     }
 
-    // A line goes to the errors, if there is one.
-    fn tell_any(&mut self, text: Option<Vec<u8>>) -> Result<(), AllocError>
-        ensures { OnOk result (self.new
-            ≡ telling_any self.old (option_map (λ t. t.items) text)) }
-    {
-        match text {
-            Some(text) => self.tell(false, text),
-            None => Ok(()),
-        }
-    }
-
     // How that ended, and why it failed.
     fn tell_ending(
         &mut self,
@@ -219,16 +220,17 @@ impl Rows {
         alloc: Global,
         called: &[u8],
         behind: Option<Place>,
-        polled: &Polled,
+        left: Option<u32>,
+        next: u32,
         turn: &Turn,
     ) -> Result<(), AllocError>
-        ensures { OnOk result (self.new
-            ≡ telling_turn self.old called.now (option_map place_as behind) polled.now.left
-            (turned polled.now.poll turn.now)) }
+        ensures { OnOk result ((p : PollState) → self.new
+            ≡ telling_turn self.old called.now (option_map place_as behind) left next
+            (turned p turn.now)) }
     {
         self.tell_line(alloc, called, turn.line)?;
-        let end = ended_by(turn.end, polled.left);
-        self.tell_any_end(alloc, called, behind, end, polled.poll.next())
+        let end = ended_by(turn.end, left);
+        self.tell_any_end(alloc, called, behind, end, next)
     }
 
     // A log that is on record has a turn.
@@ -243,10 +245,11 @@ impl Rows {
             (turned polled.now.poll turn.now) self.new) }
     {
         let (behind, puts) = held.placed(alloc, turn)?;
+        let next = held.next_behind(behind, polled.poll.next());
         self.keep(behind, puts, turn)?;
-        self.tell_turn(alloc, held.called(), behind, polled, turn)?;
+        self.tell_turn(alloc, held.called(), behind, polled.left, next, turn)?;
         let mut held = held;
-        held.set_place(behind);
+        held.stand(behind, next);
         self.retell(alloc, held, polled.poll.word())?;
         Ok(())
     }

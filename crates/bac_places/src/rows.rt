@@ -1,6 +1,6 @@
 //! The ids of rows.
 
-ghost use Rattle.std.specs.Prelude.{◌≡◌, ◌+◌, pos, IfSome, IsSome, ◌<◌};
+ghost use Rattle.std.specs.Prelude.{◌≡◌, ◌+◌, pos, IfSome, IsSome, ◌<◌, false};
 ghost use Rattle.bac_places.specs.Rows.{era, key};
 
 use crate::place::Place;
@@ -17,6 +17,7 @@ impl Place {
     pub fn next(self) -> Option<Place>
         ensures log { IfSome result (λ place. place.log ≡ self.log) }
         ensures next { IfSome result (λ place. era place ≡ era self + 1) }
+        ensures begun { IfSome result (λ place. place.full ≡ false) }
         ensures few { self.epoch < 32767 → IsSome result }
     {
         Place::new(self.log, self.epoch + 1)

@@ -19,6 +19,7 @@ use Rattle.bac_device_poller.specs.Rows.{LogAs, text_as}
 use Rattle.bac_device_poller.specs.Telling.{log_called}
 use Rattle.bac_resume.specs.Resumed.{GoesOn}
 use Rattle.bac_resume.specs.Rows.{LogTold, untold}
+use Rattle.bac_resume.specs.Stands.{is_full, next_of}
 use Rattle.bac_resume.specs.declared.resumed.Resumed.{Resumed}
 use Rattle.bac_resume.specs.declared.resumed.Resumed.TheVariants.{Counted, Stands, Unbegun}
 use Rattle.bac_plan.specs.declared.fault.PlanFault.{PlanFault}
@@ -81,7 +82,16 @@ epoch_of (Some begins) = number_at (column begins 0) % epochs
 
 -- where the next row of its items stands
 abbrev pub place_of : List LogTold → LogRow → PlaceAs
-place_of told l = record { log = l.id; epoch = epoch_of (told_at told l.id).begins }
+place_of told l = record {
+  log = l.id;
+  epoch = epoch_of (told_at told l.id).begins;
+  full = is_full (told_at told l.id).newest;
+}
+
+-- the number that comes next behind these items of an epoch that begins there; the first, if none does
+abbrev pub next_from : Option Values → List Values → ℕ
+next_from None items = 1
+next_from (Some begins) items = next_of (number_at (column begins 1)) items
 
 -- the log, as its rows tell it, where lines call its device so
 abbrev pub record_of : (called : List ℕ) → List LogTold → LogRow → LogAs
@@ -97,6 +107,7 @@ record_of called told l = record {
   revision = l.revision;
   stopped = l.stopped;
   place = Some (place_of told l);
+  next = next_from (told_at told l.id).begins (told_at told l.id).newest;
   called = log_called called (trend_log l);
 }
 

@@ -9,9 +9,10 @@ ghost use Rattle.bac_device_poller.specs.Puts.{place_as};
 ghost use Rattle.bac_device_poller.specs.Rows.{text_as};
 ghost use Rattle.bac_device_poller.specs.Telling.{log_called};
 ghost use Rattle.bac_resume.specs.Resumed.{GoesOn};
+ghost use Rattle.bac_resume.specs.Stands.{is_full};
 ghost use Rattle.bac_plan.specs.Logs.{IsFaultAmong, IsLogFault, IsTask, begin_by, epoch_of};
-ghost use Rattle.bac_plan.specs.Logs.{is_asked, is_stopped, place_of, record_of, restart_of};
-ghost use Rattle.bac_plan.specs.Logs.{told_at, trend_log};
+ghost use Rattle.bac_plan.specs.Logs.{is_asked, is_stopped, next_from, place_of, record_of};
+ghost use Rattle.bac_plan.specs.Logs.{restart_of, told_at, trend_log};
 
 use crate::fault::PlanFault;
 use crate::texts::copied;
@@ -22,7 +23,7 @@ use bac_device_poller::LogRecord;
 use bac_places::Place;
 use bac_poll::Told;
 use bac_print::push_number;
-use bac_resume::{LogRows, Resumed, go_on};
+use bac_resume::{LogRows, Resumed, go_on, is_full, next_of};
 use bac_wire::ObjectId;
 use std::alloc::{AllocError, Global};
 
@@ -130,13 +131,43 @@ fn epoch_in(told: &[LogRows], log: u16) -> u16
     }
 }
 
+// Whether the last number of that epoch is kept.
+fn is_full_in(told: &[LogRows], log: u16) -> bool
+    ensures { result ≡ is_full (told_at told.now log).newest }
+{
+    match told.get(usize::from(log)) {
+        Some(rows) => is_full(rows.newest.as_slice()),
+        None => false,
+    }
+}
+
 // Where the next row of its items stands.
 fn place_of(log: &LogRow, told: &[LogRows]) -> Place
     ensures { place_as result ≡ place_of told.now log.now }
 {
     match Place::new(log.id, epoch_in(told, log.id)) {
-        Some(place) => place,
+        Some(place) => place.filled(is_full_in(told, log.id)),
         None => unreachable!(),
+    }
+}
+
+// The number that comes next behind these rows.
+fn next_from(rows: &LogRows) -> u32
+    ensures { result ≡ next_from rows.now.begins rows.now.newest }
+{
+    match &rows.begins {
+        Some(begins) => next_of(begins.number, rows.newest.as_slice()),
+        None => 1,
+    }
+}
+
+// The same of a log.
+fn next_in(told: &[LogRows], log: u16) -> u32
+    ensures { result ≡ next_from (told_at told.now log).begins (told_at told.now log).newest }
+{
+    match told.get(usize::from(log)) {
+        Some(rows) => next_from(rows),
+        None => 1,
     }
 }
 
@@ -205,6 +236,7 @@ fn record_of(
         restart,
         revision: log.revision,
         place: Some(place_of(log, told)),
+        next: next_in(told, log.id),
         called,
     })
 }

@@ -9,7 +9,7 @@ use Rattle.bac_walk.specs.Walks.{item_of}
 use Rattle.bac_walk.specs.declared.batch.Numbered.{Numbered}
 use Rattle.bac_poll_laws.specs.Delivers.{is_finding}
 use Rattle.bac_poll.specs.Epochs.{another, another_by, another_of, asks_oldest}
-use Rattle.bac_poll.specs.Gone.{asks_restart, asks_revision, asks_word, by_gone, by_word, doubt, gone_of, retold}
+use Rattle.bac_poll.specs.Gone.{asks_restart, asks_revision, asks_word, by_gone, by_word, gone_of, retold}
 use Rattle.bac_poll.specs.Joins.{ahead, asks_again, asks_each, at_hour, each, each_all, each_by, each_means, each_next}
 use Rattle.bac_poll.specs.Joins.{found, goes_nowhere, hour, joined, joins, joins_by, joins_from, lost, lost_ahead}
 use Rattle.bac_poll.specs.Joins.{moved_ahead, prior, again, again_by, again_equal, again_from, brings_ahead}
@@ -220,7 +220,7 @@ module _ (P : Numbered → Type 0) (F U V : ℕ → Type 0) where
       (λ l some. (refl, inr (inl (first, refl, front)), inl refl, refl, λ caught. absurd (cc), λ none finding. (tt, λ begun. some, inr tt)))
   by_gone_says p first held Doubtful front up =
       let q = confirmed (retold p) in
-      brings_by (λ t. Says p.next p.walk (record t { missing = gap_up_to p.next first; doubtful = true; line = doubt q first })) (standing_at q first) held
+      brings_by (λ t. Says p.next p.walk (record t { missing = gap_up_to p.next first; doubtful = true; line = Some (line.DroppedOrBegan q.next first) })) (standing_at q first) held
       (λ empty. (refl, inr (inl (first, refl, front)), inl refl, refl, λ caught many. (up empty, refl), λ none finding. absurd (cc)))
       (λ l some. (refl, inr (inl (first, refl, front)), inl refl, refl, λ caught. absurd (cc), λ none finding. (tt, λ begun. some, inr tt)))
   by_gone_says p first held Both front up =

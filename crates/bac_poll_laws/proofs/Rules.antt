@@ -9,7 +9,7 @@ use Rattle.bac_walk.specs.declared.batch.Numbered.{Numbered}
 use Rattle.bac_poll.specs.Back.{back}
 use Rattle.bac_poll.specs.Epochs.{another, another_by, another_of, asks_back, asks_oldest, brings_behind, renews}
 use Rattle.bac_poll.specs.Epochs.{renews_none, renews_of}
-use Rattle.bac_poll.specs.Gone.{asks_restart, asks_revision, asks_word, by_gone, by_word, doubt, retold}
+use Rattle.bac_poll.specs.Gone.{asks_restart, asks_revision, asks_word, by_gone, by_word, retold}
 use Rattle.bac_poll.specs.Joins.{again, again_by, again_equal, again_from, ahead, asks_again, asks_each, asks_newest}
 use Rattle.bac_poll.specs.Joins.{at_hour, brings_ahead, each, each_all, each_by, each_means, each_next, found}
 use Rattle.bac_poll.specs.Joins.{goes_nowhere, hour, joined, joins, joins_by, joins_from, lost, lost_ahead, moved_ahead}
@@ -132,7 +132,7 @@ module _ (P : Numbered → Type 0) (F : ℕ → Type 0) where
   by_gone_goes p first held Dropped run front = gap_brings p.next (standing_at (confirmed (retold p)) first) held run front
   by_gone_goes p first held Doubtful run front =
       let q = confirmed (retold p) in
-      brings_by P F (λ t. Goes P F p.next (record t { missing = gap_up_to p.next first; doubtful = true; line = doubt q first })) (standing_at q first) first held run
+      brings_by P F (λ t. Goes P F p.next (record t { missing = gap_up_to p.next first; doubtful = true; line = Some (line.DroppedOrBegan q.next first) })) (standing_at q first) first held run
       (λ empty. (record { mid = first; before = gap_alone P F p.next first; behind = refl; fronts = λ sure. absurd (cc) }, λ none. absurd (cc)))
       (λ l cov. (record { mid = first; before = gap_alone P F p.next first; behind = cov; fronts = λ sure. absurd (cc) }, λ none. (refl, tt)))
   by_gone_goes p first held Both run front =

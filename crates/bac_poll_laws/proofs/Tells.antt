@@ -165,7 +165,7 @@ module _ (P : Numbered → Type 0) (F U V : ℕ → Type 0) where
   or_false false b is = is
 
   first_logged : (p : PollState) → 0 < p.next → has_logged p ≡ false → p.next ≡ 1
-  first_logged p some none = let few : p.next ≤ 1 = ltb-false 1 p.next (or_false (is_some p.newest) (nat_lt 1 p.next) none) in omega (arith, some, few)
+  first_logged p some none = let few : p.next ≤ 1 = ltb-false 1 p.next (or_false (is_some p.newest || is_some p.stamp) (nat_lt 1 p.next) none) in omega (arith, some, few)
 
   counted_says : (p : PollState) (total : ℕ) → 0 < p.next → p.next < 4294967296 → U (number_after total 1) → Says P F U V p.next p.walk (weighed p total)
   counted_says p total some few front =

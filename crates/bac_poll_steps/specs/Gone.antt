@@ -1,5 +1,5 @@
 -- 4. Dropped, or another life: what the evidence says where what is held lies behind the number that comes next.
-use Rattle.std.specs.Prelude.{ℕ, ◌==◌, ◌&&◌, ◌||◌, not, nat_lt, Bool, if◌then◌else◌}
+use Rattle.std.specs.Prelude.{ℕ, ◌&&◌, ◌||◌, nat_lt, Bool, if◌then◌else◌}
 use Rattle.std.specs.Prelude.{List, [], ◌∷◌, Option, None, Some}
 use Rattle.std.specs.Option.{is_some}
 use Rattle.bac_link.specs.Ordinals.{number_after}
@@ -13,7 +13,6 @@ use Rattle.bac_known.specs.declared.date_time.DateTime.{DateTime}
 use Rattle.bac_poll_steps.specs.declared.gone.Gone.{Gone}
 use Rattle.bac_poll_steps.specs.declared.gone.Gone.TheVariants.{Dropped, Doubtful, Both}
 use Rattle.bac_poll_steps.specs.declared.stage.Stage.TheVariants.{Revision, Restart}
-use Rattle.bac_poll_steps.specs.declared.turn.Line.{Line}
 use Rattle.bac_poll_steps.specs.declared.turn.Line.TheVariants.{BeganOrDropped, DroppedOrBegan}
 use Rattle.bac_known.specs.declared.word.Word.{Word}
 use Rattle.bac_known.specs.declared.word.Word.TheVariants.{Same, Changed, Untold}
@@ -44,20 +43,20 @@ gone_of_none Same = Dropped
 gone_of_none Untold = Doubtful
 gone_of_none Changed = Both
 
--- What the evidence says: the numbers up to the oldest that is held were dropped; dropped, or the log began anew; or
--- both are told.
-abbrev pub gone_of : PollState → Option Numbered → Word → Gone
-gone_of p None word = gone_of_none word
-gone_of p (Some held) word =
+-- what the evidence says where something was logged in the epoch: by the oldest that is held, or by the word alone
+abbrev pub gone_behind : PollState → Option Numbered → Word → Gone
+gone_behind p None word = gone_of_none word
+gone_behind p (Some held) word =
     if is_earlier (dated held.entry) p.stamp then Both else gone_by p (dated held.entry) word
 
--- whether something was logged before the number that comes next
+-- whether something was logged before the number that comes next: a record of the epoch is kept, or numbers come before
 abbrev pub has_logged : PollState → Bool
-has_logged p = is_some p.newest || nat_lt 1 p.next
+has_logged p = (is_some p.newest || is_some p.stamp) || nat_lt 1 p.next
 
--- what is told of a doubtful gap up to this number
-abbrev pub doubt : PollState → ℕ → Option Line
-doubt p first = if not (p.next == first) || has_logged p then Some (DroppedOrBegan p.next first) else None
+-- What the evidence says: the numbers up to the oldest that is held were dropped; dropped, or the log began anew; or
+-- both are told. Where nothing was logged in the epoch yet nothing that is held can be of another life.
+abbrev pub gone_of : PollState → Option Numbered → Word → Gone
+gone_of p held word = if has_logged p then gone_behind p held word else Dropped
 
 -- the word that was told again is the one that is told
 abbrev pub retold : PollState → PollState
@@ -75,7 +74,8 @@ brings_both p told first held =
 
 -- a gap of which nobody can tell whether there is any
 abbrev pub brings_doubtful : PollState → ℕ → List Numbered → Turned
-brings_doubtful p first held = record (brings_gone p first held) { doubtful = Bool.true; line = doubt p first }
+brings_doubtful p first held =
+    record (brings_gone p first held) { doubtful = Bool.true; line = Some (DroppedOrBegan p.next first) }
 
 -- by the evidence
 abbrev pub by_gone : PollState → ℕ → List Numbered → Gone → Turned

@@ -4,9 +4,10 @@ ghost use Rattle.std.specs.Prelude.{◌≡◌, IfOk};
 ghost use Rattle.bac_poll_steps.specs.State.{told_as};
 ghost use Rattle.bac_poll_steps.specs.Turns.{turned};
 ghost use Rattle.bac_poll_steps.specs.Gone.{asks_restart, asks_revision, asks_word, brings_both};
-ghost use Rattle.bac_poll_steps.specs.Gone.{brings_doubtful, brings_gone, by_gone, by_word, doubt};
-ghost use Rattle.bac_poll_steps.specs.Gone.{gone_by, gone_of, gone_of_none, has_logged, is_behind};
-ghost use Rattle.bac_poll_steps.specs.Gone.{is_earlier, is_outlived, retold};
+ghost use Rattle.bac_poll_steps.specs.Gone.{brings_doubtful, brings_gone, by_gone, by_word};
+ghost use Rattle.bac_poll_steps.specs.Gone.{gone_behind, gone_by, gone_of, gone_of_none};
+ghost use Rattle.bac_poll_steps.specs.Gone.{has_logged, is_behind, is_earlier, is_outlived};
+ghost use Rattle.bac_poll_steps.specs.Gone.{retold};
 
 use crate::stage::Stage;
 use crate::state::LogState;
@@ -82,9 +83,9 @@ impl LogState {
         }
     }
 
-    // What the evidence says, of the oldest that is held.
-    fn gone_of(&self, oldest: Option<Numbered>, word: Word) -> Gone
-        ensures { result ≡ gone_of self.now oldest word }
+    // What the evidence says where something was logged in the epoch.
+    fn gone_behind(&self, oldest: Option<Numbered>, word: Word) -> Gone
+        ensures { result ≡ gone_behind self.now oldest word }
     {
         match oldest {
             Some(held) => {
@@ -102,17 +103,17 @@ impl LogState {
     pub fn has_logged(&self) -> bool
         ensures { result ≡ has_logged self.now }
     {
-        is_known(&self.newest) || 1 < self.next
+        is_known(&self.newest) || self.stamp.is_some() || 1 < self.next
     }
 
-    // What is told of a doubtful gap up to this number.
-    fn doubt(&self, first: u32) -> Option<Line>
-        ensures { result ≡ doubt self.now first }
+    // What the evidence says, of the oldest that is held.
+    fn gone_of(&self, oldest: Option<Numbered>, word: Word) -> Gone
+        ensures { result ≡ gone_of self.now oldest word }
     {
-        if self.next != first || self.has_logged() {
-            Some(Line::DroppedOrBegan(self.next, first))
+        if self.has_logged() {
+            self.gone_behind(oldest, word)
         } else {
-            None
+            Gone::Dropped
         }
     }
 
@@ -143,10 +144,10 @@ impl LogState {
         ensures { IfOk result (λ turn. turned self.new turn
             ≡ brings_doubtful self.old first held.items) }
     {
-        let line = self.doubt(first);
+        let next = self.next;
         let mut turn = self.bring_gone(alloc, first, held)?;
         turn.doubtful = true;
-        turn.line = line;
+        turn.line = Some(Line::DroppedOrBegan(next, first));
         Ok(turn)
     }
 

@@ -1,8 +1,8 @@
 -- Where a poll stands, once rows are put.
-use Rattle.std.proofs.Common.{arith, ◌≡◌, ℕ, suc, ◌+◌, ◌-◌, ◌<◌, nat_lt, List, [], ◌∷◌, take, length, get_or, Option, None, Some, inl, inr, refl, sym, ap, subst, ◌∙◌}
+use Rattle.std.proofs.Common.{arith, ◌≡◌, ℕ, suc, ◌+◌, ◌-◌, ◌<◌, ◌≤◌, nat_lt, List, [], ◌∷◌, take, length, get_or, Option, None, Some, inl, inr, refl, sym, ap, subst, ◌∙◌}
 use Rattle.std.specs.List.{slice_get}
 use Rattle.std.specs.Option.{option_map}
-use Rattle.std.proofs.lemmas.Bool.{cond-true, lt-ltb}
+use Rattle.std.proofs.lemmas.Bool.{cond-true, eqb-true, lt-ltb}
 use Rattle.std.proofs.lemmas.Option.{none-some, same_Some, slice_get-get_or}
 use Rattle.sqlite_value.specs.Order.{Row as Values}
 use Rattle.bac_link.specs.Ordinals.{number_after}
@@ -11,9 +11,9 @@ use Rattle.bac_poll.specs.DateTime.{dated}
 use Rattle.bac_poll.specs.State.{KeptAs, PollState, StandingAs, kept_of}
 use Rattle.bac_poll.specs.Turns.{before_last, behind, kept_or, last_in, number_before, third_known}
 use Rattle.bac_known.specs.declared.date_time.DateTime.{DateTime}
-use Rattle.bac_resume.specs.Laws.{GoesOnAnew, GoesOnBehindGap, GoesOnBehindRecords, JoinsThere, SayRun, SaysRecord, kept_undayed, place_of, undayed, with_rows}
+use Rattle.bac_resume.specs.Laws.{FullGoesOnAtOne, GoesOnAnew, GoesOnBehindGap, GoesOnBehindRecords, JoinsThere, SayRun, SaysRecord, kept_undayed, place_of, undayed, with_rows}
 use Rattle.bac_resume.specs.Resumed.{Agree, IsKept, IsStamped, StandsBy}
-use Rattle.bac_resume.specs.Stands.{known_at, known_before}
+use Rattle.bac_resume.specs.Stands.{known_at, known_before, last_number}
 use Rattle.bac_resume.specs.Texts.{HasDate}
 use Rattle.bac_resume.proofs.Known.{known_cut, known_more, known_none, last_of_gap, last_of_record, newest_is, number_back, number_behind, record_is}
 use Rattle.bac_resume.proofs.Written.{day_same}
@@ -34,11 +34,10 @@ kept_says held item says = record {
 -- ---- one record
 
 behind_one : (begins : ℕ) (rows : List Values) (p : PollState) (held : Numbered) (item : Values) → StandsBy begins (take 3 rows) (place_of p) → SaysRecord held item →
-    held.number ≡ p.next → 0 < p.next → p.next < 4294967295 → StandsBy begins (take 3 (item ∷ rows)) (place_of (behind p (held ∷ []) held))
+    held.number ≡ p.next → 0 < p.next → p.next ≤ 4294967295 → StandsBy begins (take 3 (item ∷ rows)) (place_of (behind p (held ∷ []) held))
 behind_one begins rows p held item stands says at more few =
-    let next : number_after held.number 1 ≡ p.next + 1 = ap (λ (m : ℕ). number_after m 1) at ∙ number_behind p.next few in
     let known : known_before (number_after held.number 1) (item ∷ take 2 rows) ≡ item ∷ known_before p.next (take 2 rows) =
-    known_more (number_after held.number 1) p.next item (take 2 rows) (ap number_before next ∙ number_back p.next more) (record_is p.next item says.no_gap (says.number ∙ at)) in
+    known_more (number_after held.number 1) p.next item (take 2 rows) (ap (λ (m : ℕ). number_before (number_after m 1)) at ∙ number_back p.next more few) (record_is p.next item says.no_gap (says.number ∙ at)) in
     let first : known_at p.next (take 3 rows) 0 ≡ known_at p.next (take 2 rows) 0 = known_cut p.next 3 2 0 rows (omega arith) (omega arith) in
     let second : known_at p.next (take 3 rows) 1 ≡ known_at p.next (take 2 rows) 1 = known_cut p.next 3 2 1 rows (omega arith) (omega arith) in
     record {
@@ -125,12 +124,13 @@ behind_all begins rows (item ∷ []) p (held ∷ []) last stands say is =
     subst (λ (h : Numbered). StandsDated begins (take 3 (item ∷ rows)) (place_of (behind p (held ∷ []) h))) (same_Some held last is)
     (behind_one begins rows p held item stands say.0 say.1 say.2 say.3, stamped_one rows p held item say.0)
 behind_all begins rows (item ∷ other ∷ items) p (held ∷ []) last stands say is = absurd say.4
-behind_all begins rows (item ∷ items) p (held ∷ second ∷ more) last stands say is =
+behind_all begins rows (item ∷ []) p (held ∷ second ∷ more) last stands say is = absurd say.4
+behind_all begins rows (item ∷ other ∷ items) p (held ∷ second ∷ more) last stands say is =
     let one = behind_one begins rows p held item stands say.0 say.1 say.2 say.3 in
-    let next : p.next + 1 ≡ number_after held.number 1 = sym (ap (λ (m : ℕ). number_after m 1) say.1 ∙ number_behind p.next say.3) in
-    let others = subst (λ (m : ℕ). SayRun m (second ∷ more) items) next say.4 in
-    subst (λ (at : StandingAs). StandsDated begins (take 3 (with_rows (item ∷ rows) items)) at) (by_one p held second last more)
-    (behind_all begins (item ∷ rows) items (behind p (held ∷ []) held) (second ∷ more) last one others (last_more held second last more is))
+    let next : p.next + 1 ≡ number_after held.number 1 = sym (ap (λ (m : ℕ). number_after m 1) say.1 ∙ number_behind p.next (omega (arith, say.4.3))) in
+    let others = subst (λ (m : ℕ). SayRun m (second ∷ more) (other ∷ items)) next say.4 in
+    subst (λ (at : StandingAs). StandsDated begins (take 3 (with_rows (item ∷ rows) (other ∷ items))) at) (by_one p held second last more)
+    (behind_all begins (item ∷ rows) (other ∷ items) (behind p (held ∷ []) held) (second ∷ more) last one others (last_more held second last more is))
 
 pub behind_records : GoesOnBehindRecords
 behind_records begins rows items p records last stands say is = behind_all begins rows items p records last stands say is
@@ -138,15 +138,18 @@ behind_records begins rows items p records last stands say is = behind_all begin
 -- ---- a gap, and an epoch that begins
 
 pub behind_gap : GoesOnBehindGap
-behind_gap begins before rows item p gap more few =
-    let known : known_before before (item ∷ take 2 rows) ≡ [] = known_none before (before - 1) item (take 2 rows) gap in
-    let next : number_after (before - 1) 1 ≡ before = number_behind (before - 1) (omega (arith, more, few)) ∙ omega (arith, more) in
+behind_gap begins last rows item p gap =
+    let known : known_before (number_after last 1) (item ∷ take 2 rows) ≡ [] = known_none (number_after last 1) last item (take 2 rows) gap in
     record {
-      next = sym (ap (λ (m : ℕ). number_after m 1) (last_of_gap item (before - 1) gap) ∙ next);
+      next = sym (ap (λ (m : ℕ). number_after m 1) (last_of_gap item last gap));
       newest = subst (λ (l : List Values). Agree IsKept (slice_get l 0) None) (sym known) tt;
       earlier = subst (λ (l : List Values). Agree IsKept (slice_get l 1) None) (sym known) tt;
       earliest = subst (λ (l : List Values). Agree IsKept (slice_get l 2) None) (sym known) tt;
     }
+
+pub full_one : FullGoesOnAtOne
+full_one begins [] is = absurd (cc)
+full_one begins (item ∷ items) is = ap (λ (m : ℕ). number_after m 1) (eqb-true (last_number item) 4294967295 is)
 
 pub anew : GoesOnAnew
 anew first p word = (

@@ -1,8 +1,8 @@
 -- The records that are known, of items the newest first.
-use Rattle.std.proofs.Common.{arith, ◌≡◌, ℕ, zero, suc, ◌+◌, ◌-◌, ◌<◌, ◌&&◌, ◌==◌, Bool, true, false, if◌then◌else◌, not, List, [], ◌∷◌, take, Option, None, Some, refl, sym, ap, ◌∙◌}
+use Rattle.std.proofs.Common.{arith, ◌≡◌, ℕ, zero, suc, ◌+◌, ◌-◌, ◌<◌, ◌≤◌, ◌&&◌, ◌==◌, Bool, true, false, if◌then◌else◌, not, List, [], ◌∷◌, take, Option, None, Some, refl, sym, ap, subst, ◌∙◌}
 use Rattle.std.specs.List.{slice_get}
 use Rattle.std.specs.Option.{is_some, unwrap_or}
-use Rattle.std.proofs.lemmas.Bool.{cond-false, eq-eqb, ne_eqb}
+use Rattle.std.proofs.lemmas.Bool.{cond-false, eq-eqb, eqb-false, eqb-true, ne_eqb}
 use Rattle.sqlite_value.specs.Order.{Row as Values, column}
 use Rattle.bac_archive3.specs.Items.{last_at, number_in}
 use Rattle.bac_link.specs.Ordinals.{number_after}
@@ -14,8 +14,15 @@ use Rattle.bac_resume.specs.Stands.{is_record_of, known_at, known_before, last_n
 pub number_behind : (n : ℕ) → n < 4294967295 → number_after n 1 ≡ n + 1
 number_behind n less = omega (arith, less)
 
-pub number_back : (n : ℕ) → 0 < n → number_before (n + 1) ≡ n
-number_back n more = cond-false (n + 1 == 1) 4294967295 (n + 1 - 1) (ne_eqb (n + 1) 1 (λ e. omega (arith, more, e))) ∙ omega arith
+pub number_back : (n : ℕ) → 0 < n → n ≤ 4294967295 → number_before (number_after n 1) ≡ n
+number_back n more few = by (n == 4294967295) refl
+  where
+    by : (b : Bool) → (n == 4294967295) ≡ b → number_before (number_after n 1) ≡ n
+    by true is = subst (λ (m : ℕ). number_before (number_after m 1) ≡ m) (sym (eqb-true n 4294967295 is)) refl
+    by false is =
+        let other = eqb-false n 4294967295 is in
+        ap number_before (number_behind n (omega (arith, few, other)))
+        ∙ cond-false (n + 1 == 1) 4294967295 (n + 1 - 1) (ne_eqb (n + 1) 1 (λ e. omega (arith, more, e))) ∙ omega arith
 
 -- ---- one item in front
 

@@ -1,5 +1,5 @@
 -- Laws of where a poll goes on. Read `GoesOnWhereItStopped`.
-use Rattle.std.specs.Prelude.{◌≡◌, ⊤, ℕ, zero, suc, ◌+◌, ◌-◌, ◌<◌, ◌≤◌, true, false}
+use Rattle.std.specs.Prelude.{◌≡◌, ⊤, ℕ, zero, suc, ◌+◌, ◌<◌, ◌≤◌, true, false}
 use Rattle.std.specs.Prelude.{List, [], ◌∷◌, None, Some, map, take}
 use Rattle.std.specs.List.{Contains, filter}
 use Rattle.std.specs.List.Sorted.{IsPermutation}
@@ -15,7 +15,7 @@ use Rattle.bac_archive3.specs.Put.{beginning_columns, item_columns}
 use Rattle.bac_archive3.specs.Read.{numbers}
 use Rattle.bac_archive3.specs.Stands.{StandsAs, is_in}
 use Rattle.bac_archive3.specs.declared.standing.Standing.{Standing}
-use Rattle.bac_link.specs.Ordinals.{is_number}
+use Rattle.bac_link.specs.Ordinals.{is_number, number_after}
 use Rattle.bac_walk.specs.declared.batch.Numbered.{Numbered}
 use Rattle.bac_poll.specs.Poll.{joining}
 use Rattle.bac_poll.specs.Stamps.{stamp_text, stamped}
@@ -25,7 +25,7 @@ use Rattle.bac_known.specs.declared.date_time.DateTime.{DateTime}
 use Rattle.bac_resume.specs.Met.{log_in}
 use Rattle.bac_resume.specs.Resumed.{IsStamped, StandsBy}
 use Rattle.bac_resume.specs.Rows.{LogTold, told_of}
-use Rattle.bac_resume.specs.Stands.{is_gap, known_at, next_of}
+use Rattle.bac_resume.specs.Stands.{is_full, is_gap, known_at, next_of}
 use Rattle.bac_resume.specs.Texts.{moment_in}
 
 -- ---- nothing is made up
@@ -71,6 +71,10 @@ NoneIsNewer = (trees : Trees) (begins newest item : Values) (rows : List Values)
 abbrev pub NextIsNumber : Type 0
 NextIsNumber = (begins : ℕ) (items : List Values) → is_number begins ≡ true → is_number (next_of begins items) ≡ true
 
+-- Where the last number of the epoch is kept 1 comes next.
+abbrev pub FullGoesOnAtOne : Type 0
+FullGoesOnAtOne = (begins : ℕ) (items : List Values) → is_full items ≡ true → next_of begins items ≡ 1
+
 -- What is put on record of a restart is read back.
 abbrev pub RestartIsReadBack : Type 0
 RestartIsReadBack = (values : List ℕ) → IsBytes values → moment_in (encode_lower values) ≡ stamped values
@@ -104,13 +108,13 @@ pub record SaysRecord (held : Numbered) (item : Values) : Type 0 where
   pub datum : text_at (column item 4) ≡ (kept_of held).datum
   pub flags : text_at (column item 5) ≡ (kept_of held).flags
 
--- these rows say these records, whose numbers rise by one from this one on
+-- these rows say these records of an epoch, whose numbers rise by one from this one on
 abbrev pub SayRun : (next : ℕ) → List Numbered → List Values → Type 0
 SayRun next [] [] = ⊤
 SayRun next [] (item ∷ items) = ⊥
 SayRun next (held ∷ others) [] = ⊥
 SayRun next (held ∷ others) (item ∷ items) = SaysRecord held item × (held.number ≡ next) × (0 < next)
-    × (next < 4294967295) × SayRun (next + 1) others items
+    × (next ≤ 4294967295) × SayRun (next + 1) others items
 
 -- the items of an epoch, the newest first, and in front of them others that are put one after the other
 abbrev pub with_rows : List Values → List Values → List Values
@@ -124,6 +128,7 @@ JoinsThere = (log device : Id) (count begins : ℕ) (rows : List Values) (at : S
 
 -- Where a poll stands by the three newest items of its epoch, it stands so too behind records that it brings, once
 -- their rows are put: the number that comes next, the records known before it, and the date and time of the newest.
+-- Behind the last number that there is 1 comes next, and that record is known.
 abbrev pub GoesOnBehindRecords : Type 0
 GoesOnBehindRecords = (begins : ℕ) (rows items : List Values) (p : PollState) (records : List Numbered)
     (last : Numbered) → StandsBy begins (take 3 rows) (place_of p) → SayRun p.next records items
@@ -141,11 +146,11 @@ GoesOnWhereItStopped = (trees : Trees) (s : Standing) (log : ℕ) (begins : Valu
     → StandsBy (number_at (column begins 1)) (told_in s log).newest (place_of (behind p records last))
     × IsStamped (told_in s log).newest (place_of (behind p records last))
 
--- And behind a gap up to this number.
+-- And behind a gap, whose last number this is.
 abbrev pub GoesOnBehindGap : Type 0
-GoesOnBehindGap = (begins before : ℕ) (rows : List Values) (item : Values) (p : PollState)
-    → last_at (column item 1) ≡ Some (before - 1) → 1 < before → before ≤ 4294967295
-    → StandsBy begins (take 3 (item ∷ rows)) (place_of (standing_at p before))
+GoesOnBehindGap = (begins last : ℕ) (rows : List Values) (item : Values) (p : PollState)
+    → last_at (column item 1) ≡ Some last
+    → StandsBy begins (take 3 (item ∷ rows)) (place_of (standing_at p (number_after last 1)))
 
 -- And where an epoch begins: the first one, or the next.
 abbrev pub GoesOnAnew : Type 0

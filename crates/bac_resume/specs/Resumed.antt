@@ -7,7 +7,7 @@ use Rattle.bac_archive3.specs.Stands.{epochs}
 use Rattle.bac_places.specs.declared.place.Place.{Place}
 use Rattle.bac_poll.specs.State.{KeptAs, StandingAs, standing_as, told_as}
 use Rattle.bac_resume.specs.Rows.{LogTold}
-use Rattle.bac_resume.specs.Stands.{known_at, newest_record, next_of}
+use Rattle.bac_resume.specs.Stands.{is_full, known_at, newest_record, next_of}
 use Rattle.bac_resume.specs.Texts.{HasDate, word_of}
 use Rattle.bac_resume.specs.declared.resumed.Resumed.{Resumed}
 use Rattle.bac_resume.specs.declared.resumed.Resumed.TheVariants.{Counted, Stands, Unbegun}
@@ -42,10 +42,11 @@ IsStamped items at = Agree HasDate (newest_record items) at.stamp
 abbrev pub is_counted : Values → Bool
 is_counted begins = bytes_eq (text_at (column begins 2)) (codes "counted")
 
--- the epoch of a log that begins there
-pub record IsPlaceOf (log begins : Values) (place : Place) : Type 0 where
+-- where the next row of a log stands: behind the items of the epoch that begins there
+pub record IsPlaceOf (log begins : Values) (items : List Values) (place : Place) : Type 0 where
   pub log_is : place.log ≡ number_at (column log 0)
   pub epoch_is : place.epoch ≡ number_at (column begins 0) % epochs
+  pub full_is : place.full ≡ is_full items
 
 -- what a standing says: the items of the epoch, and the word in the log's row
 pub record SaysOf (log begins : Values) (items : List Values) (at : StandingAs) : Type 0 where
@@ -58,8 +59,8 @@ pub record SaysOf (log begins : Values) (items : List Values) (at : StandingAs) 
 abbrev pub GoesOn : (log : Values) → LogTold → Resumed → Type 0
 GoesOn log told Unbegun = told.begins ≡ None
 GoesOn log told (Counted place number word) =
-    (begins : Values) × (told.begins ≡ Some begins) × (is_counted begins ≡ true) × IsPlaceOf log begins place
-    × (number ≡ number_at (column begins 1)) × (told_as word ≡ word_of log)
+    (begins : Values) × (told.begins ≡ Some begins) × (is_counted begins ≡ true)
+    × IsPlaceOf log begins told.newest place × (number ≡ number_at (column begins 1)) × (told_as word ≡ word_of log)
 GoesOn log told (Stands place at) =
-    (begins : Values) × (told.begins ≡ Some begins) × (is_counted begins ≡ false) × IsPlaceOf log begins place
-    × SaysOf log begins told.newest (standing_as at)
+    (begins : Values) × (told.begins ≡ Some begins) × (is_counted begins ≡ false)
+    × IsPlaceOf log begins told.newest place × SaysOf log begins told.newest (standing_as at)

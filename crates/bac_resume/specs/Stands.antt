@@ -1,6 +1,7 @@
 -- Where a log stands by the items of its last epoch, the newest first. An item is a record, or a gap up to a last
 -- number.
-use Rattle.std.specs.Prelude.{ℕ, ◌==◌, ◌&&◌, not, Bool, if◌then◌else◌, List, [], ◌∷◌, Option, None, Some, slice_get}
+use Rattle.std.specs.Prelude.{ℕ, ◌==◌, ◌&&◌, not, Bool, false, if◌then◌else◌, List, [], ◌∷◌, Option, None, Some}
+use Rattle.std.specs.List.{slice_get}
 use Rattle.std.specs.Option.{is_some, unwrap_or}
 use Rattle.sqlite_value.specs.Order.{Row as Values, column}
 use Rattle.bac_archive3.specs.Items.{last_at, number_in}
@@ -19,6 +20,11 @@ last_number item = unwrap_or (last_at (column item 1)) (number_in item)
 abbrev pub next_of : (begins : ℕ) → List Values → ℕ
 next_of begins [] = begins
 next_of begins (item ∷ items) = number_after (last_number item) 1
+
+-- whether the last number that an epoch can have is kept, of a record or in a gap: the next one is of the next epoch
+abbrev pub is_full : List Values → Bool
+is_full [] = false
+is_full (item ∷ items) = last_number item == 4294967295
 
 -- whether an item is the record of a number
 abbrev pub is_record_of : ℕ → Values → Bool

@@ -10,7 +10,7 @@ ghost use Rattle.bac_link.specs.Ordinals.{number_after};
 ghost use Rattle.bac_poll.specs.State.{kept_as, maybe_kept};
 ghost use Rattle.bac_poll.specs.Turns.{number_before};
 ghost use Rattle.bac_resume.specs.Resumed.{Agree, IsKept};
-ghost use Rattle.bac_resume.specs.Stands.{is_record_of, known_at, last_number};
+ghost use Rattle.bac_resume.specs.Stands.{is_full, is_record_of, known_at, last_number};
 ghost use Rattle.bac_resume.specs.Stands.{newest_record, next_of};
 ghost use Rattle.bac_resume.specs.Texts.{HasDate};
 
@@ -61,8 +61,18 @@ fn number_before(number: u32) -> u32
     }
 }
 
+/// Whether the last number of the epoch of these items is kept.
+pub fn is_full(items: &[ItemRow]) -> bool
+    ensures { result ≡ is_full (map item_columns items.now) }
+{
+    match items {
+        [newest, ..] => last_number(newest) == LAST,
+        [] => false,
+    }
+}
+
 /// The number that comes next, where the epoch begins with this one.
-pub(crate) fn next_of(begins: u32, items: &[ItemRow]) -> u32
+pub fn next_of(begins: u32, items: &[ItemRow]) -> u32
     ensures { result ≡ next_of begins (map item_columns items.now) }
 {
     match items {

@@ -1,5 +1,6 @@
 //! Laws of where a poll goes on. Each function does nothing: what it ensures is the law.
 
+ghost use Rattle.bac_resume.specs.Laws.{FullGoesOnAtOne};
 ghost use Rattle.bac_resume.specs.Laws.{GoesOnAnew, GoesOnBehindGap, GoesOnBehindRecords};
 ghost use Rattle.bac_resume.specs.Laws.{GoesOnWhereItStopped, JoinsThere, KnownAreKept};
 ghost use Rattle.bac_resume.specs.Laws.{NewestAreTold, NextIsNumber, NoneIsNewer};
@@ -23,6 +24,11 @@ pub fn none_is_newer()
 /// The number that comes next is a sequence number.
 pub fn next_is_number()
     ensures { NextIsNumber }
+{}
+
+/// Behind the last number of an epoch 1 comes next.
+pub fn full_goes_on_at_one()
+    ensures { FullGoesOnAtOne }
 {}
 
 /// What is put on record of a restart is read back.

@@ -12,10 +12,11 @@ mod resumed;
 mod rows;
 mod texts;
 
+pub use items::{is_full, next_of};
 pub use laws::{
-    goes_on_anew, goes_on_behind_gap, goes_on_behind_records, goes_on_where_it_stopped,
-    joins_there, known_are_kept, newest_are_told, next_is_number, none_is_newer,
-    restart_is_read_back,
+    full_goes_on_at_one, goes_on_anew, goes_on_behind_gap, goes_on_behind_records,
+    goes_on_where_it_stopped, joins_there, known_are_kept, newest_are_told, next_is_number,
+    none_is_newer, restart_is_read_back,
 };
 pub use resumed::{Resumed, go_on};
 pub use rows::{LogRows, by_log};

@@ -5,7 +5,7 @@ ghost use Rattle.bac_archive3.specs.Put.{beginning_columns, item_columns, log_co
 ghost use Rattle.bac_poll.specs.State.{standing_as};
 ghost use Rattle.bac_resume.specs.Resumed.{GoesOn, IsPlaceOf, SaysOf, is_counted};
 
-use crate::items::{kept_at, newest_stamp, next_of};
+use crate::items::{is_full, kept_at, newest_stamp, next_of};
 use crate::rows::LogRows;
 use crate::texts::word_of;
 use bac_archive3::{BeginningRow, ItemRow, LogRow};
@@ -37,12 +37,13 @@ fn is_counted(begins: &BeginningRow) -> bool
     }
 }
 
-// The epoch of a log that begins there.
-fn place_of(log: &LogRow, begins: &BeginningRow) -> Place
-    ensures { IsPlaceOf (log_columns log.now) (beginning_columns begins.now) result }
+// Where the next row of a log stands, behind the items of the epoch that begins there.
+fn place_of(log: &LogRow, begins: &BeginningRow, items: &[ItemRow]) -> Place
+    ensures { IsPlaceOf (log_columns log.now) (beginning_columns begins.now)
+        (map item_columns items.now) result }
 {
     match Place::new(log.id, (begins.id % EPOCHS) as u16) {
-        Some(place) => place,
+        Some(place) => place.filled(is_full(items)),
         None => unreachable!(),
     }
 }
@@ -80,11 +81,12 @@ pub fn go_on(alloc: Global, log: &LogRow, told: &LogRows) -> Result<Resumed, All
     let Some(begins) = &told.begins else {
         return Ok(Resumed::Unbegun);
     };
-    let place = place_of(log, begins);
+    let items = told.newest.as_slice();
+    let place = place_of(log, begins, items);
     if is_counted(begins) {
         let word = word_of(alloc, log)?;
         return Ok(Resumed::Counted(place, begins.number, word));
     }
-    let at = standing_of(alloc, log, begins, told.newest.as_slice())?;
+    let at = standing_of(alloc, log, begins, items)?;
     Ok(Resumed::Stands(place, at))
 }

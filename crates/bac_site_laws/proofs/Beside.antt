@@ -10,13 +10,13 @@ use Rattle.bac_device_poll.specs.State.{DeviceState, LogAs as TaskAs}
 use Rattle.bac_device_poll.specs.Turns.{not_asked}
 use Rattle.bac_device_poll.specs.declared.stage.Stage.TheVariants as stage
 use Rattle.bac_device_poll.specs.declared.task.Polled.{Polled}
-use Rattle.bac_device_poller.specs.Entries.{RowsAs, putting_log, with_entries, with_log as with_row}
+use Rattle.bac_device_poller.specs.Entries.{RowsAs, putting_log, telling_any, with_entries, with_log as with_row}
 use Rattle.bac_device_poller.specs.Naming.{with_word}
 use Rattle.bac_device_poller.specs.Poller.{putting_answered}
 use Rattle.bac_device_poller.specs.Puts.{PlaceAs, PutAs}
 use Rattle.bac_device_poller.specs.Rows.{LogAs}
 use Rattle.bac_device_poller.specs.Ending.{reason_line}
-use Rattle.bac_device_poller.specs.Turns.{IsPlaced, ending_of, telling_any, telling_any_end, telling_end, telling_line}
+use Rattle.bac_device_poller.specs.Turns.{IsPlaced, ending_of, telling_any_end, telling_end, telling_line}
 use Rattle.bac_device_poller.specs.declared.ending.Ending.{Ending}
 use Rattle.bac_site_laws.specs.Own.{is_of_log, rows_in}
 use Rattle.bac_site_laws.proofs.LogRows.{turn_rows}
@@ -89,4 +89,4 @@ pub placed_rows : (o : Option PlaceAs) (t : LogTurned) (behind : Option PlaceAs)
 placed_rows None t behind puts placed = empty_rows puts placed.1
 placed_rows (Some place) t None puts none = empty_rows puts none
 placed_rows (Some place) t (Some behind) puts placed =
-    ap rows_in placed.0 ∙ turn_rows place.log place.epoch t ∙ sym placed.0
+    ap rows_in placed.0 ∙ turn_rows place.log place.epoch place.full t ∙ sym placed.0

@@ -20,5 +20,5 @@ one_gone [] = refl
 one_gone (m ∷ moments) = inr (one_gone moments)
 
 pub rows_are_logged : EachShownOnce → RowsAreLogged
-rows_are_logged law = λ H moments log epoch p steps stands are.
-    rows_on (IsLogged H) (WasGoneBefore moments) (logged_number H) law (one_gone moments) log epoch p steps stands are
+rows_are_logged law = λ H moments log epoch next full p steps there stands are.
+    rows_on (IsLogged H) (WasGoneBefore moments) (logged_number H) law (one_gone moments) log epoch next full p steps there stands are

@@ -28,7 +28,7 @@ use Rattle.bac_device_poller.specs.Telling.{LineAs}
 use Rattle.bac_device_poller.specs.declared.doing.Doing.{Doing}
 use Rattle.bac_device_poller.specs.declared.doing.Doing.TheVariants as doing
 use Rattle.bac_site_poller.specs.Seat.{Wants, lent}
-use Rattle.bac_device_poller.specs.Puts.{PlaceAs, PutAs}
+use Rattle.bac_device_poller.specs.Puts.{PlaceAs, PutAs, Puts}
 use Rattle.bac_device_poller.specs.Turns.{IsPlaced}
 use Rattle.bac_site_poller.specs.SiteLaws.{Answered, Missed, Own, OwnStep, Wanted}
 use Rattle.bac_site_laws.specs.Own.{AreOf, AreRowsOf, EndsBy, HadTurns, IsAtLog, IsOf, IsOneAmong, IsPolled, KeepsTurns, NumbersOnce, OwnStepAt, answers_of}
@@ -44,7 +44,7 @@ use Rattle.bac_site_laws.proofs.Standing.{each_all}
 -- the rows of turns of a log with a place; of one without nothing is kept
 abbrev pub rows_at : Option PlaceAs → PollState → List Step → List PutAs
 rows_at None q steps = []
-rows_at (Some place) q steps = rows_by place.log place.epoch q steps
+rows_at (Some place) q steps = rows_by place.log place.epoch place.full q steps
 
 -- of these answers none is lacking among those
 abbrev pub IsWithin : List (List ℕ) → List (List ℕ) → Type 0
@@ -376,37 +376,40 @@ rows_of_steps (Some place) q (step ∷ steps) rows are (None, now, more, same, p
 rows_of_steps (Some place) q (step ∷ steps) rows are (Some behind, now, more, same, placed, rest) =
     let t : Turned = after_step q step in
     let b = rows_of_steps (Some behind) t.poll steps more (asked_rest q step steps are) rest in
-    let X : ℕ → Type 0 = λ n. more ≡ rows_by n behind.epoch t.poll b.0 in
-    let Y : ℕ → Type 0 = λ n. more ≡ rows_by place.log n t.poll b.0 in
-    let epoch : behind.epoch ≡ (put_of place.log place.epoch t).epoch = ap (λ (x : PlaceAs). x.epoch) placed.1 in (
+    let s : Puts = put_of place.log place.epoch place.full t in
+    let X : ℕ → Type 0 = λ n. more ≡ rows_by n behind.epoch behind.full t.poll b.0 in
+    let Y : ℕ → Type 0 = λ n. more ≡ rows_by place.log n behind.full t.poll b.0 in
+    let Z : Bool → Type 0 = λ f. more ≡ rows_by place.log s.epoch f t.poll b.0 in
+    let epoch : behind.epoch ≡ s.epoch = ap (λ (x : PlaceAs). x.epoch) placed.1 in
+    let full : behind.full ≡ s.full = ap (λ (x : PlaceAs). x.full) placed.1 in (
       step ∷ b.0,
       asked_other q step steps b.0 are (none_front b.0 steps b.3) b.1,
-      same ∙ ap (λ (l : List PutAs). l ++ more) placed.0 ∙ ap (λ (l : List PutAs). (put_of place.log place.epoch t).puts ++ l) (subst Y epoch (subst X placed.2 b.2)),
+      same ∙ ap (λ (l : List PutAs). l ++ more) placed.0 ∙ ap (λ (l : List PutAs). s.puts ++ l) (subst Z full (subst Y epoch (subst X placed.2 b.2))),
       (refl, b.3),
     )
 
 pub numbers_once : EachShownOnce → NumbersOnce
-numbers_once law = λ log place left q p new own at stands chain.
+numbers_once law = λ log place next left q p new own at there stands chain.
     let (steps, had) = had_turns log own p new (Some place) left q at chain in
     let b = rows_of_steps (Some place) q steps (kept_of own) had.asked had.rows_are in
-    let rows = rows_on IsNumbered Whichever numbered law tt place.log place.epoch q b.0 stands (any_steps q b.0 b.1) in
-    let X : List PutAs → Type 0 = λ l. GoOn IsNumbered Whichever place.log (record { epoch = place.epoch; next = q.next }) l rows.0 in
+    let rows = rows_on IsNumbered Whichever numbered law tt place.log place.epoch next place.full q b.0 there stands (any_steps q b.0 b.1) in
+    let X : List PutAs → Type 0 = λ l. GoOn IsNumbered Whichever place.log (record { epoch = place.epoch; next = next }) l rows.0 in
     (rows.0, subst X (sym b.2) rows.1)
 
 pub rows_are_told : EachShownOnce → RowsAreTold
-rows_are_told law = λ log place left q p new own at chain.
+rows_are_told law = λ log place next left q p new own at there chain.
     let (steps, had) = had_turns log own p new (Some place) left q at chain in
     let b = rows_of_steps (Some place) q steps (kept_of own) had.asked had.rows_are in
-    let start : Stand = record { epoch = place.epoch; next = q.next } in (
+    let start : Stand = record { epoch = place.epoch; next = next } in (
       steps,
       had,
       λ shown fronts numbers one stands are.
-          let rows = rows_on (IsAmong shown) (IsOneOf fronts) (each_all IsNumbered shown numbers) law one place.log place.epoch q b.0 stands
+          let rows = rows_on (IsAmong shown) (IsOneOf fronts) (each_all IsNumbered shown numbers) law one place.log place.epoch next place.full q b.0 there stands
           (front_steps (IsAmong shown) (IsOneOf fronts) q b.0 steps b.3 are) in
           let X : List PutAs → Type 0 = λ l. GoOn (IsAmong shown) (IsOneOf fronts) place.log start l rows.0 in
           (rows.0, subst X (sym b.2) rows.1),
       λ H moments stands are.
-          let rows = rows_on (IsLogged H) (WasGoneBefore moments) (logged_number H) law (one_gone moments) place.log place.epoch q b.0 stands
+          let rows = rows_on (IsLogged H) (WasGoneBefore moments) (logged_number H) law (one_gone moments) place.log place.epoch next place.full q b.0 there stands
           (front_steps (IsLogged H) (WasGoneBefore moments) q b.0 steps b.3 are) in
           let X : List PutAs → Type 0 = λ l. GoOn (IsLogged H) (WasGoneBefore moments) place.log start l rows.0 in
           (rows.0, subst X (sym b.2) rows.1),

@@ -31,7 +31,7 @@ use Rattle.bac_device_poller.specs.Naming.{has_word}
 use Rattle.bac_device_poller.specs.Poller.{PollerAs, Settles, rows_with}
 use Rattle.bac_device_poller.specs.Puts.{PlaceAs, PutAs, put_as}
 use Rattle.bac_device_poller.specs.Rows.{LogAs}
-use Rattle.bac_device_poller.specs.Turns.{IsPlaced, TakesOf, ended_by, keeping, telling_line, telling_turn, turning}
+use Rattle.bac_device_poller.specs.Turns.{IsPlaced, TakesOf, ended_by, keeping, next_behind, telling_line, telling_turn, turning}
 use Rattle.std.proofs.Common.{nat_le}
 use Rattle.bac_link.specs.Transactions.{closed}
 use Rattle.bac_link.specs.declared.request.Request.{Request}
@@ -85,10 +85,11 @@ module _ (log : Id) where
       (rows_in r.puts ≡ puts) × IsOnRecord log behind r.logs
   turn_taken old row behind puts m t empty is once all =
       let a : RowsAs = keeping (without log old) behind puts t in
-      let b : RowsAs = telling_turn a row.called behind m t in
+      let next : ℕ = next_behind behind row.next t.poll.next in
+      let b : RowsAs = telling_turn a row.called behind m next t in
       let line = line_beside a row.called t.line in
-      let end = end_beside (telling_line a row.called t.line) row.called behind (ended_by t.end m) t.poll.next in
-      let l : LogAs = record row { place = behind } in
+      let end = end_beside (telling_line a row.called t.line) row.called behind (ended_by t.end m) next in
+      let l : LogAs = record row { place = behind; next = next } in
       let w = word_beside (has_word t.poll.word l) b l t.poll.word in
       let puts_is : b.puts ≡ a.puts = end.0 ∙ line.0 in
       let logs_is : b.logs ≡ a.logs = end.1 ∙ line.1 in (

@@ -1,6 +1,6 @@
 -- The rows of a log's poll go on, one turn after the other.
 use Rattle.std.proofs.Common.{◌≡◌, ◌≤◌, ℕ, ◌==◌, ◌&&◌, nat_le, Bool, true, false, if◌then◌else◌, Option, None, Some}
-use Rattle.std.proofs.Common.{List, [], ◌∷◌, length, refl, sym, subst, arith}
+use Rattle.std.proofs.Common.{List, [], ◌∷◌, length, refl, subst, arith}
 use Rattle.std.proofs.lemmas.Bool.{leb-true}
 use Rattle.bac_log.specs.declared.entry.Entry.{Entry}
 use Rattle.bac_link.specs.Heard.{AckParameters, heard_in}
@@ -18,7 +18,8 @@ use Rattle.bac_poll_steps.specs.declared.stage.Stage.TheVariants.{Joins, Prior, 
 use Rattle.bac_poll_steps.specs.declared.stage.Stage.TheVariants.{Counts, UpTo, Back, Revision, Restart}
 use Rattle.bac_poll_laws.specs.Laws.{Clears, Counted, EachShownOnce, HoldsOfEach, IsAimed, IsAt, IsClearAt}
 use Rattle.bac_poll_laws.specs.Laws.{IsRun, IsStanding, Replied, Restarted, Revised, ShowsOnly, Whichever}
-use Rattle.bac_site_laws.specs.Rows.{GoOn, IsNumbered, Stand}
+use Rattle.bac_device_poller.specs.Puts.{Puts}
+use Rattle.bac_site_laws.specs.Rows.{GoOn, IsNumbered, Stand, number_at}
 use Rattle.bac_site_laws.specs.Steps.{AreAsked, AreSteps, Ended, Fewer, IsAskedBy, IsStep, Step, Took, after_step}
 use Rattle.bac_site_laws.specs.Steps.{put_of, rows_by}
 use Rattle.bac_site_laws.proofs.Front.{Fine, HasFirst, IsOne}
@@ -80,27 +81,28 @@ module _ (P : Numbered → Type 0) (F : ℕ → Type 0) (number : (h : Numbered)
 
   -- one turn, and the others behind it
   module _ (law : EachShownOnce) (one : F 1) (log : ℕ) where
-    turn_rows : (epoch : ℕ) (p : PollState) (step : Step) → IsStanding P F p → IsStep P F p step →
-        let t : Turned = after_step p step in
-        (u : Stand) × GoOn P F log (record { epoch = epoch; next = p.next }) (put_of log epoch t).puts u
-        × ((put_of log epoch t).epoch ≡ u.epoch) × (u.next ≡ t.poll.next)
-    turn_rows epoch p step stands is =
-        turn_on P F log (record { epoch = epoch; next = p.next }) number epoch p.next (after_step p step) refl (step_fine p step stands is)
+    turn_rows : (epoch next : ℕ) (full : Bool) (p : PollState) (step : Step) → number_at full next ≡ p.next → IsStanding P F p → IsStep P F p step →
+        let s : Puts = put_of log epoch full (after_step p step) in
+        (u : Stand) × GoOn P F log (record { epoch = epoch; next = next }) s.puts u
+        × (s.epoch ≡ u.epoch) × (number_at s.full u.next ≡ (after_step p step).poll.next)
+    turn_rows epoch next full p step there stands is =
+        turn_on P F log (record { epoch = epoch; next = next }) number epoch full p.next (after_step p step) refl there (step_fine p step stands is)
         (one_step P F law one p step stands is).0
 
-    pub rows_on : (epoch : ℕ) (p : PollState) (steps : List Step) → IsStanding P F p → AreSteps P F p steps →
-        (t : Stand) × GoOn P F log (record { epoch = epoch; next = p.next }) (rows_by log epoch p steps) t
-    rows_on epoch p [] stands are = (record { epoch = epoch; next = p.next }, refl)
-    rows_on epoch p (step ∷ []) stands are =
-        let a = turn_rows epoch p step stands are in
-        (a.0, go_both P F log (record { epoch = epoch; next = p.next }) (put_of log epoch (after_step p step)).puts a.0 [] a.0 a.1 refl)
-    rows_on epoch p (step ∷ next ∷ steps) stands are =
-        let a = turn_rows epoch p step stands are.0 in
+    pub rows_on : (epoch next : ℕ) (full : Bool) (p : PollState) (steps : List Step) → number_at full next ≡ p.next → IsStanding P F p → AreSteps P F p steps →
+        (t : Stand) × GoOn P F log (record { epoch = epoch; next = next }) (rows_by log epoch full p steps) t
+    rows_on epoch next full p [] there stands are = (record { epoch = epoch; next = next }, refl)
+    rows_on epoch next full p (step ∷ []) there stands are =
+        let a = turn_rows epoch next full p step there stands are in
+        (a.0, go_both P F log (record { epoch = epoch; next = next }) (put_of log epoch full (after_step p step)).puts a.0 [] a.0 a.1 refl)
+    rows_on epoch next full p (step ∷ second ∷ steps) there stands are =
+        let a = turn_rows epoch next full p step there stands are.0 in
         let t : Turned = after_step p step in
-        let b = rows_on (put_of log epoch t).epoch t.poll (next ∷ steps) ((one_step P F law one p step stands are.0).1 are.1) are.2 in
-        let X : ℕ → Type 0 = λ e. GoOn P F log (record { epoch = e; next = t.poll.next }) (rows_by log (put_of log epoch t).epoch t.poll (next ∷ steps)) b.0 in
-        let Y : ℕ → Type 0 = λ n. GoOn P F log (record { epoch = (a.0).epoch; next = n }) (rows_by log (put_of log epoch t).epoch t.poll (next ∷ steps)) b.0 in
-        (b.0, go_both P F log (record { epoch = epoch; next = p.next }) (put_of log epoch t).puts a.0 _ b.0 a.1 (subst Y (sym a.3) (subst X a.2 b.1)))
+        let s : Puts = put_of log epoch full t in
+        let u : Stand = a.0 in
+        let b = rows_on s.epoch u.next s.full t.poll (second ∷ steps) a.3 ((one_step P F law one p step stands are.0).1 are.1) are.2 in
+        let X : ℕ → Type 0 = λ e. GoOn P F log (record { epoch = e; next = u.next }) (rows_by log s.epoch s.full t.poll (second ∷ steps)) b.0 in
+        (b.0, go_both P F log (record { epoch = epoch; next = next }) s.puts u _ b.0 a.1 (subst X a.2 b.1))
 
 -- ---- whatever is answered
 

@@ -1,7 +1,7 @@
 -- The rows of a turn go on from where its log stands.
-use Rattle.std.proofs.Common.{◌≡◌, ◌∙◌, append-nil, ◌≤◌, ◌⊎◌, inl, inr, ℕ, ◌+◌, ◌-◌, ◌*◌, ◌==◌, nat_le, pos, Bool, true, false}
-use Rattle.std.proofs.Common.{if◌then◌else◌, List, [], ◌∷◌, ◌++◌, map, Option, None, Some, refl, sym, ap, subst, arith}
-use Rattle.std.proofs.lemmas.Bool.{eqb-true, eqb-false, leb-false, leb-true}
+use Rattle.std.proofs.Common.{◌≡◌, ◌∙◌, append-nil, ◌<◌, ◌≤◌, ◌⊎◌, inl, inr, ℕ, ◌+◌, ◌-◌, ◌*◌, ◌==◌, nat_le, pos, Bool, true, false}
+use Rattle.std.proofs.Common.{if◌then◌else◌, codes, List, [], ◌∷◌, ◌++◌, map, Option, None, Some, refl, sym, ap, subst, arith}
+use Rattle.std.proofs.lemmas.Bool.{cond-false, eqb-true, eqb-false, leb-false, leb-true, ne_eqb}
 use Rattle.sqlite_value.specs.declared.value.Value.TheVariants.{Int, Text}
 use Rattle.sqlite.specs.Values.{or_null}
 use Rattle.bac_link.specs.Ordinals.{number_after}
@@ -14,9 +14,9 @@ use Rattle.bac_poll_steps.specs.declared.turn.Beginning.{Beginning}
 use Rattle.bac_poll_steps.specs.declared.turn.Line.{Line}
 use Rattle.bac_poll_laws.specs.Laws.{Covers, EndAt, IsWhole, start_of}
 use Rattle.bac_device_poller.specs.Puts.{PutAs, Puts, era_of, gap_columns, record_columns, why_anew, why_first}
-use Rattle.bac_device_poller.specs.Puts.{with_anew, with_epoch, with_first, with_gap, with_gap_row, with_gaps, with_put}
+use Rattle.bac_device_poller.specs.Puts.{with_anew, with_epoch, with_first, with_gap, with_gap_in, with_gap_row, with_gaps, with_put}
 use Rattle.bac_device_poller.specs.Puts.{with_record, with_records, with_rest, with_round, with_turn}
-use Rattle.bac_site_laws.specs.Rows.{Begins, GoOn, IsSaid, Missing, Recorded, Renewed, Says, Stand, behind, era, row_of}
+use Rattle.bac_site_laws.specs.Rows.{Begins, GoOn, IsSaid, Missing, Recorded, Renewed, Says, Stand, behind, era, number_at, row_of}
 use Rattle.bac_site_laws.proofs.Front.{AreGaps, Fine, IsNumber}
 
 module _ (P : Numbered → Type 0) (F : ℕ → Type 0) (log : ℕ) where
@@ -47,21 +47,13 @@ module _ (P : Numbered → Type 0) (F : ℕ → Type 0) (log : ℕ) where
     era_is : (s : Puts) (t : Stand) → UpTo s t → era_of s ≡ era log t.epoch
     era_is s t up = ap (λ (n : ℕ). n * 32768 + s.epoch) up.logged ∙ ap (λ (n : ℕ). log * 32768 + n) up.epoch
 
-    put_on : (s : Puts) (t : Stand) (says : Says) (put : PutAs) → UpTo s t → IsSaid P F t says → put ≡ row_of log t says →
-        (behind t says).epoch ≡ t.epoch → UpTo (with_put s put) (behind t says)
-    put_on s t says put up said is same = record {
+    put_on : (s : Puts) (t : Stand) (says : Says) (put : PutAs) (full : Bool) → UpTo s t → IsSaid P F t says → put ≡ row_of log t says →
+        (behind t says).epoch ≡ t.epoch → UpTo (record (with_put s put) { full = full }) (behind t says)
+    put_on s t says put full up said is same = record {
       on = go_more start s.puts t says put up.on said is;
       logged = up.logged;
       epoch = up.epoch ∙ sym same;
     }
-
-    -- ---- a gap
-
-    row_on : (doubtful : Bool) (s : Puts) (t : Stand) (last : ℕ) → UpTo s t → IsSaid P F t (Missing last doubtful) →
-        UpTo (with_gap_row doubtful s t.next last) (record t { next = last + 1 })
-    row_on doubtful s t last up said =
-        put_on s t (Missing last doubtful) (record { tree = 5; is_new = true; columns = gap_columns (era_of s) t.next last doubtful }) up said
-        (ap (λ (e : ℕ). let put : PutAs = record { tree = 5; is_new = true; columns = gap_columns e t.next last doubtful } in put) (era_is s t up)) refl
 
     epoch_on : (s : Puts) (t : Stand) (why : List ℕ) → UpTo s t → UpTo (with_epoch s why) (record { epoch = t.epoch + 1; next = 1 })
     epoch_on s t why up = record {
@@ -74,42 +66,73 @@ module _ (P : Numbered → Type 0) (F : ℕ → Type 0) (log : ℕ) where
 
     -- what is put leads to a number
     Leads : Puts → ℕ → Type 0
-    Leads s n = (t : Stand) × UpTo s t × (t.next ≡ n)
+    Leads s n = (t : Stand) × UpTo s t × (number_at s.full t.next ≡ n)
+
+    -- an item comes at it
+    round_on : (s : Puts) (t : Stand) (n : ℕ) → UpTo s t → number_at s.full t.next ≡ n → (u : Stand) × UpTo (with_round s) u × (u.next ≡ n)
+    round_on s t n up from = by s.full from
+      where
+        by : (full : Bool) → number_at full t.next ≡ n → (u : Stand) × UpTo (if full then with_epoch s (codes "numbers came round") else s) u × (u.next ≡ n)
+        by true is = (record { epoch = t.epoch + 1; next = 1 }, epoch_on s t (codes "numbers came round") up, is)
+        by false is = (t, up, is)
+
+    round_begun : (s : Puts) → (with_round s).full ≡ false
+    round_begun s = by s.full refl
+      where
+        by : (full : Bool) → s.full ≡ full → (if full then with_epoch s (codes "numbers came round") else s).full ≡ false
+        by true is = refl
+        by false is = is
+
+    -- ---- a gap
+
+    row_on : (doubtful : Bool) (s : Puts) (t : Stand) (first last : ℕ) → number_at s.full t.next ≡ first → last ≤ 4294967295 →
+        (first ≤ last) ⊎ (last ≡ 4294967295) → (doubtful ≡ false → F (last + 1) ⊎ (last ≡ 4294967295)) → UpTo s t →
+        (u : Stand) × UpTo (with_gap_row doubtful s first last) u × (u.next ≡ last + 1)
+    row_on doubtful s t first last from few lies ends up =
+        let r = round_on s t first up from in
+        let x : Stand = r.0 in
+        let L : ℕ → Type 0 = λ n. (n ≤ last) ⊎ (last ≡ 4294967295) in
+        let X : ℕ → Type 0 = λ n. UpTo (with_gap_in doubtful (with_round s) n last) (record x { next = last + 1 }) in (
+          record x { next = last + 1 },
+          subst X r.2
+              (put_on (with_round s) x (Missing last doubtful) (record { tree = 5; is_new = true; columns = gap_columns (era_of (with_round s)) x.next last doubtful }) (last == 4294967295) r.1
+              (few, subst L (sym r.2) lies, ends)
+              (ap (λ (e : ℕ). let put : PutAs = record { tree = 5; is_new = true; columns = gap_columns e x.next last doubtful } in put) (era_is (with_round s) x r.1)) refl),
+          refl,
+        )
+
+    -- up to a number
+    part_on : (doubtful : Bool) (s : Puts) (t : Stand) (first before : ℕ) → number_at s.full t.next ≡ first → IsNumber before → first < before →
+        (doubtful ≡ false → F before) → UpTo s t → Leads (with_gap_row doubtful s first (before - 1)) before
+    unfolding Leads
+    part_on doubtful s t first before from some above ends up =
+        let back : before - 1 + 1 ≡ before = omega (arith, some.0) in
+        let r = row_on doubtful s t first (before - 1) from (omega (arith, some.1)) (inl (omega (arith, above))) (λ sure. inl (subst F (sym back) (ends sure))) up in
+        let u : Stand = r.0 in
+        (u, r.1, cond-false (before - 1 == 4294967295) 1 u.next (ne_eqb (before - 1) 4294967295 (λ e. omega (arith, some.0, some.1, e))) ∙ (r.2 ∙ back))
 
     rest_on : (b : Bool) (doubtful : Bool) (s : Puts) (t : Stand) (before : ℕ) → nat_le before 1 ≡ b → IsNumber before → (doubtful ≡ false → F before) →
-        t.next ≡ 1 → UpTo s t → Leads (if b then s else with_gap_row doubtful s 1 (before - 1)) before
+        number_at s.full t.next ≡ 1 → UpTo s t → Leads (if b then s else with_gap_row doubtful s 1 (before - 1)) before
     unfolding Leads
     rest_on true doubtful s t before is some ends one up =
         let below = leb-true before 1 is in (t, up, one ∙ omega (arith, some.0, below))
     rest_on false doubtful s t before is some ends one up =
         let above = leb-false before 1 is in
-        let back : before - 1 + 1 ≡ before = omega (arith, some.0) in
-        let X : ℕ → Type 0 = λ n. UpTo (with_gap_row doubtful s n (before - 1)) (record t { next = before - 1 + 1 }) in (
-          record t { next = before - 1 + 1 },
-          subst X one (row_on doubtful s t (before - 1) up (omega (arith, some.1), inl (omega (arith, above, one)), λ sure. inl (subst F (sym back) (ends sure)))),
-          back,
-        )
+        part_on doubtful s t 1 before one some (omega (arith, above)) ends up
 
     gap_by : (b : Bool) (doubtful : Bool) (s : Puts) (t : Stand) (first before : ℕ) → nat_le before first ≡ b → IsNumber before → (doubtful ≡ false → F before) →
-        t.next ≡ first → UpTo s t →
-        Leads (if b then with_rest doubtful (with_round (with_gap_row doubtful s first 4294967295)) before else with_gap_row doubtful s first (before - 1)) before
+        number_at s.full t.next ≡ first → UpTo s t →
+        Leads (if b then with_rest doubtful (with_gap_row doubtful s first 4294967295) before else with_gap_row doubtful s first (before - 1)) before
     unfolding Leads
     gap_by true doubtful s t first before is some ends from up =
-        let X : ℕ → Type 0 = λ n. UpTo (with_gap_row doubtful s n 4294967295) (record t { next = 4294967295 + 1 }) in
-        let gap = subst X from (row_on doubtful s t 4294967295 up (omega arith, inr refl, λ sure. inr refl)) in
-        rest_on (nat_le before 1) doubtful _ (record { epoch = t.epoch + 1; next = 1 }) before refl some ends refl
-        (epoch_on (with_gap_row doubtful s first 4294967295) (record t { next = 4294967295 + 1 }) _ gap)
+        let r = row_on doubtful s t first 4294967295 from (omega arith) (inr refl) (λ sure. inr refl) up in
+        rest_on (nat_le before 1) doubtful (with_gap_row doubtful s first 4294967295) r.0 before refl some ends refl r.1
     gap_by false doubtful s t first before is some ends from up =
         let above = leb-false before first is in
-        let back : before - 1 + 1 ≡ before = omega (arith, some.0) in
-        let X : ℕ → Type 0 = λ n. UpTo (with_gap_row doubtful s n (before - 1)) (record t { next = before - 1 + 1 }) in (
-          record t { next = before - 1 + 1 },
-          subst X from (row_on doubtful s t (before - 1) up (omega (arith, some.1), inl (omega (arith, above, from)), λ sure. inl (subst F (sym back) (ends sure)))),
-          back,
-        )
+        part_on doubtful s t first before from some (omega (arith, above)) ends up
 
     gaps_on : (doubtful : Bool) (s : Puts) (t : Stand) (a : ℕ) (xs : List Item) (rest : List Item) (b : ℕ) → AreGaps xs → (doubtful ≡ false → EndAt F xs) →
-        Covers P a (xs ++ rest) b → t.next ≡ a → UpTo s t → (mid : ℕ) × Leads (with_gaps doubtful s xs) mid × Covers P mid rest b
+        Covers P a (xs ++ rest) b → number_at s.full t.next ≡ a → UpTo s t → (mid : ℕ) × Leads (with_gaps doubtful s xs) mid × Covers P mid rest b
     unfolding Leads
     gaps_on doubtful s t a [] rest b are ends covers from up = (a, (t, up, from), covers)
     gaps_on doubtful s t a (Gap gone before ∷ xs) rest b are ends covers from up =
@@ -119,59 +142,66 @@ module _ (P : Numbered → Type 0) (F : ℕ → Type 0) (log : ℕ) where
 
     -- ---- records
 
-    record_by : (b : Bool) (s : Puts) (t : Stand) (h : Numbered) → (h.number == 4294967295) ≡ b → P h → t.next ≡ h.number → UpTo s t →
-        Leads (if b then with_round (with_put s (record { tree = 5; is_new = true; columns = record_columns (era_of s) h }))
-        else with_put s (record { tree = 5; is_new = true; columns = record_columns (era_of s) h })) (number_after h.number 1)
+    record_on : (s : Puts) (t : Stand) (h : Numbered) → P h → number_at s.full t.next ≡ h.number → UpTo s t → Leads (with_record s h) (number_after h.number 1)
     unfolding Leads
-    record_by b s t h is holds from up = by b is
+    record_on s t h holds from up = (record x { next = x.next + 1 }, row, by (h.number == 4294967295) refl)
       where
         few : (1 ≤ h.number) × (h.number ≤ 4294967295)
         few = number h holds
 
-        row : UpTo (with_put s (record { tree = 5; is_new = true; columns = record_columns (era_of s) h })) (record t { next = t.next + 1 })
+        r : (u : Stand) × UpTo (with_round s) u × (u.next ≡ h.number)
+        r = round_on s t h.number up from
+
+        x : Stand
+        x = r.0
+
+        is : x.next ≡ h.number
+        is = r.2
+
+        row : UpTo (with_record s h) (record x { next = x.next + 1 })
         row =
-            put_on s t (Recorded h) _ up (holds, sym from, omega (arith, from, few.1))
-            (ap (λ (e : ℕ). let put : PutAs = record { tree = 5; is_new = true; columns = record_columns e h } in put) (era_is s t up)) refl
+            put_on (with_round s) x (Recorded h) _ (h.number == 4294967295) r.1 (holds, sym is, omega (arith, is, few.1))
+            (ap (λ (e : ℕ). let put : PutAs = record { tree = 5; is_new = true; columns = record_columns e h } in put) (era_is (with_round s) x r.1)) refl
 
-        by : (b : Bool) → (h.number == 4294967295) ≡ b →
-            Leads (if b then with_round (with_put s (record { tree = 5; is_new = true; columns = record_columns (era_of s) h }))
-            else with_put s (record { tree = 5; is_new = true; columns = record_columns (era_of s) h })) (number_after h.number 1)
-        by true is =
-            let last : h.number ≡ 4294967295 = eqb-true h.number 4294967295 is in
-            (record { epoch = t.epoch + 1; next = 1 }, epoch_on _ (record t { next = t.next + 1 }) _ row, omega (arith, last))
-        by false is =
-            let other = eqb-false h.number 4294967295 is in
-            (record t { next = t.next + 1 }, row, omega (arith, from, few.0, few.1, other))
+        by : (b : Bool) → (h.number == 4294967295) ≡ b → number_at b (x.next + 1) ≡ number_after h.number 1
+        by true last =
+            let same : h.number ≡ 4294967295 = eqb-true h.number 4294967295 last in omega (arith, same)
+        by false last =
+            let other = eqb-false h.number 4294967295 last in omega (arith, is, few.0, few.1, other)
 
-    records_on : (s : Puts) (t : Stand) (a : ℕ) (rs : List Numbered) (b : ℕ) → Covers P a (map item_of rs) b → t.next ≡ a → UpTo s t →
+    records_on : (s : Puts) (t : Stand) (a : ℕ) (rs : List Numbered) (b : ℕ) → Covers P a (map item_of rs) b → number_at s.full t.next ≡ a → UpTo s t →
         Leads (with_records s rs) b
     unfolding Leads
     records_on s t a [] b covers from up = (t, up, from ∙ sym covers)
     records_on s t a (h ∷ rs) b covers from up =
-        let one = record_by (h.number == 4294967295) s t h refl covers.1 (from ∙ sym covers.0) up in
+        let one = record_on s t h covers.1 (from ∙ sym covers.0) up in
         records_on (with_record s h) one.0 (number_after h.number 1) rs b covers.2 one.2 one.1
 
     -- ---- a turn
 
-    first_on : (s : Puts) (t : Stand) (n : ℕ) (o : Option Beginning) → (o ≡ None) ⊎ (n ≡ 1) → t.next ≡ n → UpTo s t → Leads (with_first s o) (start_of o n)
+    first_on : (s : Puts) (t : Stand) (n : ℕ) (o : Option Beginning) → (o ≡ None) ⊎ (n ≡ 1) → number_at s.full t.next ≡ n → UpTo s t → Leads (with_first s o) (start_of o n)
     unfolding Leads
     first_on s t n None may from up = (t, up, from)
     first_on s t n (Some begins) (inl none) from up = absurd (cc)
-    first_on s t n (Some begins) (inr one) from up = by begins.counted refl
+    first_on s t n (Some begins) (inr one) from up =
+        (behind x (Begins begins.counted begins.number), both, ap (λ (f : Bool). number_at f (behind x (Begins begins.counted begins.number)).next) (round_begun s) ∙ next begins.counted)
       where
-        both : UpTo (with_first s (Some begins)) (behind t (Begins begins.counted begins.number))
+        r : (u : Stand) × UpTo (with_round s) u × (u.next ≡ n)
+        r = round_on s t n up from
+
+        x : Stand
+        x = r.0
+
+        both : UpTo (with_first s (Some begins)) (behind x (Begins begins.counted begins.number))
         both =
-            put_on s t (Begins begins.counted begins.number) _ up (from ∙ one)
-            (ap (λ (e : ℕ). let put : PutAs = record { tree = 6; is_new = begins.counted; columns = Int (pos e) ∷ Int (pos begins.number) ∷ or_null Text (why_first begins.counted) ∷ [] } in put) (era_is s t up)) refl
+            put_on (with_round s) x (Begins begins.counted begins.number) _ (with_round s).full r.1 (r.2 ∙ one)
+            (ap (λ (e : ℕ). let put : PutAs = record { tree = 6; is_new = begins.counted; columns = Int (pos e) ∷ Int (pos begins.number) ∷ or_null Text (why_first begins.counted) ∷ [] } in put) (era_is (with_round s) x r.1)) refl
 
-        by : (c : Bool) → c ≡ begins.counted → Leads (with_first s (Some begins)) (if begins.counted then n else begins.number)
-        by c is = (behind t (Begins begins.counted begins.number), both, next begins.counted)
-          where
-            next : (c : Bool) → (if c then t.next else begins.number) ≡ (if c then n else begins.number)
-            next true = from
-            next false = refl
+        next : (c : Bool) → (if c then x.next else begins.number) ≡ (if c then n else begins.number)
+        next true = r.2
+        next false = refl
 
-    anew_on : (b : Bool) (s : Puts) (t : Stand) (line : Option Line) (mid : ℕ) → t.next ≡ mid → UpTo s t →
+    anew_on : (b : Bool) (s : Puts) (t : Stand) (line : Option Line) (mid : ℕ) → number_at s.full t.next ≡ mid → UpTo s t →
         Leads (with_anew s b line) (if b then 1 else mid)
     unfolding Leads
     anew_on true s t line mid from up = (record { epoch = t.epoch + 1; next = 1 }, epoch_on s t (why_anew line) up, refl)
@@ -181,14 +211,14 @@ module _ (P : Numbered → Type 0) (F : ℕ → Type 0) (log : ℕ) where
     gap_ends t whole fine true is = subst (EndAt F) (sym (fine.alone is)) tt
     gap_ends t whole fine false is = (whole.fronts is).1
 
-    pub turn_on : (epoch : ℕ) (n : ℕ) (t : Turned) → start ≡ record { epoch = epoch; next = n } → Fine n t → IsWhole P F n t →
-        (u : Stand) × GoOn P F log start (with_turn (record { log = log; epoch = epoch; puts = [] }) t).puts u
-        × ((with_turn (record { log = log; epoch = epoch; puts = [] }) t).epoch ≡ u.epoch) × (u.next ≡ t.poll.next)
+    pub turn_on : (epoch : ℕ) (full : Bool) (n : ℕ) (t : Turned) → epoch ≡ start.epoch → number_at full start.next ≡ n → Fine n t → IsWhole P F n t →
+        let s : Puts = with_turn (record { log = log; epoch = epoch; full = full; puts = [] }) t in
+        (u : Stand) × GoOn P F log start s.puts u × (s.epoch ≡ u.epoch) × (number_at s.full u.next ≡ t.poll.next)
     unfolding Leads
-    turn_on epoch n t is fine whole =
-        let s : Puts = record { log = log; epoch = epoch; puts = [] } in
-        let none : UpTo s start = record { on = refl; logged = refl; epoch = sym (ap (λ (x : Stand). x.epoch) is) } in
-        let a = first_on s start n t.begins fine.begins (ap (λ (x : Stand). x.next) is) none in
+    turn_on epoch full n t there is fine whole =
+        let s : Puts = record { log = log; epoch = epoch; full = full; puts = [] } in
+        let none : UpTo s start = record { on = refl; logged = refl; epoch = there } in
+        let a = first_on s start n t.begins fine.begins is none in
         let C : List Item → Type 0 = λ l. Covers P (start_of t.begins n) l whole.mid in
         let b = gaps_on t.doubtful (with_first s t.begins) a.0 (start_of t.begins n) t.missing [] whole.mid fine.missing (λ sure. (whole.fronts sure).0)
         (subst C (sym (append-nil t.missing)) whole.before) a.2 a.1 in

@@ -27,7 +27,7 @@ use Rattle.bac_device_poller.specs.declared.doing.Doing.{Doing}
 use Rattle.bac_device_poller.specs.declared.doing.Doing.TheVariants as doing
 use Rattle.bac_site_poller.specs.SiteLaws.{Answered, Missed, Own, OwnStep, Wanted}
 use Rattle.bac_site_laws.specs.Laws.{WasGoneBefore}
-use Rattle.bac_site_laws.specs.Rows.{GoOn, IsNumbered, Stand}
+use Rattle.bac_site_laws.specs.Rows.{GoOn, IsNumbered, Stand, number_at}
 use Rattle.bac_site_laws.specs.Steps.{AreAsked, AreSteps, Ended, Fewer, Step, after_step}
 
 -- ---- what is kept
@@ -178,9 +178,10 @@ KeepsTurns =
 -- So its rows go on, from where it stands: each number comes once.
 abbrev pub NumbersOnce : Type 0
 NumbersOnce =
-    (log : Id) (place : PlaceAs) (left : Option ℕ) (q : PollState) (p new : PollerAs) (own : List Own) →
-    IsAtLog log (Some place) left q p → IsStanding IsNumbered Whichever q → Chain (OwnStepAt log) p own new →
-    (t : Stand) × GoOn IsNumbered Whichever place.log (record { epoch = place.epoch; next = q.next }) (kept_of own) t
+    (log : Id) (place : PlaceAs) (next : ℕ) (left : Option ℕ) (q : PollState) (p new : PollerAs) (own : List Own) →
+    IsAtLog log (Some place) left q p → number_at place.full next ≡ q.next → IsStanding IsNumbered Whichever q →
+    Chain (OwnStepAt log) p own new →
+    (t : Stand) × GoOn IsNumbered Whichever place.log (record { epoch = place.epoch; next = next }) (kept_of own) t
 
 -- And what they say is what its device said. If its answers show none but these records, and say of no other numbers
 -- than these that nothing stands before them, each record that is kept is one of those, and each gap ends at one of
@@ -189,16 +190,16 @@ NumbersOnce =
 -- and what a gap covers that isn't doubtful was gone at one of these.
 abbrev pub RowsAreTold : Type 0
 RowsAreTold =
-    (log : Id) (place : PlaceAs) (left : Option ℕ) (q : PollState) (p new : PollerAs) (own : List Own) →
-    IsAtLog log (Some place) left q p → Chain (OwnStepAt log) p own new →
+    (log : Id) (place : PlaceAs) (next : ℕ) (left : Option ℕ) (q : PollState) (p new : PollerAs) (own : List Own) →
+    IsAtLog log (Some place) left q p → number_at place.full next ≡ q.next → Chain (OwnStepAt log) p own new →
     (steps : List Step)
     × HadTurns left log (Some place) q (heard_of p.doing ++ answers_of own) (kept_of own) new steps
     × ((shown : List Numbered) (fronts : List ℕ) → HoldsOfEach IsNumbered shown → IsOneOf fronts 1 →
     IsStanding (IsAmong shown) (IsOneOf fronts) q → AreSteps (IsAmong shown) (IsOneOf fronts) q steps →
     (t : Stand)
-    × GoOn (IsAmong shown) (IsOneOf fronts) place.log (record { epoch = place.epoch; next = q.next }) (kept_of own) t)
+    × GoOn (IsAmong shown) (IsOneOf fronts) place.log (record { epoch = place.epoch; next = next }) (kept_of own) t)
     × ((H : History) (moments : List Moment) →
     IsStanding (IsLogged H) (WasGoneBefore moments) q → AreSteps (IsLogged H) (WasGoneBefore moments) q steps →
     (t : Stand)
-    × GoOn (IsLogged H) (WasGoneBefore moments) place.log (record { epoch = place.epoch; next = q.next })
+    × GoOn (IsLogged H) (WasGoneBefore moments) place.log (record { epoch = place.epoch; next = next })
     (kept_of own) t)

@@ -11,6 +11,10 @@ pub record Stand : Type 0 where
   pub epoch : ℕ
   pub next : ℕ
 
+-- the sequence number that comes next there: 1 of the next epoch, where the last number of the epoch is put
+abbrev pub number_at : (full : Bool) → (next : ℕ) → ℕ
+number_at full next = if full then 1 else next
+
 -- what a row of a log says: a record; that records are missing, up to a number; that the next epoch begins; or where
 -- the first one begins, and whether that is known by the count alone
 pub data Says : Type 0 where

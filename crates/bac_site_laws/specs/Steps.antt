@@ -1,5 +1,5 @@
 -- The poll of a log, one turn after the other, and the rows that it puts.
-use Rattle.std.specs.Prelude.{◌≡◌, ℕ, List, [], ◌∷◌, ◌++◌, None}
+use Rattle.std.specs.Prelude.{◌≡◌, ℕ, Bool, List, [], ◌∷◌, ◌++◌, None}
 use Rattle.bac_walk.specs.declared.batch.Numbered.{Numbered}
 use Rattle.bac_poll.specs.Poll.{after_too_many, reply_in}
 use Rattle.bac_poll.specs.State.{PollState}
@@ -24,16 +24,16 @@ after_step p (Took answer) = after_answer p answer
 after_step p (Ended why) = ends p why
 after_step p Fewer = asks (after_too_many p)
 
--- what is put of a turn, by a log that stands in this epoch
-abbrev pub put_of : (log : ℕ) → (epoch : ℕ) → Turned → Puts
-put_of log epoch t = with_turn (record { log = log; epoch = epoch; puts = [] }) t
+-- what is put of a turn, by a log that stands in this epoch, or behind its last number
+abbrev pub put_of : (log : ℕ) → (epoch : ℕ) → (full : Bool) → Turned → Puts
+put_of log epoch full t = with_turn (record { log = log; epoch = epoch; full = full; puts = [] }) t
 
 -- the rows of a log that its poll puts, one turn after the other
-abbrev pub rows_by : (log : ℕ) → (epoch : ℕ) → PollState → List Step → List PutAs
-rows_by log epoch p [] = []
-rows_by log epoch p (step ∷ steps) =
-    (put_of log epoch (after_step p step)).puts
-    ++ rows_by log (put_of log epoch (after_step p step)).epoch (after_step p step).poll steps
+abbrev pub rows_by : (log : ℕ) → (epoch : ℕ) → (full : Bool) → PollState → List Step → List PutAs
+rows_by log epoch full p [] = []
+rows_by log epoch full p (step ∷ steps) =
+    let s : Puts = put_of log epoch full (after_step p step) in
+    s.puts ++ rows_by log s.epoch s.full (after_step p step).poll steps
 
 -- an answer to what was asked
 abbrev pub IsAsked : PollState → Answer → Type 0

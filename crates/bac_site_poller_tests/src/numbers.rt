@@ -4,6 +4,7 @@ use crate::rig::Rig;
 use crate::seats::{log_record, peer, poller, site, task, text};
 use bac_archive3::Put;
 use bac_device_poll::{Begin, Way};
+use bac_places::Place;
 use bac_poll::{DateTime, Kept, Standing, Told};
 use bac_site_poller::SitePoller;
 use std::alloc::{AllocError, Global};
@@ -19,6 +20,23 @@ const NEWS: &str =
 /// The record 2, with LAST_ITEM.
 const NEWEST: &str =
     "810a002c010030011a0c0500000119833a054049015e0ea47e031d07b4000000000f1e491c1f2a04005f6902";
+
+/// The records from 4294967292 on, the last of which is 4294967295, with LAST_ITEM.
+const UP_TO_LAST: &str =
+    "810a0068010030011a0c0500000119833a054049045e0ea47e031c06b4162d00000f1e49171f2a0400\
+    0ea47e031c06b4170000000f1e49181f2a04000ea47e031c06b4170f00000f1e49191f2a0400\
+    0ea47e031c06b4171e00000f1e491a1f2a04005f6cfffffffc";
+
+/// The record 4294967295, with LAST_ITEM.
+const LAST: &str =
+    "810a002f010030011a0c0500000119833a054049015e0ea47e031c06b4171e00000f1e491a1f2a0400\
+    5f6cffffffff";
+
+/// The records from 4294967293 on, the last of which is 2, with LAST_ITEM.
+const BEHIND_LAST: &str =
+    "810a007b010030011a0c0500000119833a054049055e0ea47e031c06b4170000000f1e49181f2a0400\
+    0ea47e031c06b4170f00000f1e49191f2a04000ea47e031c06b4171e00000f1e491a1f2a0400\
+    0ea47e031c06b4172d00000f1e491b1f2a04000ea47e031d07b4000000000f1e491c1f2a04005f6cfffffffd";
 
 /// The ids of the rows that are put: 4294967295 of epoch 0, the beginning of epoch 1, and 1 and 2
 /// of that.
@@ -48,6 +66,14 @@ fn kept(alloc: Global, number: u32, stamp: &str, datum: &str) -> Result<Kept, Fa
     })
 }
 
+/// The lines of one that ends with 4294967295, of one that goes on behind that, and of one that
+/// can't.
+const AT_LAST: &[u8] = b"device 1 1 record 0 gaps caught up, next 1\n";
+
+const WENT_ON: &[u8] = b"device 1 2 records 0 gaps caught up, next 3\n";
+
+const USED_UP: &[u8] = b"device 1 0 records 0 gaps began anew once too often, next 1\n";
+
 /// A log that stands behind 4294967294.
 fn standing(alloc: Global) -> Result<Standing, Fail> {
     let newest = kept(alloc, 4_294_967_294, "2026-03-28T23:15:00.00", "25")?;
@@ -64,12 +90,37 @@ fn standing(alloc: Global) -> Result<Standing, Fail> {
     })
 }
 
-/// A device with that log, which has so many replies with records, if not as many as come.
-fn site_of(alloc: Global, steps: Option<u32>) -> Result<SitePoller, Fail> {
+/// One that stands behind 4294967295.
+fn standing_at_last(alloc: Global) -> Result<Standing, Fail> {
+    let newest = kept(alloc, 4_294_967_295, "2026-03-28T23:30:00.00", "26")?;
+    let earlier = kept(alloc, 4_294_967_294, "2026-03-28T23:15:00.00", "25")?;
+    let earliest = kept(alloc, 4_294_967_293, "2026-03-28T23:00:00.00", "24")?;
+    let stamp = Some(newest.stamp);
+    Ok(Standing {
+        next: 1,
+        newest: Some(newest),
+        earlier: Some(earlier),
+        earliest: Some(earliest),
+        stamp,
+        word: Told::nothing(alloc),
+    })
+}
+
+/// A device with a log that stands there, and has so many replies with records, if not as many as
+/// come.
+fn site_at(
+    alloc: Global,
+    at: Standing,
+    place: Option<Place>,
+    steps: Option<u32>,
+) -> Result<SitePoller, Fail> {
+    let mut log = log_record(alloc, "device", 1)?;
+    log.place = place;
+    log.next = at.next;
     let mut tasks = Vec::new(alloc);
-    tasks.push(task(1, Begin::Behind(standing(alloc)?))?)?;
+    tasks.push(task(1, Begin::Behind(at))?)?;
     let mut logs = Vec::new(alloc);
-    logs.push(log_record(alloc, "device", 1)?)?;
+    logs.push(log)?;
     let way = Way {
         peer: peer(1),
         route: None,
@@ -77,6 +128,22 @@ fn site_of(alloc: Global, steps: Option<u32>) -> Result<SitePoller, Fail> {
     let mut site = site(alloc, 1, 1)?;
     site.add(poller(alloc, 1, way, "device", tasks, logs, steps)?)?;
     Ok(site)
+}
+
+/// One with a log that stands behind 4294967294.
+fn site_of(alloc: Global, steps: Option<u32>) -> Result<SitePoller, Fail> {
+    site_at(alloc, standing(alloc)?, Place::new(1, 0), steps)
+}
+
+/// One with a log that stands behind 4294967295, in this epoch.
+fn site_at_last(alloc: Global, epoch: u16) -> Result<SitePoller, Fail> {
+    let place = Place::new(1, epoch).ok_or("no epoch")?;
+    site_at(
+        alloc,
+        standing_at_last(alloc)?,
+        Some(place.filled(true)),
+        None,
+    )
 }
 
 /// The ids of items and beginnings that are put.
@@ -110,6 +177,44 @@ fn numbers_come_round(rt: HostRuntime) -> Result<(), Fail> {
     assert!(rt; ids.as_slice() == PUT.as_slice());
     assert!(rt; rig.printed.as_slice() == CAUGHT_UP);
     assert!(rt; rig.status() == 0);
+    Ok(())
+}
+
+#[test]
+fn the_next_epoch_begins_behind_the_last_number(rt: HostRuntime) -> Result<(), Fail> {
+    let alloc = rt.alloc();
+    let mut rig = Rig::new(alloc, site_of(alloc, None)?);
+    rig.records.push_back(UP_TO_LAST)?;
+    rig.records.push_back(LAST)?;
+    let ended = rig.drive(alloc)?;
+    assert!(rt; ended);
+    let ids = ids_of(alloc, rig.puts.as_slice())?;
+    assert!(rt; ids.as_slice() == &PUT[..1]);
+    assert!(rt; rig.printed.as_slice() == AT_LAST);
+    // The next run.
+    let mut rig = Rig::new(alloc, site_at_last(alloc, 0)?);
+    rig.records.push_back(BEHIND_LAST)?;
+    rig.records.push_back(NEWEST)?;
+    let ended = rig.drive(alloc)?;
+    assert!(rt; ended);
+    let ids = ids_of(alloc, rig.puts.as_slice())?;
+    assert!(rt; ids.as_slice() == &PUT[1..]);
+    assert!(rt; rig.printed.as_slice() == WENT_ON);
+    assert!(rt; rig.status() == 0);
+    Ok(())
+}
+
+#[test]
+fn nothing_is_put_behind_the_last_epoch(rt: HostRuntime) -> Result<(), Fail> {
+    let alloc = rt.alloc();
+    let mut rig = Rig::new(alloc, site_at_last(alloc, 32_767)?);
+    rig.records.push_back(BEHIND_LAST)?;
+    rig.records.push_back(NEWEST)?;
+    let ended = rig.drive(alloc)?;
+    assert!(rt; ended);
+    assert!(rt; ids_of(alloc, rig.puts.as_slice())?.is_empty());
+    assert!(rt; rig.printed.as_slice() == USED_UP);
+    assert!(rt; rig.status() == 6);
     Ok(())
 }
 

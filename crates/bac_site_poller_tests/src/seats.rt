@@ -23,7 +23,8 @@ pub(crate) fn text(alloc: Global, from: &str) -> Result<Vec<u8>, AllocError> {
     Ok(octets)
 }
 
-fn device_row(alloc: Global, id: u16) -> DeviceRow {
+/// The row of a device of which nothing is known.
+pub(crate) fn device_row(alloc: Global, id: u16) -> DeviceRow {
     DeviceRow {
         id,
         address: String::new(alloc),
@@ -58,6 +59,7 @@ pub(crate) fn log_record(alloc: Global, device: &str, instance: u16) -> Result<L
         restart: Vec::new(alloc),
         revision: None,
         place: Place::new(instance, 0),
+        next: 1,
         called,
     })
 }

@@ -49,7 +49,8 @@ const FALLEN: &[u8] = b"third 100 0 records 0 gaps lost, next 1\n\
     third 102 not asked\nthird 103 not asked\n";
 
 /// The lines of one that refuses all.
-const REFUSED: &[u8] = b"first 1 0 records 0 gaps refused: error 2 32, next 1\n\
+const REFUSED: &[u8] = b"first: the device is known by its address alone\n\
+    first 1 0 records 0 gaps refused: error 2 32, next 1\n\
     first 1: unknown property\n";
 
 /// The line of a silent device, to whose question the answer of another device would fit that came

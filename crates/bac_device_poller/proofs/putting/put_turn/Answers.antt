@@ -9,7 +9,7 @@ returns c = λ p.
     let t = turned p c.args.turn.now in
     let inside = c.putting.inside in
     let s = with_turn (none_from c.args.place) t in
-    let all : record { log = inside.place.log; epoch = inside.place.epoch; puts = map put_as inside.puts.items } ≡ s =
+    let all : record { log = inside.place.log; epoch = inside.place.epoch; full = inside.place.full; puts = map put_as inside.puts.items } ≡ s =
     c.putting.view_is ∙ c.in_ok-push_turn.ensures p ∙ ap (λ (q : Puts). with_turn q t) c.from-putting.ensures in (
       ap (λ (q : Puts). q.puts) all,
       ap (λ (q : Puts). place_behind q) all,
