@@ -8,6 +8,7 @@ pub mod Items
 pub mod Parts
 pub mod Faults
 pub mod Records
+pub mod Hours
 pub mod Silence
 pub mod Lasts
 pub mod LastRows

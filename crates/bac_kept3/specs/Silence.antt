@@ -1,25 +1,15 @@
 -- Since when a device is silent. Moments are texts as `2026-11-30T07:16:23.00`, compared octet by octet.
-use Rattle.std.specs.Prelude.{ℕ, ◌+◌, ◌*◌, ◌==◌, ◌&&◌, not, Bool, if◌then◌else◌, List, [], ◌∷◌, ◌++◌, codes, fold, take}
-use Rattle.std.specs.Prelude.{Option, None, Some, option_map, slice_index}
+use Rattle.std.specs.Prelude.{ℕ, ◌&&◌, not, Bool, if◌then◌else◌, List, [], ◌∷◌, ◌++◌, codes, fold, take}
+use Rattle.std.specs.Prelude.{Option, None, Some, option_map}
 use Rattle.std.specs.Cmp.Lexicographic.{slice_cmp}
 use Rattle.std.specs.Ordering.{is_lt, nat_cmp}
-use Rattle.std.specs.Str.{bytes_eq}
 use Rattle.std.specs.String.{string_bytes}
 use Rattle.bac_archive3.specs.declared.row.DeviceRow.{DeviceRow}
+use Rattle.bac_kept3.specs.Hours.{is_next_hour}
 
 -- a text comes before another
 abbrev pub is_before : List ℕ → List ℕ → Bool
 is_before text other = is_lt (slice_cmp nat_cmp text other)
-
--- the hour of a moment, by its digits: 528 is 0, and 551 is 23
-abbrev pub hour_of : List ℕ → ℕ
-hour_of moment = 10 * slice_index moment 11 + slice_index moment 12
-
--- a moment's hour is the one before another's: of the same day, or the last one of a day
-abbrev pub is_next_hour : List ℕ → List ℕ → Bool
-is_next_hour moment other =
-    if bytes_eq (take 10 moment) (take 10 other) then hour_of other == hour_of moment + 1
-    else hour_of moment == 551 && (hour_of other == 528)
 
 -- A moment lies long before another: neither in its hour nor in the one before that. A run may have had both.
 abbrev pub is_long_before : List ℕ → List ℕ → Bool

@@ -6,6 +6,7 @@
 
 mod csv_rows;
 mod fault;
+mod hours;
 mod items;
 mod last_rows;
 mod lasts;

@@ -1,16 +1,12 @@
 //! Since when devices are silent.
 
-ghost use Rattle.std.specs.Prelude.{◌≡◌, ◌++◌, OnOk, option_copied, slice_index, take};
-ghost use Rattle.bac_kept3.specs.Silence.{answer_of, hour_of, is_long_before, is_next_hour};
-ghost use Rattle.bac_kept3.specs.Silence.{last_answer, later, silence, silence_end};
+ghost use Rattle.std.specs.Prelude.{◌≡◌, ◌++◌, OnOk, option_copied, take};
+ghost use Rattle.bac_kept3.specs.Silence.{answer_of, is_long_before, last_answer};
+ghost use Rattle.bac_kept3.specs.Silence.{later, silence, silence_end};
 
+use crate::hours::is_next_hour;
 use bac_archive3::DeviceRow;
 use std::alloc::AllocError;
-
-/// The hours 23 and 0, by their digits.
-const LAST: u32 = 551;
-
-const FIRST: u32 = 528;
 
 /// The first octets of a text.
 fn front(text: &str, count: usize) -> &[u8]
@@ -21,34 +17,6 @@ fn front(text: &str, count: usize) -> &[u8]
         return octets;
     }
     &octets[..count]
-}
-
-/// The octet of a text at a place, or 0.
-fn octet_at(text: &str, at: usize) -> u32
-    ensures { result ≡ slice_index text.now at }
-{
-    match text.as_bytes().get(at) {
-        Some(octet) => u32::from(*octet),
-        None => 0,
-    }
-}
-
-/// The hour of a moment, by its digits.
-fn hour_of(moment: &str) -> u32
-    ensures { result ≡ hour_of moment.now }
-{
-    10 * octet_at(moment, 11) + octet_at(moment, 12)
-}
-
-/// Whether a moment's hour is the one before another's.
-fn is_next_hour(moment: &str, other: &str) -> bool
-    ensures { result ≡ is_next_hour moment.now other.now }
-{
-    let (hour, next) = (hour_of(moment), hour_of(other));
-    if front(moment, 10) == front(other, 10) {
-        return next == hour + 1;
-    }
-    hour == LAST && next == FIRST
 }
 
 /// Whether a moment lies long before another: neither in its hour nor in the one before that.

@@ -5,3 +5,5 @@ pub mod SeekLemmas
 pub mod ZeroLemmas
 pub mod WholeLemmas
 pub mod EachLemmas
+pub mod StatusLemmas
+pub mod RunLemmas

@@ -1,68 +1,120 @@
--- What status 0 says of `kept` and `check`.
-use Rattle.std.specs.Prelude.{◌≡◌, ◌⊎◌, ℕ, Bool, true, List, [], ◌∷◌, map, Option, Some, Ok}
-use Rattle.std.specs.Io.KnownBytes.{Appends}
+-- What is said by the status of `kept` and `check`. Read `ZeroPrintsEach`, `ZeroIsWhole` and `OneIsNone`.
+use Rattle.std.specs.Prelude.{◌≡◌, ◌⊎◌, ◌++◌, ◌||◌, ◌&&◌, not, nat_lt, ℕ, Bool, true, false, List, [], ◌∷◌, length}
+use Rattle.std.specs.Prelude.{Option, None, Some, Ok}
+use Rattle.std.specs.Io.KnownBytes.{Appends, Keeps}
+use Rattle.sqlite.specs.Effect.{Database}
 use Rattle.bac_archive3.specs.Archive.{IsArchive}
+use Rattle.bac_archive3.specs.Known.{IsKnown}
 use Rattle.bac_archive3.specs.Schema.{no_schema}
+use Rattle.bac_archive3.specs.declared.known.Known.{Known}
 use Rattle.bac_check3.specs.Counted.{CountsPart, IsEmpty}
 use Rattle.bac_check3.specs.Lines.{check_text, has_all}
 use Rattle.bac_check3.specs.declared.counts.Counts.{Counts}
-use Rattle.bac_files.specs.Parts.{PartRules}
+use Rattle.bac_files.specs.Parts.{Listing, PartRules, Reading}
 use Rattle.bac_files.specs.declared.not_opened.NotOpened.TheVariants.{Empty}
-use Rattle.bac_parts.specs.Visits.{Barred, Read, Visit, VisitsEach, at_visit, path_of}
-use Rattle.bac_reading.specs.Checking.{ChecksArchive}
-use Rattle.bac_reading.specs.Kept.{PrintsParts, printing}
-use Rattle.bac_reading.specs.Listing.{newest_of}
+use Rattle.bac_kept3.specs.Csv.{names_text}
+use Rattle.bac_kept3.specs.Parts.{PrintsPart}
+use Rattle.bac_kept3.specs.Seen.{newest_in}
+use Rattle.bac_kept3.specs.Shown.{shown_logs}
+use Rattle.bac_kept3.specs.declared.seen.Seen.{Seen}
+use Rattle.bac_kept3.specs.declared.words.Words.{Words}
+use Rattle.bac_parts.specs.Visits.{IsAsFound}
+use Rattle.bac_print.specs.Output.{Held}
+use Rattle.bac_reading.specs.Checking.{RunsCheck}
+use Rattle.bac_reading.specs.Listing.{is_folder, newest_of, parts_of}
+use Rattle.bac_reading.specs.Program.{RunsKept}
 use Rattle.bac_reading.specs.Report.{chooses_all}
 use Rattle.bac_reading.specs.Scene.{Scene}
 use Rattle.bac_reading.specs.Taking.{IsClean}
 use Rattle.bac_reading.specs.declared.program.Asked.{Asked}
 
--- the part that was visited is the newest of a folder, there is nothing in it, and so this holds
-abbrev pub IsSpared : Option (List ℕ) → Visit → Type 0 → Type 0
-IsSpared newest (Read path found shut) holds =
-    (newest ≡ Some path) × (IsClean found → (found.found.schema ≡ no_schema) × holds)
-IsSpared newest (Barred path why) holds = (newest ≡ Some path) × (why ≡ Empty) × holds
+-- ---- parts
+
+-- what is found in a part is an archive, and this is done with it; or that is the newest part of a folder, it has
+-- nothing, and nothing is done
+abbrev pub IsTaken : {X : Type 0} → (Database → X → X → Type 0) → Option (List ℕ) → List ℕ → Database → X → X → Type 0
+IsTaken does newest path db old new =
+    (IsArchive db × does db old new) ⊎ ((newest ≡ Some path) × (db.schema ≡ no_schema) × (new ≡ old))
+
+module _ {P X : Type 0} (rules : PartRules P) (does : Database → X → X → Type 0) where
+  -- So it is of the part at this path, which is left as it is found, if the disk gave back what was written; or the
+  -- newest part of a folder isn't opened, since its file has nothing.
+  abbrev pub OnePart : Option (List ℕ) → List ℕ → (p : P) → (old : X) → (q : P) → (new : X) → Type 0
+  OnePart newest path p old q new =
+      ((found : Reading) × rules.holds p path found q × IsAsFound found
+      × (IsClean found → IsTaken does newest path found.found old new))
+      ⊎ ((newest ≡ Some path) × rules.bars p path Empty q × (new ≡ old))
+
+  -- the same of the parts at these paths, one after the other
+  abbrev pub EachPart : Option (List ℕ) → List (List ℕ) → (p : P) → (old : X) → (q : P) → (new : X) → Type 0
+  EachPart newest [] p old q new = (q ≡ p) × (new ≡ old)
+  EachPart newest (path ∷ more) p old q new = (mid : P) × (then : X)
+      × OnePart newest path p old mid then × EachPart newest more mid then q new
 
 -- ---- `kept`
 
--- it was read, is an archive, and could be closed
-abbrev pub IsArchiveIn : Visit → Type 0
-IsArchiveIn (Read path found shut) = IsClean found → IsArchive found.found × (shut ≡ Ok tt)
-IsArchiveIn (Barred path why) = ⊥
+-- What was printed so far: the newest item of each log; whether the row of names is to be written yet; whether a log
+-- was chosen; and what the output has.
+pub record SoFar : Type 0 where
+  pub seen : Seen
+  pub names : Bool
+  pub any : Bool
+  pub output : Held
 
--- so it is of each of these, but of the newest part of a folder, which may have nothing
-abbrev pub AreArchives : Option (List ℕ) → List Visit → Type 0
-AreArchives newest [] = Unit {0}
-AreArchives newest (visit ∷ more) =
-    (IsArchiveIn visit ⊎ IsSpared newest visit (Unit {0})) × AreArchives newest more
+-- nothing yet, but of a folder the row of names
+pub record IsFirst (words : Words) (folder : Bool) (before : Held) (first : SoFar) : Type 0 where
+  pub seen : (log : ℕ) → newest_in first.seen log ≡ None
+  pub names : first.names ≡ (words.csv && not folder)
+  pub any : first.any ≡ false
+  pub output : Appends before first.output (names_text (words.csv && folder))
 
--- Where `kept` ends with 0, not by the newest records, each part was printed in its turn, and what was asked for is
--- there.
-abbrev pub ZeroPrintsEach : {P : Type 0} → PartRules P → Type 0
-ZeroPrintsEach {P} rules = (asked : Asked) (folder : Bool) (paths : List (List ℕ)) (old new : Scene P)
-    → (it : PrintsParts rules asked folder paths old (Ok 0) new)
-    → (visits : List Visit) × (map path_of visits ≡ paths)
-    × VisitsEach (printing rules) visits (at_visit old.parts it.begun it.first) (at_visit new.parts it.read it.output)
-    × AreArchives (newest_of 1 folder paths) visits
-    × ((chooses_all it.read.words.choice ≡ true) ⊎ (it.read.has_any ≡ true))
+-- Of the logs that a database has those that are chosen are printed, in order: of each the line that names it, and a
+-- line, or a row of CSV, for each of its items that wasn't printed of a part before; and nothing else is.
+pub record PrintsItsRows (words : Words) (db : Database) (old new : SoFar) : Type 0 where
+  pub known : Known
+  pub told : IsKnown db.trees known
+  pub text : List ℕ
+  pub is : PrintsPart words db.trees known old.seen text new.seen
+  pub printed : Appends old.output new.output (names_text old.names ++ text)
+  pub any : new.any ≡ (old.any || nat_lt 0 (length (shown_logs known words.choice)))
+  pub names : new.names ≡ false
+
+module _ {P : Type 0} (rules : PartRules P) where
+  -- The parts at these paths are archives, but the newest of a folder, which may have nothing, and are printed one
+  -- after the other. If not all logs are chosen, one is that is there.
+  abbrev pub PrintsEach : Words → (folder : Bool) → List (List ℕ) → (before after : Held) → (p q : P) → Type 0
+  PrintsEach words folder paths before after p q =
+      (first last : SoFar) × IsFirst words folder before first
+      × EachPart rules (PrintsItsRows words) (newest_of 1 folder paths) paths p first q last × Keeps last.output after
+      × ((chooses_all words.choice ≡ true) ⊎ (last.any ≡ true))
+
+  -- So it is where `kept` ends with 0, not by the newest records.
+  abbrev pub ZeroPrintsEach : Type 0
+  ZeroPrintsEach = (asked : Asked) (listing : Listing) (old new : Scene P)
+      → RunsKept rules asked listing old (Ok 0) new → asked.last ≡ false
+      → (paths : List (List ℕ)) × (parts_of asked.file.now listing ≡ Ok paths)
+      × PrintsEach asked.words (is_folder listing) paths old.output new.output old.parts new.parts
+
+  -- It never ends with 1: that is left for wrong words.
+  abbrev pub OneIsNone : Type 0
+  OneIsNone = (asked : Asked) (listing : Listing) (old new : Scene P) → RunsKept rules asked listing old (Ok 1) new → ⊥
 
 -- ---- `check`
 
--- its rows were counted behind those of the parts before, where these end, and it could be closed
-abbrev pub IsCountedIn : Visit → Counts → Counts → Type 0
-IsCountedIn (Read path found shut) old new =
-    IsClean found → IsArchive found.found × CountsPart found.found.trees old new true × (shut ≡ Ok tt)
-IsCountedIn (Barred path why) old new = ⊥
+-- the rows of an archive are counted behind those that were, and go on where these end
+abbrev pub CountsOn : Database → Counts → Counts → Type 0
+CountsOn db old new = CountsPart db.trees old new true
 
--- so it is of each of these, but of the newest of several parts, which may have nothing
-abbrev pub AreCounted : Option (List ℕ) → List Visit → Counts → Counts → Type 0
-AreCounted newest [] old new = new ≡ old
-AreCounted newest (visit ∷ more) old new = (mid : Counts)
-    × (IsCountedIn visit old mid ⊎ IsSpared newest visit (mid ≡ old)) × AreCounted newest more mid new
+module _ {P : Type 0} (rules : PartRules P) where
+  -- The parts at these paths are archives, but the newest of several, which may have nothing; each goes on where the
+  -- one before it ends. Their rows are counted, no number is missing, and what is counted is printed.
+  abbrev pub CountsEach : Option (List ℕ) → List (List ℕ) → (before after : Held) → (p q : P) → Type 0
+  CountsEach newest paths before after p q = (none all : Counts) × IsEmpty none
+      × EachPart rules CountsOn newest paths p none q all
+      × (has_all all ≡ true) × Appends before after (check_text all)
 
--- Where `check` ends with 0, each part goes on where the one before it ends, and no number is missing.
-abbrev pub ZeroIsWhole : {P : Type 0} → PartRules P → Type 0
-ZeroIsWhole {P} rules = (name : List ℕ) (folder : Bool) (paths : List (List ℕ)) (old new : Scene P)
-    → ChecksArchive rules name folder paths old (Ok 0) new → (visits : List Visit) × (map path_of visits ≡ paths)
-    × (none : Counts) × IsEmpty none × (all : Counts) × AreCounted (newest_of 2 folder paths) visits none all
-    × (has_all all ≡ true) × Appends old.output new.output (check_text all)
+  -- So it is where `check` ends with 0.
+  abbrev pub ZeroIsWhole : Type 0
+  ZeroIsWhole = (name : List ℕ) (listing : Listing) (old new : Scene P) → RunsCheck rules name listing old (Ok 0) new
+      → (paths : List (List ℕ)) × (parts_of name listing ≡ Ok paths)
+      × CountsEach (newest_of 2 (is_folder listing) paths) paths old.output new.output old.parts new.parts

@@ -1,7 +1,7 @@
-//! What status 0 says.
+//! What their status says of `kept` and `check`.
 
 ghost use Rattle.bac_files.specs.Parts.{part_rules};
-ghost use Rattle.bac_reading.specs.Laws.{ZeroIsWhole, ZeroPrintsEach};
+ghost use Rattle.bac_reading.specs.Laws.{OneIsNone, ZeroIsWhole, ZeroPrintsEach};
 
 use bac_files::Parts;
 
@@ -17,6 +17,13 @@ pub fn zero_prints_each<P: Parts>(parts: &P)
 /// several, which may have nothing; and no number is missing.
 pub fn zero_is_whole<P: Parts>(parts: &P)
     ensures { ZeroIsWhole (part_rules P.lists P.holds P.bars) }
+{
+    let _parts = parts;
+}
+
+/// `kept` never ends with 1: that is left for wrong words.
+pub fn one_is_none<P: Parts>(parts: &P)
+    ensures { OneIsNone (part_rules P.lists P.holds P.bars) }
 {
     let _parts = parts;
 }

@@ -19,5 +19,5 @@ mod taking;
 
 pub use checking::run_check;
 pub use fault::{Fault, Trouble};
-pub use laws::{zero_is_whole, zero_prints_each};
+pub use laws::{one_is_none, zero_is_whole, zero_prints_each};
 pub use program::{Asked, run_kept};

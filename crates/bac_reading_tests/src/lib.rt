@@ -9,3 +9,5 @@ mod checked;
 mod kept;
 #[cfg(test)]
 mod parts;
+#[cfg(test)]
+mod silence;
