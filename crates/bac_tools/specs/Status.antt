@@ -7,7 +7,7 @@ use Rattle.bac_tools.specs.declared.fault.Fault.{Fault}
 use Rattle.bac_tools.specs.declared.fault.Fault.TheVariants.{NotText, BadValue, LongNumber, OtherTool, NoDevice, Script}
 use Rattle.bac_tools.specs.declared.fault.Fault.TheVariants.{Unopened, Socket, Refused}
 use Rattle.bac_tools.specs.declared.fault.Fault.TheVariants.{NoAnswer, List, Exchange, Flawed, Silent, Declined}
-use Rattle.bac_tools.specs.declared.fault.Fault.TheVariants.{Write, Memory}
+use Rattle.bac_tools.specs.declared.fault.Fault.TheVariants.{Clock, Write, Memory}
 use Rattle.bac_script.specs.declared.replay.fault.ReplayFault.{ReplayFault}
 use Rattle.bac_script.specs.declared.replay.fault.ReplayFault.TheVariants as replay
 use Rattle.bac_words.specs.declared.listing.ListFault.{ListFault}
@@ -58,6 +58,7 @@ exit_status (Exchange address fault) = exchange_status fault
 exit_status (Flawed flaw) = 4
 exit_status (Silent address) = 2
 exit_status (Declined refusal) = 3
+exit_status Clock = 2
 exit_status Write = 2
 exit_status Memory = 5
 

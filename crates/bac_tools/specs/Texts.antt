@@ -20,7 +20,7 @@ use Rattle.bac_tools.specs.declared.fault.Fault.{Fault}
 use Rattle.bac_tools.specs.declared.fault.Fault.TheVariants.{NotText, BadValue, LongNumber, OtherTool, NoDevice, Script}
 use Rattle.bac_tools.specs.declared.fault.Fault.TheVariants.{Unopened, Socket, Refused}
 use Rattle.bac_tools.specs.declared.fault.Fault.TheVariants.{NoAnswer, List as ListOf, Exchange, Flawed}
-use Rattle.bac_tools.specs.declared.fault.Fault.TheVariants.{Silent, Declined, Write, Memory}
+use Rattle.bac_tools.specs.declared.fault.Fault.TheVariants.{Silent, Declined, Clock, Write, Memory}
 use Rattle.bac_words.specs.Names.{name_of, is_option}
 use Rattle.bac_words.specs.declared.word.Word.{Word}
 use Rattle.bac_words.specs.declared.word.Word.TheVariants as word
@@ -43,8 +43,11 @@ range_text word.Csv = codes "an option without a value"
 range_text word.Numbers = codes "an option without a value"
 range_text word.Trace = codes "an option without a value"
 range_text word.Stop = codes "an option without a value, beside one ADDRESS"
+range_text word.Last = codes "an option without a value, beside neither --since nor --until"
 range_text word.Address = address_range ++ codes "; for bac wi also with /20 to /32 behind it"
 range_text word.Local = address_range
+range_text word.Since = codes "the front of a stamp YYYY-MM-DDTHH:MM:SS.HH, the year at least"
+range_text word.Until = codes "the front of a stamp YYYY-MM-DDTHH:MM:SS.HH, the year at least"
 range_text word.ObjectType = codes "a number from 0 to 1023"
 range_text word.Instance = codes "a number from 0 to 4194303"
 range_text word.Min = codes "a number from 0 to 4194303"
@@ -110,6 +113,11 @@ abbrev pub bad_reply : List ℕ
 bad_reply =
     (codes "bad reply" ++ 10 ∷ []) ++ codes "the reply doesn't acknowledge this request, is segmented, or can't be read"
 
+-- the machine's clock tells no time
+abbrev pub clock_text : List ℕ
+clock_text =
+    (codes "clock fault" ++ 10 ∷ []) ++ codes "the machine's clock can't be read, or its year isn't 1990 to 2154"
+
 -- the answer to one question to an address didn't come, and what passed since the question was first sent
 abbrev pub lost_text : Passed → List ℕ → List ℕ
 lost_text passed address = (codes "lost" ++ 10 ∷ []) ++ silence_text address passed
@@ -157,6 +165,7 @@ fault_text passed (Exchange address fault) = exchange_text passed address fault
 fault_text passed (Flawed flaw) = reply_text flaw
 fault_text passed (Silent address) = silence_text address passed
 fault_text passed (Declined refusal) = cause_text refusal
+fault_text passed Clock = clock_text
 fault_text passed Write = codes "write fault"
 fault_text passed Memory = codes "out of memory"
 

@@ -49,6 +49,8 @@ pub enum Fault {
     Silent([u8; 6]),
     /// A walk ended since its device refused so; that it did is on the output.
     Declined(Refusal),
+    /// The machine's clock can't be read, or its time isn't one that a record could have.
+    Clock,
     /// The output refused a write.
     Write,
     /// Out of memory.
@@ -96,7 +98,7 @@ impl Fault {
             Fault::OtherTool | Fault::NoDevice => 1,
             Fault::Script(refused) => script_status(refused.fault),
             Fault::Unopened(_) | Fault::Socket | Fault::Refused(_) | Fault::NoAnswer(_) => 2,
-            Fault::Silent(_) | Fault::Write => 2,
+            Fault::Silent(_) | Fault::Clock | Fault::Write => 2,
             Fault::List(fault) => list_status(*fault),
             Fault::Exchange { fault, .. } => exchange_status(*fault),
             Fault::Declined(_) => 3,

@@ -34,9 +34,9 @@ pub use bac_script::{
 pub use bac_serve::{Clock, SystemClock, serve, serve_one};
 pub use bac_walk::ReplyFlaw;
 pub use bac_words::{
-    Addresses, Asked, Check, Discovery, Given, Group, Groups, Job, Keep, KeepOptions, Kept,
-    ListFault, LogListing, LogReading, Name, Names, PropertyReading, PropertyWriting, ServedDevice,
-    Stations, Word, WordsFault, read_words,
+    Addresses, Asked, Check, Discovery, Extent, Given, Group, Groups, Job, Keep, KeepOptions, Kept,
+    ListFault, LogListing, LogReading, Name, Names, Period, PropertyReading, PropertyWriting,
+    ServedDevice, Stations, Word, WordsFault, read_words,
 };
 pub use fault::Fault;
 pub use listing::listed_devices;

@@ -4,7 +4,8 @@ ghost use Rattle.std.specs.Prelude.{◌≡◌, ◌++◌, ◌∷◌, codes, OnOk,
 ghost use Rattle.bac_print.specs.Output.{AppendsPart};
 ghost use Rattle.bac_query.specs.Ends.{cause_text, refusal_text};
 ghost use Rattle.bac_tools.specs.Run.{IsTold, IsToldAfter};
-ghost use Rattle.bac_tools.specs.Texts.{bad_reply, build_text, exchange_text, fault_text};
+ghost use Rattle.bac_tools.specs.Texts.{bad_reply, build_text, clock_text, exchange_text};
+ghost use Rattle.bac_tools.specs.Texts.{fault_text};
 ghost use Rattle.bac_tools.specs.Texts.{long_text, lost_text, of_address, open_text, range_text};
 ghost use Rattle.bac_tools.specs.Texts.{refusal_lines, script_text, serving_line, told_after};
 ghost use Rattle.bac_tools.specs.Texts.{unbuilt_text, word_text, wrong_text};
@@ -32,11 +33,14 @@ fn range_of<'a>(word: Word) -> &'a str
         Word::File => "the name of a file",
         Word::Csv | Word::Numbers | Word::Trace => "an option without a value",
         Word::Stop => "an option without a value, beside one ADDRESS",
+        Word::Last => "an option without a value, beside neither --since nor --until",
         Word::Address =>
             "A.B.C.D or A.B.C.D:PORT, each of A to D from 0 to 255, PORT from 1 to 65535; for bac \
              wi also with /20 to /32 behind it",
         Word::Local =>
             "A.B.C.D or A.B.C.D:PORT, each of A to D from 0 to 255, PORT from 1 to 65535",
+        Word::Since | Word::Until =>
+            "the front of a stamp YYYY-MM-DDTHH:MM:SS.HH, the year at least",
         Word::ObjectType => "a number from 0 to 1023",
         Word::Instance | Word::Min => "a number from 0 to 4194303",
         Word::Max => "a number from 0 to 4194303, beside --min",
@@ -175,6 +179,14 @@ fn push_bad_reply(text: &mut Vec<u8>) -> Result<(), AllocError>
     )
 }
 
+/// Appends that the machine's clock tells no time.
+fn push_clock(text: &mut Vec<u8>) -> Result<(), AllocError>
+    ensures { OnOk result (text.new.items ≡ text.old.items ++ clock_text) }
+{
+    text.extend_from_slice(b"clock fault\n")?;
+    text.extend_from_slice(b"the machine's clock can't be read, or its year isn't 1990 to 2154")
+}
+
 /// Appends that the answer of an address didn't come, and what passed in its place.
 fn push_lost(text: &mut Vec<u8>, passed: Passed, address: [u8; 6]) -> Result<(), AllocError>
     ensures { OnOk result (text.new.items ≡ text.old.items ++ lost_text passed address) }
@@ -251,6 +263,7 @@ fn push_fault(text: &mut Vec<u8>, passed: Passed, fault: Fault) -> Result<(), Al
         Fault::Flawed(flaw) => push_reply_flaw(text, flaw),
         Fault::Silent(address) => push_silence(text, address, passed),
         Fault::Declined(refusal) => push_cause(text, refusal),
+        Fault::Clock => push_clock(text),
         Fault::Write => text.extend_from_slice(b"write fault"),
         Fault::Memory => text.extend_from_slice(b"out of memory"),
     }

@@ -38,7 +38,7 @@ use Rattle.bac_tools.specs.Status.{exchange_status, exit_status, list_status, sc
 use Rattle.bac_tools.specs.Streams.{Streams}
 use Rattle.bac_tools.specs.declared.fault.Fault.{Fault}
 use Rattle.bac_tools.specs.declared.fault.Fault.TheVariants.{NotText, BadValue, LongNumber, OtherTool, NoDevice, Script, Unopened, Socket, Refused}
-use Rattle.bac_tools.specs.declared.fault.Fault.TheVariants.{NoAnswer, List as ListOf, Exchange, Flawed, Silent, Declined, Write, Memory}
+use Rattle.bac_tools.specs.declared.fault.Fault.TheVariants.{NoAnswer, List as ListOf, Exchange, Flawed, Silent, Declined, Clock, Write, Memory}
 use Rattle.bac_tools_tests.proofs.AtRest.{few_batches, few_lines, leads_bring}
 use Rattle.bac_tools_tests.specs.Logging.{IsCut, IsLogged, IsLoggedAtRest, PrintsAll}
 use Rattle.bac_tools_tests.proofs.Settled.{end_of}
@@ -97,6 +97,7 @@ no_fault (Exchange address fault) e = no_exchange fault e
 no_fault (Flawed flaw) e = omega (arith, e)
 no_fault (Silent address) e = omega (arith, e)
 no_fault (Declined refusal) e = omega (arith, e)
+no_fault Clock e = omega (arith, e)
 no_fault Write e = omega (arith, e)
 no_fault Memory e = omega (arith, e)
 

@@ -322,6 +322,7 @@ configured_not input left (fault.Exchange address wrong) said is of e = is
 configured_not input left (fault.Flawed flaw) said is of e = is
 configured_not input left (fault.Silent address) said is of e = is
 configured_not input left (fault.Declined refusal) said is of e = is
+configured_not input left fault.Clock said is of e = is
 configured_not input left fault.Write said is of e = is
 configured_not input left fault.Memory said is of e = is
 

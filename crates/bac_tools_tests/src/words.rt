@@ -96,7 +96,12 @@ fn keeps_and_serves_by_default(rt: HostRuntime) {
             (
                 "bac kept a.db",
                 "Kept(Kept { file: Name { text: \"a.db\" }, address: None, instance: None, \
+                 dnet: None, dadr: None, extent: Dated(Period { since: None, until: None }), \
                  csv: false })",
+            ),
+            (
+                "bac check a.db",
+                "Check(Check { file: Name { text: \"a.db\" } })",
             ),
             (
                 "bac serve 10.0.0.1",

@@ -10,7 +10,7 @@ use Rattle.bac_words.specs.declared.word.Word.{Word}
 use Rattle.bac_words.specs.declared.word.Word.TheVariants.{Address, ObjectType, Instance, Property, Priority, Tag, From}
 use Rattle.bac_words.specs.declared.word.Word.TheVariants.{File}
 use Rattle.bac_words.specs.declared.word.Word.TheVariants.{Index, Value, Min, Max, Steps, Count, Local, Timeout}
-use Rattle.bac_words.specs.declared.word.Word.TheVariants.{AtOnce, Records, Part}
+use Rattle.bac_words.specs.declared.word.Word.TheVariants.{AtOnce, Records, Part, Since, Until, Last}
 use Rattle.bac_words.specs.declared.word.Word.TheVariants.{Retries, Dnet, Dadr, Csv, Stop, Numbers, Trace}
 use Rattle.bac_words.specs.Names.{name_of}
 
@@ -100,9 +100,10 @@ keep_app = with_rules (new_app (codes "keep"))
     (needed File ∷ maybe Address ∷ maybe_list Instance ∷ option Steps ∷ option Records ∷ option_or Part (codes "32")
     ∷ option_or AtOnce (codes "64") ∷ flag Stop ∷ keeping_rules)
 
--- bac kept FILE [ADDRESS [INSTANCE]] [--csv]
+-- bac kept FILE [ADDRESS [INSTANCE]] [--since=STAMP] [--until=STAMP] [--last] [--csv]
 abbrev pub kept_app : App
-kept_app = with_rules (new_app (codes "kept")) (needed File ∷ maybe Address ∷ maybe Instance ∷ flag Csv ∷ [])
+kept_app = with_rules (new_app (codes "kept"))
+    (needed File ∷ maybe Address ∷ maybe Instance ∷ option Since ∷ option Until ∷ flag Last ∷ flag Csv ∷ route_rules)
 
 -- bac check FILE
 abbrev pub check_app : App

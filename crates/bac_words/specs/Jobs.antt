@@ -1,6 +1,6 @@
 -- The job that a tool's words and options say, or the first of them whose value isn't one that it can have.
-use Rattle.std.specs.Prelude.{ℕ, Bool, true, false, ◌&&◌, not, List, [], ◌∷◌, Option, None, Some, Result, Ok, Err}
-use Rattle.std.specs.Prelude.{codes}
+use Rattle.std.specs.Prelude.{ℕ, Bool, true, false, ◌&&◌, ◌||◌, not, List, [], ◌∷◌, Option, None, Some, Result, Ok, Err}
+use Rattle.std.specs.Prelude.{codes, is_some}
 use Rattle.std.specs.Prelude.{if◌then◌else◌, option_and_then}
 use Rattle.std.specs.Option.{ok_or}
 use Rattle.std.specs.Str.{bytes_eq}
@@ -18,6 +18,7 @@ use Rattle.bac_words.specs.declared.job.Given.{Given}
 use Rattle.bac_words.specs.declared.job.Keep.{Keep}
 use Rattle.bac_words.specs.declared.job.KeepOptions.{KeepOptions}
 use Rattle.bac_words.specs.Numbers.{number_in}
+use Rattle.bac_words.specs.Dates.{extent_at}
 use Rattle.bac_words.specs.Groups.{are_input, groups_at}
 use Rattle.bac_words.specs.declared.group.Group.{Group}
 use Rattle.bac_words.specs.Rows.{text_at, is_said, number_at, maybe_number_at, address_at, instances_at}
@@ -193,14 +194,24 @@ reads_input keep = not keep.stop && are_input keep.groups
 abbrev pub with_groups : Keep → List Group → Keep
 with_groups keep groups = record keep { groups = groups }
 
+-- --dnet and --dadr go with an ADDRESS only
+abbrev pub address_beside : (dnet dadr address : Option Text) → Result (Option Text) Word
+address_beside dnet dadr None = if is_some dnet || is_some dadr then Err Address else Ok None
+address_beside dnet dadr (Some address) = Ok (Some address)
+
 -- bac kept
 unfoldable pub kept_at : List Row → Result Job Word
 kept_at rows = do
   file ← file_at rows
+  address ← address_beside (text_at Dnet rows) (text_at Dadr rows) (text_at Address rows)
+  extent ← extent_at rows
   Ok (job.Kept (record {
     file = file;
-    address = text_at Address rows;
+    address = address;
     instance = text_at Instance rows;
+    dnet = text_at Dnet rows;
+    dadr = text_at Dadr rows;
+    extent = extent;
     csv = is_said Csv rows;
   }))
 

@@ -9,6 +9,7 @@ pub mod Given
 pub mod Steps
 pub mod Rows
 pub mod Groups
+pub mod Dates
 pub mod Jobs
 pub mod Listing
 pub mod Outcome

@@ -5,12 +5,15 @@ use Rattle.bac_words.specs.declared.word.Word.{Word}
 use Rattle.bac_words.specs.declared.job.Job.{Job}
 use Rattle.bac_words.specs.declared.job.Asked.{Asked}
 use Rattle.bac_words.specs.declared.job.Discovery.{Discovery}
+use Rattle.bac_words.specs.declared.job.Extent.{Extent}
+use Rattle.bac_words.specs.declared.job.Extent.TheVariants.{Dated}
 use Rattle.bac_words.specs.declared.job.Given.{Given}
 use Rattle.bac_words.specs.declared.job.PropertyReading.{PropertyReading}
 use Rattle.bac_words.specs.declared.job.PropertyWriting.{PropertyWriting}
 use Rattle.bac_words.specs.declared.job.LogReading.{LogReading}
 use Rattle.bac_words.specs.declared.job.Keep.{Keep}
 use Rattle.bac_words.specs.declared.job.KeepOptions.{KeepOptions}
+use Rattle.bac_words.specs.declared.job.Kept.{Kept}
 use Rattle.bac_words.specs.declared.job.Stations.{Stations}
 use Rattle.bac_words.specs.declared.group.Group.{Group}
 use Rattle.bac_words.specs.Outcome.{mistakes_of, job_in}
@@ -113,4 +116,20 @@ keeping file groups = record {
   at_once = 64;
   trace = false;
   options = no_options;
+}
+
+-- the records from this stamp on and before this one
+abbrev pub between : (since until : Option Text) → Extent
+between since until = Dated (record { since = since; until = until })
+
+-- kept: all records of each log, in lines
+abbrev pub printing : Text → Kept
+printing file = record {
+  file = file;
+  address = None;
+  instance = None;
+  dnet = None;
+  dadr = None;
+  extent = between None None;
+  csv = false;
 }

@@ -4,7 +4,7 @@ use Rattle.clap.specs.Words.{Text}
 use Rattle.bac_words.specs.declared.word.Word.{Word}
 use Rattle.bac_words.specs.declared.word.Word.TheVariants.{Tool, Address, ObjectType, Instance, Property, Priority, Tag}
 use Rattle.bac_words.specs.declared.word.Word.TheVariants.{From, File, Index, Value, Min, Max, Steps, Count, Local}
-use Rattle.bac_words.specs.declared.word.Word.TheVariants.{AtOnce, Records, Part}
+use Rattle.bac_words.specs.declared.word.Word.TheVariants.{AtOnce, Records, Part, Since, Until, Last}
 use Rattle.bac_words.specs.declared.word.Word.TheVariants.{Timeout, Retries, Dnet, Dadr, Csv, Stop, Numbers, Trace}
 
 -- a word's name in the help; an option's, without its --
@@ -29,6 +29,9 @@ name_of AtOnce = codes "at-once"
 name_of Count = codes "count"
 name_of Csv = codes "csv"
 name_of Stop = codes "stop"
+name_of Since = codes "since"
+name_of Until = codes "until"
+name_of Last = codes "last"
 name_of Numbers = codes "numbers"
 name_of Trace = codes "trace"
 name_of Local = codes "local"
@@ -50,6 +53,9 @@ is_option AtOnce = true
 is_option Count = true
 is_option Csv = true
 is_option Stop = true
+is_option Since = true
+is_option Until = true
+is_option Last = true
 is_option Numbers = true
 is_option Trace = true
 is_option Local = true
@@ -61,14 +67,21 @@ is_option other = false
 
 -- whether its value is a number of at most ten digits
 abbrev pub is_number : Word → Bool
-is_number Tool = false
-is_number Address = false
-is_number File = false
-is_number Csv = false
-is_number Stop = false
-is_number Numbers = false
-is_number Trace = false
-is_number Local = false
-is_number Value = false
-is_number Dadr = false
-is_number other = true
+is_number ObjectType = true
+is_number Instance = true
+is_number Property = true
+is_number Priority = true
+is_number Tag = true
+is_number From = true
+is_number Index = true
+is_number Min = true
+is_number Max = true
+is_number Steps = true
+is_number Records = true
+is_number Part = true
+is_number AtOnce = true
+is_number Count = true
+is_number Timeout = true
+is_number Retries = true
+is_number Dnet = true
+is_number other = false

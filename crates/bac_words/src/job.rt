@@ -121,6 +121,26 @@ impl Keep {
     }
 }
 
+/// From which stamp on and up to which, each by a front part of it, as `2024-05` for a month. They
+/// are compared as texts: a record is of the period if its stamp is `since` or later, and before
+/// `until`.
+#[derive(Debug, Drop)]
+pub struct Period {
+    /// From the first record on if it is absent.
+    pub since: Option<Name>,
+    /// To the last record if it is absent.
+    pub until: Option<Name>,
+}
+
+/// How much of a trend log is to be printed.
+#[derive(Debug, Drop)]
+pub enum Extent {
+    /// The records of a period.
+    Dated(Period),
+    /// The newest record alone.
+    Newest,
+}
+
 /// Which trend logs of a file are to be printed, as the words say them.
 #[derive(Debug, Drop)]
 pub struct Kept {
@@ -130,6 +150,13 @@ pub struct Kept {
     pub address: Option<Name>,
     /// The log of the device; each if it is absent.
     pub instance: Option<Name>,
+    /// The network of a device behind a router, which then has the address. The two are read by
+    /// the rules of `bac log`.
+    pub dnet: Option<Name>,
+    /// The device's address there.
+    pub dadr: Option<Name>,
+    /// How much of each.
+    pub extent: Extent,
     /// As CSV.
     pub csv: bool,
 }

@@ -3,39 +3,24 @@
 ghost use Rattle.std.specs.Prelude.{◌≡◌, ◌++◌, ◌∷◌, List, [], IfOk, OnOk, map};
 ghost use Rattle.clap.specs.Words.{Text, rows_of, found_of};
 ghost use Rattle.bac_words.specs.Steps.{Makes};
-ghost use Rattle.bac_words.specs.Rows.{text_at, texts_at};
+ghost use Rattle.bac_words.specs.Rows.{texts_at};
 ghost use Rattle.bac_words.specs.Groups.{group_at, groups_at, groups_from, with_instance};
 ghost use Rattle.bac_words.specs.declared.word.Word.TheVariants.{Instance};
 ghost use Rattle.bac_words.specs.Jobs.{file_at, keep_options_at, keep_at, kept_at, check_at};
-ghost use Rattle.bac_words.specs.Jobs.{stop_beside};
+ghost use Rattle.bac_words.specs.Jobs.{address_beside, stop_beside};
 
+use crate::dates::extent_at;
 use crate::fault::WordsFault;
 use crate::group::{Group, Groups};
 use crate::job::{Check, Job, Keep, KeepOptions, Kept};
 use crate::name::Name;
 use crate::names::Names;
 use crate::numbers::are_digits;
-use crate::rows::{is_said, number_at, text};
+use crate::rows::{is_said, name_at, name_of, number_at, text};
 use crate::word::Word;
 use clap::ArgMatches;
 use std::alloc::{AllocError, Global};
 use std::mem;
-
-fn name_of(alloc: Global, text: &str) -> Result<Name, AllocError>
-    ensures { IfOk result (λ name. name ≡ text.now) }
-{
-    Ok(Name::of(String::from_str(alloc, text)?))
-}
-
-/// What a word or an option says, if it is there.
-fn name_at(alloc: Global, matches: &ArgMatches, word: Word) -> Result<Option<Name>, AllocError>
-    ensures { IfOk result (λ name. name ≡ text_at word (rows_of (found_of matches.now))) }
-{
-    match text(matches, word) {
-        Some(text) => Ok(Some(name_of(alloc, text)?)),
-        None => Ok(None),
-    }
-}
 
 /// A device, none of whose logs is named.
 fn group_at(alloc: Global, address: &str) -> Result<Group, AllocError>
@@ -177,18 +162,38 @@ pub(crate) fn keep(alloc: Global, matches: &ArgMatches) -> Result<Job, WordsFaul
     }))
 }
 
+/// The device of `bac kept`, without which no place behind a router is said.
+fn address_beside(
+    dnet: &Option<Name>,
+    dadr: &Option<Name>,
+    address: Option<Name>,
+) -> Result<Option<Name>, Word>
+    ensures { result ≡ address_beside dnet.now dadr.now address }
+{
+    if address.is_none() && (dnet.is_some() || dadr.is_some()) {
+        return Err(Word::Address);
+    }
+    Ok(address)
+}
+
 #[tactic(auto, unfolding(crate::specs::Jobs::kept_at))]
 pub(crate) fn kept(alloc: Global, matches: &ArgMatches) -> Result<Job, WordsFault>
     ensures { Makes (kept_at (rows_of (found_of matches.now))) result }
 {
     let file = file_at(alloc, matches)?;
-    let address = name_at(alloc, matches, Word::Address)?;
+    let dnet = name_at(alloc, matches, Word::Dnet)?;
+    let dadr = name_at(alloc, matches, Word::Dadr)?;
+    let address = address_beside(&dnet, &dadr, name_at(alloc, matches, Word::Address)?)?;
     let instance = name_at(alloc, matches, Word::Instance)?;
+    let extent = extent_at(alloc, matches)?;
     let csv = is_said(matches, Word::Csv);
     Ok(Job::Kept(Kept {
         file,
         address,
         instance,
+        dnet,
+        dadr,
+        extent,
         csv,
     }))
 }

@@ -9,14 +9,15 @@ ghost use Rattle.clap.specs.declared.error.kind.ErrorKind.TheVariants.{ArgumentC
 ghost use Rattle.clap.specs.declared.error.kind.ErrorKind.TheVariants.{DisplayHelp};
 ghost use Rattle.bac_words.specs.declared.word.Word.TheVariants.{Address, From, Instance, Max};
 ghost use Rattle.bac_words.specs.declared.word.Word.TheVariants.{Records, Retries, Dnet, Dadr};
-ghost use Rattle.bac_words.specs.declared.word.Word.TheVariants.{Stop};
+ghost use Rattle.bac_words.specs.declared.word.Word.TheVariants.{Last, Since, Stop, Until};
 ghost use Rattle.bac_words.specs.declared.job.Job.TheVariants.{Replay, Wi, Rp, Wp, Log, Logs, Keep};
 ghost use Rattle.bac_words.specs.declared.job.Job.TheVariants.{Kept, Check, Serve};
+ghost use Rattle.bac_words.specs.declared.job.Extent.TheVariants.{Newest};
 ghost use Rattle.bac_words.specs.declared.job.Given.TheVariants.{Null, Signed};
 ghost use Rattle.bac_words.specs.declared.job.Stations.TheVariants.{Input, Listed};
 ghost use Rattle.bac_words.specs.Lines.{Says, Mistakes, station, by_default, by_way, group};
 ghost use Rattle.bac_words.specs.Lines.{no_options, discovery, property_reading, property_writing};
-ghost use Rattle.bac_words.specs.Lines.{log_reading, keeping};
+ghost use Rattle.bac_words.specs.Lines.{log_reading, keeping, printing, between};
 
 /// Lines of `bac wi`, and what they ask for.
 pub fn lines_say_wi()
@@ -97,14 +98,30 @@ pub fn lines_say_keep()
 /// Lines of `bac kept`, and what they ask for.
 pub fn lines_say_kept()
     ensures device { Says (codes "bac kept a.db 10.0.0.1")
-        (Ok (Kept (record {
-          file = codes "a.db";
-          address = Some (codes "10.0.0.1");
-          instance = None;
-          csv = false;
-        }))) }
+        (Ok (Kept (record (printing (codes "a.db")) { address = Some (codes "10.0.0.1") }))) }
     ensures csv { Says (codes "bac kept a.db --csv")
-        (Ok (Kept (record { file = codes "a.db"; address = None; instance = None; csv = true }))) }
+        (Ok (Kept (record (printing (codes "a.db")) { csv = true }))) }
+    ensures day { Says (codes "bac kept a.db --since=2026-11-30 --until=2026-12-01")
+        (Ok (Kept (record (printing (codes "a.db")) {
+          extent = between (Some (codes "2026-11-30")) (Some (codes "2026-12-01"));
+        }))) }
+    ensures since { Says (codes "bac kept a.db --since=2026-11-30T07:08:09.10")
+        (Ok (Kept (record (printing (codes "a.db")) {
+          extent = between (Some (codes "2026-11-30T07:08:09.10")) None;
+        }))) }
+    ensures until { Says (codes "bac kept a.db --until=2026")
+        (Ok (Kept (record (printing (codes "a.db")) {
+          extent = between None (Some (codes "2026"));
+        }))) }
+    ensures last { Says (codes "bac kept a.db --last")
+        (Ok (Kept (record (printing (codes "a.db")) { extent = Newest }))) }
+    ensures router { Says (codes "bac kept a.db 10.0.0.1 7 --dnet=5 --dadr=0a")
+        (Ok (Kept (record (printing (codes "a.db")) {
+          address = Some (codes "10.0.0.1");
+          instance = Some (codes "7");
+          dnet = Some (codes "5");
+          dadr = Some (codes "0a");
+        }))) }
 {}
 
 /// A line of each tool that asks no device and prints no log, and what it asks for.
@@ -134,6 +151,11 @@ pub fn lines_say_bad_values()
     ensures dnet { Says (codes "bac log 10.0.0.1 7 43 --dnet=65535 --dadr=0a") (Err Dnet) }
     ensures dnet_alone { Says (codes "bac rp 10.0.0.1 8 123 77 --dnet=7") (Err Dadr) }
     ensures dadr_alone { Says (codes "bac rp 10.0.0.1 8 123 77 --dadr=0a") (Err Dnet) }
+    ensures place { Says (codes "bac kept a.db --dnet=7 --dadr=0a") (Err Address) }
+    ensures year { Says (codes "bac kept a.db --since=202") (Err Since) }
+    ensures blank { Says (codes "bac kept a.db --until=2026-11-30_07:08") (Err Until) }
+    ensures third { Says (codes "bac kept a.db --until=2026-11-30T07:08:09.101") (Err Until) }
+    ensures newest { Says (codes "bac kept a.db --last --since=2026") (Err Last) }
     ensures odd { Says (codes "bac wp 10.0.0.1 5 1 85 8 0 --dnet=7 --dadr=0a1") (Err Dadr) }
 {}
 

@@ -5,6 +5,7 @@
 mod address;
 mod addresses;
 mod commands;
+mod dates;
 mod device_laws;
 mod devices;
 mod entries;
@@ -27,6 +28,7 @@ mod rows;
 mod said;
 mod tool_entries;
 mod tools;
+mod values;
 mod word;
 
 pub use addresses::Addresses;
@@ -36,8 +38,8 @@ pub use fault::WordsFault;
 pub use group::{Group, Groups, Way};
 pub use instances::Instances;
 pub use job::{
-    Asked, Check, Discovery, Given, Job, Keep, KeepOptions, Kept, LogListing, LogReading,
-    PropertyReading, PropertyWriting, ServedDevice, Stations,
+    Asked, Check, Discovery, Extent, Given, Job, Keep, KeepOptions, Kept, LogListing, LogReading,
+    Period, PropertyReading, PropertyWriting, ServedDevice, Stations,
 };
 pub use laws::{
     lines_are_mistakes, lines_say_bad_values, lines_say_keep, lines_say_kept, lines_say_log,
@@ -47,4 +49,6 @@ pub use listing::{ListFault, MOST_LISTED, read_addresses};
 pub use name::Name;
 pub use names::Names;
 pub use read::read_words;
+pub use route::read_route;
+pub use values::{read_address, read_number, read_octet};
 pub use word::Word;

@@ -194,7 +194,8 @@ adds trend logs 1 and 2 of that device to site.db and fetches their records:
   192.168.1.20:47808 2 88 records 1 gap caught up, next 447
 
 Without INSTANCE it adds every trend log in the device's Object_List. bac keep
-site.db fetches what is new of every log in the file, which sqlite3 can read.
+site.db polls every log in the file and backfills what was logged since the last
+run. Run by a timer, it is the site's historian. sqlite3 can read the file.
 More devices may follow, each with its INSTANCEs; one run polls them all:
 bac keep site.db 192.168.1.20 1 2 192.168.1.21 192.168.1.22 7
 With - instead of ADDRESS, devices are read from standard input, such as the
@@ -206,9 +207,9 @@ keeps their records.
 Exit status, the highest of all logs:
   0  every log is caught up
   1  usage, or a bad value
-  2  a device didn't reply
+  2  a device didn't reply, or a read, write or socket fault
   3  a device refused, or another one replied
-  4  a bad reply, or more records announced than sent
+  4  a bad or contradictory reply, or more records announced than sent
   5  out of memory
   6  the file isn't an archive, can't be read or written, or is full
   7  another program has the file open
@@ -227,10 +228,24 @@ pub(crate) const KEPT_PAGE: Page<'static> = Page {
     example: "Example: bac kept site.db 192.168.1.20 1
 prints each record and each gap of trend log 1, in the lines of bac log.
 bac kept plant prints those of each part of the folder plant, oldest first.
+With --dnet and --dadr it is the device behind the router at ADDRESS.
+
+A STAMP is YYYY-MM-DDTHH:MM:SS.HH by the device's clock, or the front of it, the
+year at least. This prints the records of a day, and the gaps between them:
+bac kept site.db --since=2026-11-30 --until=2026-12-01
+--last, instead of these, prints one line a log: its newest record.
 
 bac kept site.db --csv prints all logs as CSV: address, device, trend_log, name,
-epoch, number, stamp, value, datum, flags. A gap is a row whose datum is gap
-FIRST LAST.",
+source, units, epoch, number, stamp, value, datum, flags. A gap is a row whose
+datum is gap FIRST LAST.
+
+Exit status:
+  0  done
+  1  usage, or a bad value
+  2  a write fault
+  5  out of memory
+  6  a file isn't an archive or can't be read, or a part is missing
+  7  another program has a file open",
     own: &KEPT,
     shared: &[],
 };
@@ -244,8 +259,14 @@ records and gaps they have, and every number that is missing. bac check plant
 checks each part of the folder plant, and that it begins where the part before
 it ends.
 
-Exit status: 6 if a number is missing, a part begins elsewhere, or the file
-isn't an archive or can't be read; 7 if another program has it open.",
+Exit status:
+  0  no number is missing
+  1  usage, or a bad value
+  2  a write fault
+  5  out of memory
+  6  a number is missing, a part begins elsewhere, or a file isn't an archive or
+     can't be read
+  7  another program has a file open",
     own: &CHECK,
     shared: &[],
 };

@@ -44,15 +44,24 @@ pub(crate) fn route(net: &[u8], digits: &[u8]) -> Result<Option<Route>, Word>
     }
 }
 
-/// The place behind a router that is asked, if there is one; neither option goes alone.
+/// The place behind a router that the texts of the two options say, if they are there; neither goes
+/// alone.
 #[tactic(auto, unfolding(crate::specs::Rows::route_in))]
-pub(crate) fn route_at(matches: &ArgMatches) -> Result<Option<Route>, Word>
-    ensures { result ≡ route_at (rows_of (found_of matches.now)) }
+pub fn read_route(net: Option<&str>, address: Option<&str>) -> Result<Option<Route>, Word>
+    ensures { result ≡ route_in (option_map (λ s. s.now) net.entry)
+        (option_map (λ s. s.now) address.entry) }
 {
-    match (text(matches, Word::Dnet), text(matches, Word::Dadr)) {
+    match (net, address) {
         (Some(net), Some(address)) => route(net.as_bytes(), address.as_bytes()),
         (Some(_), None) => Err(Word::Dadr),
         (None, Some(_)) => Err(Word::Dnet),
         (None, None) => Ok(None),
     }
+}
+
+/// The place behind a router that is asked, if there is one.
+pub(crate) fn route_at(matches: &ArgMatches) -> Result<Option<Route>, Word>
+    ensures { result ≡ route_at (rows_of (found_of matches.now)) }
+{
+    read_route(text(matches, Word::Dnet), text(matches, Word::Dadr))
 }

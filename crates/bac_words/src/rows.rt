@@ -1,6 +1,6 @@
 //! What the matches of a tool say of a word or an option.
 
-ghost use Rattle.std.specs.Prelude.{◌≡◌, map, option_map};
+ghost use Rattle.std.specs.Prelude.{◌≡◌, map, option_map, IfOk};
 ghost use Rattle.clap.specs.Words.{rows_of, found_of};
 ghost use Rattle.bac_words.specs.Steps.{Makes};
 ghost use Rattle.bac_words.specs.Rows.{is_long_text, is_said, text_at, number_at, maybe_number_at};
@@ -11,17 +11,39 @@ use crate::address::address;
 use crate::addresses::Addresses;
 use crate::fault::WordsFault;
 use crate::job::Stations;
+use crate::name::Name;
 use crate::network::stations;
-use crate::numbers::{is_long, number, octet, short};
+use crate::numbers::{number, octet, short};
 use crate::word::Word;
 use clap::ArgMatches;
-use std::alloc::Global;
+use std::alloc::{AllocError, Global};
 
 /// The first value of a word or an option.
 pub(crate) fn text<'a>(matches: &ArgMatches<'a>, word: Word) -> Option<&'a str>
     ensures { option_map (λ s. s.now) result ≡ text_at word (rows_of (found_of matches.now)) }
 {
     matches.get_str(word.name())
+}
+
+/// A text that is owned.
+pub(crate) fn name_of(alloc: Global, text: &str) -> Result<Name, AllocError>
+    ensures { IfOk result (λ name. name ≡ text.now) }
+{
+    Ok(Name::of(String::from_str(alloc, text)?))
+}
+
+/// What a word or an option says, if it is there.
+pub(crate) fn name_at(
+    alloc: Global,
+    matches: &ArgMatches,
+    word: Word,
+) -> Result<Option<Name>, AllocError>
+    ensures { IfOk result (λ name. name ≡ text_at word (rows_of (found_of matches.now))) }
+{
+    match text(matches, word) {
+        Some(text) => Ok(Some(name_of(alloc, text)?)),
+        None => Ok(None),
+    }
 }
 
 /// Whether an option without a value was given.
@@ -39,7 +61,7 @@ pub(crate) fn is_long_at(matches: &ArgMatches, word: Word) -> bool
     ensures { result ≡ is_long_text word (text_at word (rows_of (found_of matches.now))) }
 {
     match text(matches, word) {
-        Some(text) => word.is_number() && is_long(text.as_bytes()),
+        Some(text) => word.is_long(text),
         None => false,
     }
 }

@@ -166,12 +166,7 @@ pub(crate) const LOG: [Entry<'static>; 6] = [
         "1000",
         "Stop after so many replies with records",
     ),
-    Entry::ChoiceOr(
-        Word::Records,
-        "N",
-        "100",
-        "Records a request asks for: 1 to 100",
-    ),
+    Entry::ChoiceOr(Word::Records, "N", "100", "Records per request: 1 to 100"),
     Entry::Flag(
         Word::Csv,
         "As CSV, with a first row of names and no last line",
@@ -203,7 +198,7 @@ pub(crate) const KEEP: [Entry<'static>; 8] = [
     Entry::Choice(
         Word::Records,
         "N",
-        "Records a request asks for: 1 to 100; 100 if left out",
+        "Records per request: 1 to 100; 100 if left out",
     ),
     Entry::ChoiceOr(
         Word::Part,
@@ -224,14 +219,27 @@ pub(crate) const KEEP: [Entry<'static>; 8] = [
 ];
 
 /// Of `bac kept`.
-pub(crate) const KEPT: [Entry<'static>; 4] = [
+pub(crate) const KEPT: [Entry<'static>; 9] = [
     FILE,
     Entry::Maybe(
         Word::Address,
         "The device: A.B.C.D or A.B.C.D:PORT (port 47808)",
     ),
     Entry::Maybe(Word::Instance, "The trend log's instance: 0 to 4194303"),
+    Entry::Choice(
+        Word::Since,
+        "STAMP",
+        "Only records at or after STAMP, such as 2026-11-30",
+    ),
+    Entry::Choice(
+        Word::Until,
+        "STAMP",
+        "Only records before STAMP, such as 2026-11-30T08:00",
+    ),
+    Entry::Flag(Word::Last, "Only the newest record of each log"),
     Entry::Flag(Word::Csv, "As CSV, with a first row of names"),
+    DNET,
+    DADR,
 ];
 
 /// Of `bac check`.

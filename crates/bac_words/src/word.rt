@@ -1,9 +1,11 @@
 //! The words and options of the tools, by their names.
 
-ghost use Rattle.std.specs.Prelude.{◌≡◌};
+ghost use Rattle.std.specs.Prelude.{◌≡◌, Some};
 ghost use Rattle.bac_words.specs.Names.{is_number as is_number_of, is_option as is_option_of};
 ghost use Rattle.bac_words.specs.Names.{name_of};
+ghost use Rattle.bac_words.specs.Rows.{is_long_text};
 
+use crate::numbers::is_long;
 use std::fmt;
 
 /// A word or an option of a tool, as the help shows it.
@@ -49,6 +51,12 @@ pub enum Word {
     Csv,
     /// Logs aren't asked any more.
     Stop,
+    /// The stamp from which on records are printed.
+    Since,
+    /// The stamp up to which they are printed.
+    Until,
+    /// Of each log the newest record alone.
+    Last,
     /// REALs and Doubles as decimal numbers.
     Numbers,
     /// Each datagram is told.
@@ -91,6 +99,9 @@ impl Word {
             Word::Count => "count",
             Word::Csv => "csv",
             Word::Stop => "stop",
+            Word::Since => "since",
+            Word::Until => "until",
+            Word::Last => "last",
             Word::Numbers => "numbers",
             Word::Trace => "trace",
             Word::Local => "local",
@@ -118,6 +129,9 @@ impl Word {
                 | Word::Count
                 | Word::Csv
                 | Word::Stop
+                | Word::Since
+                | Word::Until
+                | Word::Last
                 | Word::Numbers
                 | Word::Trace
                 | Word::Local
@@ -132,19 +146,33 @@ impl Word {
     pub(crate) fn is_number(self) -> bool
         ensures { result ≡ is_number_of self }
     {
-        !matches!(
+        matches!(
             self,
-            Word::Tool
-                | Word::Address
-                | Word::File
-                | Word::Csv
-                | Word::Stop
-                | Word::Numbers
-                | Word::Trace
-                | Word::Local
-                | Word::Value
-                | Word::Dadr
+            Word::ObjectType
+                | Word::Instance
+                | Word::Property
+                | Word::Priority
+                | Word::Tag
+                | Word::From
+                | Word::Index
+                | Word::Min
+                | Word::Max
+                | Word::Steps
+                | Word::Records
+                | Word::Part
+                | Word::AtOnce
+                | Word::Count
+                | Word::Timeout
+                | Word::Retries
+                | Word::Dnet
         )
+    }
+
+    /// Its value is a number, and this text is digits alone, and more than a number has.
+    pub fn is_long(self, text: &str) -> bool
+        ensures { result ≡ is_long_text self (Some text.now) }
+    {
+        self.is_number() && is_long(text.as_bytes())
     }
 }
 
