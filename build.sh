@@ -13,10 +13,10 @@ jobs=${1:-$(($(nproc) < free ? $(nproc) : free))}
 [ "$jobs" -gt 1 ] || jobs=1
 begun=$SECONDS
 
-# Nothing can be proved beside bac_wire, bac_apdu and bac_log, in turn, but the archive: so they share the processors. Each
+# Little can be proved beside bac_wire, bac_apdu and bac_log, in turn, but the archive: so they share the processors. Each
 # has its own `rt lib`, since that of bac_log alone would read the sources of all three once more before.
 if [ "$jobs" -gt 1 ]; then
-    (cd bac_archive && exec rt lib --jobs 1) &
+    (cd bac_archive3 && exec rt lib --jobs 1) &
     archive=$!
     trap 'kill "$archive" 2> /dev/null || true' EXIT
     for crate in bac_wire bac_apdu bac_log; do
@@ -27,12 +27,7 @@ if [ "$jobs" -gt 1 ]; then
 fi
 
 # The rest one job each: `rt all` takes the crate of this folder and all below it.
-(cd bac_ground && rt all check --jobs "$jobs")
-
-# The last ones stand one on the other: each has two jobs.
-for crate in bac_fetch bac_keeper bac_run; do
-    (cd "$crate" && rt lib --jobs $((jobs < 2 ? jobs : 2)))
-done
+(cd bac_run && rt all check --jobs "$jobs")
 
 # `rt run` links what is proved.
 cd bac

@@ -2,16 +2,15 @@
 //! clock. What it does with them is in the crate bac_run.
 #![tactic(auto)]
 
-use bac_desks::SteadyClock;
+use bac_drive::SteadyClock;
 use bac_heeding::Heeding;
 use bac_onward::Onward;
-use bac_recall::Recalling;
 use bac_run::{Console, DiskFiles, FolderFiles, Machine, run};
 use bac_tools::{Fault, SystemClock, UdpSockets, UntilRefused, tell};
 use bac_trace::{Traced, Writers};
 use sqlite::Unknown;
 use std::env::Args;
-use std::io::{BufWriter, ErrorKind, IsTerminal, Stderr};
+use std::io::{BufWriter, ErrorKind, Stderr};
 use std::process::ExitCode;
 use std::{env, io};
 
@@ -54,17 +53,12 @@ fn started(rt: &HostRuntime) -> Result<u8, Fault> {
     let Ok(output) = BufWriter::new(rt.alloc(), writer) else {
         return Err(Fault::Memory);
     };
-    // A count is for somebody who looks at both.
-    let counts = rt.stdout().is_terminal() && rt.stderr().is_terminal();
     let mut machine = Machine {
-        sockets: Recalling::new(
+        sockets: Onward::new(Traced::new(
             rt.alloc(),
-            Onward::new(Traced::new(
-                rt.alloc(),
-                Heeding::new(UdpSockets::new(rt)),
-                StandardErrors { rt },
-            )),
-        ),
+            Heeding::new(UdpSockets::new(rt)),
+            StandardErrors { rt },
+        )),
         files: DiskFiles::new(rt, Unknown),
         parts: DiskFiles::new(rt, Unknown),
         folders: FolderFiles::new(rt),
@@ -76,14 +70,7 @@ fn started(rt: &HostRuntime) -> Result<u8, Fault> {
         errors: rt.stderr(),
     };
     let waits = SteadyClock::new(rt);
-    Ok(run(
-        &mut machine,
-        &mut console,
-        rt.alloc(),
-        waits,
-        &words,
-        counts,
-    ))
+    Ok(run(&mut machine, &mut console, rt.alloc(), waits, &words))
 }
 
 fn main(rt: HostRuntime) -> ExitCode {

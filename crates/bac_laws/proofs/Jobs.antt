@@ -2,10 +2,11 @@
 use Rattle.std.proofs.Common.{◌≡◌, ◌≢◌, ℕ, Bool, List, [], Option, inl, inr, refl}
 use Rattle.sqlite_disk.specs.declared.Disk as disk
 use Rattle.sqlite_disk.specs.declared.start.Start as start
-use Rattle.bac_fetch.specs.Ahead.{AtOnce}
+use Rattle.sqlite_wal.specs.Recovery.{Image}
+use Rattle.bac_batch.specs.Batch.{Batched}
+use Rattle.bac_drive.specs.Happens.{Acts}
 use Rattle.bac_files.specs.Files.{FileOf}
 use Rattle.bac_files.specs.Parts.{PartRules}
-use Rattle.bac_files.specs.declared.disk_files.DiskFiles.{DiskFiles}
 use Rattle.bac_heeding.specs.Ports.{Event}
 use Rattle.bac_heeding.specs.declared.notes.Passed.{Passed}
 use Rattle.bac_laws.proofs.Captured.{captured_behind, nothing_captured}
@@ -21,8 +22,10 @@ use Rattle.bac_laws.specs.Found.{FindsWhatCame}
 use Rattle.bac_ports.specs.Sockets.{SocketRules}
 use Rattle.bac_print.specs.Output.{Held}
 use Rattle.bac_run.specs.Run.{RunsAll}
+use Rattle.bac_run.specs.Setup.{Setup, with_sockets}
+use Rattle.bac_site_poller.specs.Site.{SiteState}
 use Rattle.bac_tools.specs.Run.{Runs}
-use Rattle.bac_tools.specs.Streams.{Streams, outlets_of, outside_of, pipes_of, streams, with_errors}
+use Rattle.bac_tools.specs.Streams.{Streams, outlets_of, outside_of, pipes_of, with_errors}
 use Rattle.bac_tools.specs.declared.fault.Fault.TheVariants as fault
 use Rattle.bac_wire.specs.Stamp.{CivilTime}
 use Rattle.bac_words.specs.Jobs.{is_traced}
@@ -87,12 +90,11 @@ module _ {S P : Type 0} (rules : SocketRules S P) (switches : S → Bool → S �
     logs_runs said named old status new (inr (result, errors, (is, quiet, unread), ends)) =
         logs rules switches said named (passes new.sockets) (outside_of old) result (outside_of (with_errors errors new)) errors new.errors status is ends
 
-module _ {S C P F G T Q : Type 0} {s : start.Ghosts F} {t : start.Ghosts G} (g : disk.Ghosts (FileOf s))
-    (h : disk.Ghosts (FileOf t)) (parts : DiskFiles G t) (waits : ℕ → AtOnce S T) (folders : PartRules Q) (p q : Q)
-    (switches : S → Bool → S → Type 0) (rules : SocketRules S P) (passes : S → Passed)
-    (tells : C → Option CivilTime → C → Type 0) where
-  abbrev Ran : Job → Streams S C → DiskFiles F s → ℕ → Streams S C → DiskFiles F s → Type 0
-  Ran asked old files status new left = RunsAll g h parts waits folders p q switches rules passes tells asked old files status new left
+module _ {S P C W Q F G : Type 0} {s : start.Ghosts F} {t : start.Ghosts G} (rules : SocketRules S P) (acts : Acts (Batched SiteState) P W)
+    (f : disk.Ghosts (FileOf s)) (file : Image) (g : disk.Ghosts (FileOf t)) (part : Image) (folders : PartRules Q) (passes : S → Passed)
+    (tells : C → Option CivilTime → C → Type 0) (waits : W) (switches : S → Bool → S → Type 0) where
+  abbrev Ran : Job → Setup S C Q s t → ℕ → Setup S C Q s t → Type 0
+  Ran asked old status new = RunsAll rules acts f file g part folders passes tells waits switches asked old status new
 
   -- the sockets were switched first
   behind : (law : List Event → Held → Held → ℕ → Type 0) (first old new : S) (on : Bool) (before after : Held) (status : ℕ) → switches first on old
@@ -100,56 +102,56 @@ module _ {S C P F G T Q : Type 0} {s : start.Ghosts F} {t : start.Ghosts G} (g :
   behind law first old new on before after status switched (es, captured, is) =
       (es, captured_behind rules switches first old new on es switched captured, is)
 
-  pub wp_ran : (said : PropertyWriting) (old : Streams S C) (files : DiskFiles F s) (status : ℕ) (new : Streams S C) (left : DiskFiles F s)
-      → Ran (job.Wp said) old files status new left → Of rules switches (WritesOnce said) old.sockets new.sockets old.output new.output status
-  wp_ran said old files status new left (inl (told, files', apart)) = wp_runs rules switches passes tells said old status new (inl told)
-  wp_ran said old files status new left (inr (sockets, switched, (ran, files', apart))) =
-      behind (WritesOnce said) old.sockets sockets new.sockets (is_traced (job.Wp said)) old.output new.output status switched
-      (wp_runs rules switches passes tells said (streams old.input old.output old.errors sockets old.clock) status new ran)
+  pub wp_ran : (said : PropertyWriting) (old : Setup S C Q s t) (status : ℕ) (new : Setup S C Q s t)
+      → Ran (job.Wp said) old status new → Of rules switches (WritesOnce said) old.streams.sockets new.streams.sockets old.streams.output new.streams.output status
+  wp_ran said old status new (inl (told, off)) = wp_runs rules switches passes tells said old.streams status new.streams (inl told)
+  wp_ran said old status new (inr (sockets, switched, (ran, off))) =
+      behind (WritesOnce said) old.streams.sockets sockets new.streams.sockets (is_traced (job.Wp said)) old.streams.output new.streams.output status switched
+      (wp_runs rules switches passes tells said (with_sockets sockets old).streams status new.streams ran)
 
-  rp_ran : (said : PropertyReading) (old : Streams S C) (files : DiskFiles F s) (status : ℕ) (new : Streams S C) (left : DiskFiles F s)
-      → Ran (job.Rp said) old files status new left
+  rp_ran : (said : PropertyReading) (old : Setup S C Q s t) (status : ℕ) (new : Setup S C Q s t)
+      → Ran (job.Rp said) old status new
       → Of rules switches (λ es before after status. ReadsOnce said es before after status × (status ≡ 0 → PrintsWhatCame said es before after))
-      old.sockets new.sockets old.output new.output status
-  rp_ran said old files status new left (inl (told, files', apart)) = rp_runs rules switches passes tells said old status new (inl told)
-  rp_ran said old files status new left (inr (sockets, switched, (ran, files', apart))) =
+      old.streams.sockets new.streams.sockets old.streams.output new.streams.output status
+  rp_ran said old status new (inl (told, off)) = rp_runs rules switches passes tells said old.streams status new.streams (inl told)
+  rp_ran said old status new (inr (sockets, switched, (ran, off))) =
       behind (λ es before after status. ReadsOnce said es before after status × (status ≡ 0 → PrintsWhatCame said es before after))
-      old.sockets sockets new.sockets (is_traced (job.Rp said)) old.output new.output status switched
-      (rp_runs rules switches passes tells said (streams old.input old.output old.errors sockets old.clock) status new ran)
+      old.streams.sockets sockets new.streams.sockets (is_traced (job.Rp said)) old.streams.output new.streams.output status switched
+      (rp_runs rules switches passes tells said (with_sockets sockets old).streams status new.streams ran)
 
-  pub rp_asks : (said : PropertyReading) (old : Streams S C) (files : DiskFiles F s) (status : ℕ) (new : Streams S C) (left : DiskFiles F s)
-      → Ran (job.Rp said) old files status new left → Of rules switches (ReadsOnce said) old.sockets new.sockets old.output new.output status
-  rp_asks said old files status new left ran = let it = rp_ran said old files status new left ran in (it.0, it.1, it.2.0)
+  pub rp_asks : (said : PropertyReading) (old : Setup S C Q s t) (status : ℕ) (new : Setup S C Q s t)
+      → Ran (job.Rp said) old status new → Of rules switches (ReadsOnce said) old.streams.sockets new.streams.sockets old.streams.output new.streams.output status
+  rp_asks said old status new ran = let it = rp_ran said old status new ran in (it.0, it.1, it.2.0)
 
-  pub rp_prints : (said : PropertyReading) (old : Streams S C) (files : DiskFiles F s) (status : ℕ) (new : Streams S C) (left : DiskFiles F s)
-      → Ran (job.Rp said) old files status new left → status ≡ 0
-      → (es : List Event) × IsCaptured rules switches old.sockets new.sockets es × PrintsWhatCame said es old.output new.output
-  rp_prints said old files status new left ran none = let it = rp_ran said old files status new left ran in (it.0, it.1, it.2.1 none)
+  pub rp_prints : (said : PropertyReading) (old : Setup S C Q s t) (status : ℕ) (new : Setup S C Q s t)
+      → Ran (job.Rp said) old status new → status ≡ 0
+      → (es : List Event) × IsCaptured rules switches old.streams.sockets new.streams.sockets es × PrintsWhatCame said es old.streams.output new.streams.output
+  rp_prints said old status new ran none = let it = rp_ran said old status new ran in (it.0, it.1, it.2.1 none)
 
-  pub wi_ran : (said : Discovery) (old : Streams S C) (files : DiskFiles F s) (status : ℕ) (new : Streams S C) (left : DiskFiles F s)
-      → Ran (job.Wi said) old files status new left → Of rules switches (FindsWhatCame said) old.sockets new.sockets old.output new.output status
-  wi_ran said old files status new left (inl (told, files', apart)) = wi_runs rules switches passes tells said old status new (inl told)
-  wi_ran said old files status new left (inr (sockets, switched, (ran, files', apart))) =
-      behind (FindsWhatCame said) old.sockets sockets new.sockets (is_traced (job.Wi said)) old.output new.output status switched
-      (wi_runs rules switches passes tells said (streams old.input old.output old.errors sockets old.clock) status new ran)
+  pub wi_ran : (said : Discovery) (old : Setup S C Q s t) (status : ℕ) (new : Setup S C Q s t)
+      → Ran (job.Wi said) old status new → Of rules switches (FindsWhatCame said) old.streams.sockets new.streams.sockets old.streams.output new.streams.output status
+  wi_ran said old status new (inl (told, off)) = wi_runs rules switches passes tells said old.streams status new.streams (inl told)
+  wi_ran said old status new (inr (sockets, switched, (ran, off))) =
+      behind (FindsWhatCame said) old.streams.sockets sockets new.streams.sockets (is_traced (job.Wi said)) old.streams.output new.streams.output status switched
+      (wi_runs rules switches passes tells said (with_sockets sockets old).streams status new.streams ran)
 
-  pub serve_ran : (said : ServedDevice) (old : Streams S C) (files : DiskFiles F s) (status : ℕ) (new : Streams S C) (left : DiskFiles F s)
-      → Ran (job.Serve said) old files status new left → Of rules switches (Serving said old.input) old.sockets new.sockets old.output new.output status
-  serve_ran said old files status new left (inl (told, files', apart)) = serve_runs rules switches passes tells said old status new (inl told)
-  serve_ran said old files status new left (inr (sockets, switched, (ran, files', apart))) =
-      behind (Serving said old.input) old.sockets sockets new.sockets (is_traced (job.Serve said)) old.output new.output status switched
-      (serve_runs rules switches passes tells said (streams old.input old.output old.errors sockets old.clock) status new ran)
+  pub serve_ran : (said : ServedDevice) (old : Setup S C Q s t) (status : ℕ) (new : Setup S C Q s t)
+      → Ran (job.Serve said) old status new → Of rules switches (Serving said old.streams.input) old.streams.sockets new.streams.sockets old.streams.output new.streams.output status
+  serve_ran said old status new (inl (told, off)) = serve_runs rules switches passes tells said old.streams status new.streams (inl told)
+  serve_ran said old status new (inr (sockets, switched, (ran, off))) =
+      behind (Serving said old.streams.input) old.streams.sockets sockets new.streams.sockets (is_traced (job.Serve said)) old.streams.output new.streams.output status switched
+      (serve_runs rules switches passes tells said (with_sockets sockets old).streams status new.streams ran)
 
-  pub log_ran : (said : LogReading) (old : Streams S C) (files : DiskFiles F s) (status : ℕ) (new : Streams S C) (left : DiskFiles F s)
-      → Ran (job.Log said) old files status new left → Few rules switches said old.sockets new.sockets
-  log_ran said old files status new left (inl (told, files', apart)) = log_runs rules switches passes tells said old status new (inl told)
-  log_ran said old files status new left (inr (sockets, switched, (ran, files', apart))) =
-      let it = log_runs rules switches passes tells said (streams old.input old.output old.errors sockets old.clock) status new ran in
-      (it.0, captured_behind rules switches old.sockets sockets new.sockets (is_traced (job.Log said)) it.0 switched it.1, it.2)
+  pub log_ran : (said : LogReading) (old : Setup S C Q s t) (status : ℕ) (new : Setup S C Q s t)
+      → Ran (job.Log said) old status new → Few rules switches said old.streams.sockets new.streams.sockets
+  log_ran said old status new (inl (told, off)) = log_runs rules switches passes tells said old.streams status new.streams (inl told)
+  log_ran said old status new (inr (sockets, switched, (ran, off))) =
+      let it = log_runs rules switches passes tells said (with_sockets sockets old).streams status new.streams ran in
+      (it.0, captured_behind rules switches old.streams.sockets sockets new.streams.sockets (is_traced (job.Log said)) it.0 switched it.1, it.2)
 
-  pub logs_ran : (said : LogListing) → said.instances ≢ [] → (old : Streams S C) (files : DiskFiles F s) (status : ℕ) (new : Streams S C)
-      (left : DiskFiles F s) → Ran (job.Logs said) old files status new left → Listed rules switches said old.sockets new.sockets old.output new.output status
-  logs_ran said named old files status new left (inl (told, files', apart)) = logs_runs rules switches passes tells said named old status new (inl told)
-  logs_ran said named old files status new left (inr (sockets, switched, (ran, files', apart))) =
-      let it = logs_runs rules switches passes tells said named (streams old.input old.output old.errors sockets old.clock) status new ran in
-      (it.0, captured_behind rules switches old.sockets sockets new.sockets (is_traced (job.Logs said)) it.0 switched it.1, it.2)
+  pub logs_ran : (said : LogListing) → said.instances ≢ [] → (old : Setup S C Q s t) (status : ℕ) (new : Setup S C Q s t)
+      → Ran (job.Logs said) old status new → Listed rules switches said old.streams.sockets new.streams.sockets old.streams.output new.streams.output status
+  logs_ran said named old status new (inl (told, off)) = logs_runs rules switches passes tells said named old.streams status new.streams (inl told)
+  logs_ran said named old status new (inr (sockets, switched, (ran, off))) =
+      let it = logs_runs rules switches passes tells said named (with_sockets sockets old).streams status new.streams ran in
+      (it.0, captured_behind rules switches old.streams.sockets sockets new.streams.sockets (is_traced (job.Logs said)) it.0 switched it.1, it.2)

@@ -2,6 +2,8 @@ pub mod Asked
 pub mod Walked
 pub mod Over
 pub mod Tools
+pub mod Polled
+pub mod Keeps
 pub mod Sent
 pub mod Quiet
 pub mod Losses
@@ -19,11 +21,10 @@ pub mod Serves
 pub mod Served
 pub mod Few
 pub mod Jobs
-pub mod Kept
-pub mod Unfit
 pub mod Lists
 pub mod Listed
-pub mod Epochs
-pub mod Checks
 pub mod Left
+pub mod Epochs
+pub mod Unfit
+pub mod Archives
 pub mod Played

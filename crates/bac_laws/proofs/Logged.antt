@@ -4,16 +4,19 @@ use Rattle.std.specs.List.{Contains}
 use Rattle.std.specs.Io.KnownBytes.{Appends, Keeps}
 use Rattle.sqlite_disk.specs.declared.Disk as disk
 use Rattle.sqlite_disk.specs.declared.start.Start as start
-use Rattle.bac_fetch.specs.Ahead.{AtOnce}
+use Rattle.sqlite_wal.specs.Recovery.{Image}
+use Rattle.bac_batch.specs.Batch.{Batched}
+use Rattle.bac_drive.specs.Happens.{Acts}
 use Rattle.bac_files.specs.Files.{FileOf}
 use Rattle.bac_files.specs.Parts.{PartRules}
-use Rattle.bac_files.specs.declared.disk_files.DiskFiles.{DiskFiles}
 use Rattle.bac_apdu.specs.declared.service.read_range.ReadRange.{ReadRange}
 use Rattle.bac_laws.specs.Sends.{IsReadRange}
 use Rattle.bac_log.specs.Ack.{log_buffer}
 use Rattle.bac_link.specs.Requests.{next_invoke, request_octets}
 use Rattle.bac_query.specs.declared.fetching.Fetched.{Fetched}
 use Rattle.bac_run.specs.Run.{RunsAll}
+use Rattle.bac_run.specs.Setup.{Setup, with_sockets}
+use Rattle.bac_site_poller.specs.Site.{SiteState}
 use Rattle.bac_tools.specs.Status.{exit_status}
 use Rattle.bac_tools.specs.declared.fault.Fault.{Fault as ToolFault}
 use Rattle.bac_laws.proofs.Asked.{Leads}
@@ -53,7 +56,7 @@ use Rattle.bac_tools.specs.Asking.{Fetches, FetchesOver, of_fetching}
 use Rattle.bac_tools.specs.Ending.{Ending}
 use Rattle.bac_tools.specs.Run.{Ends, IsNoWalk, Runs as RunsTool, Works, layout_of, trend_log, walk_from}
 use Rattle.bac_tools.specs.Sockets.{Outlets, outside, transactions_with}
-use Rattle.bac_tools.specs.Streams.{Streams, outlets_of, streams, with_errors}
+use Rattle.bac_tools.specs.Streams.{Streams, outlets_of, with_errors}
 use Rattle.bac_tools.specs.declared.fault.Fault.TheVariants as fault
 use Rattle.bac_walk.proofs.Follows.{brought_goes}
 use Rattle.bac_walk.proofs.Transacted.{brought_plain}
@@ -370,16 +373,14 @@ module _ {S P : Type 0} (rules : SocketRules S P) (changes : S → S → Type 0)
     runs passes tells said lines old status new (inr (result, errors, is, ends)) =
         works tells said lines (passes new.sockets) old result (with_errors errors new) errors new.errors status is ends
 
-module _ {S C P F G T Q : Type 0} {s : start.Ghosts F} {t : start.Ghosts G} (g : disk.Ghosts (FileOf s))
-    (h : disk.Ghosts (FileOf t)) (parts : DiskFiles G t) (waits : ℕ → AtOnce S T) (folders : PartRules Q) (p q : Q)
-    (switches : S → Bool → S → Type 0) (rules : SocketRules S P) (changes : S → S → Type 0)
-    (passes : S → Passed) (tells : C → Option CivilTime → C → Type 0) where
-  pub prints_log : (said : LogReading) → said.csv ≡ false → (old : Streams S C) (files : DiskFiles F s) (status : ℕ)
-      (new : Streams S C) (left : DiskFiles F s)
-      → RunsAll g h parts waits folders p q switches rules passes tells (job.Log said) old files status new left
-      → Prints rules changes switches said old.sockets new.sockets old.output new.output status
-  prints_log said lines old files status new left (inl (told, files', apart)) =
-      runs rules changes switches passes tells said lines old status new (inl told)
-  prints_log said lines old files status new left (inr (sockets, switched, (ran, files', apart))) =
-      let (es, captured, is) = runs rules changes switches passes tells said lines (streams old.input old.output old.errors sockets old.clock) status new ran in
-      (es, captured_behind rules switches old.sockets sockets new.sockets (is_traced (job.Log said)) es switched captured, is)
+module _ {S P C W Q F G : Type 0} {s : start.Ghosts F} {t : start.Ghosts G} (rules : SocketRules S P) (acts : Acts (Batched SiteState) P W)
+    (f : disk.Ghosts (FileOf s)) (file : Image) (g : disk.Ghosts (FileOf t)) (part : Image) (folders : PartRules Q) (passes : S → Passed)
+    (tells : C → Option CivilTime → C → Type 0) (waits : W) (changes : S → S → Type 0) (switches : S → Bool → S → Type 0) where
+  pub prints_log : (said : LogReading) → said.csv ≡ false → (old : Setup S C Q s t) (status : ℕ) (new : Setup S C Q s t)
+      → RunsAll rules acts f file g part folders passes tells waits switches (job.Log said) old status new
+      → Prints rules changes switches said old.streams.sockets new.streams.sockets old.streams.output new.streams.output status
+  prints_log said lines old status new (inl (told, off)) =
+      runs rules changes switches passes tells said lines old.streams status new.streams (inl told)
+  prints_log said lines old status new (inr (sockets, switched, (ran, off))) =
+      let (es, captured, is) = runs rules changes switches passes tells said lines (with_sockets sockets old).streams status new.streams ran in
+      (es, captured_behind rules switches old.streams.sockets sockets new.streams.sockets (is_traced (job.Log said)) es switched captured, is)

@@ -3,27 +3,30 @@ use Rattle.std.proofs.Common.{◌≡◌, ◌⊎◌, ℕ, Bool, List, [], Option,
 use Rattle.std.specs.Io.KnownBytes.{Appends, Keeps}
 use Rattle.sqlite_disk.specs.declared.Disk as disk
 use Rattle.sqlite_disk.specs.declared.start.Start as start
-use Rattle.bac_fetch.specs.Ahead.{AtOnce}
+use Rattle.sqlite_wal.specs.Recovery.{Image}
+use Rattle.bac_batch.specs.Batch.{Batched}
+use Rattle.bac_drive.specs.Happens.{Acts}
 use Rattle.bac_files.specs.Files.{FileOf}
 use Rattle.bac_files.specs.Parts.{PartRules}
-use Rattle.bac_files.specs.declared.disk_files.DiskFiles.{DiskFiles}
 use Rattle.bac_heeding.specs.declared.notes.Passed.{Passed}
 use Rattle.bac_laws.proofs.Statuses.{Ended, done_so, ended, failed, kept_none, same_keeps, told_fails, told_memory}
 use Rattle.bac_laws.specs.Played.{PlaysScript, limit}
 use Rattle.bac_ports.specs.Sockets.{SocketRules}
 use Rattle.bac_print.specs.Output.{AppendsPart, Held}
 use Rattle.bac_run.specs.Run.{RunsAll}
+use Rattle.bac_run.specs.Setup.{Setup, with_sockets}
 use Rattle.bac_script.proofs.EndLemmas.{Replays-unwritten}
 use Rattle.bac_script.specs.Reason.{without_reason}
 use Rattle.bac_script.specs.Replay.{Ends as EndsScript, Replays, fault_of_script, text_of}
 use Rattle.bac_script.specs.declared.replay.fault.Refused.{Refused}
 use Rattle.bac_script.specs.declared.replay.fault.ReplayFault.{ReplayFault}
 use Rattle.bac_script.specs.declared.replay.fault.ReplayFault.TheVariants as replay
+use Rattle.bac_site_poller.specs.Site.{SiteState}
 use Rattle.bac_tools.specs.Ending.{Ending}
 use Rattle.bac_tools.specs.Playing.{Plays, of_replay}
 use Rattle.bac_tools.specs.Run.{Ends, IsTold, Runs}
 use Rattle.bac_tools.specs.Status.{script_status}
-use Rattle.bac_tools.specs.Streams.{Streams, streams}
+use Rattle.bac_tools.specs.Streams.{Streams}
 use Rattle.bac_tools.specs.declared.fault.Fault.TheVariants as fault
 use Rattle.bac_wire.specs.Stamp.{CivilTime}
 use Rattle.bac_words.specs.declared.job.Job.TheVariants as job
@@ -116,25 +119,25 @@ module _ (passed : Passed) (script : List ℕ) (left before after said now : Hel
         other = known_by played result how ends;
       }
 
-module _ {S C P F G T Q : Type 0} {s : start.Ghosts F} {t : start.Ghosts G} (g : disk.Ghosts (FileOf s))
-    (h : disk.Ghosts (FileOf t)) (parts : DiskFiles G t) (waits : ℕ → AtOnce S T) (folders : PartRules Q) (p q : Q)
-    (switches : S → Bool → S → Type 0) (rules : SocketRules S P) (passes : S → Passed)
-    (tells : C → Option CivilTime → C → Type 0) where
+module _ {S P C W Q F G : Type 0} {s : start.Ghosts F} {t : start.Ghosts G} (rules : SocketRules S P) (acts : Acts (Batched SiteState) P W)
+    (f : disk.Ghosts (FileOf s)) (file : Image) (g : disk.Ghosts (FileOf t)) (part : Image) (folders : PartRules Q) (passes : S → Passed)
+    (tells : C → Option CivilTime → C → Type 0) (waits : W) (switches : S → Bool → S → Type 0) where
   runs : (script : List ℕ) (old : Streams S C) (status : ℕ) (new : Streams S C) → Runs rules passes tells job.Replay old status new
       → old.input ≡ Some script → PlaysScript script old.output new.output status
   runs script old status new (inl (told, keeps, untouched)) has = nothing script old.errors new.errors old.output new.output status told keeps
   runs script old status new (inr (result, said, (is, idle), ends)) has =
       plays (passes new.sockets) script new.input old.output new.output said new.errors status old.input result is has ends
 
-  pub replay_ran : (script : List ℕ) (old : Streams S C) (files : DiskFiles F s) (status : ℕ) (new : Streams S C) (left : DiskFiles F s)
-      → RunsAll g h parts waits folders p q switches rules passes tells job.Replay old files status new left → old.input ≡ Some script
-      → PlaysScript script old.output new.output status
-  replay_ran script old files status new left (inl ((told, keeps, untouched), files', apart)) has =
-      nothing script old.errors new.errors old.output new.output status told keeps
-  replay_ran script old files status new left (inr (sockets, switched, (ran, files', apart))) has =
-      runs script (streams old.input old.output old.errors sockets old.clock) status new ran has
+  pub replay_ran : (script : List ℕ) (old : Setup S C Q s t) (status : ℕ) (new : Setup S C Q s t)
+      → RunsAll rules acts f file g part folders passes tells waits switches job.Replay old status new → old.streams.input ≡ Some script
+      → PlaysScript script old.streams.output new.streams.output status
+  replay_ran script old status new (inl ((told, keeps, untouched), off)) has =
+      nothing script old.streams.errors new.streams.errors old.streams.output new.streams.output status told keeps
+  replay_ran script old status new (inr (sockets, switched, (ran, off))) has =
+      runs script (with_sockets sockets old).streams status new.streams ran has
 
-  pub replay_leaves : (old : Streams S C) (files : DiskFiles F s) (status : ℕ) (new : Streams S C) (left : DiskFiles F s)
-      → RunsAll g h parts waits folders p q switches rules passes tells job.Replay old files status new left → (left ≡ files) × (q ≡ p)
-  replay_leaves old files status new left (inl (told, same, apart)) = (same, apart)
-  replay_leaves old files status new left (inr (sockets, switched, (ran, same, apart))) = (same, apart)
+  pub replay_leaves : (old : Setup S C Q s t) (status : ℕ) (new : Setup S C Q s t)
+      → RunsAll rules acts f file g part folders passes tells waits switches job.Replay old status new
+      → (new.files ≡ old.files) × (new.folders ≡ old.folders)
+  replay_leaves old status new (inl (told, off)) = (off.0.0, off.1)
+  replay_leaves old status new (inr (sockets, switched, (ran, off))) = (off.0.0, off.1)

@@ -1,17 +1,17 @@
 -- What the whole program leaves whole.
-use Rattle.std.proofs.Common.{◌≡◌, ℕ, Bool, true, false, List, [], ◌∷◌, map, Option, None, Some, Ok, Err, inl, inr, refl, sym, subst}
+use Rattle.std.proofs.Common.{◌≡◌, ℕ, Bool, true, List, [], ◌∷◌, map, Option, None, Some, Ok, Err, inl, inr, refl, sym, subst}
 use Rattle.std.specs.List.{Contains}
 use Rattle.std.proofs.lemmas.List.Elements.{Contains-append_left, Contains-append_right, Contains-push}
 use Rattle.sqlite_disk.specs.declared.Disk as disk
 use Rattle.sqlite_disk.specs.declared.start.Start as start
-use Rattle.bac_fetch.specs.Ahead.{AtOnce}
+use Rattle.sqlite_wal.specs.Recovery.{Image}
 use Rattle.bac_files.specs.Files.{FileOf}
 use Rattle.bac_files.specs.Parts.{PartRules}
-use Rattle.bac_files.specs.declared.disk_files.DiskFiles.{DiskFiles}
 use Rattle.bac_heeding.specs.declared.notes.Passed.{Passed}
+use Rattle.bac_laws.proofs.Keeps.{keep_stops, keep_whole, site_over}
 use Rattle.bac_laws.proofs.Over.{StaysWhole, still}
 use Rattle.bac_laws.proofs.Tools.{done_over, fetches, lists, reads, writes}
-use Rattle.bac_laws.specs.Sends.{Beside, IsBound, IsStation, MaySend, Seal, SendsOnly}
+use Rattle.bac_laws.specs.Sends.{AreSwitched, GaveBack, IsBound, IsStation, MaySend, Seal, SendsOnly}
 use Rattle.bac_ports.specs.Port.{Receiving}
 use Rattle.bac_ports.specs.Sockets.{SocketRules, own_address}
 use Rattle.bac_query.specs.Ahead.{errand}
@@ -19,15 +19,15 @@ use Rattle.bac_query.specs.Finding.{unasked}
 use Rattle.bac_query.specs.Hearing.{Left, ReceivesBy, Standing, port_rules}
 use Rattle.bac_query.specs.Requests.{who_is_octets}
 use Rattle.bac_query.specs.Turns.{Along, ComesTo, Received, Sent, Turn, asked_in}
-use Rattle.bac_recall.specs.declared.conversations.Conversation.{Conversation}
-use Rattle.bac_run.specs.Run.{DoesAll, RunsAll, RunsGroups, RunsKeepBy}
+use Rattle.bac_run.specs.Run.{DoesAll, RunsAll}
+use Rattle.bac_run.specs.Setup.{Setup, with_sockets}
 use Rattle.bac_tools.specs.Ending.{Ending}
 use Rattle.bac_tools.specs.Finding.{Finds, Inquiry, Searches, inquiry, search_of}
 use Rattle.bac_tools.specs.Run.{Runs, Works, layout_of, question, reals_of, trend_log, walk_from}
 use Rattle.bac_tools.specs.Sockets.{Outside, Pipes, binding, outside}
-use Rattle.bac_tools.specs.Streams.{Streams, outlets_of, outside_of, pipes_of, streams, with_errors}
+use Rattle.bac_tools.specs.Streams.{Streams, outlets_of, outside_of, pipes_of, with_errors}
 use Rattle.bac_wire.specs.Stamp.{CivilTime}
-use Rattle.bac_words.specs.Jobs.{is_traced, reads_input, with_groups}
+use Rattle.bac_words.specs.Jobs.{is_traced}
 use Rattle.bac_words.specs.declared.job.Job.{Job}
 use Rattle.bac_words.specs.declared.job.Job.TheVariants as job
 use Rattle.bac_words.specs.declared.job.Keep.{Keep as KeepWords}
@@ -125,52 +125,44 @@ module _ {S P : Type 0} {rules : SocketRules S P} {changes : S → S → Type 0}
   runs passes tells asked bound seal old status new (inr (result, said, is, ends)) whole =
       works tells asked bound seal old result (with_errors said new) is whole
 
-module _ {S C P F G T Q : Type 0} {s : start.Ghosts F} {t : start.Ghosts G} (g : disk.Ghosts (FileOf s))
-    (h : disk.Ghosts (FileOf t)) (parts : DiskFiles G t) (waits : ℕ → AtOnce S T) (folders : PartRules Q) (p q : Q)
-    (switches : S → Bool → S → Type 0) (holds : S → List Conversation → S → Type 0) (rules : SocketRules S P)
-    (passes : S → Passed) (tells : C → Option CivilTime → C → Type 0) where
-  pub stopped : (asked : KeepWords) (stop : Bool) (old : Streams S C) (status : ℕ) (new : Streams S C) (left : DiskFiles F s)
-      → stop ≡ true → RunsKeepBy g h parts waits rules passes stop asked old status new left → new.sockets ≡ old.sockets
-  stopped asked true old status new left is ran = ran.1
-  stopped asked false old status new left is ran = absurd (let e : false ≡ true = is in cc)
+module _ {S P C W Q F G : Type 0} {s : start.Ghosts F} {t : start.Ghosts G} (rules : SocketRules S P) (f : disk.Ghosts (FileOf s)) (file : Image)
+    (g : disk.Ghosts (FileOf t)) (part : Image) (folders : PartRules Q) (passes : S → Passed) (tells : C → Option CivilTime → C → Type 0)
+    (waits : W) (reads' : W → ℕ → W → Type 0) (switches : S → Bool → S → Type 0) where
+  abbrev Does : Job → Setup S C Q s t → ℕ → Setup S C Q s t → Type 0
+  Does asked old status new = DoesAll rules (site_over rules reads') f file g part folders passes tells waits asked old status new
 
-  groups : (reading : Bool) (asked : KeepWords) (old : Streams S C) (files : DiskFiles F s) (status : ℕ) (new : Streams S C)
-      (left : DiskFiles F s) → asked.stop ≡ true
-      → RunsGroups g h parts waits rules passes reading asked old files status new left → new.sockets ≡ old.sockets
-  groups false asked old files status new left stop (ran, unread, gains) = stopped asked asked.stop old status new left stop ran
-  groups true asked old files status new left stop (Ok devices, list, (ran, gains)) = stopped (with_groups asked devices) asked.stop old status new left stop ran
-  groups true asked old files status new left stop (Err fault, list, (told, output, same, files')) = same
+  abbrev Ran : Job → Setup S C Q s t → ℕ → Setup S C Q s t → Type 0
+  Ran asked old status new = RunsAll rules (site_over rules reads') f file g part folders passes tells waits switches asked old status new
 
-  does_all : (asked : Job) → IsBound asked → (seal : Seal rules (Beside switches holds) (MaySend asked)) (old : Streams S C)
-      (files : DiskFiles F s) (status : ℕ) (new : Streams S C) (left : DiskFiles F s)
-      → DoesAll g h parts waits folders p q rules passes tells asked old files status new left
-      → seal.sockets old.sockets ≡ true → seal.sockets new.sockets ≡ true
-  does_all (job.Keep asked) bound seal old files status new left (ran, clock, apart, items) whole =
-      same_sockets seal old.sockets new.sockets (groups (reads_input asked) asked old files status new left bound ran) whole
-  does_all (job.Kept asked) bound seal old files status new left (ran, stays, same, rows) whole =
-      same_sockets seal old.sockets new.sockets same whole
-  does_all (job.Check asked) bound seal old files status new left (ran, files', stays, same) whole =
-      same_sockets seal old.sockets new.sockets same whole
-  does_all job.Replay bound seal old files status new left (ran, files', apart) whole =
-      runs passes tells job.Replay bound seal old status new ran whole
-  does_all (job.Rp said) bound seal old files status new left (ran, files', apart) whole =
-      runs passes tells (job.Rp said) bound seal old status new ran whole
-  does_all (job.Wp said) bound seal old files status new left (ran, files', apart) whole =
-      runs passes tells (job.Wp said) bound seal old status new ran whole
-  does_all (job.Log said) bound seal old files status new left (ran, files', apart) whole =
-      runs passes tells (job.Log said) bound seal old status new ran whole
-  does_all (job.Logs said) bound seal old files status new left (ran, files', apart) whole =
-      runs passes tells (job.Logs said) bound seal old status new ran whole
-  does_all (job.Wi said) bound seal old files status new left (ran, files', apart) whole =
-      runs passes tells (job.Wi said) bound seal old status new ran whole
-  does_all (job.Serve said) bound seal old files status new left is whole = absurd bound
+  does_all : (asked : Job) → IsBound asked → (seal : Seal rules (AreSwitched switches) (MaySend asked)) (old : Setup S C Q s t) (status : ℕ)
+      (new : Setup S C Q s t) → Does asked old status new → seal.sockets old.streams.sockets ≡ true → seal.sockets new.streams.sockets ≡ true
+  does_all (job.Keep asked) bound seal old status new ran whole =
+      same_sockets seal old.streams.sockets new.streams.sockets (keep_stops rules f file g part waits reads' tells asked old status new bound ran) whole
+  does_all (job.Kept asked) bound seal old status new (ran, (untouched, files)) whole =
+      same_sockets seal old.streams.sockets new.streams.sockets untouched.1 whole
+  does_all (job.Check asked) bound seal old status new (ran, (untouched, files)) whole =
+      same_sockets seal old.streams.sockets new.streams.sockets untouched.1 whole
+  does_all job.Replay bound seal old status new (ran, off) whole = runs passes tells job.Replay bound seal old.streams status new.streams ran whole
+  does_all (job.Rp said) bound seal old status new (ran, off) whole = runs passes tells (job.Rp said) bound seal old.streams status new.streams ran whole
+  does_all (job.Wp said) bound seal old status new (ran, off) whole = runs passes tells (job.Wp said) bound seal old.streams status new.streams ran whole
+  does_all (job.Log said) bound seal old status new (ran, off) whole = runs passes tells (job.Log said) bound seal old.streams status new.streams ran whole
+  does_all (job.Logs said) bound seal old status new (ran, off) whole = runs passes tells (job.Logs said) bound seal old.streams status new.streams ran whole
+  does_all (job.Wi said) bound seal old status new (ran, off) whole = runs passes tells (job.Wi said) bound seal old.streams status new.streams ran whole
+  does_all (job.Serve said) bound seal old status new is whole = absurd bound
 
-  pub sends_only : (asked : Job) → IsBound asked → (old : Streams S C) (files : DiskFiles F s) (status : ℕ)
-      (new : Streams S C) (left : DiskFiles F s)
-      → RunsAll g h parts waits folders p q switches rules passes tells asked old files status new left
-      → SendsOnly rules (Beside switches holds) (MaySend asked) old.sockets new.sockets
-  sends_only asked bound old files status new left (inl ((told, keeps, (input, same, clock)), files', apart)) =
-      λ seal whole. same_sockets seal old.sockets new.sockets same whole
-  sends_only asked bound old files status new left (inr (sockets, switches', is)) =
-      λ seal whole. does_all asked bound seal (streams old.input old.output old.errors sockets old.clock) files status new left is
-      (seal.changed old.sockets sockets whole (inl (is_traced asked, switches')))
+  pub sends_only : (asked : Job) → IsBound asked → (old : Setup S C Q s t) (status : ℕ) (new : Setup S C Q s t) → Ran asked old status new
+      → SendsOnly rules (AreSwitched switches) (MaySend asked) old.streams.sockets new.streams.sockets
+  sends_only asked bound old status new (inl ((told, keeps, (input, same, clock)), off)) =
+      λ seal whole. same_sockets seal old.streams.sockets new.streams.sockets same whole
+  sends_only asked bound old status new (inr (sockets, switched, is)) =
+      λ seal whole. does_all asked bound seal (with_sockets sockets old) status new is
+      (seal.changed old.streams.sockets sockets whole (is_traced asked, switched))
+
+  -- `keep` only reads
+  pub only_reads : (asked : KeepWords) (old : Setup S C Q s t) (status : ℕ) (new : Setup S C Q s t) → Ran (job.Keep asked) old status new
+      → GaveBack f new.files → SendsOnly rules (AreSwitched switches) (MaySend (job.Keep asked)) old.streams.sockets new.streams.sockets
+  only_reads asked old status new (inl ((told, keeps, (input, same, clock)), off)) honest =
+      λ seal whole. same_sockets seal old.streams.sockets new.streams.sockets same whole
+  only_reads asked old status new (inr (sockets, switched, ran)) honest =
+      λ seal whole. keep_whole rules f file g part waits reads' tells seal (λ octets to may. may) asked (with_sockets sockets old) status new ran honest
+      (seal.changed old.streams.sockets sockets whole (is_traced (job.Keep asked), switched))

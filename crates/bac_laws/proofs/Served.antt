@@ -91,6 +91,7 @@ unread script left (fault.Exchange address why) status is ends = absurd is
 unread script left (fault.Flawed flaw) status is ends = absurd is
 unread script left (fault.Silent address) status is ends = absurd is
 unread script left (fault.Declined refusal) status is ends = absurd is
+unread script left fault.Clock status is ends = absurd is
 unread script left fault.Write status is ends = absurd is
 unread script left fault.Memory status is ends = absurd is
 

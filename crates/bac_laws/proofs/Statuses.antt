@@ -51,6 +51,7 @@ no_zero (fault.Exchange address exchange.BadReply) is = some 3 is
 no_zero (fault.Flawed flaw) is = some 3 is
 no_zero (fault.Silent address) is = some 1 is
 no_zero (fault.Declined refusal) is = some 2 is
+no_zero fault.Clock is = some 1 is
 no_zero fault.Write is = some 1 is
 no_zero fault.Memory is = some 4 is
 

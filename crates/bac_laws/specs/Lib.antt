@@ -5,6 +5,7 @@ pub mod Events
 pub mod Asked
 pub mod Found
 pub mod Served
+pub mod Parts
 pub mod Rows
 pub mod Listed
 pub mod Checked

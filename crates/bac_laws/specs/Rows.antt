@@ -1,29 +1,21 @@
--- What `bac kept` prints of a file. Read `PrintsFileRows`.
-use Rattle.std.specs.Prelude.{◌≡◌, ℕ, List, Option, None, IfSome, IsSome}
-use Rattle.std.specs.Io.KnownBytes.{Appends}
-use Rattle.sqlite_disk.specs.declared.Disk as disk
-use Rattle.sqlite_disk.specs.declared.Files.{Files}
-use Rattle.sqlite_wal.specs.Recovery.{Image}
-use Rattle.sqlite.specs.Effect.{Database}
-use Rattle.bac_archive.specs.Logs.{AreLogs}
-use Rattle.bac_archive.specs.Rows.{kept}
-use Rattle.bac_archive.specs.declared.trend_logs.Log.{Log}
-use Rattle.bac_files.specs.Files.{IsDoneTo}
-use Rattle.bac_kept.specs.Printed.{PrintsLogs}
-use Rattle.bac_kept.specs.declared.printing.Shown.{Shown}
-use Rattle.bac_kept.specs.declared.printing.Shown.TheVariants as shown
+-- What `bac kept` prints that ends with 0. Read `PrintsEach`.
+use Rattle.std.specs.Prelude.{◌≡◌, ℕ, List, Option, Ok}
+use Rattle.bac_files.specs.Parts.{Listing, PartRules}
+use Rattle.bac_keep_words.specs.Printing.{DeviceAs, device_in}
 use Rattle.bac_print.specs.Output.{Held}
+use Rattle.bac_reading.specs.Laws.{PrintsEach as PrintsParts}
+use Rattle.bac_reading.specs.Listing.{is_folder, parts_of}
+use Rattle.bac_reading.specs.declared.program.Asked.{Asked}
+use Rattle.bac_run.specs.Reading.{asked_as, asked_for}
 use Rattle.bac_words.specs.declared.job.Kept.{Kept}
 
--- Of the logs that a database has those that are chosen are printed, in order, without an address all of them: of each
--- the line that names it, and a line for each row of its items, by rising ids; and nothing else is.
-abbrev pub PrintsItsRows : Kept → Held → Held → Database → Type 0
-PrintsItsRows asked before after db = (which : Shown) × (asked.address ≡ None → which ≡ shown.All)
-    × (all : List Log) × AreLogs db.trees all
-    × (text : List ℕ) × PrintsLogs which (kept db.trees) all text × Appends before after text
-
--- So it is of the database that two files hold once they are closed, if nobody else wrote them and the disk gave back
--- what was written.
-abbrev pub PrintsFileRows : {D : Type 0} → disk.Ghosts D → Image → Kept → Held → Held → Option (Files D) → Type 0
-PrintsFileRows g image asked before after closed =
-    IsSome closed × IfSome closed (IsDoneTo g image (λ found left. PrintsItsRows asked before after left))
+-- The archive that the words name is a file, or a folder of parts: each is one, but the newest of a folder, which may
+-- have nothing. What they keep of the logs that the words choose is printed, one part after the other, and nothing
+-- else; and if the words choose a log, it is there.
+abbrev pub PrintsEach : {Q : Type 0} → PartRules Q → Kept → (before after : Held) → (p q : Q) → Type 0
+PrintsEach {Q = Q} rules said before after p q =
+    (device : Option DeviceAs) × (device_in said ≡ Ok device)
+    × (asked : Asked) × (asked_as asked ≡ asked_for said device)
+    × (listing : Listing) × (listed : Q) × rules.lists p said.file listing listed
+    × (paths : List (List ℕ)) × (parts_of said.file listing ≡ Ok paths)
+    × PrintsParts rules asked.words (is_folder listing) paths before after listed q

@@ -1,12 +1,16 @@
 -- What the program may send, and to whom: the law that it sends nothing else. Read `MaySend`, then `SendsOnly`.
-use Rattle.std.specs.Prelude.{◌≡◌, ◌⊎◌, ℕ, Bool, true, List, Option, IfOk, IfSome}
+use Rattle.std.specs.Prelude.{◌≡◌, ◌⊎◌, ℕ, Bool, true, List, Option, None, IfOk, IfSome}
 use Rattle.std.specs.List.{Contains}
 use Rattle.sqlite_disk.specs.declared.Disk as disk
-use Rattle.sqlite_disk.specs.declared.Files.{Files}
+use Rattle.sqlite_disk.specs.declared.start.Start as start
 use Rattle.sqlite_wal.specs.Reads.{AreClean}
+use Rattle.bac_answers.specs.Way.{who_is_octets as own_who_is}
+use Rattle.bac_apdu.specs.Npdu.{Place}
 use Rattle.bac_apdu.specs.declared.service.read_property.ReadProperty.{ReadProperty}
 use Rattle.bac_apdu.specs.declared.service.read_range.ReadRange.{ReadRange}
 use Rattle.bac_apdu.specs.declared.service.write_property.WriteProperty.{WriteProperty}
+use Rattle.bac_files.specs.Files.{FileOf}
+use Rattle.bac_files.specs.declared.disk_files.DiskFiles.{DiskFiles}
 use Rattle.bac_link.specs.Path.{Path}
 use Rattle.bac_link.specs.Requests.{request_octets}
 use Rattle.bac_link.specs.declared.request.Request.{Request}
@@ -47,6 +51,10 @@ IsRead r = IsReadProperty r ⊎ IsReadRange r
 abbrev pub AsksWho : List ℕ → Type 0
 AsksWho octets = (search : Search) × (octets ≡ who_is_octets search)
 
+-- a Who-Is to one device alone, by its router or by none
+abbrev pub AsksItself : List ℕ → Type 0
+AsksItself octets = (place : Option Place) × (octets ≡ own_who_is place)
+
 -- one of the stations of the words; those of the input may be any
 abbrev pub IsStation : Stations → List ℕ → Type 0
 IsStation (Listed addresses) to = Contains addresses to
@@ -61,17 +69,15 @@ MaySend (job.Logs said) octets to = Requests IsReadProperty octets × (to ≡ sa
 MaySend (job.Log said) octets to = Requests IsReadRange octets × (to ≡ said.asked.address)
 MaySend (job.Wp said) octets to = Requests IsWriteProperty octets × (to ≡ said.asked.address)
 MaySend (job.Wi said) octets to = AsksWho octets × IsStation said.stations to
-MaySend (job.Keep asked) octets to = Requests IsRead octets
+MaySend (job.Keep asked) octets to = Requests IsRead octets ⊎ AsksItself octets
 MaySend (job.Serve said) octets to = Unit {0}
 MaySend other octets to = ⊥
 
 -- ---- the law
 
--- what else is done to sockets: they are switched to tell each datagram, or not; or they hold what came, to give it
--- again
-abbrev pub Beside : {S C : Type 0} → (S → Bool → S → Type 0) → (S → List C → S → Type 0) → S → S → Type 0
-Beside {C = C} switches holds old new =
-    ((on : Bool) × switches old on new) ⊎ ((came : List C) × holds old came new)
+-- what else is done to sockets: they are switched to tell each datagram, or not
+abbrev pub AreSwitched : {S : Type 0} → (S → Bool → S → Type 0) → S → S → Type 0
+AreSwitched switches old new = (on : Bool) × switches old on new
 
 -- A seal on sockets and on each port that they open, which is whole or broken. A port that is opened has a whole one.
 -- All that is done to them leaves it whole, but for a send of what may not be sent.
@@ -96,12 +102,12 @@ abbrev pub SendsOnly : {S P : Type 0} → SocketRules S P → (S → S → Type 
 SendsOnly rules changes may old new =
     (seal : Seal rules changes may) → seal.sockets old ≡ true → seal.sockets new ≡ true
 
--- a tool of which the law is proved: any but `serve`, and `keep`, of which a law of its own speaks
+-- a tool of which it is said whatever its files are: any but `serve`, and `keep` without `--stop`
 abbrev pub IsBound : Job → Type 0
 IsBound (job.Serve said) = ⊥
 IsBound (job.Keep asked) = asked.stop ≡ true
 IsBound other = Unit {0}
 
--- the disk under two closed files gave back what was written
-abbrev pub GaveBack : {D : Type 0} → disk.Ghosts D → Option (Files D) → Type 0
-GaveBack g closed = IfSome closed (λ files. AreClean g files.log files.db)
+-- each file that was opened could be closed, and the disk gave back what was written
+abbrev pub GaveBack : {F : Type 0} {s : start.Ghosts F} → disk.Ghosts (FileOf s) → DiskFiles F s → Type 0
+GaveBack g files = (files.unclosed ≡ None) × IfSome files.closed (λ closed. AreClean g closed.log closed.db)

@@ -1,12 +1,11 @@
 //! What each tool does over its sockets and prints, whatever comes.
 
-ghost use Rattle.std.specs.Prelude.{◌≡◌, ◌≢◌, ℕ, List, [], Ok, None, Some, false, map};
+ghost use Rattle.std.specs.Prelude.{◌≡◌, ◌≢◌, ℕ, List, [], Some, false, map};
 ghost use Rattle.std.specs.String.{string_bytes};
-ghost use Rattle.sqlite_trees.specs.View.{doubt};
-ghost use Rattle.sqlite_wal.specs.Files.{image_at};
-ghost use Rattle.bac_files.specs.Parts.{Listing, Reading, part_rules};
+ghost use Rattle.bac_files.specs.Parts.{part_rules};
 ghost use Rattle.bac_heeding.specs.Ports.{Event};
 ghost use Rattle.bac_ports.specs.Sockets.{socket_rules};
+ghost use Rattle.bac_run.specs.Reading.{is_newest};
 ghost use Rattle.bac_tools.specs.Run.{AskFor};
 ghost use Rattle.bac_words.specs.declared.job.Check.{Check as CheckWords};
 ghost use Rattle.bac_words.specs.declared.job.Discovery.{Discovery as FindWords};
@@ -18,23 +17,22 @@ ghost use Rattle.bac_words.specs.declared.job.PropertyReading.{PropertyReading a
 ghost use Rattle.bac_words.specs.declared.job.PropertyWriting.{PropertyWriting as WriteWords};
 ghost use Rattle.bac_words.specs.declared.job.ServedDevice.{ServedDevice as ServeWords};
 ghost use Rattle.bac_laws.specs.Asked.{PrintsWhatCame, ReadsOnce, WritesOnce};
-ghost use Rattle.bac_laws.specs.Checked.{IsWhole, LeavesAsFound, PrintsCounts};
+ghost use Rattle.bac_laws.specs.Checked.{FindsEach, FindsWhole};
 ghost use Rattle.bac_laws.specs.Events.{CanBeCaptured, IsCaptured};
 ghost use Rattle.bac_laws.specs.Found.{FindsWhatCame};
 ghost use Rattle.bac_laws.specs.Listed.{ListsWhatCame};
 ghost use Rattle.bac_laws.specs.Played.{PlaysScript};
 ghost use Rattle.bac_laws.specs.Printed.{AsksFew};
-ghost use Rattle.bac_laws.specs.Rows.{PrintsFileRows};
+ghost use Rattle.bac_laws.specs.Parts.{LeavesArchive};
+ghost use Rattle.bac_laws.specs.Rows.{PrintsEach};
 ghost use Rattle.bac_laws.specs.Served.{AnswersOnly, ServesDevice};
 
-use bac_desks::Clock as WaitClock;
-use bac_files::FileOf;
-use bac_recall::Recalls;
+use bac_check3::whole_has_each;
+use bac_drive::Clock as WaitClock;
 use bac_run::{Console, Machine, Parts, run};
 use bac_tools::Clock;
 use bac_trace::Tracing;
 use sqlite::Start;
-use sqlite_disk::Disk;
 use std::alloc::Global;
 use std::io::{Read, Write};
 
@@ -47,7 +45,7 @@ pub fn sockets_can_be_captured()
 /// of the device that they name, the same octets each time, and sends nothing else. It prints
 /// `written` and ends with 0 only where a SimpleACK of it came from that device.
 pub fn wp_writes_once<
-    S: Tracing + Recalls,
+    S: Tracing,
     F: Start,
     G: Start,
     Q: Parts,
@@ -62,7 +60,6 @@ pub fn wp_writes_once<
     alloc: Global,
     waits: W,
     words: &[String],
-    counts: bool,
 ) -> u8
 where
     W: Drop,
@@ -73,13 +70,13 @@ where
         × WritesOnce said es (O.contents console.old.output)
         (O.contents console.new.output) result }
 {
-    run(machine, console, alloc, waits, words, counts)
+    run(machine, console, alloc, waits, words)
 }
 
 /// `rp` makes one ReadProperty of the device that its words name, and sends nothing else. What it
 /// prints, where it ends with 0, are the values of the ACK that came from that device last.
 pub fn rp_prints_what_came<
-    S: Tracing + Recalls,
+    S: Tracing,
     F: Start,
     G: Start,
     Q: Parts,
@@ -94,7 +91,6 @@ pub fn rp_prints_what_came<
     alloc: Global,
     waits: W,
     words: &[String],
-    counts: bool,
 ) -> u8
 where
     W: Drop,
@@ -111,13 +107,13 @@ where
         × PrintsWhatCame said es (O.contents console.old.output)
         (O.contents console.new.output) }
 {
-    run(machine, console, alloc, waits, words, counts)
+    run(machine, console, alloc, waits, words)
 }
 
 /// `wi` sends the Who-Is of its words alone, once to each station, and prints a line for each I-Am
 /// that comes, in the order in which they came. It ends with 0 only where no send was refused.
 pub fn wi_prints_what_came<
-    S: Tracing + Recalls,
+    S: Tracing,
     F: Start,
     G: Start,
     Q: Parts,
@@ -132,7 +128,6 @@ pub fn wi_prints_what_came<
     alloc: Global,
     waits: W,
     words: &[String],
-    counts: bool,
 ) -> u8
 where
     W: Drop,
@@ -143,14 +138,14 @@ where
         × FindsWhatCame said es (O.contents console.old.output)
         (O.contents console.new.output) result }
 {
-    run(machine, console, alloc, waits, words, counts)
+    run(machine, console, alloc, waits, words)
 }
 
 /// `serve` sends answers alone: each right behind the datagram that it answers, to who asked, and
 /// one at most. Of all that comes, what the device of the script on the input has a reply to is
 /// answered by that reply.
 pub fn serve_answers_only<
-    S: Tracing + Recalls,
+    S: Tracing,
     F: Start,
     G: Start,
     Q: Parts,
@@ -165,7 +160,6 @@ pub fn serve_answers_only<
     alloc: Global,
     waits: W,
     words: &[String],
-    counts: bool,
 ) -> u8
 where
     W: Drop,
@@ -178,13 +172,13 @@ where
         × ((script : List ℕ) → I.remaining console.old.input ≡ Some script
         → ServesDevice said script es result) }
 {
-    run(machine, console, alloc, waits, words, counts)
+    run(machine, console, alloc, waits, words)
 }
 
 /// `log` asks twice for each of its steps at most, and twice more, each as often again as its
 /// retries say.
 pub fn log_asks_few<
-    S: Tracing + Recalls,
+    S: Tracing,
     F: Start,
     G: Start,
     Q: Parts,
@@ -199,7 +193,6 @@ pub fn log_asks_few<
     alloc: Global,
     waits: W,
     words: &[String],
-    counts: bool,
 ) -> u8
 where
     W: Drop,
@@ -208,14 +201,14 @@ where
         S.Socket.receives S.Socket.receives_within) S.traces machine.old.sockets
         machine.new.sockets es × AsksFew said es }
 {
-    run(machine, console, alloc, waits, words, counts)
+    run(machine, console, alloc, waits, words)
 }
 
 /// `logs` of logs that its words name prints a line for each, up to one to whose question no answer
 /// came; each cell is what came from the device to the question for it, and nothing else is sent.
 /// Where it ends with 0, all lines are there.
 pub fn logs_prints_what_came<
-    S: Tracing + Recalls,
+    S: Tracing,
     F: Start,
     G: Start,
     Q: Parts,
@@ -230,7 +223,6 @@ pub fn logs_prints_what_came<
     alloc: Global,
     waits: W,
     words: &[String],
-    counts: bool,
 ) -> u8
 where
     W: Drop,
@@ -242,14 +234,15 @@ where
         × ListsWhatCame said es (O.contents console.old.output)
         (O.contents console.new.output) result }
 {
-    run(machine, console, alloc, waits, words, counts)
+    run(machine, console, alloc, waits, words)
 }
 
-/// `kept` of a file, in lines, that ends with 0 prints what the file holds: of each log that is
-/// chosen the line that names it, and a line for each row of its items. Where it ends with 1
-/// it prints nothing and opens no file.
+/// `kept` that ends with 0, but of the newest records alone, prints what the archive keeps, which
+/// is a file or a folder of parts: of each log that is chosen the line that names it, and a line
+/// for each of its items. Where it ends with 1 it prints nothing and opens no file. However it
+/// ends, what it finds is left as it was.
 pub fn kept_prints_its_rows<
-    S: Tracing + Recalls,
+    S: Tracing,
     F: Start,
     G: Start,
     Q: Parts,
@@ -264,27 +257,29 @@ pub fn kept_prints_its_rows<
     alloc: Global,
     waits: W,
     words: &[String],
-    counts: bool,
 ) -> u8
 where
     W: Drop,
     ensures prints { (said : KeptWords) → AskFor (map string_bytes words.now) (job.Kept said)
-        → said.csv ≡ false → result ≡ 0
-        → (listing : Listing) × (listed : Q) × Q.lists machine.old.folders said.file listing listed
-        × (listing ≡ Ok None → PrintsFileRows ⟦<FileOf<F> as Disk>⟧ (image_at F.Start) said
-        (O.contents console.old.output) (O.contents console.new.output) machine.new.files.closed) }
+        → is_newest said.extent ≡ false → result ≡ 0
+        → PrintsEach (part_rules Q.lists Q.holds Q.bars) said (O.contents console.old.output)
+        (O.contents console.new.output) machine.old.folders machine.new.folders }
     ensures unfit { (said : KeptWords) → AskFor (map string_bytes words.now) (job.Kept said)
         → result ≡ 1 → (O.contents console.new.output ≡ O.contents console.old.output)
-        × (machine.new.files ≡ machine.old.files) }
+        × (machine.new.folders ≡ machine.old.folders) }
+    ensures leaves { (said : KeptWords) → AskFor (map string_bytes words.now) (job.Kept said)
+        → (machine.new.files ≡ machine.old.files)
+        × LeavesArchive (part_rules Q.lists Q.holds Q.bars) said.file machine.old.folders
+        machine.new.folders }
 {
-    run(machine, console, alloc, waits, words, counts)
+    run(machine, console, alloc, waits, words)
 }
 
-/// `check` of a file that ends with 0 found an archive in it, left it as it is, and of each epoch
-/// of its logs each number is in one row, and in no other; what it prints is what is counted there.
-/// However it ends, but without memory, what it finds is left as it was.
+/// `check` that ends with 0 found an archive, which is a file or a folder of parts, and no number
+/// of an epoch of its logs is missing; what it prints is what is counted there. Of a file each
+/// number is in one row, and in no other. However it ends, what it finds is left as it was.
 pub fn check_finds_each_number<
-    S: Tracing + Recalls,
+    S: Tracing,
     F: Start,
     G: Start,
     Q: Parts,
@@ -299,31 +294,30 @@ pub fn check_finds_each_number<
     alloc: Global,
     waits: W,
     words: &[String],
-    counts: bool,
 ) -> u8
 where
     W: Drop,
     ensures finds { (said : CheckWords) → AskFor (map string_bytes words.now) (job.Check said)
         → result ≡ 0
-        → (listing : Listing) × (listed : Q) × Q.lists machine.old.folders said.file listing listed
-        × (listing ≡ Ok None → (found : Reading)
-        × Q.holds listed said.file found machine.new.folders
-        × (doubt found.is_clean ≡ 0 → (found.left ≡ found.found) × IsWhole found.found
-        × PrintsCounts found.found (O.contents console.old.output)
-        (O.contents console.new.output))) }
+        → FindsEach (part_rules Q.lists Q.holds Q.bars) said.file (O.contents console.old.output)
+        (O.contents console.new.output) machine.old.folders machine.new.folders }
+    ensures whole { (said : CheckWords) → AskFor (map string_bytes words.now) (job.Check said)
+        → result ≡ 0
+        → FindsWhole (part_rules Q.lists Q.holds Q.bars) said.file machine.old.folders
+        machine.new.folders }
     ensures leaves { (said : CheckWords) → AskFor (map string_bytes words.now) (job.Check said)
-        → result ≢ 5
-        → (listing : Listing) × (listed : Q) × Q.lists machine.old.folders said.file listing listed
-        × (listing ≡ Ok None → LeavesAsFound (part_rules Q.lists Q.holds Q.bars) listed said.file
-        machine.new.folders) }
+        → (machine.new.files ≡ machine.old.files)
+        × LeavesArchive (part_rules Q.lists Q.holds Q.bars) said.file machine.old.folders
+        machine.new.folders }
 {
-    run(machine, console, alloc, waits, words, counts)
+    whole_has_each();
+    run(machine, console, alloc, waits, words)
 }
 
 /// `replay` prints the text of the script on its input, or a front part of it, and leaves files
 /// alone.
 pub fn replay_prints_its_script<
-    S: Tracing + Recalls,
+    S: Tracing,
     F: Start,
     G: Start,
     Q: Parts,
@@ -338,7 +332,6 @@ pub fn replay_prints_its_script<
     alloc: Global,
     waits: W,
     words: &[String],
-    counts: bool,
 ) -> u8
 where
     W: Drop,
@@ -349,5 +342,5 @@ where
     ensures leaves { AskFor (map string_bytes words.now) job.Replay
         → (machine.new.files ≡ machine.old.files) × (machine.new.folders ≡ machine.old.folders) }
 {
-    run(machine, console, alloc, waits, words, counts)
+    run(machine, console, alloc, waits, words)
 }

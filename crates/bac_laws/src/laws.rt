@@ -7,16 +7,15 @@ ghost use Rattle.bac_ports.specs.Sockets.{socket_rules};
 ghost use Rattle.bac_tools.specs.Run.{AskFor};
 ghost use Rattle.bac_words.specs.declared.job.Job.{Job as AnyJob};
 ghost use Rattle.bac_words.specs.declared.job.Job.TheVariants as job;
+ghost use Rattle.bac_words.specs.declared.job.Keep.{Keep as KeepWords};
 ghost use Rattle.bac_words.specs.declared.job.LogReading.{LogReading as LogWords};
-ghost use Rattle.bac_run.specs.Run.{Leaves};
-ghost use Rattle.bac_laws.specs.Lost.{LosesNone};
+ghost use Rattle.bac_laws.specs.Lost.{LosesNoneIn};
 ghost use Rattle.bac_laws.specs.Events.{IsCaptured};
 ghost use Rattle.bac_laws.specs.Printed.{CameFrom, PrintsLog};
-ghost use Rattle.bac_laws.specs.Sends.{Beside, IsBound, MaySend, SendsOnly};
+ghost use Rattle.bac_laws.specs.Sends.{AreSwitched, GaveBack, IsBound, MaySend, SendsOnly};
 
-use bac_desks::Clock as WaitClock;
+use bac_drive::Clock as WaitClock;
 use bac_files::FileOf;
-use bac_recall::Recalls;
 use bac_run::{Console, Machine, Parts, run};
 use bac_tools::Clock;
 use bac_trace::Tracing;
@@ -27,7 +26,7 @@ use std::io::{Read, Write};
 
 /// Whatever the words, and whatever comes of it: of an archive that the files held nothing is lost.
 pub fn loses_none<
-    S: Tracing + Recalls,
+    S: Tracing,
     F: Start,
     G: Start,
     Q: Parts,
@@ -42,19 +41,18 @@ pub fn loses_none<
     alloc: Global,
     waits: W,
     words: &[String],
-    counts: bool,
 ) -> u8
 where
     W: Drop,
-    ensures { Leaves ⟦<FileOf<F> as Disk>⟧ LosesNone machine.old.files machine.new.files }
+    ensures { LosesNoneIn ⟦<FileOf<F> as Disk>⟧ machine.old.files machine.new.files }
 {
-    run(machine, console, alloc, waits, words, counts)
+    run(machine, console, alloc, waits, words)
 }
 
 /// Each tool sends only what it may, and only to whom it may. Words that ask for no tool send
 /// nothing.
 pub fn sends_only<
-    S: Tracing + Recalls,
+    S: Tracing,
     F: Start,
     G: Start,
     Q: Parts,
@@ -69,25 +67,54 @@ pub fn sends_only<
     alloc: Global,
     waits: W,
     words: &[String],
-    counts: bool,
 ) -> u8
 where
     W: Drop,
     ensures sends { (asked : AnyJob) → AskFor (map string_bytes words.now) asked → IsBound asked
         → SendsOnly (socket_rules S.opens S.closes S.Socket.sends S.Socket.receives
-        S.Socket.receives_within) (Beside S.traces S.holds) (MaySend asked) machine.old.sockets
+        S.Socket.receives_within) (AreSwitched S.traces) (MaySend asked) machine.old.sockets
         machine.new.sockets }
     ensures silent { ((asked : AnyJob) → AskFor (map string_bytes words.now) asked → ⊥)
         → machine.new.sockets ≡ machine.old.sockets }
 {
-    run(machine, console, alloc, waits, words, counts)
+    run(machine, console, alloc, waits, words)
+}
+
+/// `keep` only reads: it sends ReadProperty, ReadRange and Who-Is, whatever comes, if its file
+/// could be closed and the disk gave back what was written.
+pub fn keep_only_reads<
+    S: Tracing,
+    F: Start,
+    G: Start,
+    Q: Parts,
+    I: Read,
+    O: Write,
+    E: Write,
+    C: Clock,
+    W: WaitClock + Copy,
+>(
+    machine: &mut Machine<'_, S, F, G, Q, C>,
+    console: &mut Console<I, O, E>,
+    alloc: Global,
+    waits: W,
+    words: &[String],
+) -> u8
+where
+    W: Drop,
+    ensures { (said : KeepWords) → AskFor (map string_bytes words.now) (job.Keep said)
+        → GaveBack ⟦<FileOf<F> as Disk>⟧ machine.new.files
+        → SendsOnly (socket_rules S.opens S.closes S.Socket.sends S.Socket.receives
+        S.Socket.receives_within) (AreSwitched S.traces) (MaySend (job.Keep said))
+        machine.old.sockets machine.new.sockets }
+{
+    run(machine, console, alloc, waits, words)
 }
 
 /// `log` prints in lines what came in this run from the device of its words, each number once, and
 /// how it ended, which is right: where the device said that it has no more, at the limit of its
 /// steps, or at a fault of the request that was made last, as that no answer came.
 pub fn log_prints_what_came<
-    S: Tracing + Recalls,
+    S: Tracing,
     F: Start,
     G: Start,
     Q: Parts,
@@ -102,7 +129,6 @@ pub fn log_prints_what_came<
     alloc: Global,
     waits: W,
     words: &[String],
-    counts: bool,
 ) -> u8
 where
     W: Drop,
@@ -112,9 +138,9 @@ where
         S.Socket.receives S.Socket.receives_within) S.traces machine.old.sockets
         machine.new.sockets es
         × PrintsLog (CameFrom (socket_rules S.opens S.closes S.Socket.sends S.Socket.receives
-        S.Socket.receives_within) (Beside S.traces S.holds) machine.new.sockets
+        S.Socket.receives_within) (AreSwitched S.traces) machine.new.sockets
         said.asked.address) said es (O.contents console.old.output)
         (O.contents console.new.output) result }
 {
-    run(machine, console, alloc, waits, words, counts)
+    run(machine, console, alloc, waits, words)
 }

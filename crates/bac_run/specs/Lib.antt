@@ -1,2 +1,5 @@
 pub mod Faults
+pub mod Setup
+pub mod Keeping
+pub mod Reading
 pub mod Run

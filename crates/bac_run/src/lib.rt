@@ -6,9 +6,11 @@
 //! leaves.
 #![tactic(auto)]
 
+mod keeping;
 mod machine;
 mod program;
+mod reading;
 
-pub use bac_keeper::{DiskFiles, FolderFiles, Parts};
+pub use bac_files::{DiskFiles, FolderFiles, Parts};
 pub use machine::{Console, Machine};
 pub use program::run;

@@ -1,6 +1,6 @@
 //! What the program works on, which its caller hands in.
 
-use bac_keeper::DiskFiles;
+use bac_files::DiskFiles;
 use sqlite::Start;
 
 /// What the program does its work over.

@@ -1,3 +1,5 @@
-pub mod Ended
-pub mod Checks
-pub mod Prints
+pub mod Untold
+pub mod Heard
+pub mod Kept
+pub mod Quiet
+pub mod Jobs

@@ -1,36 +1,39 @@
--- What a run of `bac keep` means that ended with 0.
-use Rattle.std.specs.Prelude.{ℕ, ◌≡◌, Bool, true, false, List, [], ◌∷◌, IfSome, IsSome, Ok}
-use Rattle.std.specs.List.{All}
-use Rattle.std.specs.Io.KnownBytes.{Appends}
+-- What a run of `bac keep` means that ended with 0. Read `IsKeptNow`.
+use Rattle.std.specs.Prelude.{◌≡◌, ℕ, Bool, true, false, List, Option, Some, IfSome, IsSome, Ok, String, count_by}
+use Rattle.std.specs.Io.KnownBytes.{Keeps}
+use Rattle.std.specs.List.{All, Contains}
+use Rattle.std.specs.declared.alloc.Global.{Global}
+use Rattle.sqlite_disk.specs.declared.Disk as disk
 use Rattle.sqlite_disk.specs.declared.start.Start as start
-use Rattle.bac_asked.specs.Wanted.{AsksItsSource}
-use Rattle.bac_asked.specs.declared.end.End.{End}
-use Rattle.bac_asked.specs.declared.end.Ending.TheVariants.{Walk}
-use Rattle.bac_asked.specs.declared.wanted.Wanted.{Wanted}
-use Rattle.bac_fetch.specs.Chosen.{AreFound, findings, selection}
-use Rattle.bac_fetch.specs.Keeps.{lines_of}
-use Rattle.bac_fetch.specs.declared.keeping.Chosen.{Chosen}
-use Rattle.bac_files.specs.Files.{IsDoneTo}
+use Rattle.sqlite_wal.specs.Recovery.{Image}
+use Rattle.sqlite.specs.Effect.{Database}
+use Rattle.bac_batch.specs.Batch.{Batched}
+use Rattle.bac_device_poll.specs.declared.turn.DeviceEnd.TheVariants.{Done}
+use Rattle.bac_device_poller.specs.declared.doing.Doing.TheVariants.{Ended}
+use Rattle.bac_drive.specs.Happens.{Acts, Runs}
+use Rattle.bac_files.specs.Files.{FileOf, IsDoneTo}
 use Rattle.bac_files.specs.Parts.{IsPlaced}
+use Rattle.bac_files.specs.declared.disk_files.DiskFiles.{DiskFiles}
 use Rattle.bac_files.specs.declared.folder.Place.{Place}
-use Rattle.bac_fetch.specs.Ahead.{Reach}
-use Rattle.bac_fetch.specs.Points.{Scene, run_point}
-use Rattle.bac_keeper.specs.Archives.{KeepsArchive}
-use Rattle.bac_offline.specs.Begun.{BeginsOn}
-use Rattle.bac_keeper.specs.Done.{Chooses, OnDisk}
-use Rattle.bac_offline.specs.Options.{given_of}
+use Rattle.bac_historian.specs.Kept.{IsReady}
+use Rattle.bac_keep_words.specs.Orders.{order_as, order_in}
+use Rattle.bac_keep_words.specs.declared.orders.Order.{Order}
+use Rattle.bac_keeping.specs.Keeping.{Around, IsSet, amid, around, at_first}
+use Rattle.bac_keeping.specs.RecordLaws.{HasNamed, RiseThere}
+use Rattle.bac_keeping.specs.declared.run.Run.{Run}
+use Rattle.bac_plan.specs.declared.named.Named.{Named}
+use Rattle.bac_ports.specs.Sockets.{SocketRules, UsesSocket}
 use Rattle.bac_print.specs.Output.{Held}
+use Rattle.bac_run.specs.Setup.{Setup}
+use Rattle.bac_site_poller.specs.Site.{SiteState}
+use Rattle.bac_site_poller.specs.SiteLaws.{is_of, seats_of}
+use Rattle.bac_site_poller.specs.declared.seat.Seat.{Seat}
 use Rattle.bac_tools.specs.Finding.{IsListWithin}
-use Rattle.bac_walk.specs.declared.outcome.Why.TheVariants.{CaughtUp}
+use Rattle.bac_wire.specs.Stamp.{CivilTime}
 use Rattle.bac_words.specs.Devices.{devices_of}
 use Rattle.bac_words.specs.Jobs.{with_groups}
 use Rattle.bac_words.specs.declared.group.Group.{Group}
 use Rattle.bac_words.specs.declared.job.Keep.{Keep}
-
--- each of these runs came to the end of its log
-abbrev pub AreCaughtUp : List End → Type 0
-AreCaughtUp [] = Unit {0}
-AreCaughtUp (end ∷ ends) = (end.why ≡ Walk CaughtUp) × AreCaughtUp ends
 
 -- the devices of `keep` are those of its words, for which the input isn't read, or those that it lists
 abbrev pub HasDevices : Bool → Keep → Held → Held → Keep → Type 0
@@ -38,23 +41,52 @@ HasDevices false asked input left which = (which ≡ asked) × (left ≡ input)
 HasDevices true asked input left which =
     (groups : List Group) × IsListWithin devices_of 1048576 input left (Ok groups) × (which ≡ with_groups asked groups)
 
--- Each device told its logs. Each log that the words of `keep` choose is caught up and has its line, and two closed
--- files hold the archive in which these runs kept them.
-pub record IsAllKept {S P C F G : Type 0} {s : start.Ghosts F} {t : start.Ghosts G} (by : ℕ → Reach S P C)
-    (file : OnDisk s) (part : OnDisk t) (asked : Keep) (before after : Scene S) : Type 0 where
-  pub chosen : Chosen
-  pub by_words : Chooses asked chosen
-  pub all : List Wanted
-  pub ask_their_source : All AsksItsSource all
-  pub between : S
-  pub found : AreFound (by asked.at_once) chosen before.sockets (findings all [] between)
-  pub ends : List End
-  pub caught_up : AreCaughtUp ends
-  pub lines : Appends before.output after.output (lines_of all ends)
-  pub is_closed : IsSome file.files.closed
-  pub place : Place
-  pub placed : IsPlaced asked.file place
-  pub kept : IfSome file.files.closed (IsDoneTo file.does file.image
-      (λ found left. KeepsArchive (by asked.at_once) (selection (given_of asked.options) chosen) all
-      (run_point between found) (run_point after.sockets left)
-      (BeginsOn part.does part.image place.before part.files) ends))
+-- nothing more is asked of a device, which was heard to the end
+abbrev pub IsHeardOut : Seat → Type 0
+IsHeardOut seat = seat.poller.doing ≡ Ended Done
+
+-- so it is of each device of a site, and none is left out, at whatever address
+abbrev pub AreHeardOut : (begun last : SiteState) → Type 0
+AreHeardOut begun last = All IsHeardOut (seats_of last)
+    × ((peer : List ℕ) → count_by (is_of peer) (seats_of last) ≡ count_by (is_of peer) begun.waiting)
+
+module _ {P C G : Type 0} {t : start.Ghosts G} (acts : Acts (Batched SiteState) P C) (g : disk.Ghosts (FileOf t))
+    (part : Image) where
+  -- What was found, or the part that follows on the one before, is polled: as that begins, each device that words name
+  -- is on record; and each device on record that isn't stopped was heard to the end.
+  pub record IsKept (run : Run) (before : Option (String Global)) (parts : DiskFiles G t) (by left : Around P C)
+      (found kept : Database) : Type 0 where
+    pub ready : Database
+    pub is_ready : IsReady g part before parts found ready
+    pub begun : Database
+    pub site : SiteState
+    pub set : IsSet run ready begun site
+    pub named : RiseThere ready → (n : Named) → Contains run.named.items n → HasNamed set.told n
+    pub last : Batched SiteState
+    pub runs : Runs acts (at_first by site begun) (amid left last kept)
+    pub heard : AreHeardOut site last.machine
+
+module _ {S P C W Q F G : Type 0} {s : start.Ghosts F} {t : start.Ghosts G} (rules : SocketRules S P)
+    (acts : Acts (Batched SiteState) P W) (f : disk.Ghosts (FileOf s)) (file : Image) (g : disk.Ghosts (FileOf t))
+    (part : Image) (waits : W) where
+  -- One port was opened, and closed files hold the archive in which all that the words choose was kept over it; nothing
+  -- was told behind that.
+  pub record IsAllKept (asked : Keep) (moment : CivilTime) (old new : Setup S C Q s t) : Type 0 where
+    pub order : Order
+    pub by_words : order_in asked moment ≡ Ok (order_as order)
+    pub place : Place
+    pub placed : IsPlaced asked.file place
+    pub is_closed : IsSome new.files.closed
+    pub waited : W
+    pub said : Held
+    pub quiet : Keeps said new.streams.errors
+    pub over : UsesSocket rules order.local order.run.options.limits.wait_ms old.streams.sockets
+        (λ port last. IfSome new.files.closed (IsDoneTo f file
+        (IsKept acts g part order.run place.before new.parts (around port waits old.streams.output old.streams.errors)
+        (around last waited new.streams.output said))))
+        new.streams.sockets
+
+  -- so it was from a moment on that the clock told
+  abbrev pub IsKeptNow : (C → Option CivilTime → C → Type 0) → Keep → (old new : Setup S C Q s t) → Type 0
+  IsKeptNow tells asked old new = (moment : CivilTime) × tells old.streams.clock (Some moment) new.streams.clock
+      × IsAllKept asked moment old new

@@ -1,3 +1,3 @@
+pub mod Apart
 pub mod Done
-pub mod Whole
-pub mod Printed
+pub mod Stopped

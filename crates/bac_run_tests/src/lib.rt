@@ -1,6 +1,9 @@
-//! What a user of the program needs, proved from the contract of `run` alone.
+//! What a user of the program needs, proved from the contract of `run` and the laws of what it
+//! names; what else is said of it is in bac_laws.
 #![tactic(auto)]
 
 mod callers;
 
-pub use callers::{check_until_whole, keep_until_done, print_folder, print_kept, print_log};
+pub use callers::{
+    answer_words, check_archive, keep_and_check, keep_until_done, print_kept, stop_until_done,
+};

@@ -1,9 +1,9 @@
+use Rattle.sqlite_wal.specs.Files.{image_at}
 use Rattle.bac_files.proofs.FileGhosts.{file_ghosts}
-use Rattle.bac_fetch.specs.Ahead.{at_once}
 use Rattle.bac_files.specs.Parts.{part_rules}
 use Rattle.bac_ports.specs.Sockets.{socket_rules}
-use Rattle.bac_run_tests.proofs.Ended.{all_kept}
-use Rattle.bac_tools.specs.Streams.{streams}
+use Rattle.bac_run.specs.Setup.{setup}
+use Rattle.bac_run_tests.proofs.Jobs.{all_kept}
 use Rattle.bac_words.specs.declared.job.Job.TheVariants as job
 use Rattle.bac_run_tests.proofs.callers.keep_until_done.Goals as goal
 
@@ -12,7 +12,8 @@ returns g c asked ask still zero =
     let disk = file_ghosts g.row.F g.F.Start g.F.Start-dict g.F.Destruct-dict in
     let part = file_ghosts g.row.G g.G.Start g.G.Start-dict g.G.Destruct-dict in
     let rules = socket_rules g.S.Sockets.opens g.S.Sockets.closes g.S.Socket.Port.sends g.S.Socket.Port.receives g.S.Socket.Port.receives_within in
-    let old = streams (g.I.Read.remaining c.args.console.now.input) (g.O.Write.contents c.args.console.now.output) (g.E.Write.contents c.args.console.now.errors) c.args.machine.now.sockets c.args.machine.now.clock in
-    let new = streams (g.I.Read.remaining c.run.new.console.input) (g.O.Write.contents c.run.new.console.output) (g.E.Write.contents c.run.new.console.errors) c.run.new.machine.sockets c.run.new.machine.clock in
-    all_kept g.S.Tracing.traces rules g.S.Heeds.passes g.C.Clock.tells disk part c.run.new.machine.parts (at_once g.S.Recalls.holds g.W.Clock.reads c.args.waits) (part_rules g.Q.Parts.lists g.Q.Parts.holds g.Q.Parts.bars) c.args.machine.now.folders c.run.new.machine.folders old new c.args.machine.now.files c.run.new.machine.files c.run.result asked
-    (c.run.ensures.done (job.Keep asked) ask) still zero
+    let folders = part_rules g.Q.Parts.lists g.Q.Parts.holds g.Q.Parts.bars in
+    let old = setup g.I.Read.remaining g.O.Write.contents g.E.Write.contents c.args.machine.now c.args.console.now in
+    let new = setup g.I.Read.remaining g.O.Write.contents g.E.Write.contents c.run.new.machine c.run.new.console in
+    all_kept g.S.Socket.Port.sends g.S.Socket.Port.receives_within g.W.Clock.reads rules disk (image_at g.F.Start) part (image_at g.G.Start) folders g.S.Heeds.passes g.C.Clock.tells c.args.waits g.S.Tracing.traces
+    old new c.run.result c.steps_happen.ensures c.ends_whole.ensures c.batches_end.ensures c.status_never_falls.ensures c.ends_are_counted.ensures c.keep_names.ensures asked still zero (c.run.ensures.done (job.Keep asked) ask)

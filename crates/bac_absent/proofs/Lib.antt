@@ -1,7 +1,0 @@
-pub mod Called
-pub mod Put
-pub mod Late
-pub mod Saying
-pub mod Taken
-pub mod Together
-pub mod Found

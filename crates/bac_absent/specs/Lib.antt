@@ -1,3 +1,0 @@
-pub mod Identifying
-pub mod Each
-pub mod Calling

@@ -1,4 +1,0 @@
-pub mod Ahead
-pub mod Rounds
-pub mod Laws
-pub mod Marks

@@ -1,2 +1,0 @@
-pub mod Quiet
-pub mod StoppedLemmas

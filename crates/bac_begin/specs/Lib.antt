@@ -1,4 +1,0 @@
-pub mod Stands
-pub mod Hands
-pub mod Starts
-pub mod Stopped

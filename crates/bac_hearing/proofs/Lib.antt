@@ -1,5 +1,0 @@
-pub mod Seated
-pub mod Heard
-pub mod Ended
-pub mod Parted
-pub mod Stopped

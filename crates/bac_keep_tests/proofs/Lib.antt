@@ -1,6 +1,0 @@
-mod CallerLemmas
-mod OverLemmas
-mod CrashLemmas
-mod CoveredRuns
-mod LateLemmas
-mod NewLemmas

@@ -1,0 +1,19 @@
+use Rattle.sqlite_wal.specs.Files.{image_at}
+use Rattle.bac_files.proofs.FileGhosts.{file_ghosts}
+use Rattle.bac_files.specs.Parts.{part_rules}
+use Rattle.bac_laws.proofs.Sent.{only_reads}
+use Rattle.bac_ports.specs.Sockets.{socket_rules}
+use Rattle.bac_run.specs.Setup.{setup}
+use Rattle.bac_words.specs.declared.job.Job.TheVariants as job
+use Rattle.bac_laws.proofs.laws.keep_only_reads.Goals as goal
+
+pub returns : goal.returns
+returns g c said ask honest =
+    let disk = file_ghosts g.row.F g.F.Start g.F.Start-dict g.F.Destruct-dict in
+    let before = file_ghosts g.row.G g.G.Start g.G.Start-dict g.G.Destruct-dict in
+    let rules = socket_rules g.S.Sockets.opens g.S.Sockets.closes g.S.Socket.Port.sends g.S.Socket.Port.receives g.S.Socket.Port.receives_within in
+    let folders = part_rules g.Q.Parts.lists g.Q.Parts.holds g.Q.Parts.bars in
+    let old = setup g.I.Read.remaining g.O.Write.contents g.E.Write.contents c.args.machine.now c.args.console.now in
+    let new = setup g.I.Read.remaining g.O.Write.contents g.E.Write.contents c.run.new.machine c.run.new.console in
+    only_reads rules disk (image_at g.F.Start) before (image_at g.G.Start) folders g.S.Heeds.passes g.C.Clock.tells c.args.waits g.W.Clock.reads g.S.Tracing.traces
+    said old c.run.result new (c.run.ensures.done (job.Keep said) ask) honest

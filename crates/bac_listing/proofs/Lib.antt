@@ -1,3 +1,0 @@
-pub mod Seen
-pub mod Said
-pub mod Silent

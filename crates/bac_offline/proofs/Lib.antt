@@ -1,9 +1,0 @@
-pub mod ArchiveLemmas
-pub mod EndLemmas
-pub mod FileLemmas
-pub mod StopLemmas
-pub mod NamesLemmas
-pub mod PrintLemmas
-pub mod BegunLemmas
-pub mod PartedLemmas
-pub mod WorkLemmas

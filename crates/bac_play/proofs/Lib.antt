@@ -1,4 +1,0 @@
-pub mod Mapped
-pub mod Records
-pub mod Nexts
-pub mod Dry

@@ -1,6 +1,0 @@
-pub mod Asked
-pub mod Held
-pub mod Nothing
-pub mod Once
-pub mod Runs
-pub mod Marks

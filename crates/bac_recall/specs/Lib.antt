@@ -1,3 +1,0 @@
-pub mod Recall
-pub mod Laws
-pub mod Left
