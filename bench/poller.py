@@ -1,8 +1,8 @@
 #!/usr/bin/env python3
-"""poller.py [PROGRAM [DEVICES [LOGS [RECORDS [DELAY]]]]]: what a site's poll costs by PROGRAM (crates/bac_site_trial), beside a plain
-client in C (poller/plain.c) over the same plant of devices (poller/plant.c), both with 64 requests in flight.
+"""poller.py [PROGRAM [DEVICES [LOGS [RECORDS [DELAY]]]]]: what `PROGRAM keep` of a site costs, beside a plain client in C
+(poller/plain.c) over the same plant of devices (poller/plant.c), both with 64 requests in flight.
 
-DEVICES is 500, LOGS 4 a device, RECORDS 672 a log (a week of quarters of an hour) and DELAY 30 milliseconds where none is given.
+PROGRAM is crates/bac/out/bac, DEVICES 500, LOGS 4 a device, RECORDS 672 a log (a week of quarters of an hour) and DELAY 30 milliseconds where none is given.
 Each line has the seconds by the clock, the processor's seconds and these a record in microseconds, the requests and how many of
 them were open at once at most. The floor is requests x DELAY / 64."""
 import os
@@ -67,15 +67,17 @@ class Client:
 
 def main():
     words = sys.argv[1:]
-    program = os.path.realpath(words[0] if words else f"{HERE}/../crates/bac_site_trial/out/bac_site_trial")
+    program = os.path.realpath(words[0] if words else f"{HERE}/../crates/bac/out/bac")
     devices, logs, records, delay = (int(word) for word in words[1:] + ["500", "4", "672", "30"][len(words[1:]):])
-    lines = "".join(f"127.1.{at // 250}.{at % 250 + 1}:47808 {log}\n" for at in range(devices) for log in range(1, logs + 1))
+    places, instances = [f"127.1.{at // 250}.{at % 250 + 1}:47808" for at in range(devices)], [str(log) for log in range(1, logs + 1)]
+    lines = "".join(f"{place} {log}\n" for place in places for log in instances)
+    named = [word for place in places for word in (place, *instances)]
     with tempfile.TemporaryDirectory() as room:
         for name, library in (("plant", []), ("plain", ["-lsqlite3"])):
             subprocess.run(["cc", "-O2", "-o", f"{room}/{name}", f"{HERE}/poller/{name}.c", *library], check=True)
         plant = Plant(f"{room}/plant", devices, logs, records, delay)
         clients = [Client("plain", f"{room}/plain.db", [f"{room}/plain", f"{room}/plain.db", str(AT_ONCE)], lines),
-                   Client("trial", f"{room}/trial.db", [program, f"{room}/trial.db", f"--at-once={AT_ONCE}", "-"], lines)]
+                   Client("bac keep", f"{room}/bac.db", [program, "keep", f"{room}/bac.db", f"--at-once={AT_ONCE}", *named], "")]
         works = ((f"first run of {records} a log", "log 0"), ("nothing new", "log 0"), ("8 new a log", "log 8"),
                  (f"{records} new a log", f"log {records}"), ("a tenth silent", "silent 10"))
         for work, command in works:

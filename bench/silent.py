@@ -13,11 +13,11 @@ LOGS = ("1", "2", "3", "4")
 
 
 def ran(*words):
-    """Seconds of a run, and the ends of its lines."""
+    """Seconds of a run, and its lines."""
     start = time.monotonic()
     run = subprocess.run([program, "keep", f"{room}/site.db", *words], capture_output=True, text=True)
     took = time.monotonic() - start
-    return took, [line.split(" gaps ")[1].split(",")[0] for line in run.stdout.splitlines()]
+    return took, run.stdout + run.stderr
 
 
 def main():
@@ -26,14 +26,14 @@ def main():
     for device in site:
         for log in device.logs.values():
             log.log(2)
-        ran(device.address, *LOGS)
-    took, ends = ran()
-    print(f"{devices} devices, {ends.count('caught up')} logs caught up: {took:.2f} s")
+    ran(*[word for device in site for word in (device.address, *LOGS)])
+    took, told = ran()
+    print(f"{devices} devices, {told.count(' caught up,')} logs caught up: {took:.2f} s")
     for device in site[:silent]:
         device.answers = 0
-    took, ends = ran()
-    print(f"{silent} of them silent, {ends.count('caught up')} logs caught up, {ends.count('lost')} lost, "
-          f"{ends.count('not asked')} not asked: {took:.2f} s")
+    took, told = ran()
+    print(f"{silent} of them silent, {told.count(' caught up,')} logs caught up, {told.count(' not asked')} not asked, "
+          f"{told.count(': no answer')} devices without an answer: {took:.2f} s")
 
 
 if __name__ == "__main__":

@@ -57,12 +57,15 @@ def ran(name, *words, lines=None):
     run = subprocess.run([program, "keep", *words], input=lines, capture_output=True, text=True)
     took = time.monotonic() - start
     after = resource.getrusage(resource.RUSAGE_CHILDREN)
-    ends = [line.split(" gaps ")[1].split(",")[0] for line in run.stdout.splitlines() if " gaps " in line]
+    told = run.stdout.splitlines() + run.stderr.splitlines()
+    ends = [line.split(" gaps ")[1].split(",")[0] for line in told if " gaps " in line]
+    ends += [end for line in told for end in ("not asked", "no answer") if line.endswith(end)]
     counts = ", ".join(f"{ends.count(end)} {end}" for end in sorted(set(ends)))
     print(f"{name}: {took:.2f} s, {after.ru_utime + after.ru_stime - before.ru_utime - before.ru_stime:.2f} s of processor, "
           f"{after.ru_maxrss // 1024} MB at most so far; {counts}", flush=True)
-    if run.stderr:
-        print("  " + run.stderr.splitlines()[0])
+    others = [line for line in run.stderr.splitlines() if not line.endswith(("not asked", "no answer"))]
+    if others:
+        print("  " + others[0])
 
 
 def main():

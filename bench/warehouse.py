@@ -15,7 +15,8 @@ import tempfile
 import time
 
 sys.path.insert(0, os.path.join(os.path.dirname(os.path.realpath(__file__)), "../examples/check"))
-from warehouse_files import FORMAT_3, USE, Server, is_installed, opened
+from page_archives import FORMAT_3
+from warehouse_files import USE, Server, is_installed, opened
 
 LOGS, SITES, SITE_LOGS = 100, 10, 286
 COPIED = ("SELECT 9, id >> 47, (id >> 32) & 32767, id & 4294967295, substr(stamp, 1, 19) || 'Z', value, stamp, datum, flags"
@@ -30,10 +31,7 @@ DAY = """SELECT number, at, value FROM bac.trends WHERE site = 'site 7' AND devi
 def archive(file, records):
     """An archive of so many records, with the tables of format 3."""
     with opened(file) as base:
-        for statement in FORMAT_3.split(";\n"):
-            if statement.lstrip().startswith("CREATE"):
-                base.execute(statement)
-        base.execute("INSERT INTO archive VALUES (3, '2024-05-06 07:00:00')")
+        base.executescript(FORMAT_3)
         base.execute("INSERT INTO devices VALUES (1, '10.0.0.1:47808', 0, '', 1, 'AHU', 7, 1, 0, NULL, 0)")
         base.executemany("INSERT INTO logs VALUES (?, 1, ?, 'log', 'AI 1 Present_Value', 'degrees Celsius', NULL, NULL, 7, 0)",
                          [(log, log) for log in range(1, LOGS + 1)])

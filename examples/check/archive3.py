@@ -221,6 +221,8 @@ WRONG = (
     ("an archive", "CREATE INDEX by_stamp ON items (stamp)"),
     ("an archive", "CREATE VIEW mine AS SELECT * FROM records"),
     ("an archive", "UPDATE logs SET name = NULL"),
+    # Known to lack: its log's device has no row (kept_known.py).
+    ("an archive", "DELETE FROM devices"),
 )
 
 

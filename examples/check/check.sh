@@ -175,6 +175,10 @@ bac wi 127.0.0.1 --max=5
 wrong '--max alone' '--max: a number from 0 to 4194303, beside --min'
 bac keep a.db --stop
 wrong '--stop alone' '--stop: an option without a value, beside one ADDRESS'
+bac kept a.db --last --since=2026
+wrong '--last beside --since' '--last: an option without a value, beside neither --since nor --until'
+bac kept a.db --last --until=2026-11-30
+wrong '--last beside --until' '--last: an option without a value, beside neither --since nor --until'
 bac rp 127.0.0.1 8 123 77 --dnet=7
 wrong '--dnet alone' '--dadr: 2 to 30 hexadecimal digits, an even number, beside --dnet'
 bac log 127.0.0.1 1 1 --dnet=65535 --dadr=0a
@@ -318,7 +322,7 @@ counted ./stations.sh
 # A device behind a router.
 counted ./router.sh
 counted ./edges.sh
-# Logs kept in a file, and runs that are killed.
+# Logs kept in a file, runs that are killed, and devices that begin anew meanwhile.
 counted ./kept.sh
 # An archive of format 2 becomes one of format 3.
 counted ./convert.py
@@ -342,8 +346,6 @@ counted ./vectors.sh ../../crates/bac_vectors/out/bac_vectors
 counted ./polls.py ../../crates/bac_poll_rows/out/bac_poll_rows
 # Archives of format 3 in files: runs that are killed, full disks, and files that are none.
 counted ./archive3.py ../../crates/bac_archive3_trial/out/bac_archive3_trial
-# A site that is polled over UDP into such a file: devices that restart, refuse and fall silent, runs that are killed.
-counted ./trial.py ../../crates/bac_site_trial/out/bac_site_trial
 
 echo "$passed passed, $failed failed"
 [ "$failed" -eq 0 ]

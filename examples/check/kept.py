@@ -24,7 +24,8 @@ from kept_changes import changed, started
 from kept_devices import LAST, Device, Log, chance, lock, serve
 from kept_fifty import fifty_in_a_file, fifty_in_parts
 from kept_fifty_judged import fifty_judged
-from kept_judge import Judge
+from kept_judge import LOGS, Judge
+from kept_known import KNOWN
 from kept_limits import at_most, is_full
 from kept_lines import in_doubt
 
@@ -42,8 +43,8 @@ def whole(words):
 
 def doubted(judge, name, devices, archive, errors):
     """Nothing is in doubt that can't be, by the file that was judged last. How many logs are."""
-    logs = in_file(f"{archive.judged}.copy", "SELECT id, address, instance, device, restart, revision FROM logs")
-    doubts, wrong = in_doubt(logs, devices, errors)
+    logs = in_file(f"{archive.judged}.copy", LOGS)
+    doubts, wrong = in_doubt(logs, [device for device in devices if not device.loses], errors)
     judge.is_right(f"{name}: what is in doubt", not wrong, wrong)
     return len(doubts)
 
@@ -60,7 +61,7 @@ def settle(judge, name, devices, archive):
     for device in devices:
         for log in device.logs.values():
             log.fresh = False
-    return errors.count(" began anew\n")
+    return errors.count(": began anew\n")
 
 
 def a_run(judge, archive, seconds):
@@ -71,6 +72,7 @@ def a_run(judge, archive, seconds):
     except subprocess.TimeoutExpired:
         process.kill()
         errors = process.communicate()[1]
+    judge.hears(errors.decode())
     return process.returncode, errors.decode()
 
 
@@ -108,7 +110,8 @@ def at_random(judge, runs, archive):
     for at, device in enumerate(devices):
         named = [str(instance) for instance in device.logs] if at < 4 else []
         status, out, errors = judge.ran(archive.keep(device.address, *named, *LONG))
-        judge.is_right("a device is added", status == 0 and out.count("caught up") == 8, f"{status}: {out} {errors}")
+        # A run polls all that is on record.
+        judge.is_right("a device is added", status == 0 and out.count("caught up") == 8 * (at + 1), f"{status}: {out} {errors}")
     archive.judge(judge, "all logs are added", devices, True)
     began = time.monotonic()
     settle(judge, "the first run", devices, archive)
@@ -126,7 +129,7 @@ def at_random(judge, runs, archive):
         archive.goes_on()
         status, errors = a_run(judge, archive, chance.uniform(0, 1.5 * took) if chance.random() < 0.75 else 120)
         ends[status] += 1
-        anew += errors.count(" began anew\n")
+        anew += errors.count(": began anew\n")
         doubts += doubted(judge, f"run {at}", devices, archive, errors)
         judge.is_right(f"run {at}", status in (-signal.SIGKILL, 0, 2), f"status {status}: {errors}")
         archive.judge(judge, f"run {at}", devices)
@@ -197,7 +200,9 @@ def faults_at_each_call(judge, _runs):
         judge.judge(f"call {call} failed", file, devices)
         if status == 0:
             break
-        judge.is_right(f"call {call} failed", status == 6 and errors.startswith("file fault\n"), f"status {status}: {out} {errors}")
+        # Behind what was told of logs.
+        is_told = errors.splitlines()[-2:-1] == ["file fault"]
+        judge.is_right(f"call {call} failed", status == 6 and is_told, f"status {status}: {out} {errors}")
         in_the_close += out.count("caught up") == 2
     judge.is_right("calls that fail are counted", status == 0 and call > 5, f"status {status} at call {call}: {errors}")
     # All lines were printed, so what failed is the close.
@@ -240,7 +245,7 @@ def run_job(job):
         line = ""
         judge.is_right(name, False, f"{type(error).__name__}: {error}")
     seeded = f" (seed {seed})" if judge.failed else ""
-    return f"{name}, {time.monotonic() - began:.0f} s{seeded}: {line or ''}", judge.passed, judge.failed, judge.told
+    return f"{name}, {time.monotonic() - began:.0f} s{seeded}: {line or ''}", judge.passed, judge.failed, judge.told, judge.known
 
 
 def main(program, room, runs, seed, kills):
@@ -251,10 +256,14 @@ def main(program, room, runs, seed, kills):
     jobs = [((in_one_file, in_parts)[at % 2], f"at_random_{at}", share, common) for at in range(SITES)]
     jobs += [(task, task.__name__, 0, common) for task in tasks]
     passed = failed = 0
+    known = collections.Counter()
     with multiprocessing.get_context("fork").Pool(min(SITES, os.cpu_count()), maxtasksperchild=1) as pool:
-        for line, well, badly, told in pool.imap_unordered(run_job, jobs):
+        for line, well, badly, told, lacking in pool.imap_unordered(run_job, jobs):
             passed, failed = passed + well, failed + badly
+            known += lacking
             print(line, *told[:10], sep="\n", flush=True)
+    for what, rows in known.items():
+        print(f"known to lack, {rows} {'row' if rows == 1 else 'rows'}: {KNOWN[what]}")
     print(f"{passed} passed, {failed} failed")
     return failed == 0
 

@@ -3,19 +3,24 @@ import sqlite3
 import time
 
 from kept_devices import LAST, Device, Log, serve
-from kept_rounds import unheard, why
+from kept_rounds import anew, silent, why
 
 QUICK = ("--timeout=60", "--retries=0")
-USED_UP = "this log has restarted 32767 times, the most a file can hold"
+USED_UP = "began anew once too often"
 
 
 def line(device, instance, records, end, way=""):
     return f"{device.address}{way} {instance} {records} record{'s' * (records != 1)} 0 gaps {end}\n"
 
 
-def untold(device, end, way=""):
-    """The line of a device that didn't tell its Object_List."""
-    return f"{device.address}{way} didn't tell its Object_List: {end}\n"
+def left(device, *instances, way=""):
+    """The lines of logs that weren't asked."""
+    return "".join(f"{device.address}{way} {instance} not asked\n" for instance in instances)
+
+
+def new_logs(*devices):
+    """The lines of logs that came with the Object_Lists of devices."""
+    return "".join(f"{device.place()} {instance} is new\n" for device in devices for instance in device.logs)
 
 
 def in_file(file, *statements):
@@ -51,8 +56,8 @@ def last_epoch(judge, _runs):
         first.begin(0)
         first.log(5)
         second.log(new)
-        judge.same("it began anew", judge.ran(["keep", file]),
-                   (6, line(device, 1, 0, f"{USED_UP}, next 13") + line(device, 2, new, f"caught up, next {second.total + 1}"), ""))
+        judge.tells("it began anew", judge.ran(["keep", file]), 6,
+                    anew(device), line(device, 1, 0, f"{USED_UP}, next 13"), line(device, 2, new, f"caught up, next {second.total + 1}"))
         judge.same("its rows stay", items_of(file, 1), before)
     # It goes on, and its numbers come round: what came before is kept.
     file = f"{judge.room}/b.db"
@@ -63,12 +68,11 @@ def last_epoch(judge, _runs):
     first.log(200)
     second.log(2)
     status, out, errors = judge.ran(["keep", file])
-    told = out.splitlines(True)
     rows = items_of(file, 1)
     kept, last = len(rows) - 10, rows[-1][0] & LAST
     judge.is_right("some of it is kept", 10 <= kept < 140 and last == LAST - 140 + kept, (kept, last))
-    judge.same("its numbers came round", (status, told, errors),
-               (6, [line(device, 1, kept, f"{USED_UP}, next {last + 1}"), line(device, 2, 2, f"caught up, next {second.total + 1}")], ""))
+    judge.tells("its numbers came round", (status, out, errors), 6,
+                line(device, 1, kept, f"{USED_UP}, next {last + 1}"), line(device, 2, 2, f"caught up, next {second.total + 1}"))
     # Its newest record has the last number that there is.
     file = f"{judge.room}/c.db"
     first.begin(LAST - 5)
@@ -76,8 +80,13 @@ def last_epoch(judge, _runs):
     judge.ran(["keep", file, device.address, "1", "2"])
     in_file(file, "UPDATE items SET id = id + (32767 << 32) WHERE id >> 47 = 1",
             "DELETE FROM beginnings WHERE id = (1 << 15) + 1", "UPDATE beginnings SET id = id + 32767 WHERE id >> 15 = 1")
-    judge.same("at the last number", judge.ran(["keep", file]),
-               (6, line(device, 1, 0, f"{USED_UP}, next 1") + line(device, 2, 0, f"caught up, next {second.total + 1}"), ""))
+    before = items_of(file, 1)
+    for new in (0, 3):
+        first.log(new)
+        second.log(new)
+        judge.tells(f"at the last number, {new} new", judge.ran(["keep", file]), 6 if new else 0,
+                    line(device, 1, 0, f"{USED_UP if new else 'caught up'}, next 1"), line(device, 2, new, f"caught up, next {second.total + 1}"))
+        judge.same(f"at the last number, {new} new: its rows stay", items_of(file, 1), before)
 
 
 def dead_devices(judge, _runs):
@@ -94,58 +103,64 @@ def dead_devices(judge, _runs):
     other.logs[1].log(2)
     dead.answers = 0
     before = dead.asked
-    judge.same("a dead device", judge.ran(["keep", file, "--timeout=60", "--retries=2"]),
-               (2, line(dead, 1, 0, "lost, next 2") + line(dead, 2, 0, "not asked, next 3") + line(other, 1, 2, "caught up, next 3")
-                + line(dead, 3, 0, "not asked, next 4"), unheard(dead)))
+    judge.tells("a dead device", judge.ran(["keep", file, "--timeout=60", "--retries=2"]), 2,
+                silent(dead, (1, 2, 3)), line(other, 1, 2, "caught up, next 3"))
     judge.same("is asked once", dead.asked - before, 3)
     judge.same("its rows stay", [items_of(file, log) for log in (1, 2, 4)], rows)
     judge.judge("a dead device", file, [dead, other])
     # The others are asked if the first one's fault is another: its log isn't there any more.
     dead.answers = None
     log = dead.logs.pop(1)
-    judge.same("a refusal is of one log", judge.ran(["keep", file]),
-               (3, line(dead, 1, 0, "refused: error 2 32, next 2") + line(dead, 2, 0, "caught up, next 3") + line(other, 1, 0, "caught up, next 3")
-                + line(dead, 3, 0, "caught up, next 4"), why(dead, 1, "unknown property")))
+    judge.tells("a refusal is of one log", judge.ran(["keep", file]), 3,
+                line(dead, 1, 0, "refused: error 2 32, next 2"), why(dead, 1, "unknown property"), line(dead, 2, 0, "caught up, next 3"),
+                line(dead, 3, 0, "caught up, next 4"), line(other, 1, 0, "caught up, next 3"))
     dead.logs = {1: log, **dead.logs}
-    # It answers once more: what came is kept, and then it isn't asked any more.
+    # It answers once more: what came is kept; the next log is asked once, and then it isn't asked any more.
     for log in dead.logs.values():
         log.log(150)
-    dead.answers = 6
-    status, out, errors = judge.ran(["keep", file, *QUICK])
-    told = out.splitlines(True)
-    judge.is_right("lost on the way", (status, errors, len(told)) == (2, unheard(dead), 4) and " 1 " in told[0] and " lost, next " in told[0]
-                   and told[1] == line(dead, 2, 0, "not asked, next 3") and told[3] == line(dead, 3, 0, "not asked, next 4"), (status, out, errors))
+    # Each of its replies shows the record that is known, too.
+    dead.answers, dead.fits = 6, (45,)
+    judge.tells("lost on the way", judge.ran(["keep", file, *QUICK]), 2, line(dead, 1, 132, "lost, next 134"), line(dead, 2, 0, "lost, next 3"),
+                left(dead, 3), line(other, 1, 0, "caught up, next 3"))
     judge.judge("lost on the way", file, [dead, other])
     dead.answers = None
     judge.same("and the next run", judge.ran(["keep", file])[0], 0)
     judge.judge("and the next run", file, [dead, other], True)
-    # The logs of a device that gives no answer aren't added.
+    # A log that is never answered stops no other one of its device.
+    file = f"{judge.room}/mute.db"
+    judge.ran(["keep", file, dead.address])
+    dead.unheard = {2}
+    judge.tells("a log that isn't answered", judge.ran(["keep", file, *QUICK]), 2, line(dead, 1, 0, "caught up, next 152"),
+                line(dead, 2, 0, "lost, next 153"), line(dead, 3, 0, "caught up, next 154"))
+    dead.unheard = set()
+    # The device and the logs that are named are on record at once, so each later run polls them, too.
     file = f"{judge.room}/b.db"
     dead.answers = 0
-    judge.same("a first run", judge.ran(["keep", file, dead.address, "3", "1", "2", *QUICK]),
-               (2, line(dead, 3, 0, "lost, next 1") + line(dead, 1, 0, "not asked, next 1") + line(dead, 2, 0, "not asked, next 1"), unheard(dead, 3)))
-    judge.same("adds none", in_file(file, "SELECT instance FROM logs"), [])
+    for name, words in (("a first run", [dead.address, "3", "1", "2"]), ("a later one", [])):
+        judge.tells(name, judge.ran(["keep", file, *words, *QUICK]), 2, silent(dead, (1, 2, 3)))
+        judge.same(f"{name}: its device is on record", in_file(file, "SELECT address, instance, answered FROM devices"), [(dead.address, None, None)])
+        judge.same(f"{name}: and each log", in_file(file, "SELECT instance FROM logs ORDER BY id"), [(3,), (1,), (2,)])
+    dead.answers = None
+    judge.same("it answers", judge.ran(["keep", file])[0], 0)
+    judge.judge("it answers", file, [dead], True)
     dead.answers = 7
-    status, out, errors = judge.ran(["keep", f"{judge.room}/c.db", dead.address, *QUICK])
-    judge.same("dead in the midst of its list", (status, out, errors), (2, untold(dead, "lost"), f"{dead.address}: no reply from {dead.address}\n"))
+    judge.tells("dead in the midst of its list", judge.ran(["keep", f"{judge.room}/c.db", dead.address, *QUICK]), 2,
+                f"{dead.address} didn't tell its Object_List: lost\n")
     # Two devices behind one router have one address.
     behind = Device([Log(1, 50)], "behind", (5, b"\x07"))
     behind.logs[1].log(4)
     serve([behind])
     file = f"{judge.room}/d.db"
     judge.ran(["keep", file, behind.address, "1", "--dnet=5", "--dadr=07"])
-    in_file(file, "UPDATE logs SET id = id + 2", "UPDATE items SET id = id + (2 << 47)", "UPDATE beginnings SET id = id + (2 << 15)",
-            "INSERT INTO logs (address, dnet, dadr, instance, stopped) SELECT address, 5, '08', 1, 0 FROM logs",
-            "UPDATE logs SET id = 1 WHERE dadr = '08'",
-            "INSERT INTO logs (id, address, dnet, dadr, instance, stopped) SELECT 2, address, 5, '08', 2, 0 FROM logs WHERE id = 1")
+    in_file(file, "INSERT INTO devices (id, address, dnet, dadr, whole, stopped) SELECT 2, address, 5, '08', 0, 0 FROM devices",
+            "INSERT INTO logs (id, device, instance, stopped) VALUES (2, 2, 1, 0)", "INSERT INTO logs (id, device, instance, stopped) VALUES (3, 2, 2, 0)")
     behind.logs[1].log(1)
-    judge.same("behind one router", judge.ran(["keep", file, *QUICK]),
-               (2, line(behind, 1, 0, "lost, next 1", "/5/08") + line(behind, 2, 0, "not asked, next 1", "/5/08")
-                + line(behind, 1, 1, "caught up, next 6", "/5/07"), unheard(behind, 1, "/5/08")))
+    judge.tells("behind one router", judge.ran(["keep", file, *QUICK]), 2,
+                silent(behind, (1, 2), "/5/08"), line(behind, 1, 1, "caught up, next 6", "/5/07"))
 
 
 def dead_at_once(judge, _runs):
-    """Devices that give no answer are waited for beside one another, each asked once, before the first log."""
+    """Devices that give no answer are waited for beside one another, each asked once."""
     dead, alive = [Device([Log(1, 50)], f"dead{n}") for n in range(5)], [Device([Log(1, 50), Log(2, 50)], f"alive{n}") for n in range(2)]
     all_of_them = [dead[0], alive[0], *dead[1:], alive[1]]
     serve(all_of_them)
@@ -153,18 +168,17 @@ def dead_at_once(judge, _runs):
     for device in all_of_them:
         for log in device.logs.values():
             log.log(2)
-        judge.ran(["keep", file, device.address])
+    judge.ran(["keep", file, *[device.address for device in all_of_them]])
     for device in dead:
         device.answers = 0
     for device in alive:
         device.logs[2].log(3)
     asked = [device.asked for device in dead]
     start = time.monotonic()
-    status, out, errors = judge.ran(["keep", file, "--timeout=400", "--retries=2"])
+    ran = judge.ran(["keep", file, "--timeout=400", "--retries=2"])
     took = time.monotonic() - start
-    told = [line(device, number, new, f"caught up, next {device.logs[number].total + 1}") if device in alive else line(device, 1, 0, "lost, next 3")
-            for device in all_of_them for number, new in ((1, 0), (2, 3)) if number in device.logs]
-    judge.same("they are lost, and the others kept", (status, out.splitlines(True), errors), (2, told, "".join(map(unheard, dead))))
+    told = [line(device, number, new, f"caught up, next {device.logs[number].total + 1}") for device in alive for number, new in ((1, 0), (2, 3))]
+    judge.tells("they are silent, and the others kept", ran, 2, *told, *map(silent, dead))
     judge.same("each is asked as often as once", [device.asked - before for device, before in zip(dead, asked)], [3] * 5)
     judge.is_right("in one wait", 1.1 < took < 2.3, took)
     judge.judge("beside dead devices", file, all_of_them)

@@ -1,10 +1,12 @@
 """Devices that take their time are asked beside one another, for kept.py."""
+import re
 import threading
 import time
 
-from kept_apart import in_file, line, unheard, untold
+from kept_apart import in_file, line, new_logs
 from kept_devices import Device, Log, chance, serve
-from kept_more import Unlisting, fed
+from kept_more import UNTOLD, Unlisting, fed, untold
+from kept_rounds import silent
 
 WAIT = 0.1
 
@@ -28,8 +30,8 @@ class Echo:
 
 
 class Echoing(Device):
-    """Each answer goes out 20 ms after its question came, and once more 30 ms later: two questions for a log take 40, so
-    that it comes while the same question for the next log is open."""
+    """Each answer goes out 20 ms after its question came, and once more 30 ms later: so that it comes while a later question
+    is open, which is the same one for the next log."""
 
     def answer(self, port, request, asker):
         threading.Timer(0.02, super().answer, (Echo(port, 0.03), request, asker)).start()
@@ -56,16 +58,15 @@ def own_address(judge, _runs):
             log.log(5)
     file, ours = f"{judge.room}/own.db", f"127.77.6.1:{20000 + chance.randrange(9000)}"
     words = [word for device in site for word in (device.address, "1", "2")]
-    judge.same("a first run from an own address", judge.ran(["keep", file, f"--local={ours}", *words]), (0, lines_of(site, 5), ""))
+    judge.tells("a first run from an own address", judge.ran(["keep", file, f"--local={ours}", *words]), 0, lines_of(site, 5))
     for device in site:
         for log in device.logs.values():
             log.log(3)
-    judge.same("from it again", judge.ran(["keep", file, f"--local={ours}"]), (0, lines_of(site, 3), ""))
+    judge.tells("from it again", judge.ran(["keep", file, f"--local={ours}"]), 0, lines_of(site, 3))
     judge.same("from no other", {device.asker for device in site}, {ours})
     site[2].answers = 0
-    status, out, _errors = judge.ran(["keep", file, f"--local={ours}", "--timeout=300", "--retries=1"])
-    silent = line(site[2], 1, 0, "lost, next 9") + line(site[2], 2, 0, "not asked, next 9")
-    judge.same("and one is silent", (status, out), (2, lines_of(site[:2], 0) + silent + lines_of(site[3:], 0)))
+    judge.tells("and one is silent", judge.ran(["keep", file, f"--local={ours}", "--timeout=300", "--retries=1"]), 2,
+                lines_of(site[:2] + site[3:], 0), silent(site[2], (1, 2)))
     judge.judge("from an own address", file, site, True)
 
 
@@ -79,8 +80,7 @@ def own_address_echoes(judge, _runs):
         for device in site:
             for log in device.logs.values():
                 log.log(new)
-        told = judge.ran(["keep", file, f"--local={ours}", *words])
-        judge.same(f"{new} new where each answer comes twice", told, (0, lines_of(site, new), ""))
+        judge.tells(f"{new} new where each answer comes twice", judge.ran(["keep", file, f"--local={ours}", *words]), 0, lines_of(site, new))
         words = []
     judge.judge("where each answer comes twice", file, site, True)
 
@@ -106,15 +106,11 @@ class Patient(Counted, Slow):
 
 
 class Holding(Counted):
-    """One answer goes out some time after its question came: that to so many questions. All devices tell the IDs to one list."""
+    """One answer goes out some time after its question came: that to so many questions."""
 
-    def __init__(self, logs, name, at, after, all_ids):
+    def __init__(self, logs, name, at, after):
         super().__init__(logs, name)
-        self.at, self.after, self.all_ids = at, after, all_ids
-
-    def ack(self, apdu):
-        self.all_ids.append((self.name, apdu[2]))
-        return super().ack(apdu)
+        self.at, self.after = at, after
 
     def answer(self, port, request, asker):
         if len(self.ids) + 1 == self.at:
@@ -123,9 +119,9 @@ class Holding(Counted):
             super().answer(port, request, asker)
 
 
-def come_again(ids, others):
-    """The IDs that come again behind no more than so many others."""
-    return [one for at, one in enumerate(ids) if one in ids[max(0, at - others) : at]]
+def wrong_ids(device):
+    """The IDs of what a device was asked where they don't go on from 1, or where they come in another turn than that."""
+    return [one for at, one in enumerate(device.ids, 1) if one != at % 256]
 
 
 def new_records(site, news):
@@ -141,8 +137,9 @@ def new_records(site, news):
 
 
 def ids_go_on(judge, _runs):
-    """The invoke IDs of what a device is asked go on over a run: over its list, its names, what it says of itself and each
-    of its logs, however many questions a log takes. So an answer that comes once more is none to a later question."""
+    """The invoke IDs of what a device is asked go on over a run: over what it says of itself, its list, its names and each
+    of its logs, however many questions a log takes, and beside however many others. So an answer that comes once more is none
+    to a later question."""
     for many in (1, 3):
         site = [Repeating([Log(1, 4000), Log(2, 50), Log(3, 4000)], f"ids {many} {n}") for n in range(many)]
         serve(site)
@@ -152,42 +149,37 @@ def ids_go_on(judge, _runs):
         for news in ((2500, 5, 1900), (0, 1, 0), (3, 0, 2000), (1, 1, 1)):
             site[0].fits = (45,)
             lines = new_records(site, news)
-            judge.same(f"{name}, {news} new", judge.ran(["keep", file, f"--local={ours}", *words]), (0, lines, ""))
+            judge.tells(f"{name}, {news} new", judge.ran(["keep", file, f"--local={ours}", *words]), 0, new_logs(*site) if words else "", lines)
             for device in site:
-                # Of several devices the IDs of one leave some out.
-                judge.same(f"{name}, {news} new: IDs that come again", come_again(device.ids, 127), [])
-            if many == 1:
-                judge.same(f"{name}, {news} new: its IDs", site[0].ids, [n % 256 for n in range(1, len(site[0].ids) + 1)])
+                judge.same(f"{name}, {news} new: its IDs", wrong_ids(device), [])
             words = []
         judge.judge(name, file, site, True)
-    # Beside one whose list is longer another one is still asked for its own, so that its IDs are behind.
+    # Beside one whose list is longer.
     for many in (20, 140):
         site = [Counted([Log(number, 50) for number in range(1, many + 1)], f"long {many}"), Patient([Log(1, 50), Log(2, 50)], f"short {many}")]
         serve(site)
         name, file, words = f"beside a list of {many}", f"{judge.room}/beside{many}.db", [device.address for device in site]
         for news in ([3] * many, [0] * many):
             lines = new_records(site, news)
-            judge.same(name, judge.ran(["keep", file, f"--local=127.77.6.9:{20000 + chance.randrange(9000)}", *words]), (0, lines, ""))
-            judge.same(f"{name}: IDs that come again", [come_again(device.ids, 127) for device in site], [[], []])
+            judge.tells(name, judge.ran(["keep", file, f"--local=127.77.6.9:{20000 + chance.randrange(9000)}", *words]), 0,
+                        new_logs(*site) if words else "", lines)
+            judge.same(f"{name}: its IDs", [wrong_ids(device) for device in site], [[], []])
             words = []
         judge.judge(name, file, site, True)
 
 
 def ids_go_on_behind_the_longest(judge, _runs):
-    """Three lists are asked for over one port. While one is asked for to its end, the others wait for an answer each, and
-    go on behind that: so the last questions over the port aren't those with the last IDs. What is asked next has the IDs
-    behind the last ones all the same, and no device has an ID again before 128 others are asked."""
-    ids = []
-    site = [Holding([Log(number, 50) for number in range(1, many + 1)], f"list {many}", at, after, ids)
+    """Three lists are asked for over one port. While one is asked for to its end, the others wait for an answer each, and go on
+    behind that. The IDs of what each device is asked go on all the same."""
+    site = [Holding([Log(number, 50) for number in range(1, many + 1)], f"list {many}", at, after)
             for many, at, after in ((100, 0, 0), (30, 59, 1), (75, 120, 1.4))]
     serve(site)
     file, words = f"{judge.room}/three.db", [device.address for device in site]
     for news in ([3] * 100, [0] * 100):
         lines = new_records(site, news)
         ours = f"--local=127.77.6.10:{20000 + chance.randrange(9000)}"
-        judge.same("three lists", judge.ran(["keep", file, ours, *words]), (0, lines, ""))
-        judge.same("three lists: IDs that come again", come_again(ids, 127), [])
-        ids.clear()
+        judge.tells("three lists", judge.ran(["keep", file, ours, *words]), 0, new_logs(*site) if words else "", lines)
+        judge.same("three lists: IDs", [wrong_ids(device) for device in site], [[], [], []])
         words = []
     judge.judge("three lists", file, site, True)
 
@@ -209,8 +201,9 @@ def each_option(judge, _runs):
             told, out, errors = judge.ran(["keep", file, *options, *words])
             # A reply has 45 records at most, and a step is one batch.
             ended = {0: "101 records 0 gaps caught up", 8: "step limit"}[status]
-            judge.same(name, (told, [ended in one for one in out.splitlines()]), (status, [True] * 12))
-            judge.same(f"{name}: what is traced", bool(errors), "--trace" in options)
+            ends = [line for line in (out if status == 0 else errors).splitlines() if re.match(r"\S+ \d+ \d+ records? ", line)]
+            judge.same(name, (told, [ended in one for one in ends]), (status, [True] * 12))
+            judge.same(f"{name}: what is traced", any(line.startswith(("tx ", "rx ")) for line in errors.splitlines()), "--trace" in options)
             words = []
         judge.same(f"{name}: without it", judge.ran(["keep", file])[0], 0)
         judge.judge(name, file, site, True)
@@ -221,6 +214,7 @@ def at_once(judge, _runs):
     site = [Slow([Log(1, 50), Log(2, 500)], f"slow{n}") for n in range(12)]
     serve(site)
     for device in site:
+        device.fits = (45,)
         for log in device.logs.values():
             log.log(40)
     site[3].logs[2].log(400)
@@ -235,22 +229,23 @@ def at_once(judge, _runs):
                 log.log(new)
         asked = [device.asked for device in site]
         told, took = timed(judge, file)
-        judge.same(f"{new} new", told, (0, lines_of(site, new), ""))
-        # One after the other they take 8.4 seconds.
+        judge.tells(f"{new} new", told, 0, lines_of(site, new))
+        # One after the other they take 6 seconds.
         judge.is_right(f"{new} new: beside one another", took < 4, took)
         if not new:
-            judge.same("each is asked as often as alone", [device.asked - before for device, before in zip(site, asked)], [7] * 12)
+            # For their instance, their start and their revision, and for each log once.
+            judge.same("each is asked as often as alone", [device.asked - before for device, before in zip(site, asked)], [5] * 12)
     judge.judge("slow devices", file, site, True)
-    # One falls silent once it told what it is: the others' logs are kept, and it is asked once more, alone.
+    # One falls silent once it told what it is: the others' logs are kept. Its next log is asked for once, and then none any more.
     site[5].answers = 3
     asked = [device.asked for device in site]
-    (status, out, errors), took = timed(judge, file, "--timeout=400", "--retries=1")
-    silent = line(site[5], 1, 0, "lost, next 45") + line(site[5], 2, 0, "not asked, next 45")
-    judge.same("one falls silent", (status, out, errors), (2, lines_of(site[:5], 0) + silent + lines_of(site[6:], 0), unheard(site[5])))
-    judge.same("who was asked", [device.asked - before for device, before in zip(site, asked)], [7] * 5 + [3 + 2 + 2] + [7] * 6)
+    told, took = timed(judge, file, "--timeout=400", "--retries=1")
+    lost = [line(site[5], number, 0, "lost, next 45") for number in (1, 2)]
+    judge.tells("one falls silent", told, 2, lines_of(site[:5] + site[6:], 0), *lost)
+    judge.same("who was asked", [device.asked - before for device, before in zip(site, asked)], [5] * 5 + [3 + 2 + 1] + [5] * 6)
     judge.is_right("in two waits", took < 6, took)
     site[5].answers = None
-    judge.same("it is back", judge.ran(["keep", file])[:2], (0, lines_of(site, 0)))
+    judge.tells("it is back", judge.ran(["keep", file]), 0, lines_of(site, 0))
 
 
 class Noting(Device):
@@ -272,9 +267,10 @@ class Listed(Noting, Slow):
 
 
 def rows_by(file):
-    """What an archive has of logs and of their records, but when it was written."""
-    return (in_file(file, "SELECT address, instance, name FROM logs ORDER BY id"),
-            in_file(file, "SELECT address, instance, items.id & 4294967295 FROM items JOIN logs ON logs.id = items.id >> 47 ORDER BY items.id"))
+    """What an archive has of logs and of their records, but when it was written, and under which ids."""
+    devices = "JOIN devices d ON d.id = l.device"
+    return (in_file(file, f"SELECT d.address, l.instance, l.name FROM logs l {devices} ORDER BY 1, 2"),
+            in_file(file, f"SELECT d.address, l.instance, i.id & 4294967295 FROM items i JOIN logs l ON l.id = i.id >> 47 {devices} ORDER BY 1, 2, 3"))
 
 
 def lists_at_once(judge, _runs):
@@ -287,8 +283,9 @@ def lists_at_once(judge, _runs):
         for log in device.logs.values():
             log.log(4)
     alone = f"{judge.room}/alone.db"
-    for device in site:
-        judge.same("alone", judge.ran(["keep", alone, device.address]), (0, lines_of([device], 4), ""))
+    for at, device in enumerate(site):
+        # A run polls all that is on record.
+        judge.tells("alone", judge.ran(["keep", alone, device.address]), 0, new_logs(device), lines_of([device], 4), lines_of(site[:at], 0))
     words = [device.address for device in site]
     listed = "".join(f"{address}\n" for address in words)
     for name, run in (("words", lambda file: judge.ran(["keep", file, *words])), ("a list", lambda file: fed(judge, ["keep", file, "-"], listed))):
@@ -298,12 +295,13 @@ def lists_at_once(judge, _runs):
         start = time.monotonic()
         told = run(file)
         took = time.monotonic() - start
-        judge.same(f"{name}: what is told", told, (0, lines_of(site, 4), ""))
-        judge.same(f"{name}: the list is asked for once, or each place", [len(device.lists) for device in site], [2] * 4 + [6] * 4)
-        # Each has told how long its list is before one has told its last.
-        first, last = max(device.lists[0] for device in site), min(device.lists[-1] for device in site)
+        judge.tells(f"{name}: what is told", told, 0, new_logs(*site), lines_of(site, 4))
+        # Of the whole list, or then how long it is, and each place.
+        judge.same(f"{name}: the list is asked for once, or each place", [len(device.lists) for device in site], [1] * 4 + [6] * 4)
+        # Each was asked for its list before one has told its last place.
+        first, last = max(device.lists[0] for device in site), min(device.lists[-1] for device in site[4:])
         judge.is_right(f"{name}: beside one another", first < last, (first, last))
-        # One after the other their lists and names alone take 4.8 seconds.
+        # One after the other their lists and what they say of their logs alone take 10 seconds.
         judge.is_right(f"{name}: in the time of few", took < 4.8, took)
         judge.judge(name, file, site, True)
         judge.same(f"{name}: as alone", rows_by(file), rows_by(alone))
@@ -311,9 +309,10 @@ def lists_at_once(judge, _runs):
     for answers in (0, 3):
         site[5].answers, asked = answers, site[5].asked
         told, took = timed(judge, f"{judge.room}/silent {answers}.db", *words, "--timeout=400", "--retries=1")
-        judge.same(f"silent behind {answers}", told, (2, untold(site[5], "lost") + lines_of(site[:5] + site[6:], 4),
-                                                       f"{site[5].address}: no reply from {site[5].address}\n"))
-        judge.same(f"silent behind {answers}: how often it is asked", site[5].asked - asked, answers + 2)
+        others = site[:5] + site[6:]
+        judge.tells(f"silent behind {answers}", told, 2, silent(site[5], ()), new_logs(*others), lines_of(others, 4))
+        # Behind a question that isn't answered one that is sent once shows whether it answers any.
+        judge.same(f"silent behind {answers}: how often it is asked", site[5].asked - asked, answers + 2 + (answers > 0))
         judge.is_right(f"silent behind {answers}: in the time of few", took < 6, took)
     site[5].answers = None
 
@@ -329,38 +328,56 @@ class Whole(Noting):
         return self.another(super().whole_ack(head))
 
 
-# What comes in place of the whole list, which has five octets for each object.
-NOT_WHOLE = (
-    ("an object is left out", lambda ack: ack[:-6] + ack[-1:]),
-    ("an object stands twice", lambda ack: ack[:-1] + ack[-6:]),
-    ("a number among the objects", lambda ack: ack[:-6] + b"\x24" + ack[-5:]),
-    ("no object", lambda ack: ack[: ack.index(b"\x3e") + 1] + ack[-1:]),
-    ("another service", lambda ack: ack[:2] + bytes([26]) + ack[3:]),
-    ("an Error", lambda ack: bytes([0x50, ack[1], ack[2], 0x91, 2, 0x91, 27])),
-    ("a Reject", lambda ack: bytes([0x60, ack[1], 4])),
-    ("nothing", lambda ack: None),
+# What comes in place of the whole list, which has five octets for each object: how many of its logs are kept then, or how its
+# line ends, and the status.
+REPLIES = (
+    ("whole", lambda ack: ack, 8, 0),
+    ("an object is left out", lambda ack: ack[:-6] + ack[-1:], 7, 0),
+    ("an object stands twice", lambda ack: ack[:-1] + ack[-6:], 8, 0),
+    ("no object", lambda ack: ack[: ack.index(b"\x3e") + 1] + ack[-1:], 0, 0),
+    ("a number among the objects", lambda ack: ack[:-6] + b"\x24" + ack[-5:], UNTOLD[1], 4),
+    ("another service", lambda ack: ack[:2] + bytes([26]) + ack[3:], UNTOLD[1], 4),
+    ("an Error", lambda ack: bytes([0x50, ack[1], ack[2], 0x91, 2, 0x91, 27]), UNTOLD[0], 3),
+    ("a Reject", lambda ack: bytes([0x60, ack[1], 4]), ("a Reject", None, 3, "refused: reject 4", "invalid tag"), 3),
+    # As where it doesn't fit an answer.
+    ("nothing", lambda ack: None, 8, 0),
 )
+# Aborts that tell that a list doesn't fit an answer: buffer-overflow, segmentation-not-supported, and apdu-too-long.
+TOO_LONG = 1, 4, 11
 
 
 def whole_lists(judge, _runs):
-    """A list takes two questions, how many objects it has and which they are. Where these aren't told at once, all of them, it is
-    asked for place by place, and no log is left out."""
-    for name, another in (("whole", lambda ack: ack), *NOT_WHOLE):
+    """A list takes one question. What it tells is kept; where it doesn't fit an answer it is asked for place by place, behind how long
+    it is; and what else comes in its place is told."""
+    quick = ("--timeout=400", "--retries=0")
+    for name, another, kept, status in REPLIES:
         site = [Whole([Log(number, 50) for number in range(1, 9)], f"{name} {n}", another) for n in range(2)]
         serve(site)
         for device in site:
             for log in device.logs.values():
                 log.log(3)
-        quick = ("--timeout=400", "--retries=0")
-        asked = 2 if name == "whole" else 2 + 10
-        judge.same(f"{name}: alone", judge.ran(["keep", f"{judge.room}/{name} alone.db", site[0].address, *quick]), (0, lines_of(site[:1], 3), ""))
-        judge.same(f"{name}: how often its list is asked for", len(site[0].lists), asked)
+        told = [untold(device, *kept[3:]) if isinstance(kept, tuple) else first_logs(device, kept) for device in site]
+        times = 1 if name != "nothing" else 2 + 10
+        judge.tells(f"{name}: alone", judge.ran(["keep", f"{judge.room}/{name} alone.db", site[0].address, *quick]), status, told[0])
+        judge.same(f"{name}: how often its list is asked for", len(site[0].lists), times)
         site[0].lists = []
         file = f"{judge.room}/{name}.db"
-        judge.same(f"{name}: beside another", judge.ran(["keep", file, *[device.address for device in site], *quick]), (0, lines_of(site, 3), ""))
-        if name != "nothing":
-            judge.same(f"{name}: how often both are", [len(device.lists) for device in site], [asked] * 2)
-        judge.judge(name, file, site, True)
+        judge.tells(f"{name}: beside another", judge.ran(["keep", file, *[device.address for device in site], *quick]), status, *told)
+        judge.same(f"{name}: how often both are", [len(device.lists) for device in site], [times] * 2)
+        judge.judge(name, file, site, kept == 8)
+    for reason in TOO_LONG:
+        device = Whole([Log(number, 50) for number in range(1, 9)], f"too long, {reason}", lambda ack: bytes([0x71, ack[1], reason]))
+        serve([device])
+        file = f"{judge.room}/{reason}.db"
+        judge.tells(f"an Abort {reason}", judge.ran(["keep", file, device.address]), 0, new_logs(device), lines_of([device], 0))
+        judge.same(f"an Abort {reason}: how often its list is asked for", len(device.lists), 2 + 10)
+        judge.judge(f"an Abort {reason}", file, [device], True)
+
+
+def first_logs(device, count):
+    """The lines of its first logs, which come with its list."""
+    numbers = list(device.logs)[:count]
+    return "".join([f"{device.address} {number} is new\n" for number in numbers] + [line(device, number, 3, "caught up, next 4") for number in numbers])
 
 
 def another_answer(ack):
@@ -369,7 +386,7 @@ def another_answer(ack):
 
 
 def silent_lists(judge, _runs):
-    """Devices that give no answer when they are asked for their lists cost one wait together, beside those that do."""
+    """Devices that give no answer when they are asked what they are cost one wait together, beside those that do."""
     dead = [Device([Log(1, 50)], f"dead{n}") for n in range(3)]
     alive = [Unlisting([Log(1, 50), Log(2, 50)], f"alive{n}") for n in range(2)]
     site = [dead[0], alive[0], *dead[1:], alive[1]]
@@ -380,34 +397,34 @@ def silent_lists(judge, _runs):
     for device in dead:
         device.answers = 0
     words = [device.address for device in site]
-    once, lost = "".join(untold(device, "lost") for device in dead), [f"{device.address}: no reply from {device.address}\n" for device in dead]
+    once = [silent(device, ()) for device in dead]
     file = f"{judge.room}/a.db"
     # Each is asked twice, and waited for a second each time.
     told, took = timed(judge, file, *words, "--timeout=1000", "--retries=1")
-    judge.same("they are lost, and the others kept", told, (2, once + lines_of(alive, 4), "".join(lost)))
+    judge.tells("they are lost, and the others kept", told, 2, *once, new_logs(*alive), lines_of(alive, 4))
     judge.same("each is asked as often as once", [device.asked for device in dead], [2] * 3)
     judge.is_right("in one wait", 1.9 < took < 2 * 1.7, took)
     judge.judge("beside silent devices", file, alive, True)
-    # One that is named twice has two lines, and isn't asked more often for that.
+    # One that is named twice has one line, and isn't asked more often for that.
     quick = ("--timeout=200", "--retries=1")
     told, _ = timed(judge, file, *words, words[0], *quick)
-    judge.same("named twice", told, (2, once + untold(dead[0], "lost") + lines_of(alive, 0), "".join([*lost, lost[0]])))
+    judge.tells("named twice", told, 2, *once, lines_of(alive, 0))
     judge.same("named twice: how often each is asked", [device.asked for device in dead], [4] * 3)
-    # From one something came in the answer's place: it is asked alone, and that is told.
+    # From one another answer came in the place of its list.
     asked, alive[0].list_ack = alive[0].asked, another_answer
-    came = f"{words[1]}: no reply after 2 attempts; 2 unrelated datagrams arrived, the last from {words[1]}: a reply, but not to this request\n"
     told, _ = timed(judge, f"{judge.room}/b.db", *words, *quick)
-    judge.same("something came", told, (2, untold(dead[0], "lost") + untold(alive[0], "lost") + untold(dead[1], "lost") + untold(dead[2], "lost")
-                                        + lines_of(alive[1:], 4), lost[0] + came + lost[1] + lost[2]))
-    judge.same("something came: how often each is asked", [alive[0].asked - asked, *(device.asked for device in dead)], [4, 6, 6, 6])
+    judge.tells("another answer came", told, 2, *once, silent(alive[0], ()), new_logs(alive[1]), lines_of(alive[1:], 4))
+    # Of itself, twice for its list, and once for how long that is.
+    judge.same("another answer came: how often each is asked", [alive[0].asked - asked, *(device.asked for device in dead)], [4 + 2 + 1, 6, 6, 6])
     # One has told its list whose last log's name has no answer.
     alive[0].list_ack, alive[0].mute = lambda ack: ack, {2}
     told, _ = timed(judge, f"{judge.room}/c.db", *words, *quick)
-    judge.same("the last name has no answer", told, (2, once + lines_of(alive, 4), "".join(lost)))
-    judge.same("the last name has no answer: which logs have none", in_file(f"{judge.room}/c.db", "SELECT address, instance FROM logs WHERE name IS NULL"), [(words[1], 2)])
+    judge.tells("the last name has no answer", told, 2, *once, new_logs(*alive), lines_of(alive, 4))
+    judge.same("the last name has no answer: which logs have none", in_file(f"{judge.room}/c.db",
+               "SELECT d.address, l.instance FROM logs l JOIN devices d ON d.id = l.device WHERE l.name IS NULL"), [(words[1], 2)])
     # They are back.
     alive[0].mute = set()
     for device in dead:
         device.answers = None
-    judge.same("they are back", judge.ran(["keep", file, *words]), (0, "".join(lines_of([device], 4 * (device in dead)) for device in site), ""))
+    judge.tells("they are back", judge.ran(["keep", file, *words]), 0, new_logs(*dead), lines_of(dead, 4), lines_of(alive, 0))
     judge.judge("they are back", file, site, True)

@@ -6,7 +6,7 @@ from kept_rounds import one, said
 BESIDE = ("ANALYZE", "CREATE TABLE people (name TEXT)", "INSERT INTO people VALUES ('Ada')",
           "CREATE UNIQUE INDEX one_name ON people (name)", "CREATE INDEX by_stamp ON items (stamp)",
           "CREATE INDEX by_date ON items (stamp, last, value)",
-          "CREATE VIEW newest AS SELECT max(stamp) AS stamp FROM items", "VACUUM", "ANALYZE")
+          "CREATE VIEW latest AS SELECT max(stamp) AS stamp FROM items", "VACUUM", "ANALYZE")
 # The question for a day that ARCHIVE.md has beside this index.
 DAY = ("EXPLAIN QUERY PLAN SELECT address, trend_log, name, avg(value), min(value), max(value), count(*) FROM records "
        "WHERE stamp >= '2024-01-01' AND stamp < '2024-01-02' GROUP BY address, trend_log, name")

@@ -6,20 +6,20 @@ import os
 import re
 import select
 import shutil
-import signal
 import sqlite3
-import struct
 import subprocess
 import sys
 import time
 
-from checked import checked, checked_parts
-from kept_apart import dead_at_once, dead_devices, last_epoch
+from checked import NOTHING, checked, checked_parts
+from kept_apart import dead_at_once, dead_devices, last_epoch, line, new_logs
 from kept_at_once import at_once, each_option, ids_go_on, ids_go_on_behind_the_longest, lists_at_once, own_address, own_address_echoes, silent_lists, whole_lists
 from kept_beside import objects_beside
-from kept_clocks import clocks, either_line, questions
-from kept_devices import Device, Log, chance, lock, serve, wait_until_asked
-from kept_doubts import emptied, never_begun, told_at_once
+from kept_clocks import clocks, doubts_of, either_line, gaps_of, questions
+from kept_converted import converted_files
+from kept_dates import dates, last_records
+from kept_devices import Device, Log, chance, serve, wait_until_asked
+from kept_doubts import emptied, never_begun, overwritten, told_at_once
 from kept_files import barred
 from kept_groups import groups
 from kept_holes import holes, holes_in_parts
@@ -28,7 +28,8 @@ from kept_limits import file_limits, part_limits
 from kept_more import listed, listed_twice, said_more, several, unlisted
 from kept_moved import moved, moved_at_each_call, moved_at_random, moved_ways, told_later, two_of_one
 from kept_names import names
-from kept_rounds import one, rounds, said, unheard
+from kept_rounds import anew, dropped, one, rounds, said, silent, whys_of, why
+from kept_restarts import started_and_killed, started_meanwhile
 from kept_stopped import stopped
 from kept_terminal import terminals
 from kept_folders import folders, folders_damaged
@@ -54,13 +55,14 @@ def run_after_run(judge, _runs):
         judge.same(f"{count} more", judge.ran(["keep", file]),
                    (0, said(device, count, 0, f"caught up, next {log.total + 1}"), ""))
     log.purge()
-    judge.same("behind a purge", judge.ran(["keep", file])[:2], (0, said(device, 0, 0, "caught up, next 12")))
+    judge.same("behind a purge", judge.ran(["keep", file]), (0, said(device, 0, 0, "caught up, next 12"), ""))
     log.log(2)
-    judge.same("and records again", judge.ran(["keep", file])[:2], (0, said(device, 2, 0, "caught up, next 14")))
+    judge.tells("and records again", judge.ran(["keep", file]), 0, why(device, 1, "goes on at 12, or began anew"), said(device, 2, 0, "caught up, next 14"))
+    judge.lacks("goes on", "and records again: a row tells it", any(text for *_, text in whys_of(file)) or doubts_of(file))
     log.log(3)
     log.purge()
     log.log(1)
-    judge.same("what was purged is a gap", judge.ran(["keep", file])[:2], (0, said(device, 1, 1, "caught up, next 18")))
+    judge.tells("what was purged is a gap", judge.ran(["keep", file]), 0, dropped(device, 14, 16), said(device, 1, 1, "caught up, next 18"))
     os.chmod(file, 0o640)
     os.symlink("a.db", f"{judge.room}/link")
     before = os.stat(file)
@@ -76,26 +78,25 @@ def run_after_run(judge, _runs):
 
 def beginnings(judge, _runs):
     """A first run that finds nothing keeps where the log begins: what is logged and dropped before the next one is a gap."""
+    uncounted_end = "shows no record, and refuses its count, next 1"
     for name, before, more, uncounted, first in (("an empty log", 0, 130, False, 1), ("a log that was purged", 7, 60, False, 8),
                                                  ("a log without a count", 7, 60, True, 1)):
         device, log = one(count=before)
         file = f"{judge.room}/{before}{uncounted}.db"
         log.purge()
         device.uncounted = {1} if uncounted else set()
-        nothing = said(device, 0, 0, "caught up, next 1")
-        judge.same(name, judge.ran(["keep", file, device.address, "1"]), (0, nothing, ""))
-        base = sqlite3.connect(file)
-        judge.same(f"{name}: where it begins", base.execute("SELECT id, number FROM beginnings").fetchall(), [(1 << 15, first)])
-        base.close()
-        nothing = said(device, 0, 0, f"caught up, next {first}")
-        judge.same(f"{name}, again", judge.ran(["keep", file]), (0, nothing, ""))
+        for words in ([device.address, "1"], []):
+            status, end = (3, uncounted_end) if uncounted and not words else (0, f"caught up, next {first}")
+            judge.tells(f"{name} {words}", judge.ran(["keep", file, *words]), status, said(device, 0, 0, end))
+            judge.same(f"{name}: where it begins {words}", whys_of(file), [(0, first, None)])
         log.log(more)
         end = f"caught up, next {before + more + 1}"
-        judge.same(f"{name} fills and drops", judge.ran(["keep", file]), (0, said(device, 50, 1, end), ""))
+        # One that had logged nothing, as far as is known, has dropped these whatever its life.
+        told = dropped(device, first, before + more - 50) if first > 1 else ""
+        judge.tells(f"{name} fills and drops", judge.ran(["keep", file]), 0, told, said(device, 50, 1, end))
+        judge.same(f"{name}: whether that is for sure", bool(doubts_of(file)), first > 1)
         judge.judge(f"{name} fills and drops", file, [device], True)
-        base = sqlite3.connect(file)
-        judge.same(f"{name}: what it dropped is a gap", base.execute("SELECT epoch, first, last FROM gaps").fetchall(), [(0, first, before + more - 50)])
-        base.close()
+        judge.same(f"{name}: what it dropped is a gap", gaps_of(file), [(0, first, before + more - 50)])
     # Few records, behind those that were purged; and none but those of a new life.
     device, log = one()
     file = f"{judge.room}/purged.db"
@@ -103,9 +104,8 @@ def beginnings(judge, _runs):
     log.log(30)
     log.purge()
     log.log(2)
-    judge.same("behind a purge", judge.ran(["keep", file]), (0, said(device, 2, 1, "caught up, next 33"), ""))
+    judge.tells("behind a purge", judge.ran(["keep", file]), 0, said(device, 2, 1, "caught up, next 33"))
     judge.judge("behind a purge", file, [device], True)
-    anew = f"{device.address} 1 began anew\n"
     for name, count, records, gaps in (("fewer", 3, 3, 0), ("as many", 40, 40, 0), ("more, and the last one is held", 60, 50, 1)):
         log.begin(0)
         log.log(40)
@@ -114,16 +114,17 @@ def beginnings(judge, _runs):
         judge.ran(["keep", file, device.address, "1"])
         log.begin(0)
         log.log(count)
-        judge.same(f"a new life behind an empty one: {name}", judge.ran(["keep", file]),
-                   (0, said(device, records, gaps, f"caught up, next {count + 1}"), anew))
+        judge.tells(f"a new life behind an empty one: {name}", judge.ran(["keep", file]), 0, anew(device), said(device, records, gaps, f"caught up, next {count + 1}"))
         judge.judge(f"a new life behind an empty one: {name}", file, [device], True)
-    # A first run that is lost, or ends early, has no such place.
+    # A first run that is lost, or ends early, has only the number behind those that are counted.
     device, log = one(count=9)
     file = f"{judge.room}/lost.db"
-    device.answers = 4
-    judge.same("counted, and then lost", judge.ran(["keep", file, device.address, "1", *QUICK]), (2, said(device, 0, 0, "lost, next 1"), unheard(device)))
+    device.answers = 5
+    judge.tells("counted, and then lost", judge.ran(["keep", file, device.address, "1", *QUICK]), 2, said(device, 0, 0, "lost, next 1"))
+    judge.same("counted, and then lost: where it begins", whys_of(file), [(0, 10, "counted")])
     device.answers = None
     judge.same("and whole", judge.ran(["keep", file, device.address, "1"]), (0, said(device, 9, 0, "caught up, next 10"), ""))
+    judge.same("and whole: where it begins", whys_of(file), [(0, 1, None)])
     judge.judge("and whole", file, [device], True)
 
 
@@ -147,8 +148,7 @@ def options(judge, _runs):
     # Longer than what is waited without the option: a busy machine can't fail it.
     for timeout, retries in ((4, 0), (0.05, 2)):
         before, began = device.asked, time.monotonic()
-        judge.same("nobody answers", judge.ran(["keep", file, f"--timeout={timeout * 1000:.0f}", f"--retries={retries}"]),
-                   (2, said(device, 0, 0, "lost, next 5", way), unheard(device, 1, way)))
+        judge.tells("nobody answers", judge.ran(["keep", file, f"--timeout={timeout * 1000:.0f}", f"--retries={retries}"]), 2, silent(device, (1,), way))
         took, asks = time.monotonic() - began, device.asked - before
         judge.is_right("--timeout and --retries", took >= timeout and asks == retries + 1, (took, asks))
 
@@ -158,17 +158,17 @@ def losses(judge, _runs):
     device, log = one(room_for=400, count=150)
     file = f"{judge.room}/a.db"
     device.answers = 0
-    judge.same("a first run that is lost", judge.ran(["keep", file, device.address, "1", *QUICK]),
-               (2, said(device, 0, 0, "lost, next 1"), unheard(device)))
-    device.answers = 6
-    status, out, errors = judge.ran(["keep", file, device.address, "1", *QUICK])
-    judge.is_right("lost after two answers", status == 2 and re.search(r" [1-9]\d* records? 0 gaps lost, next \d+\n", out), out)
+    judge.tells("a first run that is lost", judge.ran(["keep", file, device.address, "1", *QUICK]), 2, silent(device))
+    device.answers, device.fits = 6, (45,)
+    judge.tells("lost after two answers", judge.ran(["keep", file, device.address, "1", *QUICK]), 2, said(device, 45, 0, "lost, next 46"))
+    device.fits = (1, 7, 30, 45)
     judge.judge("lost after two answers", file, [device])
     device.answers, before = 0, device.asked
     process = judge.started(["keep", file, "--timeout=60000"])
     wait_until_asked(device, before)
     judge.same("a second run", judge.ran(["keep", file, *QUICK]), in_use(file))
-    judge.same("kept beside a run", judge.ran(["kept", file]), in_use(file))
+    for tool in ("kept", "check"):
+        judge.same(f"{tool} beside a run", judge.ran([tool, file]), in_use(file))
     process.kill()
     process.communicate()
     device.answers = None
@@ -191,21 +191,22 @@ def losses(judge, _runs):
     device.answers = 0
     judge.ran(["keep", file, other.address, "1"])
     other.logs[1].log(1)
-    judge.same("a device that doesn't answer doesn't stop the others", judge.ran(["keep", file, *QUICK]),
-               (2, said(device, 0, 0, "lost, next 156") + said(other, 1, 0, "caught up, next 5"), unheard(device)))
+    judge.tells("a device that doesn't answer doesn't stop the others", judge.ran(["keep", file, *QUICK]), 2,
+                silent(device), said(other, 1, 0, "caught up, next 5"))
 
 
 def line_by_line(judge, _runs):
     """The line of a log can be read while its device holds back what it is asked for the next one."""
     device = Device([Log(1, 50), Log(2, 50)], "lines")
+    device.fits = (45,)
     serve([device])
     for log in device.logs.values():
         log.log(3)
     file = f"{judge.room}/a.db"
     judge.ran(["keep", file, device.address])
     device.logs[2].log(1)
-    # It answers the two questions for the first log, and is held back then.
-    device.then[131] = lambda: device.then.update({131: device.open.clear})
+    # It answers the question for the first log, and is held back then.
+    device.then[131] = device.open.clear
     process = judge.started(["keep", file, "--timeout=60000"])
     # A line that isn't written yet would come only once the device answers.
     ready = select.select([process.stdout], [], [], 30)[0]
@@ -226,8 +227,8 @@ def step_limits(judge, _runs):
     device, log = one(room_for=400, count=150)
     file = f"{judge.room}/a.db"
     status, out, errors = judge.ran(["keep", file, device.address, "1", "--steps=1"])
-    told = re.fullmatch(re.escape(device.address) + r" 1 (\d+) records? 0 gaps step limit, next (\d+)\n", out)
-    judge.is_right("one step", status == 8 and errors == "" and told and 0 < int(told[1]) <= 100
+    told = re.fullmatch(re.escape(device.address) + r" 1 (\d+) records? 0 gaps step limit, next (\d+)\n", errors)
+    judge.is_right("one step", status == 8 and out == "" and told and 0 < int(told[1]) <= 100
                    and int(told[2]) == int(told[1]) + 1, (status, out, errors))
     rest = 151 - int(told[2])
     judge.same("and all the rest", judge.ran(["keep", file]), (0, said(device, rest, 0, "caught up, next 151"), ""))
@@ -239,7 +240,7 @@ def step_limits(judge, _runs):
     judge.same("up to the last number", judge.ran(["keep", other, last.address, "1"])[:2],
                (0, said(last, 3, 0, "caught up, next 1")))
     last.answers = 0
-    judge.same("lost behind it", judge.ran(["keep", other, *QUICK]), (2, said(last, 0, 0, "lost, next 1"), unheard(last)))
+    judge.tells("lost behind it", judge.ran(["keep", other, *QUICK]), 2, silent(last))
 
 
 def words_and_names(judge, _runs):
@@ -254,7 +255,7 @@ def words_and_names(judge, _runs):
     device.nameless, device.mute = {1}, {3}
     every = "".join(f"{device.address} {number} {number} record{'s' * (number > 1)} 0 gaps caught up, next {number + 1}\n" for number in (1, 2, 3))
     other = f"{judge.room}/b.db"
-    judge.same("names that are refused or lost", judge.ran(["keep", other, device.address, *QUICK]), (0, every, ""))
+    judge.tells("names that are refused or lost", judge.ran(["keep", other, device.address, *QUICK]), 0, new_logs(device), every)
     base = sqlite3.connect(other)
     names = base.execute("SELECT instance, name FROM logs ORDER BY id").fetchall()
     base.close()
@@ -270,15 +271,16 @@ def no_archive(judge, _runs):
     with open(file, "w"):
         pass
     for tool in ("keep", "kept"):
-        judge.same(f"{tool} of an empty file", judge.ran([tool, file]), no_use(file, "it has no trend logs"))
+        judge.same(f"{tool} of an empty file", judge.ran([tool, file]), no_use(file, NOTHING))
     judge.is_right("it stays empty", os.path.getsize(file) == 0 and not os.path.exists(f"{file}-wal"), "it isn't")
     judge.same("a device's log", judge.ran(["keep", file, device.address, "1"])[0], 0)
     base = sqlite3.connect(file)
-    base.execute("DELETE FROM items")
-    base.execute("DELETE FROM logs")
+    for table in ("items", "beginnings", "logs", "devices"):
+        base.execute(f"DELETE FROM {table}")
     base.commit()
     base.close()
-    judge.same("an archive without logs", judge.ran(["keep", file]), no_use(file, "it has no trend logs"))
+    for tool in ("keep", "kept", "check"):
+        judge.same(f"{tool} of an archive without logs", judge.ran([tool, file]), (0, "", ""))
 
 
 def far_away(judge, _runs):
@@ -290,11 +292,11 @@ def far_away(judge, _runs):
     device.answers = None
     log.begin(3000000000)
     log.log(3)
-    judge.same("from the oldest", judge.ran(["keep", file, device.address, "1"])[:2], (0, said(device, 3, 0, "caught up, next 3000000004")))
+    judge.same("from the oldest", judge.ran(["keep", file, device.address, "1"]), (0, said(device, 3, 0, "caught up, next 3000000004"), ""))
     log.log(7)
-    judge.same("a gap", judge.ran(["keep", file])[:2], (0, said(device, 4, 1, "caught up, next 3000000011")))
+    judge.tells("a gap", judge.ran(["keep", file]), 0, dropped(device, 3000000004, 3000000006), said(device, 4, 1, "caught up, next 3000000011"))
     judge.judge("far away", file, [device], True)
-    judge.same("the gap", judge.ran(["kept", file, device.address, "1"])[1].splitlines()[3], "gap 3000000004 3000000006")
+    judge.same("the gap", judge.ran(["kept", file, device.address, "1"])[1].splitlines()[3], "gap 3000000004 3000000006 or began anew")
 
 
 def restarts(judge, _runs):
@@ -302,19 +304,18 @@ def restarts(judge, _runs):
     device, log = one(count=12)
     file = f"{judge.room}/a.db"
     judge.ran(["keep", file, device.address, "1"])
-    anew = f"{device.address} 1 began anew\n"
     epoch = 0
     for name, count in (("fewer", 3), ("as many", 3), ("more", 8), ("one more", 9), ("fewer again", 1)):
         log.begin(0)
         log.log(count)
         epoch += 1
-        judge.same(name, judge.ran(["keep", file]), (0, said(device, count, 0, f"caught up, next {count + 1}"), anew))
+        judge.tells(name, judge.ran(["keep", file]), 0, anew(device), said(device, count, 0, f"caught up, next {count + 1}"))
         judge.judge(name, file, [device], True)
         judge.same(f"{name}, again", judge.ran(["keep", file]),
                    (0, said(device, 0, 0, f"caught up, next {count + 1}"), ""))
     # It holds nothing, and counts fewer than were kept.
     log.begin(0)
-    judge.same("an empty log that counts fewer", judge.ran(["keep", file]), (0, said(device, 0, 0, "caught up, next 1"), anew))
+    judge.tells("an empty log that counts fewer", judge.ran(["keep", file]), 0, anew(device), said(device, 0, 0, "caught up, next 1"))
     judge.same("is told once", judge.ran(["keep", file]), (0, said(device, 0, 0, "caught up, next 1"), ""))
     log.log(1)
     judge.same("until it has a record", judge.ran(["keep", file]), (0, said(device, 1, 0, "caught up, next 2"), ""))
@@ -322,19 +323,19 @@ def restarts(judge, _runs):
     log.begin(0)
     log.clock -= datetime.timedelta(days=400)
     log.log(70)
-    judge.same("passed, and dated before", judge.ran(["keep", file]), (0, said(device, 50, 2, "caught up, next 71"), either_line(device)))
+    judge.tells("passed, and dated before", judge.ran(["keep", file]), 0, either_line(device), said(device, 50, 2, "caught up, next 71"))
     judge.judge("passed, and dated before", file, [device], True)
-    base = sqlite3.connect(file)
-    judge.same("epochs", base.execute("SELECT max(epoch) FROM records").fetchone(), (epoch + 2,))
-    judge.same("what it dropped since is a gap, and so is what it may have dropped before",
-               base.execute("SELECT epoch, first, last FROM gaps").fetchall(), [(epoch + 1, 2, 20), (epoch + 2, 1, 20)])
-    base.close()
-    # Its count lies half of the numbers ahead of 1 and more: it begins at the oldest.
+    judge.same("what it dropped since is a gap, and so is what it may have dropped before", gaps_of(file), [(epoch + 1, 2, 20), (epoch + 2, 1, 20)])
+    # Its count lies half of the numbers ahead and more: so its oldest record lies before the newest that is kept. It begins at 1 all
+    # the same, with a gap up to that.
     log.begin(3000000000)
     log.clock -= datetime.timedelta(days=400)
     log.log(60)
-    judge.same("half of the numbers ahead", judge.ran(["keep", file]), (0, said(device, 50, 0, "caught up, next 3000000061"), anew))
+    judge.tells("half of the numbers ahead", judge.ran(["keep", file]), 0, anew(device), said(device, 50, 1, "caught up, next 3000000061"))
     judge.judge("half of the numbers ahead", file, [device], True)
+    judge.same("half of the numbers ahead: its gaps", gaps_of(file)[2:], [(epoch + 3, 1, 3000000010)])
+    judge.same("why each epoch began", [text for *_, text in whys_of(file)],
+               [None, *["began anew"] * (epoch + 1), "began anew, or dropped records", "began anew"])
 
 
 def cut_files(judge, _runs):
@@ -385,9 +386,10 @@ def foreign_files(judge, _runs):
     with open(text, "w") as it:
         it.write("not a database\n")
     names = [text, made("other.db", "CREATE TABLE people (name TEXT)", "INSERT INTO people VALUES ('Ada')"),
-             made("earlier.db", "UPDATE archive SET version = 1", of=file),
-             made("later.db", "UPDATE archive SET version = 3", of=file),
-             made("twice.db", "INSERT INTO archive (version) VALUES (1)", of=file),
+             made("earlier.db", "UPDATE archive SET version = 2", of=file),
+             made("later.db", "UPDATE archive SET version = 4", of=file),
+             made("twice.db", "INSERT INTO archive (version, made) VALUES (1, '')", of=file),
+             made("no_version.db", "DELETE FROM archive", of=file),
              made("no_log.db", "DELETE FROM logs", of=file),
              made("not_begun.db", "DELETE FROM beginnings", of=file),
              made("keys.db", "CREATE TABLE notes (log INTEGER REFERENCES logs (id))", of=file),
@@ -406,6 +408,11 @@ def foreign_files(judge, _runs):
             judge.is_right(f"{os.path.basename(name)}", right, f"status {status}: {out} {errors}")
         with open(name, "rb") as it:
             judge.is_right(f"{os.path.basename(name)} is left as it is", it.read() == before, "it has changed")
+    no_device = made("no_device.db", "DELETE FROM devices", of=file)
+    for words in (["keep", no_device], ["kept", no_device], ["check", no_device]):
+        status, out, errors = judge.ran(words)
+        judge.lacks("no device", f"{words[0]} of an archive without a device", status == 6)
+        judge.is_right(f"{words[0]} of an archive without a device", status == 0 and errors == "", f"status {status}: {out} {errors}")
     judge.is_right("no log is left beside a text", not os.path.exists(f"{text}-wal"), "there is one")
     status, out, errors = judge.ran(["kept", f"{judge.room}/none.db"])
     judge.is_right("no file", status == 6 and not os.path.exists(f"{judge.room}/none.db"), f"status {status}: {errors}")
@@ -433,6 +440,9 @@ def printed(judge, _runs):
     """`kept` prints the lines of the rows, as CSV what a spreadsheet reads, and yesterday is one statement."""
     yesterday = datetime.datetime.combine(datetime.datetime.utcnow().date(), datetime.time()) - datetime.timedelta(hours=20)
     devices = [Device([Log(1, 50, yesterday), Log(2, 50)], 'boiler, "old"')]
+    # What the first one logs: the Present_Value (85) of Analog Input 3, in degrees Celsius (62).
+    devices[0].facts.update({(20, 1, 132): b"\x0c\x00\x00\x00\x03\x19\x55", (0, 3, 117): b"\x91\x3e", (0, 3, 28): b"\x74\x00yes"})
+    devices[0].restart, devices[0].revision = datetime.datetime(2024, 1, 1), 7
     serve(devices)
     (log, old), file = devices[0].logs.values(), f"{judge.room}/a.db"
     log.log(70)
@@ -443,18 +453,25 @@ def printed(judge, _runs):
     old.begin(0)
     old.log(2)
     judge.ran(["keep", file])
+    # And one that may be none.
+    devices[0].restart += datetime.timedelta(days=3650)
+    old.log(55)
+    judge.ran(["keep", file])
     base = sqlite3.connect(file)
-    rows = base.execute("SELECT address, trend_log, epoch, number, NULL, stamp, value, datum, flags, name FROM records UNION ALL "
-                        "SELECT address, trend_log, epoch, first, last, '', NULL, '', '', name FROM gaps ORDER BY 2, 3, 4").fetchall()
+    rows = base.execute("SELECT address, trend_log, epoch, number, NULL, stamp, value, datum, flags, name, source, units FROM records UNION ALL "
+                        "SELECT g.address, g.trend_log, g.epoch, g.first, g.last, '', NULL, iif(g.doubtful, ' or began anew', ''), '', g.name, l.source, l.units "
+                        "FROM gaps g JOIN logs l ON l.instance = g.trend_log ORDER BY 2, 3, 4").fetchall()
+    whys = {(instance, epoch): why for instance, epoch, why in base.execute("SELECT trend_log, epoch, why FROM epochs")}
     base.close()
-    judge.is_right("a gap is there", any(row[4] for row in rows), rows[:3])
+    judge.is_right("a gap is there, and one that may be none", {row[7] for row in rows if row[4]} == {"", " or began anew"}, rows[:3])
+    judge.same("what a log logs, and in which units", {row[1]: row[10:] for row in rows}, {1: ("object(0,3).85", "enum(62)"), 2: (None, None)})
     lines, before = [], None
-    for address, instance, epoch, number, last, stamp, _value, text, flags, _name in rows:
+    for address, instance, epoch, number, last, stamp, _value, text, flags, *_ in rows:
         if before is None or before[0] != instance:
             lines.append(f"{address} {instance}")
         elif before[1] != epoch:
-            lines.append("began anew")
-        lines.append(f"gap {number} {last}" if last else f"{number} {stamp} {text} {flags}")
+            lines.append(whys[instance, epoch])
+        lines.append(f"gap {number} {last}{text}" if last else f"{number} {stamp} {text} {flags}")
         before = instance, epoch
     judge.same("the lines", judge.ran(["kept", file]), (0, "\n".join(lines) + "\n", ""))
     out = judge.ran(["kept", file, devices[0].address, "2"])[1].splitlines()
@@ -462,10 +479,11 @@ def printed(judge, _runs):
     judge.same("of a log that isn't kept", judge.ran(["kept", file, devices[0].address, "3"]),
                no_use(file, "it has no such trend log"))
     table = list(csv.reader(io.StringIO(judge.ran(["kept", file, "--csv"])[1], newline="")))
-    judge.same("the names of columns", table[0], "address,device,trend_log,name,epoch,number,stamp,value,datum,flags".split(","))
-    wanted = [(address, str(devices[0].number), str(instance), name, str(epoch), str(number), stamp, value, f"gap {number} {last}" if last else text, flags)
-              for address, instance, epoch, number, last, stamp, value, text, flags, name in rows]
-    got = [(*row[:7], float(row[7]) if row[7] else None, *row[8:]) for row in table[1:]]
+    judge.same("the names of columns", table[0], "address,device,trend_log,name,source,units,epoch,number,stamp,value,datum,flags".split(","))
+    wanted = [(address, str(devices[0].number), str(instance), name, source or "", units or "", str(epoch), str(number), stamp, value,
+               f"gap {number} {last}{text}" if last else text, flags.replace("0", "F").replace("1", "T"))
+              for address, instance, epoch, number, last, stamp, value, text, flags, name, source, units in rows]
+    got = [(*row[:9], float(row[9]) if row[9] else None, *row[10:]) for row in table[1:]]
     judge.same("CSV", got, wanted)
     values = [value for _, value, _, _ in log.lives[0].values() if value is not None]
     kept = [row[6] for row in rows if row[1] == 1 and row[6] is not None]
@@ -476,6 +494,9 @@ def printed(judge, _runs):
     base = sqlite3.connect(file)
     judge.same("yesterday", base.execute(statement).fetchall(),
                [(devices[0].address, 1, 'boiler, "old" log 1', sum(kept) / len(kept), min(kept), max(kept), count)])
+    newest = "SELECT trend_log, name, source, units, number, stamp, value FROM newest ORDER BY 1"
+    last = [next(row for row in reversed(rows) if row[1] == instance and row[4] is None) for instance in (1, 2)]
+    judge.same("the newest of each log", base.execute(newest).fetchall(), [(row[1], row[9], row[10], row[11], row[3], row[5], row[6]) for row in last])
     base.close()
     plot(judge, file, devices[0].address, rows)
 
@@ -539,18 +560,27 @@ def taken_over(judge, _runs):
     done = take(records, file, "010.0.0.1:047808", "7", "5", "0A")
     judge.same("beside another log", (done.stdout, judge.ran(["kept", file, "10.0.0.1", "7"])[1]), ("41 records\n", wanted.replace(text(range(32, 61)), "")))
     base = sqlite3.connect(file)
-    judge.same("under its one text", base.execute("SELECT address, dnet, dadr FROM logs WHERE id = 2").fetchall(), [("10.0.0.1:47808", 5, "0a")])
+    judge.same("under its one text", base.execute("SELECT address, dnet, dadr FROM devices WHERE id = 2").fetchall(), [("10.0.0.1:47808", 5, "0a")])
     base.close()
-    for name, column, other in (("zeros", "address", "010.0.0.1:47808"), ("no port", "address", "10.0.0.1"), ("large digits", "dadr", "0A"),
-                                ("no network", "dnet", 0), ("no address", "address", "site")):
+    # Of a text of its own, and another one of the same place, one is refused; that the other isn't, yet, is known.
+    for name, table, column, other, is_refused in (
+            ("zeros", "devices", "address", "010.0.0.1:47808", False), ("no port", "devices", "address", "10.0.0.1", True),
+            ("large digits", "devices", "dadr", "0A", False), ("no network", "devices", "dnet", 0, False),
+            ("no address", "devices", "address", "site", True), ("a device's instance", "devices", "instance", 4194304, True),
+            ("a log's instance", "logs", "instance", 4194304, True)):
         broken = f"{judge.room}/broken.db"
         shutil.copyfile(file, broken)
         base = sqlite3.connect(broken)
-        base.execute(f"UPDATE logs SET {column} = ? WHERE id = 2", (other,))
+        base.execute(f"UPDATE {table} SET {column} = ? WHERE id = 2", (other,))
         base.commit()
         base.close()
-        wrong = no_use(broken, "a trend log in it has an invalid address")
-        judge.same(f"an address with {name} is refused", judge.ran(["keep", broken]), wrong)
+        row = "device 2 in it has a wrong address, dnet, dadr or instance" if table == "devices" else "trend log 2 in it has a wrong instance"
+        ran = judge.ran(["keep", broken, "--timeout=300", "--retries=0"])
+        if is_refused:
+            judge.same(f"{name} is refused", ran, no_use(broken, f"{row}: correct that with sqlite3"))
+        else:
+            judge.lacks("other text", f"{name} is refused", ran[0] == 6)
+            judge.is_right(f"{name} is polled", ran[0] == 2 and ": no answer\n" in ran[2], ran)
 
 
 def site_kept(judge, addresses):
@@ -582,7 +612,7 @@ def served(judge, _runs):
 
     def kept(name, records, gaps, after, anew=False):
         wanted = f"{address} 2 {records} records {gaps} gaps caught up, next {after}\n"
-        judge.same(name, judge.ran(["keep", file, address, "2"]), (0, wanted, f"{address} 2 began anew\n" if anew else ""))
+        judge.same(name, judge.ran(["keep", file, address, "2"]), (0, wanted, f"{address} 2: began anew\n" if anew else ""))
 
     begin()
     try:
@@ -604,7 +634,8 @@ def served(judge, _runs):
         kept("restarted, and past the old number", 10, 0, 11, anew=True)
         kept("and nothing new", 0, 0, 11)
         site = site_kept(judge, f"127.77.77.77:9\n{address}\n")
-        right = re.fullmatch(rf"{address} 1 \d+ records? 0 gaps caught up, next \d+\n{address} 2 10 records 0 gaps caught up, next 11\n", site[1])
+        right = re.fullmatch(rf"{address} 1 is new\n{address} 2 is new\n{address} 1 \d+ records? 0 gaps caught up, next \d+\n"
+                             rf"{address} 2 10 records 0 gaps caught up, next 11\n", site[1])
         judge.is_right("site.sh", site[0] == 0 and right and site[2] == "", site)
         judge.same("a site where nobody answers", site_kept(judge, "127.77.77.77:9\n"),
                    (2, "", "no answer\naddresses asked: 1; devices that answer by broadcast are only heard with --local=0.0.0.0:47808\n"))
@@ -643,32 +674,39 @@ def judgements(judge, _runs):
     judge.ran(["keep", file])
     judge.judge("whole", file, [device], True)
     record = "id = (SELECT id FROM items WHERE last IS NULL AND id >> 47 = 1 AND id & 4294967295 = 120)"
-    for name, statement, why in (
+    other = "id >> 15 = 2 AND id & 32767 = 1"
+    for name, statement, why_wrong in (
         ("a row is removed", f"DELETE FROM items WHERE {record}", "121 comes where 120 is next"),
         ("the newest row is removed", "DELETE FROM items WHERE id = (SELECT max(id) FROM items)", "newest is 9 of"),
-        ("the first rows are removed", "DELETE FROM items WHERE id >> 47 = 2 AND (id >> 32) & 32767 = 1 AND id & 4294967295 < 3", "begins at 3"),
+        ("the first rows are removed", "DELETE FROM items WHERE id >> 47 = 2 AND (id >> 32) & 32767 = 1 AND id & 4294967295 < 3", "3 comes where 1 is next"),
         ("an epoch is removed", "DELETE FROM items WHERE id >> 47 = 2 AND (id >> 32) & 32767 = 1", "newest is 20 of life 0"),
         ("a gap is removed", "DELETE FROM items WHERE last NOT NULL", "comes where 91 is next"),
-        ("a stamp is another", f"UPDATE items SET stamp = '2024-01-01T00:00:00.00' WHERE {record}", "was logged"),
-        ("a value is another", f"UPDATE items SET value = 1e300 WHERE {record}", "was logged"),
-        ("a datum is another", f"UPDATE items SET datum = 'real(00000001)' WHERE {record}", "was logged"),
-        ("flags are others", f"UPDATE items SET flags = '1111' WHERE {record}", "was logged"),
-        ("a gap of what is held", f"UPDATE items SET last = 120, stamp = NULL, value = NULL, datum = NULL, flags = NULL WHERE {record}", "gap 120 120"),
-        ("a gap with a record's texts", "UPDATE items SET datum = 'null' WHERE last NOT NULL", "are gone"),
+        ("a stamp is another", f"UPDATE items SET stamp = '2024-01-01T00:00:00.00' WHERE {record}", "no life from"),
+        ("a value is another", f"UPDATE items SET value = 1e300 WHERE {record}", "no life from"),
+        ("a datum is another", f"UPDATE items SET datum = 'real(00000001)' WHERE {record}", "no life from"),
+        ("flags are others", f"UPDATE items SET flags = '1111' WHERE {record}", "no life from"),
+        ("a gap of what is held", f"UPDATE items SET last = 120, stamp = NULL, value = NULL, datum = NULL, flags = NULL WHERE {record}", "or it holds more"),
+        ("a doubtful gap of what is held", f"UPDATE items SET last = 120, stamp = NULL, value = NULL, datum = 'or began anew', flags = NULL WHERE {record}", "or it holds more"),
+        ("a gap with a record's texts", "UPDATE items SET datum = 'null' WHERE last NOT NULL", "gap Row("),
         ("a gap is one shorter", "UPDATE items SET last = last - 1 WHERE last NOT NULL", "comes where"),
-        ("a gap is one longer", "UPDATE items SET last = last + 1 WHERE last NOT NULL", "are gone"),
-        ("a gap at the end", "INSERT INTO items (id, last) VALUES ((SELECT max(id) + 1 FROM items), 11)", "ends with a gap"),
-        ("a record comes twice", f"INSERT INTO items SELECT id + 4294967296, last, stamp, value, datum, flags FROM items WHERE {record}", "no life logged"),
+        ("a gap is one longer", "UPDATE items SET last = last + 1 WHERE last NOT NULL", "comes where"),
+        ("a gap at the end", "INSERT INTO items (id, last) VALUES ((SELECT max(id) + 1 FROM items), 11)", "it ends with"),
+        ("a record comes twice", f"INSERT INTO items SELECT id + 4294967296, last, stamp, value, datum, flags FROM items WHERE {record}", "has rows and no beginning"),
         ("a log that isn't there", f"INSERT INTO items SELECT id + (1 << 48), last, stamp, value, datum, flags FROM items WHERE {record}", "which aren't there"),
         ("rows under another log", "UPDATE items SET id = id + (1 << 47) WHERE id >> 47 = 2", "which aren't there"),
-        ("a beginning is one too high", "UPDATE beginnings SET number = number + 1 WHERE id >> 15 = 2", "is on record"),
-        ("a beginning is removed", "DELETE FROM beginnings WHERE id >> 15 = 2", "None is on record"),
-        ("an instance that it never told", "UPDATE logs SET device = 7 WHERE id = 2", "no device has it"),
-        ("none", "UPDATE logs SET device = NULL WHERE id = 2", "device None is on record"),
+        ("a beginning is one too high", "UPDATE beginnings SET number = number + 1 WHERE id >> 15 = 2", "1 comes where 2 is next"),
+        ("a beginning is removed", "DELETE FROM beginnings WHERE id >> 15 = 2", "has rows and no beginning"),
+        ("an epoch begins for no reason", f"UPDATE beginnings SET why = NULL WHERE {other}", "begins at 1 for None"),
+        ("one may have dropped records, and no gap tells which", f"UPDATE beginnings SET why = 'began anew, or dropped records' WHERE {other}", "it begins for"),
+        ("numbers came round, and didn't", f"UPDATE beginnings SET why = 'numbers came round' WHERE {other}", "it begins for"),
+        ("a first epoch has a reason", "UPDATE beginnings SET why = 'began anew' WHERE id = 1 << 15", "it begins for"),
+        ("a first epoch is counted", "UPDATE beginnings SET why = 'counted' WHERE id = 1 << 15", "it begins for"),
+        ("an instance that it never told", "UPDATE devices SET instance = 7", "no device has it"),
+        ("none", "UPDATE devices SET instance = NULL", "device None is on record"),
         ("a start that it never told", "UPDATE logs SET restart = '00' WHERE id = 1", "is its word on record"),
         ("no revision", "UPDATE logs SET revision = NULL WHERE id = 1", "is its word on record"),
-        ("a place of before", f"UPDATE logs SET address = '{was}' WHERE id = 1", "is at {"),
-        ("a log of nobody", "INSERT INTO logs (address, dnet, dadr, instance, stopped) VALUES ('10.0.0.1:1', 0, '', 1, 0)", "no device has it"),
+        ("a place of before", f"UPDATE devices SET address = '{was}'", "isn't kept"),
+        ("a log of nobody", "INSERT INTO logs (device, instance, stopped) VALUES (1, 77, 0)", "no device has it"),
         ("a log is lost", "DELETE FROM logs WHERE id = 2", "isn't kept"),
     ):
         shutil.copyfile(file, broken)
@@ -677,7 +715,7 @@ def judgements(judge, _runs):
         base.commit()
         base.close()
         found = wrongs(broken, [device], True)
-        judge.is_right(f"{name} is seen", changed > 0 and any(why in text for text in found), f"{changed} rows, {found}")
+        judge.is_right(f"{name} is seen", changed > 0 and any(why_wrong in text for text in found), f"{changed} rows, {found}")
     with open(file, "rb") as it:
         octets = bytearray(it.read())
     octets[-4096:-4088] = b"\xaa" * 8
@@ -688,5 +726,5 @@ def judgements(judge, _runs):
 
 CASES = [judgements, run_after_run, beginnings, options, losses, line_by_line, step_limits, last_epoch, dead_devices, dead_at_once, at_once, own_address, own_address_echoes, ids_go_on, ids_go_on_behind_the_longest, each_option, window, lists_at_once, whole_lists, silent_lists, other_devices, asked_at_once, words_and_names, no_archive, barred, far_away, rounds, restarts, clocks, questions, cut_files, foreign_files, objects_beside, a_large_file, printed, taken_over, served,
          stopped, terminals, names, own_words, own_rule, own_lives, first_answers, renewed, moved, moved_ways, two_of_one, told_later,
-         moved_at_each_call, moved_at_random, emptied, never_begun, told_at_once, said_more, several, unlisted, listed, listed_twice, told_beside, told_among_others, parts, parts_refused, parts_ended,
-         file_limits, part_limits, folders, folders_damaged, checked, checked_parts, groups, holes, holes_in_parts]
+         moved_at_each_call, moved_at_random, emptied, never_begun, overwritten, told_at_once, started_meanwhile, started_and_killed, said_more, several, unlisted, listed, listed_twice, told_beside, told_among_others, parts, parts_refused, parts_ended,
+         file_limits, part_limits, dates, last_records, converted_files, folders, folders_damaged, checked, checked_parts, groups, holes, holes_in_parts]

@@ -5,9 +5,12 @@ from kept_devices import LAST, chance
 
 
 def started(device):
-    """A device is started, or its objects change, and it tells so; whether it tells that at all."""
+    """A device is started, or its objects change, and it tells so; whether it tells that at all. What it logs from then on is
+    dated behind its start."""
     if device.restart is not None and (device.revision is None or chance.random() < 0.5):
-        device.restart += datetime.timedelta(minutes=1)
+        device.restart = max(log.clock for log in device.logs.values()) + datetime.timedelta(minutes=1)
+        for log in device.logs.values():
+            log.clock = device.restart
     elif device.revision is not None:
         device.revision += 1
     return device.word() != (None, None)

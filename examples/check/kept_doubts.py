@@ -1,5 +1,6 @@
 """What nobody could tell afterwards if a device's word were taken at the wrong moment, for kept.py."""
-from kept_apart import in_file, line
+from kept_apart import in_file, line, new_logs
+from kept_devices import Device, Log, serve
 from kept_rounds import one, said
 from kept_words import HOUR, MORNING, told
 
@@ -32,22 +33,53 @@ def never_begun(judge, _runs):
     judge.same("started, and its first record", judge.ran(["keep", file]), (0, said(device, 3, 0, "caught up, next 4"), ""))
 
 
+class Overwriting(Device):
+    """A full log: its first replies have one record and later ones thirty, and behind some of them it logs one more."""
+
+    replies = 0
+
+    def range_of(self, log, asked):
+        self.replies += 1
+        self.fits = (1,) if self.replies <= 5 else (30,)
+        said = super().range_of(log, asked)
+        log.log(5 <= self.replies < 9)
+        return said
+
+
+def overwritten(judge, _runs):
+    """What follows the newest known record, where that was shown alone, is kept once it is shown again. It is overwritten by then:
+    the log has gone on, and nothing tells of another life."""
+    device, file = Overwriting([Log(1, 30)], "overwriting"), f"{judge.room}/overwritten.db"
+    serve([device])
+    device.logs[1].log(47)
+    status, out, errors = judge.ran(["keep", file, device.address, "1"])
+    judge.is_right("overwritten meanwhile", status == 0 and out.endswith(" caught up, next 52\n"), (status, out, errors))
+    judge.lacks("overwritten", "overwritten meanwhile", ": began anew\n" not in errors)
+    kept = in_file(file, "SELECT id & 4294967295 FROM items WHERE last IS NULL ORDER BY 1")
+    judge.same("overwritten meanwhile: what is held is kept", [number for number, in kept], [18, 19, *range(21, 52)])
+
+
 def told_at_once(judge, _runs):
-    """Two devices that refused their instance tell the same one in one run: it is on record of the first alone. So it is in a
-    file that is new, where the first one was asked before the others."""
+    """Two devices that refused their instance tell the same one in one run: each is kept at its own address. So it is in a file
+    that is new."""
     (first, _), (second, _) = one(count=1), one(count=1)
     file, number = f"{judge.room}/at_once.db", first.number
     first.number = second.number = None
+    quick = ("--timeout=1000", "--retries=0")
     for device in (first, second):
-        judge.ran(["keep", file, device.address, "1"])
+        judge.ran(["keep", file, device.address, "1", *quick])
     first.number = second.number = number
-    out = line(first, 1, 0, "caught up, next 2") + line(second, 1, 0, f"two devices claim instance {number}")
+    numbers = "SELECT instance FROM devices ORDER BY id"
+
+    def kept(name, words, lines, wanted):
+        ran = judge.ran(["keep", *words])
+        judge.tells(name, ran, 0, *lines)
+        judge.lacks("two", name, ran[0] == 3 or str(number) in ran[1] + ran[2])
+        judge.same(f"{name}: on record", in_file(words[0], numbers), [(one,) for one in wanted])
+
     for name in ("told at once", "and again"):
-        judge.same(name, judge.ran(["keep", file]), (3, out, ""))
-        judge.same(f"{name}: on record", in_file(file, "SELECT device FROM logs ORDER BY id"), [(number,), (None,)])
+        kept(name, [file], [line(device, 1, 0, "caught up, next 2") for device in (first, second)], [number, number])
     third, _ = one(count=1)
-    file = f"{judge.room}/new.db"
-    out = (line(first, 1, 1, "caught up, next 2") + line(second, 1, 0, f"two devices claim instance {number}")
-           + line(third, 1, 1, "caught up, next 2"))
-    judge.same("a new file", judge.ran(["keep", file, first.address, second.address, third.address]), (3, out, ""))
-    judge.same("a new file: on record", in_file(file, "SELECT device FROM logs ORDER BY id"), [(number,), (third.number,)])
+    site = [first, second, third]
+    kept("a new file", [f"{judge.room}/new.db", *[device.address for device in site]],
+         [new_logs(*site), *[line(device, 1, 1, "caught up, next 2") for device in site]], [number, number, third.number])

@@ -8,18 +8,20 @@ import time
 
 from kept_archives import OneFile, Parts
 from kept_devices import chance
-from kept_judge import rows_of, wrong_of, wrongs_in
-from kept_lines import KILLED, Rows, disagreements, gaps_in, in_doubt, lines_of
+from kept_judge import ANEW, Row, rows_of, wrong_of, wrongs_in
+from kept_lines import KILLED, Rows, Told, disagreements, gaps_in, in_doubt
 from kept_site import Site
 
 # How many runs over a site are ended at random; on a busy machine fewer, behind so many seconds, but so many at least.
 RUNS, SECONDS, LEAST = 30, 45, 10
 # Neither the site nor a run needs more open files.
 FILES = 1024
-LONG = ("--timeout=5000",)
+LONG = ("--timeout=3000", "--retries=1")
+# Devices that may answer a question not at all, or too late.
+LATE = "dead", "slow", "late", "uneven", "lossy"
 EMPTY = [("ok",)], [], [], {}
 # What has to happen in these runs: else they would show nothing.
-WANTED = ("asked", "after", "call", "itself", "caught up", "lost", "not asked", "another device answers", "began anew",
+WANTED = ("asked", "after", "call", "itself", "caught up", "lost", "not asked", "no answer", "another device answers", "began anew",
           "in doubt", "a gap")
 
 
@@ -40,22 +42,19 @@ class Runs:
             lines.writelines(f"{listed(device)}\n" for device in self.site.devices)
 
     def whole(self, *options):
-        """The words of a run over all logs of the archive, and the names of these."""
-        return self.archive.keep(*options), [f"{place} {instance}" for _, place, instance, *_ in self.rows.logs]
+        """The words of a run over all logs of the archive."""
+        return self.archive.keep(*options)
 
     def by_list(self, *options):
-        """The same over all logs of the devices of the list."""
-        names = [f"{device.place()} {number}" for device in self.site.devices for number in device.logs]
-        return self.archive.keep("-", *options), names
+        """The same, and over all logs of the devices of the list."""
+        return self.archive.keep("-", *options)
 
     def by_words(self, *options):
-        """The same over some logs of some devices that are named, none of which is behind a router."""
-        words, names = [], []
+        """The same, and over some logs of some devices that are named, none of which is behind a router."""
+        words = []
         for device in chance.sample([device for device in self.site.devices if not device.way], 12):
-            some = [number for number in device.logs if chance.random() < 0.7] or [1]
-            words += [device.address, *map(str, some)]
-            names += [f"{device.place()} {number}" for number in some]
-        return self.archive.keep(*words, *options), names
+            words += [device.address, *map(str, [number for number in device.logs if chance.random() < 0.7] or [1])]
+        return self.archive.keep(*words, *options)
 
     def ended(self, words, how="itself", when=None):
         """The status of a run that is ended so, what it printed and told."""
@@ -74,13 +73,14 @@ class Runs:
             # Its last line is how many calls there were.
             *errors, calls = errors.splitlines(True)
             errors, self.calls = "".join(errors), int(calls)
+        self.judge.hears(errors)
         return process.returncode, out.decode(), errors
 
     def read(self):
         return rows_of(self.archive.gathered()) if self.archive.is_begun() else EMPTY
 
-    def run(self, name, words, names, how="itself", when=None, wait=5.0, all_of_it=False):
-        """A run, which is judged by the rows that it left, and its lines by these; its status and its lines."""
+    def run(self, name, words, how="itself", when=None, wait=5.0, all_of_it=False):
+        """A run, which is judged by the rows that it left, and its lines by these; its status and what it told."""
         self.site.begins(wait)
         start = time.monotonic()
         status, out, errors = self.ended(words, how, when)
@@ -88,21 +88,22 @@ class Runs:
             self.took, self.questions = time.monotonic() - start, self.site.asked
         read = self.read()
         before, self.rows = self.rows, Rows(read)
-        found = wrongs_in(read, self.site.devices, all_of_it)
+        found = wrongs_in(read, self.site.devices, all_of_it, self.judge.doubts)
         self.judge.is_right(f"{name}: its rows", not found, "; ".join(found[:3]))
-        found = disagreements(status, out, errors, names, before, self.rows)
+        found = disagreements(status, out, errors, before, self.rows)
         self.judge.is_right(f"{name}: its lines", not found, f"{'; '.join(found[:3])}; {how} {when}; {' '.join(words)}")
-        doubted, wrong = in_doubt(before.logs, self.site.devices, errors)
+        doubted, wrong = in_doubt(before.logs, [device for device in self.site.devices if self.site.manner(device) not in LATE], errors)
         self.judge.is_right(f"{name}: what is in doubt", not wrong, wrong)
         self.judge.is_right(f"{name}: its end", how != "itself" or status != KILLED, status)
-        lines = lines_of(out)[0]
-        self.ends.update([how, f"status {status}", *["in doubt"] * len(doubted)])
-        self.ends.update(["began anew"] * (errors.count(" began anew") - len(doubted)))
-        self.ends.update(line[3].split(":")[0] for line in lines)
-        self.ends.update(["a gap"] * sum(gaps_in(self.rows.new_in(before, line[0])) for line in lines))
-        found = [text for line in lines if (text := self.wrong_end(*line))]
+        told = Told(out, errors)
+        self.ends.update([how, f"status {status}", *["in doubt"] * len(doubted), *["not asked"] * len(told.left),
+                          *["no answer"] * len(told.silent), *["another device answers"] * len(told.strange)])
+        self.ends.update(["began anew"] * sum(text == ANEW for _, text in told.meanwhile))
+        self.ends.update(line[3].split(":")[0] for line in told.logs)
+        self.ends.update(["a gap"] * sum(gaps_in(self.rows.new_in(before, line[0])) for line in told.logs))
+        found = [text for line in told.logs if (text := self.wrong_end(*line))]
         self.judge.is_right(f"{name}: all that was caught up", not found, "; ".join(found[:3]))
-        return status, lines
+        return status, told
 
     def wrong_end(self, name, _records, _gaps, end, _next):
         """What is missing of a log that was caught up, or None. Others go on while they are asked."""
@@ -112,15 +113,16 @@ class Runs:
         if end != "caught up":
             return None
         log.fresh = False
-        wrong = wrong_of(log, by_epoch(self.rows.of[name]), True) if self.site.manner(device) != "busy" else None
+        doubts = {number for one, number in self.judge.doubts if one == name}
+        wrong = wrong_of(log, by_epoch(self.rows, name), doubts, True) if self.site.manner(device) != "busy" else None
         return wrong and f"{name}: {wrong}"
 
 
-def by_epoch(rows):
-    """Rows as the judge has them: of each epoch."""
-    found = {}
-    for epoch, number, last, *texts in rows:
-        found.setdefault(epoch, []).append((number, last, tuple(texts)))
+def by_epoch(rows, name):
+    """The rows of a log as the judge has them: of each epoch where it begins, why, and its rows."""
+    found = {epoch: (*begun, []) for epoch, begun in rows.begins[name].items()}
+    for epoch, number, last, *texts in rows.of[name]:
+        found[epoch][2].append(Row(number, last, tuple(texts)))
     return found
 
 
@@ -155,7 +157,7 @@ def a_random_run(runs, at):
         words = runs.by_list(*options)
     else:
         words = runs.by_words(*options) if what < 0.3 else runs.whole(*options)
-    runs.run(f"run {at}", *words, *any_end(runs), wait / 1000)
+    runs.run(f"run {at}", words, *any_end(runs), wait / 1000)
 
 
 def fifty(judge, archive):
@@ -172,11 +174,11 @@ def fifty(judge, archive):
         runs.site.goes_on({number for _, _, _, number, *_ in runs.rows.logs} - {None})
         a_random_run(runs, at)
     runs.site.are_well()
-    status, lines = runs.run("all devices are well", *runs.by_list(*LONG), all_of_it=True)
-    ends = {line[3] for line in lines}
+    status, told = runs.run("all devices are well", runs.by_list(*LONG), all_of_it=True)
+    ends = {line[3] for line in told.logs}
     judge.is_right("all devices are well, and all is there", status == 0 and ends == {"caught up"}, (status, ends))
-    status, lines = runs.run("nothing is new", *runs.whole(*LONG), all_of_it=True)
-    new = [line for line in lines if line[1] + line[2]]
+    status, told = runs.run("nothing is new", runs.whole(*LONG), all_of_it=True)
+    new = [line for line in told.logs if line[1] + line[2]]
     judge.is_right("nothing is new, and nothing comes", status == 0 and not new, (status, new))
     few, counts = [what for what in WANTED if not runs.ends[what]], runs.site.counts
     killed = runs.ends[f"status {KILLED}"]

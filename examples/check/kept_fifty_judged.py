@@ -9,7 +9,7 @@ from kept_archives import OneFile
 from kept_devices import LAST, Device, chance
 from kept_fifty import LONG, Runs
 from kept_judge import rows_of, wrongs_in
-from kept_lines import KILLED, Rows, disagreements, lines_of
+from kept_lines import KILLED, Rows, Told, disagreements
 from kept_parts import copied
 from kept_site import begins_anew
 
@@ -22,7 +22,7 @@ BEHIND_GAP = f"id = (SELECT (id >> 32 << 32) + last + 1 FROM items WHERE {OF_GAP
 NO_RECORD = "last = id & 4294967295, stamp = NULL, value = NULL, datum = NULL, flags = NULL"
 TAKES = "UPDATE items SET (stamp, value, datum, flags) = (SELECT stamp, value, datum, flags FROM items AS i WHERE "
 ANEW = "id = ({log} << 15 | 1)"
-A_GAP, EPOCHS, ANY = "has a gap", "has two epochs", "any"
+A_GAP, EPOCHS, ANY, ALONE = "has a gap", "has two epochs", "any", "is its device's only one"
 # A name, which log of a site, and what is done to its rows.
 BROKEN = (
     ("a record is gone", ANY, f"DELETE FROM items WHERE {RECORD}"),
@@ -46,7 +46,9 @@ BROKEN = (
     ("the new epoch begins one later", EPOCHS, f"UPDATE beginnings SET number = number + 1 WHERE {ANEW}"),
     ("a log is gone", ANY, "DELETE FROM items WHERE id >> 47 = {log}", "DELETE FROM beginnings WHERE id >> 15 = {log}",
      "DELETE FROM logs WHERE id = {log}"),
-    ("its device's number is gone", ANY, "UPDATE logs SET device = NULL WHERE id = {log}"),
+    ("its device's number is gone", ALONE, "UPDATE devices SET instance = NULL WHERE id = (SELECT device FROM logs WHERE id = {log})"),
+    ("why it began anew is gone", EPOCHS, f"UPDATE beginnings SET why = NULL WHERE {ANEW}"),
+    ("why it began anew is another", EPOCHS, f"UPDATE beginnings SET why = 'numbers came round' WHERE {ANEW}"),
 )
 
 
@@ -65,13 +67,15 @@ def named(found):
 
 def fitting(runs):
     """Names of logs by their ids, and of each kind the ids of those that are so, and whose device tells its number."""
-    logs, fit = {}, {ANY: [], EPOCHS: [], A_GAP: []}
+    logs, fit = {}, {ANY: [], EPOCHS: [], A_GAP: [], ALONE: []}
+    places = [place for _, place, *_ in runs.rows.logs]
     for log_id, place, instance, number, *_ in runs.rows.logs:
         logs[log_id] = name = f"{place} {instance}"
         rows = runs.rows.of[name] if number is not None else []
         gaps = [row[1:3] for row in rows if row[2] is not None]
         old, new = (max((row[1] for row in rows if row[0] == epoch), default=0) for epoch in (0, 1))
         fit[ANY] += [log_id] * (len(rows) > 8)
+        fit[ALONE] += [log_id] * (len(rows) > 8 and places.count(place) == 1)
         fit[EPOCHS] += [log_id] * (0 < old < new - 8 and not gaps)
         fit[A_GAP] += [log_id] * (len(gaps) == 1 and 1 < gaps[0][0] < gaps[0][1] < LAST)
     return logs, fit
@@ -84,7 +88,7 @@ def broken_rows(judge, runs):
         log_id = chance.choice(fit[which])
         copied(runs.archive.name, file)
         changed = changed_in(file, *(statement.format(log=log_id) for statement in statements))
-        found, log = wrongs_in(rows_of(file), runs.site.devices, True), logs[log_id]
+        found, log = wrongs_in(rows_of(file), runs.site.devices, True, judge.doubts), logs[log_id]
         judge.is_right(f"{name}, and it is told", changed and named(found) == {log}, (log, found, changed))
 
 
@@ -102,8 +106,12 @@ def edited(pattern, new):
 
 
 def swapped(lines):
-    at = chance.randrange(len(lines) - 1)
-    return [*lines[:at], lines[at + 1], lines[at], *lines[at + 2 :]]
+    """Two lines of logs of one device have changed places."""
+    pairs = [(at, other) for at in range(len(lines)) for other in range(at) if lines[at].split(" ")[0] == lines[other].split(" ")[0]]
+    at, other = chance.choice(pairs)
+    lines = [*lines]
+    lines[at], lines[other] = lines[other], lines[at]
+    return lines
 
 
 def without(pattern):
@@ -125,49 +133,56 @@ MISPRINTED = (
     ("a line is left out", without(" "), list, int),
     ("a line stands twice", lambda lines: [*lines, chance.choice(lines)], list, int),
     ("two lines have changed places", swapped, list, int),
-    ("a log that is lost is caught up", edited("lost,", "caught up,"), list, int),
+    ("a log that is lost is caught up", list, edited(" lost,", " caught up,"), int),
     ("a log that is caught up is lost", edited("caught up,", "lost,"), list, int),
-    ("that a log began anew isn't told", list, without(" began anew"), int),
-    ("that it did is told of another", list, edited(r"^\S+ \d+ began", "127.0.0.1:1 1 began"), int),
-    ("why a log is lost isn't told", list, without(": no reply"), int),
+    ("that a log began anew isn't told", list, without(": began anew$"), int),
+    ("that it may have isn't told", list, without(": began anew, or dropped records$"), int),
+    ("that a gap may be none isn't told", list, without(": dropped "), int),
+    ("another gap may be none", list, edited(r": dropped (\d+)", lambda match: f": dropped {int(match[1]) + 1}"), int),
+    ("that a log began anew is told of another", list, edited(r"^\S+ \d+: began", "127.0.0.1:1 1: began"), int),
+    ("that a device gave no answer isn't told", list, lambda lines: [line for line in lines if not line.endswith(": no answer")], int),
+    ("a log that wasn't asked isn't told", list, without(" not asked$"), int),
     ("status 0", list, list, lambda _: 0),
 )
 
 
-def judged_lines(runs, run, names, before, after):
+def judged_lines(run, before, after):
     status, out, errors = run
     texts = ["".join(f"{line}\n" for line in lines) for lines in (out, errors)]
-    return disagreements(status, *texts, names, before, after)
+    return disagreements(status, *texts, before, after)
 
 
 def broken_lines(judge, runs):
     """What a run printed and told is broken, over a site in which logs went on and began anew, and some are dead."""
-    before, (words, names) = runs.rows, runs.whole("--timeout=400", "--retries=1")
+    before = runs.rows
     for device in runs.site.devices[::9]:
         device.loses = 1.0
-    status, out, errors = runs.ended(words)
+    # One falls silent once it has told what it is: its first log is lost.
+    runs.site.devices[1].answers = 3
+    status, out, errors = runs.ended(runs.whole("--timeout=400", "--retries=1"))
     after = runs.rows = Rows(rows_of(runs.archive.name))
     run = status, out.splitlines(), errors.splitlines()
-    found = judged_lines(runs, run, names, before, after)
+    found = judged_lines(run, before, after)
     judge.is_right("lines that aren't broken", not found, found)
     for name, printed, told, ended in MISPRINTED:
-        found = judged_lines(runs, (ended(status), printed(run[1]), told(run[2])), names, before, after)
+        found = judged_lines((ended(status), printed(run[1]), told(run[2])), before, after)
         judge.is_right(f"{name}, and it is told", found, name)
+    runs.site.devices[1].answers = None
     runs.site.are_well()
 
 
 def killed(runs):
-    """A run that was killed behind some lines, the logs that it asked for, and the rows before it."""
+    """A run that was killed behind some lines, and the rows before it."""
     for _ in range(20):
-        before, (words, names) = runs.rows, runs.whole(*LONG)
+        before = runs.rows
         for device in runs.site.devices:
             for log in device.logs.values():
                 log.log(4)
         when = chance.randrange(runs.calls // 4, runs.calls)
-        run = runs.ended(words, "call", when)
+        run = runs.ended(runs.whole(*LONG), "call", when)
         runs.rows = Rows(rows_of(runs.archive.name))
         if run[0] == KILLED and run[1].count("\n") > 8:
-            return run, names, before
+            return run, before
         # One that was killed too early has more calls than were thought, and one that wasn't killed fewer.
         runs.calls = runs.calls * 3 // 2 if run[0] == KILLED else max(when, 8)
     return None
@@ -185,11 +200,11 @@ BEHIND_A_KILL = (
 
 def broken_behind_a_kill(judge, runs):
     """Rows are taken away or changed behind a run that was killed."""
-    run, names, before = killed(runs)
-    found = disagreements(*run, names, before, runs.rows)
+    run, before = killed(runs)
+    found = disagreements(*run, before, runs.rows)
     judge.is_right("a run that was killed", not found, found)
     ids = {f"{place} {instance}": log_id for log_id, place, instance, *_ in runs.rows.logs}
-    told, held = {line[0] for line in lines_of(run[1])[0]}, runs.site.logs()
+    told, held = {line[0] for line in Told(*run[1:]).logs}, runs.site.logs()
     fit = {"new": [name for name in told if runs.rows.new_in(before, name)],
            "old": [name for name in told if len(before.of[name]) > 2],
            # Records that their log holds no more: a gap would do for them, had they not been kept.
@@ -199,7 +214,7 @@ def broken_behind_a_kill(judge, runs):
         log, file = chance.choice(sorted(fit[which])), copied(runs.archive.name, f"{judge.room}/killed.db")
         changed = changed_in(file, statement.format(log=ids[log]))
         read = rows_of(file)
-        found, wrong = disagreements(*run, names, before, Rows(read)), wrongs_in(read, runs.site.devices, False)
+        found, wrong = disagreements(*run, before, Rows(read)), wrongs_in(read, runs.site.devices, False, judge.doubts)
         right = changed == 1 and named(found) == {log} and named(wrong) == ({log} if tell_it else set())
         judge.is_right(f"{name} behind a kill, and it is told", right, (log, found, wrong))
 
@@ -211,8 +226,8 @@ def left_out(items):
 
 
 def flipped(items):
-    """A record that is a hundredth of a second later."""
-    return [*items[:-1], items[-1][:10] + b"\x01" + items[-1][11:]]
+    """The last record is a hundredth of a second later."""
+    return [*items[:-1], items[-1][:10] + b"\x01" + items[-1][11:]] if items else items
 
 
 def exchanged(items):
@@ -220,11 +235,12 @@ def exchanged(items):
 
 
 def with_items(edit):
-    """A device of whose replies for a log the records are edited from a number on."""
+    """A device of whose replies for a log the records behind a number are edited."""
     def lie(device, log, behind):
         def items(asked, numbers):
             true = Device.items(device, asked, numbers)
-            return edit(true) if asked is log and numbers and numbers[0] > behind else true
+            known = sum(number <= behind for number in numbers) if asked is log else len(true)
+            return true[:known] + edit(true[known:])
         device.items = items
     return lie
 
@@ -280,15 +296,17 @@ def broken_answers(judge, runs):
         # Both have records with the same numbers.
         log.log(max(0, other.total - log.total))
         other.log(log.total - other.total)
-        words, names = runs.whole(*LONG)
-        runs.run(f"{name}: before", words, names, all_of_it=True)
+        runs.run(f"{name}: before", runs.whole(*LONG), all_of_it=True)
         copied(runs.archive.name, f"{judge.room}/true.db")
+        # What is new of it doesn't fit one reply.
+        fits, device.fits = device.fits, (7,)
         lie(device, log, log.total)
         log.log(20)
         other.log(20)
-        run, wanted = runs.ended(words), {f"{device.place()} 1"}
-        found = wrongs_in(rows_of(runs.archive.name), runs.site.devices, True)
+        run, wanted = runs.ended(runs.whole(*LONG)), {f"{device.place()} 1"}
+        found = wrongs_in(rows_of(runs.archive.name), runs.site.devices, True, judge.doubts)
         judge.is_right(f"{name}, and it is told", named(found) == wanted, (wanted, found, run[0], run[2][:200]))
+        device.fits = fits
         for attribute in ("items", "range_of", "chosen"):
             device.__dict__.pop(attribute, None)
         copied(f"{judge.room}/true.db", runs.archive.name)
@@ -303,7 +321,7 @@ def goes_beyond(log, kept):
 def fifty_judged(judge, _runs):
     """A site is kept, and goes on; and then it is broken."""
     runs = Runs(judge, OneFile(f"{judge.room}/site.db"), chance.getrandbits(32))
-    runs.run("all are added", *runs.by_list(*LONG), all_of_it=True)
+    runs.run("all are added", runs.by_list(*LONG), all_of_it=True)
     for at, device in enumerate(runs.site.devices):
         kept = [log.total for log in device.logs.values()]
         if at % 3 == 0:
@@ -312,7 +330,7 @@ def fifty_judged(judge, _runs):
             log.log(log.room_for + 20 if at % 3 == 1 else 9)
             if at % 3 == 0 and log.fresh and device.restart is not None:
                 goes_beyond(log, before)
-    runs.run("they go on", *runs.whole(*LONG), all_of_it=True)
+    runs.run("they go on", runs.whole(*LONG), all_of_it=True)
     broken_rows(judge, runs)
     for at, device in enumerate(runs.site.devices):
         if at % 4 == 0:
@@ -320,9 +338,9 @@ def fifty_judged(judge, _runs):
         for log in device.logs.values():
             log.log(2 if log.fresh else chance.choice((0, 3, 200)))
     broken_lines(judge, runs)
-    runs.run("all are well again", *runs.whole(*LONG), all_of_it=True)
+    runs.run("all are well again", runs.whole(*LONG), all_of_it=True)
     broken_behind_a_kill(judge, runs)
-    runs.run("behind a kill", *runs.whole(*LONG), all_of_it=True)
+    runs.run("behind a kill", runs.whole(*LONG), all_of_it=True)
     broken_answers(judge, runs)
     ways = len(BROKEN) + len(MISPRINTED) + len(BEHIND_A_KILL) + len(LIES)
     return f"rows, lines and answers of {len(runs.site.devices)} devices were broken in {ways} ways"

@@ -4,6 +4,7 @@ import resource
 import shutil
 import tempfile
 
+from checked import NOTHING
 from kept_judge import no_use
 from kept_rounds import one
 
@@ -15,7 +16,7 @@ def barred(judge, _runs):
     device, _log = one(count=2)
     folder, file = f"{judge.room}/plant", f"{judge.room}/a.db"
     os.mkdir(folder)
-    judge.same("kept of an empty folder", judge.ran(["kept", folder]), no_use(folder, "it has no trend logs"))
+    judge.same("kept of an empty folder", judge.ran(["kept", folder]), no_use(folder, NOTHING))
     # An archive in parts, of which one isn't a file.
     part = f"{folder}/000001.db"
     os.mkdir(part)

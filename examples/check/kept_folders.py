@@ -4,6 +4,7 @@ import os
 import shutil
 import sqlite3
 
+from checked import NOTHING
 from kept_judge import in_use, no_use
 from kept_parts import FULL, begun, copied, fill, names, octets, together
 
@@ -80,7 +81,7 @@ def folders(judge, _runs):
     judge.same("nothing is made of it", os.path.getsize(f"{folder}/000004.db"), 0)
     empty = f"{judge.room}/empty"
     os.mkdir(empty)
-    judge.same("a folder without parts", judge.ran(["kept", empty]), no_use(empty, "it has no trend logs"))
+    judge.same("a folder without parts", judge.ran(["kept", empty]), no_use(empty, NOTHING))
     os.chmod(empty, 0)
     if not os.access(empty, os.R_OK):
         judge.same("one that isn't read", judge.ran(["kept", empty])[0], 6)
@@ -105,7 +106,7 @@ def folders_damaged(judge, _runs):
     rows = printed("the second is gone", no_use(second, "there is no such file")[2])
     judge.is_right("the first and the third are there", set(fronts) < set(rows) and rows[-1] == whole[-1])
     open(second, "wb").close()
-    printed("the second is empty", no_use(second, "it has no trend logs")[2])
+    printed("the second is empty", no_use(second, NOTHING)[2])
     with contextlib.closing(sqlite3.connect(second)) as base:
         base.execute("CREATE TABLE other (id INTEGER PRIMARY KEY)")
         base.commit()

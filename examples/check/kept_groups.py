@@ -1,4 +1,4 @@
-"""What is kept of many logs goes to the disk together, for kept.py: how often a run waits for it, and what is left and was
+"""What is kept of many replies goes to the disk together, for kept.py: how often a run waits for it, and what is left and was
 told of a run that is killed."""
 import os
 import shutil
@@ -8,14 +8,13 @@ from kept_apart import in_file, line
 from kept_devices import Device, Log, lock, serve
 
 DEVICES, LOGS, NEW = 8, 9, 3
-# At most so many logs are kept in one transaction.
-MOST = 64
 
 
 def rows_by_log(file):
     """How many items each log has in the file, by address and instance."""
     return {(address, instance): count for address, instance, count in in_file(
-        file, "SELECT l.address, l.instance, count(i.id) FROM logs l LEFT JOIN items i ON i.id >> 47 = l.id GROUP BY l.id")}
+        file, "SELECT d.address, l.instance, count(i.id) FROM logs l JOIN devices d ON d.id = l.device "
+        "LEFT JOIN items i ON i.id >> 47 = l.id GROUP BY l.id")}
 
 
 def synced(judge, words):
@@ -35,7 +34,8 @@ def new_records(devices):
 
 
 def groups(judge, _runs):
-    """A group of 64 logs and one of 8: a few waits for the disk, and what a line tells is in the file behind any end."""
+    """Replies of 72 logs: a few waits for the disk, what came of a reply is in the file whole or not at all, and what a line tells is
+    in it behind any end."""
     devices = [Device([Log(number, 400) for number in range(1, LOGS + 1)], f"grouped{n}") for n in range(DEVICES)]
     for device in devices:
         device.fits = (45,)
@@ -49,10 +49,10 @@ def groups(judge, _runs):
     new_records(devices)
     status, some = synced(judge, ["keep", file])
     # One of each log would be 72 more.
-    judge.is_right(f"waits for the disk: {some}, and {none} with nothing new", status == 0 and 0 < some - none <= 8)
+    judge.is_right(f"waits for the disk: {some}, and {none} with nothing new", status == 0 and some - none <= 8)
     judge.judge("all of it", file, devices, True)
-    ends = 0
-    for call in range(1, 400, 7):
+    ends, seen = 0, set()
+    for call in range(1, 400, 3):
         new_records(devices)
         before = rows_by_log(file)
         status, out, _ = judge.ended_at(call, ["keep", file])
@@ -66,16 +66,19 @@ def groups(judge, _runs):
         told = out.splitlines(True)
         kept = [key for key in before if after[key] > before[key]]
         judge.judge(f"ended at call {call}", file, devices)
-        judge.is_right(f"ended at call {call}: whole groups", len(kept) in (0, MOST, DEVICES * LOGS), f"{len(kept)} logs")
+        # All that is new of a log fits one reply.
+        came = {after[key] - before[key] for key in kept}
+        judge.is_right(f"ended at call {call}: whole replies", came <= {NEW}, came)
+        seen.add(len(kept))
         of = {device.address: device for device in devices}
         judge.same(f"ended at call {call}: what is told is kept", [row for row in told if tuple_of(row) not in kept], [])
         ends += status == -signal.SIGKILL
         if status != -signal.SIGKILL:
             break
         judge.ran(["keep", file])
-    judge.is_right("calls are counted", ends > 4, f"{ends} ends")
-    judge.same("the whole run's lines", (status, told), (0, [line(of[address], instance, NEW, f"caught up, next {of[address].logs[instance].total + 1}")
-                                                           for address, instance in before]))
+    judge.is_right("calls are counted", ends > 4 and 0 in seen and DEVICES * LOGS in seen, f"{ends} ends, {seen}")
+    judge.tells("the whole run's lines", (status, out, ""), 0, *(line(of[address], instance, NEW, f"caught up, next {of[address].logs[instance].total + 1}")
+                                                               for address, instance in before))
     return f"{some} waits for the disk, {none} with nothing new; ended at {ends} calls"
 
 

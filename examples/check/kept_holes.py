@@ -1,10 +1,10 @@
-"""Cases of `bac keep` over an archive in which numbers are missing, for kept.py: another program deleted rows. Each
-stretch is told on standard error, once, and the run goes on as it would without that."""
-from checked import change, holes_of
+"""Cases of `bac keep` over an archive in which numbers are missing, for kept.py: another program deleted rows. A run goes on as it
+would without that and tells nothing of it, and `bac check` tells each stretch."""
+from checked import HOLES, change, checks, lines, told
 from kept_devices import Device, Log, serve
-from kept_parts import BEGINNINGS, FULL, LOGS, begun, copied, fill, names, read
+from kept_parts import FULL, ITEMS, begun, copied, fill, names, read, together
+from kept_rounds import anew, dropped
 
-ITEMS = "SELECT id, last FROM items ORDER BY id"
 OF_LOG = "id >> 47 = (SELECT id FROM logs WHERE instance = {})"
 
 
@@ -17,33 +17,19 @@ def deleted(file, *which):
     change(file, *(f"DELETE FROM items WHERE {rows}" for rows in which))
 
 
-def told_of(file, path, follows=False):
-    """What `bac keep` is to tell of a file at a path, by what sqlite3 reads of a copy of it: in a part that follows on
-    another, nothing in front of the first row of a log."""
-    logs, beginnings, items = read(copied(file, f"{file}.read"), LOGS, BEGINNINGS, ITEMS)
-    by_epoch, said = {}, []
-    for item, last in items:
-        by_epoch.setdefault(item >> 32, []).append((item & 0xFFFFFFFF, item & 0xFFFFFFFF if last is None else last))
-    for log_id, address, _dnet, _dadr, instance, *_ in logs:
-        first = min((key for key in by_epoch if key >> 15 == log_id), default=None)
-        for key, start in beginnings:
-            if key >> 15 == log_id and key in by_epoch:
-                begins = by_epoch[key][0][0] if follows and key == first else start
-                said += [f"{path}: {address} {instance} epoch {key & 32767}: hole {hole[0]} {hole[1]}\n"
-                         for hole in holes_of(begins, by_epoch[key])]
-    return "".join(said)
-
-
-def tells(judge, name, file, path, words, wanted):
-    """A run over an archive that lacks rows tells so, and is else as one over the same archive with all its rows, which
-    lies at `file`.whole; it has these words."""
+def goes_on(judge, name, file, words, text):
+    """A run over an archive that lacks rows is as one over the same archive with all its rows, which lies at `file`.whole; it has
+    these words. This text is of what `bac check` tells then."""
     whole = judge.ran(["keep", f"{file}.whole", *words])
     judge.is_right(f"{name}: nothing is told of a whole one", whole[0] == 0 and whole[2] == "" and "caught up" in whole[1], whole)
     lacking, = read(copied(file, f"{file}.read"), ITEMS)
-    judge.same(name, judge.ran(["keep", path, *words]), (whole[0], whole[1], wanted))
+    judge.same(name, judge.ran(["keep", file, *words]), whole)
     both = [set(read(copied(each, f"{each}.read"), ITEMS)[0]) for each in (file, f"{file}.whole")]
     judge.is_right(f"{name}: what is new is kept", both[0] - set(lacking) and both[0] < both[1]
                    and max(both[0]) == max(both[1]), [len(each) for each in both])
+    wanted = lines(file)
+    judge.is_right(f"{name}: what is wanted", text in wanted, wanted)
+    checks(judge, f"{name}, and it is told", [file], wanted, told(file, HOLES))
 
 
 def holes(judge, _runs):
@@ -60,36 +46,32 @@ def holes(judge, _runs):
     device.logs[2].log(5)
     device.logs[4].begin(0)
     device.logs[4].log(9)
-    judge.same("that has a gap and another epoch", judge.ran(["keep", file])[::2], (0, f"{device.address} 4 began anew\n"))
+    judge.same("that has a gap and another epoch", judge.ran(["keep", file])[::2], (0, dropped(device, 21, 30, 2) + anew(device, 4)))
     judge.same("is still whole", judge.ran(["keep", file])[::2], (0, ""))
     cases = (
-        ("one in the middle", [row(1, 0, "= 100")], "1 epoch 0: hole 100 100\n"),
-        ("two stretches", [row(1, 0, "IN (7, 8, 9, 250)")], "1 epoch 0: hole 7 9\n{}1 epoch 0: hole 250 250\n"),
-        ("the first", [row(1, 0, "= 1")], "1 epoch 0: hole 1 1\n"),
-        ("a gap", [f"{OF_LOG.format(2)} AND last IS NOT NULL"], "2 epoch 0: hole 21 30\n"),
-        ("the first of another epoch", [row(4, 1, "< 3")], "4 epoch 1: hole 1 2\n"),
-        ("those of several logs", [row(1, 0, "BETWEEN 40 AND 49"), row(4, 1, "= 4"), row(2, 0, "= 2")],
-         "1 epoch 0: hole 40 49\n{}2 epoch 0: hole 2 2\n{}4 epoch 1: hole 4 4\n"),
+        ("one in the middle", [row(1, 0, "= 100")], "\nhole 100 100\n"),
+        ("two stretches", [row(1, 0, "IN (7, 8, 9, 250)")], "\nhole 7 9\nhole 250 250\n"),
+        ("the first", [row(1, 0, "= 1")], "\nhole 1 1\n"),
+        ("a gap", [f"{OF_LOG.format(2)} AND last IS NOT NULL"], "\nhole 21 30\n"),
+        ("the first of another epoch", [row(4, 1, "< 3")], "\nhole 1 2\n"),
+        ("an epoch", [row(4, 0, "> 0")], " 4 epoch 0: gone\n"),
+        ("those of several logs", [row(1, 0, "BETWEEN 40 AND 49"), row(4, 1, "= 4"), row(2, 0, "= 2")], "\nhole 4 4\n"),
     )
     for name, which, text in cases:
-        before = f"{copy}: {device.address} "
-        wanted = before + text.replace("{}", before)
         deleted(copied(file, copy), *which)
         copied(file, f"{copy}.whole")
-        judge.same(f"{name}: what is wanted", told_of(copy, copy), wanted)
         for log in device.logs.values():
             log.log(1)
-        tells(judge, f"{name} is deleted", copy, copy, (), wanted)
-        judge.same(f"{name}: it is told again", judge.ran(["keep", copy])[::2], (0, wanted))
-        judge.same(f"{name}: of one log", judge.ran(["keep", copy, device.address, "1"])[::2], (0, wanted))
+        goes_on(judge, f"{name} is deleted", copy, (), text)
+        judge.same(f"{name}: of one log", judge.ran(["keep", copy, device.address, "1"])[::2], (0, ""))
         judge.ran(["keep", file])
-    # What is gone behind the last row can't be seen, nor is anything told where nothing is kept.
+    # What is gone behind the last row can't be seen: it is fetched again.
     deleted(copied(file, copy), row(1, 0, "> 290"))
     judge.same("the last are deleted", judge.ran(["keep", copy])[::2], (0, ""))
     judge.same("they are kept again", read(copied(copy, f"{copy}.read"), ITEMS), read(copied(file, f"{copy}.read"), ITEMS))
     deleted(copied(file, copy), row(1, 0, "= 100"))
-    judge.same("none is kept where logs are stopped", judge.ran(["keep", copy, "--stop", device.address, "1"]), (0, f"{device.address} 1 stopped\n", ""))
-    judge.same("and a stopped log is told, too", judge.ran(["keep", copy])[::2], (0, f"{copy}: {device.address} 1 epoch 0: hole 100 100\n"))
+    judge.same("nothing is told where logs are stopped", judge.ran(["keep", copy, "--stop", device.address, "1"]), (0, f"{device.address} 1 stopped\n", ""))
+    checks(judge, "a stopped log is told, too", [copy], lines(copy), told(copy, HOLES))
 
 
 def holes_in_parts(judge, _runs):
@@ -103,28 +85,30 @@ def holes_in_parts(judge, _runs):
     device.logs[2].begin(0)
     device.logs[2].log(9)
     device.logs[3].log(4)
-    judge.same("with another epoch", judge.ran(["keep", folder])[::2], (0, f"{device.address} 2 began anew\n"))
+    judge.same("with another epoch", judge.ran(["keep", folder])[::2], (0, anew(device, 2)))
     judge.same("it is whole", (judge.ran(["keep", folder])[::2], names(folder)), ((0, ""), ["000001.db", "000002.db"]))
-    newest, whole = f"{folder}/000002.db", f"{judge.room}/newest.db"
+    newest, whole, merged = f"{folder}/000002.db", f"{judge.room}/newest.db", f"{judge.room}/merged.db"
     cases = (
-        ("one in the middle", [row(1, 0, "= 45")], "1 epoch 0: hole 45 45\n"),
-        ("those behind what was taken over", [row(1, 0, "IN (31, 32, 50)")], "1 epoch 0: hole 31 32\n{}1 epoch 0: hole 50 50\n"),
-        ("what was taken over", [row(1, 0, "= 30")], ""),
-        ("the first of another epoch", [row(2, 1, "< 4")], "2 epoch 1: hole 1 3\n"),
-        ("one of a log that had none", [row(3, 0, "= 2")], "3 epoch 0: hole 2 2\n"),
+        ("one in the middle", [row(1, 0, "= 45")], "\nhole 45 45\n"),
+        ("those behind what was taken over", [row(1, 0, "IN (31, 32, 50)")], "\nhole 31 32\n"),
+        ("the first of another epoch", [row(2, 1, "< 4")], " 2 epoch 1: 4 to 9, 6 records, 0 gaps\nhole 1 3\n"),
+        ("one of a log that had none", [row(3, 0, "= 2")], "\nhole 2 2\n"),
     )
     copied(newest, whole)
     for name, which, text in cases:
-        before = f"{newest}: {device.address} "
-        wanted = before + text.replace("{}", before) if text else ""
         deleted(copied(whole, newest), *which)
-        judge.same(f"{name}: what is wanted", told_of(newest, newest, True), wanted)
         device.logs[1].log(1)
-        status, out, errors = judge.ran(["keep", folder])
-        judge.same(f"{name} is deleted", (status, errors, out.splitlines()[0]),
-                   (0, wanted, f"{device.address} 1 1 record 0 gaps caught up, next {device.logs[1].total + 1}"))
+        judge.same(f"{name} is deleted", (judge.ran(["keep", folder])[::2]), (0, ""))
+        wanted = lines(together(folder, merged))
+        judge.is_right(f"{name}: what is wanted", text in wanted, wanted)
+        checks(judge, f"{name}, and it is told", [folder], wanted, told(folder, HOLES))
         judge.ran(["keep", whole, device.address, "1"])
-    # In the part before nothing is looked for.
+    # What a part took over is missing in none: the one before it has it.
+    deleted(copied(whole, newest), row(1, 0, "= 29"))
+    judge.same("one that was taken over is deleted", judge.ran(["keep", folder])[::2], (0, ""))
+    checks(judge, "one that was taken over is deleted, and it is there", [folder], lines(together(folder, merged)))
+    # One is gone in the part before.
     copied(whole, newest)
     deleted(f"{folder}/000001.db", row(1, 0, "= 5"))
     judge.same("one is gone in the part before", judge.ran(["keep", folder])[::2], (0, ""))
+    checks(judge, "one is gone in the part before, and it is told", [folder], lines(together(folder, merged)), told(folder, HOLES))

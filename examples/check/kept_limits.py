@@ -43,11 +43,13 @@ def file_limits(judge, _runs):
         before = kept
     judge.is_right("what fits is kept", 300 < len(before) < 16300, len(before))
     device.questions.clear()
+    device.fits = (45,)
     rest = said(device, 16300 - len(before), 0, "caught up, next 16301")
     judge.same("without a limit the rest", judge.ran(["keep", file, LONG]), (0, rest, ""))
-    # It is asked once for its oldest record, and for the newest that is kept.
-    asked = sorted(number for number in device.questions if number)
-    judge.same("nothing is asked for twice", (device.questions.count(0), asked[:2]), (1, [len(before), len(before) + 1]))
+    # It is asked from the first of the three newest that are kept on, then each time from the last that came, and never for its
+    # oldest ones.
+    judge.is_right("nothing is asked for twice", device.questions == sorted(set(device.questions)) and device.questions[0] == len(before) - 2,
+                   (len(before), device.questions))
     judge.judge("all of it", file, [device], True)
 
 
@@ -60,15 +62,15 @@ def part_limits(judge, _runs):
     device.logs[1].log(16000)
     before, merged = octets(first), f"{judge.room}/merged.db"
     size = os.path.getsize(first)
-    # Under a limit that lies below the first part that one is full: it isn't written, but may not get its own length.
-    for most, full in ((4096, second), (40960, first), (200000, first), (size, second), (size + 100000, second)):
+    for most in (4096, 40960, 200000, size, size + 100000):
         status, _, errors = judge.ran(["keep", folder, *FULL, LONG], preexec_fn=at_most(most))
-        judge.same(f"a part of at most {most} octets", (status, errors), is_full(full))
+        judge.same(f"a part of at most {most} octets", (status, errors), is_full(second))
         judge.same(f"a part of at most {most} octets, the first", octets(first) == before, True)
         judge.judge(f"a part of at most {most} octets, the rows", together(folder, merged), [device])
     kept = in_file(merged, "SELECT count(*) FROM items WHERE last IS NULL")[0][0]
     judge.is_right("what fits is kept in the next part", 24 < kept < 16024, kept)
-    status, out, errors = judge.ran(["keep", folder, *FULL, LONG])
+    # It may be full by now: it is the usual size at which no further one is begun.
+    status, out, errors = judge.ran(["keep", folder, LONG])
     records = sum(int(count) for count in re.findall(r" (\d+) records? ", out))
     judge.same("without a limit the rest", (status, errors, records), (0, "", 16024 - kept))
     judge.same("it is in the next part", (names(folder), octets(first) == before), (["000001.db", "000002.db"], True))

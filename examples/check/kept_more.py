@@ -2,19 +2,18 @@
 import os
 import subprocess
 
-from kept_apart import in_file, line, untold
+from kept_apart import in_file, line, new_logs
 from kept_devices import LAST, Device, Log, serve
-from kept_rounds import one, said
+from kept_rounds import one, said, silent
 
-MORE = "the device announced more records but sent none\n"
+MORE = "shows no more, though it says that more is there"
 
 # Each run: what its replies with records say of more items (None: what is so), how many records are new, and its status.
 RUNS = (
     ("more is said, and none comes", True, 3, 4),
     ("nothing new, and no more is said", False, 0, 0),
     ("records, and no more is said", False, 2, 0),
-    # Nothing was asked for behind the last record once it said so.
-    ("nothing new, and the last record says more", True, 0, 0),
+    ("nothing new, and the last record says more", True, 0, 4),
     ("one record, and it says more", True, 1, 4),
     ("what is said is so", None, 300, 0),
     ("and nothing new", None, 0, 0),
@@ -31,8 +30,8 @@ def said_more(judge, _runs):
             device.says_more = says_more
             log.log(count)
             file = f"{judge.room}/{begin}.db"
-            line = said(device, count, 0, f"caught up, next {log.total % LAST + 1}")
-            judge.same(name, judge.ran(["keep", file, device.address, "1"]), (status, line + (MORE if status else ""), ""))
+            end = f"{MORE if status else 'caught up'}, next {log.total % LAST + 1}"
+            judge.tells(name, judge.ran(["keep", file, device.address, "1"]), status, said(device, count, 0, end))
             judge.judge(name, file, [device], True)
     device, log = one()
     device.says_more = True
@@ -40,8 +39,8 @@ def said_more(judge, _runs):
                (0, said(device, 0, 0, "caught up, next 1"), ""))
     device, log = one(count=1)
     device.says_more, device.by_number = True, False
-    judge.same("by number there is never one", judge.ran(["keep", f"{judge.room}/by_time.db", device.address, "1"]),
-               (4, said(device, 1, 0, "caught up, next 2") + MORE, ""))
+    judge.tells("by number there is never one", judge.ran(["keep", f"{judge.room}/by_time.db", device.address, "1"]), 4,
+                said(device, 1, 0, "shows no record by number, and by time perhaps not all that it holds, next 2"))
 
 
 def several(judge, _runs):
@@ -59,10 +58,11 @@ def several(judge, _runs):
 
     words = ["keep", file, first.address, "2", second.address, third.address, "1", "02", "1"]
     logs = ((first, 2, 2), (second, 1, 1), (second, 2, 2), (third, 1, 1), (third, 2, 2))
-    judge.same("three devices", judge.ran(words), (0, lines(*logs), ""))
+    judge.tells("three devices", judge.ran(words), 0, new_logs(second), lines(*logs))
+    # A run polls all that is on record, and what is new behind it.
     words = ["keep", file, second.address, "2", first.address, first.address, "2", second.address, "--count=20"]
-    logs = ((second, 2, 0), (first, 1, 1), (first, 2, 0), (second, 1, 0))
-    judge.same("each log once", judge.ran(words), (0, lines(*logs), ""))
+    logs = ((first, 2, 0), (first, 1, 1), (second, 1, 0), (second, 2, 0), (third, 1, 0), (third, 2, 0))
+    judge.tells("each log once", judge.ran(words), 0, f"{first.address} 1 is new\n", lines(*logs))
     judge.judge("several devices", file, devices, True)
     asked = sum(device.asked for device in devices)
     for name, words, fault in (
@@ -92,62 +92,78 @@ def access_denied(ack):
 
 
 def other_service(ack):
-    """The ACK of another service."""
-    return ack[:2] + bytes([26]) + ack[3:]
+    """The ACK of another service; an Abort stays."""
+    return ack[:2] + bytes([26]) + ack[3:] if ack[0] == 0x30 else ack
 
 
 def no_number(ack):
-    """An ACK whose value is a NULL."""
-    return ack[: ack.rindex(b"\x3e") + 1] + b"\x00\x3f"
+    """An ACK whose value is a NULL; an Abort stays."""
+    return ack[: ack.rindex(b"\x3e") + 1] + b"\x00\x3f" if ack[0] == 0x30 else ack
 
 
 # What a device answers in place of its Object_List, the status, how its line ends, and what is told beside it.
 UNTOLD = (
-    ("lost", lambda ack: None, 2, "lost", "no reply from {}"),
     ("refused", access_denied, 3, "refused: error 2 27", "read access denied"),
     ("another ACK", other_service, 4, "bad reply", "the reply doesn't acknowledge this request, is segmented, or can't be read"),
     ("no number", no_number, 4, "bad reply", "the reply doesn't acknowledge this request, is segmented, or can't be read"),
 )
 
 
+def untold(device, end, why):
+    """The lines of a device that doesn't tell its Object_List."""
+    return f"{device.place()} didn't tell its Object_List: {end}\n{device.place()}: {why}\n"
+
+
 def unlisted(judge, _runs):
-    """A device that doesn't tell its Object_List has a line, and the run goes on with the others."""
-    silent, second = Unlisting([Log(1, 50)], "silent"), Unlisting([Log(1, 50)], "second")
+    """A device that doesn't tell its Object_List has a line, its logs on record are polled, and the run goes on with the others."""
+    mute, second = Unlisting([Log(1, 50)], "mute"), Unlisting([Log(1, 50)], "second")
     others = [Device([Log(number, 50) for number in (1, 2)], f"other {place}") for place in range(2)]
-    for device in (silent, second, *others):
+    for device in (mute, second, *others):
         for number, log in device.logs.items():
             log.log(number)
-    serve([silent, second, *others])
-    quick = ("--timeout=60", "--retries=1")
+    serve([mute, second, *others])
+    quick = ("--timeout=300", "--retries=1")
 
     def kept(new):
-        return "".join(line(device, number, number * new, f"caught up, next {number + 1}") for device in others for number in (1, 2))
+        lines = "".join(line(device, number, number * new, f"caught up, next {number + 1}") for device in others for number in (1, 2))
+        return new_logs(*others) * new + lines
 
-    for name, silent.list_ack, status, end, why in UNTOLD:
-        file = f"{judge.room}/{name}.db"
-        told = f"{silent.address}: {why.format(silent.address)}\n"
-        asked = silent.asked
-        words = ["keep", file, others[0].address, silent.address, others[1].address, *quick]
-        judge.same(name, judge.ran(words), (status, untold(silent, end) + kept(1), told))
-        judge.same(f"{name}: it is asked beside the others, and not once more", silent.asked - asked, 2 if status == 2 else 1)
+    for name, mute.list_ack, status, *texts in UNTOLD:
+        file, lines, asked = f"{judge.room}/{name}.db", untold(mute, *texts), mute.asked
+        judge.tells(name, judge.ran(["keep", file, others[0].address, mute.address, others[1].address, *quick]), status, lines, kept(1))
+        # What it says of itself, its clock, and its list; or behind an Abort how long that is.
+        judge.same(f"{name}: its list isn't asked for once more", mute.asked - asked, 5 + (status == 4))
         judge.judge(name, file, others, True)
-        judge.same(f"{name}, and it has no log", in_file(file, f"SELECT count(*) FROM logs WHERE address = '{silent.address}'"), [(0,)])
-        judge.same(f"{name}, alone", judge.ran(["keep", f"{judge.room}/{name} alone.db", silent.address, *quick]), (status, untold(silent, end), told))
-        judge.same(f"{name}, named", judge.ran(["keep", file, silent.address, silent.address, "1", *quick]),
-                   (status, untold(silent, end) + line(silent, 1, 1, "caught up, next 2"), told))
+        judge.same(f"{name}, and it has no log", in_file(file, f"SELECT d.whole, count(l.id) FROM devices d LEFT JOIN logs l ON l.device = d.id "
+                   f"WHERE d.address = '{mute.address}' GROUP BY d.id"), [(1, 0)])
+        # It is asked again in each run.
+        judge.tells(f"{name}, again", judge.ran(["keep", file, *quick]), status, lines, kept(0))
+        judge.tells(f"{name}, alone", judge.ran(["keep", f"{judge.room}/{name} alone.db", mute.address, *quick]), status, lines)
+        judge.tells(f"{name}, named", judge.ran(["keep", file, mute.address, mute.address, "1", *quick]), status,
+                    lines, line(mute, 1, 1, "caught up, next 2"), kept(0))
+        mute.list_ack = lambda ack: ack
+        judge.tells(f"{name}, and told then", judge.ran(["keep", file, *quick]), 0, line(mute, 1, 0, "caught up, next 2"), kept(0))
+    # One that answers neither that question nor how long it is gives no answer any more.
+    mute.list_ack, file = lambda ack: None, f"{judge.room}/lost.db"
+    judge.tells("lost", judge.ran(["keep", file, others[0].address, mute.address, others[1].address, *quick]), 2, silent(mute, ()), kept(1))
+    judge.tells("lost, named", judge.ran(["keep", file, mute.address, "1", *quick]), 2, silent(mute), kept(0))
+    # One that answers how long it is, and then not all of it.
+    mute.list_ack = lambda ack: ack if b"\x29\x00" in ack else None
+    lost = f"{mute.address} didn't tell its Object_List: lost\n"
+    judge.tells("lost in its midst", judge.ran(["keep", file, *quick]), 2, lost, line(mute, 1, 1, "caught up, next 2"), kept(0))
     # Two of them, and the greatest status counts; a log's own, too.
-    silent.list_ack, second.list_ack = no_number, access_denied
+    mute.list_ack, second.list_ack = no_number, access_denied
     file = f"{judge.room}/two.db"
-    lines = untold(silent, "bad reply") + untold(second, "refused: error 2 27")
-    judge.same("two of them", judge.ran(["keep", file, silent.address, second.address, others[0].address, others[1].address, *quick])[:2], (4, lines + kept(1)))
-    status, printed, _ = judge.ran(["keep", f"{judge.room}/steps.db", second.address, others[0].address, "--count=1", "--steps=1", *quick])
-    judge.is_right("a log's status is greater", status == 8 and printed.startswith(untold(second, "refused: error 2 27")), (status, printed))
+    lines = untold(mute, *UNTOLD[2][3:]) + untold(second, *UNTOLD[0][3:])
+    judge.tells("two of them", judge.ran(["keep", file, mute.address, second.address, others[0].address, others[1].address, *quick]), 4, lines, kept(1))
+    status, _, errors = judge.ran(["keep", f"{judge.room}/steps.db", second.address, others[0].address, "--count=1", "--steps=1", *quick])
+    judge.is_right("a log's status is greater", status == 8 and untold(second, *UNTOLD[0][3:]) in errors, (status, errors))
     # One behind a router is told by its whole place.
     behind = Unlisting([Log(1, 50)], "behind", (5, b"\x07"))
     behind.list_ack = access_denied
     serve([behind])
-    judge.same("behind a router", judge.ran(["keep", f"{judge.room}/behind.db", behind.address, "--dnet=5", "--dadr=07", *quick]),
-               (3, untold(behind, "refused: error 2 27", "/5/07"), f"{behind.address}/5/07: read access denied\n"))
+    judge.tells("behind a router", judge.ran(["keep", f"{judge.room}/behind.db", behind.address, "--dnet=5", "--dadr=07", *quick]), 3,
+                untold(behind, *UNTOLD[0][3:]))
 
 
 def fed(judge, words, text):
@@ -173,9 +189,9 @@ def listed(judge, _runs):
         shown = "".join(line(device, number, number * new, f"caught up, next {number + 1}") for device in (second, first) for number in (1, 2))
         return shown + line(behind, 1, new, "caught up, next 2", "/5/07")
 
-    judge.same("three devices", fed(judge, ["keep", file, "-", "--timeout=1000"], text), (0, lines(1), ""))
-    judge.same("and again", fed(judge, ["keep", file, "-"], text), (0, lines(0), ""))
-    judge.same("the file has the way", judge.ran(["keep", file]), (0, lines(0), ""))
+    judge.tells("three devices", fed(judge, ["keep", file, "-", "--timeout=1000"], text), 0, new_logs(*devices), lines(1))
+    judge.tells("and again", fed(judge, ["keep", file, "-"], text), 0, lines(0))
+    judge.tells("the file has the way", judge.ran(["keep", file]), 0, lines(0))
     judge.judge("three devices", file, devices, True)
     asked = sum(device.asked for device in devices)
     none = f"{judge.room}/none.db"
@@ -223,6 +239,7 @@ def listed_twice(judge, _runs):
 
     for name, repeating.is_whole in (("whole", True), ("place by place", False)):
         file = f"{judge.room}/{name}.db"
-        judge.same(f"listed twice, {name}, beside another", judge.ran(["keep", file, repeating.address, other.address]), (0, lines(site), ""))
+        judge.tells(f"listed twice, {name}, beside another", judge.ran(["keep", file, repeating.address, other.address]), 0, new_logs(*site), lines(site))
         judge.judge(f"listed twice, {name}", file, site, True)
-        judge.same(f"listed twice, {name}, alone", judge.ran(["keep", f"{judge.room}/{name} alone.db", repeating.address]), (0, lines([repeating]), ""))
+        judge.tells(f"listed twice, {name}, alone", judge.ran(["keep", f"{judge.room}/{name} alone.db", repeating.address]), 0,
+                    new_logs(repeating), lines([repeating]))

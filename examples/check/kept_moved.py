@@ -3,15 +3,17 @@ import os
 import shutil
 import signal
 
-from kept_apart import in_file, line
+from kept_apart import in_file, left, line, new_logs
 from kept_devices import Device, Log, answering, chance, lock, serve
-from kept_rounds import why
-from kept_words import HOUR, MORNING, told
+from kept_rounds import alone, silent
+from kept_words import MORNING, ROWS, told
 
 # A run that waits once where nobody answers, as long as a busy machine may need where somebody does.
 SOON = ("--timeout=1000", "--retries=0")
+# The sockets at which devices were, by their addresses.
+PORTS = {}
 TABLES = "SELECT * FROM logs", "SELECT * FROM items ORDER BY id", "SELECT * FROM beginnings"
-STANDS = "SELECT id, address, instance FROM logs ORDER BY id"
+STANDS = "SELECT l.id, d.address, l.instance FROM logs l JOIN devices d ON d.id = l.device ORDER BY l.id"
 
 
 def tables(file):
@@ -35,80 +37,62 @@ def moves(device, taken=True):
     """It answers at another address from now on, and a stranger where it was, or nobody; the socket there, and both addresses."""
     old = device.address
     with lock:
-        port = device.move()
+        port = PORTS[old] = device.move()
         if taken:
             Device([], "stranger", port=port)
     serve([device])
     return port, old, device.address
 
 
-def moved_line(device, old, new):
-    return f"device {device.number} has moved from {old} to {new}\n"
-
-
-def both_line(device, old, new):
-    return f"two devices claim instance {device.number}: {old} and {new}\n"
-
-
-def twice(device):
-    return "".join(line(device, at, 0, f"two devices claim instance {device.number}") for at in (1, 2))
+def gone(device, old, *instances):
+    """The lines of the place where a device was: of what answers there now, if there is anything."""
+    there, not_asked = answering.get(PORTS.get(old)), "".join(f"{old} {instance} not asked\n" for instance in instances)
+    if there is None:
+        return f"{not_asked}{old}: no answer\n"
+    if there.number is None:
+        return f"{old}: the device doesn't tell that it is {device.number}\n{not_asked}"
+    return f"{old}: another device answers: {there.number}, not {device.number}\n{not_asked}"
 
 
 def moved(judge, _runs):
-    """Nobody answers where it was, or another instance, or one that doesn't tell: its logs stand at the new address."""
-    for name in ("nobody", "another", "one that refuses"):
+    """Nobody answers where it was, or another instance, or one that doesn't tell: its logs stand there as they were, and are kept
+    at its new address, where it is named, as those of a device that wasn't kept before."""
+    for name, status in (("nobody", 2), ("another", 3), ("one that refuses", 3)):
         device, file = known(judge, name, 3)
-        ids = in_file(file, STANDS)
         port, old, new = moves(device, name != "nobody")
         if name == "one that refuses":
             answering[port].number = None
         device.logs[1].log(1)
         before = tables(file)
-        ends = {"nobody": ("lost, next 2", "not asked, next 3"), "another": (f"another device answers: {Device.number}, not {device.number}",) * 2,
-                "one that refuses": (f"the device doesn't say that it is {device.number}",) * 2}[name]
-        out = "".join(f"{old} {at} 0 records 0 gaps {end}\n" for at, end in enumerate(ends, 1))
-        lost = f"{old} 1: no reply from {old}\n" if name == "nobody" else ""
-        judge.same(f"{name} where it was", judge.ran(["keep", file, *SOON]), (2 if name == "nobody" else 3, out, lost))
+        judge.tells(f"{name} where it was", judge.ran(["keep", file, *SOON]), status, gone(device, old, 1, 2))
         judge.same(f"{name} where it was: nothing changes", tables(file), before)
-        # A log that it has too is named, of which there was no row.
         device.said.clear()
-        judge.same(f"moved, {name}", judge.ran(["keep", file, new, "1", "3", *SOON]),
-                   (0, line(device, 1, 1, "caught up, next 3") + line(device, 3, 3, "caught up, next 4"), moved_line(device, old, new)))
-        judge.same(f"moved, {name}: it is asked once", dict(device.said), {75: 1, 203: 1, 155: 1})
-        judge.same(f"moved, {name}: its logs", in_file(file, STANDS), [(at, new, instance) for at, _, instance in ids] + [(3, new, 3)])
+        ran = judge.ran(["keep", file, new, "1", "3", *SOON])
+        judge.tells(f"moved, {name}", ran, status, line(device, 1, 2, "caught up, next 3"), line(device, 3, 3, "caught up, next 4"), gone(device, old, 1, 2))
+        judge.lacks("moved", f"moved, {name}: it is told", f"{old} to {new}" in ran[2])
+        judge.lacks("moved", f"moved, {name}: its logs go on there", in_file(file, STANDS)[:2] == [(1, new, 1), (2, new, 2)])
+        judge.same(f"moved, {name}: it is asked once", dict(device.said), {75: 1, 203: 1, 155: 1, 56: 1})
         now = tables(file)
-        judge.is_right(f"moved, {name}: what came before stays", set(before[1]) <= set(now[1]) and set(before[2]) <= set(now[2]), (before, now))
-        device.logs[2].log(2)
-        judge.same(f"moved, {name}, again", judge.ran(["keep", file]),
-                   (0, line(device, 1, 0, "caught up, next 3") + line(device, 2, 2, "caught up, next 5") + line(device, 3, 0, "caught up, next 4"), ""))
-        judge.judge(f"moved, {name}", file, [device], True)
+        judge.is_right(f"moved, {name}: what came before stays", all(set(rows) <= set(more) for rows, more in zip(before, now)), (before, now))
+        judge.same(f"moved, {name}: its logs", in_file(file, STANDS), [(1, old, 1), (2, old, 2), (3, new, 1), (4, new, 3)])
+        # Where it was it isn't asked any more.
+        judge.same(f"moved, {name}: stopped where it was", judge.ran(["keep", file, "--stop", old])[::2], (0, ""))
+        judge.tells(f"moved, {name}, again", judge.ran(["keep", file, new]), 0, f"{new} 2 is new\n", line(device, 1, 0, "caught up, next 3"),
+                    line(device, 3, 0, "caught up, next 4"), line(device, 2, 2, "caught up, next 3"))
+        judge.judge(f"moved, {name}", file, [device])
     # All logs of its list, and a log that it doesn't have.
     device, file = known(judge, "list", 3)
     _port, old, new = moves(device)
-    out = "".join(line(device, at, 0 if at < 3 else 3, f"caught up, next {at + 1}") for at in (1, 2, 3))
-    judge.same("moved, and all its logs", judge.ran(["keep", file, new]), (0, out, moved_line(device, old, new)))
-    judge.judge("moved, and all its logs", file, [device], True)
-    _port, old, new = moves(device)
-    judge.same("moved, and a log that it doesn't have", judge.ran(["keep", file, new, "99"]),
-               (3, line(device, 99, 0, "refused: error 2 32, next 1"), moved_line(device, old, new) + why(device, 99, "unknown property")))
-    judge.judge("moved, and a log that it doesn't have", file, [device], True)
-    # Where a log of another device stands, it isn't looked for elsewhere.
-    other, _file = known(judge, "placed")
-    judge.ran(["keep", file, other.address, "1"])
-    port, old, _new = moves(device)
-    gone, _, _ = moves(other)
-    before = tables(file)
+    out = [line(device, at, at, f"caught up, next {at + 1}") for at in (1, 2, 3)]
+    judge.tells("moved, and all its logs", judge.ran(["keep", file, new]), 3, new_logs(device), *out, gone(device, old, 1, 2))
+    judge.judge("moved, and all its logs", file, [device])
+    # Back where it was all of it goes on there.
     with lock:
-        device.move(gone)
-    judge.same("moved to where another's logs stand", judge.ran(["keep", file, device.address, "1"]),
-               (3, line(device, 1, 0, f"another device answers: {device.number}, not {other.number}"), ""))
-    judge.same("moved to where another's logs stand: nothing changes", tables(file), before)
-    # The other one is named where it is now, and then the place is free.
-    where = device.address
-    judge.same("the other has moved", judge.ran(["keep", file, other.address, "1"]),
-               (0, line(other, 1, 0, "caught up, next 2"), moved_line(other, where, other.address)))
-    judge.same("and then it", judge.ran(["keep", file, where, "1"]),
-               (0, line(device, 1, 0, "caught up, next 2"), moved_line(device, old, where)))
+        device.move(PORTS[old])
+    for log in device.logs.values():
+        log.log(1)
+    judge.tells("moved back", judge.ran(["keep", file, *SOON]), 2, *(line(device, at, 1, f"caught up, next {at + 2}") for at in (1, 2)), gone(device, new, 1, 2, 3))
+    judge.judge("moved back", file, [device])
 
 
 def moved_ways(judge, _runs):
@@ -116,74 +100,79 @@ def moved_ways(judge, _runs):
     device, file = known(judge, "behind", way=(5, b"\x07"))
     old = f"{device.address}/5/07"
     device.way = b"\x00\x06\x02\x08\x09"
-    new = f"{device.address}/6/0809"
-    out = line(device, 1, 0, "caught up, next 2", "/6/0809")
-    judge.same("behind another router", judge.ran(["keep", file, device.address, "1", "--dnet=6", "--dadr=0809", *SOON]),
-               (0, out, moved_line(device, old, new)))
-    judge.same("both its logs", in_file(file, "SELECT DISTINCT address, dnet, dadr FROM logs"), [(device.address, 6, "0809")])
+    device.places.append(device.place())
+    out = line(device, 1, 1, "caught up, next 2", "/6/0809")
+    judge.tells("behind another router", judge.ran(["keep", file, device.address, "1", "--dnet=6", "--dadr=0809", *SOON]), 2, out, gone(device, old, 1, 2))
+    judge.same("both places", in_file(file, "SELECT address, dnet, dadr, instance FROM devices ORDER BY id"),
+               [(device.address, 5, "07", device.number), (device.address, 6, "0809", device.number)])
     device.way = b""
-    judge.same("and no more", judge.ran(["keep", file, device.address, "1", *SOON]),
-               (0, line(device, 1, 0, "caught up, next 2"), moved_line(device, new, device.address)))
-    judge.same("both its logs again", in_file(file, "SELECT DISTINCT address, dnet, dadr FROM logs"), [(device.address, 0, "")])
+    device.places.append(device.place())
+    # Two of the three give no answer, and may be slow: there are fewer requests at a time at their host.
+    slow = "".join(f"{device.host}: slow, {at} at a time\n" for at in ("2 requests", "1 request"))
+    judge.tells("and no more", judge.ran(["keep", file, device.address, "1", *SOON]), 2, slow, line(device, 1, 1, "caught up, next 2"),
+                gone(device, old, 1, 2), gone(device, f"{device.address}/6/0809", 1))
+    judge.same("all places", in_file(file, "SELECT DISTINCT address, dnet, dadr FROM devices ORDER BY id"),
+               [(device.address, 5, "07"), (device.address, 6, "0809"), (device.address, 0, "")])
+    judge.judge("all places", file, [device])
 
 
 def two_of_one(judge, _runs):
-    """Two devices tell one number: nothing changes."""
+    """Two devices tell one number: each is kept at its own address, and what stands of the other doesn't change."""
     device, file = known(judge, "first")
     other = Device([Log(number, 50) for number in (1, 2)], "second")
     other.number = device.number
     serve([other])
     before = tables(file)
-    for words in (["1", "2"], []):
-        device.said.clear()
-        other.said.clear()
-        judge.same(f"two have one number {words}", judge.ran(["keep", file, other.address, *words]),
-                   (3, twice(other), both_line(device, device.address, other.address)))
-        judge.same("both are asked once", (dict(device.said), dict(other.said)), ({75: 1, 203: 1, 155: 1},) * 2)
-        judge.same("nothing changes", tables(file), before)
+    device.said.clear()
+    other.said.clear()
+    nothing = [line(each, at, 0, f"caught up, next {each.logs[at].total + 1}") for each in (device, other) for at in (1, 2)]
+    ran = judge.ran(["keep", file, other.address, "1", "2"])
+    judge.tells("two have one number", ran, 0, *nothing)
+    judge.lacks("two", "two have one number: it is told", ran[0] == 3 or str(device.number) in ran[1] + ran[2])
+    judge.same("both are asked once", (dict(device.said), dict(other.said)), ({75: 1, 203: 1, 155: 1}, {75: 1, 203: 1, 155: 1, 56: 1}))
+    judge.is_right("what stood there stays", all(set(rows) <= set(more) for rows, more in zip(before[1:], tables(file)[1:])), tables(file))
     device.logs[1].log(1)
-    judge.same("the first one's logs go on", judge.ran(["keep", file]),
-               (0, line(device, 1, 1, "caught up, next 3") + line(device, 2, 0, "caught up, next 3"), ""))
-    # The first one dies: then it is one that has moved.
+    other.logs[2].log(2)
+    judge.tells("each goes on", judge.ran(["keep", file]), 0, line(device, 1, 1, "caught up, next 3"), line(device, 2, 0, "caught up, next 3"),
+                line(other, 1, 0, "caught up, next 1"), line(other, 2, 2, "caught up, next 3"))
+    # The first one dies.
     device.answers = 0
-    anew = f"{other.address} 1 began anew\n"
-    judge.same("the first one is dead", judge.ran(["keep", file, other.address, "1", *SOON]),
-               (0, line(other, 1, 0, "caught up, next 1"), moved_line(device, device.address, other.address) + anew))
+    judge.tells("the first one is dead", judge.ran(["keep", file, *SOON]), 2, silent(device, (1, 2)),
+                line(other, 1, 0, "caught up, next 1"), line(other, 2, 0, "caught up, next 3"))
 
 
 def told_later(judge, _runs):
-    """A device that refused its instance, and tells it later, is on record with it behind the rows of its run."""
+    """A device that refused its instance, and tells it later, is on record with it from then on, and is no other one."""
     device = Device([Log(1, 50), Log(2, 50)], "later")
     number, device.number = device.number, None
     told(device, MORNING, 1)
     serve([device])
     file = f"{judge.room}/a.db"
-    rows = "SELECT device, restart, revision FROM logs ORDER BY id"
-    words = ["keep", file, device.address, "1", "2"]
+    words = ["keep", file, device.address, "1", "2", *SOON]
     both = [line(device, at, 0, "caught up, next 1") for at in (1, 2)]
-    judge.same("it refuses", (judge.ran(words), in_file(file, rows)), ((0, "".join(both), ""), [(None,) * 3] * 2))
+    judge.same("it refuses", (judge.ran(words), in_file(file, ROWS)), ((0, "".join(both), alone(device)), [(None, *device.word())] * 2))
     device.number = number
     device.logs[1].log(1)
     judge.same("and tells it", judge.ran(["keep", file]), (0, line(device, 1, 1, "caught up, next 2") + both[1], ""))
-    judge.same("and tells it: on record", in_file(file, rows), [(number, *device.word())] * 2)
+    judge.same("and tells it: on record", in_file(file, ROWS), [(number, *device.word())] * 2)
     judge.judge("and tells it", file, [device], True)
     device.number = None
-    judge.same("and refuses again", judge.ran(["keep", file])[:2], (3, "".join(line(device, at, 0, f"the device doesn't say that it is {number}") for at in (1, 2))))
-    judge.same("and refuses again: on record", in_file(file, rows), [(number, *device.word())] * 2)
-    # It tells the number of another.
+    judge.tells("and refuses again", judge.ran(["keep", file, *SOON]), 3, f"{device.address}: the device doesn't tell that it is {number}\n", left(device, 1, 2))
+    judge.same("and refuses again: on record", in_file(file, ROWS), [(number, *device.word())] * 2)
+    # Another one that refused tells the same number.
     other = Device([Log(1, 50), Log(2, 50)], "untold")
-    other.number = None
+    other.number, device.number = None, number
     serve([other])
-    judge.ran(["keep", file, other.address, "1", "2"])
-    device.number = other.number = number
+    judge.ran(["keep", file, other.address, "1", "2", *SOON])
+    other.number = number
     other.logs[1].log(3)
-    before = tables(file)
-    judge.same("the number of another", judge.ran(["keep", file]),
-               (3, line(device, 1, 0, "caught up, next 2") + line(device, 2, 0, "caught up, next 1") + twice(other), ""))
-    judge.same("the number of another: nothing changes", tables(file), before)
-    # Ended before each call on files: on record behind its rows, or not.
+    ran = judge.ran(["keep", file])
+    judge.tells("the number of another", ran, 0, line(device, 1, 0, "caught up, next 2"), line(device, 2, 0, "caught up, next 1"),
+                line(other, 1, 3, "caught up, next 4"), line(other, 2, 0, "caught up, next 1"))
+    judge.lacks("two", "the number of another: it is told", ran[0] == 3 or str(number) in ran[1] + ran[2])
+    # Ended before each call on files: on record with its rows, or not.
     other.number, file, seen = None, f"{judge.room}/b.db", set()
-    judge.ran(["keep", file, other.address, "1"])
+    judge.ran(["keep", file, other.address, "1", *SOON])
     shutil.copyfile(file, f"{file}.first")
     other.number = Device.number
     for call in range(1, 100):
@@ -193,20 +182,21 @@ def told_later(judge, _runs):
         other.logs[1].log(2)
         status = judge.ended_at(call, ["keep", file])[0]
         judge.judge(f"told later, ended at call {call}", file, [other])
-        row, = in_file(f"{file}.copy", rows)
+        row, = in_file(f"{file}.copy", "SELECT instance FROM devices")
         seen.add(row)
         newest = in_file(f"{file}.copy", "SELECT max(id & 4294967295) FROM items")
-        judge.is_right(f"told later, ended at call {call}: behind its rows", row == (None,) * 3 or newest == [(other.logs[1].total,)], (row, newest))
+        judge.is_right(f"told later, ended at call {call}: not behind its rows", row == (other.number,) or newest != [(other.logs[1].total,)], (row, newest))
         if status != -signal.SIGKILL:
             break
     judge.is_right("calls of one that tells it later", status == 0 and len(seen) == 2, (status, call, seen))
 
 
 def moved_at_each_call(judge, _runs):
-    """Ended before each call on files, or a call that fails: all logs stand where they stood, or all at the new address."""
+    """Ended before each call on files, or a call that fails: where it was all stays, and where it is a run goes on."""
     for fails in (False, True):
         device, file = known(judge, f"ended{fails}")
         shutil.copyfile(file, f"{file}.first")
+        before = tables(file)
         _port, old, new = moves(device)
         seen = set()
         for call in range(1, 100):
@@ -217,17 +207,18 @@ def moved_at_each_call(judge, _runs):
             ended = {**judge.ending_at(call), **({"FAILS": "yes"} if fails else {})}
             status, _out, errors = judge.ran(["keep", file, new, "1"], env=ended)
             judge.judge(f"moved, call {call}", file, [device])
+            now = tables(f"{file}.copy")
             at = {address for _, address, _ in in_file(f"{file}.copy", STANDS)}
             seen |= at
-            judge.is_right(f"moved, call {call}: one place", len(at) == 1, at)
-            judge.is_right(f"moved, call {call}: it is told", at == {new} or "has moved" not in errors, errors)
-            if status == 0:
+            judge.is_right(f"moved, call {call}: all of before stays", all(set(rows) <= set(more) for rows, more in zip(before, now)), now)
+            if status == 3:
                 break
             judge.is_right(f"moved, call {call}: its end", status == (6 if fails else -signal.SIGKILL), (status, errors))
             if call % 4 == 0:
-                status, _out, errors = judge.ran(["keep", file, new, "1"])
-                judge.same(f"moved, behind call {call}", (status, errors), (0, "" if at == {new} else moved_line(device, old, new)))
-                judge.same(f"moved, behind call {call}: all", in_file(file, "SELECT DISTINCT address FROM logs"), [(new,)])
+                status, out, errors = judge.ran(["keep", file, new, "1"])
+                judge.is_right(f"moved, behind call {call}", status == 3 and out.endswith(f" caught up, next {device.logs[1].total + 1}\n")
+                               and errors == gone(device, old, 1, 2), (status, out, errors))
+                judge.judge(f"moved, behind call {call}", file, [device])
         judge.is_right("calls of a device that moves", seen == {old, new} and call > 5, (seen, call))
 
 
@@ -244,7 +235,7 @@ def next_end(device, judge, file):
 def moved_at_random(judge, _runs, rounds=40):
     """Devices move at random, to free places and to those of others; runs are ended at any of their calls."""
     devices = [Device([Log(number, 60) for number in (1, 2, 3)], f"mover {at}") for at in range(3)]
-    free, file, told_moves = [], f"{judge.room}/site.db", 0
+    free, file = [], f"{judge.room}/site.db"
     for device in devices:
         told(device, MORNING, 1)
     serve(devices)
@@ -262,16 +253,19 @@ def moved_at_random(judge, _runs, rounds=40):
             else:
                 free.append(moves(device, chance.random() < 0.5)[0])
         status, _out, errors = next_end(device, judge, file)
-        told_moves += errors.count(" has moved from ")
-        judge.is_right(f"move {at}", status in (-signal.SIGKILL, 0, 2, 3) and "two devices" not in errors, (status, errors))
+        judge.is_right(f"move {at}", status in (-signal.SIGKILL, 0, 2, 3), (status, errors))
         judge.judge(f"move {at}", file, devices)
-    # Each to a place of its own: where another's logs stand it isn't looked for.
+    places = in_file(file, "SELECT count(*) FROM devices WHERE instance IS NOT NULL")[0][0]
+    judge.is_right("devices have moved", places > len(devices), places)
+    # Each to a place of its own at last; all others are stopped.
     for device in devices:
         moves(device)
-        status, _out, errors = judge.ran(["keep", file, device.address])
-        told_moves += errors.count(" has moved from ")
-        judge.same("where it is at last", status, 0)
-    judge.same("all of them", judge.ran(["keep", file])[::2], (0, ""))
-    judge.judge("all of them", file, devices, True)
-    judge.is_right("devices have moved, also before", told_moves > len(devices), told_moves)
-    return f"{rounds} runs, {told_moves} times a device had moved"
+        judge.is_right("where it is at last", judge.ran(["keep", file, device.address])[0] in (2, 3))
+    here = {device.address for device in devices}
+    for address, in in_file(file, "SELECT address FROM devices"):
+        if address not in here:
+            judge.same("where none is", judge.ran(["keep", file, "--stop", address])[0], 0)
+    judge.tells("all of them", judge.ran(["keep", file]), 0,
+                *(line(device, number, 0, f"caught up, next {log.total + 1}") for device in devices for number, log in device.logs.items()))
+    judge.judge("all of them", file, devices)
+    return f"{rounds} runs, devices at {places} places"

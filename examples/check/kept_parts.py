@@ -9,10 +9,18 @@ from kept_devices import Device, Log, serve
 from kept_judge import in_use, no_use
 from kept_rounds import said
 
-# Of a part what the next one has: its logs, its beginnings, and the newest item of each log.
+# Of a part what the next one has: when the archive was made, its devices, its logs, of each log its last beginning, and the up
+# to three newest rows of the epoch that began there.
+MADE = "SELECT * FROM archive"
+DEVICES = "SELECT * FROM devices ORDER BY id"
 LOGS = "SELECT * FROM logs ORDER BY id"
 BEGINNINGS = "SELECT * FROM beginnings ORDER BY id"
-NEWEST = "SELECT * FROM items WHERE id IN (SELECT max(id) FROM items GROUP BY id >> 47) ORDER BY id"
+ITEMS = "SELECT * FROM items ORDER BY id"
+LAST = "SELECT * FROM beginnings WHERE id IN (SELECT max(id) FROM beginnings GROUP BY id >> 15) ORDER BY id"
+NEWEST = ("SELECT * FROM items i WHERE id >> 32 IN (SELECT max(id) FROM beginnings GROUP BY id >> 15) "
+          "AND (SELECT count(*) FROM items n WHERE n.id >> 32 = i.id >> 32 AND n.id > i.id) < 3 ORDER BY id")
+# Of what is read of a part, where it is the next one's beginning.
+FOLLOWED = MADE, DEVICES, LOGS, LAST, NEWEST
 FULL = ("--part=1",)
 
 
@@ -53,12 +61,13 @@ def is_begun(file):
 
 
 def together(folder, merged):
-    """One file with the rows of all parts, as ARCHIVE tells to make it."""
+    """One file with the rows of all parts, as ARCHIVE tells to make it: the newest first, since it has each beginning as it is now."""
     parts = [name for name in names(folder) if is_begun(f"{folder}/{name}")]
     copied(f"{folder}/{(parts or names(folder))[-1]}", merged)
     with contextlib.closing(sqlite3.connect(merged)) as base:
-        for name in parts[:-1]:
+        for name in parts[-2::-1]:
             base.execute("ATTACH ? AS part", (copied(f"{folder}/{name}", f"{merged}.part"),))
+            base.execute("INSERT OR IGNORE INTO beginnings SELECT * FROM part.beginnings")
             base.execute("INSERT OR IGNORE INTO items SELECT * FROM part.items")
             base.commit()
             base.execute("DETACH part")
@@ -90,8 +99,14 @@ def whole(judge, name, folder, devices):
     judge.judge(name, together(folder, f"{judge.room}/merged.db"), devices, True)
 
 
+def unanswered(rows):
+    """Rows of devices without when they answered."""
+    return [row[:9] + row[10:] for row in rows]
+
+
 def parts(judge, _runs):
-    """The newest part is kept; where it is full the next one is begun, with its logs, its beginnings and its newest items."""
+    """The newest part is kept; where it is full the next one is begun, with its devices, its logs, and of each log its last
+    beginning and its newest items."""
     device, folder = begun(judge, "plant")
     first, second = f"{folder}/000001.db", f"{folder}/000002.db"
     judge.same("of no folder no part is made", judge.ran(["keep", f"{judge.room}/none/", device.address])[0], 6)
@@ -109,10 +124,13 @@ def parts(judge, _runs):
     device.logs[1].log(16000)
     judge.same("it is full behind this run", (judge.ran(["keep", folder, "--count=100", *FULL])[0], names(folder)), (0, ["000001.db"]))
     whole(judge, "a full part", folder, [device])
-    before, old = octets(first), read(first, LOGS, BEGINNINGS, NEWEST)
+    before, old = octets(first), read(first, *FOLLOWED)
     status, out, errors = judge.ran(["keep", folder, *FULL])
     judge.same("the next one is begun", (status, errors, names(folder)), (0, "", ["000001.db", "000002.db"]))
-    judge.same("with what it follows on", read(second, LOGS, BEGINNINGS, "SELECT * FROM items ORDER BY id"), old)
+    # Its device has answered since.
+    followed = read(second, MADE, DEVICES, LOGS, BEGINNINGS, ITEMS)
+    judge.same("with what it follows on", [followed[0], unanswered(followed[1]), *followed[2:]], [old[0], unanswered(old[1]), *old[2:]])
+    judge.same("it has up to three rows of each log", [len(rows) for rows in followed[3:]], [3, 6])
     judge.same("its lines are those of any run", out.count(" 0 records 0 gaps caught up"), 3)
     device.logs[1].log(7)
     device.logs[3].log(2)

@@ -1,4 +1,5 @@
 """Numbers that come round, behind 4294967295, for kept.py; and a device with one log, for all cases."""
+import datetime
 import os
 import signal
 import sqlite3
@@ -20,13 +21,42 @@ def said(device, records, gaps, end, way=""):
 
 
 def why(device, instance, text, way=""):
-    """The second line of a log whose walk failed, on standard error."""
+    """A line of a log, on standard error: what is told while it is polled, or why that failed."""
     return f"{device.address}{way} {instance}: {text}\n"
 
 
-def unheard(device, instance=1, way=""):
-    """That of one whose device gave no answer, when nothing else came either."""
-    return why(device, instance, f"no reply from {device.address}", way)
+def anew(device, instance=1, way=""):
+    """That it began anew."""
+    return why(device, instance, "began anew", way)
+
+
+def dropped(device, first, last, instance=1, way=""):
+    """That it dropped these records, or began anew: of a device that doesn't tell when it was started nobody knows."""
+    return why(device, instance, f"dropped {first} to {last}, or began anew", way)
+
+
+def alone(device, way=""):
+    """The line of a device that tells neither its instance nor its name."""
+    return f"{device.address}{way}: the device is known by its address alone\n"
+
+
+def known_now(device):
+    """That of one that was known by its name, and tells its instance."""
+    return f"{device.address}: the device is known by its instance now\n"
+
+
+def silent(device, instances=(1,), way=""):
+    """The lines of a device that gave no answer, and had these logs on record."""
+    left = "".join(f"{device.address}{way} {instance} not asked\n" for instance in instances)
+    return f"{left}{device.address}{way}: no answer\n"
+
+
+def whys_of(file):
+    """Of each epoch where it begins, and why."""
+    base = sqlite3.connect(file)
+    rows = base.execute("SELECT epoch, beginning, why FROM epochs ORDER BY 1").fetchall()
+    base.close()
+    return rows
 
 
 def epochs_of(file):
@@ -52,9 +82,10 @@ def rounds(judge, _runs):
     judge.same("nothing new behind it", judge.ran(["keep", file]), (0, said(device, 0, 0, "caught up, next 3"), ""))
     log.begin(0)
     log.log(1)
-    judge.same("it begins anew", judge.ran(["keep", file]), (0, said(device, 1, 0, "caught up, next 2"), f"{device.address} 1 began anew\n"))
+    judge.same("it begins anew", judge.ran(["keep", file]), (0, said(device, 1, 0, "caught up, next 2"), anew(device)))
     judge.judge("it begins anew", file, [device], True)
     judge.same("a third epoch", epochs_of(file)[2], (2, 1, 1, 1))
+    judge.same("why they began", whys_of(file), [(0, LAST - 4, None), (1, 1, "numbers came round"), (2, 1, "began anew")])
     # A run that ends at the last number, and one that goes on behind it.
     file = f"{judge.room}/b.db"
     log.begin(LAST - 5)
@@ -67,19 +98,23 @@ def rounds(judge, _runs):
     judge.judge("behind the last number", file, [device], True)
     judge.same("it began at 1", epochs_of(file), [(0, LAST - 4, LAST, 5), (1, 1, 6, 6)])
     log.room_for = 4
-    gaps = "SELECT epoch, first, last FROM gaps ORDER BY epoch"
-    for name, more, wanted in (("a gap over the round", 10, [(0, LAST - 1, LAST), (1, 1, 4)]), ("a gap up to the round", 6, [(0, LAST - 1, LAST)]),
-                               ("a gap behind the round", 17, [(0, LAST - 1, LAST), (1, 1, 11)])):
-        file = f"{judge.room}/{more}.db"
-        log.begin(LAST - 5)
-        log.log(3)
-        judge.ran(["keep", file, device.address, "1"])
-        log.log(more)
-        judge.same(name, judge.ran(["keep", file]), (0, said(device, 4, 1, f"caught up, next {log.total + 1}"), ""))
-        judge.judge(name, file, [device], True)
-        base = sqlite3.connect(file)
-        judge.same(f"{name}, its rows", base.execute(gaps).fetchall(), wanted)
-        base.close()
+    gaps = "SELECT epoch, first, last, doubtful FROM gaps ORDER BY epoch"
+    # Only of a device that tells when it was started it is sure that the log didn't begin anew meanwhile.
+    for device.restart in (None, datetime.datetime(2024, 1, 1)):
+        for name, more, last, wanted in (("a gap over the round", 10, 4, [(0, LAST - 1, LAST), (1, 1, 4)]), ("a gap up to the round", 6, LAST, [(0, LAST - 1, LAST)]),
+                                         ("a gap behind the round", 17, 11, [(0, LAST - 1, LAST), (1, 1, 11)])):
+            name, file = f"{name}, {device.restart}", f"{judge.room}/{more} {device.restart}.db"
+            log.begin(LAST - 5)
+            log.log(3)
+            judge.ran(["keep", file, device.address, "1"])
+            log.log(more)
+            told = "" if device.restart else dropped(device, LAST - 1, last)
+            judge.same(name, judge.ran(["keep", file]), (0, said(device, 4, 1, f"caught up, next {log.total + 1}"), told))
+            judge.judge(name, file, [device], True)
+            base = sqlite3.connect(file)
+            judge.same(f"{name}, its rows", base.execute(gaps).fetchall(), [(*row, not device.restart) for row in wanted])
+            base.close()
+            judge.same(f"{name}, why epochs began", whys_of(file), [(0, LAST - 4, None), (1, 1, "numbers came round")])
     # Ended before each call on files, a run over the round has kept all of a batch or nothing.
     log.room_for = 50
     for call in range(1, 100):

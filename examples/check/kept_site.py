@@ -21,11 +21,12 @@ ROUND = 0.15
 class Manner:
     """How a device answers in a run: an answer goes out so long after its question, at least and at most, in waits of
     the run; each so many times, of which the first is in time and the others are later; behind the answer before it, or
-    not. `loses` is the share of questions without an answer; `logs` how often one of its logs goes on at a question."""
+    not. `loses` is the share of questions without an answer; `logs` how often one of its logs goes on at a question; `fits` how
+    many records its replies have."""
 
-    def __init__(self, share, after=(0, 0), times=1, before=False, loses=0.0, logs=0.0):
+    def __init__(self, share, after=(0, 0), times=1, before=False, loses=0.0, logs=0.0, fits=(1, 7, 30, 45)):
         self.share, self.after, self.times, self.before = share, after, times, before
-        self.loses, self.logs = loses, logs
+        self.loses, self.logs, self.fits = loses, logs, fits
 
 
 WELL = Manner(0)
@@ -38,7 +39,9 @@ MANNERS = {
     "again": Manner(0.06, after=(0.0, 0.5), times=3),
     "before": Manner(0.06, before=True),
     "lossy": Manner(0.06, loses=0.3),
-    "busy": Manner(0.06, logs=0.2),
+    # A reply of one record is asked for once more behind what follows it. A full log has that overwritten by then, and is taken
+    # for one that began anew.
+    "busy": Manner(0.06, logs=0.2, fits=(7, 30, 45)),
     "other": Manner(0.06),
 }
 
@@ -82,7 +85,7 @@ class Site:
         with lock:
             self.manners = {device: ("well", WELL) for device in self.devices}
             for device in self.devices:
-                device.loses = 0.0
+                device.loses, device.fits = 0.0, WELL.fits
 
     def manner(self, device):
         return self.manners[device][0]
@@ -105,7 +108,7 @@ class Site:
                     if chance.random() < 0.3:
                         changed(device, log)
                 self.manners[device] = self.next_manner(device, device.number in known)
-                device.loses = self.manners[device][1].loses
+                device.loses, device.fits = self.manners[device][1].loses, self.manners[device][1].fits
 
     def next_manner(self, device, is_known):
         """The manner of a device in the next run: one that was dead, or another one, may still be."""
@@ -150,16 +153,19 @@ class Site:
                 self.victim = None
             device = next((device for device in self.at[port] if request[6 : 6 + len(device.way)] == device.way), None)
             at = 8 + len(device.way) + bool(device.way) if device else 0
-            if not device or len(request) <= at or not request[5] & 4:
+            # A question that expects a reply, or a Who-Is.
+            if not device or len(request) < at or not (request[5] & 4 or request[at - 2 : at] == b"\x10\x08"):
                 return
             manner = self.manners[device][1]
             if manner.logs and device.chance.random() < manner.logs:
                 log = device.chance.choice(list(device.logs.values()))
                 # One that began anew keeps all until a run has seen it, as in kept_changes.py.
                 log.log(0 if log.fresh else device.chance.randrange(1, 4))
-            self.newest[device] = asker, request[at]
+            # A Who-Is has no invoke ID.
+            invoke = request[at] if request[5] & 4 else None
+            self.newest[device] = asker, invoke
             it = self.who(device)
-        it.answer(Answering(self, port, device, request[at]), request, asker)
+        it.answer(Answering(self, port, device, invoke), request, asker)
 
     def answers(self, way, octets, asker):
         """A device answers in its manner."""
@@ -197,18 +203,19 @@ class Site:
 
 def made(seed, at, host, way=None, port=None):
     """A device of one to four logs. Some tell both when they were started and their revision, some one of them, some
-    neither, and some don't tell their number, and so are asked for none of it."""
+    neither; and some don't tell their number, of which some announce it, some tell their name, and some neither."""
     draws = random.Random(f"{seed} {at}")
     # No two logs have records of one moment.
     day = datetime.datetime(2024, 1, 1) + datetime.timedelta(days=at)
     logs = [Log(number, draws.choice((30, 60, 150)), day + datetime.timedelta(hours=6 * number), draws)
             for number in range(1, 1 + draws.choice((1, 2, 2, 3, 4)))]
     device = Device(logs, f"site {at}", way, port, host.format(at + 1), draws)
+    device.restart = datetime.datetime(2024, 1, 1) if at % 4 < 2 else None
+    device.revision = at if at % 3 < 2 else None
     if at % 7 == 6:
-        device.number = None
-    else:
-        device.restart = datetime.datetime(2024, 1, 1) if at % 4 < 2 else None
-        device.revision = at if at % 3 < 2 else None
+        number, device.number = device.number, None
+        device.i_am = number if at % 3 == 0 else None
+        device.title = b"\x00" + f"site {at}".encode() if at % 3 == 1 else None
     for log in logs:
         # The numbers of some come round in these runs.
         if draws.random() < ROUND:

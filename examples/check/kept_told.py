@@ -2,14 +2,14 @@
 import socket
 
 from kept_devices import Device, Log, serve
-from kept_rounds import said, unheard, why
+from kept_rounds import said, silent, why
 
 SOON = ("--timeout=60", "--retries=1")
 
 # What comes in place of each answer: Reject-Message-To-Network for reason 1 and network 5, an I-Am, and nothing.
 ROUTER = bytes.fromhex("018003010005")
 I_AM = bytes.fromhex("01001000c4020000072205c491032103")
-STRAYS = (("a router", ROUTER, "router: no route to network 5"), ("an I-Am", I_AM, "an I-Am"))
+STRAYS = (("a router", ROUTER), ("an I-Am", I_AM))
 # Whole datagrams: a BVLC-Result, an Error that is cut, and one that is whole.
 RESULT = bytes.fromhex("810000060030")
 CUT = bytes.fromhex("810a000801005001")
@@ -40,20 +40,21 @@ class Twisted(Device):
 
 
 def told_beside(judge, _runs):
-    """Who sent what in place of an answer, what a refusal means, and of a bad reply who tells what is wrong with it."""
+    """What comes in place of an answer is none, what a refusal means, and of a bad reply who tells what is wrong with it."""
     device = Twisted()
     device.logs[1].log(3)
     file = f"{judge.room}/a.db"
-    for name, device.stray, content in STRAYS:
-        text = f"no reply after 2 attempts; 2 unrelated datagrams arrived, the last from {device.address}: {content}"
-        judge.same(name, judge.ran(["keep", file, device.address, "1", *SOON]),
-                   (2, said(device, 0, 0, "lost, next 1"), why(device, 1, text)))
+    for name, device.stray in STRAYS:
+        device.asked = 0
+        ran = judge.ran(["keep", file, device.address, "1", *SOON])
+        judge.tells(name, ran, 2, silent(device))
+        if device.stray is ROUTER:
+            judge.lacks("router", f"{name}: it is told", "network 5" in ran[2])
     device.stray = None
     # The last octet of the object is another: an ACK of log 0.
     device.twist = lambda ack: ack[:7] + bytes([ack[7] ^ 1]) + ack[8:]
-    judge.same("an ACK of another log", judge.ran(["keep", file, device.address, "1"]),
-               (4, said(device, 0, 0, "bad reply, next 1"),
-                why(device, 1, "the reply isn't as asked for: bac log tells what is wrong with it")))
+    judge.tells("an ACK of another log", judge.ran(["keep", file, device.address, "1"]), 4, said(device, 0, 0, "bad reply, next 1"),
+                why(device, 1, "the reply isn't as asked for: bac log tells what is wrong with it"))
     status, out, errors = judge.ran(["log", device.address, "1", "1"])
     judge.is_right("log tells it", (status, out) == (4, "bad reply, next 1\n") and "object 20 0" in errors, (status, out, errors))
     # A refusal is told in the words of `log`.
@@ -62,45 +63,43 @@ def told_beside(judge, _runs):
         device.twist = reply
         status, out, errors = judge.ran(["log", device.address, "1", "1"])
         judge.same(f"{name}, log", (status, out), (3, f"{end}\n"))
-        judge.same(name, judge.ran(["keep", file, device.address, "1"]), (3, said(device, 0, 0, end), f"{device.address} 1: {errors}"))
+        judge.tells(name, judge.ran(["keep", file, device.address, "1"]), 3, said(device, 0, 0, end), f"{device.address} 1: {errors}")
         judge.is_right(f"{name} has words", len(errors) > 5, errors)
     device.twist = None
     judge.same("and all of it", judge.ran(["keep", file, device.address, "1"]), (0, said(device, 3, 0, "caught up, next 4"), ""))
     judge.judge("and all of it", file, [device], True)
-    # One that had answered, and then doesn't.
-    device.logs[1].log(1)
-    device.answers = 4
-    judge.same("lost on the way", judge.ran(["keep", file, "--timeout=60", "--retries=0"])[2], unheard(device))
-    device.answers, device.stray = 4, I_AM
-    judge.same("strays on the way", judge.ran(["keep", file, *SOON])[2],
-               why(device, 1, f"no reply after 2 attempts; 2 unrelated datagrams arrived, the last from {device.address}: an I-Am"))
+    # One that had answered what it is asked of itself, and then doesn't.
+    for name, device.stray in (("lost on the way", None), *STRAYS):
+        device.logs[1].log(1)
+        device.answers = 3
+        judge.tells(f"{name}, on the way", judge.ran(["keep", file, *SOON]), 2, said(device, 0, 0, "lost, next 4"))
+    device.answers = device.stray = None
+    judge.same("and what is new", judge.ran(["keep", file]), (0, said(device, 3, 0, "caught up, next 7"), ""))
 
 
 def told_among_others(judge, _runs):
-    """The same of a device that others are asked beside: what its host sends in place of its answer is told, and one that
-    sends nothing is waited for once."""
-    twisted, silent, alive = Twisted(), Device([Log(1, 50)], "silent"), Device([Log(1, 50)], "alive")
-    serve([silent, alive])
+    """The same of a device that others are asked beside: what is sent in place of its answer is none, an answer that comes from
+    another address is told, and it is waited for no longer than one that sends nothing."""
+    twisted, dead, alive = Twisted(), Device([Log(1, 50)], "silent"), Device([Log(1, 50)], "alive")
+    serve([dead, alive])
     file = f"{judge.room}/a.db"
-    for device in (twisted, silent, alive):
+    for device in (twisted, dead, alive):
         device.logs[1].log(2)
         judge.ran(["keep", file, device.address])
-    silent.answers = 0
-    other = socket.socket(socket.AF_INET, socket.SOCK_DGRAM)
-    other.bind(("127.0.0.1", 0))
-    elsewhere = "%s:%d" % other.getsockname()
-    for name, twisted.whole, sender, content in (
-            ("a BVLC-Result", (None, RESULT), twisted.address, "BVLC-Result 0030"),
-            ("an Error that is cut", (None, CUT), twisted.address, "it can't be read"),
-            ("an answer from another port", (other, ERROR), elsewhere, f"a reply, but not from {twisted.address}")):
-        before = twisted.asked, silent.asked
-        text = f"no reply after 2 attempts; 2 unrelated datagrams arrived, the last from {sender}: {content}"
-        told = said(twisted, 0, 0, "lost, next 3"), said(silent, 0, 0, "lost, next 3"), said(alive, 0, 0, "caught up, next 3")
-        judge.same(name, judge.ran(["keep", file, *SOON]), (2, "".join(told), why(twisted, 1, text) + unheard(silent)))
-        # Another port of their host may be that of either.
-        alone = 4 if sender == elsewhere else 2
-        judge.same(f"{name}: who was asked", (twisted.asked - before[0], silent.asked - before[1]), (4, alone))
-    other.close()
-    twisted.whole = silent.answers = None
+    dead.answers = 0
+    sockets = {host: socket.socket(socket.AF_INET, socket.SOCK_DGRAM) for host in (twisted.host, "127.0.0.1")}
+    for host, other in sockets.items():
+        other.bind((host, 0))
+    for name, other, content in (("a BVLC-Result", None, RESULT), ("an Error that is cut", None, CUT),
+                                 *((f"an answer from {host}", other, ERROR) for host, other in sockets.items())):
+        twisted.whole = other, content
+        before = twisted.asked, dead.asked
+        # It may be the answer of either.
+        told = [f"{device.address}: no answer, but one from {'%s:%d' % other.getsockname()}\n" for device in (twisted, dead) if other]
+        judge.tells(name, judge.ran(["keep", file, *SOON]), 2, *told, silent(twisted), silent(dead), said(alive, 0, 0, "caught up, next 3"))
+        judge.same(f"{name}: who was asked", (twisted.asked - before[0], dead.asked - before[1]), (2, 2))
+    for other in sockets.values():
+        other.close()
+    twisted.whole = dead.answers = None
     judge.same("both are back", judge.ran(["keep", file])[0], 0)
-    judge.judge("both are back", file, [twisted, silent, alive], True)
+    judge.judge("both are back", file, [twisted, dead, alive], True)

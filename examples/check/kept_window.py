@@ -4,24 +4,22 @@ import time
 
 from kept_apart import line
 from kept_devices import Device, Log, serve
+from kept_rounds import silent
 
 WAIT = 0.05
-# A question holds its place for a quarter of a second: on a busy machine an answer may come behind that, and one more is open.
-HOLD = 0.2
 
 
 class Counted:
-    """How many questions of a site were open at most, how many of them held a place, and which devices were asked, in order."""
+    """How many questions of a site were open at most, and which devices were asked, in order."""
 
     def __init__(self):
-        self.lock, self.open, self.most, self.held, self.order = threading.Lock(), [], 0, 0, []
+        self.lock, self.open, self.most, self.order = threading.Lock(), [], 0, []
 
     def come(self, device):
         with self.lock:
             now = time.monotonic()
             self.open.append(now)
             self.most = max(self.most, len(self.open))
-            self.held = max(self.held, sum(now - since < HOLD for since in self.open))
             self.order.append(device)
             return now
 
@@ -32,7 +30,7 @@ class Counted:
 
     def begin(self):
         with self.lock:
-            self.open, self.most, self.held, self.order = [], 0, 0, []
+            self.open, self.most, self.order = [], 0, []
 
 
 class Watched(Device):
@@ -57,11 +55,12 @@ class Watched(Device):
 
 def lines_of(site, gone=None):
     """The lines of a run with nothing new, of which one device gives no answer."""
-    return "".join(line(device, 1, 0, f"{'lost' if device is gone else 'caught up'}, next 6") for device in site)
+    return "".join(silent(device) if device is gone else line(device, 1, 0, "caught up, next 6") for device in site)
 
 
 def window(judge, _runs):
-    """So many questions are open as --at-once says; each device is asked once before any is asked twice; a silent one holds nobody up."""
+    """So many questions are open as --at-once says; each device is asked once before any is asked twice; the repeats of a silent one
+    hold nobody up."""
     counted = Counted()
     site = [Watched([Log(1, 50)], f"watched{n}", counted) for n in range(12)]
     serve(site)
@@ -72,33 +71,31 @@ def window(judge, _runs):
     judge.same("a first run", judge.ran(["keep", file, *words])[0], 0)
     for most in (1, 3, 5, 64):
         counted.begin()
-        judge.same(f"{most} at once", judge.ran(["keep", file, f"--at-once={most}"]), (0, lines_of(site), ""))
-        places = min(most, len(site))
-        judge.is_right(f"{most} at once: open at most", counted.held <= places <= counted.most, (counted.held, counted.most))
+        judge.tells(f"{most} at once", judge.ran(["keep", file, f"--at-once={most}"]), 0, lines_of(site))
+        judge.same(f"{most} at once: open at most", counted.most, min(most, len(site)))
         # Each device's first question goes out before anybody's second. Those that are open together may come in any order;
         # were the first devices asked again as they answer, the last ones would come behind all of theirs.
         judge.same(f"{most} at once: each once before any twice", len(set(counted.order[: len(site) + most - 1])), len(site))
-    # The first device is silent: with one question at a time the others wait for it a quarter of a second, and not for its repeats.
+    # The first device is silent: with one question at a time the others wait until it is asked again, and not for its repeats.
     site[0].is_gone = True
     counted.begin()
     start = time.monotonic()
-    status, out, _ = judge.ran(["keep", file, "--at-once=1", "--timeout=1000", "--retries=3"])
+    ran = judge.ran(["keep", file, "--at-once=1", "--timeout=1000", "--retries=3"])
     took = time.monotonic() - start
-    judge.same("one is silent", (status, out), (2, lines_of(site, site[0])))
+    judge.tells("one is silent", ran, 2, lines_of(site, site[0]))
     others = [at for at, device in enumerate(counted.order) if device is not site[0]]
     repeats = [at for at, device in enumerate(counted.order) if device is site[0]]
     judge.same("it is asked four times", len(repeats), 4)
     # It is asked at 0, 1, 2 and 3 seconds. Eleven first questions of 50 ms lie between the second and the third time.
     judge.is_right("its repeats hold nobody up", all(any(counted.order[at] is device for at in others if at < repeats[2]) for device in site[1:]), counted.order)
     judge.is_right("one wait for it", took < 9, took)
-    judge.is_right("it gives its place up before it is asked again", others[0] < repeats[1], counted.order)
+    judge.is_right("it gives its place up as it is asked again", repeats[:2] == [0, 1] and len(others) == len(counted.order) - 4, counted.order)
     # Beside its waits the others are asked all that they are asked, what their logs begin with too: some 0.6 seconds of 4.
     counted.begin()
-    status, out, _ = judge.ran(["keep", file, "--timeout=2000", "--retries=1"])
-    judge.same("one is silent, the others beside", (status, out), (2, lines_of(site, site[0])))
+    judge.tells("one is silent, the others beside", judge.ran(["keep", file, "--timeout=2000", "--retries=1"]), 2, lines_of(site, site[0]))
     others = [at for at, device in enumerate(counted.order) if device is not site[0]]
     repeats = [at for at, device in enumerate(counted.order) if device is site[0]]
     judge.same("it is asked twice", len(repeats), 2)
     judge.is_right("the others are asked while it is waited for", max(others) < repeats[1], counted.order)
     site[0].is_gone = False
-    judge.same("it is back", judge.ran(["keep", file]), (0, lines_of(site), ""))
+    judge.tells("it is back", judge.ran(["keep", file]), 0, lines_of(site))

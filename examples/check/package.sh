@@ -78,8 +78,8 @@ records=$(sed -E 's/.* ([0-9]+) records? .*/\1/' "$room/out")
 bac kept /tmp/site.db "$at" 1
 is 'what is kept' "$(grep -c . "$room/out") $status" "$records 0"
 unserved
-is 'a page of it' "$("$root/usr/share/doc/mantelanise/examples/page.py" "$root/tmp/site.db" | grep -o '<article>\|>Trend Log 1<' | tr '\n' ' ')" \
-    '<article> >Trend Log 1< '
+is 'a page of it' "$("$root/usr/share/doc/mantelanise/examples/page.py" "$root/tmp/site.db" | grep -o '<article>\|<bdi>pump-trend<' | tr '\n' ' ')" \
+    '<article> <bdi>pump-trend< '
 
 is 'man bac' "$(man -M "$root/usr/share/man" -P cat bac 2>&1 | head -n 1 | tr -s ' ')" \
     "$(man -P cat -l ../../docs/bac.1 2>&1 | head -n 1 | tr -s ' ')"

@@ -132,9 +132,10 @@ def one_log(file, rows, name="a log"):
     if os.path.exists(file):
         os.remove(file)
     base = sqlite3.connect(file)
-    base.executescript(page_archives.schema_2())
-    base.execute("INSERT INTO logs VALUES (1, '10.0.0.1:47808', 0, '', 1, ?, 7, NULL, NULL, 0)", (name,))
-    base.execute("INSERT INTO beginnings VALUES (?, 1)", (1 << 15,))
+    base.executescript(page_archives.FORMAT_3)
+    base.execute("INSERT INTO devices VALUES (1, '10.0.0.1:47808', 0, '', 7, NULL, NULL, 1, 0, '2026-11-29T23:46:02.00', 0)")
+    base.execute("INSERT INTO logs VALUES (1, 1, 1, ?, NULL, NULL, NULL, NULL, NULL, 0)", (name,))
+    base.execute("INSERT INTO beginnings VALUES (?, 1, NULL)", (1 << 15,))
     base.executemany("INSERT INTO items VALUES (?, ?, ?, ?, ?, NULL)", [((1 << 47) + row[0], *row[1:]) for row in rows])
     base.commit()
     base.close()
@@ -232,9 +233,16 @@ def heights_of(text):
 
 
 def in_parts(judge):
-    """Two parts say what the file says that they were made of."""
-    whole, folder = os.path.join(judge.room, "site2.db"), os.path.join(judge.room, "parts")
-    os.mkdir(folder)
+    """Two parts say what the file says that they were made of. In format 3 each has of a log the beginnings of its own epochs."""
+    for version in (2, 3):
+        whole, folder = os.path.join(judge.room, f"site{version}.db"), os.path.join(judge.room, f"parts{version}")
+        os.mkdir(folder)
+        pages = [re.sub(r"page made [^<]*", "", judge.drawn(file, "--title=site")) for file in (whole, divided(whole, folder, version))]
+        judge.same(f"parts of format {version}", pages[0] == pages[1], True)
+
+
+def divided(whole, folder, version):
+    """The folder, with the file in two parts."""
     for part in ("000001.db", "000002.db"):
         shutil.copy(whole, os.path.join(folder, part))
     cut = "(i.id & 4294967295) + ((i.id >> 32) & 32767) * 10000"
@@ -243,11 +251,12 @@ def in_parts(judge):
         base.execute(f"DELETE FROM items WHERE id IN (SELECT id FROM items i WHERE {statement})")
         if part == "000001.db":
             base.execute("UPDATE logs SET name = 'as it was called before' WHERE id = 1")
+        if version == 3 and part == "000002.db":
+            base.execute("DELETE FROM beginnings WHERE id NOT IN (SELECT max(id) FROM beginnings GROUP BY id >> 15)")
         base.commit()
         base.close()
     open(os.path.join(folder, "000003.db"), "w").close()
-    pages = [re.sub(r"page made [^<]*", "", judge.drawn(file, "--title=site")) for file in (whole, folder)]
-    judge.same("parts", pages[0] == pages[1], True)
+    return folder
 
 
 def refused(judge):

@@ -1,5 +1,5 @@
-"""Archives for page.py: sites with curves, gaps, doubtful gaps, epochs, silent devices and logs without numbers, in format 2,
-which `bac` writes, and in format 3, by the texts that their tables have."""
+"""Archives for page.py: sites with curves, gaps, doubtful gaps, epochs, silent devices and logs without numbers, in format 3,
+which `bac keep` writes, and in format 2, which it wrote before, by the texts that their tables have."""
 import datetime
 import math
 import os
@@ -26,30 +26,33 @@ INSERT INTO archive VALUES (3, '2026-11-22 23:41:07');
 """
 # Address, instance, name, when it answered last, and how far its clock is ahead.
 DEVICES = [
-    ("192.168.1.20:47808", 1201, "AHU-1 Lecture halls", "2026-11-29 23:46:02", 2),
-    ("192.168.1.21:47808", 1202, "Heating plant", "2026-11-29 23:46:03", -3607),
-    ("192.168.1.22:47808", 1203, "Chiller <roof> & \"pumps\"", "2026-11-27 09:31:01", 0),
+    ("192.168.1.20:47808", 1201, "AHU-1 Lecture halls", "2026-11-29T23:46:02.00", 2),
+    ("192.168.1.21:47808", 1202, "Heating plant", "2026-11-29T23:46:03.00", -3607),
+    ("192.168.1.22:47808", 1203, "Chiller <roof> & \"pumps\"", "2026-11-27T09:31:01.00", 0),
 ]
 # Device, instance, name, source, units, kind, and what befell it.
 LOGS = [
-    (1, 1, "Supply air temperature", "object(0,1).85", "degrees-celsius", ("real", 19.5, 2.2, 0.25), ""),
-    (1, 2, "Return air temperature", "object(0,2).85", "degrees-celsius", ("real", 22.4, 1.1, 0.12), "gap"),
-    (1, 3, "Supply fan speed", "object(1,1).85", "percent", ("real", 55.0, 30.0, 1.5), "doubtful"),
-    (1, 4, "Supply fan", "object(4,1).85", "no-units", ("enum", 0, 0, 0), ""),
-    (1, 5, "CO₂ lecture hall 1", "object(0,7).85", "parts-per-million", ("real", 620.0, 210.0, 18.0), "epoch"),
-    (2, 1, "Flow temperature", "object(0,1).85", "degrees-celsius", ("real", 58.0, 7.0, 0.8), ""),
-    (2, 2, "Boiler stage", "object(19,1).85", "no-units", ("unsigned", 2, 0, 0), "gap"),
-    (2, 3, "Heat meter", "object(23,1).85", "kilowatt-hours", ("count", 48210, 0, 0), ""),
-    (2, 4, "Alarm bits", "object(40,2).85", "no-units", ("bits", 0, 0, 0), ""),
-    (3, 1, "Chilled water flow", "object(0,3).85@1202", "cubic-meters-per-hour", ("real", 31.0, 6.0, 0.9), "silent"),
-    (3, 2, "<b>Condenser</b> & \"fan\"", "object(1,2).85", "percent", ("real", 48.0, 22.0, 2.5), "silent"),
+    (1, 1, "Supply air temperature", "object(0,1).85", "enum(62)", ("real", 19.5, 2.2, 0.25), ""),
+    (1, 2, "Return air temperature", "object(0,2).85", "enum(62)", ("real", 22.4, 1.1, 0.12), "gap"),
+    (1, 3, "Supply fan speed", "object(1,1).85", "enum(98)", ("real", 55.0, 30.0, 1.5), "doubtful"),
+    (1, 4, "Supply fan", "object(4,1).85", "enum(95)", ("enum", 0, 0, 0), ""),
+    (1, 5, "CO₂ lecture hall 1", "object(0,7).85", "enum(96)", ("real", 620.0, 210.0, 18.0), "epoch"),
+    (2, 1, "Flow temperature", "object(0,1).85", "enum(62)", ("real", 58.0, 7.0, 0.8), ""),
+    (2, 2, "Boiler stage", "object(19,1).85", "enum(95)", ("unsigned", 2, 0, 0), "gap"),
+    (2, 3, "Heat meter", "object(23,1).85", "enum(19)", ("count", 48210, 0, 0), ""),
+    (2, 4, "Alarm bits", "object(40,2).85", "enum(95)", ("bits", 0, 0, 0), ""),
+    (3, 1, "Chilled water flow", "object(0,3).85@1202", "enum(135)", ("real", 31.0, 6.0, 0.9), "silent"),
+    (3, 2, "<b>Condenser</b> & \"fan\"", "object(1,2).85", "enum(98)", ("real", 48.0, 22.0, 2.5), "silent"),
 ]
 
 
 def schema_2():
-    """The texts of format 2, as takeover.py has them."""
-    with open(os.path.join(HERE, "../use/takeover.py"), encoding="utf-8") as file:
-        return re.search(r'SCHEMA = """\\\n(.*?)"""', file.read(), re.S)[1].replace("\\\n", "")
+    """The texts of format 2, as an archive of format2/ has them, in the order in which they were made."""
+    with open(os.path.join(HERE, "format2/site.sql"), encoding="utf-8") as file:
+        texts = re.findall(r"^CREATE (?:TABLE|VIEW) (\w+) (.*?;)$", file.read(), re.S | re.M)
+    made = "archive", "logs", "items", "beginnings", "records", "gaps", "epochs"
+    texts = [f"CREATE {'VIEW' if text.startswith('AS ') else 'TABLE'} {name} {text}" for name, text in sorted(texts, key=lambda it: made.index(it[0]))]
+    return "\n".join([*texts, "INSERT INTO archive VALUES (2);"])
 
 
 def real(value):
@@ -128,12 +131,14 @@ def made(file, version):
 
 
 def made_large(file, logs, records):
-    """Format 2: so many logs with so many records in all, a quarter of an hour apart."""
+    """Format 3: so many logs with so many records in all, a quarter of an hour apart."""
     base, each = sqlite3.connect(file), records // logs
-    base.executescript(schema_2())
-    base.executemany("INSERT INTO logs VALUES (?, ?, 0, '', ?, ?, ?, NULL, NULL, 0)",
-                     [(at, f"10.0.{at // 1000}.{at // 4 % 250}:47808", at, f"log {at}", at // 4) for at in range(1, logs + 1)])
-    base.executemany("INSERT INTO beginnings VALUES (?, 1)", [(at << 15,) for at in range(1, logs + 1)])
+    base.executescript(FORMAT_3)
+    base.executemany("INSERT INTO devices VALUES (?, ?, 0, '', ?, NULL, NULL, 1, 0, '2026-11-29T23:46:02.00', 0)",
+                     [(at, f"10.0.{at // 250}.{at % 250}:47808", at) for at in range(logs // 4 + 1)])
+    base.executemany("INSERT INTO logs VALUES (?, ?, ?, ?, NULL, NULL, NULL, NULL, NULL, 0)",
+                     [(at, at // 4, at, f"log {at}") for at in range(1, logs + 1)])
+    base.executemany("INSERT INTO beginnings VALUES (?, 1, NULL)", [(at << 15,) for at in range(1, logs + 1)])
     base.execute("""INSERT INTO items WITH RECURSIVE log(at) AS (SELECT 1 UNION ALL SELECT at + 1 FROM log WHERE at < ?1),
         number(it) AS (SELECT 1 UNION ALL SELECT it + 1 FROM number WHERE it < ?2)
         SELECT (at << 47) + it, CASE WHEN it % 97 = 0 THEN it END,

@@ -104,6 +104,7 @@ ends_of() {
             [ "$2" = wi ] && range=${range#*for bac wi}
             sed 's/^[^0-9]*\([0-9]*\) to \([0-9]*\).*/\1 \2/' <<< "$range" ;;
         'a number from '*) sed 's/^a number from \([0-9]*\) to \([0-9]*\).*/\1 \2/' <<< "$range" ;;
+        *YYYY-*) echo 0000 9999-99-99T99:99:99.99 ;;
         *' or '[0-9]*) sed 's/^\([0-9]*\),.* or \([0-9]*\)$/\1 \2/' <<< "$range" ;;
     esac
 }
@@ -138,14 +139,16 @@ mended_word() {
         case "$tool $named" in
             'keep ADDRESS') words=(keep "$room/words.db" "$end") ;;
             'keep INSTANCE') words=(keep "$room/words.db" 127.0.0.1 "$end") ;;
-            'keep '*) words[1]=$room/words.db ;;
+            # A place behind a router goes with an address.
+            'kept ADDRESS') words+=("$end") ;;
         esac
+        case $tool in keep | kept | check) words[1]=$room/words.db ;; esac
         case $named in
             --max) with_option --min 0 ;;
             --dadr) with_option --dnet 1 ;;
             --dnet) [ "$tool" = wi ] || with_option --dadr 01 ;;
         esac
-        [ "$tool" = serve ] || with_option --timeout 1
+        case $tool in wi | rp | wp | log | logs | keep) with_option --timeout 1 ;; esac
         case $tool in rp | wp | log | logs | keep) with_option --retries 0 ;; esac
         case $named in --*) with_option "$named" "$end" ;; esac
         told=$(timeout 1 "$program" "${words[@]}" < /dev/null 2>&1 > "$room/out" | grep -e "^$named: " -e '^error')

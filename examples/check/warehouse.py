@@ -18,14 +18,19 @@ from kept_devices import Device, Log, answering, chance, serve
 from kept_judge import Judge
 from kept_parts import FULL, begun, fill, together
 from kept_rounds import one
-from warehouse_files import USE, Server, converted, is_installed, opened, rows_of
+from warehouse_files import USE, Server, dressed, is_installed, made_at, older, opened, rows_of
 from warehouse_moments import MOMENTS
 
 ZONE = "--zone=Europe/Berlin"
 ANOTHER = "it is another archive; load it under a name of its own\n"
 
 
-def same_rows(judge, name, server, site, file, version=2):
+def items(found):
+    """How many records and gaps there are."""
+    return sum(len(found[table]) for table in ("records", "gaps"))
+
+
+def same_rows(judge, name, server, site, file, version=3):
     """What is loaded is what the file has, row by row."""
     loaded, wanted = server.loaded(site, version), rows_of(file, version)
     for table, rows in wanted.items():
@@ -57,7 +62,7 @@ def parts(judge, server):
         judge.ran(["keep", folder])
 
     def count():
-        return sum(len(rows) for table, rows in server.loaded("parts").items() if table != "epochs")
+        return items(server.loaded("parts"))
 
     def is_loaded(name, before, *files):
         came = server.load("parts", *files, ZONE)
@@ -80,6 +85,22 @@ def parts(judge, server):
     judge.same("a part that has nothing yet", server.load("parts", folder), (0, "0 items\n", ""))
     judge.same("all parts at once", server.load("whole", away, folder, ZONE)[:2], (0, f"{count()} items\n"))
     judge.same("are the same", server.loaded("whole"), server.loaded("parts"))
+    # One that begins with an epoch that has no item yet: of the log it has nothing of the epoch before.
+    os.remove(f"{folder}/000004.db")
+    device.logs[2].begin(0)
+    judge.ran(["keep", folder])
+    judge.same("up to there", server.load("empty", away, f"{folder}/000003.db", ZONE)[0], 0)
+    fill(third)
+    judge.ran(["keep", folder, *FULL])
+    device.logs[2].log(4)
+    judge.ran(["keep", folder])
+    fourth = f"{folder}/000004.db"
+    judge.same("a part whose log begins with another epoch", server.load("empty", fourth)[:2], (0, "4 items\n"))
+    with opened(third) as base:
+        base.execute("DELETE FROM beginnings WHERE id & 32767 = 1")
+        base.commit()
+    judge.same("before that epoch", server.load("before", away, third, ZONE)[0], 0)
+    refused(judge, "what lies between isn't loaded", server, ("before", fourth), f"{fourth}: what comes behind the items that are loaded is in")
 
 
 def killed_loads(judge, server):
@@ -115,8 +136,7 @@ def killed_loads(judge, server):
     judge.same("a whole load", server.load("here", file)[0], 0)
     same_rows(judge, "all is loaded", server, "here", file)
     judge.is_right("loads are killed", killed > 3, killed)
-    count = sum(len(rows) for table, rows in rows_of(file).items() if table != "epochs")
-    judge.same("under another name all comes again", server.load("there's", file, ZONE)[:2], (0, f"{count} items\n"))
+    judge.same("under another name all comes again", server.load("there's", file, ZONE)[:2], (0, f"{items(rows_of(file))} items\n"))
     same_rows(judge, "under another name", server, "there''s", file)
     judge.same("the newest", server.rows("SELECT address, number FROM bac.newest WHERE site = 'here' ORDER BY 1"),
                sorted([(device.address, str(log.total)), (other.address, str(second.total))]))
@@ -127,15 +147,13 @@ def restored(judge, server):
     """A restored backup goes on: what the warehouse lacks of it is loaded, and what it has more stays."""
     for version in (2, 3):
         device, log = one(room_for=60)
-        file, three, site = f"{judge.room}/restored {version}.db", f"{judge.room}/three.db", f"restored {version}"
+        file, two, site = f"{judge.room}/restored {version}.db", f"{judge.room}/two.db", f"restored {version}"
 
-        def load(name, items):
-            loads = file if version == 2 else converted(file, three)
-            judge.same(name, server.load(site, loads, ZONE), (0, f"{items} items\n", ""))
+        def load(name, count):
+            loads = file if version == 3 else older(file, two)
+            judge.same(name, server.load(site, loads, ZONE), (0, f"{count} items\n", ""))
             loaded, wanted = server.loaded(site, version), rows_of(loads, version)
             judge.is_right(f"{name}: each row", all(loaded[table] >= rows for table, rows in wanted.items()), wanted["gaps"] - loaded["gaps"])
-            if version == 3:
-                os.remove(three)
 
         def run(count):
             log.log(count)
@@ -156,6 +174,7 @@ def restored(judge, server):
         missing = f"SELECT first, last FROM bac.missing WHERE site = '{site}' ORDER BY 1"
         judge.same(f"restored, {version}: no number is without a record", server.rows(missing), [])
         judge.same(f"restored, {version}: under a name of its own", server.load(f"copy {version}", file, ZONE), (0, "61 items\n", ""))
+        same_rows(judge, f"restored, {version}: under a name of its own", server, f"copy {version}", file)
         judge.same("a copy with records in that gap", server.load(f"copy {version}", f"{file}.more"), (0, "40 items\n", ""))
         judge.same("which is none any more", server.rows(f"SELECT * FROM bac.missing WHERE site = 'copy {version}'"), [])
         run(100)
@@ -175,9 +194,9 @@ def made_anew(judge, server):
         log.log(8)
     first, second = f"{judge.room}/first.db", f"{judge.room}/second.db"
     judge.ran(["keep", first, device.address, "1", other.address, "1"])
-    judge.same("a site", server.load("anew", first, ZONE), (0, "16 items\n", ""))
-    three = converted(first, f"{judge.room}/first three.db")
-    judge.same("a site of format 3", server.load("anew 3", three, ZONE), (0, "16 items\n", ""))
+    two, other_two = older(first, f"{judge.room}/first two.db"), f"{judge.room}/second two.db"
+    judge.same("a site", server.load("anew 3", first, ZONE), (0, "16 items\n", ""))
+    judge.same("a site of format 2", server.load("anew", two, ZONE), (0, "16 items\n", ""))
     device.logs[1].log(60)
     for name, words, why in (("in another order", [other.address, "1", device.address, "1"], "its log 1 is"),
                              ("of another log", [device.address, "2", other.address, "1"], "its log 1 is"),
@@ -185,50 +204,58 @@ def made_anew(judge, server):
         if os.path.exists(second):
             os.remove(second)
         judge.ran(["keep", second, *words])
-        refused(judge, f"made anew {name}", server, ("anew", second), f"{second}: ", why, ANOTHER)
-        another = converted(second, f"{second} {name}", "2024-05-06 07:00:01")
-        refused(judge, f"made anew {name}, format 3", server, ("anew 3", another), "it was made 2024-05-06 07:00:01, and", ANOTHER)
-        judge.same(f"made anew {name}, by a name of its own", server.load(name, another, ZONE)[0], 0)
-        same_rows(judge, f"made anew {name}, by a name of its own", server, name, another, 3)
-    with opened(first) as base:
+        refused(judge, f"made anew {name}, format 2", server, ("anew", older(second, other_two)), f"{other_two}: ", why, ANOTHER)
+        made_at(second, "2024-05-06 07:00:01")
+        refused(judge, f"made anew {name}", server, ("anew 3", second), "it was made 2024-05-06 07:00:01, and", ANOTHER)
+        judge.same(f"made anew {name}, by a name of its own", server.load(name, second, ZONE)[0], 0)
+        same_rows(judge, f"made anew {name}, by a name of its own", server, name, second)
+    with opened(two) as base:
         base.execute("UPDATE items SET stamp = '2024-01-01T00:00:00.00' WHERE id = (1 << 47) + 8")
         base.commit()
-    refused(judge, "another record", server, ("anew", first), "number 8 of epoch 0 of", "isn't the record that is loaded", ANOTHER)
+    refused(judge, "another record", server, ("anew", two), "number 8 of epoch 0 of", "isn't the record that is loaded", ANOTHER)
 
 
 def moved(judge, server):
-    """A device that moved is the same one, known by its instance."""
-    device, log = one()
-    log.log(5)
-    file = f"{judge.room}/moved.db"
-    judge.ran(["keep", file, device.address, "1"])
-    judge.same("before it moved", server.load("moved", file, ZONE), (0, "5 items\n", ""))
-    device.move()
-    serve([device])
-    log.log(2)
-    judge.ran(["keep", file, device.address])
-    judge.same("behind its move", server.load("moved", file), (0, "2 items\n", ""))
-    judge.same("it stands there", server.rows("SELECT DISTINCT address FROM bac.trends WHERE site = 'moved'"), [(device.address,)])
+    """A device that moved is the same one, known by its instance. Its row is mended by hand."""
+    for version in (2, 3):
+        device, log = one()
+        log.log(5)
+        file, site = f"{judge.room}/moved {version}.db", f"moved {version}"
+        judge.ran(["keep", file, device.address, "1"])
+
+        def loads():
+            return file if version == 3 else older(file, f"{file}.two")
+
+        judge.same(f"before it moved, {version}", server.load(site, loads(), ZONE), (0, "5 items\n", ""))
+        device.move()
+        serve([device])
+        log.log(2)
+        with opened(file) as base:
+            base.execute("UPDATE devices SET address = ?", (device.address,))
+            base.commit()
+        judge.same(f"its log goes on there, {version}", judge.ran(["keep", file])[0], 0)
+        judge.same(f"behind its move, {version}", server.load(site, loads()), (0, "2 items\n", ""))
+        judge.same(f"it stands there, {version}", server.rows(f"SELECT DISTINCT address FROM bac.trends WHERE site = '{site}'"), [(device.address,)])
 
 
 def formats(judge, server):
     """Of format 3 all columns are loaded; a site of format 2 goes on as one of format 3."""
     device, folder = begun(judge, "formats", 30)
     device.logs[1].room_for = 20
-    file, three = f"{folder}/site.db", f"{folder}/three.db"
-    judge.ran(["keep", file, device.address, "1", "2"])
+    two, three = f"{folder}/two.db", f"{folder}/three.db"
+    judge.ran(["keep", three, device.address, "1", "2"])
     device.logs[1].log(45)
     device.logs[2].begin(0)
     device.logs[2].log(3)
-    judge.ran(["keep", file])
-    judge.same("format 2", server.load("formats", file, ZONE)[0], 0)
-    same_rows(judge, "format 2", server, "formats", file)
-    converted(file, three)
+    judge.ran(["keep", three])
+    older(dressed(three), two)
+    judge.same("format 2", server.load("formats", two, ZONE)[0], 0)
+    same_rows(judge, "format 2", server, "formats", two, 2)
     judge.same("format 3 of it", server.load("formats", three), (0, "0 items\n", ""))
-    same_rows(judge, "format 3 of it", server, "formats", three, 3)
-    judge.same("an old copy of format 2", server.load("formats", file), (0, "0 items\n", ""))
-    judge.same("format 3 at once", server.load("formats 3", three)[:2], (0, f"{sum(len(rows_of(three)[it]) for it in ('records', 'gaps'))} items\n"))
-    same_rows(judge, "format 3 at once", server, "formats 3", three, 3)
+    same_rows(judge, "format 3 of it", server, "formats", three)
+    judge.same("an old copy of format 2", server.load("formats", two), (0, "0 items\n", ""))
+    judge.same("format 3 at once", server.load("formats 3", three)[:2], (0, f"{items(rows_of(three))} items\n"))
+    same_rows(judge, "format 3 at once", server, "formats 3", three)
     judge.same("its clock is two hours ahead", server.rows(
         "SELECT DISTINCT stamp::timestamp - at AT TIME ZONE 'UTC' FROM bac.trends WHERE site = 'formats 3'"), [("02:00:00",)])
     with opened(three) as base:
@@ -241,7 +268,7 @@ def formats(judge, server):
     refused(judge, "another zone", server, ("formats", three, "--zone=+01:00"), "formats was loaded by Europe/Berlin, and not by +01:00")
     refused(judge, "no zone", server, ("formats", three, "--zone=Europe/Berln"), "Europe/Berln: there is no such zone")
     judge.same("it is lowered, of a log that is stopped", server.load("formats", three), (0, "1 items\n", ""))
-    same_rows(judge, "it is lowered", server, "formats", three, 3)
+    same_rows(judge, "it is lowered", server, "formats", three)
     judge.same("no moment", server.rows("SELECT number, at IS NULL, value FROM bac.trends WHERE site = 'formats' AND trend_log = 3"), [("400", "t", "Infinity")])
     with opened(three) as base:
         base.execute("UPDATE archive SET version = 4")
@@ -274,15 +301,25 @@ def moments(judge, server):
             judge.same(f"{name}, {step} at a time", [moment for _, moment in found], [moment for _, moment in wanted])
 
 
+class Both:
+    """A router, which gives on to its device what is for it."""
+
+    def __init__(self, *devices):
+        self.devices = devices
+
+    def answer(self, port, request, asker):
+        for device in self.devices:
+            device.answer(port, request, asker)
+
+
 def behind_a_router(judge, server):
     """Two devices behind one router, of which each has a log 1."""
     first = Device([Log(1, 50)], "first", (5, b"\x01"))
     second = Device([Log(1, 50)], "second", (5, b"\x02"), first.socket)
+    answering[first.socket] = Both(first, second)
     serve([first])
     file = f"{judge.room}/router.db"
     for device, way in ((first, "01"), (second, "02")):
-        # The router gives on what is for its device.
-        answering[first.socket] = device
         device.logs[1].log(3)
         judge.same("behind a router", judge.ran(["keep", file, device.address, "1", "--dnet=5", f"--dadr={way}"])[0], 0)
     judge.same("both are loaded", server.load("router", file, ZONE), (0, "6 items\n", ""))
@@ -325,7 +362,7 @@ def at_once(judge, server):
     judge.same("the schema again", server.script("-f", f"{USE}/warehouse.sql")[0], 0)
     loads = [server.started(f"site {at}" if at < 8 else "one", shutil.copyfile(file, f"{folder}/{at}.db"), ZONE) for at in range(12)]
     ends = [(load.communicate(timeout=300), load.returncode) for load in loads]
-    count = sum(len(rows_of(file)[table]) for table in ("records", "gaps"))
+    count = items(rows_of(file))
     judge.same("eight at once", [(out, status) for (out, _), status in ends[:8]], [(f"{count} items\n", 0)] * 8)
     judge.same("four of one site", sorted(out for (out, _), status in ends[8:] if status == 0), sorted([f"{count} items\n"] + ["0 items\n"] * 3))
     for site in [f"site {at}" for at in range(8)] + ["one"]:
@@ -367,6 +404,8 @@ def in_use(judge, server):
 def views(judge, server):
     """A log's day is found by index, and the views tell what dashboards ask."""
     device, log = one(room_for=40)
+    # What it drops since is dropped for sure.
+    device.restart = datetime.datetime(2024, 1, 1)
     file, now = f"{judge.room}/views.db", datetime.datetime.utcnow()
     log.clock = now - datetime.timedelta(seconds=30)
     log.log(30)
@@ -379,7 +418,7 @@ def views(judge, server):
     judge.is_right("the last day", [("30",)] <= server.rows(f"SELECT count(*) FROM bac.last_day {where}") <= [(str(records),)])
     judge.same("the hours", server.rows(f"SELECT sum(records), min(least), max(greatest) FROM bac.hourly {where}"),
                server.rows(f"SELECT count(value), min(value), max(value) FROM bac.trends {where} AND value IS NOT NULL"))
-    judge.same("gaps", server.rows(f"SELECT epoch, first, last, doubtful FROM bac.missing {where}"), [("0", "31", "70", "")])
+    judge.same("gaps", server.rows(f"SELECT epoch, first, last, doubtful FROM bac.missing {where}"), [("0", "31", "70", "f")])
     judge.same("beginnings", server.rows(f"SELECT epoch, beginning, why FROM bac.beginnings {where}"), [("0", "1", "")])
     server.ran("INSERT INTO bac.records (site, log, epoch, number, at) SELECT 0, l, 0, n, '2024-01-01Z'::timestamptz + n * interval '15 min'"
                " FROM generate_series(1, 20) l, generate_series(1, 5000) n", "ANALYZE bac.records")

@@ -1,4 +1,4 @@
-"""Files and a server for warehouse.py: an archive of format 3 made of one of format 2, what an archive has, and a PostgreSQL
+"""Files and a server for warehouse.py: an archive of format 2 made of one of format 3, what an archive has, and a PostgreSQL
 of its own."""
 import contextlib
 import glob
@@ -9,25 +9,21 @@ import sqlite3
 import subprocess
 import sys
 
+from page_archives import schema_2
+
 USE = os.path.realpath(os.path.join(os.path.dirname(__file__), "../use/warehouse"))
-# Of format 3 the tables, and their rows of those of format 2.
-FORMAT_3 = """
-CREATE TABLE archive (version INTEGER PRIMARY KEY, made TEXT NOT NULL) STRICT;
-CREATE TABLE devices (id INTEGER PRIMARY KEY, address TEXT NOT NULL, dnet INTEGER NOT NULL, dadr TEXT NOT NULL, instance INTEGER,
-    name TEXT, revision INTEGER, whole INTEGER NOT NULL, stopped INTEGER NOT NULL, answered TEXT, offset INTEGER,
-    UNIQUE (address, dnet, dadr)) STRICT;
-CREATE TABLE logs (id INTEGER PRIMARY KEY, device INTEGER NOT NULL, instance INTEGER NOT NULL, name TEXT, source TEXT, units TEXT,
-    description TEXT, restart TEXT, revision INTEGER, stopped INTEGER NOT NULL, UNIQUE (device, instance)) STRICT;
-CREATE TABLE items (id INTEGER PRIMARY KEY, last INTEGER, stamp TEXT, value REAL, datum TEXT, flags TEXT) STRICT;
-CREATE TABLE beginnings (id INTEGER PRIMARY KEY, number INTEGER NOT NULL, why TEXT) STRICT;
-INSERT INTO archive VALUES (3, :made);
-INSERT INTO devices SELECT row_number() OVER (ORDER BY min(id)), address, dnet, dadr, max(device), 'plant''s', 7, 1, 0,
-    '2024-05-06 07:08:09', 7203 FROM old.logs GROUP BY address, dnet, dadr;
-INSERT INTO logs SELECT l.id, d.id, l.instance, l.name, 'AI 1 Present_Value', 'degrees Celsius', 'a\\b' || char(9, 10) || 'c', l.restart,
-    l.revision, l.stopped FROM old.logs l JOIN main.devices d USING (address, dnet, dadr);
-INSERT INTO items SELECT * FROM old.items;
-INSERT INTO beginnings SELECT id, number, iif(id & 32767, 'began anew', NULL) FROM old.beginnings;
-UPDATE items SET datum = 'or began anew' WHERE last % 2;
+# The rows of format 2, of those of format 3.
+ROWS_2 = """
+INSERT INTO logs SELECT l.id, d.address, d.dnet, d.dadr, l.instance, l.name, d.instance, l.restart, l.revision, l.stopped
+    FROM old.logs l JOIN old.devices d ON d.id = l.device;
+INSERT INTO items SELECT id, last, stamp, value, iif(last IS NULL, datum, NULL), flags FROM old.items;
+INSERT INTO beginnings SELECT id, number FROM old.beginnings;
+"""
+# What a device may have told, and what none may.
+DRESSED = """
+UPDATE devices SET name = 'plant''s', revision = 7, whole = 1, answered = '2024-05-06T07:08:09.10', offset = 7203;
+UPDATE logs SET source = 'object(0,1).85', units = 'enum(62)', description = 'a\b' || char(9, 10) || 'c';
+UPDATE items SET datum = iif(last % 2, 'or began anew', NULL) WHERE last IS NOT NULL;
 """
 DEVICE = "device, address, dnet, dadr, instance, name, revision, whole, stopped, answered, clock_offset"
 LOG = "log, device, instance, name, source, units, description, restart, revision, stopped"
@@ -38,21 +34,43 @@ def opened(file):
     return contextlib.closing(sqlite3.connect(file))
 
 
-def converted(old, new, made="2024-05-06 07:00:00"):
-    """A file of format 3 of one of format 2."""
-    with opened(new) as base:
-        base.execute("ATTACH ? AS old", (old,))
-        for statement in FORMAT_3.split(";\n"):
-            base.execute(statement, {"made": made} if ":made" in statement else {})
+def older(new, old):
+    """A file of format 2 of one of format 3."""
+    if os.path.exists(old):
+        os.remove(old)
+    with opened(old) as base:
+        base.executescript(schema_2())
+        base.execute("ATTACH ? AS old", (new,))
+        base.executescript(ROWS_2)
         base.commit()
-    return new
+    return old
+
+
+def dressed(file):
+    """A file that has all columns."""
+    with opened(file) as base:
+        base.executescript(DRESSED)
+    return file
+
+
+def made_at(file, moment):
+    """A file whose archive was made at this moment."""
+    with opened(file) as base:
+        base.execute("UPDATE archive SET made = ?", (moment,))
+        base.commit()
+    return file
 
 
 def text(it):
     return "" if it is None else repr(it) if isinstance(it, float) else str(it)
 
 
-def rows_of(file, version=2):
+def answered(stamp):
+    """A moment as PostgreSQL tells it."""
+    return stamp and stamp.replace("T", " ").rstrip("0").rstrip(".") + "+00"
+
+
+def rows_of(file, version=3):
     """What an archive has, in the texts of the warehouse's tables."""
     with opened(file) as base:
         def ask(question):
@@ -62,8 +80,9 @@ def rows_of(file, version=2):
         found = {"records": ask(items.format("stamp, value, datum, flags", "")), "gaps": ask(items.format(f"last, {doubtful}", "NOT")),
                  "epochs": ask(f"SELECT id >> 15, id & 32767, number, {'why' if version == 3 else 'NULL'} FROM beginnings")}
         if version == 3:
+            base.create_function("moment", 1, answered)
             found["devices"] = ask("SELECT id, address, dnet, dadr, instance, name, revision, iif(whole, 't', 'f'), iif(stopped, 't', 'f'),"
-                                   " answered || '+00', offset FROM devices")
+                                   " moment(answered), offset FROM devices")
             found["logs"] = ask("SELECT id, device, instance, name, source, units, description, restart, revision,"
                                 " iif(stopped, 't', 'f') FROM logs")
     return found
@@ -123,7 +142,7 @@ class Server:
             out, errors = process.communicate()
         return process.returncode, out, errors
 
-    def loaded(self, site, version=2):
+    def loaded(self, site, version=3):
         """What the warehouse has of a site, as `rows_of` tells it of a file."""
         where = f"WHERE site = (SELECT site FROM bac.sites WHERE name = '{site}')"
         self.surroundings["PGTZ"] = "UTC"

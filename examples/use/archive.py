@@ -74,7 +74,8 @@ def copied(file, copy):
 
 
 def gathered(path, room):
-    """All parts as one database of our own, and its format: the newest part has the logs and beginnings of all."""
+    """All parts as one database of our own, and its format: the newest part has the logs of all, and each beginning that it has
+    as it is now."""
     whole, version = os.path.join(room, "whole.db"), None
     for file in parts_of(path):
         if version is None:
@@ -84,6 +85,7 @@ def gathered(path, room):
         if copied(file, part) == version:
             base = sqlite3.connect(whole, isolation_level=None)
             base.execute("ATTACH ? AS part", (part,))
+            base.execute("INSERT OR IGNORE INTO beginnings SELECT * FROM part.beginnings")
             base.execute("INSERT OR IGNORE INTO items SELECT * FROM part.items")
             base.close()
         os.remove(part)

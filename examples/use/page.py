@@ -41,10 +41,11 @@ BEGINNINGS = {2: "SELECT id, number, NULL FROM beginnings ORDER BY id", 3: "SELE
 SPAN = ("SELECT strftime('%s', substr(min(stamp), 1, 19)), strftime('%s', substr(max(stamp), 1, 19)) FROM items"
         " WHERE last IS NULL AND instr(stamp, '*') = 0 AND stamp < ?")
 
-UNITS = {"degrees-celsius": "°C", "degrees-fahrenheit": "°F", "degrees-kelvin": "K", "percent": "%", "no-units": "",
-         "percent-relative-humidity": "% RH", "parts-per-million": "ppm", "pascals": "Pa", "kilopascals": "kPa", "bars": "bar",
-         "watts": "W", "kilowatts": "kW", "watt-hours": "Wh", "kilowatt-hours": "kWh", "volts": "V", "amperes": "A", "hertz": "Hz",
-         "liters-per-second": "l/s", "liters-per-hour": "l/h", "cubic-meters-per-hour": "m³/h", "cubic-meters": "m³", "luxes": "lx"}
+# The units that are common, by their numbers in the standard.
+UNITS = {"enum(62)": "°C", "enum(64)": "°F", "enum(63)": "K", "enum(98)": "%", "enum(95)": "", "enum(29)": "% RH", "enum(96)": "ppm",
+         "enum(53)": "Pa", "enum(54)": "kPa", "enum(55)": "bar", "enum(47)": "W", "enum(48)": "kW", "enum(18)": "Wh", "enum(19)": "kWh",
+         "enum(5)": "V", "enum(3)": "A", "enum(27)": "Hz", "enum(87)": "l/s", "enum(136)": "l/h", "enum(135)": "m³/h", "enum(80)": "m³",
+         "enum(37)": "lx"}
 OBJECTS = {0: "Analog Input", 1: "Analog Output", 2: "Analog Value", 3: "Binary Input", 4: "Binary Output", 5: "Binary Value",
            8: "Device", 12: "Loop", 13: "Multi-state Input", 14: "Multi-state Output", 19: "Multi-state Value",
            23: "Accumulator", 45: "Integer Value", 46: "Large Analog Value", 48: "Positive Integer Value"}

@@ -29,7 +29,8 @@ def seconds(stamp):
 
 
 def name_of(base, address, instance):
-    row = base.execute("SELECT name FROM logs WHERE address = ? AND instance = ?", (address, instance)).fetchone()
+    row = base.execute("SELECT l.name FROM logs l JOIN devices d ON d.id = l.device WHERE d.address = ? AND l.instance = ?",
+                       (address, instance)).fetchone()
     return row and row[0]
 
 
