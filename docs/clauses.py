@@ -18,7 +18,7 @@ TOP = pathlib.Path(__file__).resolve().parent.parent
 PAGE = TOP / "docs" / "CLAUSES.md"
 CRATES = TOP / "crates"
 # Crates of tests, of which nothing is promised; programs have no lib.rt.
-TESTS = re.compile(r".*_tests$|bac_scripted_link$|bac_ground$")
+TESTS = re.compile(r".*_tests$|bac_scripted_link$")
 
 HEAD = """# The laws and the calls, crate by crate
 
