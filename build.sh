@@ -16,7 +16,7 @@ begun=$SECONDS
 # Little can be proved beside bac_wire, bac_apdu and bac_log, in turn, but the archive: so they share the processors. Each
 # has its own `rt lib`, since that of bac_log alone would read the sources of all three once more before.
 if [ "$jobs" -gt 1 ]; then
-    (cd bac_archive3 && exec rt lib --jobs 1) &
+    (cd bac_archive && exec rt lib --jobs 1) &
     archive=$!
     trap 'kill "$archive" 2> /dev/null || true' EXIT
     for crate in bac_wire bac_apdu bac_log; do

@@ -31,8 +31,7 @@ tree() {
     mkdir -p "$units"
     install -m 644 examples/use/systemd/*.service examples/use/systemd/*.timer "$units"
     install -D -m 644 -t "$doc" CHANGELOG.md LICENSE-MIT LICENSE-APACHE docs/TOOLS.md docs/ARCHIVE.md docs/WAREHOUSE.md docs/SECURITY.md
-    install -D -m 644 -t "$doc/examples" examples/use/plant.conf examples/use/records.* examples/use/page.css \
-        examples/use/systemd/copy.conf
+    install -D -m 644 -t "$doc/examples" examples/use/plant.conf examples/use/records.* examples/use/page.css
     install -D -m 644 -t "$doc/examples/warehouse" examples/use/warehouse/*.sql examples/use/warehouse/*.py
     install -m 755 examples/use/warehouse/load "$doc/examples/warehouse"
     for file in examples/use/*.sh examples/use/*.py examples/use/trace2script.awk; do install -m 755 "$file" "$doc/examples"; done
@@ -77,10 +76,11 @@ Priority: optional
 Installed-Size: $(find "$at/usr" -type f -printf '%s\n' | awk '{ kib += int(($1 + 1023) / 1024) } END { print kib }')
 Depends: libc6${libc:+ (>= ${libc#GLIBC_})}
 Suggests: bash-completion, man-db, python3, sqlite3, postgresql-client
-Description: keeps trend logs of BACnet/IP devices, and reads and writes them
- The program bac keeps the records of trend logs in a database of SQLite, each
- once, with each gap by its numbers. It also prints them, finds devices, reads
- and writes properties, and can be a device itself. Its code is proved.
+Description: historian and client tools for BACnet/IP
+ The program bac copies trend logs from BACnet/IP devices into an SQLite file,
+ every record once, and every stretch that a device had overwritten as a gap.
+ It also prints logs, discovers and simulates devices, and reads and writes
+ their properties. Its code is proved.
 CONTROL
 (cd "$at" && find usr -type f | sort | xargs md5sum > DEBIAN/md5sums)
 settle "$at"

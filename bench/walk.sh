@@ -58,7 +58,7 @@ done
 
 walks=${kept:-$room/crates/walk_bench/out/walk_bench}
 if [ ! -x "$walks" ]; then
-    libraries='bac_wire bac_apdu bac_log bac_objects bac_device bac_link bac_walk bac_direct'
+    libraries='bac_wire bac_apdu bac_log bac_objects bac_device bac_link bac_walk bac_memory_link'
     mkdir -p "$room/crates/walk_bench/src"
     cp HANDLES "$room"
     for library in $libraries; do

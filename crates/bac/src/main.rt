@@ -3,9 +3,9 @@
 #![tactic(auto)]
 
 use bac_drive::SteadyClock;
-use bac_heeding::Heeding;
-use bac_onward::Onward;
+use bac_invoke_ids::Onward;
 use bac_run::{Console, DiskFiles, FolderFiles, Machine, run};
+use bac_socket_notes::Heeding;
 use bac_tools::{Fault, SystemClock, UdpSockets, UntilRefused, tell};
 use bac_trace::{Traced, Writers};
 use sqlite::Unknown;

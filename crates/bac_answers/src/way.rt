@@ -15,7 +15,7 @@ use bac_apdu::choice::{I_AM, WHO_IS};
 use bac_apdu::{
     Apdu, Far, Frame, IAm, Npdu, Route, read_apdu, read_frame, read_npdu, write_datagram,
 };
-use bac_wire::{Datagram, ObjectId};
+use bac_wire::{Address, Datagram, ObjectId};
 
 /// The first octet of an Unconfirmed-Request (clause 20.1.3).
 const UNCONFIRMED_REQUEST: u8 = 0x10;
@@ -31,7 +31,7 @@ const ALL_NETWORKS: u16 = 0xffff;
 pub struct Way {
     /// Four octets of IPv4 address and two of port, high octet first (Annex J.1.2): the device's,
     /// or those of the router which it is behind.
-    pub peer: [u8; 6],
+    pub peer: Address,
     /// Its place behind that router.
     pub route: Option<Route>,
 }
@@ -81,7 +81,7 @@ impl Way {
     }
 
     // The same, if it comes by this address.
-    fn device_by(&self, address: [u8; 6], npdu: &[u8]) -> Option<ObjectId>
+    fn device_by(&self, address: Address, npdu: &[u8]) -> Option<ObjectId>
         ensures { result ≡ device_by self.now address npdu.now }
     {
         if address == self.peer {
@@ -94,7 +94,7 @@ impl Way {
     /// The Device object of the I-Am that a datagram from this sender is, if it comes from that
     /// device: another one behind the same router isn't it. A Forwarded-NPDU comes from the address
     /// that it tells.
-    pub fn i_am(&self, from: [u8; 6], datagram: &[u8]) -> Option<ObjectId>
+    pub fn i_am(&self, from: Address, datagram: &[u8]) -> Option<ObjectId>
         ensures { result ≡ i_am_by self.now from datagram.now }
     {
         let device = match read_frame(datagram) {

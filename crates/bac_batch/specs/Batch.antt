@@ -1,7 +1,7 @@
 -- A machine around a machine, which holds its rows. Read `GivesBatched`, `HearsBatched` and `ReadsBatched`.
 use Rattle.std.specs.Prelude.{◌≡◌, ◌⊎◌, ℕ, ◌-◌, ◌<◌, ◌==◌, ◌&&◌, ◌||◌, nat_le, Bool, true, false, max, min, List, []}
 use Rattle.std.specs.Prelude.{◌∷◌, ◌++◌, is_err, if◌then◌else◌}
-use Rattle.bac_archive3.specs.declared.row.Put.{Put}
+use Rattle.bac_archive.specs.declared.row.Put.{Put}
 use Rattle.bac_ports.specs.Port.{Receiving}
 use Rattle.bac_drive.specs.declared.machine.Next.{Next}
 use Rattle.bac_drive.specs.declared.machine.Next.TheVariants as next

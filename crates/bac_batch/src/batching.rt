@@ -7,7 +7,7 @@ ghost use Rattle.bac_batch.specs.Batch.{HoldsRows, IsBatch, IsBatchBefore, IsFre
 ghost use Rattle.bac_batch.specs.Batch.{IsKeep, NoneFreed, ReadsBatched, Tells, Waits};
 ghost use Rattle.bac_batch.specs.Batch.{cut_short, fresh_batch, is_due, is_nearly_full, left};
 
-use bac_archive3::Put;
+use bac_archive::Put;
 use bac_drive::{Machine, Next};
 use bac_ports::{Heard, SocketFault};
 use std::alloc::{AllocError, Global};

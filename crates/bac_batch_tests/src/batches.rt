@@ -1,6 +1,6 @@
 //! A machine that says what a list has, and what is given of it.
 
-use bac_archive3::{BeginningRow, Put};
+use bac_archive::{BeginningRow, Put};
 use bac_batch::Batching;
 use bac_drive::{Machine, Next};
 use bac_ports::{Heard, SocketFault};

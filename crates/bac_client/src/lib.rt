@@ -15,21 +15,21 @@
 //!
 //! This crate is the door: it has no code of its own, and re-exports what a tool needs. The walk is
 //! of bac_walk, requests, transactions and links of bac_link, ports and links over them of
-//! bac_ports, links in memory of bac_direct, and a network that repeats and reorders of bac_world.
-//! What their calls take and answer comes with them.
+//! bac_ports, links in memory of bac_memory_link, and a network that repeats and reorders of
+//! bac_world. What their calls take and answer comes with them.
 #![tactic(auto)]
 
 pub use bac_apdu::{Apdu, Extent, ReadProperty, ReadRange, Route, WriteProperty};
-pub use bac_direct::{
-    DirectLink, LinkEvent, RoutedLink, device_answers_tell_ours, questions_are_the_devices,
-    replies_are_the_devices, routed_asks_tell_ours, routers_hand_on_questions,
-};
 pub use bac_link::{
     Answer, ExchangeFault, Item, LogLink, Lost, Pending, Received, Refusal, Request, Timeout,
     Transactions, Verdict, answers, answers_tell_requests_apart, asks_tell_ours, calls_are_events,
     can_be_joined, can_be_resumed, delivers_each_once, exchange, judge, read_datagram,
 };
 pub use bac_log::{Datum, Entry};
+pub use bac_memory_link::{
+    DirectLink, LinkEvent, RoutedLink, device_answers_tell_ours, questions_are_the_devices,
+    replies_are_the_devices, routed_asks_tell_ours, routers_hand_on_questions,
+};
 pub use bac_ports::{Heard, OpenFault, Port, SocketFault, UdpLink, UdpPort, exchanges_are_runs};
 pub use bac_walk::{
     BadReply, Batch, Count, Ended, Gap, Numbered, Outcome, Progress, Sink, Step, Walk, WalkFault,

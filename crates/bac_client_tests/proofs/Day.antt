@@ -12,7 +12,7 @@ use Rattle.bac_apdu.specs.Service.WriteProperty.{write_property_at}
 use Rattle.bac_objects.specs.declared.lines.DeviceLine.{DeviceLine}
 use Rattle.bac_device.specs.Answer.{answer}
 use Rattle.bac_device.specs.Receiving.{heard_at}
-use Rattle.bac_direct.specs.Ahead.{moments_ahead}
+use Rattle.bac_memory_link.specs.Ahead.{moments_ahead}
 use Rattle.bac_client_tests.specs.Day.{day, day_moments, plant}
 
 pub day_is : (device : DeviceLine) (name : List ℕ) (source : Id) → moments_ahead (plant device name source) 1 day ≡ day_moments

@@ -11,7 +11,7 @@ use Rattle.bac_link.specs.declared.item.Item.TheVariants.{Gap}
 use Rattle.bac_walk.specs.Rests.{Rested, rest_all}
 use Rattle.bac_walk.specs.Walks.{logged_from}
 use Rattle.bac_walk.specs.declared.outcome.Ended.TheVariants.{CaughtUp}
-use Rattle.bac_direct.specs.Ahead.{moment_of}
+use Rattle.bac_memory_link.specs.Ahead.{moment_of}
 use Rattle.bac_client_tests.specs.Held.{held_from}
 
 -- the history of a log to which nothing happens

@@ -4,8 +4,8 @@ use Rattle.bac_link.specs.Datagrams.{answers_to}
 use Rattle.bac_link.specs.Path.{AreWays, Path}
 use Rattle.bac_link.specs.Requests.{IsTooLong, request_octets}
 use Rattle.bac_link.specs.declared.request.Request.{Request}
-use Rattle.bac_onward.specs.Ids.{taken_by}
-use Rattle.bac_onward.specs.Onward.{behind, shift_of}
+use Rattle.bac_invoke_ids.specs.Ids.{taken_by}
+use Rattle.bac_invoke_ids.specs.Onward.{behind, shift_of}
 
 -- What came over a port, which was opened behind so many questions and whose own questions begin with invoke ID 1,
 -- isn't taken if it answers one of the last 255 of them, as it came.

@@ -6,8 +6,8 @@ use Rattle.bac_objects.specs.State.{State}
 use Rattle.bac_objects.specs.declared.lines.DeviceLine.{DeviceLine}
 use Rattle.bac_objects.specs.declared.lines.ObjectLine.TheVariants.{Log}
 use Rattle.bac_link.specs.Delivery.{Moment}
-use Rattle.bac_direct.specs.declared.event.LinkEvent.{LinkEvent}
-use Rattle.bac_direct.specs.declared.event.LinkEvent.TheVariants.{Sample, Handle, Answer, Lose}
+use Rattle.bac_memory_link.specs.declared.event.LinkEvent.{LinkEvent}
+use Rattle.bac_memory_link.specs.declared.event.LinkEvent.TheVariants.{Sample, Handle, Answer, Lose}
 
 -- Trend Log 1, which holds three records, and logged none before; of any source
 abbrev pub plant : DeviceLine → List ℕ → Id → State

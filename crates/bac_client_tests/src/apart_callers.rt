@@ -4,8 +4,8 @@
 ghost use Rattle.bac_link.specs.Requests.{IsSendable};
 ghost use Rattle.bac_client_tests.specs.Apart.{IsNoneOfBefore};
 
+use bac_invoke_ids::late_answers_are_none;
 use bac_link::{Received, Request, Transactions};
-use bac_onward::late_answers_are_none;
 
 /// Whether what came over a port is taken for the answer to the first question over it. Where
 /// invoke IDs go on, no answer to one of the last 255 questions over the ports before is.

@@ -3,9 +3,9 @@
 //! examples/check/asking.talk.
 
 use bac_device::{Device, DeviceLine, Name, ObjectLine};
-use bac_direct::{DirectLink, LinkEvent};
 use bac_link::{Item, LogLink, Lost};
 use bac_log::{Datum, Entry};
+use bac_memory_link::{DirectLink, LinkEvent};
 use bac_walk::{Outcome, Why};
 use bac_wire::{Date4, ObjectId, Stamp, Time4};
 use std::alloc::Global;

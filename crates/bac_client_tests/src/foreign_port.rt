@@ -10,15 +10,15 @@ use bac_link::Transactions;
 use bac_ports::{Heard, Port, SocketFault, UdpLink};
 use bac_query::{Fetched, Layout, QueryFault, fetch_log_ahead};
 use bac_walk::{Walk, Why, honest_is_delivered, transacted_is_brought};
-use bac_wire::{Datagram, ObjectId};
+use bac_wire::{Address, Datagram, ObjectId};
 use std::alloc::Global;
 use std::io::Write;
 
 /// 192.168.1.20:47808
-const DEVICE: [u8; 6] = [192, 168, 1, 20, 0xba, 0xc0];
+const DEVICE: Address = [192, 168, 1, 20, 0xba, 0xc0];
 
 /// 192.168.1.21:47808
-const STRANGER: [u8; 6] = [192, 168, 1, 21, 0xba, 0xc0];
+const STRANGER: Address = [192, 168, 1, 21, 0xba, 0xc0];
 
 /// Carries questions to the device. Before each of its answers comes a datagram of another sender
 /// that looks like one of them.
@@ -36,7 +36,7 @@ impl Port for ForeignPort {
 
     ghost receives_within = { λ old wait answer new. Unit {0} };
 
-    fn send(&mut self, octets: &[u8], _to: [u8; 6]) -> Result<(), SocketFault> {
+    fn send(&mut self, octets: &[u8], _to: Address) -> Result<(), SocketFault> {
         match Datagram::of(octets) {
             Some(question) => {
                 self.question = question;

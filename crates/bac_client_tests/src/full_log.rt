@@ -3,8 +3,8 @@
 use crate::direct_link::plant_with;
 use crate::walk::walk_from;
 use bac_device::Device;
-use bac_direct::DirectLink;
 use bac_link::Transactions;
+use bac_memory_link::DirectLink;
 use bac_walk::{Why, collect};
 use std::alloc::Global;
 

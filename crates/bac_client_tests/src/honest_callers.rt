@@ -7,11 +7,11 @@ ghost use Rattle.bac_walk.specs.declared.outcome.Why.TheVariants as why;
 ghost use Rattle.bac_walk.specs.declared.outcome.WalkFault.{WalkFault as WalkFaultOf};
 ghost use Rattle.bac_walk.specs.declared.outcome.WalkFault.TheVariants as fault;
 ghost use Rattle.bac_link.specs.Moments.{AreInWindow};
-ghost use Rattle.bac_direct.specs.Ahead.{history_ahead, IsThere, moments_ahead, placed_all};
+ghost use Rattle.bac_memory_link.specs.Ahead.{history_ahead, IsThere, moments_ahead, placed_all};
 
 use bac_device::Device;
-use bac_direct::{DirectLink, LinkEvent};
 use bac_link::{LogLink, Transactions};
+use bac_memory_link::{DirectLink, LinkEvent};
 use bac_walk::{
     Outcome, Walk, collect, honest_is_delivered, moments_never_go_back, ours_are_honest,
 };

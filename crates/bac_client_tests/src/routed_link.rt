@@ -6,8 +6,8 @@ use crate::direct_link::{brought, gap, plant_with, state};
 use crate::walk::walk_from;
 use bac_apdu::Route;
 use bac_device::Device;
-use bac_direct::{DirectLink, LinkEvent, RoutedLink};
 use bac_link::{LogLink, Transactions};
+use bac_memory_link::{DirectLink, LinkEvent, RoutedLink};
 use bac_walk::{Outcome, Why, collect};
 use std::alloc::Global;
 

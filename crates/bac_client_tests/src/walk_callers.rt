@@ -18,8 +18,8 @@ ghost use Rattle.bac_walk.specs.Told.{ToldFault};
 ghost use Rattle.bac_walk.specs.Walks.{question_of};
 ghost use Rattle.bac_walk.specs.declared.outcome.WalkFault.TheVariants as fault;
 
-use bac_direct::RoutedLink;
 use bac_link::{LogLink, Transactions};
+use bac_memory_link::RoutedLink;
 use bac_walk::{Outcome, Walk, collect, replies_are_loggable, rests_all};
 use bac_wire::ObjectId;
 use std::alloc::Global;

@@ -6,7 +6,7 @@ ghost use Rattle.bac_log.specs.TrendLog.{sequence_number};
 ghost use Rattle.bac_link.specs.Delivery.{DeliversTo};
 ghost use Rattle.bac_link.specs.Moments.{AreInWindow};
 ghost use Rattle.bac_walk.specs.Place.{walk_at};
-ghost use Rattle.bac_direct.specs.Ahead.{IsThere};
+ghost use Rattle.bac_memory_link.specs.Ahead.{IsThere};
 ghost use Rattle.bac_world.specs.declared.event.WorldEvent.TheVariants.{Deliver as Delivers};
 ghost use Rattle.bac_world.specs.Network.{started};
 ghost use Rattle.bac_world.specs.Runs.{history_of, moments_of};

@@ -13,7 +13,7 @@ use bac_apdu::{
     Apdu, Far, Npdu, begin_datagram, end_datagram, write_apdu, write_datagram, write_result,
 };
 use bac_objects::Fault;
-use bac_wire::Datagram;
+use bac_wire::{Address, Datagram};
 
 /// The header of a reply: no destination, no source, no reply expected, normal priority.
 const PLAIN: Npdu = Npdu {
@@ -37,7 +37,7 @@ pub enum Receiver {
     /// Whoever sent the datagram that is answered.
     Sender,
     /// This IPv4 address and port, as a Forwarded-NPDU has them (Annex J.2.5).
-    Address([u8; 6]),
+    Address(Address),
 }
 
 /// A datagram that answers another one.

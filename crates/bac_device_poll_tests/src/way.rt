@@ -2,14 +2,15 @@
 
 use bac_apdu::Route;
 use bac_device_poll::Way;
+use bac_wire::Address;
 use std::alloc::Global;
 use std::test::Fail;
 
 /// The router's address.
-const ROUTER: [u8; 6] = [10, 0, 0, 5, 0xba, 0xc0];
+const ROUTER: Address = [10, 0, 0, 5, 0xba, 0xc0];
 
 /// The instance that a datagram in hexadecimal digits announces; 0: none.
-fn heard(alloc: Global, way: &Way, from: [u8; 6], digits: &str) -> u32 {
+fn heard(alloc: Global, way: &Way, from: Address, digits: &str) -> u32 {
     let octets = match hex::decode(alloc, digits) {
         Ok(octets) => octets,
         Err(_) => Vec::new(alloc),

@@ -2,7 +2,7 @@
 use Rattle.std.proofs.Common.{◌≡◌, ◌∙◌, ◌≤◌, ◌+◌, ◌-◌, ℕ, Bool, true, false, if◌then◌else◌, nat_le, nat_lt, List}
 use Rattle.std.proofs.Common.{[], ◌∷◌, count_by, Option, None, Some, ap, sym, refl, subst, arith}
 use Rattle.std.proofs.lemmas.Bool.{leb-false, ltb-true}
-use Rattle.bac_archive3.specs.declared.row.Put.{Put}
+use Rattle.bac_archive.specs.declared.row.Put.{Put}
 use Rattle.bac_link.specs.Transactions.{begun_with}
 use Rattle.bac_link.specs.declared.request.Request.{Request}
 use Rattle.bac_link.specs.declared.transactions.Pending.{Pending}

@@ -1,7 +1,7 @@
 -- How much was kept of a log in a run.
 use Rattle.std.specs.Prelude.{◌+◌, min, Bool, false, count_by, is_none, is_some}
-use Rattle.bac_archive3.specs.declared.row.Put.{Put}
-use Rattle.bac_archive3.specs.declared.row.Put.TheVariants.{Item}
+use Rattle.bac_archive.specs.declared.row.Put.{Put}
+use Rattle.bac_archive.specs.declared.row.Put.TheVariants.{Item}
 use Rattle.bac_drive.specs.declared.machine.Next.{Next}
 use Rattle.bac_drive.specs.declared.machine.Next.TheVariants as next
 use Rattle.bac_device_poller.specs.declared.counts.Counts.{Counts}

@@ -4,10 +4,10 @@ use Rattle.std.specs.Prelude.{List, [], ◌∷◌, ◌++◌, Option, None, Some}
 use Rattle.sqlite_value.specs.declared.value.Value.TheVariants.{Int, Null, Real, Text}
 use Rattle.sqlite_value.specs.Order.{Row as Values}
 use Rattle.sqlite.specs.Values.{or_null}
-use Rattle.bac_archive3.specs.Put.{columns_of, is_new, table_of}
-use Rattle.bac_archive3.specs.declared.row.Put.{Put}
-use Rattle.bac_places.specs.Rows.{key, stamp_text, value_of}
-use Rattle.bac_places.specs.declared.place.Place.{Place}
+use Rattle.bac_archive.specs.Put.{columns_of, is_new, table_of}
+use Rattle.bac_archive.specs.declared.row.Put.{Put}
+use Rattle.bac_row_ids.specs.Rows.{key, stamp_text, value_of}
+use Rattle.bac_row_ids.specs.declared.place.Place.{Place}
 use Rattle.bac_link.specs.declared.item.Item.{Item}
 use Rattle.bac_link.specs.declared.item.Item.TheVariants.{Gap, Logged}
 use Rattle.bac_walk.specs.declared.batch.Numbered.{Numbered}

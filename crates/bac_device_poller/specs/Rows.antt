@@ -7,8 +7,8 @@ use Rattle.sqlite_value.specs.declared.value.Value.{Value}
 use Rattle.sqlite_value.specs.declared.value.Value.TheVariants.{Int, Null, Text}
 use Rattle.sqlite_value.specs.Order.{Row as Values}
 use Rattle.sqlite.specs.Values.{or_null}
-use Rattle.bac_archive3.specs.Put.{flag}
-use Rattle.bac_archive3.specs.declared.row.DeviceRow.{DeviceRow}
+use Rattle.bac_archive.specs.Put.{flag}
+use Rattle.bac_archive.specs.declared.row.DeviceRow.{DeviceRow}
 use Rattle.bac_device_poller.specs.Puts.{PlaceAs, PutAs}
 
 -- a text as a column: NULL if it isn't UTF-8, which each text of an archive is

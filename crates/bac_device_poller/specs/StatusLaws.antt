@@ -1,7 +1,7 @@
 -- What the status of a device's poll says, whoever answers. Read `StatusIsTold` and `LogsAreCounted`.
 use Rattle.std.specs.Prelude.{◌≡◌, ◌⊎◌, ◌<◌, ◌≤◌, min, false, List, Option, None, Some}
 use Rattle.std.specs.List.{Contains}
-use Rattle.bac_archive3.specs.declared.row.Put.{Put}
+use Rattle.bac_archive.specs.declared.row.Put.{Put}
 use Rattle.bac_poll.specs.Turns.{Turned as LogTurned}
 use Rattle.bac_device_poll.specs.Turns.{Turned}
 use Rattle.bac_device_poll.specs.declared.task.Polled.{Polled}

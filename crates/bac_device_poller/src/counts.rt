@@ -7,7 +7,7 @@ ghost use Rattle.bac_walk.specs.Walks.{gap_items};
 ghost use Rattle.bac_device_poller.specs.Turns.{counts_with_turn};
 ghost use Rattle.bac_device_poller.specs.Counts.{counts_with, is_gap, is_record, no_counts};
 
-use bac_archive3::Put;
+use bac_archive::Put;
 use bac_drive::Next;
 use bac_poll::Turn;
 use bac_walk::Gap;

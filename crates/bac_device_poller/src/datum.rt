@@ -1,7 +1,7 @@
 //! The number that a datum is.
 
 ghost use Rattle.std.specs.Prelude.{◌≡◌};
-ghost use Rattle.bac_places.specs.Rows.{value_of};
+ghost use Rattle.bac_row_ids.specs.Rows.{value_of};
 
 use bac_log::Datum;
 use std::num::{f32_from_bits_with_nan, nearest_i64_to_f64, nearest_u64_to_f64};

@@ -3,12 +3,12 @@
 ghost use Rattle.std.specs.Prelude.{◌≡◌};
 
 use bac_device_poll::DeviceEnd;
-use bac_wire::{Datagram, Stamp};
+use bac_wire::{Address, Datagram, Stamp};
 
 /// An answer that came from an address, at a moment of this machine's clock.
 #[derive(Drop)]
 pub struct Came {
-    pub from: [u8; 6],
+    pub from: Address,
     pub datagram: Datagram,
     pub at: Stamp,
 }

@@ -22,10 +22,10 @@ use crate::telling::{
     others_line, unlisted_line, unlisted_reason, untold_line,
 };
 use crate::texts::text_in;
-use bac_archive3::{LogRow, Put};
+use bac_archive::{LogRow, Put};
 use bac_device_poll::{Entry, Naming, Offset, Others, Who};
-use bac_places::Place;
 use bac_poll::PollEnd;
+use bac_row_ids::Place;
 use bac_walk::WalkFault;
 use bac_wire::ObjectId;
 use std::alloc::{AllocError, Global};

@@ -2,7 +2,7 @@
 
 ghost use Rattle.std.specs.Prelude.{◌≡◌, IfOk, OnOk};
 ghost use Rattle.std.specs.Str.{bytes_eq};
-ghost use Rattle.bac_archive3.specs.Put.{log_columns};
+ghost use Rattle.bac_archive.specs.Put.{log_columns};
 ghost use Rattle.bac_poll.specs.State.{told_as};
 ghost use Rattle.bac_device_poller.specs.Naming.{has_word, is_revision, named_as, source_or};
 ghost use Rattle.bac_device_poller.specs.Naming.{text_or, units_or};
@@ -11,10 +11,10 @@ ghost use Rattle.bac_device_poller.specs.Rows.{columns_of_log};
 
 use crate::naming::{source_text, units_text};
 use crate::texts::{copied, restart_in, text_in};
-use bac_archive3::LogRow;
+use bac_archive::LogRow;
 use bac_device_poll::{Naming, Reference, Text};
-use bac_places::Place;
 use bac_poll::Told;
+use bac_row_ids::Place;
 use std::alloc::{AllocError, Global};
 use std::marker::Model;
 

@@ -24,12 +24,12 @@ use crate::rows::Rows;
 use crate::status::Status;
 use crate::telling::told_by;
 use crate::transacting::{awaits, close};
-use bac_archive3::Put;
+use bac_archive::Put;
 use bac_device_poll::{DeviceEnd, DevicePoll, Entry, Question, Stage, Step, Turn, Way};
 use bac_drive::Next;
 use bac_link::{Request, Timeout, Transactions};
 use bac_poll::Turn as LogTurn;
-use bac_wire::{Datagram, Stamp};
+use bac_wire::{Address, Datagram, Stamp};
 use std::alloc::{AllocError, Global};
 use std::marker::Model;
 
@@ -128,7 +128,7 @@ impl DevicePoller {
     }
 
     /// The address at which it is asked.
-    pub fn peer(&self) -> [u8; 6]
+    pub fn peer(&self) -> Address
         ensures { result ≡ self.now.way.peer }
     {
         self.way.peer
@@ -198,7 +198,7 @@ impl DevicePoller {
     }
 
     /// Whether a datagram from an address answers what is open.
-    pub fn is_answer(&self, from: [u8; 6], datagram: &Datagram) -> bool
+    pub fn is_answer(&self, from: Address, datagram: &Datagram) -> bool
         ensures { result ≡ is_answer self.now from datagram.now }
     {
         if self.seeks() {
@@ -216,7 +216,7 @@ impl DevicePoller {
 
     /// A datagram came from an address, at this moment of this machine's clock. It is taken if it
     /// answers what is open, and else isn't heeded: whether it is.
-    pub fn hear(&mut self, from: [u8; 6], datagram: &Datagram, now: Stamp) -> bool
+    pub fn hear(&mut self, from: Address, datagram: &Datagram, now: Stamp) -> bool
         ensures is { result ≡ is_answer self.old from datagram.now }
         ensures heard { self.new ≡ heard_by from datagram.now now self.old }
     {

@@ -1,8 +1,8 @@
 //! What is put of a turn.
 
 ghost use Rattle.std.specs.Prelude.{◌≡◌, IfOk, OnOk, None, Some, true, false, map};
-ghost use Rattle.bac_archive3.specs.Put.{item_columns};
-ghost use Rattle.bac_places.specs.Rows.{era};
+ghost use Rattle.bac_archive.specs.Put.{item_columns};
+ghost use Rattle.bac_row_ids.specs.Rows.{era};
 ghost use Rattle.bac_poll.specs.State.{PollState};
 ghost use Rattle.bac_poll.specs.Turns.{turned};
 ghost use Rattle.bac_walk.specs.Walks.{gap_items};
@@ -15,10 +15,10 @@ ghost use Rattle.bac_device_poller.specs.Puts.{with_record_in, with_records, wit
 ghost use Rattle.bac_device_poller.specs.Puts.{with_round, with_turn};
 
 use crate::datum::value_of;
-use bac_archive3::{BeginningRow, ItemRow, Put};
-use bac_places::Place;
+use bac_archive::{BeginningRow, ItemRow, Put};
 use bac_poll::{Beginning, Line, Turn};
 use bac_print::{push_datum, push_flags, push_moment};
+use bac_row_ids::Place;
 use bac_walk::{Gap, Numbered};
 use std::alloc::{AllocError, Global};
 use std::marker::Model;

@@ -2,7 +2,7 @@
 
 ghost use Rattle.std.specs.Prelude.{◌≡◌, ◌<◌, [], IfOk, OnOk, IfSome, length, map};
 ghost use Rattle.std.specs.Prelude.{option_map, position};
-ghost use Rattle.bac_archive3.specs.Put.{device_columns};
+ghost use Rattle.bac_archive.specs.Put.{device_columns};
 ghost use Rattle.bac_device_poller.specs.Entries.{failing, fresh_rows, is_log, log_in, logs_beside};
 ghost use Rattle.bac_device_poller.specs.Entries.{putting, putting_device, putting_log, raising};
 ghost use Rattle.bac_device_poller.specs.Entries.{telling, telling_any, with_log, without};
@@ -17,7 +17,7 @@ use crate::log_record::LogRecord;
 use crate::naming::moment_text;
 use crate::status::Status;
 use crate::texts::copied;
-use bac_archive3::{DeviceRow, Put};
+use bac_archive::{DeviceRow, Put};
 use bac_wire::{ObjectId, Stamp};
 use std::alloc::{AllocError, Global};
 use std::collections::VecDeque;

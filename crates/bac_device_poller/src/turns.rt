@@ -19,10 +19,10 @@ use crate::putting::{NotPut, put_turn};
 use crate::reason::reason_line;
 use crate::rows::Rows;
 use crate::status::status_of;
-use bac_archive3::Put;
+use bac_archive::Put;
 use bac_device_poll::Polled;
-use bac_places::Place;
 use bac_poll::{Line, PollEnd, Told, Turn};
+use bac_row_ids::Place;
 use std::alloc::{AllocError, Global};
 
 // What a turn puts, from a place on, and where the next row stands then.

@@ -1,11 +1,11 @@
 -- Events that lead on from where others led.
 use Rattle.std.proofs.Common.{◌≡◌, ◌≢◌, ◌∙◌, ◌==◌, IsTrue, Result, Ok, Err, OnOk, OnErr, true, length, List, [], ◌∷◌, ◌++◌, refl, sym, subst, inl, arith}
 use Rattle.std.proofs.lemmas.Bool.{eqb-true}
-use Rattle.bac_archive3.specs.declared.row.Put.{Put}
+use Rattle.bac_archive.specs.declared.row.Put.{Put}
 use Rattle.sqlite.specs.State.{HasCleanDisk, State, Survives}
 use Rattle.sqlite.specs.declared.error.Error.{Error}
 use Rattle.sqlite_trees.specs.Tree.{Trees}
-use Rattle.bac_archive3.specs.Schema.{HasArchive}
+use Rattle.bac_archive.specs.Schema.{HasArchive}
 use Rattle.bac_drive.specs.Chain.{Chain}
 use Rattle.bac_drive.proofs.Chains.{joined}
 use Rattle.bac_drive.specs.Event.{Event, Kept, Printed, Read, Sent, Waited, Warned}

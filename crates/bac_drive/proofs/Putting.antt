@@ -1,7 +1,7 @@
 -- What the batches of a run come to.
 use Rattle.std.proofs.Common.{List, [], ◌∷◌, sym, subst}
-use Rattle.bac_archive3.specs.Put.{IsPut, LoseNothing, PutsJoin, PutsLoseNothing}
-use Rattle.bac_archive3.proofs.PutLemmas.{put_nothing}
+use Rattle.bac_archive.specs.Put.{IsPut, LoseNothing, PutsJoin, PutsLoseNothing}
+use Rattle.bac_archive.proofs.PutLemmas.{put_nothing}
 use Rattle.bac_drive.specs.Chain.{Chain}
 use Rattle.bac_drive.specs.Event.{Event, Kept, Printed, Read, Sent, Waited, Warned}
 use Rattle.bac_drive.specs.Happens.{Acts, Changes, Happens, Scene}

@@ -1,6 +1,6 @@
 -- What happens while a machine is driven.
 use Rattle.std.specs.Prelude.{ℕ, List}
-use Rattle.bac_archive3.specs.declared.row.Put.{Put}
+use Rattle.bac_archive.specs.declared.row.Put.{Put}
 use Rattle.bac_ports.specs.Port.{Receiving, Sending}
 
 -- Octets are sent to an address, and the port answers; a datagram is waited for, so many milliseconds at most, and

@@ -6,8 +6,8 @@ use Rattle.sqlite.specs.Held.{Held, state}
 use Rattle.sqlite.specs.State.{HasCleanDisk, State}
 use Rattle.sqlite_trees.specs.Tree.{Trees}
 use Rattle.sqlite_trees.specs.declared.store.Store.{Ghosts}
-use Rattle.bac_archive3.specs.Put.{FailsToPut, IsPut}
-use Rattle.bac_archive3.specs.declared.row.Put.{Put}
+use Rattle.bac_archive.specs.Put.{FailsToPut, IsPut}
+use Rattle.bac_archive.specs.declared.row.Put.{Put}
 use Rattle.bac_drive.specs.Chain.{Chain}
 use Rattle.bac_ports.specs.Port.{Receiving, Sending}
 use Rattle.bac_print.specs.Output.{AppendsPart}

@@ -1,9 +1,9 @@
 -- What a run leaves of an archive, whatever machine is driven, in the words of the events.
 use Rattle.std.specs.Prelude.{List, [], ◌∷◌, ◌++◌}
 use Rattle.sqlite_trees.specs.Tree.{Trees}
-use Rattle.bac_archive3.specs.Put.{IsPut, LoseNothing}
-use Rattle.bac_archive3.specs.Schema.{HasArchive}
-use Rattle.bac_archive3.specs.declared.row.Put.{Put}
+use Rattle.bac_archive.specs.Put.{IsPut, LoseNothing}
+use Rattle.bac_archive.specs.Schema.{HasArchive}
+use Rattle.bac_archive.specs.declared.row.Put.{Put}
 use Rattle.bac_drive.specs.Chain.{Chain}
 use Rattle.bac_drive.specs.Event.{Event, Kept, Printed, Read, Sent, Waited, Warned}
 use Rattle.bac_drive.specs.Happens.{Acts, Happens, Leaves, Scene}

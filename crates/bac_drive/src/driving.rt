@@ -5,15 +5,15 @@ ghost use Rattle.std.specs.Io.KnownBytes.{Appends};
 ghost use Rattle.sqlite.specs.Held.{state};
 ghost use Rattle.sqlite.specs.State.{HasCleanDisk, Survives};
 ghost use Rattle.sqlite.specs.Effect.{Database};
-ghost use Rattle.bac_archive3.specs.Put.{FailsToPut, IsPut};
-ghost use Rattle.bac_archive3.specs.Schema.{HasArchive};
+ghost use Rattle.bac_archive.specs.Put.{FailsToPut, IsPut};
+ghost use Rattle.bac_archive.specs.Schema.{HasArchive};
 ghost use Rattle.bac_print.specs.Output.{AppendsPart};
 ghost use Rattle.bac_drive.specs.Happens.{IsStopped, Leaves, Runs, StaysSettled, Stops, Takes};
 ghost use Rattle.bac_drive.specs.Happens.{acting, scene};
 
 use crate::clock::Clock;
 use crate::machine::{Machine, Next};
-use bac_archive3::{Put, put};
+use bac_archive::{Put, put};
 use bac_ports::Port;
 use bac_print::{WriteRefused, write_text};
 use sqlite::{Alter, Connection, Error};

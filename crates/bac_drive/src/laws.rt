@@ -5,7 +5,7 @@ ghost use Rattle.bac_drive.specs.Laws.{LosesNothing, RunsPut};
 
 use crate::clock::Clock;
 use crate::machine::Machine;
-use bac_archive3::puts_are_one;
+use bac_archive::puts_are_one;
 use bac_ports::Port;
 
 /// What a run leaves of an archive is what was there, with the rows of its batches put in turn; so

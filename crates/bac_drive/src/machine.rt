@@ -4,16 +4,16 @@ ghost use Rattle.std.specs.Prelude.{ℕ, IfOk};
 ghost use Rattle.bac_ports.specs.Port.{Receiving};
 ghost use Rattle.bac_drive.specs.declared.machine.Next.{Next as NextOf};
 
-use bac_archive3::Put;
+use bac_archive::Put;
 use bac_ports::{Heard, SocketFault};
-use bac_wire::Datagram;
+use bac_wire::{Address, Datagram};
 use std::alloc::{AllocError, Global};
 
 /// What is to be done next.
 #[derive(Drop)]
 pub enum Next {
     /// A datagram goes to an address.
-    Send(Datagram, [u8; 6]),
+    Send(Datagram, Address),
     /// A datagram is waited for, so many milliseconds at most.
     Wait(u32),
     /// The clock is read.

@@ -9,9 +9,9 @@ use Rattle.sqlite.specs.Effect.{Database}
 use Rattle.sqlite.specs.Held.{Held, state}
 use Rattle.sqlite.specs.State.{HasCleanDisk, State, Survives}
 use Rattle.sqlite.proofs.StateLemmas.{survives_then}
-use Rattle.bac_archive3.specs.Put.{IsPut, PutsJoin, PutsLoseNothing}
-use Rattle.bac_archive3.specs.Schema.{HasArchive, no_schema}
-use Rattle.bac_archive3.specs.declared.row.Put.{Put}
+use Rattle.bac_archive.specs.Put.{IsPut, PutsJoin, PutsLoseNothing}
+use Rattle.bac_archive.specs.Schema.{HasArchive, no_schema}
+use Rattle.bac_archive.specs.declared.row.Put.{Put}
 use Rattle.bac_batch.specs.Batch.{Batched}
 use Rattle.bac_drive.specs.Happens.{Acts}
 use Rattle.bac_drive.specs.Laws.{RunsPut}

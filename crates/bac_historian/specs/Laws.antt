@@ -6,9 +6,9 @@ use Rattle.sqlite_disk.specs.declared.start.Start as start
 use Rattle.sqlite_trees.specs.Tree.{Trees}
 use Rattle.sqlite_wal.specs.Recovery.{Image}
 use Rattle.sqlite.specs.Effect.{Database}
-use Rattle.bac_archive3.specs.Archive.{HasId}
-use Rattle.bac_archive3.specs.Put.{LoseNothing}
-use Rattle.bac_archive3.specs.Schema.{HasArchive, no_schema}
+use Rattle.bac_archive.specs.Archive.{HasId}
+use Rattle.bac_archive.specs.Put.{LoseNothing}
+use Rattle.bac_archive.specs.Schema.{HasArchive, no_schema}
 use Rattle.bac_batch.specs.Batch.{Batched}
 use Rattle.bac_drive.specs.Happens.{Acts}
 use Rattle.bac_files.specs.Files.{FileOf, IsDoneTo, IsUnused}

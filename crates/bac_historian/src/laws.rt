@@ -7,7 +7,7 @@ ghost use Rattle.bac_historian.specs.Laws.{KillLosesNothing, LosesNothingAt};
 use crate::fault::Fault;
 use crate::files::keep_file;
 use crate::room::Room;
-use bac_archive3::puts_are_one;
+use bac_archive::puts_are_one;
 use bac_batch::Batching;
 use bac_device_poller::Status;
 use bac_drive::{Clock, runs_put};

@@ -8,7 +8,7 @@ ghost use Rattle.bac_parts.specs.Begun.{WhyNotBegun};
 ghost use Rattle.bac_historian.specs.Files.{KeepsPart};
 ghost use Rattle.bac_historian.specs.Kept.{FollowsOne, IsReadyIn};
 
-use bac_archive3::is_nothing;
+use bac_archive::is_nothing;
 use bac_files::{DiskFiles, FileOf, Place};
 use bac_parts::{FileFault, begin_archive};
 use sqlite::{Alter, Connection, Start};

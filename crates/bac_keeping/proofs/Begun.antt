@@ -7,7 +7,7 @@ use Rattle.sqlite.specs.State.{HasCleanDisk, State, Survives}
 use Rattle.sqlite.proofs.StateLemmas.{survives_then}
 use Rattle.sqlite_trees.specs.Tree.{Trees}
 use Rattle.sqlite_trees.specs.declared.store.Store.{Ghosts}
-use Rattle.bac_archive3.specs.declared.standing.Standing.{Standing}
+use Rattle.bac_archive.specs.declared.standing.Standing.{Standing}
 use Rattle.bac_drive.specs.Happens.{Acts, Leaves}
 use Rattle.bac_batch.specs.Batch.{Batched, fresh_batch}
 use Rattle.bac_site_poller.specs.Site.{SiteState}

@@ -5,10 +5,10 @@ use Rattle.sqlite.specs.Held.{Held, state}
 use Rattle.sqlite_schema.specs.declared.schema.Schema.{Schema}
 use Rattle.sqlite_trees.specs.Tree.{Trees}
 use Rattle.sqlite_trees.specs.declared.store.Store.{Ghosts}
-use Rattle.bac_archive3.specs.Archive.{HasId}
-use Rattle.bac_archive3.specs.Put.{IsPut, LoseNothing, PutsJoin, PutsLoseNothing}
-use Rattle.bac_archive3.specs.Schema.{HasArchive, archive_tables, no_schema}
-use Rattle.bac_archive3.specs.declared.row.Put.{Put}
+use Rattle.bac_archive.specs.Archive.{HasId}
+use Rattle.bac_archive.specs.Put.{IsPut, LoseNothing, PutsJoin, PutsLoseNothing}
+use Rattle.bac_archive.specs.Schema.{HasArchive, archive_tables, no_schema}
+use Rattle.bac_archive.specs.declared.row.Put.{Put}
 use Rattle.bac_drive.specs.Happens.{Acts, Scene}
 use Rattle.bac_drive.specs.Laws.{RunsPut, puts_of}
 use Rattle.bac_batch.specs.Batch.{Batched}

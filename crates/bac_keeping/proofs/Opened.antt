@@ -4,14 +4,14 @@ use Rattle.sqlite.specs.declared.error.Error.{Error}
 use Rattle.sqlite.specs.Held.{Held, state}
 use Rattle.sqlite.specs.State.{IsUnchanged, State}
 use Rattle.sqlite_trees.specs.declared.store.Store.{Ghosts}
-use Rattle.bac_archive3.specs.Archive.{FailsToOpen, WhyRefused}
-use Rattle.bac_archive3.specs.Ask.{IsLeft}
-use Rattle.bac_archive3.specs.Making.{IsMadeOf}
-use Rattle.bac_archive3.specs.Schema.{HasArchive, no_schema}
-use Rattle.bac_archive3.specs.declared.opening.Refused.{Refused}
-use Rattle.bac_archive3.specs.declared.opening.Refused.TheVariants.{Database as Failed}
-use Rattle.bac_archive3.specs.declared.row.Put.{Put}
-use Rattle.bac_archive3.specs.declared.standing.Standing.{Standing}
+use Rattle.bac_archive.specs.Archive.{FailsToOpen, WhyRefused}
+use Rattle.bac_archive.specs.Ask.{IsLeft}
+use Rattle.bac_archive.specs.Making.{IsMadeOf}
+use Rattle.bac_archive.specs.Schema.{HasArchive, no_schema}
+use Rattle.bac_archive.specs.declared.opening.Refused.{Refused}
+use Rattle.bac_archive.specs.declared.opening.Refused.TheVariants.{Database as Failed}
+use Rattle.bac_archive.specs.declared.row.Put.{Put}
+use Rattle.bac_archive.specs.declared.standing.Standing.{Standing}
 use Rattle.bac_device_poller.specs.Puts.{put_as}
 use Rattle.bac_plan.specs.Naming.{named_rows}
 use Rattle.bac_plan.specs.declared.named.Named.{Named}

@@ -6,15 +6,15 @@ use Rattle.std.proofs.lemmas.List.Folds.{Any-from_list_any}
 use Rattle.sqlite.specs.Effect.{Database}
 use Rattle.sqlite_schema.specs.declared.schema.Table.{Table}
 use Rattle.sqlite_trees.specs.Tree.{IsTable}
-use Rattle.bac_archive3.specs.Making.{IsMadeOf}
-use Rattle.bac_archive3.specs.Put.{left, log_columns}
-use Rattle.bac_archive3.specs.Schema.{HasArchive}
-use Rattle.bac_archive3.specs.declared.row.DeviceRow.{DeviceRow}
-use Rattle.bac_archive3.specs.declared.row.LogRow.{LogRow}
-use Rattle.bac_archive3.specs.declared.standing.Standing.{Standing}
-use Rattle.bac_archive3.proofs.AroundLemmas.{made_is}
-use Rattle.bac_archive3.proofs.OrphanLemmas.{from_map}
-use Rattle.bac_archive3.proofs.ReplaceLemmas.{any_of}
+use Rattle.bac_archive.specs.Making.{IsMadeOf}
+use Rattle.bac_archive.specs.Put.{left, log_columns}
+use Rattle.bac_archive.specs.Schema.{HasArchive}
+use Rattle.bac_archive.specs.declared.row.DeviceRow.{DeviceRow}
+use Rattle.bac_archive.specs.declared.row.LogRow.{LogRow}
+use Rattle.bac_archive.specs.declared.standing.Standing.{Standing}
+use Rattle.bac_archive.proofs.AroundLemmas.{made_is}
+use Rattle.bac_archive.proofs.OrphanLemmas.{from_map}
+use Rattle.bac_archive.proofs.ReplaceLemmas.{any_of}
 use Rattle.bac_device_poller.specs.Rows.{DeviceAs, device_as}
 use Rattle.bac_plan.specs.Changes.{asks_again, with_stopped}
 use Rattle.bac_plan.specs.Fresh.{FreshDevicesAs, FreshLogsAs}

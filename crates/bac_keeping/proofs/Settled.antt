@@ -1,7 +1,7 @@
 -- What was committed is so still.
 use Rattle.std.proofs.Common.{◌≡◌, inl, inr, IsTrue, Result, Ok, Err, subst, sym, ◌∙◌}
 use Rattle.sqlite.specs.State.{HasCleanDisk, IsUnchanged, State}
-use Rattle.bac_archive3.specs.Ask.{IsLeft}
+use Rattle.bac_archive.specs.Ask.{IsLeft}
 use Rattle.bac_drive.specs.Happens.{StaysSettled}
 
 -- behind an answer

@@ -1,8 +1,8 @@
 -- What is stopped stays so, and the rest goes on.
 use Rattle.std.proofs.Common.{◌≡◌, ◌&&◌, ◌||◌, not, Bool, true, false, if◌then◌else◌, [], ◌∷◌, refl, ap, subst, ◌∙◌}
 use Rattle.std.proofs.lemmas.Bool.{cond-false}
-use Rattle.bac_archive3.specs.Put.{PutsLoseNothing, log_columns}
-use Rattle.bac_archive3.specs.declared.row.LogRow.{LogRow}
+use Rattle.bac_archive.specs.Put.{PutsLoseNothing, log_columns}
+use Rattle.bac_archive.specs.declared.row.LogRow.{LogRow}
 use Rattle.bac_device_poller.specs.Rows.{DeviceAs, device_as}
 use Rattle.bac_plan.specs.Changes.{names_whole, with_stopped}
 use Rattle.bac_plan.specs.Stopping.{stops}

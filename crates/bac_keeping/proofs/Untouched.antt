@@ -6,10 +6,10 @@ use Rattle.sqlite.specs.Held.{Held, state}
 use Rattle.sqlite.specs.State.{HasCleanDisk, State, Survives}
 use Rattle.sqlite.proofs.StateLemmas.{survives_weaker}
 use Rattle.sqlite_trees.specs.declared.store.Store.{Ghosts}
-use Rattle.bac_archive3.specs.Schema.{HasArchive, no_schema}
-use Rattle.bac_archive3.specs.Put.{IsPut}
-use Rattle.bac_archive3.specs.Stands.{StandsAs}
-use Rattle.bac_archive3.specs.declared.row.Put.{Put}
+use Rattle.bac_archive.specs.Schema.{HasArchive, no_schema}
+use Rattle.bac_archive.specs.Put.{IsPut}
+use Rattle.bac_archive.specs.Stands.{StandsAs}
+use Rattle.bac_archive.specs.declared.row.Put.{Put}
 use Rattle.bac_device_poller.specs.Puts.{put_as}
 use Rattle.bac_plan.specs.Stopping.{missing_from, stopped_rows}
 use Rattle.bac_plan.specs.declared.named.Named.{Named}

@@ -6,15 +6,15 @@ use Rattle.sqlite.specs.Effect.{Database}
 use Rattle.sqlite.specs.Held.{Held, state}
 use Rattle.sqlite_trees.specs.Tree.{Trees}
 use Rattle.sqlite_trees.specs.declared.store.Store.{Ghosts}
-use Rattle.bac_archive3.specs.Archive.{FailsToOpen, WhyRefused}
-use Rattle.bac_archive3.specs.Making.{IsMadeOf}
-use Rattle.bac_archive3.specs.Put.{FailsToPut, IsPut}
-use Rattle.bac_archive3.specs.Schema.{HasArchive, no_schema}
-use Rattle.bac_archive3.specs.Stands.{FailsToTell, StandsAs}
-use Rattle.bac_archive3.specs.declared.opening.Refused.{Refused}
-use Rattle.bac_archive3.specs.declared.opening.Refused.TheVariants.{Database as Failed}
-use Rattle.bac_archive3.specs.declared.row.Put.{Put}
-use Rattle.bac_archive3.specs.declared.standing.Standing.{Standing}
+use Rattle.bac_archive.specs.Archive.{FailsToOpen, WhyRefused}
+use Rattle.bac_archive.specs.Making.{IsMadeOf}
+use Rattle.bac_archive.specs.Put.{FailsToPut, IsPut}
+use Rattle.bac_archive.specs.Schema.{HasArchive, no_schema}
+use Rattle.bac_archive.specs.Stands.{FailsToTell, StandsAs}
+use Rattle.bac_archive.specs.declared.opening.Refused.{Refused}
+use Rattle.bac_archive.specs.declared.opening.Refused.TheVariants.{Database as Failed}
+use Rattle.bac_archive.specs.declared.row.Put.{Put}
+use Rattle.bac_archive.specs.declared.standing.Standing.{Standing}
 use Rattle.bac_drive.specs.declared.driving.Fault.{Fault}
 use Rattle.bac_drive.specs.Happens.{Acts, Leaves, Runs, Scene, Stops, scene}
 use Rattle.bac_batch.specs.Batch.{Batched, fresh_batch}

@@ -4,8 +4,8 @@ use Rattle.sqlite.specs.Effect.{Database}
 use Rattle.sqlite.specs.Held.{Held, state}
 use Rattle.sqlite_trees.specs.Tree.{Trees}
 use Rattle.sqlite_trees.specs.declared.store.Store.{Ghosts}
-use Rattle.bac_archive3.specs.Put.{LoseNothing}
-use Rattle.bac_archive3.specs.Schema.{HasArchive}
+use Rattle.bac_archive.specs.Put.{LoseNothing}
+use Rattle.bac_archive.specs.Schema.{HasArchive}
 use Rattle.bac_drive.specs.Happens.{Acts}
 use Rattle.bac_batch.specs.Batch.{Batched}
 use Rattle.bac_device_poller.specs.declared.status.Status.{Status}

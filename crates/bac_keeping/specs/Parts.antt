@@ -4,10 +4,10 @@ use Rattle.sqlite.specs.Effect.{Database}
 use Rattle.sqlite.specs.Held.{Held, state}
 use Rattle.sqlite_trees.specs.Tree.{Trees}
 use Rattle.sqlite_trees.specs.declared.store.Store.{Ghosts}
-use Rattle.bac_archive3.specs.Put.{FailsToPut, IsPut}
-use Rattle.bac_archive3.specs.Stands.{StandsAs}
-use Rattle.bac_archive3.specs.declared.row.Put.{Put}
-use Rattle.bac_archive3.specs.declared.standing.Standing.{Standing}
+use Rattle.bac_archive.specs.Put.{FailsToPut, IsPut}
+use Rattle.bac_archive.specs.Stands.{StandsAs}
+use Rattle.bac_archive.specs.declared.row.Put.{Put}
+use Rattle.bac_archive.specs.declared.standing.Standing.{Standing}
 use Rattle.bac_plan.specs.declared.named.Named.{Named}
 use Rattle.bac_keeping.specs.Keeping.{ArePut, IsOpened, IsRefused, IsUnnamed, IsUnput, IsUntold}
 use Rattle.bac_keeping.specs.declared.run.KeepFault.{KeepFault}

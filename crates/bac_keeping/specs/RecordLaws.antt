@@ -4,13 +4,13 @@ use Rattle.std.specs.List.{Contains, flat_map, list_any}
 use Rattle.std.specs.List.Sorted.{IsPermutation}
 use Rattle.sqlite.specs.Effect.{Database}
 use Rattle.sqlite_trees.specs.Tree.{Trees}
-use Rattle.bac_archive3.specs.Archive.{HasId}
-use Rattle.bac_archive3.specs.Put.{LoseNothing, log_columns}
-use Rattle.bac_archive3.specs.Schema.{HasArchive}
-use Rattle.bac_archive3.specs.Stands.{StandsAs}
-use Rattle.bac_archive3.specs.declared.row.DeviceRow.{DeviceRow}
-use Rattle.bac_archive3.specs.declared.row.LogRow.{LogRow}
-use Rattle.bac_archive3.specs.declared.standing.Standing.{Standing}
+use Rattle.bac_archive.specs.Archive.{HasId}
+use Rattle.bac_archive.specs.Put.{LoseNothing, log_columns}
+use Rattle.bac_archive.specs.Schema.{HasArchive}
+use Rattle.bac_archive.specs.Stands.{StandsAs}
+use Rattle.bac_archive.specs.declared.row.DeviceRow.{DeviceRow}
+use Rattle.bac_archive.specs.declared.row.LogRow.{LogRow}
+use Rattle.bac_archive.specs.declared.standing.Standing.{Standing}
 use Rattle.bac_drive.specs.Happens.{Acts, Leaves}
 use Rattle.bac_batch.specs.Batch.{Batched}
 use Rattle.bac_device_poller.specs.Rows.{device_as}

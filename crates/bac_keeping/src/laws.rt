@@ -4,7 +4,7 @@ ghost use Rattle.bac_keeping.specs.Idle.{IdleAsksNobody};
 ghost use Rattle.bac_keeping.specs.Laws.{EndLosesNothing, FaultLosesNothing, KillLosesNothing};
 ghost use Rattle.bac_site_poller.specs.SiteLaws.{site_acts};
 
-use bac_archive3::puts_are_one;
+use bac_archive::puts_are_one;
 use bac_batch::Batching;
 use bac_drive::{Clock, runs_put};
 use bac_ports::Port;

@@ -3,14 +3,14 @@
 ghost use Rattle.std.specs.Prelude.{IfErr, IfOk, OnOk};
 ghost use Rattle.sqlite.specs.Held.{state};
 ghost use Rattle.sqlite.specs.State.{HasCleanDisk, Survives};
-ghost use Rattle.bac_archive3.specs.Schema.{HasArchive};
-ghost use Rattle.bac_archive3.specs.Stands.{StandsAs};
+ghost use Rattle.bac_archive.specs.Schema.{HasArchive};
+ghost use Rattle.bac_archive.specs.Stands.{StandsAs};
 ghost use Rattle.bac_drive.specs.Happens.{StaysSettled};
 ghost use Rattle.bac_keeping.specs.Parts.{AreNamedAndTold, ArePutAndTold, HaltsNaming};
 ghost use Rattle.bac_keeping.specs.Parts.{HaltsPutting, MayHaveNamed, MayHavePut};
 
 use crate::run::KeepFault;
-use bac_archive3::{Put, Standing, put, stands};
+use bac_archive::{Put, Standing, put, stands};
 use bac_plan::{Named, rows_named};
 use sqlite::{Alter, Connection};
 use std::alloc::Global;

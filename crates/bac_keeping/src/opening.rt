@@ -3,13 +3,13 @@
 ghost use Rattle.std.specs.Prelude.{◌≡◌, IfErr, IfOk, OnErr, OnOk};
 ghost use Rattle.sqlite.specs.Held.{state};
 ghost use Rattle.sqlite.specs.State.{HasCleanDisk, Survives};
-ghost use Rattle.bac_archive3.specs.Schema.{HasArchive};
+ghost use Rattle.bac_archive.specs.Schema.{HasArchive};
 ghost use Rattle.bac_drive.specs.Happens.{StaysSettled};
 ghost use Rattle.bac_keeping.specs.Keeping.{IsOpened, IsRefused, IsTold, MayHaveMade};
 ghost use Rattle.bac_keeping.specs.Parts.{HaltsOpening};
 
 use crate::run::KeepFault;
-use bac_archive3::{Refused, Standing, open, stands};
+use bac_archive::{Refused, Standing, open, stands};
 use sqlite::{Alter, Connection};
 use std::alloc::Global;
 

@@ -6,7 +6,7 @@ ghost use Rattle.bac_keeping.specs.RecordLaws.{KeepNames, KeepPollsAll, KeepReco
 ghost use Rattle.bac_keeping.specs.RecordLaws.{StopLosesNothing, StopStops};
 ghost use Rattle.bac_site_poller.specs.SiteLaws.{site_acts};
 
-use bac_archive3::puts_are_one;
+use bac_archive::puts_are_one;
 use bac_batch::Batching;
 use bac_drive::{Clock, runs_put};
 use bac_plan::{

@@ -1,6 +1,6 @@
 //! What a run is told, and why it halts.
 
-use bac_archive3::Refused;
+use bac_archive::Refused;
 use bac_drive::Fault;
 use bac_plan::{Named, NamingFault, Options, PlanFault};
 use sqlite::Error;

@@ -3,14 +3,14 @@
 ghost use Rattle.std.specs.Prelude.{IfErr, IfOk};
 ghost use Rattle.sqlite.specs.Held.{state};
 ghost use Rattle.sqlite.specs.State.{HasCleanDisk, Survives};
-ghost use Rattle.bac_archive3.specs.Schema.{HasArchive};
-ghost use Rattle.bac_archive3.specs.Stands.{StandsAs};
+ghost use Rattle.bac_archive.specs.Schema.{HasArchive};
+ghost use Rattle.bac_archive.specs.Stands.{StandsAs};
 ghost use Rattle.bac_drive.specs.Happens.{StaysSettled};
 ghost use Rattle.bac_keeping.specs.Stopping.{HaltsStopping, IsStopped, MayHaveStopped};
 ghost use Rattle.bac_keeping.specs.Stopping.{StopsNothing};
 
 use crate::opening::open_at;
-use bac_archive3::{Put, Refused, Standing, is_nothing, put, stands};
+use bac_archive::{Put, Refused, Standing, is_nothing, put, stands};
 use bac_plan::{Named, StopFault, rows_stopped};
 use sqlite::{Alter, Connection, Error};
 use std::alloc::Global;

@@ -2,7 +2,7 @@
 
 use bac_drive::Clock;
 use bac_ports::{Heard, Port, SocketFault};
-use bac_wire::Datagram;
+use bac_wire::{Address, Datagram};
 
 /// A clock that tells a second more each time.
 #[derive(Drop)]
@@ -25,7 +25,7 @@ pub(crate) struct Refusing {
     pub sends: u32,
     pub answers: bool,
     /// Whom the last request was for, and its invoke ID.
-    asked: Option<([u8; 6], u8)>,
+    asked: Option<(Address, u8)>,
 }
 
 impl Refusing {
@@ -54,7 +54,7 @@ impl Port for Refusing {
 
     ghost receives_within = { λ old wait answer new. Unit {0} };
 
-    fn send(&mut self, octets: &[u8], to: [u8; 6]) -> Result<(), SocketFault> {
+    fn send(&mut self, octets: &[u8], to: Address) -> Result<(), SocketFault> {
         self.sends = self.sends.saturating_add(1);
         if self.answers && octets.len() > 8 {
             self.asked = Some((to, octets[8]));

@@ -3,10 +3,10 @@
 ghost use Rattle.std.specs.Prelude.{OnOk};
 ghost use Rattle.sqlite.specs.Held.{state};
 ghost use Rattle.sqlite.specs.State.{HasCleanDisk};
-ghost use Rattle.bac_archive3.specs.Schema.{HasArchive};
+ghost use Rattle.bac_archive.specs.Schema.{HasArchive};
 
 use crate::ports::{Refusing, Ticks};
-use bac_archive3::{Standing, open, stands};
+use bac_archive::{Standing, open, stands};
 use bac_device_poller::Status;
 use bac_keeping::{Run, StopHalt, keep_site, stop_named};
 use bac_plan::{Choice, Named, Options, StopFault};

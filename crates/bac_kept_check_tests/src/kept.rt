@@ -1,7 +1,7 @@
 //! What `kept` prints.
 
 use crate::archive::{NEXT, SITE, kept, make};
-use bac_kept3::{Choice, Dates, Place, Words};
+use bac_kept::{Choice, Dates, Place, Words};
 use bac_reading::Asked;
 use std::fs::{create_dir_all, remove_dir_all, write};
 use std::test::Fail;

@@ -1,7 +1,7 @@
 //! The newest record of each log.
 
 use crate::archive::{NEXT, SITE, kept, make};
-use bac_kept3::{Choice, Words};
+use bac_kept::{Choice, Words};
 use bac_reading::Asked;
 use std::fs::{create_dir_all, remove_dir_all, write};
 use std::test::Fail;

@@ -4,12 +4,12 @@ use Rattle.sqlite_disk.specs.declared.Disk as disk
 use Rattle.sqlite_disk.specs.declared.start.Start as start
 use Rattle.sqlite_wal.specs.Recovery.{Image}
 use Rattle.bac_batch.specs.Batch.{Batched}
-use Rattle.bac_check3.specs.Whole.{WholeHasEach}
+use Rattle.bac_check.specs.Whole.{WholeHasEach}
 use Rattle.bac_drive.specs.Happens.{Acts}
 use Rattle.bac_files.specs.Files.{FileOf}
 use Rattle.bac_files.specs.Parts.{Listing, PartRules, Reading}
-use Rattle.bac_heeding.specs.Notes.{nothing}
-use Rattle.bac_heeding.specs.declared.notes.Passed.{Passed}
+use Rattle.bac_socket_notes.specs.Notes.{nothing}
+use Rattle.bac_socket_notes.specs.declared.notes.Passed.{Passed}
 use Rattle.bac_laws.proofs.Epochs.{file_whole}
 use Rattle.bac_laws.proofs.Left.{check_leaves, kept_leaves}
 use Rattle.bac_laws.proofs.Statuses.{failed, told_fails, told_memory}
@@ -35,9 +35,9 @@ use Rattle.bac_site_poller.specs.Site.{SiteState}
 use Rattle.bac_tools.specs.Run.{Ends as EndsTool}
 use Rattle.bac_tools.specs.declared.fault.Fault.TheVariants as told
 use Rattle.bac_wire.specs.Stamp.{CivilTime}
-use Rattle.bac_words.specs.declared.job.Check.{Check}
-use Rattle.bac_words.specs.declared.job.Job.TheVariants as job
-use Rattle.bac_words.specs.declared.job.Kept.{Kept}
+use Rattle.bac_command_line.specs.declared.job.Check.{Check}
+use Rattle.bac_command_line.specs.declared.job.Job.TheVariants as job
+use Rattle.bac_command_line.specs.declared.job.Kept.{Kept}
 
 module _ {Q : Type 0} (rules : PartRules Q) where
   -- a status of 0 is that of the tool

@@ -4,7 +4,7 @@ use Rattle.std.specs.List.{Contains}
 use Rattle.std.specs.Str.{bytes_eq}
 use Rattle.std.proofs.lemmas.List.Elements.{Contains-append_cases, Contains-push_cases}
 use Rattle.std.proofs.lemmas.Slice.Eq.{bytes_eq-Decides}
-use Rattle.bac_heeding.specs.Ports.{Event, Happen, Happens, Received, Sent}
+use Rattle.bac_socket_notes.specs.Ports.{Event, Happen, Happens, Received, Sent}
 use Rattle.bac_laws.specs.Events.{Capture, IsCaptured, came, sent_in, waited}
 use Rattle.bac_link.specs.Datagrams.{answers_to}
 use Rattle.bac_link.specs.declared.link.Lost.{Lost}

@@ -4,18 +4,18 @@ use Rattle.std.specs.List.{AllZip, Contains, filter}
 use Rattle.std.proofs.lemmas.List.Elements.{Contains-append_cases, Contains-append_left, Contains-append_right, Contains-push, Contains-push_cases}
 use Rattle.sqlite_trees.specs.Tree.{Trees}
 use Rattle.sqlite.specs.Effect.{Database}
-use Rattle.bac_archive3.specs.Archive.{IsArchive}
-use Rattle.bac_archive3.specs.declared.row.BeginningRow.{BeginningRow}
-use Rattle.bac_archive3.specs.declared.row.LogRow.{LogRow}
-use Rattle.bac_check3.specs.Counted.{CountsPart, IsEmpty, begun_of, course_of, is_unknown, with_begun}
-use Rattle.bac_check3.specs.Joins.{log_of}
-use Rattle.bac_check3.specs.Lines.{has_all}
-use Rattle.bac_check3.specs.Rows.{CountsCourse, is_behind, span_of}
-use Rattle.bac_check3.specs.Whole.{HasEach, WholeHasEach}
-use Rattle.bac_check3.specs.declared.counts.Counts.{Counts}
-use Rattle.bac_check3.specs.declared.course.Beginning.{Beginning}
-use Rattle.bac_check3.specs.declared.course.Course.{Course}
-use Rattle.bac_check3.specs.declared.tally.Span.{Span}
+use Rattle.bac_archive.specs.Archive.{IsArchive}
+use Rattle.bac_archive.specs.declared.row.BeginningRow.{BeginningRow}
+use Rattle.bac_archive.specs.declared.row.LogRow.{LogRow}
+use Rattle.bac_check.specs.Counted.{CountsPart, IsEmpty, begun_of, course_of, is_unknown, with_begun}
+use Rattle.bac_check.specs.Joins.{log_of}
+use Rattle.bac_check.specs.Lines.{has_all}
+use Rattle.bac_check.specs.Rows.{CountsCourse, is_behind, span_of}
+use Rattle.bac_check.specs.Whole.{HasEach, WholeHasEach}
+use Rattle.bac_check.specs.declared.counts.Counts.{Counts}
+use Rattle.bac_check.specs.declared.course.Beginning.{Beginning}
+use Rattle.bac_check.specs.declared.course.Course.{Course}
+use Rattle.bac_check.specs.declared.tally.Span.{Span}
 use Rattle.bac_files.specs.Parts.{PartRules, Reading}
 use Rattle.bac_laws.specs.Checked.{HasEachNumber, IsWhole}
 use Rattle.bac_reading.specs.Laws.{CountsOn, EachPart, IsTaken, OnePart}

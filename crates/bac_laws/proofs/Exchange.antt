@@ -2,7 +2,7 @@
 use Rattle.std.proofs.Common.{◌≡◌, ◌++◌, ◌+◌, ℕ, zero, suc, true, false, List, [], ◌∷◌, None, Some, Result, Ok, Err, refl, sym, subst, ap, ◌∙◌, append_assoc, arith}
 use Rattle.std.specs.Prelude.{is_some, replicate}
 use Rattle.std.proofs.lemmas.List.{replicate-append-replicate}
-use Rattle.bac_heeding.specs.Ports.{Event}
+use Rattle.bac_socket_notes.specs.Ports.{Event}
 use Rattle.bac_laws.proofs.Captured.{Brings, Goes, Silent, asks_once, goes_on, sent_on, silent_none, silent_on, waited_on}
 use Rattle.bac_laws.specs.Events.{Exchanged, came, sent_in, waited}
 use Rattle.bac_link.specs.Datagrams.{apdu_in}

@@ -2,7 +2,7 @@
 use Rattle.std.proofs.Common.{◌≡◌, ◌+◌, ◌*◌, ◌<◌, ◌≤◌, ℕ, suc, Bool, List, [], ◌∷◌, ◌++◌, length, Option, None, Some, Result, Ok, Err, inl, inr, refl, sym, subst, ap, ◌∙◌, suc-mul, add-mul, arith}
 use Rattle.std.proofs.lemmas.List.{length-append, length-replicate}
 use Rattle.std.proofs.lemmas.Nat.{mul-le}
-use Rattle.bac_heeding.specs.Ports.{Event}
+use Rattle.bac_socket_notes.specs.Ports.{Event}
 use Rattle.bac_laws.proofs.Captured.{captured_over, captured_unopened, goes_on, nothing_captured, sent_on}
 use Rattle.bac_laws.proofs.Exchange.{Comes, Runs, exchanged}
 use Rattle.bac_laws.specs.Events.{Exchanged, IsCaptured, came, sent_in}
@@ -35,7 +35,7 @@ use Rattle.bac_walk.specs.declared.outcome.Ended.{Ended}
 use Rattle.bac_walk.specs.declared.outcome.Ended.TheVariants.{CaughtUp, StepLimit, Stopped, Fault}
 use Rattle.bac_walk.specs.declared.outcome.Why.{Why}
 use Rattle.bac_walk.specs.declared.outcome.Why.TheVariants as why
-use Rattle.bac_words.specs.declared.job.LogReading.{LogReading}
+use Rattle.bac_command_line.specs.declared.job.LogReading.{LogReading}
 
 -- ---- one exchange
 

@@ -2,9 +2,9 @@
 use Rattle.std.proofs.Common.{◌≡◌, ◌≢◌, ◌++◌, ℕ, Bool, true, false, List, [], ◌∷◌, map, Option, None, Some, Ok, Err, inl, inr, refl, sym, subst, ap, ◌∙◌, append-nil, append_assoc}
 use Rattle.std.specs.Prelude.{length}
 use Rattle.std.specs.Io.KnownBytes.{Appends, Keeps}
-use Rattle.bac_heeding.specs.Ports.{Event, came_in}
-use Rattle.bac_heeding.specs.Ports as event
-use Rattle.bac_heeding.specs.declared.notes.Passed.{Passed}
+use Rattle.bac_socket_notes.specs.Ports.{Event, came_in}
+use Rattle.bac_socket_notes.specs.Ports as event
+use Rattle.bac_socket_notes.specs.declared.notes.Passed.{Passed}
 use Rattle.bac_laws.proofs.Captured.{Goes, captured_over, captured_unopened, nothing_captured}
 use Rattle.bac_laws.proofs.Statuses.{failed, kept_part, same_keeps}
 use Rattle.bac_laws.proofs.Taken.{AllTaken, seeks_taken}
@@ -28,9 +28,9 @@ use Rattle.bac_tools.specs.Finding.{Finds, Searches, inquiry, of_found, search_o
 use Rattle.bac_tools.specs.Run.{Ends}
 use Rattle.bac_tools.specs.Sockets.{Outside, Pipes, outside}
 use Rattle.bac_tools.specs.declared.fault.Fault.TheVariants as fault
-use Rattle.bac_words.specs.declared.job.Discovery.{Discovery}
-use Rattle.bac_words.specs.declared.job.Stations.{Stations}
-use Rattle.bac_words.specs.declared.job.Stations.TheVariants.{Listed, Input}
+use Rattle.bac_command_line.specs.declared.job.Discovery.{Discovery}
+use Rattle.bac_command_line.specs.declared.job.Stations.{Stations}
+use Rattle.bac_command_line.specs.declared.job.Stations.TheVariants.{Listed, Input}
 
 -- ---- turns as events
 

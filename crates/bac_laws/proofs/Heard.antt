@@ -10,7 +10,7 @@ use Rattle.bac_laws.proofs.Exchange.{Runs}
 use Rattle.bac_laws.specs.Printed.{Ledger}
 use Rattle.bac_link.specs.Datagrams.{answers_to}
 use Rattle.bac_link.specs.declared.link.Lost.{Lost}
-use Rattle.bac_heeding.specs.Ports.{Event}
+use Rattle.bac_socket_notes.specs.Ports.{Event}
 use Rattle.bac_ports.specs.Asking.{Asks, Awaits, IsSent, IsTaken, fitting, fitting_of, to_peer}
 use Rattle.bac_ports.specs.Port.{Sending}
 use Rattle.bac_ports.specs.Sockets.{SocketRules, socket_asks}

@@ -7,8 +7,8 @@ use Rattle.bac_batch.specs.Batch.{Batched}
 use Rattle.bac_drive.specs.Happens.{Acts}
 use Rattle.bac_files.specs.Files.{FileOf}
 use Rattle.bac_files.specs.Parts.{PartRules}
-use Rattle.bac_heeding.specs.Ports.{Event}
-use Rattle.bac_heeding.specs.declared.notes.Passed.{Passed}
+use Rattle.bac_socket_notes.specs.Ports.{Event}
+use Rattle.bac_socket_notes.specs.declared.notes.Passed.{Passed}
 use Rattle.bac_laws.proofs.Captured.{captured_behind, nothing_captured}
 use Rattle.bac_laws.proofs.Few.{Few, few_none, said_few}
 use Rattle.bac_laws.proofs.Finds.{wi, wi_nothing}
@@ -28,15 +28,15 @@ use Rattle.bac_tools.specs.Run.{Runs}
 use Rattle.bac_tools.specs.Streams.{Streams, outlets_of, outside_of, pipes_of, with_errors}
 use Rattle.bac_tools.specs.declared.fault.Fault.TheVariants as fault
 use Rattle.bac_wire.specs.Stamp.{CivilTime}
-use Rattle.bac_words.specs.Jobs.{is_traced}
-use Rattle.bac_words.specs.declared.job.Discovery.{Discovery}
-use Rattle.bac_words.specs.declared.job.Job.{Job}
-use Rattle.bac_words.specs.declared.job.Job.TheVariants as job
-use Rattle.bac_words.specs.declared.job.LogListing.{LogListing}
-use Rattle.bac_words.specs.declared.job.LogReading.{LogReading}
-use Rattle.bac_words.specs.declared.job.PropertyReading.{PropertyReading}
-use Rattle.bac_words.specs.declared.job.PropertyWriting.{PropertyWriting}
-use Rattle.bac_words.specs.declared.job.ServedDevice.{ServedDevice}
+use Rattle.bac_command_line.specs.Jobs.{is_traced}
+use Rattle.bac_command_line.specs.declared.job.Discovery.{Discovery}
+use Rattle.bac_command_line.specs.declared.job.Job.{Job}
+use Rattle.bac_command_line.specs.declared.job.Job.TheVariants as job
+use Rattle.bac_command_line.specs.declared.job.LogListing.{LogListing}
+use Rattle.bac_command_line.specs.declared.job.LogReading.{LogReading}
+use Rattle.bac_command_line.specs.declared.job.PropertyReading.{PropertyReading}
+use Rattle.bac_command_line.specs.declared.job.PropertyWriting.{PropertyWriting}
+use Rattle.bac_command_line.specs.declared.job.ServedDevice.{ServedDevice}
 
 module _ {S P : Type 0} (rules : SocketRules S P) (switches : S → Bool → S → Type 0) where
   -- what a tool does over its sockets and its output, and how it ends

@@ -29,10 +29,10 @@ use Rattle.bac_historian.specs.Files.{RunsAt}
 use Rattle.bac_historian.specs.Kept.{HaltsFrom, KeepsFrom}
 use Rattle.bac_historian.specs.declared.fault.Fault.{Fault as RunFault}
 use Rattle.bac_historian.specs.declared.fault.Fault.TheVariants as run
-use Rattle.bac_keep_words.specs.declared.orders.Order.{Order}
-use Rattle.bac_keeper3.specs.Machine.{Hands, hands}
-use Rattle.bac_keeper3.specs.Runs.{RunsOrder, RunsPlaced, RunsTool}
-use Rattle.bac_keeper3.specs.declared.fault.Fault.{Fault}
+use Rattle.bac_keep_command_line.specs.declared.orders.Order.{Order}
+use Rattle.bac_keeper.specs.Machine.{Hands, hands}
+use Rattle.bac_keeper.specs.Runs.{RunsOrder, RunsPlaced, RunsTool}
+use Rattle.bac_keeper.specs.declared.fault.Fault.{Fault}
 use Rattle.bac_keeping.specs.Keeping.{Around, Halts, IsSet, at_first}
 use Rattle.bac_keeping.specs.declared.run.KeepFault.{KeepFault}
 use Rattle.bac_keeping.specs.declared.run.Run.{Run}
@@ -46,10 +46,10 @@ use Rattle.bac_run.specs.Setup.{Setup, hands_of}
 use Rattle.bac_site_poller.specs.Site.{SiteState}
 use Rattle.bac_site_poller.specs.SiteLaws.{site_acts}
 use Rattle.bac_wire.specs.Stamp.{CivilTime}
-use Rattle.bac_words.specs.Jobs.{reads_input, with_groups}
-use Rattle.bac_words.specs.declared.group.Group.{Group}
-use Rattle.bac_words.specs.declared.job.Keep.{Keep}
-use Rattle.bac_words.specs.declared.listing.ListFault.{ListFault}
+use Rattle.bac_command_line.specs.Jobs.{reads_input, with_groups}
+use Rattle.bac_command_line.specs.declared.group.Group.{Group}
+use Rattle.bac_command_line.specs.declared.job.Keep.{Keep}
+use Rattle.bac_command_line.specs.declared.listing.ListFault.{ListFault}
 
 module _ {S P C : Type 0} {rules : SocketRules S P} {changes : S → S → Type 0} {may : List ℕ → List ℕ → Type 0}
     (seal : Seal rules changes may) (ok : (octets to : List ℕ) → Reads octets → may octets to) (tells : C → ℕ → C → Type 0) where

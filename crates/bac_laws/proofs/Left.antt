@@ -12,8 +12,8 @@ use Rattle.bac_reading.specs.Scene.{Scene}
 use Rattle.bac_reading.specs.declared.fault.Fault.{Fault}
 use Rattle.bac_reading.specs.declared.program.Asked.{Asked}
 use Rattle.bac_run.specs.Reading.{ChecksArchive, PrintsKept}
-use Rattle.bac_words.specs.declared.job.Check.{Check}
-use Rattle.bac_words.specs.declared.job.Kept.{Kept}
+use Rattle.bac_command_line.specs.declared.job.Check.{Check}
+use Rattle.bac_command_line.specs.declared.job.Kept.{Kept}
 
 module _ {Q : Type 0} (rules : PartRules Q) where
   module _ {V : Type 0} (reads : V → Reading → Output → Output → V → Type 0) (wants : V → Bool) (ends : V → List ℕ → Came → V → Type 0) where

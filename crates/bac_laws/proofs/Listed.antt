@@ -2,8 +2,8 @@
 use Rattle.std.proofs.Common.{◌≡◌, ◌≢◌, ◌⊎◌, ◌++◌, ℕ, List, [], ◌∷◌, map, None, Ok, Err, inl, inr, refl, sym, subst, ap, ◌∙◌, append_assoc, append-nil, Option, Some, Result}
 use Rattle.std.specs.Prelude.{Bool, decimal}
 use Rattle.std.specs.Io.KnownBytes.{Appends, Keeps}
-use Rattle.bac_heeding.specs.Ports.{Event}
-use Rattle.bac_heeding.specs.declared.notes.Passed.{Passed}
+use Rattle.bac_socket_notes.specs.Ports.{Event}
+use Rattle.bac_socket_notes.specs.declared.notes.Passed.{Passed}
 use Rattle.bac_laws.proofs.Captured.{captured_over, captured_unopened, goes_on, nothing_captured}
 use Rattle.bac_laws.proofs.Exchange.{Comes, Runs, exchanged}
 use Rattle.bac_laws.proofs.Lists.{AsSaid, adds_cell, appends_none, appends_on, as_asked, lists, prints_row, adds_cells}
@@ -36,8 +36,8 @@ use Rattle.bac_tools.specs.Status.{exit_status}
 use Rattle.bac_tools.specs.declared.fault.Fault.TheVariants as fault
 use Rattle.bac_tools.specs.declared.fault.Fault.{Fault}
 use Rattle.bac_wire.specs.Primitive.{Id}
-use Rattle.bac_words.specs.declared.job.Asked.{Asked}
-use Rattle.bac_words.specs.declared.job.LogListing.{LogListing}
+use Rattle.bac_command_line.specs.declared.job.Asked.{Asked}
+use Rattle.bac_command_line.specs.declared.job.LogListing.{LogListing}
 
 -- ---- why it ends
 

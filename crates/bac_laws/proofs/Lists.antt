@@ -4,7 +4,7 @@ use Rattle.std.specs.Prelude.{decimal}
 use Rattle.std.specs.Io.KnownBytes.{Appends}
 use Rattle.bac_apdu.specs.Npdu.{Place}
 use Rattle.bac_apdu.specs.declared.service.read_property.ReadProperty.{ReadProperty}
-use Rattle.bac_heeding.specs.Ports.{Event}
+use Rattle.bac_socket_notes.specs.Ports.{Event}
 use Rattle.bac_laws.proofs.Captured.{goes_on}
 use Rattle.bac_laws.proofs.Exchange.{Comes, Runs, exchanged}
 use Rattle.bac_laws.specs.Events.{Exchanged}
@@ -26,7 +26,7 @@ use Rattle.bac_query.specs.Reading.{Session, printing}
 use Rattle.bac_query.specs.Tables as table
 use Rattle.bac_query.specs.Tables.{Row, client, columns, head_line, property_of}
 use Rattle.bac_wire.specs.Primitive.{Id}
-use Rattle.bac_words.specs.declared.job.Asked.{Asked}
+use Rattle.bac_command_line.specs.declared.job.Asked.{Asked}
 
 -- ---- a client that asks as the words say
 

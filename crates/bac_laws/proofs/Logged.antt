@@ -38,8 +38,8 @@ use Rattle.bac_link.specs.declared.request.Request.{Request}
 use Rattle.bac_link.specs.declared.request.Request.TheVariants as request
 use Rattle.bac_link.specs.declared.transactions.Transactions.{Transactions}
 use Rattle.bac_log.specs.declared.entry.Entry.{Entry}
-use Rattle.bac_heeding.specs.Ports.{Event}
-use Rattle.bac_heeding.specs.declared.notes.Passed.{Passed}
+use Rattle.bac_socket_notes.specs.Ports.{Event}
+use Rattle.bac_socket_notes.specs.declared.notes.Passed.{Passed}
 use Rattle.bac_ports.specs.Sockets.{SocketRules, link_over, own_address, socket_asks}
 use Rattle.bac_ports.specs.declared.udp_link.UdpLink.{UdpLink}
 use Rattle.bac_print.specs.Output.{AppendsPart, Held}
@@ -75,9 +75,9 @@ use Rattle.bac_walk.specs.declared.outcome.Why.{Why}
 use Rattle.bac_walk.specs.declared.outcome.Why.TheVariants as why
 use Rattle.bac_wire.specs.Primitive.{Id}
 use Rattle.bac_wire.specs.Stamp.{CivilTime}
-use Rattle.bac_words.specs.Jobs.{is_traced}
-use Rattle.bac_words.specs.declared.job.Job.TheVariants as job
-use Rattle.bac_words.specs.declared.job.LogReading.{LogReading}
+use Rattle.bac_command_line.specs.Jobs.{is_traced}
+use Rattle.bac_command_line.specs.declared.job.Job.TheVariants as job
+use Rattle.bac_command_line.specs.declared.job.LogReading.{LogReading}
 use Rattle.bac_laws.proofs.Heard.{link_hears, link_keeps}
 use Rattle.bac_laws.proofs.Written.{tells_none, tells_text, written}
 

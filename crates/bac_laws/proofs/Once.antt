@@ -4,8 +4,8 @@ use Rattle.std.specs.Prelude.{codes}
 use Rattle.std.specs.Io.KnownBytes.{Appends, Keeps}
 use Rattle.bac_apdu.specs.Service.WriteProperty.{write_of_code}
 use Rattle.bac_apdu.specs.declared.service.write_property.WriteProperty.{WriteProperty}
-use Rattle.bac_heeding.specs.Ports.{Event}
-use Rattle.bac_heeding.specs.declared.notes.Passed.{Passed}
+use Rattle.bac_socket_notes.specs.Ports.{Event}
+use Rattle.bac_socket_notes.specs.declared.notes.Passed.{Passed}
 use Rattle.bac_laws.proofs.Captured.{captured_over, captured_unopened, nothing_captured}
 use Rattle.bac_laws.proofs.Exchange.{Comes, Runs, exchanged}
 use Rattle.bac_laws.proofs.Statuses.{Ended, done_so, ended, failed, unasked_one, unasked_two}
@@ -30,10 +30,10 @@ use Rattle.bac_tools.specs.Ending.{Ending}
 use Rattle.bac_tools.specs.Run.{Ends, ReadsAsSaid, WritesAsSaid, question, reals_of, setting}
 use Rattle.bac_tools.specs.Sockets.{Outside, transactions_with}
 use Rattle.bac_tools.specs.declared.fault.Fault.TheVariants as fault
-use Rattle.bac_words.specs.declared.job.Asked.{Asked}
-use Rattle.bac_words.specs.declared.job.PropertyReading.{PropertyReading}
-use Rattle.bac_words.specs.declared.job.PropertyWriting.{PropertyWriting}
-use Rattle.bac_words.specs.declared.word.Word.TheVariants as word
+use Rattle.bac_command_line.specs.declared.job.Asked.{Asked}
+use Rattle.bac_command_line.specs.declared.job.PropertyReading.{PropertyReading}
+use Rattle.bac_command_line.specs.declared.job.PropertyWriting.{PropertyWriting}
+use Rattle.bac_command_line.specs.declared.word.Word.TheVariants as word
 
 -- ---- one request
 

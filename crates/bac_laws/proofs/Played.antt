@@ -8,7 +8,7 @@ use Rattle.bac_batch.specs.Batch.{Batched}
 use Rattle.bac_drive.specs.Happens.{Acts}
 use Rattle.bac_files.specs.Files.{FileOf}
 use Rattle.bac_files.specs.Parts.{PartRules}
-use Rattle.bac_heeding.specs.declared.notes.Passed.{Passed}
+use Rattle.bac_socket_notes.specs.declared.notes.Passed.{Passed}
 use Rattle.bac_laws.proofs.Statuses.{Ended, done_so, ended, failed, kept_none, same_keeps, told_fails, told_memory}
 use Rattle.bac_laws.specs.Played.{PlaysScript, limit}
 use Rattle.bac_ports.specs.Sockets.{SocketRules}
@@ -29,7 +29,7 @@ use Rattle.bac_tools.specs.Status.{script_status}
 use Rattle.bac_tools.specs.Streams.{Streams}
 use Rattle.bac_tools.specs.declared.fault.Fault.TheVariants as fault
 use Rattle.bac_wire.specs.Stamp.{CivilTime}
-use Rattle.bac_words.specs.declared.job.Job.TheVariants as job
+use Rattle.bac_command_line.specs.declared.job.Job.TheVariants as job
 
 -- no memory to tell a fault is no fault of a script
 not_five : (status : ℕ) → status ≡ 5 → status ≡ 1 → ⊥

@@ -4,9 +4,9 @@ use Rattle.clap.specs.Words.{Text}
 use Rattle.clap.specs.declared.error.kind.ErrorKind.{ErrorKind}
 use Rattle.bac_tools.specs.Run.{AnswersWords, AreWrong, AskFor, OnlyTells, wrong_fault}
 use Rattle.bac_tools.specs.Streams.{Streams}
-use Rattle.bac_words.specs.Outcome.{job_in, mistakes_of}
-use Rattle.bac_words.specs.declared.job.Job.{Job}
-use Rattle.bac_words.specs.declared.word.Word.{Word}
+use Rattle.bac_command_line.specs.Outcome.{job_in, mistakes_of}
+use Rattle.bac_command_line.specs.declared.job.Job.{Job}
+use Rattle.bac_command_line.specs.declared.word.Word.{Word}
 
 module _ {S C : Type 0} (words : List Text) (none : (asked : Job) → AskFor words asked → ⊥) (old new : Streams S C) (status : ℕ)
     (wrong : (word : Word) → AreWrong words word → OnlyTells (wrong_fault words word) old status new)

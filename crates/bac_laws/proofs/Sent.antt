@@ -7,7 +7,7 @@ use Rattle.sqlite_disk.specs.declared.start.Start as start
 use Rattle.sqlite_wal.specs.Recovery.{Image}
 use Rattle.bac_files.specs.Files.{FileOf}
 use Rattle.bac_files.specs.Parts.{PartRules}
-use Rattle.bac_heeding.specs.declared.notes.Passed.{Passed}
+use Rattle.bac_socket_notes.specs.declared.notes.Passed.{Passed}
 use Rattle.bac_laws.proofs.Keeps.{keep_stops, keep_whole, site_over}
 use Rattle.bac_laws.proofs.Over.{StaysWhole, still}
 use Rattle.bac_laws.proofs.Tools.{done_over, fetches, lists, reads, writes}
@@ -27,12 +27,12 @@ use Rattle.bac_tools.specs.Run.{Runs, Works, layout_of, question, reals_of, tren
 use Rattle.bac_tools.specs.Sockets.{Outside, Pipes, binding, outside}
 use Rattle.bac_tools.specs.Streams.{Streams, outlets_of, outside_of, pipes_of, with_errors}
 use Rattle.bac_wire.specs.Stamp.{CivilTime}
-use Rattle.bac_words.specs.Jobs.{is_traced}
-use Rattle.bac_words.specs.declared.job.Job.{Job}
-use Rattle.bac_words.specs.declared.job.Job.TheVariants as job
-use Rattle.bac_words.specs.declared.job.Keep.{Keep as KeepWords}
-use Rattle.bac_words.specs.declared.job.Stations.{Stations}
-use Rattle.bac_words.specs.declared.job.Stations.TheVariants.{Listed, Input}
+use Rattle.bac_command_line.specs.Jobs.{is_traced}
+use Rattle.bac_command_line.specs.declared.job.Job.{Job}
+use Rattle.bac_command_line.specs.declared.job.Job.TheVariants as job
+use Rattle.bac_command_line.specs.declared.job.Keep.{Keep as KeepWords}
+use Rattle.bac_command_line.specs.declared.job.Stations.{Stations}
+use Rattle.bac_command_line.specs.declared.job.Stations.TheVariants.{Listed, Input}
 
 first_of : (x : List ℕ) (xs : List (List ℕ)) → Contains (x ∷ xs) x
 first_of x xs = Contains-append_left (x ∷ []) xs x (Contains-push [] x)

@@ -3,8 +3,8 @@ use Rattle.std.proofs.Common.{◌≡◌, ◌≢◌, ◌⊎◌, ℕ, true, false,
 use Rattle.std.specs.Prelude.{Bool, length}
 use Rattle.std.specs.Io.KnownBytes.{Keeps}
 use Rattle.std.specs.Str.Lines.{lines}
-use Rattle.bac_heeding.specs.Ports.{Event, came_in}
-use Rattle.bac_heeding.specs.declared.notes.Passed.{Passed}
+use Rattle.bac_socket_notes.specs.Ports.{Event, came_in}
+use Rattle.bac_socket_notes.specs.declared.notes.Passed.{Passed}
 use Rattle.bac_laws.proofs.Captured.{captured_over, captured_unopened, nothing_captured}
 use Rattle.bac_laws.proofs.Serves.{Over, served}
 use Rattle.bac_laws.proofs.Statuses.{Ended, done_so, ended, failed, told_fails, told_memory}
@@ -28,7 +28,7 @@ use Rattle.bac_tools.specs.Streams.{Streams}
 use Rattle.bac_tools.specs.declared.fault.Fault.{Fault}
 use Rattle.bac_tools.specs.declared.fault.Fault.TheVariants as fault
 use Rattle.bac_wire.specs.Stamp.{CivilTime}
-use Rattle.bac_words.specs.declared.job.ServedDevice.{ServedDevice}
+use Rattle.bac_command_line.specs.declared.job.ServedDevice.{ServedDevice}
 
 -- ---- nothing is served
 

@@ -9,7 +9,7 @@ use Rattle.bac_device.specs.Reply.{Return, reply}
 use Rattle.bac_device.specs.declared.reply.Receiver.{Receiver}
 use Rattle.bac_device.specs.declared.reply.Receiver.TheVariants.{Sender, Address}
 use Rattle.bac_device.specs.declared.reply.Reply.{Reply}
-use Rattle.bac_heeding.specs.Ports.{Event, Received, Sent, came_in}
+use Rattle.bac_socket_notes.specs.Ports.{Event, Received, Sent, came_in}
 use Rattle.bac_laws.proofs.Captured.{Goes}
 use Rattle.bac_laws.specs.Served.{AnswersEach, IsCutOff, Replies, asker_in, next_of, reply_by}
 use Rattle.bac_objects.specs.State.{State}

@@ -1,7 +1,7 @@
 -- The status of a run.
 use Rattle.std.proofs.Common.{◌≡◌, ◌≢◌, ◌⊎◌, ℕ, suc, Ok, Err, None, Some, [], inl, inr, refl, sym, ap, ◌∙◌, append-nil}
 use Rattle.std.specs.Io.KnownBytes.{Appends, Keeps}
-use Rattle.bac_heeding.specs.declared.notes.Passed.{Passed}
+use Rattle.bac_socket_notes.specs.declared.notes.Passed.{Passed}
 use Rattle.bac_laws.specs.Asked.{IsUnasked}
 use Rattle.bac_link.specs.declared.exchanges.ExchangeFault.TheVariants as exchange
 use Rattle.bac_print.specs.Output.{AppendsPart, Held}
@@ -12,7 +12,7 @@ use Rattle.bac_tools.specs.Run.{Ends, IsTold}
 use Rattle.bac_tools.specs.Status.{exit_status, script_status}
 use Rattle.bac_tools.specs.declared.fault.Fault.{Fault}
 use Rattle.bac_tools.specs.declared.fault.Fault.TheVariants as fault
-use Rattle.bac_words.specs.declared.listing.ListFault.TheVariants as list
+use Rattle.bac_command_line.specs.declared.listing.ListFault.TheVariants as list
 
 -- a number from 1 on
 pub some : (n : ℕ) → suc n ≢ 0

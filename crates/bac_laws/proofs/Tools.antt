@@ -29,7 +29,7 @@ use Rattle.bac_walk.specs.Transacted.{walk_by}
 use Rattle.bac_walk.specs.declared.outcome.Why.{Why}
 use Rattle.bac_walk.specs.declared.outcome.Why.TheVariants as why
 use Rattle.bac_wire.specs.Primitive.{Id}
-use Rattle.bac_words.specs.declared.job.Asked.{Asked}
+use Rattle.bac_command_line.specs.declared.job.Asked.{Asked}
 
 -- what a run tells comes with how its link was left
 pub left_so : (layout : Layout) (left : Why → Type 0) (steps : ℕ) (run : Course) (result : Fetching) (old new : Held)

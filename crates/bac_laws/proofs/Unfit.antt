@@ -1,7 +1,7 @@
 -- Words that are wrong are the one reason why `kept` ends with 1.
 use Rattle.std.proofs.Common.{◌≡◌, ◌∙◌, inl, inr, refl, sym, subst, arith, ℕ, Result, Ok, Err}
 use Rattle.bac_files.specs.Parts.{Listing, PartRules}
-use Rattle.bac_heeding.specs.Notes.{nothing}
+use Rattle.bac_socket_notes.specs.Notes.{nothing}
 use Rattle.bac_laws.proofs.Statuses.{Ended, ended}
 use Rattle.bac_print.specs.Output.{Held}
 use Rattle.bac_reading.proofs.StatusLemmas.{one_is_none}
@@ -14,7 +14,7 @@ use Rattle.bac_run.specs.Faults.{of_read, read_ending}
 use Rattle.bac_run.specs.Reading.{PrintsKept}
 use Rattle.bac_tools.specs.Run.{Ends}
 use Rattle.bac_tools.specs.Status.{exit_status}
-use Rattle.bac_words.specs.declared.job.Kept.{Kept}
+use Rattle.bac_command_line.specs.declared.job.Kept.{Kept}
 
 -- the status of a fault isn't 1
 no_fault : (f : Fault) (now errors : Held) (status : ℕ) → Ends nothing (read_ending (Err f)) now errors status → status ≡ 1 → ⊥

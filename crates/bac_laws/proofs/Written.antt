@@ -10,7 +10,7 @@ use Rattle.bac_link.specs.Exchanges.{Ask}
 use Rattle.bac_link.specs.Path.{Path}
 use Rattle.bac_link.specs.declared.item.Item.{Item}
 use Rattle.bac_link.specs.declared.exchanges.ExchangeFault.{ExchangeFault}
-use Rattle.bac_heeding.specs.declared.notes.Passed.{Passed}
+use Rattle.bac_socket_notes.specs.declared.notes.Passed.{Passed}
 use Rattle.bac_print.specs.Output.{AppendsPart, Held}
 use Rattle.bac_query.specs.Ends.{end_line}
 use Rattle.bac_query.specs.Fetching.{Course, Fetching, TellsRun}

@@ -4,7 +4,7 @@ use Rattle.std.specs.Prelude.{◌≡◌, ◌≢◌, ◌⊎◌, ℕ, List, [], �
 use Rattle.std.specs.Io.KnownBytes.{Appends, Keeps}
 use Rattle.bac_apdu.specs.Service.WriteProperty.{write_of_code}
 use Rattle.bac_apdu.specs.declared.service.write_property.WriteProperty.{WriteProperty}
-use Rattle.bac_heeding.specs.Ports.{Event}
+use Rattle.bac_socket_notes.specs.Ports.{Event}
 use Rattle.bac_laws.specs.Events.{Exchanged, came}
 use Rattle.bac_link.specs.Datagrams.{apdu_in}
 use Rattle.bac_link.specs.Exchanges.{verdict_of}
@@ -17,9 +17,9 @@ use Rattle.bac_print.specs.Output.{AppendsPart, Held}
 use Rattle.bac_query.specs.Answers.{values_in}
 use Rattle.bac_query.specs.Values.{IsShown}
 use Rattle.bac_tools.specs.Run.{question, reals_of, setting}
-use Rattle.bac_words.specs.declared.job.Asked.{Asked}
-use Rattle.bac_words.specs.declared.job.PropertyReading.{PropertyReading}
-use Rattle.bac_words.specs.declared.job.PropertyWriting.{PropertyWriting}
+use Rattle.bac_command_line.specs.declared.job.Asked.{Asked}
+use Rattle.bac_command_line.specs.declared.job.PropertyReading.{PropertyReading}
+use Rattle.bac_command_line.specs.declared.job.PropertyWriting.{PropertyWriting}
 
 -- ---- one request
 

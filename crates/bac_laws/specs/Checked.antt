@@ -3,15 +3,15 @@ use Rattle.std.specs.Prelude.{◌≡◌, ℕ, List, map, None, Ok}
 use Rattle.std.specs.List.{Contains}
 use Rattle.sqlite_value.specs.Order.{Row as Columns}
 use Rattle.sqlite.specs.Effect.{Database}
-use Rattle.bac_archive3.specs.Archive.{IsArchive}
-use Rattle.bac_archive3.specs.Items.{AreItems}
-use Rattle.bac_archive3.specs.Known.{IsKnown}
-use Rattle.bac_archive3.specs.declared.known.Known.{Known}
-use Rattle.bac_archive3.specs.declared.row.BeginningRow.{BeginningRow}
-use Rattle.bac_archive3.specs.declared.row.LogRow.{LogRow}
-use Rattle.bac_check3.specs.Joins.{log_of}
-use Rattle.bac_check3.specs.Rows.{items_of, span_of}
-use Rattle.bac_check3.specs.Whole.{HasEach}
+use Rattle.bac_archive.specs.Archive.{IsArchive}
+use Rattle.bac_archive.specs.Items.{AreItems}
+use Rattle.bac_archive.specs.Known.{IsKnown}
+use Rattle.bac_archive.specs.declared.known.Known.{Known}
+use Rattle.bac_archive.specs.declared.row.BeginningRow.{BeginningRow}
+use Rattle.bac_archive.specs.declared.row.LogRow.{LogRow}
+use Rattle.bac_check.specs.Joins.{log_of}
+use Rattle.bac_check.specs.Rows.{items_of, span_of}
+use Rattle.bac_check.specs.Whole.{HasEach}
 use Rattle.bac_files.specs.Parts.{Listing, PartRules, Reading}
 use Rattle.bac_print.specs.Output.{Held}
 use Rattle.bac_reading.specs.Laws.{CountsEach}

@@ -3,7 +3,7 @@
 use Rattle.std.specs.Prelude.{◌≡◌, ℕ, zero, suc, ◌+◌, ◌≤◌, Bool, true, false, List, [], ◌∷◌, ◌++◌, replicate}
 use Rattle.std.specs.Prelude.{Option, Some, None, IsSome, Result, Ok, Err, IfOk}
 use Rattle.std.specs.List.{Contains}
-use Rattle.bac_heeding.specs.Ports.{Event, Sent, Received}
+use Rattle.bac_socket_notes.specs.Ports.{Event, Sent, Received}
 use Rattle.bac_link.specs.Datagrams.{answers_to}
 use Rattle.bac_ports.specs.Port.{Receiving, Sending}
 use Rattle.bac_ports.specs.Sockets.{SocketRules}

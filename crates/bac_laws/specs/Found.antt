@@ -1,15 +1,15 @@
 -- What `bac wi` asks, and what it prints of what comes. Read `FindsWhatCame`.
 use Rattle.std.specs.Prelude.{◌≡◌, ℕ, true, List, ◌++◌, [], ◌∷◌, map, Ok, Err}
 use Rattle.std.specs.Io.KnownBytes.{Appends}
-use Rattle.bac_heeding.specs.Ports.{Event, Sent, Received, came_in}
+use Rattle.bac_socket_notes.specs.Ports.{Event, Sent, Received, came_in}
 use Rattle.bac_laws.specs.Events.{sent_in}
 use Rattle.bac_print.specs.Output.{AppendsPart, Held}
 use Rattle.bac_query.specs.Requests.{who_is_octets}
 use Rattle.bac_query.specs.Turns.{has_device, lines_of}
 use Rattle.bac_tools.specs.Finding.{search_of}
-use Rattle.bac_words.specs.declared.job.Discovery.{Discovery}
-use Rattle.bac_words.specs.declared.job.Stations.{Stations}
-use Rattle.bac_words.specs.declared.job.Stations.TheVariants.{Listed, Input}
+use Rattle.bac_command_line.specs.declared.job.Discovery.{Discovery}
+use Rattle.bac_command_line.specs.declared.job.Stations.{Stations}
+use Rattle.bac_command_line.specs.declared.job.Stations.TheVariants.{Listed, Input}
 
 -- these are the stations of the words; those of the input may be any
 abbrev pub AreStations : Stations → List (List ℕ) → Type 0

@@ -2,7 +2,7 @@
 use Rattle.std.specs.Prelude.{◌≡◌, ◌⊎◌, ℕ, List, [], ◌∷◌, ◌++◌, map, Option, Some, None, decimal}
 use Rattle.std.specs.Io.KnownBytes.{Appends, Keeps}
 use Rattle.bac_apdu.specs.declared.service.read_property.ReadProperty.{ReadProperty}
-use Rattle.bac_heeding.specs.Ports.{Event}
+use Rattle.bac_socket_notes.specs.Ports.{Event}
 use Rattle.bac_laws.specs.Asked.{IsUnasked}
 use Rattle.bac_laws.specs.Events.{Exchanged}
 use Rattle.bac_link.specs.Datagrams.{apdu_in}
@@ -17,8 +17,8 @@ use Rattle.bac_query.specs.Cells.{ShowsAck, refused, unread}
 use Rattle.bac_query.specs.Tables.{columns, head_line, property_of}
 use Rattle.bac_tools.specs.Run.{trend_log}
 use Rattle.bac_wire.specs.Primitive.{Id}
-use Rattle.bac_words.specs.declared.job.Asked.{Asked}
-use Rattle.bac_words.specs.declared.job.LogListing.{LogListing}
+use Rattle.bac_command_line.specs.declared.job.Asked.{Asked}
+use Rattle.bac_command_line.specs.declared.job.LogListing.{LogListing}
 
 -- the cell of an answer: the value of its ACK, `-` where the device refuses, `?` where it can't be read
 abbrev pub IsCellOf : ℕ → List ℕ → Verdict → List ℕ → Type 0

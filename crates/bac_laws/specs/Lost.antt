@@ -7,9 +7,9 @@ use Rattle.sqlite_value.specs.Order.{Row as Columns}
 use Rattle.sqlite_value.specs.declared.value.Value.TheVariants.{Null, Int}
 use Rattle.sqlite_wal.specs.Files.{image_at}
 use Rattle.sqlite.specs.Effect.{Database}
-use Rattle.bac_archive3.specs.Archive.{HasId}
-use Rattle.bac_archive3.specs.Put.{HaveOwnIds, is_counted}
-use Rattle.bac_archive3.specs.Schema.{HasArchive, no_schema}
+use Rattle.bac_archive.specs.Archive.{HasId}
+use Rattle.bac_archive.specs.Put.{HaveOwnIds, is_counted}
+use Rattle.bac_archive.specs.Schema.{HasArchive, no_schema}
 use Rattle.bac_files.specs.Files.{FileOf, IsDoneTo, IsUnused}
 use Rattle.bac_files.specs.declared.disk_files.DiskFiles.{DiskFiles}
 

@@ -4,7 +4,7 @@ use Rattle.std.specs.Prelude.{Option, None, Some, IsSome, Ok}
 use Rattle.std.specs.Io.KnownBytes.{Appends, Keeps}
 use Rattle.std.specs.List.{Contains}
 use Rattle.bac_apdu.specs.declared.service.read_range.ReadRange.{ReadRange}
-use Rattle.bac_heeding.specs.Ports.{Event}
+use Rattle.bac_socket_notes.specs.Ports.{Event}
 use Rattle.bac_laws.specs.Asked.{IsUnasked}
 use Rattle.bac_laws.specs.Events.{Exchanged, sent_in}
 use Rattle.bac_link.specs.Datagrams.{apdu_in}
@@ -35,7 +35,7 @@ use Rattle.bac_walk.specs.declared.outcome.WalkFault.TheVariants.{Lost, Refused,
 use Rattle.bac_walk.specs.declared.outcome.Why.{Why}
 use Rattle.bac_walk.specs.declared.outcome.Why.TheVariants.{CaughtUp, StepLimit, Fault, Memory}
 use Rattle.bac_wire.specs.Primitive.{Id}
-use Rattle.bac_words.specs.declared.job.LogReading.{LogReading}
+use Rattle.bac_command_line.specs.declared.job.LogReading.{LogReading}
 
 -- ---- what came
 

@@ -1,13 +1,13 @@
 -- What `bac kept` prints that ends with 0. Read `PrintsEach`.
 use Rattle.std.specs.Prelude.{◌≡◌, ℕ, List, Option, Ok}
 use Rattle.bac_files.specs.Parts.{Listing, PartRules}
-use Rattle.bac_keep_words.specs.Printing.{DeviceAs, device_in}
+use Rattle.bac_keep_command_line.specs.Printing.{DeviceAs, device_in}
 use Rattle.bac_print.specs.Output.{Held}
 use Rattle.bac_reading.specs.Laws.{PrintsEach as PrintsParts}
 use Rattle.bac_reading.specs.Listing.{is_folder, parts_of}
 use Rattle.bac_reading.specs.declared.program.Asked.{Asked}
 use Rattle.bac_run.specs.Reading.{asked_as, asked_for}
-use Rattle.bac_words.specs.declared.job.Kept.{Kept}
+use Rattle.bac_command_line.specs.declared.job.Kept.{Kept}
 
 -- The archive that the words name is a file, or a folder of parts: each is one, but the newest of a folder, which may
 -- have nothing. What they keep of the logs that the words choose is printed, one part after the other, and nothing

@@ -19,10 +19,10 @@ use Rattle.bac_ports.specs.Port.{Opening, Receiving, Sending}
 use Rattle.bac_ports.specs.Sockets.{SocketRules}
 use Rattle.bac_query.specs.Requests.{who_is_octets}
 use Rattle.bac_query.specs.declared.search.Search.{Search}
-use Rattle.bac_words.specs.declared.job.Job.{Job}
-use Rattle.bac_words.specs.declared.job.Job.TheVariants as job
-use Rattle.bac_words.specs.declared.job.Stations.{Stations}
-use Rattle.bac_words.specs.declared.job.Stations.TheVariants.{Listed, Input}
+use Rattle.bac_command_line.specs.declared.job.Job.{Job}
+use Rattle.bac_command_line.specs.declared.job.Job.TheVariants as job
+use Rattle.bac_command_line.specs.declared.job.Stations.{Stations}
+use Rattle.bac_command_line.specs.declared.job.Stations.TheVariants.{Listed, Input}
 
 -- ---- which datagrams
 

@@ -5,7 +5,7 @@ use Rattle.std.specs.Str.Lines.{lines}
 use Rattle.bac_apdu.specs.Frame.{Frame, Unicast, Broadcast, Forwarded, Function, frame_at}
 use Rattle.bac_device.specs.Answer.{answer}
 use Rattle.bac_device.specs.declared.reply.Reply.{Reply}
-use Rattle.bac_heeding.specs.Ports.{Event, Sent, Received, came_in}
+use Rattle.bac_socket_notes.specs.Ports.{Event, Sent, Received, came_in}
 use Rattle.bac_objects.specs.Build.{build_fault, built}
 use Rattle.bac_objects.specs.State.{State}
 use Rattle.bac_objects.specs.declared.lines.DeviceLine.{DeviceLine}
@@ -16,7 +16,7 @@ use Rattle.bac_print.specs.Output.{Held}
 use Rattle.bac_script.specs.Configuration.{plan_of}
 use Rattle.bac_serve.specs.Serving.{receiver_of, ticked_at}
 use Rattle.bac_wire.specs.Stamp.{CivilTime}
-use Rattle.bac_words.specs.declared.job.ServedDevice.{ServedDevice}
+use Rattle.bac_command_line.specs.declared.job.ServedDevice.{ServedDevice}
 
 -- whom an answer goes to: the sender of what it answers, or the address in a Forwarded-NPDU (J.2.5)
 abbrev pub asker_in : List ℕ → Option Frame → List ℕ

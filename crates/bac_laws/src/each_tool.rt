@@ -3,19 +3,19 @@
 ghost use Rattle.std.specs.Prelude.{◌≡◌, ◌≢◌, ℕ, List, [], Some, false, map};
 ghost use Rattle.std.specs.String.{string_bytes};
 ghost use Rattle.bac_files.specs.Parts.{part_rules};
-ghost use Rattle.bac_heeding.specs.Ports.{Event};
+ghost use Rattle.bac_socket_notes.specs.Ports.{Event};
 ghost use Rattle.bac_ports.specs.Sockets.{socket_rules};
 ghost use Rattle.bac_run.specs.Reading.{is_newest};
 ghost use Rattle.bac_tools.specs.Run.{AskFor};
-ghost use Rattle.bac_words.specs.declared.job.Check.{Check as CheckWords};
-ghost use Rattle.bac_words.specs.declared.job.Discovery.{Discovery as FindWords};
-ghost use Rattle.bac_words.specs.declared.job.Job.TheVariants as job;
-ghost use Rattle.bac_words.specs.declared.job.Kept.{Kept as KeptWords};
-ghost use Rattle.bac_words.specs.declared.job.LogListing.{LogListing as ListWords};
-ghost use Rattle.bac_words.specs.declared.job.LogReading.{LogReading as LogWords};
-ghost use Rattle.bac_words.specs.declared.job.PropertyReading.{PropertyReading as ReadWords};
-ghost use Rattle.bac_words.specs.declared.job.PropertyWriting.{PropertyWriting as WriteWords};
-ghost use Rattle.bac_words.specs.declared.job.ServedDevice.{ServedDevice as ServeWords};
+ghost use Rattle.bac_command_line.specs.declared.job.Check.{Check as CheckWords};
+ghost use Rattle.bac_command_line.specs.declared.job.Discovery.{Discovery as FindWords};
+ghost use Rattle.bac_command_line.specs.declared.job.Job.TheVariants as job;
+ghost use Rattle.bac_command_line.specs.declared.job.Kept.{Kept as KeptWords};
+ghost use Rattle.bac_command_line.specs.declared.job.LogListing.{LogListing as ListWords};
+ghost use Rattle.bac_command_line.specs.declared.job.LogReading.{LogReading as LogWords};
+ghost use Rattle.bac_command_line.specs.declared.job.PropertyReading.{PropertyReading as ReadWords};
+ghost use Rattle.bac_command_line.specs.declared.job.PropertyWriting.{PropertyWriting as WriteJob};
+ghost use Rattle.bac_command_line.specs.declared.job.ServedDevice.{ServedDevice as ServeWords};
 ghost use Rattle.bac_laws.specs.Asked.{PrintsWhatCame, ReadsOnce, WritesOnce};
 ghost use Rattle.bac_laws.specs.Checked.{FindsEach, FindsWhole};
 ghost use Rattle.bac_laws.specs.Events.{CanBeCaptured, IsCaptured};
@@ -27,7 +27,7 @@ ghost use Rattle.bac_laws.specs.Parts.{LeavesArchive};
 ghost use Rattle.bac_laws.specs.Rows.{PrintsEach};
 ghost use Rattle.bac_laws.specs.Served.{AnswersOnly, ServesDevice};
 
-use bac_check3::whole_has_each;
+use bac_check::whole_has_each;
 use bac_drive::Clock as WaitClock;
 use bac_run::{Console, Machine, Parts, run};
 use bac_tools::Clock;
@@ -63,7 +63,7 @@ pub fn wp_writes_once<
 ) -> u8
 where
     W: Drop,
-    ensures { (said : WriteWords) → AskFor (map string_bytes words.now) (job.Wp said)
+    ensures { (said : WriteJob) → AskFor (map string_bytes words.now) (job.Wp said)
         → (es : List Event) × IsCaptured (socket_rules S.opens S.closes S.Socket.sends
         S.Socket.receives S.Socket.receives_within) S.traces machine.old.sockets
         machine.new.sockets es

@@ -2,13 +2,13 @@
 
 ghost use Rattle.std.specs.Prelude.{◌≡◌, false, List, map};
 ghost use Rattle.std.specs.String.{string_bytes};
-ghost use Rattle.bac_heeding.specs.Ports.{Event};
+ghost use Rattle.bac_socket_notes.specs.Ports.{Event};
 ghost use Rattle.bac_ports.specs.Sockets.{socket_rules};
 ghost use Rattle.bac_tools.specs.Run.{AskFor};
-ghost use Rattle.bac_words.specs.declared.job.Job.{Job as AnyJob};
-ghost use Rattle.bac_words.specs.declared.job.Job.TheVariants as job;
-ghost use Rattle.bac_words.specs.declared.job.Keep.{Keep as KeepWords};
-ghost use Rattle.bac_words.specs.declared.job.LogReading.{LogReading as LogWords};
+ghost use Rattle.bac_command_line.specs.declared.job.Job.{Job as AnyJob};
+ghost use Rattle.bac_command_line.specs.declared.job.Job.TheVariants as job;
+ghost use Rattle.bac_command_line.specs.declared.job.Keep.{Keep as KeepWords};
+ghost use Rattle.bac_command_line.specs.declared.job.LogReading.{LogReading as LogWords};
 ghost use Rattle.bac_laws.specs.Lost.{LosesNoneIn};
 ghost use Rattle.bac_laws.specs.Events.{IsCaptured};
 ghost use Rattle.bac_laws.specs.Printed.{CameFrom, PrintsLog};

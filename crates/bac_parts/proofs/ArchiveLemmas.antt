@@ -4,11 +4,11 @@ use Rattle.sqlite_trees.specs.Tree.{Trees}
 use Rattle.sqlite.specs.Effect.{Database}
 use Rattle.sqlite.specs.State.{HasCleanDisk, IsUnchanged, State, Survives}
 use Rattle.sqlite_schema.specs.declared.schema.Schema.{Schema}
-use Rattle.bac_archive3.proofs.AroundLemmas.{made_is}
-use Rattle.bac_archive3.specs.Ask.{IsLeft}
-use Rattle.bac_archive3.specs.Making.{IsMadeOf}
-use Rattle.bac_archive3.specs.Schema.{HasArchive, archive_tables, no_schema}
-use Rattle.bac_archive3.specs.declared.row.Put.{Put}
+use Rattle.bac_archive.proofs.AroundLemmas.{made_is}
+use Rattle.bac_archive.specs.Ask.{IsLeft}
+use Rattle.bac_archive.specs.Making.{IsMadeOf}
+use Rattle.bac_archive.specs.Schema.{HasArchive, archive_tables, no_schema}
+use Rattle.bac_archive.specs.declared.row.Put.{Put}
 
 -- what has nothing is no archive
 pub not_both : (s : Schema) → s ≡ no_schema → HasArchive s → ⊥

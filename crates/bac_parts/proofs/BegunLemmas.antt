@@ -5,10 +5,10 @@ use Rattle.sqlite_disk.specs.declared.Disk as disk
 use Rattle.sqlite_disk.specs.declared.start.Start as start
 use Rattle.sqlite_wal.specs.Recovery.{Image}
 use Rattle.sqlite.specs.Effect.{Database}
-use Rattle.bac_archive3.specs.Follow.{puts_of}
-use Rattle.bac_archive3.specs.Making.{IsMadeOf}
-use Rattle.bac_archive3.specs.Schema.{no_schema}
-use Rattle.bac_archive3.specs.declared.standing.Standing.{Standing}
+use Rattle.bac_archive.specs.Follow.{puts_of}
+use Rattle.bac_archive.specs.Making.{IsMadeOf}
+use Rattle.bac_archive.specs.Schema.{no_schema}
+use Rattle.bac_archive.specs.declared.standing.Standing.{Standing}
 use Rattle.bac_files.specs.Files.{FileOf}
 use Rattle.bac_files.specs.declared.disk_files.DiskFiles.{DiskFiles}
 use Rattle.bac_parts.proofs.ArchiveLemmas.{made_has, not_both}

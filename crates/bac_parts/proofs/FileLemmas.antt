@@ -12,9 +12,9 @@ use Rattle.sqlite.specs.Files.{file_state, over_files}
 use Rattle.sqlite.specs.Held.{Held as Connected}
 use Rattle.sqlite.specs.State.{HasCleanDisk}
 use Rattle.sqlite.specs.declared.error.Error.{Error}
-use Rattle.bac_archive3.specs.Archive.{IsArchive}
-use Rattle.bac_archive3.specs.Stands.{StandsAs}
-use Rattle.bac_archive3.specs.declared.standing.Standing.{Standing}
+use Rattle.bac_archive.specs.Archive.{IsArchive}
+use Rattle.bac_archive.specs.Stands.{StandsAs}
+use Rattle.bac_archive.specs.declared.standing.Standing.{Standing}
 use Rattle.bac_files.proofs.FilesLemmas.{done_to, opened_settled}
 use Rattle.bac_files.specs.Files.{FileOf, IsClosedBy, IsDoneTo, IsNamed, IsOpenedBy, IsUnclosed, IsUnused}
 use Rattle.bac_files.specs.declared.disk_files.DiskFiles.{DiskFiles}

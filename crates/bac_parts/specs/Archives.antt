@@ -8,11 +8,11 @@ use Rattle.sqlite.specs.Effect.{Database}
 use Rattle.sqlite.specs.Held.{Held as Connected, state}
 use Rattle.sqlite.specs.State.{HasCleanDisk, State}
 use Rattle.sqlite.specs.declared.error.Error.{Error}
-use Rattle.bac_archive3.specs.Archive.{FailsToOpen, IsArchive, WhyRefused}
-use Rattle.bac_archive3.specs.Making.{IsMadeOf}
-use Rattle.bac_archive3.specs.Schema.{HasArchive, no_schema}
-use Rattle.bac_archive3.specs.declared.opening.Refused.{Refused}
-use Rattle.bac_archive3.specs.declared.opening.Refused.TheVariants.{Database as Failed}
+use Rattle.bac_archive.specs.Archive.{FailsToOpen, IsArchive, WhyRefused}
+use Rattle.bac_archive.specs.Making.{IsMadeOf}
+use Rattle.bac_archive.specs.Schema.{HasArchive, no_schema}
+use Rattle.bac_archive.specs.declared.opening.Refused.{Refused}
+use Rattle.bac_archive.specs.declared.opening.Refused.TheVariants.{Database as Failed}
 use Rattle.bac_files.specs.Files.{FileOf, IsClosedBy, IsNamed, IsReason, IsUnclosed, IsUnopened}
 use Rattle.bac_files.specs.declared.disk_files.DiskFiles.{DiskFiles}
 use Rattle.bac_files.specs.declared.not_opened.NotOpened.{NotOpened}

@@ -16,12 +16,12 @@ use Rattle.sqlite.specs.State.{HasCleanDisk, IsUnchanged, State}
 use Rattle.sqlite.specs.declared.error.Error.{Error}
 use Rattle.sqlite.specs.declared.error.Error.TheVariants.{SqliteFailure}
 use Rattle.sqlite.specs.declared.error.ErrorCode.TheVariants.{OutOfMemory}
-use Rattle.bac_archive3.specs.Archive.{IsArchive}
-use Rattle.bac_archive3.specs.Follow.{FollowsOn, puts_of}
-use Rattle.bac_archive3.specs.Making.{FailsToMake, IsMadeOf}
-use Rattle.bac_archive3.specs.Schema.{HasArchive, no_schema}
-use Rattle.bac_archive3.specs.Stands.{FailsToTell, StandsAs}
-use Rattle.bac_archive3.specs.declared.standing.Standing.{Standing}
+use Rattle.bac_archive.specs.Archive.{IsArchive}
+use Rattle.bac_archive.specs.Follow.{FollowsOn, puts_of}
+use Rattle.bac_archive.specs.Making.{FailsToMake, IsMadeOf}
+use Rattle.bac_archive.specs.Schema.{HasArchive, no_schema}
+use Rattle.bac_archive.specs.Stands.{FailsToTell, StandsAs}
+use Rattle.bac_archive.specs.declared.standing.Standing.{Standing}
 use Rattle.bac_files.specs.Files.{FileOf, IsDoneTo, IsNamed, IsOpenedBy, IsUnclosed}
 use Rattle.bac_files.specs.declared.disk_files.DiskFiles.{DiskFiles}
 use Rattle.bac_parts.specs.Archives.{IsUnopenedAs, RefusesIt, RefusesToTake}

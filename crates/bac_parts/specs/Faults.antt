@@ -1,8 +1,8 @@
 -- The lines that tell why the file of an archive is no use.
 use Rattle.std.specs.Prelude.{◌≡◌, ◌==◌, ◌++◌, ◌∷◌, [], ℕ, List, Result, Ok, Err, codes, if◌then◌else◌}
 use Rattle.sqlite.specs.declared.error.Error.{Error}
-use Rattle.bac_archive3.specs.declared.opening.Refused.{Refused}
-use Rattle.bac_archive3.specs.declared.opening.Refused.TheVariants as refused
+use Rattle.bac_archive.specs.declared.opening.Refused.{Refused}
+use Rattle.bac_archive.specs.declared.opening.Refused.TheVariants as refused
 use Rattle.bac_files.specs.declared.not_opened.NotOpened.{NotOpened}
 use Rattle.bac_files.specs.declared.not_opened.NotOpened.TheVariants as unopened
 use Rattle.bac_files.specs.declared.not_opened.Obstacle.{Obstacle}

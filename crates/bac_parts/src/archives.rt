@@ -4,15 +4,15 @@ ghost use Rattle.std.specs.Prelude.{◌≡◌, [], Err, IfErr, IfOk, IsTrue, Ok,
 ghost use Rattle.sqlite.specs.Held.{state};
 ghost use Rattle.sqlite.specs.State.{HasCleanDisk, IsUnchanged, Survives};
 ghost use Rattle.sqlite_wal.specs.Files.{image_at};
-ghost use Rattle.bac_archive3.specs.Archive.{IsArchive};
-ghost use Rattle.bac_archive3.specs.Making.{IsMadeOf};
-ghost use Rattle.bac_archive3.specs.Schema.{OverArchive, no_schema};
+ghost use Rattle.bac_archive.specs.Archive.{IsArchive};
+ghost use Rattle.bac_archive.specs.Making.{IsMadeOf};
+ghost use Rattle.bac_archive.specs.Schema.{OverArchive, no_schema};
 ghost use Rattle.bac_files.specs.Files.{IsClosedBy, IsNamed, IsOpenedBy};
 ghost use Rattle.bac_parts.specs.Archives.{EndsAs, IsAsWas, IsTakenAs, IsUnopenedAs, RefusesIt};
 ghost use Rattle.bac_parts.specs.Archives.{RefusesToTake, and_shut};
 
 use crate::fault::FileFault;
-use bac_archive3::{is_nothing, open};
+use bac_archive::{is_nothing, open};
 use bac_files::{DiskFiles, FileOf, NotOpened};
 use sqlite::{Alter, Connection, Error, FileStore, Start};
 

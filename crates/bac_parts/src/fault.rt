@@ -5,7 +5,7 @@ ghost use Rattle.std.specs.String.{string_bytes};
 ghost use Rattle.bac_parts.specs.Faults.{AreLinesOf, fault_status, known_reason, known_refusal};
 ghost use Rattle.bac_parts.specs.Faults.{known_unopened, lines_of, obstacle_text};
 
-use bac_archive3::Refused;
+use bac_archive::Refused;
 use bac_files::{NotOpened, Obstacle};
 use sqlite::Error;
 use std::alloc::{AllocError, Global};

@@ -7,6 +7,7 @@ ghost use Rattle.bac_parts.specs.Waiting.{TriesAgain, Waits, WaitsToOpen, at_try
 
 use bac_files::NotOpened;
 use bac_ports::{Heard, Port, SocketFault, Sockets};
+use bac_wire::Address;
 
 /// How many milliseconds it waits at most before the next try.
 const STEP: u32 = 100;
@@ -15,7 +16,7 @@ const STEP: u32 = 100;
 const STEPS: u32 = 10;
 
 /// This machine itself, and any free port: nobody knows it, so nothing comes.
-const OWN: [u8; 6] = [127, 0, 0, 1, 0, 0];
+const OWN: Address = [127, 0, 0, 1, 0, 0];
 
 /// Tries to open a database, as often as it is asked.
 ///

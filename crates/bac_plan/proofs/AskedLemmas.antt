@@ -4,9 +4,9 @@ use Rattle.std.specs.List.{AllByRecursion, Contains, filter, find, list_any}
 use Rattle.std.specs.Option.{option_map}
 use Rattle.std.proofs.lemmas.Bool.{cond-false, cond-true, eq-eqb, eqb-true, false≢true}
 use Rattle.std.proofs.lemmas.List.Elements.{All-contains, All-from_recursion}
-use Rattle.bac_archive3.specs.declared.row.DeviceRow.{DeviceRow}
-use Rattle.bac_archive3.specs.declared.row.LogRow.{LogRow}
-use Rattle.bac_archive3.specs.declared.standing.Standing.{Standing}
+use Rattle.bac_archive.specs.declared.row.DeviceRow.{DeviceRow}
+use Rattle.bac_archive.specs.declared.row.LogRow.{LogRow}
+use Rattle.bac_archive.specs.declared.standing.Standing.{Standing}
 use Rattle.bac_device_poller.specs.Rows.{DeviceAs, device_as}
 use Rattle.bac_plan.specs.Changes.{asks_again, asks_again_of, device_of, names_log}
 use Rattle.bac_plan.specs.Fresh.{FreshLogsAs, ◌>>=◌, fresh_id_in, has_log, id_at, id_in, id_of, is_fresh_log, log_added, or_else, with_choice, with_instances, with_log, with_logs}

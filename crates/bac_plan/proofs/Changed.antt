@@ -8,9 +8,9 @@ use Rattle.sqlite_value.specs.declared.value.Value.TheVariants.{Int}
 use Rattle.sqlite_value.specs.Order.{Row as Values, column, value_cmp}
 use Rattle.sqlite_rules.specs.Edit.{is_taken}
 use Rattle.sqlite_trees.specs.Tree.{rowid, has_rowid, put_row, without_rowid}
-use Rattle.bac_archive3.specs.Put.{replaced}
-use Rattle.bac_archive3.proofs.LeftLemmas.{none_taken, put_has, put_is}
-use Rattle.bac_archive3.proofs.ReplaceLemmas.{any_of, from_eq, in_filter, tied_int}
+use Rattle.bac_archive.specs.Put.{replaced}
+use Rattle.bac_archive.proofs.LeftLemmas.{none_taken, put_has, put_is}
+use Rattle.bac_archive.proofs.ReplaceLemmas.{any_of, from_eq, in_filter, tied_int}
 use Rattle.bac_device_poller.specs.Puts.{PutAs}
 
 -- ---- one row

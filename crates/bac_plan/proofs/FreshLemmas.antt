@@ -3,7 +3,7 @@ use Rattle.std.proofs.Common.{◌≡◌, ℕ, ◌+◌, ◌++◌, ◌||◌, Bool,
 use Rattle.std.specs.Option.{option_map}
 use Rattle.std.proofs.lemmas.Bool.{cond-false, cond-true}
 use Rattle.std.proofs.lemmas.List.{map-append}
-use Rattle.bac_archive3.specs.declared.row.DeviceRow.{DeviceRow}
+use Rattle.bac_archive.specs.declared.row.DeviceRow.{DeviceRow}
 use Rattle.bac_device_poller.specs.Rows.{DeviceAs, device_as}
 use Rattle.bac_plan.specs.Fresh.{FreshDevicesAs, device_added, fresh_device, fresh_id_in, has_place, id_at, id_in, is_fresh_at, with_device}
 use Rattle.bac_plan.specs.Named.{is_at}

@@ -5,7 +5,7 @@ use Rattle.std.proofs.lemmas.Bool.{cond-false, cond-true}
 use Rattle.std.proofs.lemmas.List.{append-nil, get_or-replicate, length-replicate}
 use Rattle.std.proofs.lemmas.Option.{slice_get-get_or}
 use Rattle.std.proofs.lemmas.List.Elements.{filter-append}
-use Rattle.bac_archive3.specs.declared.row.LogRow.{LogRow}
+use Rattle.bac_archive.specs.declared.row.LogRow.{LogRow}
 use Rattle.bac_plan.specs.Logs.{is_of, with_log_of}
 
 abbrev no_rows : List LogRow

@@ -2,8 +2,8 @@
 use Rattle.std.proofs.Common.{arith, ◌≡◌, ℕ, ◌+◌, ◌≤◌, ◌++◌, ◌||◌, nat_lt, Bool, true, false, if◌then◌else◌, List, [], ◌∷◌, map, length, Option, None, Some, Result, Ok, Err, refl, sym, subst}
 use Rattle.std.proofs.lemmas.Bool.{ltb-false}
 use Rattle.std.proofs.lemmas.List.{length-append, length-map, map-append}
-use Rattle.bac_archive3.specs.declared.row.DeviceRow.{DeviceRow}
-use Rattle.bac_archive3.specs.declared.row.LogRow.{LogRow}
+use Rattle.bac_archive.specs.declared.row.DeviceRow.{DeviceRow}
+use Rattle.bac_archive.specs.declared.row.LogRow.{LogRow}
 use Rattle.bac_device_poller.specs.Rows.{DeviceAs}
 use Rattle.bac_plan.specs.Fresh.{FreshDevicesAs, FreshLogsAs, ◌>>=◌, device_added, fresh_device, has_log, has_place, id_at, id_of, is_fresh_at, is_fresh_log, log_added, with_choice, with_device, with_devices, with_instances, with_log, with_logs}
 use Rattle.bac_plan.specs.NamingLaws.{DeviceIdsAreNext, LogIdsAreNext, RiseFrom}

@@ -7,8 +7,8 @@ use Rattle.std.proofs.lemmas.Bool.{cond-false, cond-true, eq-eqb, false≢true}
 use Rattle.std.proofs.lemmas.List.Elements.{All-contains, All-contains_itself, All-from_recursion, recursion_from_All}
 use Rattle.std.proofs.lemmas.List.Folds.{list_any-append, list_any_at}
 use Rattle.std.proofs.lemmas.Slice.Eq.{bytes_eq-Decides}
-use Rattle.bac_archive3.specs.declared.row.DeviceRow.{DeviceRow}
-use Rattle.bac_archive3.specs.declared.row.LogRow.{LogRow}
+use Rattle.bac_archive.specs.declared.row.DeviceRow.{DeviceRow}
+use Rattle.bac_archive.specs.declared.row.LogRow.{LogRow}
 use Rattle.bac_device_poller.specs.Rows.{DeviceAs, device_as, device_put}
 use Rattle.bac_plan.specs.Changes.{asks_again_of, changes_device, device_change, device_of, log_change, log_put_again, named_as, names_device, names_log, names_whole}
 use Rattle.bac_plan.specs.Fresh.{FreshDevicesAs, ◌>>=◌, device_added, fresh_device, has_place, id_at, is_fresh_at, new_device, with_device, with_devices}

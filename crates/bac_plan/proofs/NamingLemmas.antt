@@ -1,9 +1,9 @@
 -- The rows that are put, one kind after the other.
 use Rattle.std.proofs.Common.{◌≡◌, List, [], ◌∷◌, ◌++◌, map, refl, ap, ◌∙◌}
 use Rattle.std.specs.List.{flat_map}
-use Rattle.bac_archive3.specs.declared.row.DeviceRow.{DeviceRow}
-use Rattle.bac_archive3.specs.declared.row.LogRow.{LogRow}
-use Rattle.bac_archive3.specs.declared.standing.Standing.{Standing}
+use Rattle.bac_archive.specs.declared.row.DeviceRow.{DeviceRow}
+use Rattle.bac_archive.specs.declared.row.LogRow.{LogRow}
+use Rattle.bac_archive.specs.declared.standing.Standing.{Standing}
 use Rattle.bac_device_poller.specs.Puts.{PutAs}
 use Rattle.bac_device_poller.specs.Rows.{device_as}
 use Rattle.bac_plan.specs.Changes.{device_change, log_change}

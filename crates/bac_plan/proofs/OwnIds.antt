@@ -10,8 +10,8 @@ use Rattle.sqlite_value.specs.Order.{Row as Values, value_cmp}
 use Rattle.sqlite_value.proofs.OrderLemmas.{value_cmp_total}
 use Rattle.sqlite_trees.specs.Tree.{IsTable, has_rowid, rowid}
 use Rattle.sqlite_trees.proofs.ListLemmas.{IsPermutation-filter}
-use Rattle.bac_archive3.specs.Ask.{shown}
-use Rattle.bac_archive3.proofs.ReplaceLemmas.{from_eq, in_filter, tied_int}
+use Rattle.bac_archive.specs.Ask.{shown}
+use Rattle.bac_archive.proofs.ReplaceLemmas.{from_eq, in_filter, tied_int}
 use Rattle.bac_plan.proofs.Changed.{AreApart}
 
 -- above a row that has this id none has it

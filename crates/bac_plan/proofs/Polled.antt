@@ -6,8 +6,8 @@ use Rattle.std.proofs.lemmas.Bool.{eqb-true}
 use Rattle.std.proofs.lemmas.List.Sorted.{IsPermutation-map}
 use Rattle.bac_device_poll.specs.State.{LogAs as TaskAs}
 use Rattle.bac_device_poller.specs.Poller.{PollerAs}
-use Rattle.bac_archive3.specs.declared.row.DeviceRow.{DeviceRow}
-use Rattle.bac_archive3.specs.declared.row.LogRow.{LogRow}
+use Rattle.bac_archive.specs.declared.row.DeviceRow.{DeviceRow}
+use Rattle.bac_archive.specs.declared.row.LogRow.{LogRow}
 use Rattle.bac_resume.specs.Rows.{LogTold}
 use Rattle.bac_site_poller.specs.Site.{SiteState}
 use Rattle.bac_site_poller.specs.declared.seat.Seat.{Seat}

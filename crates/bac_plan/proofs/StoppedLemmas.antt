@@ -1,7 +1,7 @@
 -- What words name is stopped, and the rest goes on.
 use Rattle.std.proofs.Common.{◌≡◌, ◌&&◌, ◌||◌, not, Bool, true, false, if◌then◌else◌, [], ◌∷◌, Option, refl, ap, ◌∙◌}
 use Rattle.std.proofs.lemmas.Bool.{cond-false}
-use Rattle.bac_archive3.specs.declared.row.DeviceRow.{DeviceRow}
+use Rattle.bac_archive.specs.declared.row.DeviceRow.{DeviceRow}
 use Rattle.bac_device_poller.specs.Rows.{DeviceAs, device_as, device_put}
 use Rattle.bac_plan.specs.Changes.{device_of, log_put_again, names_whole}
 use Rattle.bac_plan.specs.Named.{has_instance, is_at, is_whole}

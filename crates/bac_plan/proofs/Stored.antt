@@ -10,15 +10,15 @@ use Rattle.sqlite_schema.specs.declared.schema.Column.{Column}
 use Rattle.sqlite_schema.specs.declared.schema.Kind.TheVariants as kind
 use Rattle.sqlite_rules.specs.Cast.{cast, cast_all}
 use Rattle.sqlite_trees.specs.Tree.{rowid}
-use Rattle.bac_archive3.specs.Ask.{shown}
-use Rattle.bac_archive3.specs.Put.{AreFree, IsFree, after, bound_columns, flag, left, log_columns}
-use Rattle.bac_archive3.specs.Schema.{devices, logs}
-use Rattle.bac_archive3.specs.declared.row.DeviceRow.{DeviceRow}
-use Rattle.bac_archive3.specs.declared.row.LogRow.{LogRow}
-use Rattle.bac_archive3.specs.declared.row.Put.{Put}
-use Rattle.bac_archive3.specs.declared.row.Put.TheVariants.{NewDevice, Device, NewLog, Log, Beginning, Lowered, Item}
-use Rattle.bac_archive3.proofs.KeepLemmas.{last_is}
-use Rattle.bac_archive3.proofs.RowsLemmas.{cast_int, cast_null}
+use Rattle.bac_archive.specs.Ask.{shown}
+use Rattle.bac_archive.specs.Put.{AreFree, IsFree, after, bound_columns, flag, left, log_columns}
+use Rattle.bac_archive.specs.Schema.{devices, logs}
+use Rattle.bac_archive.specs.declared.row.DeviceRow.{DeviceRow}
+use Rattle.bac_archive.specs.declared.row.LogRow.{LogRow}
+use Rattle.bac_archive.specs.declared.row.Put.{Put}
+use Rattle.bac_archive.specs.declared.row.Put.TheVariants.{NewDevice, Device, NewLog, Log, Beginning, Lowered, Item}
+use Rattle.bac_archive.proofs.KeepLemmas.{last_is}
+use Rattle.bac_archive.proofs.RowsLemmas.{cast_int, cast_null}
 use Rattle.bac_device_poller.specs.Puts.{put_as}
 use Rattle.bac_device_poller.specs.Rows.{DeviceAs, columns_of_device, device_as}
 use Rattle.bac_plan.proofs.Changed.{AreFreeIn, IsFreeIn, left_in}

@@ -10,18 +10,18 @@ use Rattle.sqlite_trees.specs.Tree.{IsTable, Trees, rowid}
 use Rattle.sqlite_trees.proofs.ListLemmas.{ascending-filter}
 use Rattle.sqlite_trees.proofs.TreeLemmas.{IsTable-put_row}
 use Rattle.sqlite_value.specs.Order.{Row as Values, value_cmp}
-use Rattle.bac_archive3.specs.Archive.{HasId}
-use Rattle.bac_archive3.specs.Ask.{shown}
-use Rattle.bac_archive3.specs.Put.{AreFree, IsFree, IsPut, after, device_columns, left, log_columns, replaced, row_of}
-use Rattle.bac_archive3.specs.Schema.{HasArchive, devices, logs}
-use Rattle.bac_archive3.specs.Stands.{StandsAs}
-use Rattle.bac_archive3.specs.declared.row.DeviceRow.{DeviceRow}
-use Rattle.bac_archive3.specs.declared.row.LogRow.{LogRow}
-use Rattle.bac_archive3.specs.declared.row.Put.{Put}
-use Rattle.bac_archive3.specs.declared.row.Put.TheVariants.{NewDevice, Device, NewLog, Log, Beginning, Lowered, Item}
-use Rattle.bac_archive3.specs.declared.standing.Standing.{Standing}
-use Rattle.bac_archive3.proofs.LeftLemmas.{has_left, has_put, replaced_takes}
-use Rattle.bac_archive3.proofs.OrphanLemmas.{from_map, in_map}
+use Rattle.bac_archive.specs.Archive.{HasId}
+use Rattle.bac_archive.specs.Ask.{shown}
+use Rattle.bac_archive.specs.Put.{AreFree, IsFree, IsPut, after, device_columns, left, log_columns, replaced, row_of}
+use Rattle.bac_archive.specs.Schema.{HasArchive, devices, logs}
+use Rattle.bac_archive.specs.Stands.{StandsAs}
+use Rattle.bac_archive.specs.declared.row.DeviceRow.{DeviceRow}
+use Rattle.bac_archive.specs.declared.row.LogRow.{LogRow}
+use Rattle.bac_archive.specs.declared.row.Put.{Put}
+use Rattle.bac_archive.specs.declared.row.Put.TheVariants.{NewDevice, Device, NewLog, Log, Beginning, Lowered, Item}
+use Rattle.bac_archive.specs.declared.standing.Standing.{Standing}
+use Rattle.bac_archive.proofs.LeftLemmas.{has_left, has_put, replaced_takes}
+use Rattle.bac_archive.proofs.OrphanLemmas.{from_map, in_map}
 use Rattle.bac_device_poller.specs.Puts.{PutAs, put_as}
 use Rattle.bac_device_poller.specs.Rows.{DeviceAs, columns_of_device, device_as, device_put}
 use Rattle.bac_plan.specs.Changes.{asks_again, changes_device, device_change, log_change, log_put_again, named_as, names_whole, revision_for, with_stopped}

@@ -5,9 +5,9 @@ use Rattle.std.specs.Prelude.{Option, None, Some, find}
 use Rattle.std.specs.List.{list_any}
 use Rattle.sqlite_value.specs.Order.{Row as Values}
 use Rattle.sqlite_value.specs.declared.value.Value.TheVariants.{Int}
-use Rattle.bac_archive3.specs.Put.{flag, log_columns}
-use Rattle.bac_archive3.specs.declared.row.DeviceRow.{DeviceRow}
-use Rattle.bac_archive3.specs.declared.row.LogRow.{LogRow}
+use Rattle.bac_archive.specs.Put.{flag, log_columns}
+use Rattle.bac_archive.specs.declared.row.DeviceRow.{DeviceRow}
+use Rattle.bac_archive.specs.declared.row.LogRow.{LogRow}
 use Rattle.bac_device_poller.specs.Puts.{PutAs}
 use Rattle.bac_device_poller.specs.Rows.{DeviceAs, device_as, device_put}
 use Rattle.bac_plan.specs.Named.{has_instance, is_at, is_whole}

@@ -3,9 +3,9 @@ use Rattle.std.specs.Prelude.{ℕ, ◌≤◌, ◌==◌, ◌&&◌, Bool, List, fi
 use Rattle.std.specs.List.{flat_map, list_any}
 use Rattle.std.specs.List.Sorted.{IsPermutation}
 use Rattle.bac_wire.specs.Primitive.{Id}
-use Rattle.bac_archive3.specs.declared.row.DeviceRow.{DeviceRow}
-use Rattle.bac_archive3.specs.declared.row.LogRow.{LogRow}
-use Rattle.bac_archive3.specs.declared.standing.Standing.{Standing}
+use Rattle.bac_archive.specs.declared.row.DeviceRow.{DeviceRow}
+use Rattle.bac_archive.specs.declared.row.LogRow.{LogRow}
+use Rattle.bac_archive.specs.declared.standing.Standing.{Standing}
 use Rattle.bac_site_poller.specs.Site.{SiteState}
 use Rattle.bac_site_poller.specs.declared.seat.Seat.{Seat}
 use Rattle.bac_plan.specs.Devices.{is_polled}

@@ -7,10 +7,10 @@ use Rattle.std.specs.Option.{unwrap_or}
 use Rattle.std.specs.String.{string_bytes}
 use Rattle.sqlite_value.specs.Order.{Row as Values, column}
 use Rattle.bac_wire.specs.Primitive.{Id}
-use Rattle.bac_archive3.specs.Items.{number_at}
-use Rattle.bac_archive3.specs.Put.{log_columns}
-use Rattle.bac_archive3.specs.Stands.{epochs}
-use Rattle.bac_archive3.specs.declared.row.LogRow.{LogRow}
+use Rattle.bac_archive.specs.Items.{number_at}
+use Rattle.bac_archive.specs.Put.{log_columns}
+use Rattle.bac_archive.specs.Stands.{epochs}
+use Rattle.bac_archive.specs.declared.row.LogRow.{LogRow}
 use Rattle.bac_poll.specs.Poll.{nothing_told}
 use Rattle.bac_poll.specs.State.{standing_as, told_as}
 use Rattle.bac_device_poll.specs.State.{Behind, BeginAs, LogAs as TaskAs, Starting}

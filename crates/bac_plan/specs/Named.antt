@@ -3,7 +3,7 @@ use Rattle.std.specs.Prelude.{ℕ, ◌==◌, ◌&&◌, Bool, true, false, List}
 use Rattle.std.specs.List.{list_any}
 use Rattle.std.specs.Str.{bytes_eq}
 use Rattle.std.specs.String.{string_bytes}
-use Rattle.bac_archive3.specs.Items.{text_at}
+use Rattle.bac_archive.specs.Items.{text_at}
 use Rattle.bac_device_poller.specs.Rows.{DeviceAs}
 use Rattle.bac_plan.specs.declared.named.Choice.{Choice}
 use Rattle.bac_plan.specs.declared.named.Choice.TheVariants.{Logs, Whole}

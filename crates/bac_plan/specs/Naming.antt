@@ -2,8 +2,8 @@
 use Rattle.std.specs.Prelude.{pos, false, true, List, [], ◌∷◌, ◌++◌, map, Result, Ok}
 use Rattle.std.specs.List.{flat_map}
 use Rattle.sqlite_value.specs.declared.value.Value.TheVariants.{Int, Null}
-use Rattle.bac_archive3.specs.Put.{flag}
-use Rattle.bac_archive3.specs.declared.standing.Standing.{Standing}
+use Rattle.bac_archive.specs.Put.{flag}
+use Rattle.bac_archive.specs.declared.standing.Standing.{Standing}
 use Rattle.bac_device_poller.specs.Puts.{PutAs}
 use Rattle.bac_device_poller.specs.Rows.{DeviceAs, columns_of_device, device_as}
 use Rattle.bac_plan.specs.Changes.{device_change, log_change}

@@ -1,8 +1,8 @@
 -- The poller of a device that isn't asked yet, by its row and those of its logs.
 use Rattle.std.specs.Prelude.{◌≡◌, ◌≤◌, ⊤, ℕ, List, filter, map, None}
 use Rattle.std.specs.List.{AllZip, Contains}
-use Rattle.bac_archive3.specs.declared.row.DeviceRow.{DeviceRow}
-use Rattle.bac_archive3.specs.declared.row.LogRow.{LogRow}
+use Rattle.bac_archive.specs.declared.row.DeviceRow.{DeviceRow}
+use Rattle.bac_archive.specs.declared.row.LogRow.{LogRow}
 use Rattle.bac_device_poll.specs.Poll.{fresh, with_steps}
 use Rattle.bac_device_poll.specs.State.{LogAs as TaskAs}
 use Rattle.bac_device_poll.specs.declared.poll.Known.{Known}

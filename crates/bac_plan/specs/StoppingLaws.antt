@@ -1,8 +1,8 @@
 -- Laws of what words stop. Read `NamedAreStopped` and `OthersGoOn`.
 use Rattle.std.specs.Prelude.{◌≡◌, ◌&&◌, ◌||◌, not, true, false, if◌then◌else◌, List, [], Some}
 use Rattle.std.specs.List.{Contains}
-use Rattle.bac_archive3.specs.declared.row.DeviceRow.{DeviceRow}
-use Rattle.bac_archive3.specs.declared.row.LogRow.{LogRow}
+use Rattle.bac_archive.specs.declared.row.DeviceRow.{DeviceRow}
+use Rattle.bac_archive.specs.declared.row.LogRow.{LogRow}
 use Rattle.bac_device_poller.specs.Rows.{DeviceAs, device_as}
 use Rattle.bac_plan.specs.Changes.{device_of, names_device, names_whole}
 use Rattle.bac_plan.specs.Named.{has_instance, is_at, is_whole}

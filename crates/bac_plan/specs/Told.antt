@@ -4,14 +4,14 @@ use Rattle.std.specs.List.{Contains}
 use Rattle.sqlite.specs.Effect.{Database}
 use Rattle.sqlite_trees.specs.Tree.{IsTable, Trees}
 use Rattle.sqlite_value.specs.Order.{Row as Values}
-use Rattle.bac_archive3.specs.Archive.{HasId}
-use Rattle.bac_archive3.specs.Put.{IsPut, log_columns}
-use Rattle.bac_archive3.specs.Schema.{HasArchive}
-use Rattle.bac_archive3.specs.Stands.{StandsAs}
-use Rattle.bac_archive3.specs.declared.row.DeviceRow.{DeviceRow}
-use Rattle.bac_archive3.specs.declared.row.LogRow.{LogRow}
-use Rattle.bac_archive3.specs.declared.row.Put.{Put}
-use Rattle.bac_archive3.specs.declared.standing.Standing.{Standing}
+use Rattle.bac_archive.specs.Archive.{HasId}
+use Rattle.bac_archive.specs.Put.{IsPut, log_columns}
+use Rattle.bac_archive.specs.Schema.{HasArchive}
+use Rattle.bac_archive.specs.Stands.{StandsAs}
+use Rattle.bac_archive.specs.declared.row.DeviceRow.{DeviceRow}
+use Rattle.bac_archive.specs.declared.row.LogRow.{LogRow}
+use Rattle.bac_archive.specs.declared.row.Put.{Put}
+use Rattle.bac_archive.specs.declared.standing.Standing.{Standing}
 use Rattle.bac_device_poller.specs.Puts.{put_as}
 use Rattle.bac_device_poller.specs.Rows.{DeviceAs, device_as}
 use Rattle.bac_plan.specs.Changes.{asks_again, with_stopped}

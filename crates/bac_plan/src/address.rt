@@ -3,6 +3,8 @@
 ghost use Rattle.std.specs.Prelude.{◌≡◌, ◌≤◌, ◌<◌, ◌==◌, length, option_map, position, IfSome};
 ghost use Rattle.bac_plan.specs.Addresses.{cut, digits_in, host_in, number_in, peer_in, value_of};
 
+use bac_wire::Address;
+
 /// How many digits a number of sixteen bits has at most.
 const MOST_DIGITS: usize = 5;
 
@@ -77,7 +79,7 @@ fn cut(text: &[u8], mark: u8) -> Option<(&[u8], &[u8])>
 
 // The host A.B.C.D with this port.
 #[tactic(auto, unfolding(crate::specs::Addresses::host_in))]
-fn host(port: u16, text: &[u8]) -> Option<[u8; 6]>
+fn host(port: u16, text: &[u8]) -> Option<Address>
     ensures { result ≡ host_in port text.now }
 {
     let (a, rest) = cut(text, b'.')?;
@@ -93,7 +95,7 @@ fn host(port: u16, text: &[u8]) -> Option<[u8; 6]>
 
 /// Four octets of IPv4 address and two of port, high octet first, that a text A.B.C.D:PORT says.
 #[tactic(auto, unfolding(crate::specs::Addresses::peer_in))]
-pub(crate) fn peer_in(text: &[u8]) -> Option<[u8; 6]>
+pub(crate) fn peer_in(text: &[u8]) -> Option<Address>
     ensures { result ≡ peer_in text.now }
 {
     let (text, port) = cut(text, b':')?;

@@ -10,7 +10,7 @@ ghost use Rattle.bac_plan.specs.Changes.{names_device, names_log, names_whole, r
 
 use crate::named::Named;
 use crate::rows::{device_row, log_row};
-use bac_archive3::{DeviceRow, LogRow, Put};
+use bac_archive::{DeviceRow, LogRow, Put};
 use std::alloc::AllocError;
 
 /// Whether words name a device.

@@ -4,7 +4,7 @@ ghost use Rattle.std.specs.Prelude.{◌≡◌, IfOk};
 ghost use Rattle.bac_plan.specs.Clock.{answered_on, asks_clock, day_of};
 
 use crate::options::Options;
-use bac_archive3::DeviceRow;
+use bac_archive::DeviceRow;
 use bac_print::push_moment;
 use bac_wire::Stamp;
 use std::alloc::{AllocError, Global};

@@ -8,7 +8,7 @@ ghost use Rattle.bac_plan.specs.Fresh.{with_device, with_devices};
 use crate::changes::names_whole;
 use crate::fault::NamingFault;
 use crate::named::Named;
-use bac_archive3::DeviceRow;
+use bac_archive::DeviceRow;
 use std::alloc::{AllocError, Global};
 use std::marker::Model;
 

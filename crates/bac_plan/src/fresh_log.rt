@@ -8,7 +8,7 @@ ghost use Rattle.bac_plan.specs.Fresh.{with_log, with_logs};
 use crate::fault::NamingFault;
 use crate::fresh_device::{id_at, id_in};
 use crate::named::{Choice, Named};
-use bac_archive3::{DeviceRow, LogRow};
+use bac_archive::{DeviceRow, LogRow};
 use std::alloc::Global;
 use std::marker::Model;
 

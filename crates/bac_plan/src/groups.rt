@@ -5,7 +5,7 @@ ghost use Rattle.std.specs.Prelude.{option_copied, slice_get};
 ghost use Rattle.std.specs.Option.{option_map};
 ghost use Rattle.bac_plan.specs.Logs.{is_of, with_log_of};
 
-use bac_archive3::LogRow;
+use bac_archive::LogRow;
 use std::alloc::{AllocError, Global};
 use std::marker::Model;
 
@@ -20,7 +20,7 @@ pub struct Group {
 
 impl Model for Group {
     ghost use Rattle.std.specs.Prelude.{List};
-    ghost use Rattle.bac_archive3.specs.declared.row.LogRow.{LogRow};
+    ghost use Rattle.bac_archive.specs.declared.row.LogRow.{LogRow};
 
     ghost Value = { List LogRow };
 

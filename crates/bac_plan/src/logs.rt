@@ -3,7 +3,7 @@
 ghost use Rattle.std.specs.Prelude.{◌≡◌, ◌<◌, IfErr, IfOk, filter, map};
 ghost use Rattle.std.specs.List.{AllZip};
 ghost use Rattle.std.specs.Option.{option_map};
-ghost use Rattle.bac_archive3.specs.Put.{beginning_columns, log_columns};
+ghost use Rattle.bac_archive.specs.Put.{beginning_columns, log_columns};
 ghost use Rattle.bac_device_poll.specs.State.{begin_as};
 ghost use Rattle.bac_device_poller.specs.Puts.{place_as};
 ghost use Rattle.bac_device_poller.specs.Rows.{text_as};
@@ -17,13 +17,13 @@ ghost use Rattle.bac_plan.specs.Logs.{restart_of, told_at, trend_log};
 use crate::fault::PlanFault;
 use crate::texts::copied;
 use bac_apdu::object_type::TREND_LOG;
-use bac_archive3::{BeginningRow, LogRow};
+use bac_archive::{BeginningRow, LogRow};
 use bac_device_poll::{Begin, LogTask};
 use bac_device_poller::LogRecord;
-use bac_places::Place;
 use bac_poll::Told;
 use bac_print::push_number;
 use bac_resume::{LogRows, Resumed, go_on, is_full, next_of};
+use bac_row_ids::Place;
 use bac_wire::ObjectId;
 use std::alloc::{AllocError, Global};
 

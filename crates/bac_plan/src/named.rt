@@ -4,7 +4,7 @@ ghost use Rattle.std.specs.Prelude.{◌≡◌};
 ghost use Rattle.bac_device_poller.specs.Rows.{device_as};
 ghost use Rattle.bac_plan.specs.Named.{has_instance, is_at, is_whole, list_has};
 
-use bac_archive3::DeviceRow;
+use bac_archive::DeviceRow;
 
 /// Which trend logs of a device words name.
 #[derive(Debug, Drop)]

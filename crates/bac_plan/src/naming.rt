@@ -10,7 +10,7 @@ use crate::fault::NamingFault;
 use crate::fresh_device::fresh_devices;
 use crate::fresh_log::{FreshLog, fresh_logs};
 use crate::named::Named;
-use bac_archive3::{DeviceRow, LogRow, Put, Standing};
+use bac_archive::{DeviceRow, LogRow, Put, Standing};
 use std::alloc::{AllocError, Global};
 
 // Puts new devices.

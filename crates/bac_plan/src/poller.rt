@@ -9,7 +9,7 @@ use crate::logs::{records_of, stopped_of, tasks_of};
 use crate::options::Options;
 use crate::way::{transactions_on, way_of};
 use crate::who::{called_of, who_of};
-use bac_archive3::{DeviceRow, LogRow};
+use bac_archive::{DeviceRow, LogRow};
 use bac_device_poll::{DevicePoll, Known};
 use bac_device_poller::{DevicePoller, Rows};
 use bac_resume::LogRows;

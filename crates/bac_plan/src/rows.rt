@@ -1,12 +1,12 @@
 //! Rows that are put in place of those on record.
 
 ghost use Rattle.std.specs.Prelude.{◌≡◌, IfOk};
-ghost use Rattle.bac_archive3.specs.Put.{log_columns};
+ghost use Rattle.bac_archive.specs.Put.{log_columns};
 ghost use Rattle.bac_device_poller.specs.Rows.{device_as};
 ghost use Rattle.bac_plan.specs.Changes.{with_stopped};
 
 use crate::texts::copied;
-use bac_archive3::{DeviceRow, LogRow};
+use bac_archive::{DeviceRow, LogRow};
 use std::alloc::AllocError;
 
 /// The row of a device, of which that revision is known, which is kept whole, or isn't, and is

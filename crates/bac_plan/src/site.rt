@@ -9,7 +9,7 @@ use crate::fault::PlanFault;
 use crate::groups::{Group, by_device};
 use crate::options::Options;
 use crate::poller::poller_of;
-use bac_archive3::{DeviceRow, LogRow, Standing};
+use bac_archive::{DeviceRow, LogRow, Standing};
 use bac_device_poller::Ids;
 use bac_resume::{LogRows, by_log};
 use bac_site_poller::SitePoller;

@@ -13,7 +13,7 @@ use crate::fresh_device::id_in;
 use crate::fresh_log::has_log;
 use crate::named::{Choice, Named};
 use crate::rows::{device_row, log_row};
-use bac_archive3::{DeviceRow, LogRow, Put, Standing};
+use bac_archive::{DeviceRow, LogRow, Put, Standing};
 use std::alloc::{AllocError, Global};
 
 // The first of these logs of a device that isn't on record.

@@ -10,7 +10,7 @@ ghost use Rattle.bac_plan.specs.Pollers.{transactions_on};
 use crate::address::peer_in;
 use crate::fault::PlanFault;
 use bac_apdu::Route;
-use bac_archive3::DeviceRow;
+use bac_archive::DeviceRow;
 use bac_device_poll::Way;
 use bac_link::Transactions;
 use hex::FromHexError;

@@ -4,7 +4,7 @@ ghost use Rattle.std.specs.Prelude.{◌≡◌, ◌++◌, IfErr, IfOk, OnOk};
 ghost use Rattle.bac_plan.specs.Devices.{IsDeviceFault, called_of, named_by, place_text, who_of};
 
 use crate::fault::PlanFault;
-use bac_archive3::DeviceRow;
+use bac_archive::DeviceRow;
 use bac_device_poll::{Text, Who};
 use bac_print::push_number;
 use bac_wire::ObjectId;

@@ -1,12 +1,12 @@
 //! The clock of a device is asked for once a day.
 
 use crate::site::{device, log, options};
-use bac_archive3::Standing;
+use bac_archive::Standing;
 use bac_drive::{Machine, Next};
 use bac_plan::site_of;
 use bac_ports::Heard;
 use bac_site_poller::SitePoller;
-use bac_wire::Datagram;
+use bac_wire::{Address, Datagram};
 use std::alloc::{AllocError, Global};
 use std::test::Fail;
 
@@ -54,7 +54,7 @@ fn standing(alloc: Global, answered: Option<&str>) -> Result<Standing, AllocErro
 }
 
 /// The next datagram that is sent, and where to; rows that are put before it aren't looked at.
-fn sent(alloc: Global, site: &mut SitePoller) -> Result<(Datagram, [u8; 6]), Fail> {
+fn sent(alloc: Global, site: &mut SitePoller) -> Result<(Datagram, Address), Fail> {
     for _ in 0..10 {
         match site.next(alloc)? {
             Next::Send(datagram, to) => return Ok((datagram, to)),

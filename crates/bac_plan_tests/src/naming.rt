@@ -2,7 +2,7 @@
 //! was stopped and one that is new, each named twice.
 
 use crate::site::{device, standing};
-use bac_archive3::Put;
+use bac_archive::Put;
 use bac_plan::{Choice, Named, NamingFault, StopFault, rows_named, rows_stopped};
 use std::alloc::{AllocError, Global};
 use std::test::Fail;

@@ -1,12 +1,12 @@
 //! The site of an archive of three devices: one with a log that is new and one that begins by the
 //! count alone, one behind a router, and one that is stopped.
 
-use bac_archive3::{BeginningRow, DeviceRow, LogRow, Standing};
+use bac_archive::{BeginningRow, DeviceRow, LogRow, Standing};
 use bac_drive::{Machine, Next};
 use bac_plan::{Options, PlanFault, site_of};
 use bac_site_poller::{Limits, SitePoller};
 use bac_walk::Count;
-use bac_wire::Stamp;
+use bac_wire::{Address, Stamp};
 use jiff_core::civil::DateTime;
 use std::alloc::{AllocError, Global};
 use std::test::Fail;
@@ -18,7 +18,7 @@ const FIRST: [u8; 17] = [
 ];
 
 /// The network header of one for 0a on network 7.
-const SECOND: [u8; 6] = [0x01, 0x24, 0x00, 0x07, 0x01, 0x0a];
+const SECOND: Address = [0x01, 0x24, 0x00, 0x07, 0x01, 0x0a];
 
 pub fn device(alloc: Global, id: u16, address: &str, dnet: u16) -> Result<DeviceRow, AllocError> {
     let dadr = if dnet == 0 { "" } else { "0a" };
@@ -98,7 +98,7 @@ pub fn options() -> Result<Options, Fail> {
 }
 
 /// The next datagram that is sent, and where to.
-fn sent(alloc: Global, site: &mut SitePoller) -> Result<(Vec<u8>, [u8; 6]), Fail> {
+fn sent(alloc: Global, site: &mut SitePoller) -> Result<(Vec<u8>, Address), Fail> {
     for _ in 0..10 {
         match site.next(alloc)? {
             Next::Send(datagram, to) => {

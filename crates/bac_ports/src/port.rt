@@ -3,7 +3,7 @@
 ghost use Rattle.std.specs.Prelude.{ℕ, List};
 ghost use Rattle.bac_ports.specs.Port.{Receiving, Sending};
 
-use bac_wire::Datagram;
+use bac_wire::{Address, Datagram};
 
 /// Why a port refused.
 #[derive(Clone, Copy, Debug, PartialEq, Eq)]
@@ -31,7 +31,7 @@ pub enum OpenFault {
 #[derive(Debug, Drop)]
 pub struct Heard {
     /// Its sender: four octets of IPv4 address and two of port.
-    pub from: [u8; 6],
+    pub from: Address,
     /// `None` if it has over 1501 octets: it is dropped.
     pub datagram: Option<Datagram>,
 }
@@ -53,7 +53,7 @@ pub trait Port {
     ghost receives_within: { Self → ℕ → Receiving → Self → Type 0 };
 
     /// Sends octets to an address, as one datagram.
-    fn send(&mut self, octets: &[u8], to: [u8; 6]) -> Result<(), SocketFault>
+    fn send(&mut self, octets: &[u8], to: Address) -> Result<(), SocketFault>
         ensures { sends self.old octets.now to result self.new };
 
     /// Waits for the next datagram, from anyone, as long as the port waits.

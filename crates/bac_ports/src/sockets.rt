@@ -5,6 +5,7 @@ ghost use Rattle.bac_ports.specs.Port.{Opening};
 
 use crate::port::{OpenFault, Port};
 use crate::udp_port::UdpPort;
+use bac_wire::Address;
 use std::net::Net;
 
 /// Opens ports, and closes them.
@@ -25,7 +26,7 @@ pub trait Sockets {
     /// Opens a port at an address: four octets of IPv4 address and two of port, high octet first
     /// (Annex J.1.2); port 0 is any free one. A receive waits at most so many milliseconds, and
     /// without limit at 0.
-    fn open(&mut self, local: [u8; 6], wait_ms: u32) -> Result<Self::Socket, OpenFault>
+    fn open(&mut self, local: Address, wait_ms: u32) -> Result<Self::Socket, OpenFault>
         ensures { opens self.old local wait_ms result self.new };
 
     /// Closes a port that was opened: nothing is sent or received over it any more.
@@ -53,7 +54,7 @@ impl<R: Net> Sockets for UdpSockets<R> {
 
     ghost closes = { λ old port new. Unit {0} };
 
-    fn open(&mut self, local: [u8; 6], wait_ms: u32) -> Result<UdpPort, OpenFault> {
+    fn open(&mut self, local: Address, wait_ms: u32) -> Result<UdpPort, OpenFault> {
         UdpPort::open(&self.rt, local, wait_ms)
     }
 

@@ -7,7 +7,7 @@ ghost use Rattle.bac_ports.specs.Asking.{Asks, Awaits, fitting, to_peer};
 
 use crate::port::{Heard, Port, SocketFault};
 use bac_link::{LogLink, Lost, answers};
-use bac_wire::Datagram;
+use bac_wire::{Address, Datagram};
 
 /// How many datagrams an ask takes before it gives up.
 pub const RECEIVES: u32 = 16;
@@ -20,13 +20,13 @@ pub const RECEIVES: u32 = 16;
 #[derive(Debug, Drop)]
 pub struct UdpLink<P> {
     port: P,
-    peer: [u8; 6],
+    peer: Address,
     failures: u64,
 }
 
 impl<P: Port> UdpLink<P> {
     /// A link to the device at an address.
-    pub fn new(port: P, peer: [u8; 6]) -> UdpLink<P>
+    pub fn new(port: P, peer: Address) -> UdpLink<P>
         ensures port { result.port ≡ port }
         ensures peer { result.peer ≡ peer }
         ensures failures { result.failures ≡ 0 }
@@ -120,7 +120,7 @@ impl<P: Port> LogLink for UdpLink<P> {
 #[tactic(auto, unfolding(crate::specs::Asking::Awaits))]
 fn wait_for<P: Port>(
     port: &mut P,
-    peer: [u8; 6],
+    peer: Address,
     request: &[u8],
     limit: u32,
 ) -> Result<Datagram, Lost>
@@ -140,7 +140,7 @@ fn wait_for<P: Port>(
 }
 
 /// The datagram, if it comes from the peer and answers the request.
-fn fitting(heard: Heard, peer: [u8; 6], request: &[u8]) -> Option<Datagram>
+fn fitting(heard: Heard, peer: Address, request: &[u8]) -> Option<Datagram>
     ensures { result ≡ fitting peer request.now heard }
 {
     let Heard { from, datagram } = heard;

@@ -1,7 +1,7 @@
 //! A port over a socket of the system.
 
 use crate::port::{Heard, OpenFault, Port, SocketFault};
-use bac_wire::Datagram;
+use bac_wire::{Address, Datagram};
 use libc::net::{SO_RCVBUF, SOL_SOCKET, setsockopt};
 use std::io;
 use std::io::ErrorKind;
@@ -31,7 +31,7 @@ pub struct UdpPort {
 impl UdpPort {
     /// A socket at an address of this machine; port 0 is any free one. A receive waits at most so
     /// many milliseconds, and without limit at 0.
-    pub fn open<R: Net>(rt: &R, local: [u8; 6], timeout_ms: u32) -> Result<UdpPort, OpenFault> {
+    pub fn open<R: Net>(rt: &R, local: Address, timeout_ms: u32) -> Result<UdpPort, OpenFault> {
         match socket_at(rt, local, timeout_ms) {
             Ok(socket) => Ok(UdpPort {
                 socket,
@@ -44,7 +44,7 @@ impl UdpPort {
     }
 
     /// The address that the socket has; `None` if the system doesn't tell.
-    pub fn local(&self) -> Option<[u8; 6]> {
+    pub fn local(&self) -> Option<Address> {
         match self.socket.local_addr() {
             Ok(address) => octets_of(address),
             Err(_) => None,
@@ -99,7 +99,7 @@ fn open_fault(kind: ErrorKind) -> OpenFault {
     }
 }
 
-fn socket_at<R: Net>(rt: &R, local: [u8; 6], timeout_ms: u32) -> io::Result<UdpSocket> {
+fn socket_at<R: Net>(rt: &R, local: Address, timeout_ms: u32) -> io::Result<UdpSocket> {
     let socket = UdpSocket::bind(rt, address_of(local))?;
     socket.set_read_timeout(waiting(timeout_ms))?;
     ask_for_room(&socket);
@@ -123,12 +123,12 @@ fn waiting(wait_ms: u32) -> Option<Duration> {
     }
 }
 
-fn address_of(address: [u8; 6]) -> SocketAddrV4 {
+fn address_of(address: Address) -> SocketAddrV4 {
     let [a, b, c, d, high, low] = address;
     SocketAddrV4::new(Ipv4Addr::new(a, b, c, d), u16::from_be_bytes([high, low]))
 }
 
-fn octets_of(address: SocketAddr) -> Option<[u8; 6]> {
+fn octets_of(address: SocketAddr) -> Option<Address> {
     match address {
         SocketAddr::V4(address) => {
             let [a, b, c, d] = address.ip().octets();
@@ -156,7 +156,7 @@ impl Port for UdpPort {
 
     ghost receives_within = { λ old wait answer new. Unit {0} };
 
-    fn send(&mut self, octets: &[u8], to: [u8; 6]) -> Result<(), SocketFault> {
+    fn send(&mut self, octets: &[u8], to: Address) -> Result<(), SocketFault> {
         match self.socket.send_to(octets, address_of(to)) {
             Ok(sent) if sent == octets.len() => Ok(()),
             _ => Err(SocketFault::Failed),

@@ -4,6 +4,7 @@ ghost use Rattle.std.specs.Prelude.{◌≡◌, ◌++◌, OnOk, decimal};
 ghost use Rattle.bac_print.specs.Addresses.{address_text};
 
 use crate::numbers::push_number;
+use bac_wire::Address;
 use std::alloc::AllocError;
 
 /// Appends a number, and what stands after it.
@@ -16,7 +17,7 @@ fn push_before(text: &mut Vec<u8>, n: u64, mark: &[u8]) -> Result<(), AllocError
 
 /// Appends `A.B.C.D:PORT` of four octets of IPv4 address and two of port, high octet first.
 #[tactic(auto, unfolding(crate::specs::Addresses::address_text))]
-pub fn push_address(text: &mut Vec<u8>, address: [u8; 6]) -> Result<(), AllocError>
+pub fn push_address(text: &mut Vec<u8>, address: Address) -> Result<(), AllocError>
     ensures { OnOk result (text.new.items ≡ text.old.items ++ address_text address) }
 {
     let [a, b, c, d, high, low] = address;

@@ -9,6 +9,7 @@ ghost use Rattle.bac_query.specs.Announcements.{announced_in, announcement_of, i
 use bac_apdu::choice::I_AM;
 use bac_apdu::{Apdu, Far, Frame, IAm, Npdu, read_apdu, read_frame, read_npdu};
 use bac_ports::Heard;
+use bac_wire::Address;
 
 /// The network number that stands for all networks (clause 6.2.2).
 const ALL_NETWORKS: u16 = 0xffff;
@@ -18,7 +19,7 @@ const ALL_NETWORKS: u16 = 0xffff;
 pub(crate) struct Announcement<'a> {
     /// Four octets of IPv4 address and two of port, high octet first (Annex J.1.2): the device's,
     /// or that of the router which it is behind.
-    pub(crate) address: [u8; 6],
+    pub(crate) address: Address,
     /// Its place behind a router (SNET and SADR).
     pub(crate) source: Option<Far<'a>>,
     pub(crate) i_am: IAm,
@@ -38,7 +39,7 @@ fn is_heard(header: &Npdu) -> bool
 
 /// What an NPDU from this address announces.
 #[tactic(auto, unfolding(crate::specs::Announcements::announced_at))]
-fn announced_at(address: [u8; 6], npdu: &[u8]) -> Option<Announcement>
+fn announced_at(address: Address, npdu: &[u8]) -> Option<Announcement>
     ensures { GivesSome announcement_of result (announced_at address npdu.now) }
 {
     let (header, apdu) = read_npdu(npdu)?;
@@ -62,7 +63,7 @@ fn announced_at(address: [u8; 6], npdu: &[u8]) -> Option<Announcement>
 }
 
 /// What a datagram from this sender announces. A Forwarded-NPDU has the address of the device.
-fn announced_in(sender: [u8; 6], datagram: &[u8]) -> Option<Announcement>
+fn announced_in(sender: Address, datagram: &[u8]) -> Option<Announcement>
     ensures { GivesSome announcement_of result (announced_in sender datagram.now) }
 {
     match read_frame(datagram)? {

@@ -1,12 +1,14 @@
 //! Why finding devices ended without an answer.
 
+use bac_wire::Address;
+
 /// Why devices weren't found.
 #[derive(Clone, Copy)]
 pub enum FindFault {
     /// A receive failed.
     Socket,
     /// A send to this address was refused; all else was done.
-    Refused([u8; 6]),
+    Refused(Address),
     /// No I-Am came.
     NoAnswer,
     /// The output refused a write.

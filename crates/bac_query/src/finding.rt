@@ -16,6 +16,7 @@ use crate::search::Search;
 use crate::seeking::{MOST_PENDING, Seeking};
 use bac_ports::{Heard, Port, SocketFault};
 use bac_print::{WriteRefused, write_text};
+use bac_wire::Address;
 use std::alloc::Global;
 use std::io::Write;
 
@@ -45,7 +46,7 @@ const PATIENCE_MS: u32 = 100;
 pub fn find_devices<P: Port, W: Write>(
     alloc: Global,
     port: &mut P,
-    addresses: &[[u8; 6]],
+    addresses: &[Address],
     search: &Search,
     out: &mut W,
 ) -> Result<(), FindFault>
@@ -69,7 +70,7 @@ pub fn find_devices<P: Port, W: Write>(
 /// What is told in the end: an address to which a send was refused, if nothing else failed.
 fn told_of(
     sought: Result<u32, FindFault>,
-    refused: Option<[u8; 6]>,
+    refused: Option<Address>,
     taken: bool,
 ) -> Result<(), FindFault>
     ensures { result ≡ told_of sought refused taken }
@@ -90,7 +91,7 @@ fn told_of(
 /// Asks each address, and receives up to a whole wait in which nothing comes.
 fn seek<P: Port, W: Write>(
     octets: &[u8],
-    addresses: &[[u8; 6]],
+    addresses: &[Address],
     port: &mut P,
     seeking: &mut Seeking,
     line: &mut Vec<u8>,
@@ -109,7 +110,7 @@ fn seek<P: Port, W: Write>(
 #[tactic(auto, unfolding(crate::specs::Finding::Turns))]
 fn ask_each<P: Port, W: Write>(
     octets: &[u8],
-    addresses: &[[u8; 6]],
+    addresses: &[Address],
     port: &mut P,
     seeking: &mut Seeking,
     line: &mut Vec<u8>,

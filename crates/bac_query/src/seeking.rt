@@ -5,6 +5,7 @@ ghost use Rattle.bac_query.specs.Hearing.{given_up, pending_with, pending_withou
 
 use arrayvec::ArrayVec;
 use bac_ports::SocketFault;
+use bac_wire::Address;
 
 /// How many addresses may be pending: asked, and silent so far.
 pub(crate) const MOST_PENDING: usize = 100;
@@ -13,11 +14,11 @@ pub(crate) const MOST_PENDING: usize = 100;
 #[derive(Drop)]
 pub(crate) struct Seeking {
     /// The addresses that were asked and haven't answered, but for those that were given up.
-    pub(crate) pending: ArrayVec<[u8; 6], MOST_PENDING>,
+    pub(crate) pending: ArrayVec<Address, MOST_PENDING>,
     /// Whether an I-Am came.
     pub(crate) taken: bool,
     /// The first address to which a send was refused.
-    pub(crate) refused: Option<[u8; 6]>,
+    pub(crate) refused: Option<Address>,
 }
 
 impl Seeking {
@@ -35,7 +36,7 @@ impl Seeking {
     }
 
     /// A request was sent to this address.
-    pub(crate) fn ask(&mut self, address: [u8; 6], sent: Result<(), SocketFault>)
+    pub(crate) fn ask(&mut self, address: Address, sent: Result<(), SocketFault>)
         ensures pending { self.new.pending.items ≡ pending_with self.old.pending.items address }
         ensures taken { self.new.taken ≡ self.old.taken }
         ensures refused { self.new.refused ≡ refused_by self.old.refused sent address }
@@ -47,7 +48,7 @@ impl Seeking {
     }
 
     /// A datagram came from this address.
-    pub(crate) fn hear_from(&mut self, address: [u8; 6])
+    pub(crate) fn hear_from(&mut self, address: Address)
         ensures pending { self.new.pending.items ≡ pending_without self.old.pending.items address }
         ensures taken { self.new.taken ≡ self.old.taken }
         ensures refused { self.new.refused ≡ self.old.refused }
@@ -68,7 +69,7 @@ impl Seeking {
 }
 
 /// Takes an address out.
-fn close(pending: &mut ArrayVec<[u8; 6], MOST_PENDING>, address: [u8; 6])
+fn close(pending: &mut ArrayVec<Address, MOST_PENDING>, address: Address)
     ensures { pending.new.items ≡ pending_without pending.old.items address }
 {
     pending.retain(|asked| *asked != address);
@@ -76,10 +77,10 @@ fn close(pending: &mut ArrayVec<[u8; 6], MOST_PENDING>, address: [u8; 6])
 
 /// The first refused address, when this send was made.
 fn refused_by(
-    before: Option<[u8; 6]>,
+    before: Option<Address>,
     sent: Result<(), SocketFault>,
-    address: [u8; 6],
-) -> Option<[u8; 6]>
+    address: Address,
+) -> Option<Address>
     ensures { result ≡ refused_by before sent address }
 {
     match (before, sent) {

@@ -1,13 +1,13 @@
 -- What status 0 says of `kept`.
 use Rattle.std.proofs.Common.{◌≡◌, ◌⊎◌, ◌∙◌, ◌∷◌, ◌==◌, ◌&&◌, not, [], inl, inr, refl, sym, ap, subst, arith, ℕ, Bool, true, false, List, map, Option, option_copied, Result, Ok, Err}
 use Rattle.sqlite.specs.declared.error.Error.{Error}
-use Rattle.bac_archive3.specs.Schema.{no_schema}
+use Rattle.bac_archive.specs.Schema.{no_schema}
 use Rattle.bac_files.specs.Parts.{PartRules, Reading}
 use Rattle.bac_files.specs.declared.not_opened.NotOpened.{NotOpened}
 use Rattle.bac_files.specs.declared.not_opened.NotOpened.TheVariants.{Empty}
-use Rattle.bac_kept3.specs.declared.seen.Seen.{Seen}
-use Rattle.bac_kept3.specs.declared.words.Choice.{Choice}
-use Rattle.bac_kept3.specs.declared.words.Words.{Words}
+use Rattle.bac_kept.specs.declared.seen.Seen.{Seen}
+use Rattle.bac_kept.specs.declared.words.Choice.{Choice}
+use Rattle.bac_kept.specs.declared.words.Words.{Words}
 use Rattle.bac_parts.specs.Visits.{At, Barred, Read as WasRead, Visit, Visits, VisitsEach, at_visit, path_of}
 use Rattle.bac_parts.specs.declared.fault.FileFault.TheVariants.{Database, Unopened}
 use Rattle.bac_print.specs.Output.{Held}

@@ -5,11 +5,11 @@ use Rattle.sqlite.specs.Effect.{Database}
 use Rattle.sqlite.specs.Held.{Held as Connected, state}
 use Rattle.sqlite.specs.State.{HasCleanDisk, IsUnchanged, State}
 use Rattle.bac_files.specs.Parts.{Reading, reading}
-use Rattle.bac_kept3.specs.Faults.{IsLeftAs}
+use Rattle.bac_kept.specs.Faults.{IsLeftAs}
 use Rattle.bac_print.specs.Output.{Held}
 use Rattle.bac_reading.specs.Checking.{CountsNot, CountsTaken}
-use Rattle.bac_archive3.specs.Archive.{IsArchive}
-use Rattle.bac_check3.specs.Counted.{CountsPart}
+use Rattle.bac_archive.specs.Archive.{IsArchive}
+use Rattle.bac_check.specs.Counted.{CountsPart}
 use Rattle.bac_reading.specs.Kept.{PrintsFound, PrintsLess, PrintsTaken}
 use Rattle.bac_reading.specs.Last.{SeeksFound, SeeksLess, SeeksTaken}
 use Rattle.bac_reading.specs.Taking.{Read}

@@ -1,12 +1,12 @@
 -- An archive that is printed, or not to its end.
 use Rattle.std.proofs.Common.{◌≡◌, [], false, inl, inr, refl, sym, subst, append-nil, Ok, Err}
 use Rattle.sqlite.specs.declared.error.Error.{Error}
-use Rattle.bac_archive3.specs.Archive.{IsArchive}
+use Rattle.bac_archive.specs.Archive.{IsArchive}
 use Rattle.bac_files.specs.Parts.{Reading}
-use Rattle.bac_kept3.specs.Csv.{names_text}
-use Rattle.bac_kept3.specs.Faults.{EndsBy, EndsText}
-use Rattle.bac_kept3.specs.declared.fault.Fault.{Fault as KeptFault}
-use Rattle.bac_kept3.specs.declared.fault.Fault.TheVariants.{Database, Memory, NoLog, Write}
+use Rattle.bac_kept.specs.Csv.{names_text}
+use Rattle.bac_kept.specs.Faults.{EndsBy, EndsText}
+use Rattle.bac_kept.specs.declared.fault.Fault.{Fault as KeptFault}
+use Rattle.bac_kept.specs.declared.fault.Fault.TheVariants.{Database, Memory, NoLog, Write}
 use Rattle.bac_print.specs.Output.{AppendsPart, Held}
 use Rattle.bac_reading.specs.Fault.{stop_of}
 use Rattle.bac_reading.specs.Kept.{PrintsBy, PrintsLess, PrintsTaken}

@@ -2,8 +2,8 @@
 use Rattle.std.proofs.Common.{inl, inr, ap, Ok, Err}
 use Rattle.sqlite.specs.declared.error.Error.{Error}
 use Rattle.bac_files.specs.Parts.{Reading}
-use Rattle.bac_kept3.specs.Records.{FailsBy}
-use Rattle.bac_kept3.specs.declared.fault.Fault.{Fault as KeptFault}
+use Rattle.bac_kept.specs.Records.{FailsBy}
+use Rattle.bac_kept.specs.declared.fault.Fault.{Fault as KeptFault}
 use Rattle.bac_reading.specs.Fault.{stop_of}
 use Rattle.bac_reading.specs.Last.{FailsToLook, SeeksBy}
 use Rattle.bac_reading.specs.Taking.{Read}

@@ -5,13 +5,13 @@ use Rattle.sqlite.specs.declared.error.Error.{Error}
 use Rattle.sqlite.specs.declared.error.Error.TheVariants as error
 use Rattle.sqlite.specs.declared.error.ErrorCode.{ErrorCode}
 use Rattle.sqlite.specs.declared.error.ErrorCode.TheVariants as code
-use Rattle.bac_check3.specs.Checked.{ending_status}
-use Rattle.bac_check3.specs.declared.checking.Ending.{Ending}
-use Rattle.bac_check3.specs.declared.checking.Ending.TheVariants as ending
-use Rattle.bac_check3.specs.declared.tally.Uncounted.TheVariants as uncounted
+use Rattle.bac_check.specs.Checked.{ending_status}
+use Rattle.bac_check.specs.declared.checking.Ending.{Ending}
+use Rattle.bac_check.specs.declared.checking.Ending.TheVariants as ending
+use Rattle.bac_check.specs.declared.tally.Uncounted.TheVariants as uncounted
 use Rattle.bac_files.specs.Parts.{Listing, PartRules}
 use Rattle.bac_files.specs.declared.not_opened.NotOpened.TheVariants as unopened
-use Rattle.bac_kept3.specs.declared.words.Choice.{Choice}
+use Rattle.bac_kept.specs.declared.words.Choice.{Choice}
 use Rattle.bac_parts.specs.Faults.{fault_status}
 use Rattle.bac_parts.specs.Visits.{At, Barred, Read as WasRead, Visit, VisitRules, Visits, VisitsEach, at_visit, path_of}
 use Rattle.bac_parts.specs.declared.fault.FileFault.{FileFault}

@@ -3,11 +3,11 @@ use Rattle.std.proofs.Common.{◌≢◌, inl, inr, refl, sym, subst, Err}
 use Rattle.sqlite_trees.specs.declared.store.Store.{Ghosts}
 use Rattle.sqlite.specs.Held.{Held as Connected, state}
 use Rattle.sqlite.specs.State.{HasCleanDisk, State}
-use Rattle.bac_archive3.specs.Archive.{WhyRefused}
-use Rattle.bac_archive3.specs.Schema.{no_schema}
-use Rattle.bac_archive3.specs.declared.opening.Refused.{Refused}
-use Rattle.bac_archive3.specs.declared.opening.Refused.TheVariants.{Foreign, Earlier, Version, Range, Overlap, Orphan}
-use Rattle.bac_archive3.specs.declared.opening.Refused.TheVariants.{Database as Failed}
+use Rattle.bac_archive.specs.Archive.{WhyRefused}
+use Rattle.bac_archive.specs.Schema.{no_schema}
+use Rattle.bac_archive.specs.declared.opening.Refused.{Refused}
+use Rattle.bac_archive.specs.declared.opening.Refused.TheVariants.{Foreign, Earlier, Version, Range, Overlap, Orphan}
+use Rattle.bac_archive.specs.declared.opening.Refused.TheVariants.{Database as Failed}
 use Rattle.bac_files.specs.Parts.{reading}
 use Rattle.bac_parts.specs.Archives.{RefusesToTake}
 use Rattle.bac_parts.specs.declared.fault.FileFault.{FileFault}

@@ -2,12 +2,12 @@
 use Rattle.std.proofs.Common.{◌≡◌, ◌⊎◌, ◌∙◌, ◌++◌, ◌∷◌, [], append-nil, inl, inr, sym, ap, subst, arith, ℕ, Bool, true, false, List, map, Option, option_copied, Result, Ok, Err}
 use Rattle.std.specs.Io.KnownBytes.{Appends}
 use Rattle.sqlite.specs.declared.error.Error.{Error}
-use Rattle.bac_archive3.specs.Schema.{no_schema}
-use Rattle.bac_check3.specs.Lines.{check_text}
-use Rattle.bac_check3.specs.declared.checking.Ending.TheVariants.{Apart, Missing}
-use Rattle.bac_check3.specs.declared.counts.Counts.{Counts}
-use Rattle.bac_check3.specs.declared.tally.Uncounted.{Uncounted}
-use Rattle.bac_check3.specs.declared.tally.Uncounted.TheVariants as uncounted
+use Rattle.bac_archive.specs.Schema.{no_schema}
+use Rattle.bac_check.specs.Lines.{check_text}
+use Rattle.bac_check.specs.declared.checking.Ending.TheVariants.{Apart, Missing}
+use Rattle.bac_check.specs.declared.counts.Counts.{Counts}
+use Rattle.bac_check.specs.declared.tally.Uncounted.{Uncounted}
+use Rattle.bac_check.specs.declared.tally.Uncounted.TheVariants as uncounted
 use Rattle.bac_files.specs.Parts.{PartRules, Reading}
 use Rattle.bac_files.specs.declared.not_opened.NotOpened.{NotOpened}
 use Rattle.bac_files.specs.declared.not_opened.NotOpened.TheVariants.{Empty}

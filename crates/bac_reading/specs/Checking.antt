@@ -2,13 +2,13 @@
 use Rattle.std.specs.Prelude.{◌≡◌, ◌⊎◌, ℕ, Bool, true, false, List, Some, Result, Ok, Err}
 use Rattle.std.specs.Io.KnownBytes.{Appends}
 use Rattle.sqlite_value.specs.Order.{Row as Values}
-use Rattle.bac_archive3.specs.Archive.{IsArchive}
-use Rattle.bac_check3.specs.Counted.{CountsPart, IsEmpty}
-use Rattle.bac_check3.specs.Lines.{check_text, has_all}
-use Rattle.bac_check3.specs.Uncounts.{HasBackward, HasOverlap}
-use Rattle.bac_check3.specs.declared.checking.Ending.TheVariants.{Apart, Missing}
-use Rattle.bac_check3.specs.declared.tally.Uncounted.{Uncounted}
-use Rattle.bac_check3.specs.declared.tally.Uncounted.TheVariants as uncounted
+use Rattle.bac_archive.specs.Archive.{IsArchive}
+use Rattle.bac_check.specs.Counted.{CountsPart, IsEmpty}
+use Rattle.bac_check.specs.Lines.{check_text, has_all}
+use Rattle.bac_check.specs.Uncounts.{HasBackward, HasOverlap}
+use Rattle.bac_check.specs.declared.checking.Ending.TheVariants.{Apart, Missing}
+use Rattle.bac_check.specs.declared.tally.Uncounted.{Uncounted}
+use Rattle.bac_check.specs.declared.tally.Uncounted.TheVariants as uncounted
 use Rattle.bac_files.specs.Parts.{Listing, PartRules, Reading}
 use Rattle.bac_parts.specs.Visits.{Came, IsAsFound, ReadsOn, VisitRules, at_visit, visit_rules}
 use Rattle.bac_print.specs.Output.{AppendsPart, Held}

@@ -1,13 +1,13 @@
 -- What is wrong with a file, and how it is told.
 use Rattle.std.specs.Prelude.{◌≡◌, ℕ, List, codes}
-use Rattle.bac_check3.specs.Checked.{ending_status, told_text}
-use Rattle.bac_check3.specs.declared.checking.Ending.TheVariants.{Uncounted as IsUncounted}
-use Rattle.bac_check3.specs.declared.checking.Unprinted.{Unprinted}
-use Rattle.bac_check3.specs.declared.checking.Unprinted.TheVariants as unprinted
-use Rattle.bac_check3.specs.declared.tally.Uncounted.{Uncounted}
-use Rattle.bac_check3.specs.declared.tally.Uncounted.TheVariants as uncounted
-use Rattle.bac_kept3.specs.declared.fault.Fault.{Fault as KeptFault}
-use Rattle.bac_kept3.specs.declared.fault.Fault.TheVariants as kept
+use Rattle.bac_check.specs.Checked.{ending_status, told_text}
+use Rattle.bac_check.specs.declared.checking.Ending.TheVariants.{Uncounted as IsUncounted}
+use Rattle.bac_check.specs.declared.checking.Unprinted.{Unprinted}
+use Rattle.bac_check.specs.declared.checking.Unprinted.TheVariants as unprinted
+use Rattle.bac_check.specs.declared.tally.Uncounted.{Uncounted}
+use Rattle.bac_check.specs.declared.tally.Uncounted.TheVariants as uncounted
+use Rattle.bac_kept.specs.declared.fault.Fault.{Fault as KeptFault}
+use Rattle.bac_kept.specs.declared.fault.Fault.TheVariants as kept
 use Rattle.bac_parts.specs.Faults.{AreLinesOf, fault_status, lines_of}
 use Rattle.bac_parts.specs.declared.fault.FileFault.TheVariants.{Database}
 use Rattle.bac_reading.specs.declared.fault.Fault.{Fault}

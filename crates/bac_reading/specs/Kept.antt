@@ -3,15 +3,15 @@ use Rattle.std.specs.Prelude.{◌≡◌, ◌⊎◌, ◌||◌, ◌&&◌, not, nat
 use Rattle.std.specs.Prelude.{Result, Ok, Err}
 use Rattle.std.specs.Io.KnownBytes.{Appends, Keeps}
 use Rattle.sqlite.specs.declared.error.Error.{Error}
-use Rattle.bac_archive3.specs.Archive.{IsArchive}
-use Rattle.bac_archive3.specs.Known.{IsKnown}
-use Rattle.bac_archive3.specs.declared.known.Known.{Known}
+use Rattle.bac_archive.specs.Archive.{IsArchive}
+use Rattle.bac_archive.specs.Known.{IsKnown}
+use Rattle.bac_archive.specs.declared.known.Known.{Known}
 use Rattle.bac_files.specs.Parts.{PartRules, Reading}
-use Rattle.bac_kept3.specs.Csv.{names_text}
-use Rattle.bac_kept3.specs.Parts.{PrintsFront, PrintsPart}
-use Rattle.bac_kept3.specs.Seen.{newest_in}
-use Rattle.bac_kept3.specs.Shown.{shown_logs}
-use Rattle.bac_kept3.specs.declared.words.Words.{Words}
+use Rattle.bac_kept.specs.Csv.{names_text}
+use Rattle.bac_kept.specs.Parts.{PrintsFront, PrintsPart}
+use Rattle.bac_kept.specs.Seen.{newest_in}
+use Rattle.bac_kept.specs.Shown.{shown_logs}
+use Rattle.bac_kept.specs.declared.words.Words.{Words}
 use Rattle.bac_parts.specs.Visits.{Came, IsAsFound, ReadsOn, VisitRules, at_visit, visit_rules}
 use Rattle.bac_parts.specs.declared.fault.FileFault.TheVariants.{Database}
 use Rattle.bac_print.specs.Output.{AppendsPart, Held}

@@ -5,14 +5,14 @@ use Rattle.std.specs.Io.KnownBytes.{Appends}
 use Rattle.std.specs.List.{list_any}
 use Rattle.sqlite.specs.declared.error.Error.{Error}
 use Rattle.sqlite_trees.specs.Tree.{Trees}
-use Rattle.bac_archive3.specs.Archive.{IsArchive}
-use Rattle.bac_archive3.specs.Known.{IsKnown}
+use Rattle.bac_archive.specs.Archive.{IsArchive}
+use Rattle.bac_archive.specs.Known.{IsKnown}
 use Rattle.bac_files.specs.Parts.{PartRules, Reading}
-use Rattle.bac_kept3.specs.LastRows.{PrintsLasts}
-use Rattle.bac_kept3.specs.Lasts.{HasLookedFor, LooksForEach, is_sought, last_logs}
-use Rattle.bac_kept3.specs.Shown.{shown_logs}
-use Rattle.bac_kept3.specs.declared.lasts.Lasts.{Lasts}
-use Rattle.bac_kept3.specs.declared.words.Words.{Words}
+use Rattle.bac_kept.specs.LastRows.{PrintsLasts}
+use Rattle.bac_kept.specs.Lasts.{HasLookedFor, LooksForEach, is_sought, last_logs}
+use Rattle.bac_kept.specs.Shown.{shown_logs}
+use Rattle.bac_kept.specs.declared.lasts.Lasts.{Lasts}
+use Rattle.bac_kept.specs.declared.words.Words.{Words}
 use Rattle.bac_parts.specs.Visits.{Came, IsAsFound, ReadsBack, VisitRules, at_visit, visit_rules}
 use Rattle.bac_parts.specs.declared.fault.FileFault.TheVariants.{Database}
 use Rattle.bac_print.specs.Output.{AppendsPart, Held}

@@ -3,21 +3,21 @@ use Rattle.std.specs.Prelude.{◌≡◌, ◌⊎◌, ◌++◌, ◌||◌, ◌&&◌
 use Rattle.std.specs.Prelude.{Option, None, Some, Ok}
 use Rattle.std.specs.Io.KnownBytes.{Appends, Keeps}
 use Rattle.sqlite.specs.Effect.{Database}
-use Rattle.bac_archive3.specs.Archive.{IsArchive}
-use Rattle.bac_archive3.specs.Known.{IsKnown}
-use Rattle.bac_archive3.specs.Schema.{no_schema}
-use Rattle.bac_archive3.specs.declared.known.Known.{Known}
-use Rattle.bac_check3.specs.Counted.{CountsPart, IsEmpty}
-use Rattle.bac_check3.specs.Lines.{check_text, has_all}
-use Rattle.bac_check3.specs.declared.counts.Counts.{Counts}
+use Rattle.bac_archive.specs.Archive.{IsArchive}
+use Rattle.bac_archive.specs.Known.{IsKnown}
+use Rattle.bac_archive.specs.Schema.{no_schema}
+use Rattle.bac_archive.specs.declared.known.Known.{Known}
+use Rattle.bac_check.specs.Counted.{CountsPart, IsEmpty}
+use Rattle.bac_check.specs.Lines.{check_text, has_all}
+use Rattle.bac_check.specs.declared.counts.Counts.{Counts}
 use Rattle.bac_files.specs.Parts.{Listing, PartRules, Reading}
 use Rattle.bac_files.specs.declared.not_opened.NotOpened.TheVariants.{Empty}
-use Rattle.bac_kept3.specs.Csv.{names_text}
-use Rattle.bac_kept3.specs.Parts.{PrintsPart}
-use Rattle.bac_kept3.specs.Seen.{newest_in}
-use Rattle.bac_kept3.specs.Shown.{shown_logs}
-use Rattle.bac_kept3.specs.declared.seen.Seen.{Seen}
-use Rattle.bac_kept3.specs.declared.words.Words.{Words}
+use Rattle.bac_kept.specs.Csv.{names_text}
+use Rattle.bac_kept.specs.Parts.{PrintsPart}
+use Rattle.bac_kept.specs.Seen.{newest_in}
+use Rattle.bac_kept.specs.Shown.{shown_logs}
+use Rattle.bac_kept.specs.declared.seen.Seen.{Seen}
+use Rattle.bac_kept.specs.declared.words.Words.{Words}
 use Rattle.bac_parts.specs.Visits.{IsAsFound}
 use Rattle.bac_print.specs.Output.{Held}
 use Rattle.bac_reading.specs.Checking.{RunsCheck}

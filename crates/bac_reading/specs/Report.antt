@@ -3,8 +3,8 @@ use Rattle.std.specs.Prelude.{◌≡◌, ◌≢◌, ◌⊎◌, ◌==◌, ◌&&�
 use Rattle.std.specs.Prelude.{Option, None, Some, is_none, option_copied, Result, Ok, Err}
 use Rattle.std.specs.Str.{bytes_eq}
 use Rattle.bac_files.specs.declared.not_opened.NotOpened.TheVariants.{Empty}
-use Rattle.bac_kept3.specs.declared.words.Choice.{Choice}
-use Rattle.bac_kept3.specs.declared.words.Choice.TheVariants as choice
+use Rattle.bac_kept.specs.declared.words.Choice.{Choice}
+use Rattle.bac_kept.specs.declared.words.Choice.TheVariants as choice
 use Rattle.bac_parts.specs.Visits.{Came}
 use Rattle.bac_parts.specs.declared.fault.FileFault.TheVariants.{Database, Unopened}
 use Rattle.bac_print.specs.Output.{AppendsPart, Held}

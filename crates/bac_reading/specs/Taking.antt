@@ -2,11 +2,11 @@
 use Rattle.std.specs.Prelude.{◌≡◌, ◌≢◌, Result, Err}
 use Rattle.sqlite.specs.Effect.{Database}
 use Rattle.sqlite_trees.specs.View.{doubt}
-use Rattle.bac_archive3.specs.Archive.{AreBegun, AreInRange, IsEarlier, IsOfVersion, LieApart}
-use Rattle.bac_archive3.specs.Schema.{HasArchive, no_schema}
-use Rattle.bac_archive3.specs.declared.opening.Refused.{Refused}
-use Rattle.bac_archive3.specs.declared.opening.Refused.TheVariants.{Foreign, Earlier, Version, Range, Overlap, Orphan}
-use Rattle.bac_archive3.specs.declared.opening.Refused.TheVariants.{Database as Failed}
+use Rattle.bac_archive.specs.Archive.{AreBegun, AreInRange, IsEarlier, IsOfVersion, LieApart}
+use Rattle.bac_archive.specs.Schema.{HasArchive, no_schema}
+use Rattle.bac_archive.specs.declared.opening.Refused.{Refused}
+use Rattle.bac_archive.specs.declared.opening.Refused.TheVariants.{Foreign, Earlier, Version, Range, Overlap, Orphan}
+use Rattle.bac_archive.specs.declared.opening.Refused.TheVariants.{Database as Failed}
 use Rattle.bac_files.specs.Parts.{Reading}
 use Rattle.bac_files.specs.declared.not_opened.NotOpened.TheVariants.{Empty}
 use Rattle.bac_parts.specs.declared.fault.FileFault.{FileFault}

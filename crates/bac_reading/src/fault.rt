@@ -1,13 +1,13 @@
 //! What is wrong with a file, and why a tool ends before its end.
 
 ghost use Rattle.std.specs.Prelude.{◌≡◌, ◌++◌, IfOk, OnOk};
-ghost use Rattle.bac_kept3.specs.Faults.{EndsText};
+ghost use Rattle.bac_kept.specs.Faults.{EndsText};
 ghost use Rattle.bac_parts.specs.Faults.{lines_of};
 ghost use Rattle.bac_reading.specs.Fault.{AreTroubleLines, of_uncounted, of_unprinted, stop_of};
 ghost use Rattle.bac_reading.specs.Fault.{trouble_status};
 
-use bac_check3::{Ending, Uncounted, Unprinted};
-use bac_kept3::Fault as KeptFault;
+use bac_check::{Ending, Uncounted, Unprinted};
+use bac_kept::Fault as KeptFault;
 use bac_parts::FileFault;
 use std::alloc::{AllocError, Global};
 

@@ -11,7 +11,7 @@ use crate::last::find_lasts;
 use crate::listing::archive_of;
 use crate::report::tell_alone;
 use bac_files::Parts;
-use bac_kept3::Words;
+use bac_kept::Words;
 use std::alloc::Global;
 use std::io::Write;
 

@@ -8,7 +8,7 @@ ghost use Rattle.bac_reading.specs.Scene.{TellsAlone};
 
 use crate::fault::{Fault, Stop, Trouble};
 use bac_files::NotOpened;
-use bac_kept3::Choice;
+use bac_kept::Choice;
 use bac_parts::FileFault;
 use bac_print::write_text;
 use sqlite::Error;

@@ -3,7 +3,7 @@
 ghost use Rattle.std.specs.Prelude.{◌≡◌, OnErr, OnOk};
 ghost use Rattle.sqlite.specs.State.{HasCleanDisk, IsUnchanged};
 ghost use Rattle.sqlite.specs.Held.{state};
-ghost use Rattle.bac_archive3.specs.Archive.{IsArchive};
+ghost use Rattle.bac_archive.specs.Archive.{IsArchive};
 ghost use Rattle.bac_files.specs.Parts.{reading};
 ghost use Rattle.bac_parts.specs.Visits.{IsAsFound};
 ghost use Rattle.bac_reading.specs.Taking.{IsNotTaken};

@@ -3,9 +3,9 @@
 ghost use Rattle.std.specs.Prelude.{OnOk};
 ghost use Rattle.sqlite.specs.Held.{state};
 ghost use Rattle.sqlite.specs.State.{HasCleanDisk};
-ghost use Rattle.bac_archive3.specs.Schema.{HasArchive};
+ghost use Rattle.bac_archive.specs.Schema.{HasArchive};
 
-use bac_archive3::{Refused, open};
+use bac_archive::{Refused, open};
 use sqlite::{Alter, Connection, MemStore};
 use std::alloc::Global;
 

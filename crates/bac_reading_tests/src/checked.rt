@@ -1,7 +1,7 @@
 //! What is counted of an archive.
 
 use crate::archive::{SITE, archive};
-use bac_check3::{Ending, Uncounted, check};
+use bac_check::{Ending, Uncounted, check};
 use std::alloc::Global;
 use std::test::Fail;
 

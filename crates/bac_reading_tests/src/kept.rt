@@ -1,7 +1,7 @@
 //! What is printed of an archive.
 
 use crate::archive::{SITE, archive, take};
-use bac_kept3::{Choice, Dates, Place, Seen, Words, print_names, print_part};
+use bac_kept::{Choice, Dates, Place, Seen, Words, print_names, print_part};
 use sqlite::{Alter, Connection};
 use std::alloc::Global;
 use std::test::Fail;

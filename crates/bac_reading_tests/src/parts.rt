@@ -3,7 +3,7 @@
 ghost use Rattle.std.specs.Prelude.{true};
 ghost use Rattle.bac_parts.specs.Visits.{IsAsFound};
 
-use bac_archive3::is_archive;
+use bac_archive::is_archive;
 use bac_files::{DiskFiles, FolderFiles, NotOpened, Parts, Reader};
 use bac_parts::{FileFault, Visitor, close_file, open_archive, open_file, read_back};
 use bac_print::write_text;

@@ -1,7 +1,7 @@
 //! Since when a device is silent.
 
 use crate::archive::archive;
-use bac_kept3::{Choice, Lasts, Words};
+use bac_kept::{Choice, Lasts, Words};
 use sqlite::types::ToSql;
 use sqlite::{Connection, MemStore};
 use std::alloc::{AllocError, Global};

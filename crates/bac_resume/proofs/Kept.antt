@@ -18,13 +18,13 @@ use Rattle.sqlite_value.specs.Order.{Row as Values, column, value_cmp}
 use Rattle.sqlite_value.specs.declared.value.Value.{Value}
 use Rattle.sqlite_value.specs.declared.value.Value.TheVariants.{Int}
 use Rattle.sqlite_trees.specs.Tree.{Trees, rowid}
-use Rattle.bac_archive3.specs.Ask.{falls, shown}
-use Rattle.bac_archive3.specs.Items.{number_at, number_in}
-use Rattle.bac_archive3.specs.Put.{beginning_columns, item_columns}
-use Rattle.bac_archive3.specs.Read.{numbers}
-use Rattle.bac_archive3.specs.Stands.{StandsAs, epochs, is_at, is_in, is_last}
-use Rattle.bac_archive3.specs.declared.row.BeginningRow.{BeginningRow}
-use Rattle.bac_archive3.specs.declared.standing.Standing.{Standing}
+use Rattle.bac_archive.specs.Ask.{falls, shown}
+use Rattle.bac_archive.specs.Items.{number_at, number_in}
+use Rattle.bac_archive.specs.Put.{beginning_columns, item_columns}
+use Rattle.bac_archive.specs.Read.{numbers}
+use Rattle.bac_archive.specs.Stands.{StandsAs, epochs, is_at, is_in, is_last}
+use Rattle.bac_archive.specs.declared.row.BeginningRow.{BeginningRow}
+use Rattle.bac_archive.specs.declared.standing.Standing.{Standing}
 use Rattle.bac_link.specs.Ordinals.{is_number}
 use Rattle.bac_poll.specs.Turns.{behind, number_before}
 use Rattle.bac_resume.specs.Laws.{GoesOnWhereItStopped, KnownAreKept, NewestAreTold, NextIsNumber, NoneIsNewer, RestartIsReadBack, before, place_of, told_in, with_rows}

@@ -4,7 +4,7 @@ use Rattle.std.specs.List.{slice_get}
 use Rattle.std.specs.Option.{is_some, unwrap_or}
 use Rattle.std.proofs.lemmas.Bool.{cond-false, eq-eqb, eqb-false, eqb-true, ne_eqb}
 use Rattle.sqlite_value.specs.Order.{Row as Values, column}
-use Rattle.bac_archive3.specs.Items.{last_at, number_in}
+use Rattle.bac_archive.specs.Items.{last_at, number_in}
 use Rattle.bac_link.specs.Ordinals.{number_after}
 use Rattle.bac_poll.specs.Turns.{number_before}
 use Rattle.bac_resume.specs.Stands.{is_record_of, known_at, known_before, last_number, newest_record}

@@ -6,9 +6,9 @@ use Rattle.std.proofs.lemmas.List.{drop_more, get_or-replicate, length-replicate
 use Rattle.std.proofs.lemmas.Option.{slice_get-get_or}
 use Rattle.sqlite_value.specs.declared.value.Value.TheVariants.{Int}
 use Rattle.sqlite.specs.Values.{or_null}
-use Rattle.bac_archive3.specs.Items.{last_at}
-use Rattle.bac_archive3.specs.Put.{item_columns}
-use Rattle.bac_archive3.specs.declared.row.ItemRow.{ItemRow}
+use Rattle.bac_archive.specs.Items.{last_at}
+use Rattle.bac_archive.specs.Put.{item_columns}
+use Rattle.bac_archive.specs.declared.row.ItemRow.{ItemRow}
 use Rattle.bac_resume.specs.Rows.{LogTold, untold}
 use Rattle.bac_resume.specs.Stands.{is_gap, newest_record}
 

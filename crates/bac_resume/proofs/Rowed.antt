@@ -8,9 +8,9 @@ use Rattle.std.proofs.lemmas.Option.{none-some}
 use Rattle.sqlite_value.specs.declared.value.Value.{Value}
 use Rattle.sqlite_value.specs.declared.value.Value.TheVariants.{Int}
 use Rattle.sqlite_value.specs.Order.{Row as Values, column}
-use Rattle.bac_archive3.specs.Items.{number_at}
-use Rattle.bac_archive3.specs.Read.{numbers}
-use Rattle.bac_archive3.specs.Stands.{epochs, is_at, is_in}
+use Rattle.bac_archive.specs.Items.{number_at}
+use Rattle.bac_archive.specs.Read.{numbers}
+use Rattle.bac_archive.specs.Stands.{epochs, is_at, is_in}
 use Rattle.bac_resume.specs.Met.{began, began_at, first_of, log_in, with_item, with_item_at}
 use Rattle.bac_resume.specs.Rows.{LogTold, begins_of, items_of, told_of}
 

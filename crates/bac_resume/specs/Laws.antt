@@ -9,12 +9,12 @@ use Rattle.hex.specs.Hex.{IsBytes, encode_lower}
 use Rattle.sqlite_value.specs.Order.{Row as Values, column}
 use Rattle.sqlite_trees.specs.Tree.{IsAscending, Trees}
 use Rattle.bac_wire.specs.Primitive.{Id}
-use Rattle.bac_archive3.specs.Ask.{falls, shown}
-use Rattle.bac_archive3.specs.Items.{last_at, number_at, number_in, text_at}
-use Rattle.bac_archive3.specs.Put.{beginning_columns, item_columns}
-use Rattle.bac_archive3.specs.Read.{numbers}
-use Rattle.bac_archive3.specs.Stands.{StandsAs, is_in}
-use Rattle.bac_archive3.specs.declared.standing.Standing.{Standing}
+use Rattle.bac_archive.specs.Ask.{falls, shown}
+use Rattle.bac_archive.specs.Items.{last_at, number_at, number_in, text_at}
+use Rattle.bac_archive.specs.Put.{beginning_columns, item_columns}
+use Rattle.bac_archive.specs.Read.{numbers}
+use Rattle.bac_archive.specs.Stands.{StandsAs, is_in}
+use Rattle.bac_archive.specs.declared.standing.Standing.{Standing}
 use Rattle.bac_link.specs.Ordinals.{is_number, number_after}
 use Rattle.bac_walk.specs.declared.batch.Numbered.{Numbered}
 use Rattle.bac_poll.specs.Poll.{joining}

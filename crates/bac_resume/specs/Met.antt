@@ -1,9 +1,9 @@
 -- Rows are met, one after the other.
 use Rattle.std.specs.Prelude.{ℕ, ◌/◌, ◌==◌, ◌++◌, ◌∷◌, if◌then◌else◌, [], Option, None, Some}
 use Rattle.sqlite_value.specs.Order.{Row as Values, column}
-use Rattle.bac_archive3.specs.Items.{number_at}
-use Rattle.bac_archive3.specs.Read.{numbers}
-use Rattle.bac_archive3.specs.Stands.{epochs, is_in}
+use Rattle.bac_archive.specs.Items.{number_at}
+use Rattle.bac_archive.specs.Read.{numbers}
+use Rattle.bac_archive.specs.Stands.{epochs, is_in}
 use Rattle.bac_resume.specs.Rows.{LogTold, items_of}
 
 -- the first of two, or the second where there is no first one

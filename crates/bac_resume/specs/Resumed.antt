@@ -2,9 +2,9 @@
 use Rattle.std.specs.Prelude.{◌≡◌, ⊤, ℕ, ◌%◌, Bool, true, false, List, Option, None, Some, codes}
 use Rattle.std.specs.Str.{bytes_eq}
 use Rattle.sqlite_value.specs.Order.{Row as Values, column}
-use Rattle.bac_archive3.specs.Items.{number_at, number_in, text_at}
-use Rattle.bac_archive3.specs.Stands.{epochs}
-use Rattle.bac_places.specs.declared.place.Place.{Place}
+use Rattle.bac_archive.specs.Items.{number_at, number_in, text_at}
+use Rattle.bac_archive.specs.Stands.{epochs}
+use Rattle.bac_row_ids.specs.declared.place.Place.{Place}
 use Rattle.bac_poll.specs.State.{KeptAs, StandingAs, standing_as, told_as}
 use Rattle.bac_resume.specs.Rows.{LogTold}
 use Rattle.bac_resume.specs.Stands.{is_full, known_at, newest_record, next_of}

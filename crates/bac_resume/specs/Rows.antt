@@ -2,9 +2,9 @@
 use Rattle.std.specs.Prelude.{ℕ, List, [], Option, None, Some, slice_get}
 use Rattle.std.specs.List.{filter}
 use Rattle.sqlite_value.specs.Order.{Row as Values, column}
-use Rattle.bac_archive3.specs.Items.{number_at}
-use Rattle.bac_archive3.specs.Read.{numbers}
-use Rattle.bac_archive3.specs.Stands.{epochs, is_in}
+use Rattle.bac_archive.specs.Items.{number_at}
+use Rattle.bac_archive.specs.Read.{numbers}
+use Rattle.bac_archive.specs.Stands.{epochs, is_in}
 
 -- what an archive tells of a log: its last beginning, and the newest items of the epoch that begins there, newest first
 pub record LogTold : Type 0 where

@@ -5,7 +5,7 @@ use Rattle.hex.specs.Hex.{decode_of}
 use Rattle.hex.specs.declared.error.FromHexError.{FromHexError}
 use Rattle.bac_wire.specs.declared.stamp.Date4.{Date4}
 use Rattle.bac_wire.specs.declared.stamp.Time4.{Time4}
-use Rattle.bac_archive3.specs.Items.{last_at, text_at}
+use Rattle.bac_archive.specs.Items.{last_at, text_at}
 use Rattle.bac_poll.specs.DateTime.{undated}
 use Rattle.bac_poll.specs.Stamps.{IsDate4, IsTime4, stamp_text, stamped}
 use Rattle.bac_poll.specs.State.{ToldAs}

@@ -4,8 +4,8 @@ ghost use Rattle.std.specs.Prelude.{◌≡◌, map, IfOk};
 ghost use Rattle.std.specs.Option.{option_map};
 ghost use Rattle.sqlite_value.specs.declared.value.Value.TheVariants.{Text};
 ghost use Rattle.sqlite.specs.Values.{or_null};
-ghost use Rattle.bac_archive3.specs.Items.{number_in, text_at};
-ghost use Rattle.bac_archive3.specs.Put.{item_columns};
+ghost use Rattle.bac_archive.specs.Items.{number_in, text_at};
+ghost use Rattle.bac_archive.specs.Put.{item_columns};
 ghost use Rattle.bac_link.specs.Ordinals.{number_after};
 ghost use Rattle.bac_poll.specs.State.{kept_as, maybe_kept};
 ghost use Rattle.bac_poll.specs.Turns.{number_before};
@@ -16,7 +16,7 @@ ghost use Rattle.bac_resume.specs.Texts.{HasDate};
 
 use crate::rows::id_of;
 use crate::texts::date_of;
-use bac_archive3::ItemRow;
+use bac_archive::ItemRow;
 use bac_poll::{DateTime, Kept};
 use std::alloc::{AllocError, Global};
 

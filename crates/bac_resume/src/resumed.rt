@@ -1,16 +1,16 @@
 //! Where the poll of a log goes on.
 
 ghost use Rattle.std.specs.Prelude.{◌≡◌, IfOk, map};
-ghost use Rattle.bac_archive3.specs.Put.{beginning_columns, item_columns, log_columns};
+ghost use Rattle.bac_archive.specs.Put.{beginning_columns, item_columns, log_columns};
 ghost use Rattle.bac_poll.specs.State.{standing_as};
 ghost use Rattle.bac_resume.specs.Resumed.{GoesOn, IsPlaceOf, SaysOf, is_counted};
 
 use crate::items::{is_full, kept_at, newest_stamp, next_of};
 use crate::rows::LogRows;
 use crate::texts::word_of;
-use bac_archive3::{BeginningRow, ItemRow, LogRow};
-use bac_places::Place;
+use bac_archive::{BeginningRow, ItemRow, LogRow};
 use bac_poll::{Standing, Told};
+use bac_row_ids::Place;
 use std::alloc::{AllocError, Global};
 
 /// How many epochs a log has.

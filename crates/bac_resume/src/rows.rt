@@ -4,14 +4,14 @@ ghost use Rattle.std.specs.Prelude.{◌≡◌, ℕ, ◌/◌, ◌<◌, ◌++◌, 
 ghost use Rattle.std.specs.Prelude.{IfOk, Some, true, slice_get};
 ghost use Rattle.std.specs.Option.{option_map};
 ghost use Rattle.sqlite_value.specs.Order.{column};
-ghost use Rattle.bac_archive3.specs.Items.{number_at};
-ghost use Rattle.bac_archive3.specs.Put.{beginning_columns, item_columns};
-ghost use Rattle.bac_archive3.specs.Read.{numbers};
-ghost use Rattle.bac_archive3.specs.Stands.{epochs, is_in};
+ghost use Rattle.bac_archive.specs.Items.{number_at};
+ghost use Rattle.bac_archive.specs.Put.{beginning_columns, item_columns};
+ghost use Rattle.bac_archive.specs.Read.{numbers};
+ghost use Rattle.bac_archive.specs.Stands.{epochs, is_in};
 ghost use Rattle.bac_resume.specs.Rows.{told_of, untold};
 ghost use Rattle.bac_resume.specs.Met.{began, began_at, log_in, with_item, with_item_at};
 
-use bac_archive3::{BeginningRow, ItemRow};
+use bac_archive::{BeginningRow, ItemRow};
 use std::alloc::{AllocError, Global};
 use std::marker::Model;
 
@@ -32,7 +32,7 @@ pub struct LogRows {
 impl Model for LogRows {
     ghost use Rattle.std.specs.Prelude.{map};
     ghost use Rattle.std.specs.Option.{option_map};
-    ghost use Rattle.bac_archive3.specs.Put.{beginning_columns, item_columns};
+    ghost use Rattle.bac_archive.specs.Put.{beginning_columns, item_columns};
     ghost use Rattle.bac_resume.specs.Rows.{LogTold};
 
     ghost Value = { LogTold };

@@ -3,13 +3,13 @@
 ghost use Rattle.std.specs.Prelude.{◌≡◌, IfOk};
 ghost use Rattle.std.specs.Str.{bytes_eq};
 ghost use Rattle.sqlite_value.specs.Order.{column};
-ghost use Rattle.bac_archive3.specs.Items.{text_at};
-ghost use Rattle.bac_archive3.specs.Put.{log_columns};
+ghost use Rattle.bac_archive.specs.Items.{text_at};
+ghost use Rattle.bac_archive.specs.Put.{log_columns};
 ghost use Rattle.bac_poll.specs.State.{told_as};
 ghost use Rattle.bac_poll.specs.Stamps.{stamp_text};
 ghost use Rattle.bac_resume.specs.Texts.{IsDated, IsRead, moment_in, word_of};
 
-use bac_archive3::LogRow;
+use bac_archive::LogRow;
 use bac_poll::{DateTime, Told};
 use bac_print::push_moment;
 use hex::FromHexError;

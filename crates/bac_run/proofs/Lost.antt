@@ -8,10 +8,10 @@ use Rattle.bac_drive.specs.Happens.{Acts}
 use Rattle.bac_files.specs.Files.{FileOf}
 use Rattle.bac_files.specs.Parts.{PartRules}
 use Rattle.bac_files.specs.declared.disk_files.DiskFiles.{DiskFiles}
-use Rattle.bac_heeding.specs.declared.notes.Passed.{Passed}
+use Rattle.bac_socket_notes.specs.declared.notes.Passed.{Passed}
 use Rattle.bac_historian.specs.Files.{KeepsPart}
 use Rattle.bac_historian.specs.Laws.{LosesNothingAt}
-use Rattle.bac_keeper3.specs.Laws.{StopLosesNothing, ToolLosesNothing}
+use Rattle.bac_keeper.specs.Laws.{StopLosesNothing, ToolLosesNothing}
 use Rattle.bac_parts.proofs.FileLemmas.{none_closed}
 use Rattle.bac_ports.specs.Sockets.{SocketRules}
 use Rattle.bac_run.specs.Keeping.{KeepsBy, KeepsDevices, KeepsOf}
@@ -19,12 +19,12 @@ use Rattle.bac_run.specs.Run.{DoesAll, DoesTold}
 use Rattle.bac_run.specs.Setup.{Setup}
 use Rattle.bac_site_poller.specs.Site.{SiteState}
 use Rattle.bac_wire.specs.Stamp.{CivilTime}
-use Rattle.bac_words.specs.Jobs.{reads_input}
-use Rattle.bac_words.specs.declared.group.Group.{Group}
-use Rattle.bac_words.specs.declared.job.Job.{Job}
-use Rattle.bac_words.specs.declared.job.Job.TheVariants as job
-use Rattle.bac_words.specs.declared.job.Keep.{Keep}
-use Rattle.bac_words.specs.declared.listing.ListFault.{ListFault}
+use Rattle.bac_command_line.specs.Jobs.{reads_input}
+use Rattle.bac_command_line.specs.declared.group.Group.{Group}
+use Rattle.bac_command_line.specs.declared.job.Job.{Job}
+use Rattle.bac_command_line.specs.declared.job.Job.TheVariants as job
+use Rattle.bac_command_line.specs.declared.job.Keep.{Keep}
+use Rattle.bac_command_line.specs.declared.listing.ListFault.{ListFault}
 
 module _ {F : Type 0} {s : start.Ghosts F} (f : disk.Ghosts (FileOf s)) (file : Image) (old new : DiskFiles F s) (same : new ≡ old) where
   -- files that are as they were

@@ -8,8 +8,8 @@ use Rattle.bac_batch.specs.Batch.{Batched}
 use Rattle.bac_drive.specs.Happens.{Acts}
 use Rattle.bac_files.specs.Files.{FileOf}
 use Rattle.bac_files.specs.Parts.{Listing, PartRules}
-use Rattle.bac_heeding.specs.Notes.{nothing}
-use Rattle.bac_heeding.specs.declared.notes.Passed.{Passed}
+use Rattle.bac_socket_notes.specs.Notes.{nothing}
+use Rattle.bac_socket_notes.specs.declared.notes.Passed.{Passed}
 use Rattle.bac_ports.specs.Sockets.{SocketRules}
 use Rattle.bac_print.specs.Output.{Held}
 use Rattle.bac_run.specs.Run.{DoesAll, DoesTold, RunsAll}
@@ -24,14 +24,14 @@ use Rattle.bac_site_poller.specs.Site.{SiteState}
 use Rattle.bac_tools.proofs.Told.{never_both, one_job}
 use Rattle.bac_tools.specs.Run.{AskFor, Ends, RunsRead}
 use Rattle.bac_wire.specs.Stamp.{CivilTime}
-use Rattle.bac_words.specs.Outcome.{IsRefused, job_in}
-use Rattle.bac_words.specs.declared.fault.WordsFault.{WordsFault}
-use Rattle.bac_words.specs.declared.fault.WordsFault.TheVariants.{Usage, BadValue, LongNumber, Memory}
-use Rattle.bac_words.specs.declared.job.Job.{Job}
-use Rattle.bac_words.specs.declared.job.Job.TheVariants as job
-use Rattle.bac_words.specs.declared.job.Keep.{Keep as KeepWords}
-use Rattle.bac_words.specs.declared.job.Check.{Check as CheckWords}
-use Rattle.bac_words.specs.declared.job.Kept.{Kept as KeptWords}
+use Rattle.bac_command_line.specs.Outcome.{IsRefused, job_in}
+use Rattle.bac_command_line.specs.declared.fault.WordsFault.{WordsFault}
+use Rattle.bac_command_line.specs.declared.fault.WordsFault.TheVariants.{Usage, BadValue, LongNumber, Memory}
+use Rattle.bac_command_line.specs.declared.job.Job.{Job}
+use Rattle.bac_command_line.specs.declared.job.Job.TheVariants as job
+use Rattle.bac_command_line.specs.declared.job.Keep.{Keep as KeepWords}
+use Rattle.bac_command_line.specs.declared.job.Check.{Check as CheckWords}
+use Rattle.bac_command_line.specs.declared.job.Kept.{Kept as KeptWords}
 
 -- `check` of the archive of a name
 pub checks_named : {Q : Type 0} (rules : PartRules Q) (name file : List ℕ) → name ≡ file → (old new : Scene Q) (result : Result ℕ ReadFault) (said : Held) (status : ℕ)

@@ -1,9 +1,9 @@
 -- The faults of `keep`, `kept` and `check` as those of the program, which has their statuses.
 use Rattle.std.specs.Prelude.{ℕ, Result, Ok, Err}
-use Rattle.bac_keep_words.specs.declared.fault.Fault.{Fault as WordFault}
-use Rattle.bac_keep_words.specs.declared.fault.Fault.TheVariants as words
-use Rattle.bac_keeper3.specs.declared.fault.Fault.{Fault as KeepFault}
-use Rattle.bac_keeper3.specs.declared.fault.Fault.TheVariants as keep
+use Rattle.bac_keep_command_line.specs.declared.fault.Fault.{Fault as WordFault}
+use Rattle.bac_keep_command_line.specs.declared.fault.Fault.TheVariants as words
+use Rattle.bac_keeper.specs.declared.fault.Fault.{Fault as KeepFault}
+use Rattle.bac_keeper.specs.declared.fault.Fault.TheVariants as keep
 use Rattle.bac_reading.specs.declared.fault.Fault.{Fault as ReadFault}
 use Rattle.bac_reading.specs.declared.fault.Fault.TheVariants as read
 use Rattle.bac_tools.specs.Ending.{Ending}

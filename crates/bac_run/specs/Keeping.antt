@@ -7,10 +7,10 @@ use Rattle.bac_batch.specs.Batch.{Batched}
 use Rattle.bac_drive.specs.Happens.{Acts}
 use Rattle.bac_files.specs.Files.{FileOf}
 use Rattle.bac_files.specs.declared.disk_files.DiskFiles.{DiskFiles}
-use Rattle.bac_heeding.specs.Notes.{nothing}
-use Rattle.bac_keeper3.specs.Runs.{RunsTool}
-use Rattle.bac_keeper3.specs.Stops.{StopsTool, Texts}
-use Rattle.bac_keeper3.specs.declared.fault.Fault.{Fault as KeepFault}
+use Rattle.bac_socket_notes.specs.Notes.{nothing}
+use Rattle.bac_keeper.specs.Runs.{RunsTool}
+use Rattle.bac_keeper.specs.Stops.{StopsTool, Texts}
+use Rattle.bac_keeper.specs.declared.fault.Fault.{Fault as KeepFault}
 use Rattle.bac_ports.specs.Sockets.{SocketRules}
 use Rattle.bac_print.specs.Output.{Held}
 use Rattle.bac_run.specs.Faults.{keep_ending}
@@ -21,11 +21,11 @@ use Rattle.bac_tools.specs.Run.{Ends, IsTold}
 use Rattle.bac_tools.specs.declared.fault.Fault.{Fault}
 use Rattle.bac_tools.specs.declared.fault.Fault.TheVariants.{Clock, List as ListOf}
 use Rattle.bac_wire.specs.Stamp.{CivilTime}
-use Rattle.bac_words.specs.Devices.{devices_of}
-use Rattle.bac_words.specs.Jobs.{reads_input, with_groups}
-use Rattle.bac_words.specs.declared.group.Group.{Group}
-use Rattle.bac_words.specs.declared.job.Keep.{Keep}
-use Rattle.bac_words.specs.declared.listing.ListFault.{ListFault}
+use Rattle.bac_command_line.specs.Devices.{devices_of}
+use Rattle.bac_command_line.specs.Jobs.{reads_input, with_groups}
+use Rattle.bac_command_line.specs.declared.group.Group.{Group}
+use Rattle.bac_command_line.specs.declared.job.Keep.{Keep}
+use Rattle.bac_command_line.specs.declared.listing.ListFault.{ListFault}
 
 module _ {F : Type 0} {s : start.Ghosts F} (f : disk.Ghosts (FileOf s)) (file : Image) where
   -- What the words name is stopped in the files, and then its fault is told: on these texts.

@@ -3,15 +3,15 @@ use Rattle.std.specs.Prelude.{◌≡◌, ◌⊎◌, ℕ, Bool, true, false, List
 use Rattle.std.specs.Prelude.{unwrap_or, Result, Ok, Err}
 use Rattle.clap.specs.Words.{Text}
 use Rattle.bac_files.specs.Parts.{Listing, PartRules}
-use Rattle.bac_heeding.specs.Notes.{nothing}
-use Rattle.bac_keep_words.specs.Printing.{BehindAs, DeviceAs, device_in}
-use Rattle.bac_keep_words.specs.declared.fault.Fault.{Fault as WordFault}
-use Rattle.bac_keep_words.specs.declared.fault.Fault.TheVariants.{Memory as NoMemory}
-use Rattle.bac_kept3.specs.declared.words.Behind.{Behind}
-use Rattle.bac_kept3.specs.declared.words.Choice.{Choice}
-use Rattle.bac_kept3.specs.declared.words.Choice.TheVariants as choice
-use Rattle.bac_kept3.specs.declared.words.Dates.{Dates}
-use Rattle.bac_kept3.specs.declared.words.Place.{Place}
+use Rattle.bac_socket_notes.specs.Notes.{nothing}
+use Rattle.bac_keep_command_line.specs.Printing.{BehindAs, DeviceAs, device_in}
+use Rattle.bac_keep_command_line.specs.declared.fault.Fault.{Fault as WordFault}
+use Rattle.bac_keep_command_line.specs.declared.fault.Fault.TheVariants.{Memory as NoMemory}
+use Rattle.bac_kept.specs.declared.words.Behind.{Behind}
+use Rattle.bac_kept.specs.declared.words.Choice.{Choice}
+use Rattle.bac_kept.specs.declared.words.Choice.TheVariants as choice
+use Rattle.bac_kept.specs.declared.words.Dates.{Dates}
+use Rattle.bac_kept.specs.declared.words.Place.{Place}
 use Rattle.bac_print.specs.Output.{Held}
 use Rattle.bac_reading.specs.Checking.{RunsCheck}
 use Rattle.bac_reading.specs.Program.{RunsKept}
@@ -20,10 +20,10 @@ use Rattle.bac_reading.specs.declared.fault.Fault.{Fault as ReadFault}
 use Rattle.bac_reading.specs.declared.program.Asked.{Asked}
 use Rattle.bac_run.specs.Faults.{of_words, read_ending}
 use Rattle.bac_tools.specs.Run.{Ends, IsTold}
-use Rattle.bac_words.specs.declared.job.Check.{Check}
-use Rattle.bac_words.specs.declared.job.Extent.{Extent}
-use Rattle.bac_words.specs.declared.job.Extent.TheVariants.{Dated, Newest}
-use Rattle.bac_words.specs.declared.job.Kept.{Kept}
+use Rattle.bac_command_line.specs.declared.job.Check.{Check}
+use Rattle.bac_command_line.specs.declared.job.Extent.{Extent}
+use Rattle.bac_command_line.specs.declared.job.Extent.TheVariants.{Dated, Newest}
+use Rattle.bac_command_line.specs.declared.job.Kept.{Kept}
 
 -- ---- what is asked of an archive, in texts
 

@@ -8,7 +8,7 @@ use Rattle.bac_batch.specs.Batch.{Batched}
 use Rattle.bac_drive.specs.Happens.{Acts}
 use Rattle.bac_files.specs.Files.{FileOf}
 use Rattle.bac_files.specs.Parts.{PartRules}
-use Rattle.bac_heeding.specs.declared.notes.Passed.{Passed}
+use Rattle.bac_socket_notes.specs.declared.notes.Passed.{Passed}
 use Rattle.bac_ports.specs.Sockets.{SocketRules}
 use Rattle.bac_run.specs.Keeping.{KeepsAsked}
 use Rattle.bac_run.specs.Reading.{ChecksArchive, PrintsKept}
@@ -17,10 +17,10 @@ use Rattle.bac_site_poller.specs.Site.{SiteState}
 use Rattle.bac_tools.specs.Run.{AskFor, OnlyTells, Runs}
 use Rattle.bac_tools.specs.declared.fault.Fault.TheVariants.{Memory}
 use Rattle.bac_wire.specs.Stamp.{CivilTime}
-use Rattle.bac_words.specs.Jobs.{is_traced}
-use Rattle.bac_words.specs.declared.job.Job.{Job}
-use Rattle.bac_words.specs.declared.job.Job.TheVariants as job
-use Rattle.bac_words.specs.declared.job.Keep.{Keep}
+use Rattle.bac_command_line.specs.Jobs.{is_traced}
+use Rattle.bac_command_line.specs.declared.job.Job.{Job}
+use Rattle.bac_command_line.specs.declared.job.Job.TheVariants as job
+use Rattle.bac_command_line.specs.declared.job.Keep.{Keep}
 
 -- the words ask for `keep`
 abbrev pub AskToKeep : List Text → Type 0

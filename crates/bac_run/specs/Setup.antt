@@ -2,8 +2,8 @@
 use Rattle.std.specs.Prelude.{◌≡◌}
 use Rattle.sqlite_disk.specs.declared.start.Start as start
 use Rattle.bac_files.specs.declared.disk_files.DiskFiles.{DiskFiles}
-use Rattle.bac_keeper3.specs.Machine.{Hands, hands}
-use Rattle.bac_keeper3.specs.Stops.{Texts, texts}
+use Rattle.bac_keeper.specs.Machine.{Hands, hands}
+use Rattle.bac_keeper.specs.Stops.{Texts, texts}
 use Rattle.bac_keeping.specs.Keeping.{around}
 use Rattle.bac_print.specs.Output.{Held}
 use Rattle.bac_reading.specs.Scene.{Scene, scene}

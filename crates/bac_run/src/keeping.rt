@@ -2,25 +2,25 @@
 
 ghost use Rattle.std.specs.Prelude.{◌≡◌, Some};
 ghost use Rattle.sqlite_wal.specs.Files.{image_at};
-ghost use Rattle.bac_heeding.specs.Notes.{nothing};
+ghost use Rattle.bac_socket_notes.specs.Notes.{nothing};
 ghost use Rattle.bac_historian.specs.Files.{KeepsPart};
-ghost use Rattle.bac_keeper3.specs.Stops.{texts};
+ghost use Rattle.bac_keeper.specs.Stops.{texts};
 ghost use Rattle.bac_ports.specs.Sockets.{socket_rules};
 ghost use Rattle.bac_site_poller.specs.SiteLaws.{site_acts};
 ghost use Rattle.bac_tools.specs.Run.{Ends};
 ghost use Rattle.bac_run.specs.Faults.{keep_ending, of_keep};
 ghost use Rattle.bac_run.specs.Keeping.{Keeps, KeepsOf, RunsFrom, StopsTold};
 ghost use Rattle.bac_run.specs.Setup.{setup};
-ghost use Rattle.bac_words.specs.Jobs.{reads_input};
+ghost use Rattle.bac_command_line.specs.Jobs.{reads_input};
 
 use crate::machine::{Console, Machine};
+use bac_command_line::Keep;
 use bac_drive::Clock as WaitClock;
 use bac_files::{DiskFiles, FileOf};
-use bac_keeper3::{Fault as KeepFault, Machine as Hands, run_keep, run_stop};
+use bac_keeper::{Fault as KeepFault, Machine as Hands, run_keep, run_stop};
 use bac_ports::Sockets;
 use bac_tools::{Clock, Fault, listed_devices, tell};
 use bac_wire::Stamp;
-use bac_words::Keep;
 use sqlite::Start;
 use sqlite_disk::Disk;
 use std::alloc::Global;

@@ -2,20 +2,20 @@
 
 ghost use Rattle.std.specs.Prelude.{◌≡◌, option_map, unwrap_or};
 ghost use Rattle.bac_files.specs.Parts.{part_rules};
-ghost use Rattle.bac_heeding.specs.Notes.{nothing};
-ghost use Rattle.bac_keep_words.specs.Printing.{behind_as as router_as, device_as};
+ghost use Rattle.bac_socket_notes.specs.Notes.{nothing};
+ghost use Rattle.bac_keep_command_line.specs.Printing.{behind_as as router_as, device_as};
 ghost use Rattle.bac_reading.specs.Scene.{scene};
 ghost use Rattle.bac_tools.specs.Run.{Ends};
 ghost use Rattle.bac_run.specs.Faults.{of_read, of_words, read_ending};
 ghost use Rattle.bac_run.specs.Reading.{ChecksArchive, PrintsKept, asked_as, asked_for, choice_as};
 ghost use Rattle.bac_run.specs.Reading.{behind_as, dates_as, dates_between, device_at};
 
+use bac_command_line::{Check, Extent, Kept, Name, Period};
 use bac_files::Parts;
-use bac_keep_words::{BehindRouter, Device, Fault as WordFault, read_device};
-use bac_kept3::{Behind, Choice, Dates, Place, Words};
+use bac_keep_command_line::{BehindRouter, Device, Fault as WordFault, read_device};
+use bac_kept::{Behind, Choice, Dates, Place, Words};
 use bac_reading::{Asked, Fault as ReadFault, run_check, run_kept};
 use bac_tools::{Fault, tell};
-use bac_words::{Check, Extent, Kept, Name, Period};
 use std::alloc::Global;
 use std::io::Write;
 

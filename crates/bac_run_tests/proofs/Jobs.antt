@@ -11,11 +11,11 @@ use Rattle.bac_drive.specs.Happens.{Acts}
 use Rattle.bac_files.specs.Files.{FileOf}
 use Rattle.bac_files.specs.Parts.{PartRules}
 use Rattle.bac_files.specs.declared.disk_files.DiskFiles.{DiskFiles}
-use Rattle.bac_heeding.specs.declared.notes.Passed.{Passed}
+use Rattle.bac_socket_notes.specs.declared.notes.Passed.{Passed}
 use Rattle.bac_historian.specs.Files.{KeepsPart}
 use Rattle.bac_historian.specs.Laws.{LosesNothingAt}
-use Rattle.bac_keeper3.specs.Stops.{StopsTool}
-use Rattle.bac_keeper3.specs.declared.fault.Fault.{Fault as KeepFault}
+use Rattle.bac_keeper.specs.Stops.{StopsTool}
+use Rattle.bac_keeper.specs.declared.fault.Fault.{Fault as KeepFault}
 use Rattle.bac_keeping.specs.RecordLaws.{KeepNames}
 use Rattle.bac_ports.specs.Port.{Receiving, Sending}
 use Rattle.bac_ports.specs.Sockets.{SocketRules}
@@ -35,15 +35,15 @@ use Rattle.bac_tools.specs.Run.{AnswersWords, OnlyTells, wrong_fault}
 use Rattle.bac_tools.specs.Status.{exit_status}
 use Rattle.bac_tools.specs.declared.fault.Fault.TheVariants.{BadValue, LongNumber, Memory}
 use Rattle.bac_wire.specs.Stamp.{CivilTime}
-use Rattle.bac_words.specs.Groups.{are_input}
-use Rattle.bac_words.specs.Jobs.{reads_input}
-use Rattle.bac_words.specs.Outcome.{is_long_in}
-use Rattle.bac_words.specs.declared.job.Check.{Check as CheckWords}
-use Rattle.bac_words.specs.declared.job.Job.{Job}
-use Rattle.bac_words.specs.declared.job.Job.TheVariants as job
-use Rattle.bac_words.specs.declared.job.Keep.{Keep as KeepWords}
-use Rattle.bac_words.specs.declared.job.Kept.{Kept as KeptWords}
-use Rattle.bac_words.specs.declared.word.Word.{Word}
+use Rattle.bac_command_line.specs.Groups.{are_input}
+use Rattle.bac_command_line.specs.Jobs.{reads_input}
+use Rattle.bac_command_line.specs.Outcome.{is_long_in}
+use Rattle.bac_command_line.specs.declared.job.Check.{Check as CheckWords}
+use Rattle.bac_command_line.specs.declared.job.Job.{Job}
+use Rattle.bac_command_line.specs.declared.job.Job.TheVariants as job
+use Rattle.bac_command_line.specs.declared.job.Keep.{Keep as KeepWords}
+use Rattle.bac_command_line.specs.declared.job.Kept.{Kept as KeptWords}
+use Rattle.bac_command_line.specs.declared.word.Word.{Word}
 
 -- no wrong value is told with the status 0
 wrong_some : (words : List Text) (word : Word) → exit_status (wrong_fault words word) ≢ 0

@@ -19,15 +19,15 @@ use Rattle.bac_files.specs.declared.not_opened.NotOpened.{NotOpened}
 use Rattle.bac_historian.specs.Kept.{KeepsFrom}
 use Rattle.bac_historian.specs.declared.fault.Fault.{Fault as RunFault}
 use Rattle.bac_historian.specs.declared.fault.Fault.TheVariants as run
-use Rattle.bac_keep_words.specs.Devices.{named_as}
-use Rattle.bac_keep_words.specs.Orders.{order_as, order_in, stop_in}
-use Rattle.bac_keep_words.specs.declared.orders.Order.{Order}
-use Rattle.bac_keeper3.specs.Ends.{EndsHalted, EndsRun}
-use Rattle.bac_keeper3.specs.Halts.{run_halt}
-use Rattle.bac_keeper3.specs.Machine.{hands}
-use Rattle.bac_keeper3.specs.Runs.{RunsPlaced, RunsTool, path_told}
-use Rattle.bac_keeper3.specs.Stops.{EndsStop, StopsTool, Texts, stop_came, stop_done}
-use Rattle.bac_keeper3.specs.declared.fault.Fault.{Fault as KeepFault}
+use Rattle.bac_keep_command_line.specs.Devices.{named_as}
+use Rattle.bac_keep_command_line.specs.Orders.{order_as, order_in, stop_in}
+use Rattle.bac_keep_command_line.specs.declared.orders.Order.{Order}
+use Rattle.bac_keeper.specs.Ends.{EndsHalted, EndsRun}
+use Rattle.bac_keeper.specs.Halts.{run_halt}
+use Rattle.bac_keeper.specs.Machine.{hands}
+use Rattle.bac_keeper.specs.Runs.{RunsPlaced, RunsTool, path_told}
+use Rattle.bac_keeper.specs.Stops.{EndsStop, StopsTool, Texts, stop_came, stop_done}
+use Rattle.bac_keeper.specs.declared.fault.Fault.{Fault as KeepFault}
 use Rattle.bac_keeping.specs.Keeping.{Around, around}
 use Rattle.bac_keeping.specs.RecordLaws.{KeepNames}
 use Rattle.bac_keeping.specs.Stopping.{IsStopped}
@@ -58,8 +58,8 @@ use Rattle.bac_site_poller.specs.SiteLaws.{BatchesEnd, SiteReads, site_acts}
 use Rattle.bac_site_poller.specs.Status.{EndsAreCounted, StatusNeverFalls}
 use Rattle.bac_tools.specs.declared.fault.Fault.TheVariants.{Clock, List as ListOf}
 use Rattle.bac_wire.specs.Stamp.{CivilTime}
-use Rattle.bac_words.specs.Jobs.{with_groups}
-use Rattle.bac_words.specs.declared.job.Keep.{Keep}
+use Rattle.bac_command_line.specs.Jobs.{with_groups}
+use Rattle.bac_command_line.specs.declared.job.Keep.{Keep}
 
 -- a run that a fault halts has another status
 halted_some : (why : RunFault) (path : List ℕ) (old new : Held) → EndsHalted (run_halt why) path old new (Ok 0) → ⊥

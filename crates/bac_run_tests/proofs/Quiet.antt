@@ -14,8 +14,8 @@ use Rattle.bac_reading.specs.declared.program.Asked.{Asked}
 use Rattle.bac_run.specs.Faults.{of_words}
 use Rattle.bac_run.specs.Reading.{ChecksArchive, PrintsKept, ReadsParts}
 use Rattle.bac_run_tests.proofs.Untold.{read_zero, untold, words_some}
-use Rattle.bac_words.specs.declared.job.Check.{Check}
-use Rattle.bac_words.specs.declared.job.Kept.{Kept}
+use Rattle.bac_command_line.specs.declared.job.Check.{Check}
+use Rattle.bac_command_line.specs.declared.job.Kept.{Kept}
 
 -- a report that was closed so had nothing to tell
 closes_same : (report : _) (before after : Held) → Closes report before after (Ok 0) → after ≡ before

@@ -1,11 +1,11 @@
 -- Where a status is 0, no fault was told.
 use Rattle.std.proofs.Common.{◌≡◌, ◌∙◌, ℕ, ap, arith, inl, inr, Result, Ok, Err, sym}
 use Rattle.std.specs.Io.KnownBytes.{Keeps}
-use Rattle.bac_heeding.specs.Notes.{nothing}
-use Rattle.bac_keep_words.specs.declared.fault.Fault.{Fault as WordFault}
-use Rattle.bac_keep_words.specs.declared.fault.Fault.TheVariants as words
-use Rattle.bac_keeper3.specs.declared.fault.Fault.{Fault as KeepFault}
-use Rattle.bac_keeper3.specs.declared.fault.Fault.TheVariants as keep
+use Rattle.bac_socket_notes.specs.Notes.{nothing}
+use Rattle.bac_keep_command_line.specs.declared.fault.Fault.{Fault as WordFault}
+use Rattle.bac_keep_command_line.specs.declared.fault.Fault.TheVariants as words
+use Rattle.bac_keeper.specs.declared.fault.Fault.{Fault as KeepFault}
+use Rattle.bac_keeper.specs.declared.fault.Fault.TheVariants as keep
 use Rattle.bac_print.specs.Output.{Held}
 use Rattle.bac_reading.specs.declared.fault.Fault.{Fault as ReadFault}
 use Rattle.bac_reading.specs.declared.fault.Fault.TheVariants as read
@@ -14,8 +14,8 @@ use Rattle.bac_tools.specs.Run.{Ends, IsTold}
 use Rattle.bac_tools.specs.Status.{exit_status}
 use Rattle.bac_tools.specs.declared.fault.Fault.{Fault}
 use Rattle.bac_tools.specs.declared.fault.Fault.TheVariants.{List as ListOf}
-use Rattle.bac_words.specs.declared.listing.ListFault.{ListFault}
-use Rattle.bac_words.specs.declared.listing.ListFault.TheVariants as list
+use Rattle.bac_command_line.specs.declared.listing.ListFault.{ListFault}
+use Rattle.bac_command_line.specs.declared.listing.ListFault.TheVariants as list
 
 keep_some : (why : KeepFault) → exit_status (of_keep why) ≡ 0 → ⊥
 keep_some (keep.BadValue word) zero = omega (arith, zero)

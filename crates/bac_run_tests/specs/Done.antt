@@ -16,8 +16,8 @@ use Rattle.bac_files.specs.Parts.{IsPlaced}
 use Rattle.bac_files.specs.declared.disk_files.DiskFiles.{DiskFiles}
 use Rattle.bac_files.specs.declared.folder.Place.{Place}
 use Rattle.bac_historian.specs.Kept.{IsReady}
-use Rattle.bac_keep_words.specs.Orders.{order_as, order_in}
-use Rattle.bac_keep_words.specs.declared.orders.Order.{Order}
+use Rattle.bac_keep_command_line.specs.Orders.{order_as, order_in}
+use Rattle.bac_keep_command_line.specs.declared.orders.Order.{Order}
 use Rattle.bac_keeping.specs.Keeping.{Around, IsSet, amid, around, at_first}
 use Rattle.bac_keeping.specs.RecordLaws.{HasNamed, RiseThere}
 use Rattle.bac_keeping.specs.declared.run.Run.{Run}
@@ -30,10 +30,10 @@ use Rattle.bac_site_poller.specs.SiteLaws.{is_of, seats_of}
 use Rattle.bac_site_poller.specs.declared.seat.Seat.{Seat}
 use Rattle.bac_tools.specs.Finding.{IsListWithin}
 use Rattle.bac_wire.specs.Stamp.{CivilTime}
-use Rattle.bac_words.specs.Devices.{devices_of}
-use Rattle.bac_words.specs.Jobs.{with_groups}
-use Rattle.bac_words.specs.declared.group.Group.{Group}
-use Rattle.bac_words.specs.declared.job.Keep.{Keep}
+use Rattle.bac_command_line.specs.Devices.{devices_of}
+use Rattle.bac_command_line.specs.Jobs.{with_groups}
+use Rattle.bac_command_line.specs.declared.group.Group.{Group}
+use Rattle.bac_command_line.specs.declared.job.Keep.{Keep}
 
 -- the devices of `keep` are those of its words, for which the input isn't read, or those that it lists
 abbrev pub HasDevices : Bool → Keep → Held → Held → Keep → Type 0

@@ -6,14 +6,14 @@ use Rattle.sqlite_disk.specs.declared.start.Start as start
 use Rattle.sqlite_wal.specs.Recovery.{Image}
 use Rattle.bac_files.specs.Files.{FileOf, IsDoneTo}
 use Rattle.bac_files.specs.declared.disk_files.DiskFiles.{DiskFiles}
-use Rattle.bac_keep_words.specs.Devices.{named_as}
-use Rattle.bac_keep_words.specs.Orders.{stop_in}
-use Rattle.bac_keeper3.specs.Lines.{stopped_lines}
+use Rattle.bac_keep_command_line.specs.Devices.{named_as}
+use Rattle.bac_keep_command_line.specs.Orders.{stop_in}
+use Rattle.bac_keeper.specs.Lines.{stopped_lines}
 use Rattle.bac_keeping.specs.Stopping.{IsStopped}
 use Rattle.bac_keeping.specs.declared.stopping.Stopped.{Stopped}
 use Rattle.bac_plan.specs.declared.named.Named.{Named}
 use Rattle.bac_print.specs.Output.{Held}
-use Rattle.bac_words.specs.declared.job.Keep.{Keep}
+use Rattle.bac_command_line.specs.declared.job.Keep.{Keep}
 
 -- What the words name was on record, and closed files hold the archive in which it is stopped; each row of that has its
 -- line.

@@ -11,8 +11,8 @@ use Rattle.bac_walk.specs.Near.{IsNear}
 use Rattle.bac_link.specs.Ordinals.{distance}
 use Rattle.bac_walk.specs.Place.{WalkPlace, walk_at, walk_from_oldest}
 use Rattle.bac_walk.specs.Rests.{rest}
-use Rattle.bac_direct.specs.Ahead.{IsAhead, IsThere, Lacks, LiesAhead, history_ahead, log_with, moments_ahead, placed_all, turn}
-use Rattle.bac_direct.specs.declared.event.LinkEvent.{LinkEvent}
+use Rattle.bac_memory_link.specs.Ahead.{IsAhead, IsThere, Lacks, LiesAhead, history_ahead, log_with, moments_ahead, placed_all, turn}
+use Rattle.bac_memory_link.specs.declared.event.LinkEvent.{LinkEvent}
 use Rattle.bac_script.specs.Walk.{begins, begun_text, held_by, missed_text, moment_by, nearest, rested_text, start_of, walked_text, walk_text}
 
 picked : (b : Bool) (x w : WalkPlace) → (if b then Some x else None) ≡ Some w → (b ≡ true) × (w ≡ x)

@@ -2,7 +2,7 @@
 use Rattle.std.specs.Prelude.{ℕ, ◌+◌, ◌-◌, ◌==◌, ◌&&◌, nat_lt, Bool, true, false, if◌then◌else◌, List, [], ◌∷◌, ◌++◌}
 use Rattle.std.specs.Prelude.{codes, Option, None, Some}
 use Rattle.bac_wire.specs.Primitive.{Id}
-use Rattle.bac_direct.specs.Ahead.{moment_of, placed, turn}
+use Rattle.bac_memory_link.specs.Ahead.{moment_of, placed, turn}
 use Rattle.bac_log.specs.TrendLog.{Log, sequence_number}
 use Rattle.bac_link.specs.Delivery.{History, Moment}
 use Rattle.bac_objects.specs.Sampling.{log_of}

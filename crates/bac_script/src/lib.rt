@@ -8,7 +8,7 @@
 //! `script` reads: a script is cut into lines, and `Line::read` tells what a line says, apart from
 //! what the lines before it have made. `replay` plays: a session holds what the lines so far have
 //! made, and answers what one more prints. The device itself is in the crate bac_device, the
-//! program's words in bac_words, its tools in bac_tools.
+//! program's words in bac_command_line, its tools in bac_tools.
 #![tactic(auto)]
 
 mod configuration;

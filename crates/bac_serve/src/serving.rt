@@ -7,6 +7,7 @@ ghost use Rattle.bac_serve.specs.Serving.{receiver_of, server};
 use crate::clock::Clock;
 use bac_device::{Device, Receiver};
 use bac_ports::{Heard, Port, SocketFault};
+use bac_wire::Address;
 
 /// How often a datagram is waited for: without an end, as far as anyone sees.
 const WAITS: u64 = u64::MAX;
@@ -103,7 +104,7 @@ fn tick<C: Clock>(device: &mut Device, clock: &mut C)
     }
 }
 
-fn receiver(to: Receiver, sender: [u8; 6]) -> [u8; 6]
+fn receiver(to: Receiver, sender: Address) -> Address
     ensures { result ≡ receiver_of to sender }
 {
     match to {

@@ -9,7 +9,7 @@ use Rattle.bac_poll_steps.specs.declared.turn.PollEnd.{PollEnd}
 use Rattle.bac_walk.specs.declared.batch.Numbered.{Numbered}
 use Rattle.bac_poll_laws.specs.Laws.{EachShownOnce, IsAmong, IsOneOf, Whichever}
 use Rattle.bac_poll_laws.specs.Logged.{IsLogged}
-use Rattle.bac_archive3.specs.declared.row.Put.{Put}
+use Rattle.bac_archive.specs.declared.row.Put.{Put}
 use Rattle.bac_link.specs.Transactions.{closed}
 use Rattle.bac_link.specs.declared.transactions.Pending.{Pending}
 use Rattle.bac_walk.specs.declared.outcome.WalkFault.TheVariants as walk

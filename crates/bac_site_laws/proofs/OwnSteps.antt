@@ -4,7 +4,7 @@ use Rattle.std.proofs.Common.{List, [], ◌∷◌, ◌++◌, map, position, Opti
 use Rattle.std.proofs.lemmas.Option.{same_Some}
 use Rattle.bac_wire.specs.Primitive.{Id}
 use Rattle.bac_wire.specs.Stamp.{CivilTime}
-use Rattle.bac_archive3.specs.declared.row.Put.{Put}
+use Rattle.bac_archive.specs.declared.row.Put.{Put}
 use Rattle.bac_link.specs.Datagrams.{apdu_in}
 use Rattle.bac_link.specs.declared.exchanges.Verdict.{Verdict}
 use Rattle.bac_walk.specs.declared.outcome.WalkFault.TheVariants as walk

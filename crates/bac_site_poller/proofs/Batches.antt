@@ -2,7 +2,7 @@
 use Rattle.std.proofs.Common.{◌≡◌, ◌∙◌, inl, inr, ℕ, List, ◌++◌, Ok, append_assoc, ap, sym, subst}
 use Rattle.std.specs.List.{Contains}
 use Rattle.std.proofs.lemmas.List.Elements.{All-weaker, Contains-append_left}
-use Rattle.bac_archive3.specs.declared.row.Put.{Put}
+use Rattle.bac_archive.specs.declared.row.Put.{Put}
 use Rattle.bac_drive.specs.Event.{Event, Waited}
 use Rattle.bac_batch.specs.Laws.{AreCutShort, WasWanted, traffic_of}
 use Rattle.bac_batch.proofs.Inside.{ends_whole, loses_nothing}

@@ -2,7 +2,7 @@
 use Rattle.std.proofs.Common.{◌≡◌, ◌∙◌, ◌<◌, ℕ, ◌+◌, ◌&&◌, Bool, true, false, nat_le, nat_lt, arith, is_some}
 use Rattle.std.proofs.Common.{if◌then◌else◌, List, [], ◌∷◌, Option, Some, None, refl, sym, ap, subst}
 use Rattle.std.proofs.lemmas.Bool.{lt-ltb}
-use Rattle.bac_archive3.specs.declared.row.Put.{Put}
+use Rattle.bac_archive.specs.declared.row.Put.{Put}
 use Rattle.bac_wire.specs.Stamp.{CivilTime}
 use Rattle.bac_link.specs.Transactions.{begun_with, closed}
 use Rattle.bac_link.specs.declared.transactions.Pending.{Pending}

@@ -4,7 +4,7 @@ use Rattle.std.proofs.Common.{Some, None, refl, sym, ap, subst}
 use Rattle.bac_wire.specs.Stamp.{CivilTime}
 use Rattle.bac_link.specs.declared.transactions.Pending.{Pending}
 use Rattle.bac_link.specs.declared.transactions.Transactions.{Transactions}
-use Rattle.bac_archive3.specs.declared.row.Put.{Put}
+use Rattle.bac_archive.specs.declared.row.Put.{Put}
 use Rattle.bac_drive.specs.declared.machine.Next.{Next}
 use Rattle.bac_drive.specs.declared.machine.Next.TheVariants as next
 use Rattle.bac_device_poll.specs.Logs.{after_end}

@@ -7,7 +7,7 @@ use Rattle.std.specs.Str.{bytes_eq}
 use Rattle.std.proofs.lemmas.Bool.{and_parts}
 use Rattle.std.proofs.lemmas.List.Elements.{Contains-append_left, Contains-push}
 use Rattle.bac_apdu.specs.Npdu.{Place}
-use Rattle.bac_archive3.specs.declared.row.Put.{Put}
+use Rattle.bac_archive.specs.declared.row.Put.{Put}
 use Rattle.bac_wire.specs.Stamp.{CivilTime}
 use Rattle.bac_link.specs.Datagrams.{answers_to}
 use Rattle.bac_link.specs.Transactions.{begun_with, closed, is_awaited}

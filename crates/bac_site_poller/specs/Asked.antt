@@ -4,7 +4,7 @@ use Rattle.std.specs.Prelude.{List, [], ◌++◌, Option, None, Some, Ok}
 use Rattle.std.specs.List.{Contains}
 use Rattle.std.specs.Str.{bytes_eq}
 use Rattle.bac_apdu.specs.Npdu.{Place}
-use Rattle.bac_archive3.specs.declared.row.Put.{Put}
+use Rattle.bac_archive.specs.declared.row.Put.{Put}
 use Rattle.bac_link.specs.Datagrams.{answers_to}
 use Rattle.bac_link.specs.Path.{towards}
 use Rattle.bac_link.specs.Requests.{request_octets}

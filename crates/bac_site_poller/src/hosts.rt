@@ -7,13 +7,14 @@ ghost use Rattle.bac_site_poller.specs.Hosts.{least_of, limit_of, risen, slowed,
 ghost use Rattle.bac_site_poller.specs.Hosts.{with_limit};
 
 use bac_device_poller::Doing;
+use bac_wire::Address;
 use std::alloc::AllocError;
 
 /// A host at which requests were lost.
 #[derive(Clone, Drop)]
 pub struct Host {
     /// The address of a device there.
-    pub peer: [u8; 6],
+    pub peer: Address,
     /// How many requests may be open there.
     pub limit: usize,
     /// After how many answers in a row there may be one more.
@@ -23,7 +24,7 @@ pub struct Host {
 }
 
 /// That of an address, if requests were lost there.
-pub fn host_at(peer: [u8; 6], hosts: &[Host]) -> Option<Host>
+pub fn host_at(peer: Address, hosts: &[Host]) -> Option<Host>
     ensures { result ≡ host_at peer hosts.now }
 {
     hosts
@@ -83,7 +84,7 @@ impl Host {
     }
 
     /// The same, if it is that of an address.
-    fn slow_at(&mut self, peer: [u8; 6], limit: usize)
+    fn slow_at(&mut self, peer: Address, limit: usize)
         ensures { self.new ≡ slowed_at peer limit self.old }
     {
         if self.peer[..4] == peer[..4] {
@@ -104,7 +105,7 @@ impl Host {
     }
 
     /// The same, if it is that of an address.
-    fn answer_at(&mut self, most: usize, peer: [u8; 6])
+    fn answer_at(&mut self, most: usize, peer: Address)
         ensures { self.new ≡ answered_at most peer self.old }
     {
         if self.peer[..4] == peer[..4] {
@@ -114,7 +115,7 @@ impl Host {
 }
 
 /// At the host of an address so many requests may be open, if some were lost there before.
-pub fn slow_all(hosts: &mut [Host], peer: [u8; 6], limit: usize)
+pub fn slow_all(hosts: &mut [Host], peer: Address, limit: usize)
     ensures { hosts.new ≡ map (slowed_at peer limit) hosts.old }
 {
     for host in hosts.iter_mut() {
@@ -123,7 +124,7 @@ pub fn slow_all(hosts: &mut [Host], peer: [u8; 6], limit: usize)
 }
 
 /// At the host of an address so many requests may be open.
-pub fn set_limit(hosts: &mut Vec<Host>, peer: [u8; 6], limit: usize) -> Result<(), AllocError>
+pub fn set_limit(hosts: &mut Vec<Host>, peer: Address, limit: usize) -> Result<(), AllocError>
     ensures { OnOk result (hosts.new.items ≡ with_limit peer limit hosts.old.items) }
 {
     if host_at(peer, hosts.as_slice()).is_some() {
@@ -140,7 +141,7 @@ pub fn set_limit(hosts: &mut Vec<Host>, peer: [u8; 6], limit: usize) -> Result<(
 }
 
 /// An answer came from an address.
-pub fn answer_all(hosts: &mut [Host], most: usize, peer: [u8; 6])
+pub fn answer_all(hosts: &mut [Host], most: usize, peer: Address)
     ensures { hosts.new ≡ map (answered_at most peer) hosts.old }
 {
     for host in hosts.iter_mut() {

@@ -6,15 +6,16 @@ ghost use Rattle.bac_site_poller.specs.News.{slow_text, stray_text};
 
 use bac_device_poller::push_count;
 use bac_print::{push_address, push_number};
+use bac_wire::Address;
 use std::alloc::{AllocError, Global};
 
 /// What is told.
 #[derive(Clone, Copy)]
 pub enum News {
     /// So few requests may be open at the host of an address as never before in the run.
-    Slow([u8; 6], usize),
+    Slow(Address, usize),
     /// No answer came from the device at an address, but one from another.
-    Stray([u8; 6], [u8; 6]),
+    Stray(Address, Address),
 }
 
 /// Appends a number, and the point behind it.
@@ -27,7 +28,7 @@ fn push_part(text: &mut Vec<u8>, n: u8) -> Result<(), AllocError>
 
 /// Appends `A.B.C.D` of an address.
 #[tactic(auto, unfolding(crate::specs::News::host_text))]
-fn push_host(text: &mut Vec<u8>, peer: [u8; 6]) -> Result<(), AllocError>
+fn push_host(text: &mut Vec<u8>, peer: Address) -> Result<(), AllocError>
     ensures { OnOk result (text.new.items ≡ text.old.items ++ host_text peer) }
 {
     let [a, b, c, d, high, low] = peer;
@@ -38,7 +39,7 @@ fn push_host(text: &mut Vec<u8>, peer: [u8; 6]) -> Result<(), AllocError>
 }
 
 /// Appends how many requests may be open at the host of an address.
-fn push_slow(text: &mut Vec<u8>, peer: [u8; 6], limit: usize) -> Result<(), AllocError>
+fn push_slow(text: &mut Vec<u8>, peer: Address, limit: usize) -> Result<(), AllocError>
     ensures { OnOk result (text.new.items ≡ text.old.items ++ slow_text peer limit) }
 {
     push_host(text, peer)?;
@@ -48,7 +49,7 @@ fn push_slow(text: &mut Vec<u8>, peer: [u8; 6], limit: usize) -> Result<(), Allo
 }
 
 /// Appends from where an answer came.
-fn push_from(text: &mut Vec<u8>, from: [u8; 6]) -> Result<(), AllocError>
+fn push_from(text: &mut Vec<u8>, from: Address) -> Result<(), AllocError>
     ensures { OnOk result (text.new.items ≡ text.old.items ++ from_text from) }
 {
     text.extend_from_slice(b": no answer, but one from ")?;
@@ -56,7 +57,7 @@ fn push_from(text: &mut Vec<u8>, from: [u8; 6]) -> Result<(), AllocError>
 }
 
 /// Appends that no answer came from an address, but one from another.
-fn push_stray(text: &mut Vec<u8>, peer: [u8; 6], from: [u8; 6]) -> Result<(), AllocError>
+fn push_stray(text: &mut Vec<u8>, peer: Address, from: Address) -> Result<(), AllocError>
     ensures { OnOk result (text.new.items ≡ text.old.items ++ stray_text peer from) }
 {
     push_address(text, peer)?;

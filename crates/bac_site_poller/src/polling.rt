@@ -3,7 +3,7 @@
 ghost use Rattle.std.specs.Prelude.{IfErr, OnOk};
 ghost use Rattle.sqlite.specs.Held.{state};
 ghost use Rattle.sqlite.specs.State.{HasCleanDisk, Survives};
-ghost use Rattle.bac_archive3.specs.Schema.{HasArchive};
+ghost use Rattle.bac_archive.specs.Schema.{HasArchive};
 ghost use Rattle.bac_drive.specs.Happens.{Leaves, Runs, StaysSettled, Stops, scene};
 ghost use Rattle.bac_site_poller.specs.SiteLaws.{site_acts};
 

@@ -9,7 +9,7 @@ ghost use Rattle.bac_site_poller.specs.Status.{with_seat};
 
 use bac_device_poller::{DevicePoller, Doing, Status};
 use bac_drive::Next;
-use bac_wire::{Datagram, Stamp};
+use bac_wire::{Address, Datagram, Stamp};
 use std::alloc::{AllocError, Global};
 use std::collections::VecDeque;
 
@@ -22,7 +22,7 @@ pub struct Seat {
     /// Whether its question was sent more than once.
     pub is_repeated: bool,
     /// From where else an answer to its question came.
-    pub stray: Option<[u8; 6]>,
+    pub stray: Option<Address>,
 }
 
 /// What the poll of a device wants. Of one that has ended nothing is wanted, and the clock is read.
@@ -50,14 +50,14 @@ impl Seat {
 
     /// A datagram came from an address, at a moment. Its poll takes it, if it answers its open
     /// question.
-    pub fn hear(&mut self, from: [u8; 6], datagram: &Datagram, now: Stamp)
+    pub fn hear(&mut self, from: Address, datagram: &Datagram, now: Stamp)
         ensures { self.new ≡ seat_heard from datagram.now now self.old }
     {
         self.poller.hear(from, datagram, now);
     }
 
     /// Whether a datagram would answer its open request, if it came from its device.
-    fn is_stray(&self, from: [u8; 6], datagram: &Datagram) -> bool
+    fn is_stray(&self, from: Address, datagram: &Datagram) -> bool
         ensures { result ≡ is_stray from datagram.now self.now }
     {
         if from == self.poller.peer() {
@@ -67,7 +67,7 @@ impl Seat {
     }
 
     /// A datagram came from an address where no device of the site is.
-    pub fn notice(&mut self, from: [u8; 6], datagram: &Datagram)
+    pub fn notice(&mut self, from: Address, datagram: &Datagram)
         ensures { self.new ≡ noticed from datagram.now self.old }
     {
         if self.is_stray(from, datagram) {
@@ -147,7 +147,7 @@ pub fn count_first(seats: &[Seat]) -> usize
 }
 
 /// How many are at the host of an address.
-pub fn count_at(seats: &[Seat], peer: [u8; 6]) -> usize
+pub fn count_at(seats: &[Seat], peer: Address) -> usize
     ensures { result ≡ count_by (is_at peer) seats.now }
 {
     let mut count = 0;
@@ -161,7 +161,7 @@ pub fn count_at(seats: &[Seat], peer: [u8; 6]) -> usize
 }
 
 /// A datagram came from an address, at a moment.
-pub fn hear_all(seats: &mut [Seat], from: [u8; 6], datagram: &Datagram, now: Stamp)
+pub fn hear_all(seats: &mut [Seat], from: Address, datagram: &Datagram, now: Stamp)
     ensures { seats.new ≡ map (seat_heard from datagram.now now) seats.old }
 {
     for seat in seats.iter_mut() {
@@ -170,21 +170,21 @@ pub fn hear_all(seats: &mut [Seat], from: [u8; 6], datagram: &Datagram, now: Sta
 }
 
 /// Whether one of them is at an address.
-pub fn is_known(seats: &[Seat], from: [u8; 6]) -> bool
+pub fn is_known(seats: &[Seat], from: Address) -> bool
     ensures { result ≡ is_known from seats.now }
 {
     seats.iter().any(|seat| seat.poller.peer() == from)
 }
 
 /// The same of those that wait for their turn.
-pub fn is_queued(seats: &VecDeque<Seat>, from: [u8; 6]) -> bool
+pub fn is_queued(seats: &VecDeque<Seat>, from: Address) -> bool
     ensures { result ≡ is_known from seats.now.items }
 {
     seats.iter().any(|seat| seat.poller.peer() == from)
 }
 
 /// A datagram came from an address where no device of the site is.
-pub fn notice_all(seats: &mut [Seat], from: [u8; 6], datagram: &Datagram)
+pub fn notice_all(seats: &mut [Seat], from: Address, datagram: &Datagram)
     ensures { seats.new ≡ map (noticed from datagram.now) seats.old }
 {
     for seat in seats.iter_mut() {

@@ -28,7 +28,7 @@ use crate::seat::{
 use bac_device_poller::{DevicePoller, Doing, Ids, Status, told_by};
 use bac_drive::{Machine, Next};
 use bac_ports::{Heard, SocketFault};
-use bac_wire::{Datagram, Stamp};
+use bac_wire::{Address, Datagram, Stamp};
 use std::alloc::{AllocError, Global};
 use std::collections::VecDeque;
 use std::marker::Model;
@@ -127,7 +127,7 @@ impl SitePoller {
 
     // Whether a device of the site is at an address: one that is asked now, that waits for its
     // turn, or that has ended.
-    fn is_asked_at(&self, from: [u8; 6]) -> bool
+    fn is_asked_at(&self, from: Address) -> bool
         ensures { result ≡ is_asked_at self.now from }
     {
         is_known(self.active.as_slice(), from)
@@ -136,7 +136,7 @@ impl SitePoller {
     }
 
     // A datagram came from an address, at a moment.
-    fn hear_from(&mut self, from: [u8; 6], datagram: &Datagram, now: Stamp)
+    fn hear_from(&mut self, from: Address, datagram: &Datagram, now: Stamp)
         ensures { self.new ≡ record self.old {
           active
               = given (is_asked_at self.old from) from (Some datagram.now) now self.old.active;
@@ -189,28 +189,28 @@ impl SitePoller {
     }
 
     /// How many requests may be open at the host of an address.
-    fn limit_at(&self, peer: [u8; 6]) -> usize
+    fn limit_at(&self, peer: Address) -> usize
         ensures { result ≡ limit_at self.now peer }
     {
         limit_of(self.limits.at_host, host_at(peer, self.hosts.as_slice()))
     }
 
     /// Whether one more may be asked there.
-    fn has_place_at(&self, peer: [u8; 6]) -> bool
+    fn has_place_at(&self, peer: Address) -> bool
         ensures { IsTrue result ↔ HasPlaceAt self.now peer }
     {
         count_at(self.active.as_slice(), peer) < self.limit_at(peer)
     }
 
     /// Whether others are asked there, beside one whose request was lost.
-    fn is_crowded(&self, peer: [u8; 6]) -> bool
+    fn is_crowded(&self, peer: Address) -> bool
         ensures { result ≡ is_crowded self.now peer }
     {
         count_at(self.active.as_slice(), peer) > 0
     }
 
     /// It is to be told of a host where a request was lost, if there never were so few.
-    fn note_loss(&mut self, peer: [u8; 6]) -> Result<(), AllocError>
+    fn note_loss(&mut self, peer: Address) -> Result<(), AllocError>
         ensures { OnOk result (self.new
             ≡ record self.old { news = self.old.news ++ news_lost self.old peer }) }
     {
@@ -223,7 +223,7 @@ impl SitePoller {
     }
 
     /// How many requests may be open where one was lost.
-    fn slow(&mut self, peer: [u8; 6]) -> Result<(), AllocError>
+    fn slow(&mut self, peer: Address) -> Result<(), AllocError>
         ensures { OnOk result (self.new
             ≡ record self.old { hosts = hosts_lost self.old peer }) }
     {

@@ -2,10 +2,10 @@
 
 use crate::rig::Rig;
 use crate::seats::{log_record, peer, poller, site, task, text};
-use bac_archive3::Put;
+use bac_archive::Put;
 use bac_device_poll::{Begin, Way};
-use bac_places::Place;
 use bac_poll::{DateTime, Kept, Standing, Told};
+use bac_row_ids::Place;
 use bac_site_poller::SitePoller;
 use std::alloc::{AllocError, Global};
 use std::test::Fail;

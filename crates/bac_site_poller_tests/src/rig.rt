@@ -1,11 +1,11 @@
 //! A site that is driven over simulated devices.
 
 use crate::question::{Question, abort, error, identifier, question_in, reply};
-use bac_archive3::Put;
+use bac_archive::Put;
 use bac_drive::{Machine, Next};
 use bac_ports::{Heard, SocketFault};
 use bac_site_poller::SitePoller;
-use bac_wire::Datagram;
+use bac_wire::{Address, Datagram};
 use std::alloc::{AllocError, Global};
 use std::collections::VecDeque;
 
@@ -30,7 +30,7 @@ pub(crate) const MUTE: u8 = 100;
 /// An answer, and when it comes.
 #[derive(Drop)]
 struct Answer {
-    from: [u8; 6],
+    from: Address,
     datagram: Option<Datagram>,
     at: u64,
 }
@@ -113,7 +113,7 @@ impl Rig {
     }
 
     /// A device has a request.
-    fn ask(&mut self, alloc: Global, question: Question, to: [u8; 6]) -> Result<(), AllocError> {
+    fn ask(&mut self, alloc: Global, question: Question, to: Address) -> Result<(), AllocError> {
         let host = to[3];
         if host == SILENT || (question.is_log && question.instance >= MUTE) {
             return Ok(());
@@ -130,7 +130,7 @@ impl Rig {
     }
 
     /// A datagram is sent.
-    fn send(&mut self, alloc: Global, octets: &[u8], to: [u8; 6]) -> Result<(), AllocError> {
+    fn send(&mut self, alloc: Global, octets: &[u8], to: Address) -> Result<(), AllocError> {
         self.sends.push(to[3])?;
         match question_in(octets) {
             Some(question) => self.ask(alloc, question, to),

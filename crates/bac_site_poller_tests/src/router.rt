@@ -3,7 +3,7 @@
 use crate::rig::Rig;
 use crate::seats::{device, peer, site};
 use bac_apdu::Route;
-use bac_archive3::Put;
+use bac_archive::Put;
 use bac_device_poll::Way;
 use bac_device_poller::DevicePoller;
 use bac_site_poller::SitePoller;

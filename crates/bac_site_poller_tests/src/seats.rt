@@ -1,19 +1,19 @@
 //! Devices that are polled for the first time.
 
-use bac_archive3::{DeviceRow, LogRow};
+use bac_archive::{DeviceRow, LogRow};
 use bac_device_poll::{Begin, DevicePoll, Known, LogTask, Way};
 use bac_device_poller::{DevicePoller, Ids, LogRecord, Rows};
 use bac_link::Transactions;
-use bac_places::Place;
 use bac_poll::Told;
 use bac_print::push_number;
+use bac_row_ids::Place;
 use bac_site_poller::{Limits, SitePoller};
 use bac_walk::Count;
-use bac_wire::{ObjectId, Stamp};
+use bac_wire::{Address, ObjectId, Stamp};
 use std::alloc::{AllocError, Global};
 use std::test::Fail;
 
-pub(crate) fn peer(host: u8) -> [u8; 6] {
+pub(crate) fn peer(host: u8) -> Address {
     [10, 0, 0, host, 0xba, 0xc0]
 }
 

@@ -27,7 +27,7 @@ use Rattle.bac_walk.specs.declared.outcome.Why.{Why}
 use Rattle.bac_walk.specs.declared.outcome.Why.TheVariants as why
 use Rattle.bac_walk.proofs.Told.{Asking}
 use Rattle.bac_wire.specs.Primitive.{Id}
-use Rattle.bac_words.specs.declared.job.Asked.{Asked}
+use Rattle.bac_command_line.specs.declared.job.Asked.{Asked}
 
 -- what is printed, and how the run ended, in one
 tells : (layout : Layout) (items : List Item) (steps n : ℕ) (ended : Ended) (after : WalkPlace) (fetching : Fetching) (old new : Held) →

@@ -1,18 +1,18 @@
 -- What is done of words, by what was done of them as they were read.
 use Rattle.std.proofs.Common.{◌≡◌, ℕ, List, [], inl, inr, Option, Result, Ok, Err, IfOk, IfErr, refl, subst, sym}
 use Rattle.clap.specs.Words.{Text, IsAmong, kind_of}
-use Rattle.bac_heeding.specs.declared.notes.Passed.{Passed}
+use Rattle.bac_socket_notes.specs.declared.notes.Passed.{Passed}
 use Rattle.bac_ports.specs.Sockets.{SocketRules}
 use Rattle.bac_tools.specs.Run.{AnswersWords, AreWrong, AskFor, OnlyTells, Runs, RunsRead, wrong_fault}
 use Rattle.bac_tools.specs.Streams.{Streams}
 use Rattle.bac_tools.specs.declared.fault.Fault.{Fault}
 use Rattle.bac_tools.specs.declared.fault.Fault.TheVariants as fault
 use Rattle.bac_wire.specs.Stamp.{CivilTime}
-use Rattle.bac_words.specs.Outcome.{mistakes_of, job_in, IsRefused}
-use Rattle.bac_words.specs.declared.fault.WordsFault.{WordsFault}
-use Rattle.bac_words.specs.declared.fault.WordsFault.TheVariants.{Usage, BadValue, LongNumber, Memory}
-use Rattle.bac_words.specs.declared.job.Job.{Job}
-use Rattle.bac_words.specs.declared.word.Word.{Word}
+use Rattle.bac_command_line.specs.Outcome.{mistakes_of, job_in, IsRefused}
+use Rattle.bac_command_line.specs.declared.fault.WordsFault.{WordsFault}
+use Rattle.bac_command_line.specs.declared.fault.WordsFault.TheVariants.{Usage, BadValue, LongNumber, Memory}
+use Rattle.bac_command_line.specs.declared.job.Job.{Job}
+use Rattle.bac_command_line.specs.declared.word.Word.{Word}
 
 -- words that bac takes have no mistake
 unmistaken : {A : Type 0} (words : List Text) (e : _) → mistakes_of words ≡ [] → IsAmong (kind_of e) (mistakes_of words) → A

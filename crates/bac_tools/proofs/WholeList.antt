@@ -3,9 +3,9 @@ use Rattle.std.proofs.Common.{ℕ, List, Ok, Err, Result, Vec, Global, subst}
 use Rattle.std.specs.Io.KnownBytes.{IsAtEnd}
 use Rattle.bac_query.specs.Reading.{Held}
 use Rattle.bac_tools.specs.Finding.{IsListIn, IsListWithin, IsTextWithin}
-use Rattle.bac_words.specs.Listing.{Lists}
-use Rattle.bac_words.specs.declared.listing.ListFault.{ListFault}
-use Rattle.bac_words.specs.declared.listing.ListFault.TheVariants.{BadLine, TooMany, Empty, TooLong, Read, Memory}
+use Rattle.bac_command_line.specs.Listing.{Lists}
+use Rattle.bac_command_line.specs.declared.listing.ListFault.{ListFault}
+use Rattle.bac_command_line.specs.declared.listing.ListFault.TheVariants.{BadLine, TooMany, Empty, TooLong, Read, Memory}
 
 module _ {A : Type 0} (lists : List ℕ → Result (List A) ListFault) (limit : ℕ) (input left : Held) where
   whole : (read : List ℕ) (list : Result (List A) ListFault) → IsAtEnd left → Lists (lists read) list → IsListIn lists limit read left list

@@ -12,12 +12,12 @@ use Rattle.bac_tools.specs.Ending.{Ending}
 use Rattle.bac_tools.specs.Faults.{of_find}
 use Rattle.bac_tools.specs.Sockets.{Opens, Outside, Pipes, binding, outside}
 use Rattle.bac_tools.specs.declared.fault.Fault.TheVariants.{List as ListOf}
-use Rattle.bac_words.specs.Listing.{Lists, addresses_of}
-use Rattle.bac_words.specs.declared.job.Discovery.{Discovery}
-use Rattle.bac_words.specs.declared.job.Stations.{Stations}
-use Rattle.bac_words.specs.declared.job.Stations.TheVariants.{Listed, Input}
-use Rattle.bac_words.specs.declared.listing.ListFault.{ListFault}
-use Rattle.bac_words.specs.declared.listing.ListFault.TheVariants.{TooLong, Read, Memory}
+use Rattle.bac_command_line.specs.Listing.{Lists, addresses_of}
+use Rattle.bac_command_line.specs.declared.job.Discovery.{Discovery}
+use Rattle.bac_command_line.specs.declared.job.Stations.{Stations}
+use Rattle.bac_command_line.specs.declared.job.Stations.TheVariants.{Listed, Input}
+use Rattle.bac_command_line.specs.declared.listing.ListFault.{ListFault}
+use Rattle.bac_command_line.specs.declared.listing.ListFault.TheVariants.{TooLong, Read, Memory}
 
 -- the limits of the instances that are to answer; the lowest alone is both
 abbrev pub limits_of : Option ℕ → Option ℕ → Option (ℕ × ℕ)

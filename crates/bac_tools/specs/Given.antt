@@ -1,7 +1,7 @@
 -- The value that the words of wp say, as it is encoded (clause 20.2).
 use Rattle.bac_wire.specs.Primitive.{Primitive, Null, Boolean, Unsigned, Signed, Real, Chars, Enumerated}
-use Rattle.bac_words.specs.declared.job.Given.{Given}
-use Rattle.bac_words.specs.declared.job.Given.TheVariants as given
+use Rattle.bac_command_line.specs.declared.job.Given.{Given}
+use Rattle.bac_command_line.specs.declared.job.Given.TheVariants as given
 
 -- a text is one in UTF-8, character set 0
 abbrev pub value_of : Given → Primitive

@@ -14,8 +14,8 @@ use Rattle.bac_script.specs.declared.script.flaw.LineKind.{LineKind}
 use Rattle.bac_script.specs.declared.script.flaw.LineKind.TheVariants as line
 use Rattle.bac_script.specs.declared.script.flaw.Wanted.{Wanted}
 use Rattle.bac_script.specs.declared.script.flaw.Wanted.TheVariants as wanted
-use Rattle.bac_words.specs.declared.listing.ListFault.{ListFault}
-use Rattle.bac_words.specs.declared.listing.ListFault.TheVariants as list
+use Rattle.bac_command_line.specs.declared.listing.ListFault.{ListFault}
+use Rattle.bac_command_line.specs.declared.listing.ListFault.TheVariants as list
 
 -- ---- a bad line
 

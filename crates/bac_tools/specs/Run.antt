@@ -9,8 +9,8 @@ use Rattle.clap.specs.declared.error.kind.ErrorKind.TheVariants.{DisplayHelp, Di
 use Rattle.bac_apdu.specs.Service.WriteProperty.{PropertyWrite, write_of_code}
 use Rattle.bac_apdu.specs.declared.service.read_property.ReadProperty.{ReadProperty}
 use Rattle.bac_apdu.specs.declared.service.write_property.WriteProperty.{WriteProperty}
-use Rattle.bac_heeding.specs.Notes.{nothing}
-use Rattle.bac_heeding.specs.declared.notes.Passed.{Passed}
+use Rattle.bac_socket_notes.specs.Notes.{nothing}
+use Rattle.bac_socket_notes.specs.declared.notes.Passed.{Passed}
 use Rattle.bac_link.specs.declared.request.Request.TheVariants as request
 use Rattle.bac_ports.specs.Sockets.{SocketRules}
 use Rattle.bac_print.specs.Output.{AppendsPart, Held}
@@ -36,17 +36,17 @@ use Rattle.bac_link.specs.Standard.{IsCount}
 use Rattle.bac_walk.specs.Place.{WalkPlace, asking, walk_at, walk_from_oldest}
 use Rattle.bac_wire.specs.Primitive.{Id}
 use Rattle.bac_wire.specs.Stamp.{CivilTime}
-use Rattle.bac_words.specs.Outcome.{mistakes_of, is_long_in, job_in}
-use Rattle.bac_words.specs.declared.job.Job.{Job}
-use Rattle.bac_words.specs.declared.job.Job.TheVariants as job
-use Rattle.bac_words.specs.declared.job.LogListing.{LogListing}
-use Rattle.bac_words.specs.declared.job.LogReading.{LogReading}
-use Rattle.bac_words.specs.declared.job.PropertyReading.{PropertyReading}
-use Rattle.bac_words.specs.declared.job.PropertyWriting.{PropertyWriting}
-use Rattle.bac_words.specs.declared.fault.WordsFault.{WordsFault}
-use Rattle.bac_words.specs.declared.fault.WordsFault.TheVariants as words
-use Rattle.bac_words.specs.declared.word.Word.{Word}
-use Rattle.bac_words.specs.declared.word.Word.TheVariants.{Records, Instance, From}
+use Rattle.bac_command_line.specs.Outcome.{mistakes_of, is_long_in, job_in}
+use Rattle.bac_command_line.specs.declared.job.Job.{Job}
+use Rattle.bac_command_line.specs.declared.job.Job.TheVariants as job
+use Rattle.bac_command_line.specs.declared.job.LogListing.{LogListing}
+use Rattle.bac_command_line.specs.declared.job.LogReading.{LogReading}
+use Rattle.bac_command_line.specs.declared.job.PropertyReading.{PropertyReading}
+use Rattle.bac_command_line.specs.declared.job.PropertyWriting.{PropertyWriting}
+use Rattle.bac_command_line.specs.declared.fault.WordsFault.{WordsFault}
+use Rattle.bac_command_line.specs.declared.fault.WordsFault.TheVariants as words
+use Rattle.bac_command_line.specs.declared.word.Word.{Word}
+use Rattle.bac_command_line.specs.declared.word.Word.TheVariants.{Records, Instance, From}
 
 -- ---- what is asked for
 

@@ -7,7 +7,7 @@ use Rattle.bac_ports.specs.declared.port.OpenFault.{OpenFault}
 use Rattle.bac_print.specs.Output.{Held}
 use Rattle.bac_tools.specs.Ending.{Ending}
 use Rattle.bac_tools.specs.declared.fault.Fault.TheVariants.{Unopened}
-use Rattle.bac_words.specs.declared.job.Asked.{Asked}
+use Rattle.bac_command_line.specs.declared.job.Asked.{Asked}
 
 -- ---- sockets
 

@@ -10,8 +10,8 @@ use Rattle.bac_tools.specs.declared.fault.Fault.TheVariants.{NoAnswer, List, Exc
 use Rattle.bac_tools.specs.declared.fault.Fault.TheVariants.{Clock, Write, Memory}
 use Rattle.bac_script.specs.declared.replay.fault.ReplayFault.{ReplayFault}
 use Rattle.bac_script.specs.declared.replay.fault.ReplayFault.TheVariants as replay
-use Rattle.bac_words.specs.declared.listing.ListFault.{ListFault}
-use Rattle.bac_words.specs.declared.listing.ListFault.TheVariants as list
+use Rattle.bac_command_line.specs.declared.listing.ListFault.{ListFault}
+use Rattle.bac_command_line.specs.declared.listing.ListFault.TheVariants as list
 use Rattle.bac_walk.specs.declared.outcome.WalkFault.TheVariants as walk
 use Rattle.bac_walk.specs.declared.outcome.Why.{Why}
 use Rattle.bac_walk.specs.declared.outcome.Why.TheVariants as why

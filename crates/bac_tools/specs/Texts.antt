@@ -1,8 +1,8 @@
 -- What is told on standard error. Of a fault it is a line, and if there is more to say, a second one.
 use Rattle.std.specs.Prelude.{ℕ, List, [], ◌∷◌, ◌++◌, if◌then◌else◌, codes, decimal}
-use Rattle.bac_heeding.specs.Notes.{nothing}
-use Rattle.bac_heeding.specs.Silence.{silence_text}
-use Rattle.bac_heeding.specs.declared.notes.Passed.{Passed}
+use Rattle.bac_socket_notes.specs.Notes.{nothing}
+use Rattle.bac_socket_notes.specs.Silence.{silence_text}
+use Rattle.bac_socket_notes.specs.declared.notes.Passed.{Passed}
 use Rattle.bac_link.specs.declared.exchanges.ExchangeFault.{ExchangeFault}
 use Rattle.bac_link.specs.declared.exchanges.ExchangeFault.TheVariants as exchange
 use Rattle.bac_objects.specs.declared.build.BuildFault.{BuildFault}
@@ -21,9 +21,9 @@ use Rattle.bac_tools.specs.declared.fault.Fault.TheVariants.{NotText, BadValue, 
 use Rattle.bac_tools.specs.declared.fault.Fault.TheVariants.{Unopened, Socket, Refused}
 use Rattle.bac_tools.specs.declared.fault.Fault.TheVariants.{NoAnswer, List as ListOf, Exchange, Flawed}
 use Rattle.bac_tools.specs.declared.fault.Fault.TheVariants.{Silent, Declined, Clock, Write, Memory}
-use Rattle.bac_words.specs.Names.{name_of, is_option}
-use Rattle.bac_words.specs.declared.word.Word.{Word}
-use Rattle.bac_words.specs.declared.word.Word.TheVariants as word
+use Rattle.bac_command_line.specs.Names.{name_of, is_option}
+use Rattle.bac_command_line.specs.declared.word.Word.{Word}
+use Rattle.bac_command_line.specs.declared.word.Word.TheVariants as word
 
 -- ---- words
 

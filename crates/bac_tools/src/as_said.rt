@@ -11,12 +11,12 @@ use crate::asking::{LogAsking, log, logs, rp, value_of, wp};
 use crate::fault::Fault;
 use bac_apdu::object_type::TREND_LOG;
 use bac_apdu::{ReadProperty, WriteProperty};
+use bac_command_line::{LogListing, LogReading, PropertyReading, PropertyWriting, Word};
 use bac_link::Request;
 use bac_ports::Sockets;
 use bac_query::{Layout, Reals};
 use bac_walk::{Count, Walk};
 use bac_wire::ObjectId;
-use bac_words::{LogListing, LogReading, PropertyReading, PropertyWriting, Word};
 use std::alloc::Global;
 use std::io::Write;
 

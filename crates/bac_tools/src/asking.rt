@@ -12,19 +12,19 @@ ghost use Rattle.bac_tools.specs.Sockets.{outlets, outside, transactions_with};
 use crate::fault::Fault;
 use crate::log_end::{ended_as, ending_of, say_more};
 use bac_apdu::{ReadProperty, Route};
+use bac_command_line::{Asked, Given};
 use bac_link::{Request, Transactions};
 use bac_ports::{OpenFault, Sockets, UdpLink};
 use bac_query::{
     Layout, Reals, begin_layout, fetch_log_ahead, list_logs, read_property, write_property,
 };
 use bac_walk::Walk;
-use bac_wire::{ObjectId, Value};
-use bac_words::{Asked, Given};
+use bac_wire::{Address, ObjectId, Value};
 use std::alloc::Global;
 use std::io::Write;
 
 /// Any address of this machine, and any free port.
-pub(crate) const ANY: [u8; 6] = [0; 6];
+pub(crate) const ANY: Address = [0; 6];
 
 /// A link to the device that is asked, and transactions with it.
 #[derive(Drop)]

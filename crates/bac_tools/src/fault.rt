@@ -5,12 +5,13 @@ ghost use Rattle.bac_tools.specs.Faults.{of_query};
 ghost use Rattle.bac_tools.specs.Status.{exit_status, exchange_status, list_status, script_status};
 ghost use Rattle.bac_tools.specs.Status.{walk_status};
 
+use bac_command_line::{ListFault, Word};
 use bac_link::{ExchangeFault, Refusal};
 use bac_ports::OpenFault;
 use bac_query::QueryFault;
 use bac_script::{Refused, ReplayFault};
 use bac_walk::{ReplyFlaw, WalkFault, Why};
-use bac_words::{ListFault, Word};
+use bac_wire::Address;
 
 /// Why a tool ends without what it was asked for.
 #[derive(Clone, Copy)]
@@ -33,20 +34,20 @@ pub enum Fault {
     /// A socket failed.
     Socket,
     /// No request could be sent to this address.
-    Refused([u8; 6]),
+    Refused(Address),
     /// No device announced itself, of so many addresses that were asked.
     NoAnswer(usize),
     /// The addresses to ask couldn't be read from the input.
     List(ListFault),
     /// The answer from this address didn't come, or isn't the ACK that belongs to the request.
     Exchange {
-        address: [u8; 6],
+        address: Address,
         fault: ExchangeFault,
     },
     /// This is wrong with the reply that ended a walk; that it was a bad one is on the output.
     Flawed(ReplyFlaw),
     /// A walk ended since no reply came from this address; that it was lost is on the output.
-    Silent([u8; 6]),
+    Silent(Address),
     /// A walk ended since its device refused so; that it did is on the output.
     Declined(Refusal),
     /// The machine's clock can't be read, or its time isn't one that a record could have.
@@ -108,7 +109,7 @@ impl Fault {
     }
 
     /// The fault of a tool whose query of this address wasn't done.
-    pub(crate) fn of_query(address: [u8; 6], fault: QueryFault) -> Fault
+    pub(crate) fn of_query(address: Address, fault: QueryFault) -> Fault
         ensures { result ≡ of_query address fault }
     {
         match fault {

@@ -10,9 +10,10 @@ use crate::asking::ANY;
 use crate::fault::Fault;
 use crate::listing::listed_addresses;
 use bac_apdu::WhoIs;
+use bac_command_line::{Addresses, Discovery, Stations};
 use bac_ports::Sockets;
 use bac_query::{FindFault, Search, find_devices};
-use bac_words::{Addresses, Discovery, Stations};
+use bac_wire::Address;
 use std::alloc::Global;
 use std::io::{Read, Write};
 
@@ -55,7 +56,7 @@ fn search_for<S: Sockets, O: Write>(
     alloc: Global,
     addresses: &Addresses,
     search: &Search,
-    local: Option<[u8; 6]>,
+    local: Option<Address>,
     timeout: u32,
     output: &mut O,
 ) -> Result<u8, Fault>

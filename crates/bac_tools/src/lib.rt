@@ -5,7 +5,7 @@
 //! the socket that it opens, and what it leaves on its output of what came, is stated tool by tool
 //! in specs/Run, and the status of each end in specs/Status. What comes may come from anyone.
 //!
-//! The crate is the door of the program: scripts (bac_script), words (bac_words) and serving
+//! The crate is the door of the program: scripts (bac_script), words (bac_command_line) and serving
 //! (bac_serve) are reached from here.
 #![tactic(auto)]
 
@@ -24,7 +24,11 @@ mod telling;
 mod tips;
 mod until_refused;
 
-pub use bac_heeding::{Heeding, Heeds, Passed};
+pub use bac_command_line::{
+    Addresses, Asked, Check, Discovery, Extent, Given, Group, Groups, Job, Keep, KeepOptions, Kept,
+    ListFault, LogListing, LogReading, Name, Names, Period, PropertyReading, PropertyWriting,
+    ServedDevice, Stations, Word, WordsFault, read_words,
+};
 pub use bac_ports::{Heard, OpenFault, Port, SocketFault, Sockets, UdpPort, UdpSockets};
 pub use bac_script::{
     Configuration, ConfigurationText, Flaw, LIMIT, LineKind, Reason, Refused, ReplayFault,
@@ -32,12 +36,8 @@ pub use bac_script::{
     run_replay_explained, unfit_line,
 };
 pub use bac_serve::{Clock, SystemClock, serve, serve_one};
+pub use bac_socket_notes::{Heeding, Heeds, Passed};
 pub use bac_walk::ReplyFlaw;
-pub use bac_words::{
-    Addresses, Asked, Check, Discovery, Extent, Given, Group, Groups, Job, Keep, KeepOptions, Kept,
-    ListFault, LogListing, LogReading, Name, Names, Period, PropertyReading, PropertyWriting,
-    ServedDevice, Stations, Word, WordsFault, read_words,
-};
 pub use fault::Fault;
 pub use listing::listed_devices;
 pub use program::{run, run_read};

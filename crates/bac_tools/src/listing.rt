@@ -2,11 +2,11 @@
 
 ghost use Rattle.std.specs.Prelude.{◌≡◌, ◌+◌, ◌≤◌, length};
 ghost use Rattle.bac_tools.specs.Finding.{IsListWithin, IsTextWithin};
-ghost use Rattle.bac_words.specs.Devices.{devices_of};
-ghost use Rattle.bac_words.specs.Listing.{addresses_of};
+ghost use Rattle.bac_command_line.specs.Devices.{devices_of};
+ghost use Rattle.bac_command_line.specs.Listing.{addresses_of};
 
+use bac_command_line::{Addresses, Groups, ListFault, read_addresses, read_devices};
 use bac_script::{Ending, LIMIT, fill};
-use bac_words::{Addresses, Groups, ListFault, read_addresses, read_devices};
 use std::alloc::Global;
 use std::io::Read;
 

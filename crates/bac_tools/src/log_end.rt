@@ -8,13 +8,14 @@ use crate::fault::{Fault, walk_status};
 use crate::telling::say;
 use bac_query::Layout;
 use bac_walk::{ReplyFlaw, WalkFault, Why};
+use bac_wire::Address;
 use std::io::Write;
 
 /// The status of a run that ended at its step limit, where nothing printed says so.
 const MAY_BE_MORE: u8 = 8;
 
 /// The status of an end, or what there is to say of it.
-fn of_cause(address: [u8; 6], why: Why) -> Result<u8, Fault>
+fn of_cause(address: Address, why: Why) -> Result<u8, Fault>
     ensures { result ≡ of_cause address why }
 {
     match why {
@@ -26,7 +27,7 @@ fn of_cause(address: [u8; 6], why: Why) -> Result<u8, Fault>
 }
 
 /// The same, or what is wrong with the reply that it was.
-pub(crate) fn ending_of(address: [u8; 6], why: Why, flaw: Option<ReplyFlaw>) -> Result<u8, Fault>
+pub(crate) fn ending_of(address: Address, why: Why, flaw: Option<ReplyFlaw>) -> Result<u8, Fault>
     ensures { result ≡ of_why address why flaw }
 {
     match flaw {

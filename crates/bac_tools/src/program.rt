@@ -9,9 +9,9 @@ ghost use Rattle.bac_tools.specs.Run.{AnswersWords, AreWrong, AskFor, Explains, 
 ghost use Rattle.bac_tools.specs.Run.{Runs, RunsRead, Works, wrong_fault};
 ghost use Rattle.bac_ports.specs.Sockets.{socket_rules};
 ghost use Rattle.bac_tools.specs.Streams.{streams};
-ghost use Rattle.bac_words.specs.Outcome.{mistakes_of};
-ghost use Rattle.bac_words.specs.declared.job.Job.{Job as AnyJob};
-ghost use Rattle.bac_words.specs.declared.word.Word.{Word as AnyWord};
+ghost use Rattle.bac_command_line.specs.Outcome.{mistakes_of};
+ghost use Rattle.bac_command_line.specs.declared.job.Job.{Job as AnyJob};
+ghost use Rattle.bac_command_line.specs.declared.word.Word.{Word as AnyWord};
 
 use crate::as_said::{fetch_as_said, list_as_said, read_as_said, write_as_said};
 use crate::fault::Fault;
@@ -20,11 +20,11 @@ use crate::playing::replay;
 use crate::serving::serve;
 use crate::telling::{say, tell, tell_after};
 use crate::tips::with_true_tips;
-use bac_heeding::Heeds;
+use bac_command_line::{Job, WordsFault, read_words};
 use bac_ports::Sockets;
 use bac_print::{WriteRefused, write_text};
 use bac_serve::Clock;
-use bac_words::{Job, WordsFault, read_words};
+use bac_socket_notes::Heeds;
 use std::alloc::Global;
 use std::io::{Read, Write};
 

@@ -7,10 +7,10 @@ ghost use Rattle.bac_tools.specs.Reasons.{listed_badly, misfit_text, namesake_te
 ghost use Rattle.bac_tools.specs.Reasons.{place_text, reason_text, second_line, some_line};
 ghost use Rattle.bac_tools.specs.Reasons.{unanswered_text, unbuilt_line, wanted_text, word_flaw};
 
+use bac_command_line::ListFault;
 use bac_device::{BuildFault, LineId, Misfit};
 use bac_print::push_number;
 use bac_script::{Flaw, LineKind, Reason, UnfitLine, Wanted};
-use bac_words::ListFault;
 use std::alloc::AllocError;
 
 /// The words of a line.

@@ -17,6 +17,7 @@ use bac_script::{
     unfit_line,
 };
 use bac_serve::{Clock, idle_wait};
+use bac_wire::Address;
 use std::alloc::Global;
 use std::io::{Read, Write};
 
@@ -75,7 +76,7 @@ fn built(alloc: Global, configuration: &Configuration, text: Vec<u8>) -> Result<
 fn open_socket<S: Sockets, E: Write>(
     sockets: &mut S,
     alloc: Global,
-    address: [u8; 6],
+    address: Address,
     wait: u32,
     errors: &mut E,
 ) -> Result<S::Socket, Fault>
@@ -99,13 +100,18 @@ fn open_socket<S: Sockets, E: Write>(
     }
 }
 
-/// Is this device at an address, over a socket whose receives wait so long, until so many datagrams
-/// have come.
+/// Where a device is served: its address, and how many milliseconds a receive waits at most.
+#[derive(Clone, Copy)]
+struct Place {
+    address: Address,
+    wait: u32,
+}
+
+/// Is this device at a place, until so many datagrams have come.
 fn serve_at<S: Sockets, E: Write, C: Clock>(
     sockets: &mut S,
     alloc: Global,
-    address: [u8; 6],
-    wait: u32,
+    place: Place,
     count: u32,
     device: &mut Device,
     errors: &mut E,
@@ -113,11 +119,11 @@ fn serve_at<S: Sockets, E: Write, C: Clock>(
 ) -> Result<u8, Fault>
     ensures { IsServed
         (socket_rules S.opens S.closes S.Socket.sends S.Socket.receives S.Socket.receives_within)
-        C.tells (service device.old address wait count)
+        C.tells (service device.old place.address place.wait count)
         (streams None None (E.contents errors.old) sockets.old clock.old) result
         (streams None None (E.contents errors.new) sockets.new clock.new) }
 {
-    let mut port = open_socket(sockets, alloc, address, wait, errors)?;
+    let mut port = open_socket(sockets, alloc, place.address, place.wait, errors)?;
     let served = bac_serve::serve(&mut port, device, clock, count);
     sockets.close(port);
     match served {
@@ -130,7 +136,7 @@ fn serve_at<S: Sockets, E: Write, C: Clock>(
 pub(crate) fn serve<S: Sockets, I: Read, E: Write, C: Clock>(
     sockets: &mut S,
     alloc: Global,
-    address: [u8; 6],
+    address: Address,
     count: u32,
     input: &mut I,
     errors: &mut E,
@@ -146,14 +152,6 @@ pub(crate) fn serve<S: Sockets, I: Read, E: Write, C: Clock>(
     let (configuration, text) = read;
     let mut device = built(alloc, &configuration, text)?;
     let wait = idle_wait(&configuration.objects);
-    serve_at(
-        sockets,
-        alloc,
-        address,
-        wait,
-        count,
-        &mut device,
-        errors,
-        clock,
-    )
+    let place = Place { address, wait };
+    serve_at(sockets, alloc, place, count, &mut device, errors, clock)
 }

@@ -13,14 +13,15 @@ ghost use Rattle.bac_tools.specs.Texts.{unbuilt_text, word_text, wrong_text};
 use crate::fault::Fault;
 use crate::flaw::push_reply_flaw;
 use crate::reason::{push_list, push_second_line, push_unanswered};
+use bac_command_line::Word;
 use bac_device::BuildFault;
-use bac_heeding::{Passed, push_silence};
 use bac_link::{ExchangeFault, Refusal};
 use bac_ports::OpenFault;
 use bac_print::{push_address, push_number, write_text};
 use bac_query::{push_cause, push_refusal};
 use bac_script::{Refused, ReplayFault};
-use bac_words::Word;
+use bac_socket_notes::{Passed, push_silence};
+use bac_wire::Address;
 use std::alloc::{AllocError, Global};
 use std::io::Write;
 
@@ -140,7 +141,7 @@ fn push_of_address(
     text: &mut Vec<u8>,
     line: &str,
     said: &str,
-    address: [u8; 6],
+    address: Address,
 ) -> Result<(), AllocError>
     ensures { OnOk result
         (text.new.items ≡ text.old.items ++ of_address line.now said.now address) }
@@ -188,7 +189,7 @@ fn push_clock(text: &mut Vec<u8>) -> Result<(), AllocError>
 }
 
 /// Appends that the answer of an address didn't come, and what passed in its place.
-fn push_lost(text: &mut Vec<u8>, passed: Passed, address: [u8; 6]) -> Result<(), AllocError>
+fn push_lost(text: &mut Vec<u8>, passed: Passed, address: Address) -> Result<(), AllocError>
     ensures { OnOk result (text.new.items ≡ text.old.items ++ lost_text passed address) }
 {
     text.extend_from_slice(b"lost\n")?;
@@ -200,7 +201,7 @@ fn push_lost(text: &mut Vec<u8>, passed: Passed, address: [u8; 6]) -> Result<(),
 fn push_exchange(
     text: &mut Vec<u8>,
     passed: Passed,
-    address: [u8; 6],
+    address: Address,
     fault: ExchangeFault,
 ) -> Result<(), AllocError>
     ensures { OnOk result (text.new.items ≡ text.old.items ++ exchange_text passed address fault) }
@@ -281,7 +282,7 @@ fn text_of(alloc: Global, passed: Passed, fault: Fault) -> Result<Vec<u8>, Alloc
 
 /// The line that tells that a device is up at an address.
 #[tactic(auto, unfolding(crate::specs::Texts::serving_line))]
-pub(crate) fn announcement(alloc: Global, address: [u8; 6]) -> Result<Vec<u8>, AllocError>
+pub(crate) fn announcement(alloc: Global, address: Address) -> Result<Vec<u8>, AllocError>
     ensures { IfOk result (λ line. line.items ≡ serving_line address) }
 {
     let mut line = Vec::new(alloc);

@@ -1,7 +1,7 @@
 -- What `run` says of `bac log` with status 4: a bad reply came, and what is told is wrong with it.
 use Rattle.std.proofs.Common.{Bool, ◌≡◌, ◌∙◌, inl, inr, ℕ, List, Option, Ok, Err, refl, sym, ap, subst, arith}
-use Rattle.bac_heeding.specs.Notes.{nothing as never_asked}
-use Rattle.bac_heeding.specs.declared.notes.Passed.{Passed}
+use Rattle.bac_socket_notes.specs.Notes.{nothing as never_asked}
+use Rattle.bac_socket_notes.specs.declared.notes.Passed.{Passed}
 use Rattle.bac_link.specs.Path.{Path, towards}
 use Rattle.bac_print.specs.Output.{AppendsPart, Held}
 use Rattle.bac_query.specs.Flaws.{TellsFlawOf, log_place}
@@ -26,8 +26,8 @@ use Rattle.bac_walk.specs.declared.outcome.Why.TheVariants as why
 use Rattle.bac_walk.proofs.Told.{Asking}
 use Rattle.bac_wire.specs.Primitive.{Id}
 use Rattle.bac_wire.specs.Stamp.{CivilTime}
-use Rattle.bac_words.specs.declared.job.Asked.{Asked}
-use Rattle.bac_words.specs.declared.job.Job.TheVariants.{Log}
+use Rattle.bac_command_line.specs.declared.job.Asked.{Asked}
+use Rattle.bac_command_line.specs.declared.job.Job.TheVariants.{Log}
 
 -- ---- what has another status
 

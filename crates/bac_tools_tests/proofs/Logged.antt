@@ -2,8 +2,8 @@
 -- doesn't change, all of it; and whatever is refused, a front part of it.
 use Rattle.std.proofs.Common.{Bool, ◌≡◌, ◌⊎◌, ◌∙◌, inl, inr, ℕ, ◌+◌, ◌-◌, ◌<◌, ◌≤◌, max, List, [], ◌∷◌, ◌++◌, Option, Some, Result, Ok, Err, false, refl, sym, ap, subst, Bool, length, arith}
 use Rattle.std.specs.Io.KnownBytes.{Appends, Keeps}
-use Rattle.bac_heeding.specs.Notes.{nothing as never_asked}
-use Rattle.bac_heeding.specs.declared.notes.Passed.{Passed}
+use Rattle.bac_socket_notes.specs.Notes.{nothing as never_asked}
+use Rattle.bac_socket_notes.specs.declared.notes.Passed.{Passed}
 use Rattle.bac_walk.proofs.Transacted.{brought_plain}
 use Rattle.bac_tools.specs.Sockets.{transactions_with}
 use Rattle.bac_link.specs.declared.transactions.Transactions.{Transactions}
@@ -50,13 +50,13 @@ use Rattle.bac_walk.specs.Place.{WalkPlace}
 use Rattle.bac_walk.specs.declared.outcome.Ended.{Ended}
 use Rattle.bac_walk.specs.declared.outcome.Ended.TheVariants as ended
 use Rattle.bac_walk.specs.declared.outcome.WalkFault.TheVariants as walk
-use Rattle.bac_words.specs.declared.listing.ListFault.{ListFault}
-use Rattle.bac_words.specs.declared.listing.ListFault.TheVariants as list
+use Rattle.bac_command_line.specs.declared.listing.ListFault.{ListFault}
+use Rattle.bac_command_line.specs.declared.listing.ListFault.TheVariants as list
 use Rattle.bac_walk.specs.declared.outcome.Why.{Why}
 use Rattle.bac_walk.specs.declared.outcome.Why.TheVariants as why
 use Rattle.bac_wire.specs.Stamp.{CivilTime}
-use Rattle.bac_words.specs.declared.job.Asked.{Asked}
-use Rattle.bac_words.specs.declared.job.Job.TheVariants.{Log}
+use Rattle.bac_command_line.specs.declared.job.Asked.{Asked}
+use Rattle.bac_command_line.specs.declared.job.Job.TheVariants.{Log}
 
 -- no fault has status 0
 no_script : (fault : ReplayFault) → script_status fault ≡ 0 → ⊥

@@ -1,6 +1,6 @@
 -- What is fetched in lines: nothing stands before them.
 use Rattle.std.proofs.Common.{◌≡◌, ℕ, Bool, false, Option, Some, inl, inr, subst}
-use Rattle.bac_heeding.specs.declared.notes.Passed.{Passed}
+use Rattle.bac_socket_notes.specs.declared.notes.Passed.{Passed}
 use Rattle.bac_ports.specs.Sockets.{SocketRules}
 use Rattle.bac_ports.specs.declared.udp_link.UdpLink.{UdpLink}
 use Rattle.bac_print.specs.Output.{Held}
@@ -13,9 +13,9 @@ use Rattle.bac_tools.specs.Run.{Runs}
 use Rattle.bac_tools.specs.Streams.{Streams}
 use Rattle.bac_walk.specs.Place.{WalkPlace}
 use Rattle.bac_wire.specs.Stamp.{CivilTime}
-use Rattle.bac_words.specs.declared.job.Asked.{Asked}
-use Rattle.bac_words.specs.declared.job.Job.TheVariants.{Log}
-use Rattle.bac_words.specs.declared.job.LogReading.{LogReading}
+use Rattle.bac_command_line.specs.declared.job.Asked.{Asked}
+use Rattle.bac_command_line.specs.declared.job.Job.TheVariants.{Log}
+use Rattle.bac_command_line.specs.declared.job.LogReading.{LogReading}
 
 pub in_lines : {S P : Type 0} (rules : SocketRules S P) (asked : Asked) (walk : WalkPlace) (steps : ℕ) (link : UdpLink P)
     (fetching : Fetching) (left : UdpLink P) (old new : Held) → FetchesOver rules asked (errand Lines walk steps) (printing link old) fetching (printing left new) →

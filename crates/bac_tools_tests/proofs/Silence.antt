@@ -2,8 +2,8 @@
 -- fault only if a socket failed.
 use Rattle.std.proofs.Common.{Bool, ◌≡◌, ◌∙◌, inl, inr, lit<, ℕ, zero, suc, ◌+◌, ◌<◌, List, [], ◌∷◌, ◌++◌, Option, Some, None, Ok, Err, refl, sym, ap, subst, append-nil, arith}
 use Rattle.std.specs.Io.KnownBytes.{Keeps}
-use Rattle.bac_heeding.specs.Notes.{nothing as never_asked}
-use Rattle.bac_heeding.specs.declared.notes.Passed.{Passed}
+use Rattle.bac_socket_notes.specs.Notes.{nothing as never_asked}
+use Rattle.bac_socket_notes.specs.declared.notes.Passed.{Passed}
 use Rattle.bac_walk.proofs.Transacted.{brought_plain}
 use Rattle.bac_tools.specs.Sockets.{transactions_with}
 use Rattle.bac_link.specs.declared.transactions.Transactions.{Transactions}
@@ -56,11 +56,11 @@ use Rattle.bac_walk.specs.declared.outcome.WalkFault.TheVariants as walk
 use Rattle.bac_walk.specs.declared.outcome.Why.{Why}
 use Rattle.bac_walk.specs.declared.outcome.Why.TheVariants as why
 use Rattle.bac_wire.specs.Stamp.{CivilTime}
-use Rattle.bac_words.specs.declared.job.Asked.{Asked}
-use Rattle.bac_words.specs.declared.job.Job.TheVariants.{Log, Rp, Serve, Wp}
-use Rattle.bac_words.specs.declared.job.PropertyReading.{PropertyReading}
-use Rattle.bac_words.specs.declared.job.PropertyWriting.{PropertyWriting}
-use Rattle.bac_words.specs.declared.job.ServedDevice.{ServedDevice}
+use Rattle.bac_command_line.specs.declared.job.Asked.{Asked}
+use Rattle.bac_command_line.specs.declared.job.Job.TheVariants.{Log, Rp, Serve, Wp}
+use Rattle.bac_command_line.specs.declared.job.PropertyReading.{PropertyReading}
+use Rattle.bac_command_line.specs.declared.job.PropertyWriting.{PropertyWriting}
+use Rattle.bac_command_line.specs.declared.job.ServedDevice.{ServedDevice}
 
 -- ---- no answer over a silent socket
 

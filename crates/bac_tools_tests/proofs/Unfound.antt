@@ -1,8 +1,8 @@
 -- Where no datagram comes no device is found.
 use Rattle.std.proofs.Common.{◌≡◌, ◌∙◌, ℕ, Bool, true, false, List, [], ◌∷◌, Option, Some, None, Ok, Err, inl, inr, refl, sym, subst, append-nil, length}
 use Rattle.std.specs.Io.KnownBytes.{Appends, Keeps}
-use Rattle.bac_heeding.specs.Notes.{nothing as never_asked}
-use Rattle.bac_heeding.specs.declared.notes.Passed.{Passed}
+use Rattle.bac_socket_notes.specs.Notes.{nothing as never_asked}
+use Rattle.bac_socket_notes.specs.declared.notes.Passed.{Passed}
 use Rattle.bac_query.specs.Announcements.{Announcement}
 use Rattle.bac_query.specs.Finding.{Console, Finds, told_of}
 use Rattle.bac_query.specs.Hearing.{Found, Held, PortRules, port_rules}
@@ -20,9 +20,9 @@ use Rattle.bac_tools.specs.declared.fault.Fault.TheVariants as fault
 use Rattle.bac_tools_tests.proofs.Logged.{not_told}
 use Rattle.bac_tools_tests.specs.Silence.{IsSilent, IsSilentWithin}
 use Rattle.bac_wire.specs.Stamp.{CivilTime}
-use Rattle.bac_words.specs.declared.job.Discovery.{Discovery}
-use Rattle.bac_words.specs.declared.job.Job.TheVariants.{Wi}
-use Rattle.bac_words.specs.declared.job.Stations.TheVariants.{Listed}
+use Rattle.bac_command_line.specs.declared.job.Discovery.{Discovery}
+use Rattle.bac_command_line.specs.declared.job.Job.TheVariants.{Wi}
+use Rattle.bac_command_line.specs.declared.job.Stations.TheVariants.{Listed}
 
 -- what is done at a silent port brings nothing
 none_came : {P : Type 0} (rules : PortRules P) → IsSilent rules.receives → IsSilentWithin rules.receives_within → (octets : List ℕ)

@@ -26,7 +26,7 @@ use Rattle.bac_walk.specs.declared.flaw.ReplyFlaw.{ReplyFlaw}
 use Rattle.bac_walk.specs.declared.outcome.Ended.{Ended}
 use Rattle.bac_walk.specs.declared.outcome.Why.{Why}
 use Rattle.bac_walk.specs.declared.outcome.Why.TheVariants.{CaughtUp}
-use Rattle.bac_words.specs.declared.job.Asked.{Asked}
+use Rattle.bac_command_line.specs.declared.job.Asked.{Asked}
 
 -- over this socket replies came, one after the other, to this run of a walk
 abbrev pub CameOver : {S P : Type 0} → SocketRules S P → Asked → WalkPlace → P → List Came → Course → Type 0

@@ -16,9 +16,9 @@ use Rattle.bac_tools.specs.Streams.{Streams}
 use Rattle.bac_tools.specs.declared.fault.Fault.{Fault}
 use Rattle.bac_tools.specs.declared.fault.Fault.TheVariants.{Exchange, Unopened, Socket}
 use Rattle.bac_wire.specs.Stamp.{CivilTime}
-use Rattle.bac_words.specs.declared.job.Job.TheVariants.{Rp, Serve}
-use Rattle.bac_words.specs.declared.job.PropertyReading.{PropertyReading}
-use Rattle.bac_words.specs.declared.job.ServedDevice.{ServedDevice}
+use Rattle.bac_command_line.specs.declared.job.Job.TheVariants.{Rp, Serve}
+use Rattle.bac_command_line.specs.declared.job.PropertyReading.{PropertyReading}
+use Rattle.bac_command_line.specs.declared.job.ServedDevice.{ServedDevice}
 
 -- no datagram ever comes
 abbrev pub IsSilent : {P : Type 0} → (P → Receiving → P → Type 0) → Type 0

@@ -7,11 +7,12 @@ use crate::memory_port::{Coming, MemoryPort};
 use bac_apdu::WhoIs;
 use bac_ports::{Heard, Port, SocketFault};
 use bac_query::{FindFault, Search, find_devices};
+use bac_wire::Address;
 use std::alloc::Global;
 use std::io::{self, Write};
 
 /// 10.0.0.1:47808.
-const FIRST: [u8; 6] = [10, 0, 0, 1, 0xba, 0xc0];
+const FIRST: Address = [10, 0, 0, 1, 0xba, 0xc0];
 
 const ANY: Search = Search {
     network: None,
@@ -64,7 +65,7 @@ impl Port for Station {
 
     ghost receives_within = { λ old wait answer new. Unit {0} };
 
-    fn send(&mut self, _octets: &[u8], _to: [u8; 6]) -> Result<(), SocketFault> {
+    fn send(&mut self, _octets: &[u8], _to: Address) -> Result<(), SocketFault> {
         Ok(())
     }
 

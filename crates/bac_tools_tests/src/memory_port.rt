@@ -2,13 +2,13 @@
 
 use bac_ports::{Heard, Port, SocketFault};
 use bac_serve::Clock;
-use bac_wire::{Datagram, Stamp, write_octets};
+use bac_wire::{Address, Datagram, Stamp, write_octets};
 
 /// What a receive meets.
 #[derive(Clone, Copy)]
 pub enum Coming<'a> {
     /// These octets from this address.
-    From([u8; 6], &'a [u8]),
+    From(Address, &'a [u8]),
     /// Nothing in time.
     Nothing,
 }
@@ -20,7 +20,7 @@ pub struct MemoryPort<'a> {
     coming: &'a [Coming<'a>],
     pub received: usize,
     pub sent: Datagram,
-    pub to: [u8; 6],
+    pub to: Address,
     pub sends: u32,
 }
 
@@ -43,7 +43,7 @@ impl Port for MemoryPort<'_> {
 
     ghost receives_within = { λ old wait answer new. Unit {0} };
 
-    fn send(&mut self, octets: &[u8], to: [u8; 6]) -> Result<(), SocketFault> {
+    fn send(&mut self, octets: &[u8], to: Address) -> Result<(), SocketFault> {
         self.sends = self.sends.saturating_add(1);
         self.to = to;
         self.sent = Datagram::new();

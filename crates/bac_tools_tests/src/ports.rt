@@ -2,10 +2,11 @@
 //! one takes, and which it passes over, is in examples/check/asking.talk.
 
 use bac_ports::{Port, SocketFault, UdpPort};
+use bac_wire::Address;
 use std::process::Abort;
 
 /// Any free port of 127.0.0.1.
-const LOOPBACK: [u8; 6] = [127, 0, 0, 1, 0, 0];
+const LOOPBACK: Address = [127, 0, 0, 1, 0, 0];
 
 /// ReadProperty, invoke ID 1.
 const REQUEST: [u8; 17] = [
@@ -13,7 +14,7 @@ const REQUEST: [u8; 17] = [
 ];
 
 /// A socket of this machine, and its address.
-fn socket(rt: &(impl std::net::Net + Abort), timeout_ms: u32) -> (UdpPort, [u8; 6]) {
+fn socket(rt: &(impl std::net::Net + Abort), timeout_ms: u32) -> (UdpPort, Address) {
     let port = UdpPort::open(rt, LOOPBACK, timeout_ms).expect(rt, "a socket");
     let at = port.local().expect(rt, "an address");
     (port, at)
@@ -35,7 +36,7 @@ fn an_address_that_is_none_is_refused_and_the_socket_goes_on(rt: HostRuntime) {
 }
 
 /// The socket sends these octets to itself: how many of them are told, if they are.
-fn told(rt: &impl Abort, port: &mut UdpPort, at: [u8; 6], octets: &[u8]) -> Option<usize> {
+fn told(rt: &impl Abort, port: &mut UdpPort, at: Address, octets: &[u8]) -> Option<usize> {
     assert!(rt; port.send(octets, at).is_ok());
     match port.receive().expect(rt, "a datagram").datagram {
         Some(datagram) => Some(datagram.octets().len()),

@@ -6,12 +6,12 @@ use bac_link::Transactions;
 use bac_ports::{Port, UdpLink};
 use bac_query::{Layout, fetch_log_ahead};
 use bac_walk::{Walk, Why};
-use bac_wire::ObjectId;
+use bac_wire::{Address, ObjectId};
 use std::alloc::Global;
 use std::io::{self, Write};
 
 /// 10.0.0.1:47808.
-const DEVICE: [u8; 6] = [10, 0, 0, 1, 0xba, 0xc0];
+const DEVICE: Address = [10, 0, 0, 1, 0xba, 0xc0];
 
 /// Takes what it is given, and counts the writes.
 #[derive(Drop)]

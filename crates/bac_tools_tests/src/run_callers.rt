@@ -7,8 +7,8 @@ ghost use Rattle.bac_tools.specs.Run.{AskFor, walk_from};
 ghost use Rattle.bac_ports.specs.Sockets.{UsesSocket, own_address, socket_rules};
 ghost use Rattle.bac_query.specs.Finding.{console};
 ghost use Rattle.bac_tools_tests.specs.Logging.{IsCut, IsExplained, IsLogged, IsLoggedAtRest};
-ghost use Rattle.bac_words.specs.declared.job.Job.TheVariants.{Log};
-ghost use Rattle.bac_words.specs.declared.job.LogReading.{LogReading as AnyLogReading};
+ghost use Rattle.bac_command_line.specs.declared.job.Job.TheVariants.{Log};
+ghost use Rattle.bac_command_line.specs.declared.job.LogReading.{LogReading as AnyLogReading};
 
 use crate::streams::Short;
 use bac_tools::{Clock, Heeds, run};

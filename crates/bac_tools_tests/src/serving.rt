@@ -5,10 +5,10 @@ use crate::memory_port::{Coming, MemoryPort, MovingClock};
 use bac_device::{Device, DeviceLine, Name, ObjectLine};
 use bac_ports::SocketFault;
 use bac_serve::{serve, serve_one};
-use bac_wire::{ObjectId, Stamp};
+use bac_wire::{Address, ObjectId, Stamp};
 use std::alloc::Global;
 
-const CLIENT: [u8; 6] = [127, 0, 0, 1, 0xba, 0xc0];
+const CLIENT: Address = [127, 0, 0, 1, 0xba, 0xc0];
 
 /// Who-Is.
 const WHO_IS: [u8; 12] = [0x81, 0x0b, 0, 0x0c, 1, 0x20, 0xff, 0xff, 0, 0xff, 0x10, 8];

@@ -1,7 +1,7 @@
 //! Jobs that words come to: each tool with its defaults. What no tool takes, and the ends of each
 //! range, are in examples/check/words.rows; what is sent for words is in asking.talk.
 
-use bac_words::read_words;
+use bac_command_line::read_words;
 use std::alloc::{AllocError, Global};
 use std::fmt::Debug;
 use std::process::Abort;

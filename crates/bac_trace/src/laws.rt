@@ -1,6 +1,6 @@
 //! Laws of ports that tell. Each function does nothing: what it ensures is the law.
 
-ghost use Rattle.bac_heeding.specs.Laws.{AsksAreBelow};
+ghost use Rattle.bac_socket_notes.specs.Laws.{AsksAreBelow};
 
 use crate::ports::TracedPort;
 use bac_ports::Port;

@@ -5,13 +5,14 @@ ghost use Rattle.bac_trace.specs.Lines.{came_line, datagram_line, sent_line};
 
 use bac_ports::Heard;
 use bac_print::{push_address, push_hex};
+use bac_wire::Address;
 use std::alloc::{AllocError, Global};
 
 /// Appends a word, an address and octets, a line.
 fn push_datagram(
     text: &mut Vec<u8>,
     word: &[u8],
-    address: [u8; 6],
+    address: Address,
     octets: &[u8],
 ) -> Result<(), AllocError>
     ensures { OnOk result
@@ -25,7 +26,7 @@ fn push_datagram(
 }
 
 /// The line of a datagram that was sent to an address.
-pub(crate) fn sent_line(alloc: Global, octets: &[u8], to: [u8; 6]) -> Result<Vec<u8>, AllocError>
+pub(crate) fn sent_line(alloc: Global, octets: &[u8], to: Address) -> Result<Vec<u8>, AllocError>
     ensures { IfOk result (λ line. line.items ≡ sent_line octets.now to (Ok tt)) }
 {
     let mut line = Vec::new(alloc);
@@ -46,7 +47,7 @@ pub(crate) fn came_line(alloc: Global, heard: &Heard) -> Result<Vec<u8>, AllocEr
 }
 
 /// Appends the line of a datagram that came and was dropped.
-fn push_dropped(text: &mut Vec<u8>, from: [u8; 6]) -> Result<(), AllocError>
+fn push_dropped(text: &mut Vec<u8>, from: Address) -> Result<(), AllocError>
     ensures { OnOk result (text.new.items ≡ text.old.items ++ came_line from None) }
 {
     text.extend_from_slice(b"rx ")?;

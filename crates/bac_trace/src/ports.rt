@@ -7,6 +7,7 @@ ghost use Rattle.bac_trace.specs.Traces.{Tells, TellsOr, told};
 use crate::lines::{came_line, sent_line};
 use bac_ports::{Heard, Port, SocketFault};
 use bac_print::write_text;
+use bac_wire::Address;
 use std::alloc::{AllocError, Global};
 use std::io::Write;
 
@@ -52,7 +53,7 @@ impl<T: Write> Trace<T> {
     }
 
     /// Tells a datagram that was sent to an address.
-    fn tell_sent(&mut self, octets: &[u8], to: [u8; 6])
+    fn tell_sent(&mut self, octets: &[u8], to: Address)
         ensures { Tells (sent_line octets.now to (Ok tt))
             (told self.old.is_on (T.contents self.old.writer))
             (told self.new.is_on (T.contents self.new.writer)) }
@@ -109,7 +110,7 @@ impl<P: Port, T: Write> Port for TracedPort<P, T> {
         × Tells (received_line answer) (told old.trace.is_on (T.contents old.trace.writer))
         (told new.trace.is_on (T.contents new.trace.writer)) };
 
-    fn send(&mut self, octets: &[u8], to: [u8; 6]) -> Result<(), SocketFault> {
+    fn send(&mut self, octets: &[u8], to: Address) -> Result<(), SocketFault> {
         match self.port.send(octets, to) {
             Ok(()) => {
                 self.trace.tell_sent(octets, to);

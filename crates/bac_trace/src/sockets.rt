@@ -5,8 +5,9 @@ ghost use Rattle.bac_wire.specs.Chain.{result_map};
 
 use crate::ports::{Trace, TracedPort};
 use crate::writers::Writers;
-use bac_heeding::{Heeds, Passed};
 use bac_ports::{OpenFault, Sockets};
+use bac_socket_notes::{Heeds, Passed};
+use bac_wire::Address;
 use std::alloc::Global;
 
 /// Sockets that can be switched on to tell each datagram of the ports that they open.
@@ -56,7 +57,7 @@ impl<S: Sockets, W: Writers> Sockets for Traced<S, W> {
 
     fn open(
         &mut self,
-        local: [u8; 6],
+        local: Address,
         wait_ms: u32,
     ) -> Result<TracedPort<S::Socket, W::Writer>, OpenFault> {
         match self.sockets.open(local, wait_ms) {

@@ -28,9 +28,9 @@ use Rattle.bac_walk.specs.Takes.{Says}
 use Rattle.bac_link.specs.Heard as heard
 use Rattle.bac_walk.proofs.Bridge.{IsNearTo}
 use Rattle.bac_walk.proofs.OurReply.{says_in}
-use Rattle.bac_direct.specs.Ahead.{IsThere, LiesAhead, history_ahead, log_with, moment_of, moments_ahead, placed, placed_all}
-use Rattle.bac_direct.proofs.Ahead.{ahead_new}
-use Rattle.bac_direct.proofs.Replies.{back_to, log_answered, log_id_is, log_replied}
+use Rattle.bac_memory_link.specs.Ahead.{IsThere, LiesAhead, history_ahead, log_with, moment_of, moments_ahead, placed, placed_all}
+use Rattle.bac_memory_link.proofs.Ahead.{ahead_new}
+use Rattle.bac_memory_link.proofs.Replies.{back_to, log_answered, log_id_is, log_replied}
 use Rattle.bac_world.specs.Network.{heard_in}
 use Rattle.bac_world.proofs.Lasts.{InHistory, in_history}
 

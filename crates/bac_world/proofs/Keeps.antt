@@ -28,8 +28,8 @@ use Rattle.bac_walk.specs.Walks.{NextAct, Bring, Refuse, Ask, End, brought, verd
 use Rattle.bac_walk.specs.Walks as walks
 use Rattle.bac_walk.proofs.Asking.{asks_at, near_to, small_of}
 use Rattle.bac_apdu.specs.declared.service.extent.Extent.{Extent}
-use Rattle.bac_direct.specs.Ahead.{log_with, moment_of, placed, turn}
-use Rattle.bac_direct.specs.Events.{datagram_in}
+use Rattle.bac_memory_link.specs.Ahead.{log_with, moment_of, placed, turn}
+use Rattle.bac_memory_link.specs.Events.{datagram_in}
 use Rattle.bac_world.specs.declared.event.WorldEvent.{WorldEvent}
 use Rattle.bac_world.specs.declared.event.WorldEvent.TheVariants as event
 use Rattle.bac_world.specs.declared.packet.Packet.{Packet}

@@ -17,11 +17,11 @@ use Rattle.bac_link.specs.Transactions.{is_awaited}
 use Rattle.bac_link.specs.declared.transactions.Pending.{Pending}
 use Rattle.bac_link.specs.Heard.{AckParameters}
 use Rattle.bac_walk.specs.Walks.{NextAct, Bring, Refuse, Ask, End, verdict}
-use Rattle.bac_direct.specs.Ahead.{IsThere, log_with, logged_since, moment_of, placed, turn}
-use Rattle.bac_direct.specs.declared.event.LinkEvent.TheVariants as link
-use Rattle.bac_direct.proofs.Ahead.{log_is, gives_way}
-use Rattle.bac_direct.proofs.Events.{event_keeps, log_there, stays}
-use Rattle.bac_direct.proofs.Steps.{Gains, steps_gain}
+use Rattle.bac_memory_link.specs.Ahead.{IsThere, log_with, logged_since, moment_of, placed, turn}
+use Rattle.bac_memory_link.specs.declared.event.LinkEvent.TheVariants as link
+use Rattle.bac_memory_link.proofs.Ahead.{log_is, gives_way}
+use Rattle.bac_memory_link.proofs.Events.{event_keeps, log_there, stays}
+use Rattle.bac_memory_link.proofs.Steps.{Gains, steps_gain}
 use Rattle.bac_world.specs.declared.event.WorldEvent.{WorldEvent}
 use Rattle.bac_world.specs.declared.event.WorldEvent.TheVariants as event
 use Rattle.bac_world.specs.declared.packet.Packet.{Packet}

@@ -22,7 +22,7 @@ use Rattle.bac_link.specs.declared.transactions.Pending.{Pending}
 use Rattle.bac_link.specs.declared.transactions.Transactions.{Transactions}
 use Rattle.bac_walk.specs.Place.{WalkPlace}
 use Rattle.bac_walk.specs.Walks as walks
-use Rattle.bac_direct.specs.Events.{datagram_in}
+use Rattle.bac_memory_link.specs.Events.{datagram_in}
 use Rattle.bac_world.specs.declared.packet.Packet.{Packet}
 use Rattle.bac_world.specs.declared.packet.Side.{Side}
 use Rattle.bac_world.specs.declared.packet.Side.TheVariants.{Device, Client}

@@ -6,7 +6,7 @@ use Rattle.bac_device.specs.declared.reply.Reply.{Reply}
 use Rattle.bac_device.specs.Answer.{answer}
 use Rattle.bac_objects.specs.State.{State}
 use Rattle.bac_link.specs.Delivery.{History}
-use Rattle.bac_direct.specs.Events.{datagram_in}
+use Rattle.bac_memory_link.specs.Events.{datagram_in}
 use Rattle.bac_link.specs.Datagrams.{answer_in, apdu_in}
 use Rattle.bac_link.specs.Client.{sent_again}
 use Rattle.bac_link.specs.Transactions.{is_awaited}

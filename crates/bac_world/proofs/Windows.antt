@@ -10,7 +10,7 @@ use Rattle.bac_link.proofs.Delivers.{held_end, first_held}
 use Rattle.bac_walk.specs.Collects.{batches, start_of}
 use Rattle.bac_link.specs.Moments.{IsInWindow, AreInWindow}
 use Rattle.bac_walk.specs.Near.{IsNear}
-use Rattle.bac_direct.specs.Ahead.{log_with, moment_of, placed}
+use Rattle.bac_memory_link.specs.Ahead.{log_with, moment_of, placed}
 use Rattle.bac_world.specs.declared.event.WorldEvent.{WorldEvent}
 use Rattle.bac_world.specs.declared.event.WorldEvent.TheVariants as event
 use Rattle.bac_world.specs.declared.packet.Packet.{Packet}

@@ -9,7 +9,7 @@ use Rattle.bac_link.specs.declared.transactions.Pending.{Pending}
 use Rattle.bac_link.specs.Delivery.{History}
 use Rattle.bac_walk.specs.Collects.{start_of}
 use Rattle.bac_walk.specs.Place.{WalkPlace}
-use Rattle.bac_direct.specs.Ahead.{IsThere}
+use Rattle.bac_memory_link.specs.Ahead.{IsThere}
 use Rattle.bac_link.specs.Transactions.{is_awaited}
 use Rattle.bac_world.specs.declared.event.WorldEvent.{WorldEvent}
 use Rattle.bac_world.specs.declared.event.WorldEvent.TheVariants.{Deliver}

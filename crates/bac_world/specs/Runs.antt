@@ -21,8 +21,8 @@ use Rattle.bac_walk.specs.Place.{WalkPlace}
 use Rattle.bac_walk.specs.Walks as walks
 use Rattle.bac_wire.specs.Canon.{IsValid}
 use Rattle.bac_wire.specs.Primitive.{Object}
-use Rattle.bac_direct.specs.Ahead.{IsThere, log_with, logged_since, moment_of, placed, turn}
-use Rattle.bac_direct.specs.Events.{datagram_in}
+use Rattle.bac_memory_link.specs.Ahead.{IsThere, log_with, logged_since, moment_of, placed, turn}
+use Rattle.bac_memory_link.specs.Events.{datagram_in}
 use Rattle.bac_world.specs.declared.event.WorldEvent.{WorldEvent}
 use Rattle.bac_world.specs.declared.event.WorldEvent.TheVariants.{Ask, Deliver, Timeout, Sample, Advance, Handle}
 use Rattle.bac_world.specs.declared.packet.Packet.{Packet}

@@ -1,7 +1,7 @@
 -- Where the packets of a network come from: nothing is on it that neither its client nor its device put there.
 use Rattle.std.specs.Prelude.{◌≡◌, ◌⊎◌, ℕ, true, Some, List, [], ◌∷◌, ◌++◌, length, slice_get}
 use Rattle.bac_device.specs.Answer.{answer}
-use Rattle.bac_direct.specs.Events.{datagram_in}
+use Rattle.bac_memory_link.specs.Events.{datagram_in}
 use Rattle.bac_link.specs.declared.transactions.Pending.{Pending}
 use Rattle.bac_world.specs.declared.event.WorldEvent.{WorldEvent}
 use Rattle.bac_world.specs.declared.event.WorldEvent.TheVariants.{Deliver}

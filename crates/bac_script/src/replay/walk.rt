@@ -11,8 +11,8 @@ ghost use Rattle.bac_script.specs.Walk.{walk_text};
 
 use crate::script::line::WalkWords;
 use bac_device::Device;
-use bac_direct::DirectLink;
 use bac_link::{LogLink, Transactions};
+use bac_memory_link::DirectLink;
 use bac_query::{push_end, push_items};
 use bac_walk::{Outcome, Walk, Why, collect};
 use std::alloc::{AllocError, Global};

@@ -13,8 +13,8 @@ use Rattle.bac_link.specs.Delivery.{History, Moment}
 use Rattle.bac_walk.specs.Near.{IsNear}
 use Rattle.bac_walk.specs.Place.{WalkPlace}
 use Rattle.bac_walk.specs.Rests.{Misses, Rested, Rests, rest, rest_all}
-use Rattle.bac_direct.specs.Ahead.{IsAhead, Lacks, history_ahead, log_with, moment_of, placed, turn}
-use Rattle.bac_direct.proofs.Steps.{moment_same}
+use Rattle.bac_memory_link.specs.Ahead.{IsAhead, Lacks, history_ahead, log_with, moment_of, placed, turn}
+use Rattle.bac_memory_link.proofs.Steps.{moment_same}
 use Rattle.bac_client_tests.specs.Held.{held_from}
 use Rattle.bac_client_tests.proofs.Held.{enough, held_all, held_now, history_of}
 use Rattle.bac_client_tests.proofs.direct_callers.all_records_from.Goals as goal

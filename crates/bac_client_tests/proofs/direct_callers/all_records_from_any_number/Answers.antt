@@ -1,7 +1,7 @@
 use Rattle.std.proofs.Common.{◌≡◌, [], ◌∷◌, refl, sym, ap, subst, arith}
 use Rattle.bac_wire.specs.Primitive.{Id}
 use Rattle.bac_objects.specs.Sampling.{log_id}
-use Rattle.bac_direct.specs.Ahead.{IsAhead, history_ahead, log_with, moment_of, placed}
+use Rattle.bac_memory_link.specs.Ahead.{IsAhead, history_ahead, log_with, moment_of, placed}
 use Rattle.bac_client_tests.proofs.direct_callers.all_records_from_any_number.Goals as goal
 
 pub returns : goal.returns

@@ -3,7 +3,7 @@ use Rattle.bac_wire.specs.Primitive.{Id}
 use Rattle.bac_objects.specs.Sampling.{log_id}
 use Rattle.bac_link.specs.Delivery.{DeliversTo}
 use Rattle.bac_walk.specs.Place.{WalkPlace}
-use Rattle.bac_direct.specs.Ahead.{IsAhead, history_ahead, moments_ahead, placed_all}
+use Rattle.bac_memory_link.specs.Ahead.{IsAhead, history_ahead, moments_ahead, placed_all}
 use Rattle.bac_client_tests.proofs.direct_callers.records_from.Goals as goal
 
 pub returns-clause-delivers : goal.returns-clause-delivers

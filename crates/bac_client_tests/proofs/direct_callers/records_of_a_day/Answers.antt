@@ -3,9 +3,9 @@ use Rattle.bac_wire.specs.Primitive.{Id}
 use Rattle.bac_log.specs.TrendLog.{empty_log, sequence_number}
 use Rattle.bac_objects.specs.State.{State}
 use Rattle.bac_link.specs.Delivery.{DeliversTo, Moment}
-use Rattle.bac_direct.specs.Ahead.{IsThere, history_ahead, moments_ahead, placed_all}
-use Rattle.bac_direct.specs.declared.event.LinkEvent.{LinkEvent}
-use Rattle.bac_direct.specs.declared.event.LinkEvent.TheVariants.{Sample, Handle, Answer, Lose}
+use Rattle.bac_memory_link.specs.Ahead.{IsThere, history_ahead, moments_ahead, placed_all}
+use Rattle.bac_memory_link.specs.declared.event.LinkEvent.{LinkEvent}
+use Rattle.bac_memory_link.specs.declared.event.LinkEvent.TheVariants.{Sample, Handle, Answer, Lose}
 use Rattle.bac_client_tests.proofs.Day.{day_is}
 use Rattle.bac_link.specs.Moments.{AreInWindow}
 use Rattle.bac_client_tests.specs.Day.{day, day_moments, plant}

@@ -1,7 +1,7 @@
 use Rattle.std.proofs.Common.{◌≡◌, ap, sym, subst}
 use Rattle.bac_wire.specs.Primitive.{Id}
 use Rattle.bac_objects.specs.Sampling.{log_id}
-use Rattle.bac_direct.specs.Ahead.{IsAhead, history_ahead, moments_ahead, placed_all}
+use Rattle.bac_memory_link.specs.Ahead.{IsAhead, history_ahead, moments_ahead, placed_all}
 use Rattle.bac_client_tests.proofs.honest_callers.records_of_a_device.Goals as goal
 
 pub returns : goal.returns

@@ -1,5 +1,5 @@
 use Rattle.std.proofs.Common.{Option, Some, map, option_map, subst, sym}
-use Rattle.bac_places.specs.declared.place.Place.{Place}
+use Rattle.bac_row_ids.specs.declared.place.Place.{Place}
 use Rattle.bac_poll.specs.Turns.{turned}
 use Rattle.bac_device_poller.specs.Puts.{place_as, put_as}
 use Rattle.bac_device_poller.specs.Turns.{IsPlaced}

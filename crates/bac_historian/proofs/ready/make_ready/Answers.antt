@@ -2,7 +2,7 @@ use Rattle.std.proofs.Common.{◌≡◌, inl, inr, refl, rules, None}
 use Rattle.sqlite.specs.Held.{state}
 use Rattle.sqlite.proofs.StateLemmas.{survives_weaker}
 use Rattle.sqlite_wal.specs.Files.{image_at}
-use Rattle.bac_archive3.specs.Schema.{no_schema}
+use Rattle.bac_archive.specs.Schema.{no_schema}
 use Rattle.bac_files.proofs.FileGhosts.{file_ghosts}
 use Rattle.bac_keeping.proofs.Untouched.{has_some}
 use Rattle.bac_historian.proofs.Remains.{follows_one, on_ok_two}

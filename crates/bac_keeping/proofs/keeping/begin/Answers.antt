@@ -1,7 +1,7 @@
 use Rattle.std.proofs.Common.{ℕ, List, rules, subst, arith}
 use Rattle.sqlite.specs.Held.{state}
 use Rattle.sqlite.specs.State.{HasCleanDisk}
-use Rattle.bac_archive3.proofs.RowsLemmas.{because}
+use Rattle.bac_archive.proofs.RowsLemmas.{because}
 use Rattle.bac_plan.specs.declared.named.Named.{Named}
 use Rattle.bac_keeping.specs.Keeping.{IsTold}
 use Rattle.bac_keeping.specs.Parts.{HaltsNaming, HaltsOpening}

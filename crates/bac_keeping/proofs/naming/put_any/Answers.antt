@@ -1,7 +1,7 @@
 use Rattle.std.proofs.Common.{◌≡◌, [], sym, subst, ◌∙◌}
 use Rattle.sqlite.specs.Held.{state}
-use Rattle.bac_archive3.specs.Put.{IsPut}
-use Rattle.bac_archive3.proofs.PutLemmas.{put_nothing}
+use Rattle.bac_archive.specs.Put.{IsPut}
+use Rattle.bac_archive.proofs.PutLemmas.{put_nothing}
 use Rattle.bac_drive.proofs.Leaving.{is_none}
 use Rattle.bac_keeping.proofs.naming.put_any.Goals as goal
 

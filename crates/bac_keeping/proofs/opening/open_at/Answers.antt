@@ -2,7 +2,7 @@ use Rattle.std.proofs.Common.{◌≡◌, IsTrue, Result, Ok, Err, OnOk, OnErr, s
 use Rattle.std.proofs.lemmas.Result.{on_ok_weaker}
 use Rattle.sqlite.specs.Held.{state}
 use Rattle.sqlite.specs.State.{HasCleanDisk, State}
-use Rattle.bac_archive3.specs.declared.opening.Refused.{Refused}
+use Rattle.bac_archive.specs.declared.opening.Refused.{Refused}
 use Rattle.bac_drive.specs.Happens.{StaysSettled}
 use Rattle.bac_keeping.proofs.Opened.{opened_at, refused_as}
 use Rattle.bac_keeping.proofs.opening.open_at.Goals as goal

@@ -3,8 +3,8 @@ use Rattle.sqlite.specs.Effect.{Database}
 use Rattle.sqlite.specs.Held.{state}
 use Rattle.sqlite.specs.State.{HasCleanDisk}
 use Rattle.sqlite.proofs.StateLemmas.{survives_then}
-use Rattle.bac_archive3.proofs.RowsLemmas.{if_err}
-use Rattle.bac_archive3.specs.Schema.{no_schema}
+use Rattle.bac_archive.proofs.RowsLemmas.{if_err}
+use Rattle.bac_archive.specs.Schema.{no_schema}
 use Rattle.bac_keeping.specs.Stopping.{MayHaveStopped, StopsNothing}
 use Rattle.bac_keeping.proofs.Settled.{settled_behind, settled_left, settled_same}
 use Rattle.bac_keeping.proofs.Opened.{left_is}

@@ -1,8 +1,8 @@
 use Rattle.std.proofs.Common.{List, refl, subst}
 use Rattle.sqlite.specs.Held.{state}
 use Rattle.sqlite.specs.State.{HasCleanDisk}
-use Rattle.bac_archive3.specs.Put.{FailsToPut}
-use Rattle.bac_archive3.specs.declared.row.Put.{Put}
+use Rattle.bac_archive.specs.Put.{FailsToPut}
+use Rattle.bac_archive.specs.declared.row.Put.{Put}
 use Rattle.std.proofs.Common.{sym, ◌∙◌}
 use Rattle.bac_keeping.proofs.Untouched.{stopped_crash}
 use Rattle.bac_keeping.proofs.stopping.stop_told.Goals as goal

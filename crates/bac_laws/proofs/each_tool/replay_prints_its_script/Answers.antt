@@ -5,7 +5,7 @@ use Rattle.bac_laws.proofs.Played.{replay_leaves, replay_ran}
 use Rattle.bac_ports.specs.Sockets.{socket_rules}
 use Rattle.bac_run.specs.Setup.{setup}
 use Rattle.bac_site_poller.specs.SiteLaws.{site_acts}
-use Rattle.bac_words.specs.declared.job.Job.TheVariants as job
+use Rattle.bac_command_line.specs.declared.job.Job.TheVariants as job
 use Rattle.bac_laws.proofs.each_tool.replay_prints_its_script.Goals as goal
 
 pub returns-clause-prints : goal.returns-clause-prints

@@ -5,7 +5,7 @@ use Rattle.bac_laws.proofs.Jobs.{wp_ran}
 use Rattle.bac_ports.specs.Sockets.{socket_rules}
 use Rattle.bac_run.specs.Setup.{setup}
 use Rattle.bac_site_poller.specs.SiteLaws.{site_acts}
-use Rattle.bac_words.specs.declared.job.Job.TheVariants as job
+use Rattle.bac_command_line.specs.declared.job.Job.TheVariants as job
 use Rattle.bac_laws.proofs.each_tool.wp_writes_once.Goals as goal
 
 pub returns : goal.returns

@@ -4,7 +4,7 @@ use Rattle.bac_files.specs.Parts.{part_rules}
 use Rattle.bac_laws.proofs.Sent.{only_reads}
 use Rattle.bac_ports.specs.Sockets.{socket_rules}
 use Rattle.bac_run.specs.Setup.{setup}
-use Rattle.bac_words.specs.declared.job.Job.TheVariants as job
+use Rattle.bac_command_line.specs.declared.job.Job.TheVariants as job
 use Rattle.bac_laws.proofs.laws.keep_only_reads.Goals as goal
 
 pub returns : goal.returns

@@ -6,7 +6,7 @@ use Rattle.bac_laws.specs.Sends.{AreSwitched}
 use Rattle.bac_ports.specs.Sockets.{socket_rules}
 use Rattle.bac_run.specs.Setup.{setup}
 use Rattle.bac_site_poller.specs.SiteLaws.{site_acts}
-use Rattle.bac_words.specs.declared.job.Job.TheVariants as job
+use Rattle.bac_command_line.specs.declared.job.Job.TheVariants as job
 use Rattle.bac_laws.proofs.laws.log_prints_what_came.Goals as goal
 
 pub returns : goal.returns

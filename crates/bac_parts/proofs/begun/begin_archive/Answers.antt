@@ -2,7 +2,7 @@ use Rattle.std.proofs.Common.{◌≡◌, refl, rules}
 use Rattle.sqlite.proofs.StateLemmas.{survives_weaker}
 use Rattle.sqlite.specs.Held.{state}
 use Rattle.sqlite_wal.specs.Files.{image_at}
-use Rattle.bac_archive3.specs.Schema.{no_schema}
+use Rattle.bac_archive.specs.Schema.{no_schema}
 use Rattle.bac_files.proofs.FileGhosts.{file_ghosts}
 use Rattle.bac_parts.proofs.BegunLemmas.{begins_so, begun_as, had_nothing, if_err_so, on_ok_so}
 use Rattle.bac_parts.proofs.begun.begin_archive.Goals as goal

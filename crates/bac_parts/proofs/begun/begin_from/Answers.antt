@@ -1,8 +1,8 @@
 use Rattle.std.proofs.Common.{◌≡◌, None, OnOk, Option, subst, sym}
 use Rattle.sqlite.proofs.StateLemmas.{survives_weaker}
 use Rattle.sqlite.specs.Held.{state}
-use Rattle.bac_archive3.specs.Schema.{no_schema}
-use Rattle.bac_archive3.specs.declared.standing.Standing.{Standing}
+use Rattle.bac_archive.specs.Schema.{no_schema}
+use Rattle.bac_archive.specs.declared.standing.Standing.{Standing}
 use Rattle.bac_parts.proofs.ArchiveLemmas.{not_both}
 use Rattle.bac_parts.proofs.BegunLemmas.{on_ok_so, taken_as}
 use Rattle.bac_parts.specs.Begun.{BeginsAs}

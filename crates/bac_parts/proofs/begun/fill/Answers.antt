@@ -2,9 +2,9 @@ use Rattle.std.proofs.Common.{◌≡◌, ◌∙◌, inl, inr, List, ℕ, rules, 
 use Rattle.std.specs.String.{string_bytes}
 use Rattle.sqlite.proofs.StateLemmas.{survives_weaker}
 use Rattle.sqlite.specs.Held.{state}
-use Rattle.bac_archive3.specs.Follow.{puts_of}
-use Rattle.bac_archive3.specs.Making.{FailsToMake, IsMadeOf}
-use Rattle.bac_archive3.specs.declared.row.Put.{Put}
+use Rattle.bac_archive.specs.Follow.{puts_of}
+use Rattle.bac_archive.specs.Making.{FailsToMake, IsMadeOf}
+use Rattle.bac_archive.specs.declared.row.Put.{Put}
 use Rattle.bac_parts.proofs.BegunLemmas.{if_err_so, on_ok_so}
 use Rattle.bac_parts.proofs.begun.fill.Goals as goal
 

@@ -2,8 +2,8 @@ use Rattle.std.proofs.Common.{◌≡◌, ◌∙◌, inl, inr, refl, subst}
 use Rattle.sqlite.specs.Effect.{Database}
 use Rattle.sqlite.specs.Held.{state}
 use Rattle.sqlite.proofs.StateLemmas.{survives_then}
-use Rattle.bac_archive3.specs.Archive.{IsArchive}
-use Rattle.bac_archive3.specs.Stands.{StandsAs}
+use Rattle.bac_archive.specs.Archive.{IsArchive}
+use Rattle.bac_archive.specs.Stands.{StandsAs}
 use Rattle.bac_parts.proofs.ArchiveLemmas.{still_committed, unchanged_twice}
 use Rattle.bac_parts.proofs.begun.told_of.Goals as goal
 

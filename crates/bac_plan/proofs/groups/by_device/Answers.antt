@@ -1,7 +1,7 @@
 use Rattle.std.proofs.Common.{arith, ◌≡◌, List, Some, drop, length, slice_get, ap, ◌∙◌}
 use Rattle.std.specs.Option.{option_map}
 use Rattle.std.proofs.lemmas.List.{take_at}
-use Rattle.bac_archive3.specs.declared.row.LogRow.{LogRow}
+use Rattle.bac_archive.specs.declared.row.LogRow.{LogRow}
 use Rattle.bac_plan.specs.Logs.{with_log_of}
 use Rattle.bac_plan.proofs.Grouped.{one_more}
 use Rattle.bac_plan.proofs.groups.by_device.Goals as goal

@@ -3,7 +3,7 @@ use Rattle.std.specs.List.{AllZip, Contains, filter}
 use Rattle.std.proofs.IntoIterSteps.{All-taken}
 use Rattle.std.proofs.lemmas.Iterator.Adapters.{YieldsList-from_vec}
 use Rattle.std.proofs.lemmas.Iterator.Consumers.{YieldsList-turn}
-use Rattle.bac_archive3.specs.declared.row.DeviceRow.{DeviceRow}
+use Rattle.bac_archive.specs.declared.row.DeviceRow.{DeviceRow}
 use Rattle.bac_plan.specs.Devices.{is_polled}
 use Rattle.bac_plan.specs.Site.{IsSeatOf, IsSiteFault}
 use Rattle.bac_plan.proofs.SiteLemmas.{all_seated, is_there, one_seated, site_fault}

@@ -1,5 +1,5 @@
 use Rattle.std.proofs.Common.{map}
-use Rattle.bac_archive3.specs.declared.row.DeviceRow.{DeviceRow}
+use Rattle.bac_archive.specs.declared.row.DeviceRow.{DeviceRow}
 use Rattle.bac_device_poller.specs.Puts.{put_as}
 use Rattle.bac_device_poller.specs.Rows.{device_as}
 use Rattle.bac_plan.specs.Stopping.{device_stop}

@@ -2,7 +2,7 @@ use Rattle.std.proofs.Common.{inl, inr, map, refl, subst}
 use Rattle.std.specs.Io.KnownBytes.{Appends}
 use Rattle.std.specs.String.{string_bytes}
 use Rattle.bac_files.specs.Parts.{part_rules}
-use Rattle.bac_kept3.specs.Csv.{names_text}
+use Rattle.bac_kept.specs.Csv.{names_text}
 use Rattle.bac_parts.specs.Visits.{ReadsOn, at_visit}
 use Rattle.bac_print.specs.Output.{AppendsPart}
 use Rattle.bac_reading.specs.Kept.{printing}

@@ -1,5 +1,5 @@
 use Rattle.std.proofs.Common.{◌≡◌, drop, map}
-use Rattle.bac_archive3.specs.Put.{item_columns}
+use Rattle.bac_archive.specs.Put.{item_columns}
 use Rattle.bac_resume.specs.Stands.{newest_record}
 use Rattle.bac_resume.proofs.items.newest_record.Given as goal
 

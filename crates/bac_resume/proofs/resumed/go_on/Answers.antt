@@ -1,7 +1,7 @@
 use Rattle.std.proofs.Common.{List, map, refl, sym, ap, subst, ◌∙◌}
 use Rattle.std.specs.Option.{option_map}
 use Rattle.sqlite_value.specs.Order.{Row as Values}
-use Rattle.bac_archive3.specs.Put.{beginning_columns, item_columns, log_columns}
+use Rattle.bac_archive.specs.Put.{beginning_columns, item_columns, log_columns}
 use Rattle.bac_poll.specs.State.{standing_as}
 use Rattle.bac_resume.specs.Resumed.{IsPlaceOf, SaysOf}
 use Rattle.bac_resume.specs.Rows.{LogTold}

@@ -2,7 +2,7 @@ use Rattle.std.proofs.Common.{arith, ◌≡◌, ◌∷◌, [], List, Some, drop,
 use Rattle.std.specs.Option.{option_map}
 use Rattle.std.proofs.lemmas.List.{map-append, take_at}
 use Rattle.sqlite_value.specs.Order.{Row as Values}
-use Rattle.bac_archive3.specs.Put.{beginning_columns, item_columns}
+use Rattle.bac_archive.specs.Put.{beginning_columns, item_columns}
 use Rattle.bac_resume.specs.Met.{began_at, with_item_at}
 use Rattle.bac_resume.specs.Rows.{LogTold, told_of}
 use Rattle.bac_resume.proofs.Rowed.{began_more, begun_of, item_more}

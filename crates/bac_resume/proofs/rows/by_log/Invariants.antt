@@ -1,5 +1,5 @@
 use Rattle.std.proofs.Common.{◌≡◌, ℕ, ◌<◌, Some, map, slice_get}
-use Rattle.bac_archive3.specs.Put.{beginning_columns, item_columns}
+use Rattle.bac_archive.specs.Put.{beginning_columns, item_columns}
 use Rattle.bac_resume.specs.Rows.{told_of}
 use Rattle.bac_resume.proofs.Rowed.{begun_of}
 use Rattle.bac_resume.proofs.rows.by_log.Given as goal

@@ -6,8 +6,8 @@ use Rattle.bac_run.proofs.Ran.{keeps_over}
 use Rattle.bac_run.specs.Setup.{setup}
 use Rattle.bac_site_poller.specs.SiteLaws.{site_acts}
 use Rattle.bac_tools.specs.Finding.{IsListWithin}
-use Rattle.bac_words.specs.Devices.{devices_of}
-use Rattle.bac_words.specs.Jobs.{reads_input, with_groups}
+use Rattle.bac_command_line.specs.Devices.{devices_of}
+use Rattle.bac_command_line.specs.Jobs.{reads_input, with_groups}
 use Rattle.bac_run.proofs.keeping.keep_job.Goals as goal
 
 pub returns-in-Ok-clause-ran : goal.returns-in-Ok-clause-ran

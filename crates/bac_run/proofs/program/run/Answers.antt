@@ -10,7 +10,7 @@ use Rattle.bac_run.proofs.Ran.{job_done, told_beside, unread}
 use Rattle.bac_run.specs.Setup.{setup}
 use Rattle.bac_tools.proofs.Told.{explained_of, never_both, wrong_of}
 use Rattle.bac_tools.specs.Streams.{streams}
-use Rattle.bac_words.specs.Outcome.{job_in}
+use Rattle.bac_command_line.specs.Outcome.{job_in}
 use Rattle.bac_run.proofs.program.run.Goals as goal
 
 pub returns-in-Ok-clause-done : goal.returns-in-Ok-clause-done

@@ -4,7 +4,7 @@ use Rattle.bac_files.specs.Parts.{part_rules}
 use Rattle.bac_ports.specs.Sockets.{socket_rules}
 use Rattle.bac_run.specs.Setup.{setup}
 use Rattle.bac_run_tests.proofs.Jobs.{all_kept}
-use Rattle.bac_words.specs.declared.job.Job.TheVariants as job
+use Rattle.bac_command_line.specs.declared.job.Job.TheVariants as job
 use Rattle.bac_run_tests.proofs.callers.keep_until_done.Goals as goal
 
 pub returns : goal.returns

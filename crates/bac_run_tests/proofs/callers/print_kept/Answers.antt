@@ -5,7 +5,7 @@ use Rattle.bac_ports.specs.Sockets.{socket_rules}
 use Rattle.bac_run.specs.Setup.{setup}
 use Rattle.bac_run_tests.proofs.Jobs.{kept_apart, kept_untold}
 use Rattle.bac_site_poller.specs.SiteLaws.{site_acts}
-use Rattle.bac_words.specs.declared.job.Job.TheVariants as job
+use Rattle.bac_command_line.specs.declared.job.Job.TheVariants as job
 use Rattle.bac_run_tests.proofs.callers.print_kept.Goals as goal
 
 pub returns-clause-apart : goal.returns-clause-apart

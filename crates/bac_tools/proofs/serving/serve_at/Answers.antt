@@ -10,7 +10,7 @@ returns-in_err-port g c =
     let p = err_from_is_err_and c.from_residual.result c.from_residual.ensures.1 in
     let down = c.in_err-port.ensures.err in
     unserved (socket_rules g.S.Sockets.opens g.S.Sockets.closes g.S.Socket.Port.sends g.S.Socket.Port.receives
-    g.S.Socket.Port.receives_within) g.C.Clock.tells c.args.address c.args.wait c.args.count c.args.device.now
+    g.S.Socket.Port.receives_within) g.C.Clock.tells c.args.place.address c.args.place.wait c.args.count c.args.device.now
     (streams None None _ _ _) (streams None None _ _ _)
     c.from_residual.result c.in_err-port.field-0.0 (rw (p.1, p.2) refl) (ap g.E.Write.contents down.0) refl down.1
 

@@ -3,8 +3,8 @@ use Rattle.bac_ports.specs.Sockets.{socket_rules}
 use Rattle.bac_tools.specs.Streams.{streams}
 use Rattle.bac_tools.specs.Run.{Runs}
 use Rattle.bac_tools_tests.proofs.Unfound.{no_wi}
-use Rattle.bac_words.specs.declared.job.Job.TheVariants.{Wi}
-use Rattle.bac_words.specs.declared.job.Stations.{Stations}
+use Rattle.bac_command_line.specs.declared.job.Job.TheVariants.{Wi}
+use Rattle.bac_command_line.specs.declared.job.Stations.{Stations}
 use Rattle.bac_tools_tests.proofs.silence_callers.no_device_made_up.Goals as goal
 
 pub returns : goal.returns

@@ -1,4 +1,4 @@
-use Rattle.bac_heeding.proofs.Below.{asks_below}
+use Rattle.bac_socket_notes.proofs.Below.{asks_below}
 use Rattle.bac_trace.proofs.laws.asks_are_below.Goals as goal
 
 pub returns : goal.returns

@@ -1,7 +1,7 @@
 use Rattle.std.proofs.Common.{◌≡◌, ◌⊎◌, ◌∙◌, List, Some, ap, inl, inr, refl, true, false, rules}
-use Rattle.bac_check3.specs.Lines.{check_text, has_all}
-use Rattle.bac_check3.specs.declared.checking.Unprinted.{Unprinted}
-use Rattle.bac_check3.specs.declared.checking.Unprinted.TheVariants as unprinted
+use Rattle.bac_check.specs.Lines.{check_text, has_all}
+use Rattle.bac_check.specs.declared.checking.Unprinted.{Unprinted}
+use Rattle.bac_check.specs.declared.checking.Unprinted.TheVariants as unprinted
 use Rattle.bac_print.specs.Output.{AppendsPart, Held}
 use Rattle.bac_reading.specs.Checking.{FinishesCheck}
 use Rattle.bac_reading.specs.Fault.{of_unprinted}

@@ -2,9 +2,9 @@ use Rattle.std.proofs.Common.{◌||◌, Err, ap, false, refl, sym, subst}
 use Rattle.std.proofs.KnownBytes.{Appends-trans}
 use Rattle.sqlite.specs.Held.{state}
 use Rattle.bac_files.specs.Parts.{reading}
-use Rattle.bac_kept3.proofs.RowsLemmas.{behind_first}
-use Rattle.bac_kept3.specs.Csv.{names_text}
-use Rattle.bac_kept3.specs.Faults.{FailsToPrint}
+use Rattle.bac_kept.proofs.RowsLemmas.{behind_first}
+use Rattle.bac_kept.specs.Csv.{names_text}
+use Rattle.bac_kept.specs.Faults.{FailsToPrint}
 use Rattle.bac_reading.proofs.KeptLemmas.{names_less, unprinted, unwritten}
 use Rattle.bac_reading.specs.Kept.{PrintsTaken}
 use Rattle.bac_reading.specs.declared.kept.Printer.{Printer}

@@ -2,10 +2,10 @@ use Rattle.std.proofs.Common.{◌≡◌, ap, inr, refl, subst, sym}
 use Rattle.std.specs.List.{list_any}
 use Rattle.sqlite.specs.Effect.{Database}
 use Rattle.sqlite.specs.Held.{state}
-use Rattle.bac_archive3.specs.Schema.{HasArchive}
-use Rattle.bac_kept3.proofs.PartsLemmas.{now_at}
-use Rattle.bac_kept3.specs.Lasts.{FailsOnOne, HasLookedFor, LooksForEach, is_sought, last_logs}
-use Rattle.bac_kept3.specs.declared.words.Words.{Words}
+use Rattle.bac_archive.specs.Schema.{HasArchive}
+use Rattle.bac_kept.proofs.PartsLemmas.{now_at}
+use Rattle.bac_kept.specs.Lasts.{FailsOnOne, HasLookedFor, LooksForEach, is_sought, last_logs}
+use Rattle.bac_kept.specs.declared.words.Words.{Words}
 use Rattle.bac_reading.proofs.SeekLemmas.{fails_so}
 use Rattle.bac_reading.specs.Last.{FailsToLook}
 use Rattle.bac_reading.proofs.last.Seeker.seek_taken.Goals as goal

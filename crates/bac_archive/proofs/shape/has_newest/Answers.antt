@@ -1,0 +1,4 @@
+use Rattle.bac_archive.proofs.shape.has_newest.Goals as goal
+
+pub returns : goal.returns
+returns c = rw c.as_bytes.ensures.value at c.has_view.ensures

@@ -1,5 +1,0 @@
-use Rattle.bac_archive3.proofs.PartLemmas.{part_is_archive}
-use Rattle.bac_archive3.proofs.following.part_is_archive.Goals as goal
-
-pub returns : goal.returns
-returns c = part_is_archive

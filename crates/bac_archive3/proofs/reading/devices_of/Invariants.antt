@@ -1,7 +1,0 @@
-use Rattle.std.proofs.Common.{◌≡◌, map, take}
-use Rattle.bac_archive3.specs.Ask.{first}
-use Rattle.bac_archive3.specs.Put.{device_columns}
-use Rattle.bac_archive3.proofs.reading.devices_of.Given as goal
-
-abbrev pub invariant-loop-row : goal.invariant-loop-row
-invariant-loop-row l = map device_columns l.all.items ≡ map (first 11) (take l.row-index l.rows)

@@ -1,7 +1,0 @@
-use Rattle.std.proofs.Common.{◌≡◌, map, take}
-use Rattle.bac_archive3.specs.Ask.{first}
-use Rattle.bac_archive3.specs.Put.{log_columns}
-use Rattle.bac_archive3.proofs.reading.logs_of.Given as goal
-
-abbrev pub invariant-loop-row : goal.invariant-loop-row
-invariant-loop-row l = map log_columns l.all.items ≡ map (first 10) (take l.row-index l.rows)

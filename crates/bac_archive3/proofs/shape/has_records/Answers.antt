@@ -1,4 +1,0 @@
-use Rattle.bac_archive3.proofs.shape.has_records.Goals as goal
-
-pub returns : goal.returns
-returns c = rw c.as_bytes.ensures.value at c.has_view.ensures

@@ -1,5 +1,0 @@
-use Rattle.bac_check3.proofs.TallyLemmas.{holes_are}
-use Rattle.bac_check3.proofs.laws.holes_are_missing.Goals as goal
-
-pub returns : goal.returns
-returns c = holes_are

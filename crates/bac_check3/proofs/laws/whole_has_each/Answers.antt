@@ -1,5 +1,0 @@
-use Rattle.bac_check3.proofs.WholeLemmas.{whole_has_each}
-use Rattle.bac_check3.proofs.laws.whole_has_each.Goals as goal
-
-pub returns : goal.returns
-returns c = whole_has_each

@@ -1,5 +1,0 @@
-use Rattle.bac_check3.proofs.TallyLemmas.{all_counted}
-use Rattle.bac_check3.proofs.tally.all_are_counted.Goals as goal
-
-pub returns : goal.returns
-returns c = all_counted

@@ -1,5 +1,0 @@
-use Rattle.bac_heeding.proofs.Lost.{lost_strays}
-use Rattle.bac_heeding.proofs.laws.lost_has_strays.Goals as goal
-
-pub returns : goal.returns
-returns g c = lost_strays _ _ _

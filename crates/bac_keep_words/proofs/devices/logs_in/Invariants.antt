@@ -1,8 +1,0 @@
-use Rattle.std.proofs.Common.{◌≡◌, drop}
-use Rattle.bac_keep_words.specs.Devices.{logs_in}
-use Rattle.bac_keep_words.proofs.Gathering.{ahead}
-use Rattle.bac_keep_words.proofs.devices.logs_in.Given as goal
-
-abbrev pub invariant-loop-text : goal.invariant-loop-text
-invariant-loop-text l =
-    logs_in l.options l.group l.texts ≡ ahead l.instances.items (logs_in l.options l.group (drop l.text-index l.texts))

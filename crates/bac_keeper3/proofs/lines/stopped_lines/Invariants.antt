@@ -1,6 +1,0 @@
-use Rattle.std.proofs.Common.{◌≡◌, flat_map, take}
-use Rattle.bac_keeper3.specs.Lines.{stopped_line}
-use Rattle.bac_keeper3.proofs.lines.stopped_lines.Given as goal
-
-abbrev pub invariant-loop-row : goal.invariant-loop-row
-invariant-loop-row l = l.text.items ≡ flat_map (stopped_line l.devices) (take l.row-index l.rows)

@@ -1,6 +1,0 @@
-use Rattle.std.proofs.Common.{◌≡◌, drop}
-use Rattle.bac_kept3.specs.Lasts.{found_of}
-use Rattle.bac_kept3.proofs.lasts.found_of.Given as goal
-
-abbrev pub invariant-loop-one : goal.invariant-loop-one
-invariant-loop-one l = found_of (drop l.one-index l.found) l.log ≡ found_of l.found l.log

@@ -1,9 +1,0 @@
-use Rattle.std.proofs.Common.{◌≡◌, drop, map}
-use Rattle.std.specs.List.{list_any}
-use Rattle.bac_kept3.specs.Lasts.{is_sought}
-use Rattle.bac_kept3.specs.Shown.{told_of}
-use Rattle.bac_kept3.proofs.lasts.is_any_sought.Given as goal
-
-abbrev pub invariant-loop-shown : goal.invariant-loop-shown
-invariant-loop-shown l =
-    list_any (is_sought l.found) (map told_of (drop l.shown-index l.logs)) ≡ list_any (is_sought l.found) (map told_of l.logs)

@@ -1,6 +1,0 @@
-use Rattle.std.proofs.Common.{◌≡◌, drop}
-use Rattle.bac_kept3.specs.Shown.{device_with}
-use Rattle.bac_kept3.proofs.shown.device_with.Given as goal
-
-abbrev pub invariant-loop-device : goal.invariant-loop-device
-invariant-loop-device l = device_with (drop l.device-index l.devices) l.id ≡ device_with l.devices l.id

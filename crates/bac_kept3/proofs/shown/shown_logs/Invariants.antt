@@ -1,6 +1,0 @@
-use Rattle.std.proofs.Common.{◌≡◌, filter_map, map, take}
-use Rattle.bac_kept3.specs.Shown.{shown_of, told_of}
-use Rattle.bac_kept3.proofs.shown.shown_logs.Given as goal
-
-abbrev pub invariant-loop-log : goal.invariant-loop-log
-invariant-loop-log l = map told_of l.all.items ≡ filter_map (shown_of l.known l.choice) (take l.log-index l.known.logs.items)

@@ -1,6 +1,0 @@
-use Rattle.std.proofs.Common.{◌≡◌, option_copied, take}
-use Rattle.bac_kept3.specs.Silence.{last_answer}
-use Rattle.bac_kept3.proofs.silence.last_answer.Given as goal
-
-abbrev pub invariant-loop-device : goal.invariant-loop-device
-invariant-loop-device l = option_copied l.last ≡ last_answer (take l.device-index l.devices)

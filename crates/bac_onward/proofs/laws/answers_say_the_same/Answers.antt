@@ -1,5 +1,0 @@
-use Rattle.bac_onward.proofs.Moved.{says_the_same}
-use Rattle.bac_onward.proofs.laws.answers_say_the_same.Goals as goal
-
-pub returns : goal.returns
-returns c = says_the_same

@@ -1,5 +1,0 @@
-use Rattle.bac_onward.proofs.Moved.{question_moved}
-use Rattle.bac_onward.proofs.laws.questions_stay.Goals as goal
-
-pub returns : goal.returns
-returns c = λ path r id shift ways here fits lt. question_moved path r id shift ways here fits

@@ -1,5 +1,0 @@
-use Rattle.bac_onward.proofs.Several.{several_go_on}
-use Rattle.bac_onward.proofs.laws.several_go_on.Goals as goal
-
-pub returns : goal.returns
-returns c = several_go_on

@@ -1,6 +1,0 @@
-use Rattle.std.proofs.Common.{◌≡◌, drop}
-use Rattle.bac_words.specs.Dates.{is_front}
-use Rattle.bac_words.proofs.dates.is_front.Given as goal
-
-abbrev pub invariant-loop-octet : goal.invariant-loop-octet
-invariant-loop-octet l = is_front l.form l.text ≡ is_front l.rest (drop l.octet-index l.text)

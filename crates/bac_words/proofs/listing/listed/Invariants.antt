@@ -1,8 +1,0 @@
-use Rattle.std.proofs.Common.{◌≡◌, ◌+◌, [], map, drop}
-use Rattle.bac_words.specs.Listing.{listed}
-use Rattle.bac_words.proofs.listing.listed.Given as goal
-
-abbrev pub invariant-loop-line : goal.invariant-loop-line
-invariant-loop-line l =
-    (listed [] 1 (map (λ line. line.now) l.lines) ≡ listed l.list.items l.number (map (λ line. line.now) (drop l.line-index l.lines)))
-    × (l.number ≡ l.line-index + 1)

@@ -1,8 +1,0 @@
-use Rattle.std.proofs.Common.{◌≡◌, map, drop}
-use Rattle.bac_words.specs.Rows.{addresses_in}
-use Rattle.bac_words.proofs.Gathering.{ahead}
-use Rattle.bac_words.proofs.rows.addresses_in.Given as goal
-
-abbrev pub invariant-loop-text : goal.invariant-loop-text
-invariant-loop-text l =
-    addresses_in (map (λ text. text.now) l.texts) ≡ ahead l.list.items (addresses_in (map (λ text. text.now) (drop l.text-index l.texts)))
