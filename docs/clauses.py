@@ -1,6 +1,6 @@
 #!/usr/bin/env python3
-"""Writes CLAUSES.md: of each crate the laws and the public calls, with the first sentence of each doc comment, the
-names of its clauses and the definitions that these cite; and behind them the names of the crate's own definitions.
+"""Writes CLAUSES.md: of each crate the laws; and in the crates that the doors stand on the public calls that have clauses with
+names, and of a law that PROMISES.md doesn't name the first sentence of its doc comment.
 
     clauses.py            write the page
     clauses.py --check    fail if the page isn't the one that would be written
@@ -8,31 +8,27 @@ names of its clauses and the definitions that these cite; and behind them the na
 
 A call or a law is a `pub fn`, a function of a `pub trait`, or one with clauses of its own in an implementation of a
 trait, if the crate gives its name to others. A law is a function that takes and gives nothing, or stands in a file of
-laws. What a definition is called in a file of src/, and where it is from, is told by that file's lines `ghost use`."""
-import functools
+laws."""
 import pathlib
 import re
 import sys
 
 TOP = pathlib.Path(__file__).resolve().parent.parent
-PAGE = TOP / "docs" / "CLAUSES.md"
+PAGE, PROMISES = TOP / "docs" / "CLAUSES.md", TOP / "docs" / "PROMISES.md"
 CRATES = TOP / "crates"
+# What a caller of the libraries names: with all that it stands on, its laws have their sentences here.
+DOORS, PROGRAM = ("bac_client", "bac_device", "bac_archive"), "bac_run"
 # Crates of tests, of which nothing is promised; programs have no lib.rt.
 TESTS = re.compile(r".*_tests$|bac_scripted_link$")
 
-HEAD = """# The laws and the calls, crate by crate
+HEAD = """# Laws and calls, crate by crate
 
-Made by `docs/clauses.py` of the comments and contracts in the sources; `docs/clauses.py --check` tells whether it
-still is what they say. [PROMISES](PROMISES.md) has what a user needs of it, in order; [READING](READING.md) tells how a
-clause and a definition are read. Programs and crates of tests are left out.
-
-A row is a law or a public call: its name, which leads to its file, the first sentence of its comment, the names of its
-clauses (none where it has one alone, without a name) and the definitions that these cite, each of which leads to its
-file, and is shown with its crate where that is another. A law does nothing: what it ensures holds. Behind the rows of
-a crate stand all its own definitions, file by file, with what that file says to read first.
-
-In `found`, what is read is encoded so; in `only`, what is encoded so is read; `exact` says both as a function, which
-also tells the first fault. `ok`, `err` and the names of faults say when a call answers so.
+Made by `docs/clauses.py` of the comments and contracts in the sources. [PROMISES](PROMISES.md) has what a user needs, in order,
+and says what most of the laws do that have no sentence here; the comments of the others stand above them. A law does nothing:
+what it ensures holds. Behind *Calls* stand the public calls, of the crates that the doors `bac_client`, `bac_device` and
+`bac_archive` reach and of the program, whose contract has clauses with names, and these: `found` says that what is read is
+encoded so, `only` that what is encoded so is read, `exact` both as a function, which also tells the first fault; `ok`, `err` and
+the names of faults when a call answers so.
 """
 
 
@@ -73,39 +69,11 @@ def first_sentence(words):
     return re.sub(r"\[(`[^`]*`)\](?:\([^)]*\))?", r"\1", found[1] if found else words).strip()
 
 
-def uses(text, keyword):
-    """The names that the lines with a keyword bring into a file: each with its crate, its file and its name there."""
-    for path, listed in re.findall(rf"^\s*{keyword} Rattle\.(bac\w*\.specs[\w.]*?)\.\{{([^}}]*)\}}", text, re.M | re.S):
-        crate, _, rest = path.partition(".specs")
-        if rest.startswith(".declared"):
-            continue
-        for name in listed.split(","):
-            own, _, here = name.strip().partition(" as ")
-            if own:
-                yield here or own, (crate, CRATES / crate / "specs" / f"{rest.strip('.').replace('.', '/')}.antt", own)
-
-
-@functools.cache
-def passed_on(file):
-    """What a file of specs/ has of others and gives on."""
-    return dict(uses(file.read_text(), "(?:unfoldable )?pub use")) if file.exists() else {}
-
-
-def imported(text):
-    """Of each name that a file's lines `ghost use` bring in: its crate, the file that defines it, its name there."""
-    names = dict(uses(text, "ghost use"))
-    for here, (crate, file, own) in names.items():
-        while own in passed_on(file):
-            crate, file, own = passed_on(file)[own]
-        names[here] = (crate, file, own)
-    return names
-
-
 # ---- the calls of a crate
 
 
 class Call:
-    """A function: whose it is, its file, its comment, the names of its clauses with the definitions that they cite."""
+    """A function: whose it is, its file, its comment, and the names of its clauses."""
 
     def __init__(self, owner, name, file, comment, clauses, is_law):
         self.owner, self.name, self.file = owner, name, file
@@ -137,24 +105,23 @@ def owners(bare):
 
 
 def clauses_at(bare, place):
-    """The clauses of a function whose parameters begin at a place: their names, and the text of all."""
-    at, names, said = closing(bare, place), [], []
+    """The clauses of a function whose parameters begin at a place: their names, and whether there are any."""
+    at, names, any_at_all = closing(bare, place), [], False
     while True:
         found = re.compile(r"[;{]|\b(ensures|requires)\b\*?(?:\s+(\w+))?\s*(?=\{)").search(bare, at)
         if not found or not found[1]:
-            return names, "\n".join(said)
+            return names, any_at_all
         end = closing(bare, found.end())
         if found[1] == "ensures" and found[2]:
             names.append(found[2])
-        said.append(bare[found.end() : end])
-        at = end
+        at, any_at_all = end, True
 
 
 def calls_of(file):
     """Every public function of a file, whoever may name it, in its order."""
     text = file.read_text()
     bare, lines = blank(text), text.split("\n")
-    names, homes = imported(text), owners(bare)
+    homes = owners(bare)
     for head in re.finditer(r"^( *)(?:(pub) )?(?:const )?fn (\w+)", bare, re.M):
         place = head.start()
         inside = [home for home in homes if home[0] < place < home[1]]
@@ -167,12 +134,10 @@ def calls_of(file):
         if of_trait and not said:
             continue
         row = text[:place].count("\n")
-        words = set(re.findall(r"[^\s(){}\[\].,;:]+", said))
-        cited = [names[name] for name in names if name in words]
         takes_nothing = not bare[opens : closing(bare, opens)].strip("() \n")
         gives_nothing = not bare[closing(bare, opens) :].lstrip().startswith("->")
-        is_law = bool(said) and (file.stem == "laws" or takes_nothing and gives_nothing)
-        yield Call(owner, head[3], file, comment_above(lines, row), (named, cited), is_law)
+        is_law = said and (file.stem == "laws" or takes_nothing and gives_nothing)
+        yield Call(owner, head[3], file, comment_above(lines, row), named, is_law)
 
 
 def given(crate):
@@ -195,49 +160,11 @@ def given(crate):
     return names, files
 
 
-# ---- the definitions of a crate
-
-
-def definitions(crate):
-    """Of each file of specs/ what its comment says to read, if it does, and the names of its public definitions."""
-    for file in sorted((crate / "specs").glob("**/*.antt")):
-        text = file.read_text()
-        found = re.findall(
-            r"^ *(?:abbrev|unfoldable|opaque|record|data) pub (\S+)|^ *pub (?:record|data) (\S+)", text, re.M
-        )
-        head = re.match(r"(?:--.*\n)*", text)[0].replace("\n--", "")
-        read = re.search(r"\bRead (`[^.:;]*)[.:;]", head)
-        names = list(dict.fromkeys(one or other for one, other in found))
-        if names:
-            yield file, read[1] if read else "", names
-
-
 # ---- the page
 
 
 def link(name, path):
     return f"[`{name}`](../{path.relative_to(TOP)})"
-
-
-def cell(words):
-    return words.replace("|", "\\|")
-
-
-def cited_in(crate, call):
-    """The definitions that a call's clauses cite, each with its link."""
-    shown = []
-    for home, file, name in call.clauses[1]:
-        words = name if home == crate.name else f"{home}.{name}"
-        shown.append(link(words, file) if file.exists() else f"`{words}`")
-    return ", ".join(dict.fromkeys(shown))
-
-
-def rows_of(crate, calls):
-    for call in calls:
-        named = ", ".join(f"**{name}**" for name in call.clauses[0])
-        cited = cited_in(crate, call)
-        said = ": ".join(part for part in (named, cited) if part)
-        yield f"|{link(call.shown(), call.file)}|{cell(first_sentence(call.comment))}|{said}|"
 
 
 def public_calls(crate):
@@ -249,28 +176,36 @@ def public_calls(crate):
                 yield call
 
 
-def crate_page(crate):
-    library = (crate / "src" / "lib.rt").read_text()
-    head = re.match(r"(?://! .*\n)*", library)[0]
+def reached(names):
+    """These crates and all below them, by crates.txt."""
+    below = {found[1]: found[2].split() for found in re.finditer(r"^(bac\w*):(.*)", (TOP / "crates.txt").read_text(), re.M)}
+    there, waiting = set(), list(names)
+    while waiting:
+        name = waiting.pop()
+        if name in below and name not in there:
+            there.add(name)
+            waiting += [word for word in below[name] if not word.startswith("#")]
+    return there
+
+
+def crate_page(crate, promised, with_sentences):
+    """The lines of a crate: its laws that have a sentence here, the others, and its calls."""
+    calls = list(public_calls(crate))
+    laws = [call for call in calls if call.is_law]
+    said = [law for law in laws if with_sentences and law.name not in promised]
+    others = [link(law.shown(), law.file) for law in laws if law not in said]
+    named = [f"{link(call.shown(), call.file)} ({', '.join(call.clauses)})" for call in calls
+             if call.clauses and not call.is_law and (with_sentences or crate.name == PROGRAM)]
+    if not laws and not named:
+        return
     yield f"## {crate.name}"
     yield ""
-    yield first_sentence(" ".join(head.replace("//! ", "").split()))
-    yield ""
-    others = dict.fromkeys(re.findall(r"^pub use (bac\w*)::", blank(library), re.M))
+    for law in said:
+        yield f"- {link(law.shown(), law.file)}: {first_sentence(law.comment)}"
     if others:
-        yield "It gives on names of " + ", ".join(f"[{other}](#{other})" for other in others) + "."
-        yield ""
-    calls = list(public_calls(crate))
-    for title, rows in (("Law", [c for c in calls if c.is_law]), ("Call", [c for c in calls if not c.is_law])):
-        if rows:
-            yield f"|{title}|Says|Clauses and definitions|"
-            yield "|---|---|---|"
-            yield from rows_of(crate, rows)
-            yield ""
-    for file, said, names in definitions(crate):
-        told = f" (read {said})" if said else ""
-        path = file.relative_to(crate / "specs").with_suffix("")
-        yield f"- [{path}](../{file.relative_to(TOP)}){told}: " + " ".join(f"`{name}`" for name in names)
+        yield f"- *Laws:* {', '.join(others)}"
+    if named:
+        yield f"- *Calls:* {', '.join(named)}"
     yield ""
 
 
@@ -284,8 +219,9 @@ def crates():
 
 def page():
     lines = [HEAD]
+    promised, behind_doors = set(re.findall(r"`(\w+)`", PROMISES.read_text())), reached(DOORS)
     for crate in crates():
-        lines.extend(crate_page(crate))
+        lines.extend(crate_page(crate, promised, crate.name in behind_doors))
     return "\n".join(lines).rstrip() + "\n"
 
 
