@@ -1,10 +1,10 @@
 #!/usr/bin/env python3
-"""Compares what help, man page and TOOLS.md say that a refusal means with what the program tells.
+"""Compares what help and man page say that a refusal means with what the program tells.
 
     examples/check/causes.py [PROGRAM]
 
-Each pair of a number and a meaning that stands in `bac rp --help`, `bac wp --help`, `bac log --help`, docs/bac.1 and
-docs/TOOLS.md is read; a device refuses `bac rp` and `bac log` so, and the line behind the refusal has to be that meaning.
+Each pair of a number and a meaning that stands in `bac rp --help`, `bac wp --help`, `bac log --help` and docs/bac.1
+is read; a device refuses `bac rp` and `bac log` so, and the line behind the refusal has to be that meaning.
 Each page has to name each reject reason and each abort reason that the program has a name for. PROGRAM is
 crates/bac/out/bac where none is given. The last line is `N passed, M failed`."""
 import os
@@ -71,14 +71,6 @@ def of_man(text):
     return found
 
 
-def of_table(text):
-    """The same of a table's rows."""
-    return {
-        (kind, *map(int, numbers.split())): meaning
-        for kind, numbers, meaning in re.findall(r"^\| `(error|reject|abort) ([\d ]+)` \| (.*) \|$", text, re.M)
-    }
-
-
 def items_of(kind, items):
     found = {}
     for item in " ".join(items.split()).rstrip(".").split(";"):
@@ -117,7 +109,6 @@ def main():
     device = Refusing()
     pages = {f"bac {tool} --help": of_help(help_of(tool)) for tool in ("rp", "wp", "log")}
     pages["docs/bac.1"] = of_man(text_of("docs/bac.1"))
-    pages["docs/TOOLS.md"] = of_table(text_of("docs/TOOLS.md"))
     named = {("reject", n) for n in range(64)} | {("abort", n) for n in range(64)}
     wanted = named.union(*pages.values())
     told = {refusal: meaning_told(device, refusal) for refusal in sorted(wanted)}

@@ -136,6 +136,9 @@ ended 'help of 80 columns' 0 ''
 # No definition takes more arguments by position than a reader keeps apart, and no line passes its columns.
 ./shape.py ../.. > "$room/out" 2> "$room/err"
 ended 'the shape of definitions and lines' 0 ''
+# No link of a page leads nowhere, and no page is longer than it may be.
+./pages.py ../.. > "$room/out" 2> "$room/err"
+ended 'links and words of the pages' 0 ''
 
 # Values that a word or an option can't have: the second line tells which.
 wrong() {
@@ -337,7 +340,7 @@ counted ./faults.py
 
 # What package.sh makes of it: installed, used, taken out.
 counted ./package.sh
-# The program of the first minute beside `bac replay`.
+# The program of a script alone beside `bac replay`, and README's first minute.
 counted ./replay.sh
 
 # The rows of ../vectors, by a program of their own.
@@ -345,7 +348,7 @@ counted ./vectors.sh ../../crates/bac_vectors/out/bac_vectors
 # How a log is polled, by a second program of the rule.
 counted ./polls.py ../../crates/bac_poll_rows/out/bac_poll_rows
 # Archives of format 3 in files: runs that are killed, full disks, and files that are none.
-counted ./archive3.py ../../crates/bac_archive3_trial/out/bac_archive3_trial
+counted ./archive.py ../../crates/bac_archive_trial/out/bac_archive_trial
 
 echo "$passed passed, $failed failed"
 [ "$failed" -eq 0 ]

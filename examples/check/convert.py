@@ -3,7 +3,7 @@
 
 format2/ has archives that `bac keep` of release 0.1 made, as Python's sqlite3 dumps them: site.sql a file with epochs,
 gaps, stopped logs and two devices behind a router, plant.1.sql to plant.3.sql the parts of a folder. Each is converted;
-the tables are those of crates/bac_archive3, all rows there under their ids, what the views show is the same. Then the
+the tables are those of crates/bac_archive, all rows there under their ids, what the views show is the same. Then the
 conversion is killed at random moments: OLD is as it was, octet for octet, and NEW whole or not there."""
 import contextlib
 import os
@@ -19,7 +19,7 @@ import time
 
 HERE = os.path.dirname(os.path.abspath(__file__))
 CONVERT = f"{HERE}/../use/convert.sh"
-CREATION = f"{HERE}/../../crates/bac_archive3/src/creation.rt"
+CREATION = f"{HERE}/../../crates/bac_archive/src/creation.rt"
 KILLS = 12
 # What both formats show, in the order of their views.
 SHOWN = (

@@ -70,7 +70,7 @@ typed 'bac help keep' 'bac help keep '
 for tool in wi rp wp log logs keep kept check serve replay; do
     while read -r option value; do
         typed "bac $tool ${option%?}" "bac $tool $option${value:-' '}"
-    done < <(sed -nE 's/^ +(-h, )?(--[a-z-]+) <.*/\2 =/p; s/^ +(-h, )?(--[a-z-]+)( [^<].*)?$/\2/p' "$tool.help")
+    done < <(sed -nE 's/^ +(-., )?(--[a-z-]+) <.*/\2 =/p; s/^ +(-., )?(--[a-z-]+)( [^<].*)?$/\2/p' "$tool.help")
 done
 is 'completion' "$(./complete.py ../use/bac.bash "${typed[@]}" 2>&1)" "$(printf '%s\n' "${wanted[@]}" | sed "s/' '$/ /")"
 # The tools of the help are those that are completed and those of the man page.
@@ -81,10 +81,11 @@ is 'the tools' "$(completed 'bac ' | grep -v -e -- | sort)" "$(tools)"
 is 'the tools behind help' "$(completed 'bac help ' | sort)" "$(tools | grep -v '^help$')"
 is 'the man page is made of the help' "$(../../docs/man.py | cmp - ../../docs/bac.1 2>&1)" ''
 is 'the page of clauses is what the sources say' "$(../../docs/clauses.py --check 2>&1 | grep -v '^[0-9]')" ''
+is 'the list of edits is that of must-fail' "$(../../docs/edits.py --check 2>&1)" ''
 is 'the tools of the man page' "$(sed -nE 's/^\.B bac ([a-z]+)( .*)?$/\1/p' ../../docs/bac.1 | sort -u)" "$(tools | grep -v '^help$')"
 for tool in wi rp wp log logs keep kept check serve replay; do
     is "the options of $tool" "$(completed "bac $tool --" | tr -d = | sort | tr '\n' ' ')" \
-        "$(sed -nE 's/^ +(-h, )?(--[a-z-]+).*/\2/p' "$tool.help" | sort | tr '\n' ' ')"
+        "$(sed -nE 's/^ +(-., )?(--[a-z-]+).*/\2/p' "$tool.help" | sort | tr '\n' ' ')"
 done
 
 # ---- records as CSV: each kind of datum; 41c80000 is 25, 3dcccccd 0.1, c0490fdb -pi, 00000001 the least,
@@ -163,7 +164,7 @@ fi
 # ---- units of systemd: the programs that they name are put where they are taken from
 
 if has systemd-analyze; then
-    mkdir -p "$room/units/bac-site@.service.d"
+    mkdir -p "$room/units"
     for unit in ../use/systemd/*.service ../use/systemd/*.timer; do
         sed "s|/usr/local/bin/bac|$program|" "$unit" > "$room/units/$(basename "$unit")"
     done
@@ -175,14 +176,12 @@ if has systemd-analyze; then
     for unit in bac-serve@plant.service bac-site@plant.service; do
         is "$unit: an exposure of less than 2" "$(analyzed security --offline=yes --threshold=20 "$unit" | tail -n 1)" 'status 0'
     done
-    cp ../use/systemd/copy.conf "$room/units/bac-site@.service.d/"
-    is 'bac-site@plant.service with a copy' "$(analyzed verify bac-site@plant.service)" 'status 0'
 fi
 
-# What they start, run here: as of the instance `plant`, in folders of this check.
+# What they start, run here: as of the instance `plant`, in folders of this check, one command after the other.
 started() {
-    sed -nE "s/^$2=//p" "../use/systemd/$1" \
-        | sed "s|/usr/local/bin/bac|$program|; s|/var/lib/bac/|$room/state/|g; s|/srv/bac/|$room/read/|g; s|%i|plant|g"
+    sed -nE "s/^$2=\\+?//p" "../use/systemd/$1" \
+        | sed "s|/usr/local/bin/bac|$program|; s|/var/lib/bac/|$room/state/|g; s|%i|plant|g; s|[$][$]|$|g; s|chown -h root:root|test -f|"
 }
 mkdir -p "$room/state/plant" "$room/read"
 served ../use/plant.conf
@@ -196,10 +195,14 @@ eval "$(started bac-site@.service ExecStart)" > "$room/out" 2> "$room/err"
 is 'a dead device is no failure' "$?" "$(sed -n 's/^SuccessExitStatus=//p' ../use/systemd/bac-site@.service)"
 if has sqlite3; then
     before=$(cksum "$room"/state/plant/site.db "$room"/state/plant/site.db-wal)
+    started bac-site@.service ExecStopPost > "$room/behind"
+    COPY= bash -e "$room/behind" > "$room/out" 2> "$room/err"
+    is 'no copy unless it is asked for' "$? $(cat "$room/out" "$room/err") $(ls "$room/read" "$room/state/plant" | grep -c copy)" '0  0'
     for again in 1 2; do
-        eval "$(started copy.conf ExecStopPost)" > "$room/out" 2> "$room/err"
+        COPY=$room/read/plant.db bash -e "$room/behind" > "$room/out" 2> "$room/err"
         is "a copy, $again" "$? $(cat "$room/err") $(ls "$room/read") $(stat -c %a "$room/read/plant.db")" '0  plant.db 644'
     done
+    is 'nothing of it is left' "$(ls "$room/state/plant" | grep -c copy)" 0
     is 'what is in it' "$(sqlite3 -readonly "$room/read/plant.db" 'PRAGMA journal_mode; SELECT count(*) FROM logs; SELECT count(*) > 0 FROM items')" \
         $'delete\n2\n1'
     is 'the archive is as before' "$(cksum "$room"/state/plant/site.db "$room"/state/plant/site.db-wal)" "$before"

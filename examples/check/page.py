@@ -21,7 +21,8 @@ import time
 
 # Nothing is left beside the scripts.
 sys.dont_write_bytecode = True
-sys.path.append(os.path.join(os.path.dirname(os.path.abspath(__file__)), "../use"))
+# Before this folder, which has an archive.py, too.
+sys.path.insert(0, os.path.join(os.path.dirname(os.path.abspath(__file__)), "../use"))
 import archive
 import page_archives
 from page_browser import Browser, Page, installed
@@ -188,6 +189,24 @@ def hostile(judge):
     judge.same("a log without records", [row.now for row in page.rows], ["no record yet"])
 
 
+def silences(judge):
+    """A device is silent by the rule of `bac kept --last`: by hours, and not while nobody ever replied, or it is stopped."""
+    file, last = os.path.join(judge.room, "silences.db"), "2026-11-29T23:01:02.00"
+    for answered, other, is_stopped, wanted in (
+            ("2026-11-29T22:00:00.00", last, 0, None), ("2026-11-29T21:59:59.99", last, 0, "silent since 2026-11-29"),
+            ("2026-11-28T23:01:02.00", "2026-11-29T00:00:00.00", 0, None), (last, "2026-11-29T20:00:00.00", 0, None),
+            (None, last, 0, "never answered"), (None, None, 0, None), ("2025-11-29T21:59:59.99", last, 1, None)):
+        one_log(file, [(1, None, "2026-11-29T12:00:00.00", 1.0, "1")])
+        base = sqlite3.connect(file)
+        base.execute("UPDATE devices SET answered = ?, stopped = ?", (answered, is_stopped))
+        base.execute("INSERT INTO devices VALUES (2, '10.0.0.2:47808', 0, '', 8, NULL, NULL, 1, 0, ?, 0)", (other,))
+        base.commit()
+        base.close()
+        judge.drawn(file)
+        rows = Page(judge.browser.dom(judge.at)).rows
+        judge.same(f"silence: {answered}, {other}, {is_stopped}", [row.silence or None for row in rows], [wanted])
+
+
 def marks(judge):
     """The axis of time has marks of seconds, minutes, days and months, by how long it is."""
     file, begin = os.path.join(judge.room, "marks.db"), datetime.datetime(2024, 5, 6, 7, 8, 9)
@@ -326,18 +345,22 @@ def without_leave(judge):
 
 
 def is_opened_by_nobody(file):
-    """Whether page.py opens a file in a process that has given up its rights."""
+    """Whether page.py opens a file in a process that has given up its rights; what it ends with where that isn't told."""
     process = os.fork()
     if process:
-        return os.waitpid(process, 0)[1] == 0
-    os.setgroups([])
-    os.setgid(65534)
-    os.setuid(65534)
+        status = os.waitstatus_to_exitcode(os.waitpid(process, 0)[1])
+        return {0: True, 1: False}.get(status, status)
+    status = 2
     try:
+        os.setgroups([])
+        os.setgid(65534)
+        os.setuid(65534)
         archive.opened(file).close()
+        status = 0
     except sqlite3.OperationalError:
-        os._exit(1)
-    os._exit(0)
+        status = 1
+    finally:
+        os._exit(status)
 
 
 def kept(judge):
@@ -371,7 +394,7 @@ def main():
         judge = Judge(room)
         for version in (2, 3):
             site(judge, version)
-        for row in (pictures, hostile, marks, in_parts, refused, beside_others, large):
+        for row in (pictures, hostile, silences, marks, in_parts, refused, beside_others, large):
             row(judge)
         try:
             kept(judge)

@@ -32,9 +32,9 @@ LISTED = 2000
 
 LOGS = {
     2: "SELECT id AS log, address, dnet, dadr, device AS device_instance, NULL AS device_name, NULL AS answered, NULL AS offset,"
-       " instance, name, NULL AS source, NULL AS units, NULL AS description, stopped FROM logs",
+       " instance, name, NULL AS source, NULL AS units, NULL AS description, stopped, 0 AS device_stopped FROM logs",
     3: "SELECT l.id AS log, d.address, d.dnet, d.dadr, d.instance AS device_instance, d.name AS device_name, d.answered, d.offset,"
-       " l.instance, l.name, l.source, l.units, l.description, d.stopped OR ifnull(l.stopped, 0) AS stopped"
+       " l.instance, l.name, l.source, l.units, l.description, d.stopped OR ifnull(l.stopped, 0) AS stopped, d.stopped AS device_stopped"
        " FROM devices d LEFT JOIN logs l ON l.device = d.id",
 }
 BEGINNINGS = {2: "SELECT id, number, NULL FROM beginnings ORDER BY id", 3: "SELECT id, number, why FROM beginnings ORDER BY id"}
@@ -203,11 +203,14 @@ def changes_of(curve):
 # ---- the page
 
 def silence_of(log, curve, site):
-    """Since when nothing came: the device's last answer, where the archive has it, or else the newest record."""
-    if log["answered"]:
-        return f"silent since {log['answered'][:10]}" if site.answered - seconds(log["answered"]) > HOUR else ""
+    """Since when nothing came: the device's last reply, where the archive has it, or else the newest record. As of `bac kept
+    --last`, a device is silent whose last reply lies neither in the hour of the site's last one nor in the hour before."""
     if site.version == 3:
-        return "never answered"
+        if log["device_stopped"] or not site.answered:
+            return ""
+        if not log["answered"]:
+            return "never answered"
+        return f"silent since {log['answered'][:10]}" if site.answered // HOUR - seconds(log["answered"]) // HOUR > 1 else ""
     newest = curve and curve.newest and curve.newest.at
     is_behind = newest is not None and site.axis.last - newest > max(DAY, 4 * curve.spacing())
     return f"nothing since {curve.newest.stamp[:10]}" if is_behind else ""
@@ -248,7 +251,7 @@ def device_of(log, site):
     name = shown(log["device_name"]) if log["device_name"] else f"Device {log['device_instance']}" if known else place_of(log)
     ahead = log["offset"] or 0
     about = joined(known and log["device_name"] and f"device {log['device_instance']}", (known or log["device_name"]) and place_of(log),
-                   log["answered"] and f"last answer {moment(log['answered'])} UTC",
+                   log["answered"] and f"last reply {moment(log['answered'])} UTC",
                    abs(ahead) >= 60 and f"its clock is {counted(abs(ahead), 'second')} {'ahead of' if ahead > 0 else 'behind'} UTC")
     silence = site.version == 3 and silence_of(log, None, site)
     heading = f'<h2>{name} <small>{about}</small>' + (f' <small class="silent">{silence}</small>' if silence else "") + "</h2>\n"

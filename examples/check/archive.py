@@ -1,5 +1,5 @@
 #!/usr/bin/env python3
-"""archive3.py [PROGRAM]: judges archives of format 3 in files, by PROGRAM (crates/bac_archive3_trial).
+"""archive.py [PROGRAM]: judges archives of format 3 in files, by PROGRAM (crates/bac_archive_trial).
 
 A batch is put by runs that are killed before each of their calls on files in turn (kills.c), by runs in which that call fails,
 and on disks that fill up: behind each, Python's sqlite3 and the program itself read what was there before, or all of the batch;
@@ -19,7 +19,7 @@ import tempfile
 from kept_limits import at_most
 
 HERE = os.path.dirname(os.path.abspath(__file__))
-CREATION = f"{HERE}/../../crates/bac_archive3/src/creation.rt"
+CREATION = f"{HERE}/../../crates/bac_archive/src/creation.rt"
 TABLES = "archive", "devices", "logs", "items", "beginnings"
 MOST_CALLS = 400
 ALL = "0 9223372036854775807"
@@ -264,7 +264,7 @@ def stays(name, what, wanted):
 
 
 if __name__ == "__main__":
-    PROGRAM = os.path.realpath(sys.argv[1] if len(sys.argv) > 1 else f"{HERE}/../../crates/bac_archive3_trial/out/bac_archive3_trial")
+    PROGRAM = os.path.realpath(sys.argv[1] if len(sys.argv) > 1 else f"{HERE}/../../crates/bac_archive_trial/out/bac_archive_trial")
     with tempfile.TemporaryDirectory() as ROOM:
         KILLS = f"{ROOM}/kills.so"
         subprocess.run(["cc", "-shared", "-fPIC", "-O1", "-o", KILLS, f"{HERE}/kills.c", "-ldl"], check=True)
