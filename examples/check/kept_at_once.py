@@ -3,19 +3,22 @@ import re
 import threading
 import time
 
-from kept_apart import in_file, line, new_logs
+from kept_apart import in_file, line, new_logs, timed
 from kept_devices import Device, Log, chance, serve
 from kept_more import UNTOLD, Unlisting, fed, untold
 from kept_rounds import silent
 
-WAIT = 0.1
+# Where it is timed how long a run takes each answer waits longer, so that a busy machine adds little to that.
+WAIT, LONG = 0.1, 0.3
 
 
 class Slow(Device):
-    """Each answer goes out some time after its question came."""
+    """Each answer goes out some time, `wait`, after its question came."""
+
+    wait = WAIT
 
     def answer(self, port, request, asker):
-        threading.Timer(WAIT, super().answer, (port, request, asker)).start()
+        threading.Timer(self.wait, super().answer, (port, request, asker)).start()
 
 
 class Echo:
@@ -35,13 +38,6 @@ class Echoing(Device):
 
     def answer(self, port, request, asker):
         threading.Timer(0.02, super().answer, (Echo(port, 0.03), request, asker)).start()
-
-
-def timed(judge, *words):
-    """What a run told, and how long it took."""
-    start = time.monotonic()
-    told = judge.ran(["keep", *words])
-    return told, time.monotonic() - start
 
 
 def lines_of(site, new):
@@ -65,7 +61,7 @@ def own_address(judge, _runs):
     judge.tells("from it again", judge.ran(["keep", file, f"--local={ours}"]), 0, lines_of(site, 3))
     judge.same("from no other", {device.asker for device in site}, {ours})
     site[2].answers = 0
-    judge.tells("and one is silent", judge.ran(["keep", file, f"--local={ours}", "--timeout=300", "--retries=1"]), 2,
+    judge.tells("and one is silent", judge.ran(["keep", file, f"--local={ours}", "--timeout=1000", "--retries=1"]), 2,
                 lines_of(site[:2] + site[3:], 0), silent(site[2], (1, 2)))
     judge.judge("from an own address", file, site, True)
 
@@ -214,13 +210,13 @@ def at_once(judge, _runs):
     site = [Slow([Log(1, 50), Log(2, 500)], f"slow{n}") for n in range(12)]
     serve(site)
     for device in site:
-        device.fits = (45,)
+        device.fits, device.wait = (45,), LONG
         for log in device.logs.values():
             log.log(40)
     site[3].logs[2].log(400)
     file = f"{judge.room}/a.db"
     words = [word for device in site for word in (device.address, "1", "2")]
-    (status, out, errors), took = timed(judge, file, *words)
+    status, out, errors = judge.ran(["keep", file, *words])
     judge.same("a first run", (status, len(out.splitlines()), errors), (0, 24, ""))
     judge.judge("a first run of slow devices", file, site, True)
     for new in (0, 4):
@@ -228,10 +224,10 @@ def at_once(judge, _runs):
             for log in device.logs.values():
                 log.log(new)
         asked = [device.asked for device in site]
-        told, took = timed(judge, file)
+        told, _, asking = timed(site, judge.ran, ["keep", file])
         judge.tells(f"{new} new", told, 0, lines_of(site, new))
-        # One after the other they take 6 seconds.
-        judge.is_right(f"{new} new: beside one another", took < 4, took)
+        # One after the other they take 18 seconds.
+        judge.is_right(f"{new} new: beside one another", asking < 9, asking)
         if not new:
             # For their instance, their start and their revision, and for each log once.
             judge.same("each is asked as often as alone", [device.asked - before for device, before in zip(site, asked)], [5] * 12)
@@ -239,11 +235,12 @@ def at_once(judge, _runs):
     # One falls silent once it told what it is: the others' logs are kept. Its next log is asked for once, and then none any more.
     site[5].answers = 3
     asked = [device.asked for device in site]
-    told, took = timed(judge, file, "--timeout=400", "--retries=1")
+    told, _, asking = timed(site, judge.ran, ["keep", file, "--timeout=2000", "--retries=1"])
     lost = [line(site[5], number, 0, "lost, next 45") for number in (1, 2)]
     judge.tells("one falls silent", told, 2, lines_of(site[:5] + site[6:], 0), *lost)
     judge.same("who was asked", [device.asked - before for device, before in zip(site, asked)], [5] * 5 + [3 + 2 + 1] + [5] * 6)
-    judge.is_right("in two waits", took < 6, took)
+    # It is asked up to 5 seconds; one after the other the others take 16 seconds more.
+    judge.is_right("in two waits", asking < 13, asking)
     site[5].answers = None
     judge.tells("it is back", judge.ran(["keep", file]), 0, lines_of(site, 0))
 
@@ -282,38 +279,41 @@ def lists_at_once(judge, _runs):
     for device in site:
         for log in device.logs.values():
             log.log(4)
-    alone = f"{judge.room}/alone.db"
+    alone, asked = f"{judge.room}/alone.db", 0
     for at, device in enumerate(site):
         # A run polls all that is on record.
         judge.tells("alone", judge.ran(["keep", alone, device.address]), 0, new_logs(device), lines_of([device], 4), lines_of(site[:at], 0))
+        # What it is asked in its first run.
+        asked += device.asked
+    # How long all that takes one after the other.
+    in_turn = asked * LONG
+    for device in site:
+        device.wait = LONG
     words = [device.address for device in site]
     listed = "".join(f"{address}\n" for address in words)
     for name, run in (("words", lambda file: judge.ran(["keep", file, *words])), ("a list", lambda file: fed(judge, ["keep", file, "-"], listed))):
         for device in site:
             device.lists = []
         file = f"{judge.room}/{name}.db"
-        start = time.monotonic()
-        told = run(file)
-        took = time.monotonic() - start
+        told, _, asking = timed(site, run, file)
         judge.tells(f"{name}: what is told", told, 0, new_logs(*site), lines_of(site, 4))
         # Of the whole list, or then how long it is, and each place.
         judge.same(f"{name}: the list is asked for once, or each place", [len(device.lists) for device in site], [1] * 4 + [6] * 4)
         # Each was asked for its list before one has told its last place.
         first, last = max(device.lists[0] for device in site), min(device.lists[-1] for device in site[4:])
         judge.is_right(f"{name}: beside one another", first < last, (first, last))
-        # One after the other their lists and what they say of their logs alone take 10 seconds.
-        judge.is_right(f"{name}: in the time of few", took < 4.8, took)
+        judge.is_right(f"{name}: in the time of few", asking < in_turn / 2, (asking, in_turn))
         judge.judge(name, file, site, True)
         judge.same(f"{name}: as alone", rows_by(file), rows_by(alone))
     # One that gives no answer, or none any more, is waited for beside the others, and not once more.
     for answers in (0, 3):
         site[5].answers, asked = answers, site[5].asked
-        told, took = timed(judge, f"{judge.room}/silent {answers}.db", *words, "--timeout=400", "--retries=1")
+        told, _, asking = timed(site, judge.ran, ["keep", f"{judge.room}/silent {answers}.db", *words, "--timeout=2000", "--retries=1"])
         others = site[:5] + site[6:]
         judge.tells(f"silent behind {answers}", told, 2, silent(site[5], ()), new_logs(*others), lines_of(others, 4))
         # Behind a question that isn't answered one that is sent once shows whether it answers any.
         judge.same(f"silent behind {answers}: how often it is asked", site[5].asked - asked, answers + 2 + (answers > 0))
-        judge.is_right(f"silent behind {answers}: in the time of few", took < 6, took)
+        judge.is_right(f"silent behind {answers}: in the time of few", asking < in_turn / 2, (asking, in_turn))
     site[5].answers = None
 
 
@@ -349,7 +349,7 @@ TOO_LONG = 1, 4, 11
 def whole_lists(judge, _runs):
     """A list takes one question. What it tells is kept; where it doesn't fit an answer it is asked for place by place, behind how long
     it is; and what else comes in its place is told."""
-    quick = ("--timeout=400", "--retries=0")
+    quick = ("--timeout=2000", "--retries=0")
     for name, another, kept, status in REPLIES:
         site = [Whole([Log(number, 50) for number in range(1, 9)], f"{name} {n}", another) for n in range(2)]
         serve(site)
@@ -399,26 +399,26 @@ def silent_lists(judge, _runs):
     words = [device.address for device in site]
     once = [silent(device, ()) for device in dead]
     file = f"{judge.room}/a.db"
-    # Each is asked twice, and waited for a second each time.
-    told, took = timed(judge, file, *words, "--timeout=1000", "--retries=1")
+    # Each is asked at 0 and 3 seconds, and waited for as long; those of a second wait would be asked up to 9.
+    told, took, asking = timed(dead, judge.ran, ["keep", file, *words, "--timeout=3000", "--retries=1"])
     judge.tells("they are lost, and the others kept", told, 2, *once, new_logs(*alive), lines_of(alive, 4))
     judge.same("each is asked as often as once", [device.asked for device in dead], [2] * 3)
-    judge.is_right("in one wait", 1.9 < took < 2 * 1.7, took)
+    judge.is_right("in one wait", took > 5.9 and asking < 8.5, (took, asking))
     judge.judge("beside silent devices", file, alive, True)
     # One that is named twice has one line, and isn't asked more often for that.
-    quick = ("--timeout=200", "--retries=1")
-    told, _ = timed(judge, file, *words, words[0], *quick)
+    quick = ("--timeout=1000", "--retries=1")
+    told = judge.ran(["keep", file, *words, words[0], *quick])
     judge.tells("named twice", told, 2, *once, lines_of(alive, 0))
     judge.same("named twice: how often each is asked", [device.asked for device in dead], [4] * 3)
     # From one another answer came in the place of its list.
     asked, alive[0].list_ack = alive[0].asked, another_answer
-    told, _ = timed(judge, f"{judge.room}/b.db", *words, *quick)
+    told = judge.ran(["keep", f"{judge.room}/b.db", *words, *quick])
     judge.tells("another answer came", told, 2, *once, silent(alive[0], ()), new_logs(alive[1]), lines_of(alive[1:], 4))
     # Of itself, twice for its list, and once for how long that is.
     judge.same("another answer came: how often each is asked", [alive[0].asked - asked, *(device.asked for device in dead)], [4 + 2 + 1, 6, 6, 6])
     # One has told its list whose last log's name has no answer.
     alive[0].list_ack, alive[0].mute = lambda ack: ack, {2}
-    told, _ = timed(judge, f"{judge.room}/c.db", *words, *quick)
+    told = judge.ran(["keep", f"{judge.room}/c.db", *words, *quick])
     judge.tells("the last name has no answer", told, 2, *once, new_logs(*alive), lines_of(alive, 4))
     judge.same("the last name has no answer: which logs have none", in_file(f"{judge.room}/c.db",
                "SELECT d.address, l.instance FROM logs l JOIN devices d ON d.id = l.device WHERE l.name IS NULL"), [(words[1], 2)])

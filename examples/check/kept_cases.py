@@ -12,7 +12,7 @@ import sys
 import time
 
 from checked import NOTHING, checked, checked_parts
-from kept_apart import dead_at_once, dead_devices, last_epoch, line, new_logs
+from kept_apart import QUICK, dead_at_once, dead_devices, last_epoch, line, new_logs
 from kept_at_once import at_once, each_option, ids_go_on, ids_go_on_behind_the_longest, lists_at_once, own_address, own_address_echoes, silent_lists, whole_lists
 from kept_beside import objects_beside
 from kept_clocks import clocks, doubts_of, either_line, gaps_of, questions
@@ -41,7 +41,6 @@ from kept_words import first_answers, own_lives, own_rule, own_words, renewed
 
 TOP = os.path.realpath(os.path.join(os.path.dirname(__file__), "../.."))
 USE = f"{TOP}/examples/use"
-QUICK = ("--timeout=60", "--retries=0")
 
 
 def run_after_run(judge, _runs):

@@ -146,7 +146,7 @@ def last_records(judge, _runs):
     serve([dead, old])
     old.logs[1].log(1)
     dead.answers = 0
-    judge.ran(["keep", file, old.address, "1", dead.address, "1", "--timeout=300", "--retries=0"])
+    judge.ran(["keep", file, old.address, "1", dead.address, "1", "--timeout=1000", "--retries=0"])
     for last, then, silent in (("2026-11-30T10:20:00.00", "2026-11-30T10:00:00.00", False), ("2026-11-30T10:20:00.00", "2026-11-30T09:00:00.00", False),
                                ("2026-11-30T10:20:00.00", "2026-11-30T08:59:59.00", True), ("2026-11-30T00:20:00.00", "2026-11-29T23:10:00.00", False),
                                ("2026-11-30T00:20:00.00", "2026-11-29T22:59:00.00", True), ("2026-11-30T00:20:00.00", "2026-11-24T23:10:00.00", True)):
@@ -160,7 +160,7 @@ def last_records(judge, _runs):
     shutil.copyfile(file, f"{folder}/000001.db")
     fill(f"{folder}/000001.db")
     device.logs[2].log(1)
-    judge.ran(["keep", folder, *FULL, "--timeout=300", "--retries=0"])
+    judge.ran(["keep", folder, *FULL, "--timeout=1000", "--retries=0"])
     judge.same("two parts", names(folder), ["000001.db", "000002.db"])
     file = together(folder, f"{judge.room}/merged.db")
     judge.same("of parts", judge.ran(["kept", folder, "--last"]), judge.ran(["kept", file, "--last"]))

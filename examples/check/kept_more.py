@@ -122,7 +122,7 @@ def unlisted(judge, _runs):
         for number, log in device.logs.items():
             log.log(number)
     serve([mute, second, *others])
-    quick = ("--timeout=300", "--retries=1")
+    quick = ("--timeout=1000", "--retries=1")
 
     def kept(new):
         lines = "".join(line(device, number, number * new, f"caught up, next {number + 1}") for device in others for number in (1, 2))

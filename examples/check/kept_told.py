@@ -4,7 +4,7 @@ import socket
 from kept_devices import Device, Log, serve
 from kept_rounds import said, silent, why
 
-SOON = ("--timeout=60", "--retries=1")
+SOON = ("--timeout=1000", "--retries=1")
 
 # What comes in place of each answer: Reject-Message-To-Network for reason 1 and network 5, an I-Am, and nothing.
 ROUTER = bytes.fromhex("018003010005")

@@ -2,18 +2,17 @@
 import threading
 import time
 
-from kept_apart import line
+from kept_apart import line, timed
 from kept_devices import Device, Log, serve
 from kept_rounds import silent
 
-WAIT = 0.05
-
 
 class Counted:
-    """How many questions of a site were open at most, and which devices were asked, in order."""
+    """How many questions of a site were open at most, and which devices were asked, in order; each answer goes out `wait` seconds
+    after its question came."""
 
     def __init__(self):
-        self.lock, self.open, self.most, self.order = threading.Lock(), [], 0, []
+        self.lock, self.open, self.most, self.order, self.wait = threading.Lock(), [], 0, [], 0.1
 
     def come(self, device):
         with self.lock:
@@ -34,7 +33,7 @@ class Counted:
 
 
 class Watched(Device):
-    """Each answer goes out some time after its question came; a device that is gone never answers, and has no question open."""
+    """Its answers are counted, and go out late; a device that is gone never answers, and has no question open."""
 
     def __init__(self, logs, name, site):
         super().__init__(logs, name)
@@ -46,7 +45,7 @@ class Watched(Device):
                 self.site.order.append(self)
             return
         since = self.site.come(self)
-        threading.Timer(WAIT, self.late, (port, request, asker, since)).start()
+        threading.Timer(self.site.wait, self.late, (port, request, asker, since)).start()
 
     def late(self, port, request, asker, since):
         self.site.go(since)
@@ -69,7 +68,8 @@ def window(judge, _runs):
     file = f"{judge.room}/a.db"
     words = [word for device in site for word in (device.address, "1")]
     judge.same("a first run", judge.ran(["keep", file, *words])[0], 0)
-    for most in (1, 3, 5, 64):
+    # Those that may be open together have to come before the first of them is answered, on a busy machine, too.
+    for most, counted.wait in ((1, 0.1), (3, 0.3), (5, 0.3), (64, 0.6)):
         counted.begin()
         judge.tells(f"{most} at once", judge.ran(["keep", file, f"--at-once={most}"]), 0, lines_of(site))
         judge.same(f"{most} at once: open at most", counted.most, min(most, len(site)))
@@ -77,22 +77,22 @@ def window(judge, _runs):
         # were the first devices asked again as they answer, the last ones would come behind all of theirs.
         judge.same(f"{most} at once: each once before any twice", len(set(counted.order[: len(site) + most - 1])), len(site))
     # The first device is silent: with one question at a time the others wait until it is asked again, and not for its repeats.
-    site[0].is_gone = True
+    site[0].is_gone, counted.wait = True, 0.1
     counted.begin()
-    start = time.monotonic()
-    ran = judge.ran(["keep", file, "--at-once=1", "--timeout=1000", "--retries=3"])
-    took = time.monotonic() - start
+    ran, took, asking = timed(site, judge.ran, ["keep", file, "--at-once=1", "--timeout=3000", "--retries=3"])
     judge.tells("one is silent", ran, 2, lines_of(site, site[0]))
     others = [at for at, device in enumerate(counted.order) if device is not site[0]]
     repeats = [at for at, device in enumerate(counted.order) if device is site[0]]
     judge.same("it is asked four times", len(repeats), 4)
-    # It is asked at 0, 1, 2 and 3 seconds. Eleven first questions of 50 ms lie between the second and the third time.
+    # It is asked at 0, 3, 6 and 9 seconds. Eleven first questions of 100 ms lie between the second and the third time.
     judge.is_right("its repeats hold nobody up", all(any(counted.order[at] is device for at in others if at < repeats[2]) for device in site[1:]), counted.order)
-    judge.is_right("one wait for it", took < 9, took)
+    # What the others are asked, some 6 seconds where a machine isn't busy, lies in its wait of 12; those of a second wait would be
+    # asked up to 21.
+    judge.is_right("one wait for it", took > 11.9 and asking < 20, (took, asking))
     judge.is_right("it gives its place up as it is asked again", repeats[:2] == [0, 1] and len(others) == len(counted.order) - 4, counted.order)
-    # Beside its waits the others are asked all that they are asked, what their logs begin with too: some 0.6 seconds of 4.
+    # Beside its waits the others are asked all that they are asked, what their logs begin with too: some 0.6 seconds of 10.
     counted.begin()
-    judge.tells("one is silent, the others beside", judge.ran(["keep", file, "--timeout=2000", "--retries=1"]), 2, lines_of(site, site[0]))
+    judge.tells("one is silent, the others beside", judge.ran(["keep", file, "--timeout=5000", "--retries=1"]), 2, lines_of(site, site[0]))
     others = [at for at, device in enumerate(counted.order) if device is not site[0]]
     repeats = [at for at, device in enumerate(counted.order) if device is site[0]]
     judge.same("it is asked twice", len(repeats), 2)

@@ -74,7 +74,7 @@ def unnamed(judge, device):
             ("refuses", None, None, None, (None, None), {8: 2, 77: 1}), ("wildcard", 4194303, None, None, (None, None), {8: 2, 77: 1}),
             ("an I-Am", None, number, None, (number, None), {8: 1}), ("a name", None, None, b"\x00plant", (None, "plant"), {8: 2, 77: 1})):
         device.number, file = told_number, f"{judge.room}/{name}.db"
-        quick = ("--timeout=300", "--retries=1")
+        quick = ("--timeout=1000", "--retries=1")
         by_address = alone(device) if row == (None, None) else ""
         asked_once(judge, name, ["keep", file, device.address, "1", "2", *quick], device, by_address + texts, (row[0], *word), {**FIRST, **asked})
         judge.same(f"{name}: how it is known", in_file(file, whose), [row])
