@@ -214,6 +214,10 @@ WRONG = (
     ("refused: an id is out of range", "INSERT INTO logs VALUES (65536, 1, 9, NULL, NULL, NULL, NULL, NULL, NULL, 0)"),
     ("refused: an id is out of range", "INSERT INTO beginnings VALUES (2147483648, 1, NULL)"),
     ("refused: an id is out of range", "INSERT INTO devices VALUES (-1, '192.0.2.9:47808', 0, '', 1, '', 1, 1, 0, NULL, NULL)"),
+    ("refused: a log of no device", "DELETE FROM devices"),
+    ("refused: a log of no device", "UPDATE devices SET id = 2"),
+    ("refused: a log of no device", "UPDATE logs SET device = 65537"),
+    ("refused: a log of no device", "INSERT INTO logs VALUES (2, 0, 2, NULL, NULL, NULL, NULL, NULL, NULL, 1)"),
     ("refused: items lie over one another", f"INSERT INTO items VALUES ({(1 << 47) + 20}, NULL, '*', 1, 'real(3f800000)', '0000')"),
     ("refused: an item of no log or of no beginning", f"INSERT INTO items VALUES ({1 << 47 | 1 << 32 | 5}, NULL, '*', 1, '', '')"),
     ("refused: an item of no log or of no beginning", "DELETE FROM logs"),
@@ -221,8 +225,6 @@ WRONG = (
     ("an archive", "CREATE INDEX by_stamp ON items (stamp)"),
     ("an archive", "CREATE VIEW mine AS SELECT * FROM records"),
     ("an archive", "UPDATE logs SET name = NULL"),
-    # Known to lack: its log's device has no row (kept_known.py).
-    ("an archive", "DELETE FROM devices"),
 )
 
 

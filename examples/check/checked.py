@@ -55,7 +55,7 @@ def epoch_lines(name, epoch, start, rows, is_gone):
     gaps, doubtful = ([last - number + 1 for number, last, doubt in rows if last is not None and doubt == kind] for kind in (0, 1))
     text = gaps_text(gaps, "") + (f", {gaps_text(doubtful, 'doubtful ')}" if doubtful else "")
     records = counted(len(rows) - len(gaps) - len(doubtful), "record", "records")
-    holes = [f"hole {first} {last}" for first, last in holes_of(start, spans)]
+    holes = [f"missing {first}-{last}" for first, last in holes_of(start, spans)]
     return [f"{head}{spans[0][0]} to {max(last for _, last in spans)}, {records}, {text}", *holes]
 
 
@@ -133,11 +133,11 @@ def checked(judge, _runs):
     epoch = f"{of_log.format(4)} AND (id >> 32) & 32767 = "
     beginning = "DELETE FROM beginnings WHERE id >> 15 = (SELECT id FROM logs WHERE instance = 4) AND id & 32767 = 1"
     holes = {
-        "one in the middle": (f"{of_log.format(1)} AND id & 4294967295 = 100", "\nhole 100 100\n"),
-        "two stretches": (f"{of_log.format(1)} AND id & 4294967295 IN (7, 8, 9, 250)", "\nhole 7 9\nhole 250 250\n"),
-        "the first": (f"{of_log.format(1)} AND id & 4294967295 = 1", "\nhole 1 1\n"),
-        "both gaps": (f"{of_log.format(2)} AND last IS NOT NULL", "2 epoch 0: 1 to 43, 30 records, 0 gaps\nhole 21 30\nhole 36 38\n"),
-        "the first of another epoch": (f"{epoch}1 AND id & 4294967295 < 3", "\nhole 1 2\n"),
+        "one in the middle": (f"{of_log.format(1)} AND id & 4294967295 = 100", "\nmissing 100-100\n"),
+        "two stretches": (f"{of_log.format(1)} AND id & 4294967295 IN (7, 8, 9, 250)", "\nmissing 7-9\nmissing 250-250\n"),
+        "the first": (f"{of_log.format(1)} AND id & 4294967295 = 1", "\nmissing 1-1\n"),
+        "both gaps": (f"{of_log.format(2)} AND last IS NOT NULL", "2 epoch 0: 1 to 43, 30 records, 0 gaps\nmissing 21-30\nmissing 36-38\n"),
+        "the first of another epoch": (f"{epoch}1 AND id & 4294967295 < 3", "\nmissing 1-2\n"),
         "an epoch": (f"{epoch}1", "4 epoch 1: gone\n"),
         "the first epoch": (f"{epoch}0", "4 epoch 0: gone\n"),
         "both before the last": (f"{epoch[:-2]}< 2", "4 epoch 0: gone\n"),
@@ -169,7 +169,7 @@ def checked(judge, _runs):
     judge.same("stays empty", os.path.getsize(empty), 0)
     with contextlib.closing(sqlite3.connect(file, isolation_level=None)) as base:
         base.execute("BEGIN EXCLUSIVE")
-        judge.same("a file in use", judge.ran(["check", file]), in_use(file))
+        judge.same("a file in use", judge.ran(["check", file, "--wait=0"]), in_use(file))
 
 
 def removed(file):
@@ -202,7 +202,7 @@ def checked_parts(judge, _runs):
     _device, folder = three_parts(judge, "joined")
     first, second, third = (f"{folder}/00000{n}.db" for n in (1, 2, 3))
     text = lines(together(folder, f"{judge.room}/merged.db"))
-    judge.is_right("what is wanted of the parts", " 1 epoch 0: 1 to 60, 60 records, 0 gaps\n" in text and "hole" not in text, text)
+    judge.is_right("what is wanted of the parts", " 1 epoch 0: 1 to 60, 60 records, 0 gaps\n" in text and "missing" not in text, text)
     checks(judge, "three parts", [folder], text)
     checks(judge, "three parts behind a slash", [f"{folder}/"], text)
     checks(judge, "the first alone", [first], lines(first))
@@ -214,7 +214,7 @@ def checked_parts(judge, _runs):
     moved(second, f"{judge.room}/second.away")
     wanted = lines(together(folder, f"{judge.room}/merged.db"))
     # The third begins with three rows of the second.
-    judge.is_right("they are missing", "\nhole 31 47\n" in wanted, wanted)
+    judge.is_right("they are missing", "\nmissing 31-47\n" in wanted, wanted)
     apart, missing = told(third, APART), told(folder, HOLES)
     checks(judge, "one in the middle is gone", [folder], wanted, told(second, "there is no such file") + apart + missing)
     open(second, "wb").close()
@@ -245,7 +245,7 @@ def checked_parts(judge, _runs):
     # A row in the middle of a part is gone.
     change(first, "DELETE FROM items WHERE id >> 47 = (SELECT id FROM logs WHERE instance = 1) AND id & 4294967295 = 5")
     wanted = lines(together(folder, f"{judge.room}/merged.db"))
-    judge.is_right("it is missing in a part", "\nhole 5 5\n" in wanted, wanted)
+    judge.is_right("it is missing in a part", "\nmissing 5-5\n" in wanted, wanted)
     checks(judge, "a part with a hole", [folder], wanted, missing)
     nothing = f"{judge.room}/nothing"
     os.mkdir(nothing)

@@ -9,6 +9,7 @@ import contextlib
 import os
 import random
 import re
+import resource
 import shutil
 import signal
 import sqlite3
@@ -76,8 +77,8 @@ def octets(place):
     return {name: open(name, "rb").read() for name in names if os.path.exists(name)}
 
 
-def converted(*words):
-    process = subprocess.run([CONVERT, *words], stdin=subprocess.DEVNULL, capture_output=True, text=True, timeout=60)
+def converted(*words, **more):
+    process = subprocess.run([CONVERT, *words], stdin=subprocess.DEVNULL, capture_output=True, text=True, timeout=60, **more)
     return process.returncode, process.stdout, process.stderr
 
 
@@ -135,7 +136,26 @@ def a_file(room):
         base.execute("BEGIN EXCLUSIVE")
         status, out, errors = converted(f"{room}/open.db", f"{room}/more.db")
         is_right("it is open", (status, out) == (1, "") and "locked" in errors, (status, out, errors))
+    with contextlib.closing(sqlite3.connect(made("site", f"{room}/two.db"))) as base:
+        base.execute("UPDATE logs SET device = 4194302 WHERE id = 1")
+        base.commit()
+    same("two devices at one place", converted(f"{room}/two.db", f"{room}/more.db"), (1, "", f"{room}/two.db: two devices are at one place\n"))
+    full_disks(room, old, before)
     same("none of them is made", [name for name in os.listdir(room) if name.startswith("more")], [])
+
+
+def full_disks(room, old, before):
+    """No file may get longer than a limit: nothing is made, and it is told as sqlite3 tells it."""
+    def at_most(size):
+        # So that what is written beyond fails, and ends no program.
+        signal.signal(signal.SIGXFSZ, signal.SIG_IGN)
+        resource.setrlimit(resource.RLIMIT_FSIZE, (size, size))
+
+    size, beside = os.path.getsize(f"{room}/new.db"), sorted(os.listdir(room))
+    for most in (4096, 16384, size // 2, size - 4096):
+        same(f"at most {most} octets", converted(old, f"{room}/more.db", preexec_fn=lambda: at_most(most)), (1, "", f"{old}: disk I/O error\n"))
+        same(f"at most {most} octets: nothing is made", sorted(os.listdir(room)), beside)
+        same(f"at most {most} octets: the old one", octets(old), before)
 
 
 def a_folder(room):

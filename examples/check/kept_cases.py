@@ -23,6 +23,8 @@ from kept_doubts import emptied, never_begun, overwritten, told_at_once
 from kept_files import barred
 from kept_groups import groups
 from kept_holes import holes, holes_in_parts
+from kept_json import json_lines
+from kept_json import json_lines
 from kept_judge import in_use, no_use, wrongs
 from kept_limits import file_limits, part_limits
 from kept_more import listed, listed_twice, said_more, several, unlisted
@@ -35,6 +37,7 @@ from kept_terminal import terminals
 from kept_folders import folders, folders_damaged
 from kept_parts import parts, parts_ended, parts_refused
 from kept_told import told_among_others, told_beside
+from kept_waits import waited, waited_for_parts, waited_in_vain
 from kept_whose import asked_at_once, other_devices
 from kept_window import window
 from kept_words import first_answers, own_lives, own_rule, own_words, renewed
@@ -165,9 +168,9 @@ def losses(judge, _runs):
     device.answers, before = 0, device.asked
     process = judge.started(["keep", file, "--timeout=60000"])
     wait_until_asked(device, before)
-    judge.same("a second run", judge.ran(["keep", file, *QUICK]), in_use(file))
+    judge.same("a second run", judge.ran(["keep", file, "--wait=0", *QUICK]), in_use(file))
     for tool in ("kept", "check"):
-        judge.same(f"{tool} beside a run", judge.ran([tool, file]), in_use(file))
+        judge.same(f"{tool} beside a run", judge.ran([tool, file, "--wait=0"]), in_use(file))
     process.kill()
     process.communicate()
     device.answers = None
@@ -179,7 +182,7 @@ def losses(judge, _runs):
     before = device.asked
     process = judge.started(["keep", file, "--timeout=60000"])
     wait_until_asked(device, before)
-    judge.same("a second run again", judge.ran(["keep", file, *QUICK]), in_use(file))
+    judge.same("a second run again", judge.ran(["keep", file, "--wait=0", *QUICK]), in_use(file))
     device.open.set()
     out = process.communicate(timeout=60)[0].decode()
     judge.same("the first run", (process.returncode, out), (0, said(device, 5, 0, "caught up, next 156")))
@@ -397,21 +400,17 @@ def foreign_files(judge, _runs):
              made("no_view.db", "DROP VIEW gaps", of=file),
              made("other_view.db", "DROP VIEW gaps", "CREATE VIEW gaps AS SELECT id FROM items", of=file),
              made("over.db", "UPDATE items SET last = (id & 4294967295) + 1, stamp = NULL WHERE id & 4294967295 = 2", of=file),
-             made("back.db", "UPDATE items SET last = (id & 4294967295) - 1, stamp = NULL WHERE id & 4294967295 = 2", of=file)]
+             made("back.db", "UPDATE items SET last = (id & 4294967295) - 1, stamp = NULL WHERE id & 4294967295 = 2", of=file),
+             made("no_device.db", "DELETE FROM devices", of=file)]
     for name in names:
         with open(name, "rb") as it:
             before = it.read()
-        for words in (["keep", name, device.address, "1"], ["keep", name], ["kept", name]):
+        for words in (["keep", name, device.address, "1"], ["keep", name], ["kept", name], ["check", name]):
             status, out, errors = judge.ran(words)
             right = status == 6 and out == "" and errors.startswith(f"file fault\n{name}: ")
             judge.is_right(f"{os.path.basename(name)}", right, f"status {status}: {out} {errors}")
         with open(name, "rb") as it:
             judge.is_right(f"{os.path.basename(name)} is left as it is", it.read() == before, "it has changed")
-    no_device = made("no_device.db", "DELETE FROM devices", of=file)
-    for words in (["keep", no_device], ["kept", no_device], ["check", no_device]):
-        status, out, errors = judge.ran(words)
-        judge.lacks("no device", f"{words[0]} of an archive without a device", status == 6)
-        judge.is_right(f"{words[0]} of an archive without a device", status == 0 and errors == "", f"status {status}: {out} {errors}")
     judge.is_right("no log is left beside a text", not os.path.exists(f"{text}-wal"), "there is one")
     status, out, errors = judge.ran(["kept", f"{judge.room}/none.db"])
     judge.is_right("no file", status == 6 and not os.path.exists(f"{judge.room}/none.db"), f"status {status}: {errors}")
@@ -726,4 +725,4 @@ def judgements(judge, _runs):
 CASES = [judgements, run_after_run, beginnings, options, losses, line_by_line, step_limits, last_epoch, dead_devices, dead_at_once, at_once, own_address, own_address_echoes, ids_go_on, ids_go_on_behind_the_longest, each_option, window, lists_at_once, whole_lists, silent_lists, other_devices, asked_at_once, words_and_names, no_archive, barred, far_away, rounds, restarts, clocks, questions, cut_files, foreign_files, objects_beside, a_large_file, printed, taken_over, served,
          stopped, terminals, names, own_words, own_rule, own_lives, first_answers, renewed, moved, moved_ways, two_of_one, told_later,
          moved_at_each_call, moved_at_random, emptied, never_begun, overwritten, told_at_once, started_meanwhile, started_and_killed, said_more, several, unlisted, listed, listed_twice, told_beside, told_among_others, parts, parts_refused, parts_ended,
-         file_limits, part_limits, dates, last_records, converted_files, folders, folders_damaged, checked, checked_parts, groups, holes, holes_in_parts]
+         file_limits, part_limits, dates, json_lines, last_records, waited, waited_for_parts, waited_in_vain, converted_files, folders, folders_damaged, checked, checked_parts, groups, holes, holes_in_parts]

@@ -95,7 +95,7 @@ def folders_damaged(judge, _runs):
     whole = rows_of(judge.ran(["kept", folder, "--csv"])[1])[1]
 
     def printed(name, wanted, status=6):
-        got, out, errors = judge.ran(["kept", folder, "--csv"])
+        got, out, errors = judge.ran(["kept", folder, "--csv", "--wait=0"])
         judge.same(f"{name}: what is told", (got, errors), (status, wanted))
         rows = rows_of(out)[1]
         judge.is_right(f"{name}: what is printed", len(rows) == len(set(rows)) and set(rows) < set(whole), len(rows))

@@ -49,13 +49,13 @@ def holes(judge, _runs):
     judge.same("that has a gap and another epoch", judge.ran(["keep", file])[::2], (0, dropped(device, 21, 30, 2) + anew(device, 4)))
     judge.same("is still whole", judge.ran(["keep", file])[::2], (0, ""))
     cases = (
-        ("one in the middle", [row(1, 0, "= 100")], "\nhole 100 100\n"),
-        ("two stretches", [row(1, 0, "IN (7, 8, 9, 250)")], "\nhole 7 9\nhole 250 250\n"),
-        ("the first", [row(1, 0, "= 1")], "\nhole 1 1\n"),
-        ("a gap", [f"{OF_LOG.format(2)} AND last IS NOT NULL"], "\nhole 21 30\n"),
-        ("the first of another epoch", [row(4, 1, "< 3")], "\nhole 1 2\n"),
+        ("one in the middle", [row(1, 0, "= 100")], "\nmissing 100-100\n"),
+        ("two stretches", [row(1, 0, "IN (7, 8, 9, 250)")], "\nmissing 7-9\nmissing 250-250\n"),
+        ("the first", [row(1, 0, "= 1")], "\nmissing 1-1\n"),
+        ("a gap", [f"{OF_LOG.format(2)} AND last IS NOT NULL"], "\nmissing 21-30\n"),
+        ("the first of another epoch", [row(4, 1, "< 3")], "\nmissing 1-2\n"),
         ("an epoch", [row(4, 0, "> 0")], " 4 epoch 0: gone\n"),
-        ("those of several logs", [row(1, 0, "BETWEEN 40 AND 49"), row(4, 1, "= 4"), row(2, 0, "= 2")], "\nhole 4 4\n"),
+        ("those of several logs", [row(1, 0, "BETWEEN 40 AND 49"), row(4, 1, "= 4"), row(2, 0, "= 2")], "\nmissing 4-4\n"),
     )
     for name, which, text in cases:
         deleted(copied(file, copy), *which)
@@ -89,10 +89,10 @@ def holes_in_parts(judge, _runs):
     judge.same("it is whole", (judge.ran(["keep", folder])[::2], names(folder)), ((0, ""), ["000001.db", "000002.db"]))
     newest, whole, merged = f"{folder}/000002.db", f"{judge.room}/newest.db", f"{judge.room}/merged.db"
     cases = (
-        ("one in the middle", [row(1, 0, "= 45")], "\nhole 45 45\n"),
-        ("those behind what was taken over", [row(1, 0, "IN (31, 32, 50)")], "\nhole 31 32\n"),
-        ("the first of another epoch", [row(2, 1, "< 4")], " 2 epoch 1: 4 to 9, 6 records, 0 gaps\nhole 1 3\n"),
-        ("one of a log that had none", [row(3, 0, "= 2")], "\nhole 2 2\n"),
+        ("one in the middle", [row(1, 0, "= 45")], "\nmissing 45-45\n"),
+        ("those behind what was taken over", [row(1, 0, "IN (31, 32, 50)")], "\nmissing 31-32\n"),
+        ("the first of another epoch", [row(2, 1, "< 4")], " 2 epoch 1: 4 to 9, 6 records, 0 gaps\nmissing 1-3\n"),
+        ("one of a log that had none", [row(3, 0, "= 2")], "\nmissing 2-2\n"),
     )
     copied(newest, whole)
     for name, which, text in cases:

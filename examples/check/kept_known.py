@@ -5,7 +5,6 @@ KNOWN = {
     "two": "that two devices tell one instance isn't told",
     "router": "that a router has no way to a device's network isn't told",
     "goes on": "that a log goes on at a number, or began anew, stands in no row",
-    "no device": "an archive in which a log's device has no row is taken",
     "other text": "a device is polled whose address stands in another text than its own",
     "count": "no count of records is on a terminal",
     "overwritten": "a log that overwrites its newest known record while it is asked for it again is told to have begun anew",

@@ -156,7 +156,7 @@ def parts_refused(judge, _runs):
     shutil.move(f"{first}.away", first)
     with contextlib.closing(sqlite3.connect(first, isolation_level=None)) as base:
         base.execute("BEGIN EXCLUSIVE")
-        judge.same("the one before is in use", judge.ran(["keep", folder]), in_use(first))
+        judge.same("the one before is in use", judge.ran(["keep", folder, "--wait=0"]), in_use(first))
     with contextlib.closing(sqlite3.connect(f"{folder}/other.db")) as base:
         base.execute("CREATE TABLE other (id INTEGER PRIMARY KEY)")
         base.commit()

@@ -28,6 +28,10 @@ no reply from $at|2"
 bac wi "$at" --timeout=100
 is 'nobody answers' "$said" '|no answer
 addresses asked: 1; devices that answer by broadcast are only heard with --local=0.0.0.0:47808|2'
+# At the address at which broadcasts are heard, that isn't advised.
+bac wi "$at" --local=0.0.0.0:47808 --timeout=100
+is 'nobody answers where broadcasts are heard' "$said" '|no answer
+addresses asked: 1|2'
 printf '%s\n' 127.0.0.1:1 '# and' '' "$at" > "$room/list"
 bac wi - --timeout=100 < "$room/list"
 is 'nobody of two answers' "$said" '|no answer

@@ -30,7 +30,7 @@ use Rattle.sqlite.specs.State.{State, HasCleanDisk, Shown, ShowsRows, Begins, Su
 use Rattle.sqlite.proofs.StateLemmas.{survives_then, survives_weaker}
 use Rattle.sqlite.proofs.Callers.{IsPlain, command_of, reads_as, begins_as, never_commits, unchanged_then}
 use Rattle.bac_archive.specs.Schema.{HasArchive}
-use Rattle.bac_archive.specs.Ask.{IsAnswer, IsAsWas, IsLeft, asked, falls, rises, tree_of}
+use Rattle.bac_archive.specs.Ask.{FailsToAnswer, FailsToAnswerTo, IsAnswer, IsAsWas, IsLeft, asked, falls, rises, tree_of}
 use Rattle.bac_archive.specs.declared.asking.Question.{Question}
 use Rattle.bac_archive.specs.declared.asking.Question.TheVariants.{Archive, Devices, Logs, Beginnings, Items, Spans}
 use Rattle.bac_archive.proofs.AroundLemmas.{around, is_around}
@@ -256,3 +256,12 @@ on_ok (Err e) X x = tt
 pub as_was_behind : {S : Type 0} (g : Ghosts S) (a b c : Held S) → IsUnchanged (state g a) (state g b) → IsAsWas g b c → IsAsWas g a c
 as_was_behind g a b c one (inl none) = inr (subst (λ h. IsUnchanged (state g a) (state g h)) (sym none) one)
 as_was_behind g a b c one (inr two) = inr (unchanged_then (state g a) (state g b) (state g c) one two)
+
+-- the database gives up on one of two questions
+pub one_of_two : {S : Type 0} (g : Ghosts S) (old new : Held S) (one two : Question) (e : Error) → FailsToAnswerTo g one old new e ⊎ FailsToAnswerTo g two old new e → FailsToAnswer g old new e
+one_of_two g old new one two e (inl it) = (one, it)
+one_of_two g old new one two e (inr it) = (two, it)
+
+-- or on one that is asked behind what changed nothing
+pub answer_behind : {S : Type 0} (g : Ghosts S) (a b c : Held S) (e : Error) → IsUnchanged (state g a) (state g b) → FailsToAnswer g b c e → FailsToAnswer g a c e
+answer_behind g a b c e same (question, (mid, was, why)) = (question, (mid, as_was_behind g a b mid same was, why))

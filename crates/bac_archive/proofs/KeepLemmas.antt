@@ -14,13 +14,14 @@ use Rattle.sqlite_rules.specs.Edit.{is_taken}
 use Rattle.sqlite_trees.specs.Tree.{Trees, rowid, put_row}
 use Rattle.sqlite.specs.Values.{bound_value, or_null}
 use Rattle.bac_archive.specs.Ask.{shown}
-use Rattle.bac_archive.specs.Archive.{AreBegun, EndsAt, HasId, HasIdBelow, HaveIdsBelow, IsBegunBy, IsOfVersion, LieApart, RiseFrom}
+use Rattle.bac_archive.specs.Archive.{AreBegun, AreOfDevices, EndsAt, HasId, HasIdBelow, HaveDevices, HaveIdsBelow, IsBegunBy, IsOfDevice, IsOfVersion, LieApart, RiseFrom}
 use Rattle.bac_archive.specs.Keep.{AllLieBefore, AreFit, GoesOn, IsFit, PutsKeepArchive, with_put}
 use Rattle.bac_archive.specs.Put.{AreFree, IsFree, left, lowered, replaced, row_of, table_of}
 use Rattle.bac_archive.specs.Read.{numbers}
 use Rattle.bac_archive.specs.Schema.{HasArchive}
 use Rattle.bac_archive.specs.Stands.{epochs}
 use Rattle.bac_archive.specs.declared.row.ItemRow.{ItemRow}
+use Rattle.bac_archive.specs.declared.row.LogRow.{LogRow}
 use Rattle.bac_archive.specs.declared.row.Put.{Put}
 use Rattle.bac_archive.specs.declared.row.Put.TheVariants.{NewDevice, Device, NewLog, Log, Beginning, Lowered, Item}
 use Rattle.bac_archive.proofs.LawLemmas.{keep_version}
@@ -131,6 +132,41 @@ apart_put i trees on free (spans, same, rise) =
       it.2,
     )
 
+-- ---- logs have devices
+
+-- those of each of these logs have, if that of each does
+pub have_devices : (devices : List Values) (at : ℕ) (logs : List Values) → ((log : Values) → Contains logs log → IsOfDevice devices at log) → AreOfDevices devices at logs
+have_devices devices at logs each = record { each = All-from_recursion (IsOfDevice devices at) logs (go logs each) }
+  where
+    go : (xs : List Values) → ((log : Values) → Contains xs log → IsOfDevice devices at log) → AllByRecursion (IsOfDevice devices at) xs
+    go [] each = tt
+    go (x ∷ xs) each = (each x (0, omega arith, refl), go xs (λ log there. each log (later x log xs there)))
+
+pub of_device : (devices : List Values) (at : ℕ) (logs : List Values) → AreOfDevices devices at logs → (log : Values) → Contains logs log → IsOfDevice devices at log
+of_device devices at logs all log there = go logs (recursion_from_All (IsOfDevice devices at) logs all.each) there
+  where
+    go : (xs : List Values) → AllByRecursion (IsOfDevice devices at) xs → Contains xs log → IsOfDevice devices at log
+    go [] all (i, lt, is) = absurd (omega (arith, lt))
+    go (x ∷ xs) all (zero, lt, is) = subst (IsOfDevice devices at) is all.0
+    go (x ∷ xs) all (suc i, lt, is) = go xs all.1 (i, omega (arith, lt), is)
+
+-- they have where each id of a device stays
+still_have : (old new logs : List Values) → ((n : ℕ) → HasId old n → HasId new n) → AreOfDevices old 2 logs → AreOfDevices new 2 logs
+still_have old new logs stay all = have_devices new 2 logs (λ log there. let it = of_device old 2 logs all log there in (it.0, it.1, stay it.0 it.2))
+
+-- a log that is put has the device that it names
+put_has_device : (devices : List Values) (l : LogRow) → HasId devices l.device → IsOfDevice devices 2 (row_of (Log l))
+put_has_device devices l has = (l.device, cast_int (pos l.device), has)
+
+-- and so have those among which it is
+among_have : (devices : List Values) (l : LogRow) (old new : List Values) → HasId devices l.device → ((row : Values) → Contains new row → (row_of (Log l) ≡ row) ⊎ Contains old row)
+    → AreOfDevices devices 2 old → AreOfDevices devices 2 new
+among_have devices l old new has from all = have_devices devices 2 new (λ log there. go log (from log there))
+  where
+    go : (log : Values) → (row_of (Log l) ≡ log) ⊎ Contains old log → IsOfDevice devices 2 log
+    go log (inl same) = subst (IsOfDevice devices 2) same (put_has_device devices l has)
+    go log (inr there) = of_device devices 2 old all log there
+
 -- ---- a put
 
 -- what an archive has beside its schema and its version
@@ -138,6 +174,7 @@ record Sound (trees : Trees) : Type 0 where
   pub devices : HaveIdsBelow 65536 (trees 1)
   pub logs : HaveIdsBelow 65536 (trees 3)
   pub beginnings : HaveIdsBelow 2147483648 (trees 6)
+  pub of_devices : HaveDevices trees
   pub apart : LieApart (trees 5)
   pub begun : AreBegun trees
 
@@ -152,6 +189,7 @@ module _ (trees : Trees) (sound : Sound trees) where
     devices = below_put 65536 d.id (row_of (NewDevice d)) (trees 1) refl fit (free refl refl) sound.devices;
     logs = sound.logs;
     beginnings = sound.beginnings;
+    of_devices = still_have (trees 1) (put_row (row_of (NewDevice d)) (trees 1)) (trees 3) (λ n. has_put (row_of (NewDevice d)) (trees 1) (free refl refl) (pos n)) sound.of_devices;
     apart = sound.apart;
     begun = sound.begun;
   }
@@ -159,20 +197,23 @@ module _ (trees : Trees) (sound : Sound trees) where
     devices = below_left 65536 d.id (row_of (Device d)) (trees 1) (replaced (row_of (Device d)) (trees 1)) refl fit (replaced_takes (pos d.id) (row_of (Device d)) refl (trees 1)) sound.devices;
     logs = sound.logs;
     beginnings = sound.beginnings;
+    of_devices = still_have (trees 1) (replaced (row_of (Device d)) (trees 1)) (trees 3) (λ n. has_left (pos d.id) (row_of (Device d)) refl (trees 1) (replaced (row_of (Device d)) (trees 1)) (replaced_takes (pos d.id) (row_of (Device d)) refl (trees 1)) (pos n)) sound.of_devices;
     apart = sound.apart;
     begun = sound.begun;
   }
   keeps_one (NewLog l) free fit = record {
     devices = sound.devices;
-    logs = below_put 65536 l.id (row_of (NewLog l)) (trees 3) refl fit (free refl refl) sound.logs;
+    logs = below_put 65536 l.id (row_of (NewLog l)) (trees 3) refl fit.0 (free refl refl) sound.logs;
     beginnings = sound.beginnings;
+    of_devices = among_have (trees 1) l (trees 3) (put_row (row_of (NewLog l)) (trees 3)) fit.1 (from_put (row_of (NewLog l)) (trees 3) (free refl refl)) sound.of_devices;
     apart = sound.apart;
     begun = still_begun (trees 6) (put_row (row_of (NewLog l)) (trees 3)) (λ n has. has) (λ n. has_put (row_of (NewLog l)) (trees 3) (free refl refl) (pos n));
   }
   keeps_one (Log l) free fit = record {
     devices = sound.devices;
-    logs = below_left 65536 l.id (row_of (Log l)) (trees 3) (replaced (row_of (Log l)) (trees 3)) refl fit (replaced_takes (pos l.id) (row_of (Log l)) refl (trees 3)) sound.logs;
+    logs = below_left 65536 l.id (row_of (Log l)) (trees 3) (replaced (row_of (Log l)) (trees 3)) refl fit.0 (replaced_takes (pos l.id) (row_of (Log l)) refl (trees 3)) sound.logs;
     beginnings = sound.beginnings;
+    of_devices = among_have (trees 1) l (trees 3) (replaced (row_of (Log l)) (trees 3)) fit.1 (from_left (pos l.id) (row_of (Log l)) refl (trees 3) (replaced (row_of (Log l)) (trees 3)) (replaced_takes (pos l.id) (row_of (Log l)) refl (trees 3))) sound.of_devices;
     apart = sound.apart;
     begun = still_begun (trees 6) (replaced (row_of (Log l)) (trees 3)) (λ n has. has) (λ n. has_left (pos l.id) (row_of (Log l)) refl (trees 3) (replaced (row_of (Log l)) (trees 3)) (replaced_takes (pos l.id) (row_of (Log l)) refl (trees 3)) (pos n));
   }
@@ -180,6 +221,7 @@ module _ (trees : Trees) (sound : Sound trees) where
     devices = sound.devices;
     logs = sound.logs;
     beginnings = below_put 2147483648 b.id (row_of (Beginning b)) (trees 6) refl fit (free refl refl) sound.beginnings;
+    of_devices = sound.of_devices;
     apart = sound.apart;
     begun = still_begun (put_row (row_of (Beginning b)) (trees 6)) (trees 3) (λ n. has_put (row_of (Beginning b)) (trees 6) (free refl refl) (pos n)) (λ n has. has);
   }
@@ -190,6 +232,7 @@ module _ (trees : Trees) (sound : Sound trees) where
         devices = sound.devices;
         logs = sound.logs;
         beginnings = below_left 2147483648 b.id (row_of (Lowered b)) (trees 6) left refl fit took sound.beginnings;
+        of_devices = sound.of_devices;
         apart = sound.apart;
         begun = still_begun left (trees 3) (λ n. has_left (pos b.id) (row_of (Lowered b)) refl (trees 6) left took (pos n)) (λ n has. has);
       }
@@ -197,6 +240,7 @@ module _ (trees : Trees) (sound : Sound trees) where
     devices = sound.devices;
     logs = sound.logs;
     beginnings = sound.beginnings;
+    of_devices = sound.of_devices;
     apart = apart_put i trees fit (free refl refl) sound.apart;
     begun = λ item there. one item (from_put (row_of (Item i)) (trees 5) (free refl refl) item there);
   }
@@ -235,7 +279,7 @@ keep_archive old new puts is put fit =
     let rows = subst (AllByRecursion (λ (t : Table). new.trees t.tree ≡ left t.tree (old.trees t.tree) puts)) has.tables.are put.rows in
     let once = subst (AllByRecursion (λ (t : Table). AreFree t.tree (old.trees t.tree) puts)) has.tables.are put.once in
     let free : AreFreeAt old.trees puts = record { devices = once.1.0; logs = once.1.1.0; items = once.1.1.1.0; beginnings = once.1.1.1.1.0 } in
-    let all = keeps_all puts old.trees (record { devices = is.in_range.devices; logs = is.in_range.logs; beginnings = is.in_range.beginnings; apart = is.apart; begun = is.begun }) free fit in
+    let all = keeps_all puts old.trees (record { devices = is.in_range.devices; logs = is.in_range.logs; beginnings = is.in_range.beginnings; of_devices = is.of_devices; apart = is.apart; begun = is.begun }) free fit in
     record {
       schema = subst HasArchive (sym put.schema) has;
       version_is = subst IsOfVersion (sym (keep_version old new puts has put)) is.version_is;
@@ -244,6 +288,7 @@ keep_archive old new puts is put fit =
         logs = subst (HaveIdsBelow 65536) (sym rows.1.1.0) all.logs;
         beginnings = subst (HaveIdsBelow 2147483648) (sym rows.1.1.1.1.0) all.beginnings;
       };
+      of_devices = still_have _ _ (new.trees 3) (λ n. subst (λ l. HasId l n) (sym rows.1.0)) (subst (AreOfDevices _ 2) (sym rows.1.1.0) all.of_devices);
       apart = subst LieApart (sym rows.1.1.1.0) all.apart;
       begun = λ item there.
           let it = all.begun item (subst (λ l. Contains l item) rows.1.1.1.0 there) in

@@ -1,11 +1,15 @@
 -- Rows by rising ids.
-use Rattle.std.proofs.Common.{◌≡◌, refl, sym, ap, subst, subst₂, ◌∙◌, ℕ, ◌+◌, ◌-◌, List, [], ◌∷◌, ◌++◌, map, get_or, length, reverse, false, is_lt, arith}
+use Rattle.std.proofs.Common.{◌≡◌, ◌⊎◌, inl, inr, refl, sym, ap, subst, subst₂, ◌∙◌, ℕ, ◌+◌, ◌-◌, List, [], ◌∷◌, ◌++◌, map, get_or, length, reverse, false, is_lt, arith}
 use Rattle.std.specs.List.Sorted.{IsPermutation, IsSorted}
 use Rattle.std.proofs.lemmas.List.{get_or-reverse, length-reverse, map-append, reverse-append}
 use Rattle.std.proofs.lemmas.List.Sorted.{IsPermutation-reverse, IsPermutation-trans}
 use Rattle.sqlite_value.specs.Order.{Row as Values, column, value_cmp}
-use Rattle.bac_archive.specs.Ask.{falls, first, rises, shown}
-use Rattle.bac_archive.specs.Known.{AreRowsOf}
+use Rattle.sqlite.specs.Held.{Held}
+use Rattle.sqlite.specs.declared.error.Error.{Error}
+use Rattle.sqlite_trees.specs.declared.store.Store.{Ghosts}
+use Rattle.bac_archive.specs.Ask.{FailsToAnswerTo, falls, first, rises, shown}
+use Rattle.bac_archive.specs.Known.{AreRowsOf, FailsToKnow}
+use Rattle.bac_archive.specs.declared.asking.Question.TheVariants.{Devices, Logs}
 use Rattle.bac_archive.proofs.ReadLemmas.{whole_rows}
 
 -- those that fall rise from the last on
@@ -36,3 +40,8 @@ module _ {X : Type 0} (n m : ℕ) (f : X → Values) (table rows : List Values) 
   turned_rows sorted =
       let are = turned told ∙ ap reverse (read ∙ whole_rows n m table rows whole same) in
       subst (AreRowsOf m table) (sym are) (IsPermutation-trans _ rows (reverse rows) same (IsPermutation-reverse rows), rises_turned rows sorted)
+
+-- the question for devices fails, or that for logs
+pub known_of_two : {S : Type 0} (g : Ghosts S) (old new : Held S) (e : Error) → FailsToAnswerTo g Devices old new e ⊎ FailsToAnswerTo g Logs old new e → FailsToKnow g old new e
+known_of_two g old new e (inl it) = inl (Devices, tt, it)
+known_of_two g old new e (inr it) = inl (Logs, tt, it)

@@ -26,7 +26,7 @@ use Rattle.bac_archive.specs.declared.row.Put.TheVariants.{NewDevice, NewLog, Be
 use Rattle.bac_archive.specs.declared.standing.Standing.{Standing}
 use Rattle.bac_archive.proofs.ApartLemmas.{ends_behind}
 use Rattle.bac_archive.proofs.FallLemmas.{FallFrom, apart_fall, fall_filter, fall_rises, fall_take, filter_turned, map_turned}
-use Rattle.bac_archive.proofs.KeepLemmas.{below_one, keep_archive, last_is}
+use Rattle.bac_archive.proofs.KeepLemmas.{below_one, keep_archive, last_is, of_device}
 use Rattle.bac_archive.proofs.LeftLemmas.{HasInt, from_put, has_put, put_is}
 use Rattle.bac_archive.proofs.OrphanLemmas.{from_map, in_map, new_is}
 use Rattle.bac_archive.proofs.PutLemmas.{put_nothing}
@@ -70,9 +70,9 @@ fit_devices : (ds : List DeviceRow) (trees : Trees) → AllByRecursion (λ d. d.
 fit_devices [] trees all = tt
 fit_devices (d ∷ ds) trees all = (all.0, fit_devices ds (with_put trees (NewDevice d)) all.1)
 
-fit_logs : (ls : List LogRow) (trees : Trees) → AllByRecursion (λ l. l.id < 65536) ls → AreFit trees (map NewLog ls)
-fit_logs [] trees all = tt
-fit_logs (l ∷ ls) trees all = (all.0, fit_logs ls (with_put trees (NewLog l)) all.1)
+fit_logs : (ls : List LogRow) (trees : Trees) → AllByRecursion (λ l. l.id < 65536) ls → ((l : LogRow) → Contains ls l → HasId (trees 1) l.device) → AreFit trees (map NewLog ls)
+fit_logs [] trees all have = tt
+fit_logs (l ∷ ls) trees all have = ((all.0, have l (0, omega arith, refl)), fit_logs ls (with_put trees (NewLog l)) all.1 (λ x there. have x (suc there.0, omega (arith, there.1), there.2)))
 
 fit_beginnings : (bs : List BeginningRow) (trees : Trees) → AllByRecursion (λ b. b.id < 2147483648) bs → AreFit trees (map Beginning bs)
 fit_beginnings [] trees all = tt
@@ -221,6 +221,17 @@ module _ (old : Database) (is : IsArchive old) (s : Standing) (told : StandsAs o
   logs_below : AllByRecursion (λ l. l.id < 65536) s.logs.items
   logs_below = told_below 65536 9 log_columns (λ l. l.id) (λ l. refl) (old.trees 3) is.in_range.logs s.logs.items (λ row. Contains-permutation _ _ row (IsPermutation-sym _ _ told.logs))
 
+  -- the device of a log that is told is told
+  device_told : (l : LogRow) → Contains s.logs.items l → (d : DeviceRow) × Contains s.devices.items d × (d.id ≡ l.device)
+  device_told l there =
+      let log = from_map (shown 9) (old.trees 3) (log_columns l) (Contains-permutation _ _ (log_columns l) (IsPermutation-sym _ _ told.logs) (in_map log_columns s.logs.items l there)) in
+      let named = of_device (old.trees 1) 2 (old.trees 3) is.of_devices log.0 log.1 in
+      let row = named.2.0 in
+      let d = from_map device_columns s.devices.items (shown 10 row) (Contains-permutation _ _ (shown 10 row) told.devices (in_map (shown 10) (old.trees 1) row named.2.1)) in
+      let one : Int (pos d.0.id) ≡ Int (pos named.0) = ap (λ r. column r 0) d.2 ∙ named.2.2 in
+      let two : Int (pos named.0) ≡ Int (pos l.device) = sym named.1 ∙ ap (λ r. column r 1) log.2 in
+      (d.0, d.1, let both = one ∙ two in cc)
+
   last_below : AllByRecursion (λ b. b.id < 2147483648) s.last.items
   last_below = told_below 2147483648 2 beginning_columns (λ b. b.id) (λ b. refl) (old.trees 6) is.in_range.beginnings s.last.items told.last.there
 
@@ -282,7 +293,7 @@ module _ (old : Database) (is : IsArchive old) (s : Standing) (told : StandsAs o
   I = map Item (reverse s.newest.items)
 
   -- what is put of it into an archive that has nothing is fit
-  module _ (made : Database) (is_made : IsArchive made) (no_items : made.trees 5 ≡ []) (free_logs : AreFree 3 (made.trees 3) (puts_of s)) (free_items : AreFree 5 (made.trees 5) (puts_of s))
+  module _ (made : Database) (is_made : IsArchive made) (no_items : made.trees 5 ≡ []) (free_devices : AreFree 1 (made.trees 1) (puts_of s)) (free_logs : AreFree 3 (made.trees 3) (puts_of s)) (free_items : AreFree 5 (made.trees 5) (puts_of s))
       (free_last : AreFree 6 (made.trees 6) (puts_of s)) where
     abbrev after_devices : Trees
     after_devices tree = left tree (made.trees tree) D
@@ -296,6 +307,12 @@ module _ (old : Database) (is : IsArchive old) (s : Standing) (told : StandsAs o
     no_items_yet : after_last 5 ≡ []
     no_items_yet = untouched 5 Beginning (λ x rows. refl) s.last.items (after_logs 5) ∙ untouched 5 NewLog (λ x rows. refl) s.logs.items (after_devices 5)
         ∙ untouched 5 NewDevice (λ x rows. refl) s.devices.items (made.trees 5) ∙ no_items
+
+    has_device : (l : LogRow) → Contains s.logs.items l → HasId (after_devices 1) l.device
+    has_device l there =
+        let it = device_told l there in
+        subst (HasId (after_devices 1)) it.2
+        (come 1 NewDevice (λ d. d.id) (λ x rows. refl) (λ x. refl) (λ x rows free. free refl refl) s.devices.items (made.trees 1) (free_apart 1 D (L ++ (B ++ I)) (made.trees 1) free_devices).0 it.0 it.1)
 
     has_log : (l : LogRow) → Contains s.logs.items l → HasId (after_last 3) l.id
     has_log l there =
@@ -320,7 +337,7 @@ module _ (old : Database) (is : IsArchive old) (s : Standing) (told : StandsAs o
     fit =
         let free = (free_apart 5 B I (after_logs 5) (free_apart 5 L (B ++ I) (after_devices 5) (free_apart 5 D (L ++ (B ++ I)) (made.trees 5) free_items).1).1).1 in
         fit_both D (L ++ (B ++ I)) made.trees (fit_devices s.devices.items made.trees devices_below)
-        (fit_both L (B ++ I) after_devices (fit_logs s.logs.items after_devices logs_below)
+        (fit_both L (B ++ I) after_devices (fit_logs s.logs.items after_devices logs_below has_device)
         (fit_both B I after_logs (fit_beginnings s.last.items after_logs last_below)
         (fit_items (reverse s.newest.items) after_last free
         (grounded (reverse s.newest.items) (λ item has. Contains-permutation _ _ item (IsPermutation-sym _ _ (IsPermutation-reverse s.newest.items)) has))
@@ -333,4 +350,4 @@ pub part_is_archive : PartIsArchive
 part_is_archive old new is (s, told, (made, is_new, put)) =
     let is_made = new_is _ made (made, is_new, put_nothing made) in
     let once = subst (AllByRecursion (λ (t : Table). AreFree t.tree (made.trees t.tree) (puts_of s))) is_made.schema.tables.are put.once in
-    keep_archive made new (puts_of s) is_made put (fit old is s told made is_made is_new.items once.1.1.0 once.1.1.1.0 once.1.1.1.1.0)
+    keep_archive made new (puts_of s) is_made put (fit old is s told made is_made is_new.items once.1.0 once.1.1.0 once.1.1.1.0 once.1.1.1.1.0)

@@ -19,7 +19,7 @@ use Rattle.sqlite.specs.State.{IsUnchanged}
 use Rattle.bac_archive.proofs.AskLemmas.{as_was_behind}
 use Rattle.bac_archive.specs.Ask.{AreAnswers, IsAnswer, first, shown}
 use Rattle.bac_archive.specs.Read.{Kind, below, IsOf, IsUnread, FailsToRead, FailsToReadOne, archive_kinds, item_kinds}
-use Rattle.bac_archive.specs.Stands.{FailsToTell, HasUnread, IsNotTold, kinds_of}
+use Rattle.bac_archive.specs.Stands.{FailsToTell, HasUnread, HasUnreadIn, IsNotTold, kinds_of}
 use Rattle.bac_archive.specs.declared.asking.Question.TheVariants.{Archive, Devices, Logs, Items}
 use Rattle.bac_archive.specs.declared.asking.Question.{Question}
 use Rattle.bac_archive.specs.declared.asking.Tables.{Tables}
@@ -97,8 +97,11 @@ no_moment tables e (inl none) = inl none
 no_moment tables e (inr one) = inr (inl one)
 
 -- a row of an answer is one of its table
+pub unread_in : (q : Question) (trees : Trees) (rows : List Values) (e : Error) → IsAnswer q trees rows → FailsToReadOne (kinds_of q) rows e → HasUnreadIn q trees e
+unread_in q trees rows e is (row, there, why) = (row, Contains-permutation _ _ row (IsPermutation-sym _ _ is.each) there, why)
+
 pub unread_row : (q : Question) (trees : Trees) (rows : List Values) (e : Error) → IsAnswer q trees rows → FailsToReadOne (kinds_of q) rows e → HasUnread trees e
-unread_row q trees rows e is (row, there, why) = (q, (row, Contains-permutation _ _ row (IsPermutation-sym _ _ is.each) there, why))
+unread_row q trees rows e is why = (q, unread_in q trees rows e is why)
 
 -- what the tables don't tell isn't told of the archive
 pub not_told : {S : Type 0} (g : Ghosts S) (old new : Held S) (tables : Tables) (e : Error) → AreAnswers (state g old).now.trees tables → IsNotTold tables e → FailsToTell g old new e
@@ -139,7 +142,7 @@ moment_of table rows made same (row, there, is) =
 
 -- why an archive isn't told that was asked before, which changed nothing
 pub not_told_behind : {S : Type 0} (g : Ghosts S) (old mid new : Held S) (e : Error) → IsUnchanged (state g old) (state g mid) → FailsToTell g mid new e → FailsToTell g old new e
-not_told_behind g old mid new e one (inl (q, at, was, why)) = inl (q, at, as_was_behind g old mid at one was, why)
+not_told_behind g old mid new e one (inl (q, (at, was, why))) = inl (q, (at, as_was_behind g old mid at one was, why))
 not_told_behind g old mid new e one (inr (inl unread)) = inr (inl (subst (λ (d : Database). HasUnread d.trees e) one.0.now_is unread))
 not_told_behind g old mid new e one (inr (inr (inl none))) = inr (inr (inl (none.0, subst (λ (d : Database). d.trees 0 ≡ []) one.0.now_is none.1)))
 not_told_behind g old mid new e one (inr (inr (inr many))) = inr (inr (inr (many.0, subst (λ (d : Database). 18446744073709551615 ≤ length (d.trees 5)) one.0.now_is many.1)))

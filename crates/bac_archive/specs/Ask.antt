@@ -94,7 +94,10 @@ abbrev pub IsAsWas : {S : Type 0} → Ghosts S → Held S → Held S → Type 0
 IsAsWas g old new = (new ≡ old) ⊎ IsUnchanged (state g old) (state g new)
 
 -- the database gives up on a question, when nothing has changed before
+abbrev pub FailsToAnswerTo : {S : Type 0} → Ghosts S → Question → Held S → Held S → Error → Type 0
+FailsToAnswerTo {S = S} g question old new e =
+    (mid : Held S) × IsAsWas g old mid × FailsToQuery (asked question) [] (state g mid) (state g new) e
+
+-- it gives up on one of them
 abbrev pub FailsToAnswer : {S : Type 0} → Ghosts S → Held S → Held S → Error → Type 0
-FailsToAnswer {S = S} g old new e =
-    (question : Question) × (mid : Held S) × IsAsWas g old mid
-    × FailsToQuery (asked question) [] (state g mid) (state g new) e
+FailsToAnswer g old new e = (question : Question) × FailsToAnswerTo g question old new e

@@ -11,6 +11,7 @@ use Rattle.bac_archive.specs.Put.{IsPut, after}
 use Rattle.bac_archive.specs.Read.{numbers}
 use Rattle.bac_archive.specs.Stands.{epochs}
 use Rattle.bac_archive.specs.declared.row.ItemRow.{ItemRow}
+use Rattle.bac_archive.specs.declared.row.LogRow.{LogRow}
 use Rattle.bac_archive.specs.declared.row.Put.{Put}
 use Rattle.bac_archive.specs.declared.row.Put.TheVariants.{NewDevice, Device, NewLog, Log, Beginning, Lowered, Item}
 
@@ -30,12 +31,16 @@ pub record GoesOn (trees : Trees) (item : ItemRow) : Type 0 where
   pub known : HasId (trees 3) (id / numbers / epochs)
   pub behind : AllLieBefore (trees 5) id
 
--- a row is fit to be put here: its id is in range, and an item goes on where its epoch stands
+-- a log is fit to be put here: its id is in range, and its device has a row
+abbrev pub IsFitLog : Trees → LogRow → Type 0
+IsFitLog trees l = (l.id < 65536) × HasId (trees 1) l.device
+
+-- a row is fit to be put here: its id is in range, a log's device has a row, and an item goes on where its epoch stands
 abbrev pub IsFit : Trees → Put → Type 0
 IsFit trees (NewDevice d) = d.id < 65536
 IsFit trees (Device d) = d.id < 65536
-IsFit trees (NewLog l) = l.id < 65536
-IsFit trees (Log l) = l.id < 65536
+IsFit trees (NewLog l) = IsFitLog trees l
+IsFit trees (Log l) = IsFitLog trees l
 IsFit trees (Beginning b) = b.id < 2147483648
 IsFit trees (Lowered b) = b.id < 2147483648
 IsFit trees (Item i) = GoesOn trees i

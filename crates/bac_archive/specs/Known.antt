@@ -1,15 +1,16 @@
 -- What an archive has on record of devices, logs and epochs.
-use Rattle.std.specs.Prelude.{◌⊎◌, ℕ, List, map}
+use Rattle.std.specs.Prelude.{◌⊎◌, ⊤, ℕ, List, map}
 use Rattle.std.specs.List.Sorted.{IsPermutation, IsSorted}
 use Rattle.sqlite_value.specs.Order.{Row as Values}
 use Rattle.sqlite_trees.specs.Tree.{Trees}
 use Rattle.sqlite_trees.specs.declared.store.Store.{Ghosts}
 use Rattle.sqlite.specs.declared.error.Error.{Error}
 use Rattle.sqlite.specs.Held.{Held, state}
-use Rattle.bac_archive.specs.Ask.{FailsToAnswer, IsAnswer, rises, shown}
+use Rattle.bac_archive.specs.Ask.{FailsToAnswerTo, IsAnswer, rises, shown}
 use Rattle.bac_archive.specs.Put.{beginning_columns, device_columns, log_columns}
-use Rattle.bac_archive.specs.Stands.{HasUnread}
-use Rattle.bac_archive.specs.declared.asking.Question.TheVariants.{Beginnings, Devices, Logs}
+use Rattle.bac_archive.specs.Stands.{HasUnreadIn}
+use Rattle.bac_archive.specs.declared.asking.Question.{Question}
+use Rattle.bac_archive.specs.declared.asking.Question.TheVariants.{Archive, Beginnings, Devices, Items, Logs, Spans}
 use Rattle.bac_archive.specs.declared.known.Known.{Known}
 
 -- these are the rows of a table, with so many columns behind the id, by rising ids
@@ -27,6 +28,21 @@ abbrev pub AreAnswersTo : Trees → List Values → List Values → List Values 
 AreAnswersTo trees devices logs beginnings =
     IsAnswer Devices trees devices × IsAnswer Logs trees logs × IsAnswer Beginnings trees beginnings
 
--- Why they aren't told: the database gives up on a question, or a row can't be read.
+-- a question for devices, logs or beginnings
+abbrev pub AsksForKnown : Question → Type 0
+AsksForKnown Devices = ⊤
+AsksForKnown Logs = ⊤
+AsksForKnown Beginnings = ⊤
+AsksForKnown Archive = ⊥
+AsksForKnown Items = ⊥
+AsksForKnown Spans = ⊥
+
+-- a row of theirs isn't read
+abbrev pub HasUnreadKnown : Trees → Error → Type 0
+HasUnreadKnown trees e = (question : Question) × AsksForKnown question × HasUnreadIn question trees e
+
+-- Why they aren't told: the database gives up on a question for them, or one of their rows can't be read.
 abbrev pub FailsToKnow : {S : Type 0} → Ghosts S → Held S → Held S → Error → Type 0
-FailsToKnow {S = S} g old new e = FailsToAnswer g old new e ⊎ HasUnread (state g old).now.trees e
+FailsToKnow g old new e =
+    ((question : Question) × AsksForKnown question × FailsToAnswerTo g question old new e)
+    ⊎ HasUnreadKnown (state g old).now.trees e

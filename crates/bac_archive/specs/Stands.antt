@@ -98,11 +98,14 @@ IsNotTold tables e =
     ⊎ (FailsToReadOne archive_kinds tables.archive.items e
     ⊎ (FailsToReadOne device_kinds tables.devices.items e ⊎ FailsToReadOne log_kinds tables.logs.items e))
 
--- a row of a table isn't read
+-- a row of a table isn't read, as a question shows it
+abbrev pub HasUnreadIn : Question → Trees → Error → Type 0
+HasUnreadIn question trees e =
+    FailsToReadOne (kinds_of question) (map (shown (width question)) (trees (tree_of question))) e
+
+-- a row isn't read
 abbrev pub HasUnread : Trees → Error → Type 0
-HasUnread trees e =
-    (question : Question)
-    × FailsToReadOne (kinds_of question) (map (shown (width question)) (trees (tree_of question))) e
+HasUnread trees e = (question : Question) × HasUnreadIn question trees e
 
 -- Why an archive isn't told: the database gives up on a question; a row can't be read; its table has no row that says
 -- when it was made; or there are more items than are counted.

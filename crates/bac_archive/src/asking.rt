@@ -1,9 +1,10 @@
 //! What an archive is asked.
 
-ghost use Rattle.std.specs.Prelude.{◌≡◌, [], OnOk, IfErr, IfOk};
+ghost use Rattle.std.specs.Prelude.{◌≡◌, ◌⊎◌, [], OnOk, IfErr, IfOk};
 ghost use Rattle.sqlite.specs.State.{HasCleanDisk, Survives, IsUnchanged, FailsToQuery};
 ghost use Rattle.sqlite.specs.Held.{state};
-ghost use Rattle.bac_archive.specs.Ask.{AreAnswers, FailsToAnswer, IsAnswer, IsLeft, asked};
+ghost use Rattle.bac_archive.specs.Ask.{AreAnswers, FailsToAnswer, FailsToAnswerTo, IsAnswer};
+ghost use Rattle.bac_archive.specs.Ask.{IsLeft, asked};
 ghost use Rattle.bac_archive.specs.Schema.{HasArchive, OverArchive};
 
 use sqlite::{Alter, Connection, Error, Row};
@@ -87,7 +88,8 @@ pub(crate) fn rows_of_two<S: Alter>(
     ensures left { OverArchive (state S.Store conn.old) (state S.Store conn.new)
         (IsLeft (state S.Store conn.old) (state S.Store conn.new)) }
     ensures cause { OverArchive (state S.Store conn.old) (state S.Store conn.new)
-        (IfErr result (FailsToAnswer S.Store conn.old conn.new)) }
+        (IfErr result (λ e. FailsToAnswerTo S.Store one conn.old conn.new e
+        ⊎ FailsToAnswerTo S.Store two conn.old conn.new e)) }
     ensures crash { (HasCleanDisk (state S.Store conn.old)
         → HasArchive (state S.Store conn.old).now.schema)
         → Survives (state S.Store conn.old) (state S.Store conn.new) (λ _. ⊥) }

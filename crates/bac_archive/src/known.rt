@@ -5,9 +5,8 @@ ghost use Rattle.sqlite_trees.specs.Tree.{Trees};
 ghost use Rattle.sqlite.specs.State.{HasCleanDisk, IsUnchanged, Survives};
 ghost use Rattle.sqlite.specs.Held.{state};
 ghost use Rattle.bac_archive.specs.Ask.{IsLeft};
-ghost use Rattle.bac_archive.specs.Known.{AreAnswersTo, FailsToKnow, IsKnown};
+ghost use Rattle.bac_archive.specs.Known.{AreAnswersTo, FailsToKnow, HasUnreadKnown, IsKnown};
 ghost use Rattle.bac_archive.specs.Schema.{HasArchive, OverArchive};
-ghost use Rattle.bac_archive.specs.Stands.{HasUnread};
 
 use crate::asking::{Question, rows_of, rows_of_two};
 use crate::reading::{beginnings_of, devices_of, logs_of};
@@ -34,7 +33,7 @@ fn known_of(
     ensures known { (trees : Trees) → AreAnswersTo trees devices.now logs.now beginnings.now
         → IfOk result (IsKnown trees) }
     ensures cause { (trees : Trees) → AreAnswersTo trees devices.now logs.now beginnings.now
-        → IfErr result (HasUnread trees) }
+        → IfErr result (HasUnreadKnown trees) }
 {
     let devices = devices_of(alloc, devices)?;
     let mut logs = logs_of(alloc, logs)?;
@@ -61,7 +60,7 @@ pub fn read_known<S: Alter>(alloc: Global, conn: &mut Connection<S>) -> Result<K
     ensures crash { (HasCleanDisk (state S.Store conn.old)
         → HasArchive (state S.Store conn.old).now.schema)
         → Survives (state S.Store conn.old) (state S.Store conn.new) (λ _. ⊥) }
-    // Why it isn't told: the database gave up on a question, or a row can't be read.
+    // Why it isn't told: the database gave up on one of them, or a row of theirs can't be read.
     ensures cause { OverArchive (state S.Store conn.old) (state S.Store conn.new)
         (IfErr result (FailsToKnow S.Store conn.old conn.new)) }
     ensures clean { HasCleanDisk (state S.Store conn.new) → HasCleanDisk (state S.Store conn.old) }

@@ -26,6 +26,7 @@ pub(crate) fn refused(alloc: Global, why: Refused) -> Result<String, Why> {
         Refused::Earlier => "refused: an earlier format",
         Refused::Version => "refused: another version",
         Refused::Range => "refused: an id is out of range",
+        Refused::NoDevice => "refused: a log of no device",
         Refused::Overlap => "refused: items lie over one another",
         Refused::Orphan => "refused: an item of no log or of no beginning",
         Refused::Database(error) => return failed(alloc, error),

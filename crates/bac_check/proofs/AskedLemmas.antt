@@ -7,8 +7,7 @@ use Rattle.sqlite.specs.State.{IsUnchanged}
 use Rattle.sqlite.proofs.Callers.{unchanged_then}
 use Rattle.sqlite_trees.specs.declared.store.Store.{Ghosts}
 use Rattle.bac_archive.specs.Ask.{IsAsWas, IsLeft}
-use Rattle.bac_archive.specs.Known.{FailsToKnow}
-use Rattle.bac_archive.specs.Stands.{HasUnread}
+use Rattle.bac_archive.specs.Known.{FailsToKnow, HasUnreadKnown}
 use Rattle.bac_archive.specs.Schema.{HasArchive}
 use Rattle.bac_archive.proofs.AskLemmas.{left_then}
 pub use Rattle.bac_archive.proofs.AskLemmas.{as_was_behind}
@@ -55,8 +54,8 @@ module _ {S : Type 0} (g : Ghosts S) where
 
   -- what a database that was as it was fails by, it fails by
   knows_then : (a b c : Held S) (e : Error) → IsAsWas g a b → FailsToKnow g b c e → FailsToKnow g a c e
-  knows_then a b c e was (inl (question, mid, is, fails)) = inl (question, mid, as_was_both a b mid was is, fails)
-  knows_then a b c e was (inr it) = inr (subst (λ (d : Db). HasUnread d.trees e) (still a b was) it)
+  knows_then a b c e was (inl (question, asks, (mid, is, fails))) = inl (question, asks, (mid, as_was_both a b mid was is, fails))
+  knows_then a b c e was (inr it) = inr (subst (λ (d : Db). HasUnreadKnown d.trees e) (still a b was) it)
 
   range_then : (a b c : Held S) (e : Error) → IsAsWas g a b → FailsToRange g b c e → FailsToRange g a c e
   range_then a b c e was (range, mid, is, fails) = (range, mid, as_was_both a b mid was is, fails)

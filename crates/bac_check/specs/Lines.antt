@@ -108,7 +108,7 @@ epoch_line name gone course = name ++ (codes " epoch " ++ (decimal (epoch_in cou
 
 -- the line of a hole
 unfoldable pub hole_line : Hole → List ℕ
-hole_line hole = codes "hole " ++ (decimal hole.first ++ (32 ∷ (decimal hole.last ++ 10 ∷ [])))
+hole_line hole = codes "missing " ++ (decimal hole.first ++ (45 ∷ (decimal hole.last ++ 10 ∷ [])))
 
 -- the lines of holes
 abbrev pub holes_text : List Hole → List ℕ

@@ -158,9 +158,9 @@ fn push_lost(
 fn push_hole(text: &mut Vec<u8>, hole: Hole) -> Result<(), AllocError>
     ensures { OnOk result (text.new.items ≡ text.old.items ++ hole_line hole) }
 {
-    text.extend_from_slice(b"hole ")?;
+    text.extend_from_slice(b"missing ")?;
     push_number(text, u64::from(hole.first))?;
-    text.push(b' ')?;
+    text.push(b'-')?;
     push_number(text, u64::from(hole.last))?;
     text.push(b'\n')?;
     Ok(())

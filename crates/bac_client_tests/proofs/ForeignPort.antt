@@ -22,7 +22,7 @@ use Rattle.bac_ports.specs.declared.port.Heard.{Heard}
 use Rattle.bac_ports.specs.declared.udp_link.UdpLink.{UdpLink}
 use Rattle.bac_query.specs.Ahead.{FetchesAhead, errand}
 use Rattle.bac_query.specs.Fetching.{Fetching}
-use Rattle.bac_query.specs.declared.layout.Layout.TheVariants.{Lines}
+use Rattle.bac_form.specs.declared.form.Form.TheVariants.{Lines}
 use Rattle.bac_query.specs.Reading.{Held, printing}
 use Rattle.bac_walk.specs.Came.{Brought, reaching, walk_over}
 use Rattle.bac_walk.specs.Delivers.{NoneFrom}

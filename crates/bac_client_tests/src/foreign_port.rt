@@ -6,9 +6,10 @@ ghost use Rattle.bac_client_tests.specs.Foreign.{log as log_one};
 ghost use Rattle.bac_client_tests.specs.ForeignPort.{IsBrought, IsPut, PrintsHeld};
 
 use crate::foreign_callers::{FROM_9, reply_to};
+use bac_form::Form;
 use bac_link::Transactions;
 use bac_ports::{Heard, Port, SocketFault, UdpLink};
-use bac_query::{Fetched, Layout, QueryFault, fetch_log_ahead};
+use bac_query::{Fetched, QueryFault, fetch_log_ahead};
 use bac_walk::{Walk, Why, honest_is_delivered, transacted_is_brought};
 use bac_wire::{Address, Datagram, ObjectId};
 use std::alloc::Global;
@@ -93,7 +94,7 @@ pub fn printed_of_another_device<W: Write>(
         &mut transactions,
         walk,
         steps,
-        Layout::Lines,
+        Form::Lines,
         out,
     ))
 }

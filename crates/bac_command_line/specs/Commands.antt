@@ -1,18 +1,18 @@
 -- The words and options that each tool takes, with their defaults, as clap's contracts see a command.
 -- Each value is kept as text.
-use Rattle.std.specs.Prelude.{◌≡◌, true, false, List, [], ◌∷◌, ◌++◌, Some, codes}
+use Rattle.std.specs.Prelude.{◌≡◌, ℕ, true, false, List, [], ◌∷◌, ◌++◌, Some, codes}
 use Rattle.clap.specs.Lexer.{usize_max}
 use Rattle.clap.specs.Words.{App, Rule, Text, app_of, new_app, new_rule, with_rule, with_subcommand}
 use Rattle.clap.specs.declared.builder.action.ArgAction.TheVariants.{SetTrue}
 use Rattle.clap.specs.declared.builder.command.Command.{Command}
 use Rattle.clap.specs.declared.builder.command.Command.TheViews.{out-Command}
 use Rattle.bac_command_line.specs.declared.word.Word.{Word}
-use Rattle.bac_command_line.specs.declared.word.Word.TheVariants.{Address, ObjectType, Instance, Property, Priority}
-use Rattle.bac_command_line.specs.declared.word.Word.TheVariants.{Tag, From}
+use Rattle.bac_command_line.specs.declared.word.Word.TheVariants.{Address, ObjectType, Instance, Property, Priority, Tag, From}
 use Rattle.bac_command_line.specs.declared.word.Word.TheVariants.{File}
 use Rattle.bac_command_line.specs.declared.word.Word.TheVariants.{Index, Value, Min, Max, Steps, Count, Local, Timeout}
-use Rattle.bac_command_line.specs.declared.word.Word.TheVariants.{AtOnce, Records, Part, Since, Until, Last}
+use Rattle.bac_command_line.specs.declared.word.Word.TheVariants.{AtOnce, Records, Part, Since, Until, Last, Wait}
 use Rattle.bac_command_line.specs.declared.word.Word.TheVariants.{Retries, Dnet, Dadr, Csv, Stop, Numbers, Trace}
+use Rattle.bac_command_line.specs.declared.word.Word.TheVariants.{Json, Quiet}
 use Rattle.bac_command_line.specs.Names.{name_of}
 
 -- NAME, a word that has to be there
@@ -42,6 +42,14 @@ option_or w default = record (option w) { defaults = default ∷ [] }
 -- [--NAME]
 abbrev pub flag : Word → Rule
 flag w = record (new_rule (name_of w)) { long = Some (name_of w); action = Some SetTrue }
+
+-- [--NAME], or [-N] by a letter
+abbrev pub flag_or : Word → ℕ → Rule
+flag_or w letter = record (flag w) { short = Some letter }
+
+-- [--quiet] [-q] (113)
+abbrev pub quiet_rule : Rule
+quiet_rule = flag_or Quiet 113
 
 -- [--timeout=MS] [--local=ADDRESS] [--trace]
 abbrev pub timeout_rules : List Rule
@@ -74,41 +82,45 @@ replay_app = new_app (codes "replay")
 
 -- bac wi ADDRESS.. [--min=N] [--max=N] [--dnet=N]
 abbrev pub wi_app : App
-wi_app = with_rules (new_app (codes "wi")) (needed_list Address ∷ option Min ∷ option Max ∷ option Dnet ∷ timeout_rules)
+wi_app = with_rules (new_app (codes "wi"))
+    (needed_list Address ∷ option Min ∷ option Max ∷ option Dnet ∷ timeout_rules)
 
 -- bac rp ADDRESS TYPE INSTANCE PROPERTY [--index=N] [--numbers]
 abbrev pub rp_app : App
-rp_app = with_rules (new_app (codes "rp")) (property_rules ++ option Index ∷ flag Numbers ∷ asking_rules)
+rp_app = with_rules (new_app (codes "rp"))
+    (property_rules ++ option Index ∷ flag Numbers ∷ asking_rules)
 
 -- bac wp ADDRESS TYPE INSTANCE PROPERTY PRIORITY TAG [--index=N] [--value=V]
 abbrev pub wp_app : App
 wp_app = with_rules (new_app (codes "wp"))
     (property_rules ++ needed Priority ∷ needed Tag ∷ option Index ∷ option Value ∷ asking_rules)
 
--- bac log ADDRESS INSTANCE FROM [--steps=N] [--count=N] [--csv]
+-- bac log ADDRESS INSTANCE FROM [--steps=N] [--count=N] [--csv] [--json]
 abbrev pub log_app : App
 log_app = with_rules (new_app (codes "log"))
     (needed Address ∷ needed Instance ∷ needed From ∷ option_or Steps (codes "1000")
-    ∷ option_or Records (codes "100") ∷ flag Csv ∷ asking_rules)
+    ∷ option_or Records (codes "100") ∷ flag Csv ∷ flag Json ∷ asking_rules)
 
 -- bac logs ADDRESS [INSTANCE..]
 abbrev pub logs_app : App
 logs_app = with_rules (new_app (codes "logs")) (needed Address ∷ maybe_list Instance ∷ asking_rules)
 
--- bac keep FILE [ADDRESS [INSTANCE..]] [--steps=N] [--count=N] [--part=MIB] [--at-once=N] [--stop]
+-- bac keep FILE [ADDRESS [INSTANCE..]] [--steps=N] [--count=N] [--part=MIB] [--at-once=N] [--wait=SECONDS]
+-- [--stop] [--quiet]
 abbrev pub keep_app : App
 keep_app = with_rules (new_app (codes "keep"))
     (needed File ∷ maybe Address ∷ maybe_list Instance ∷ option Steps ∷ option Records ∷ option_or Part (codes "32")
-    ∷ option_or AtOnce (codes "64") ∷ flag Stop ∷ keeping_rules)
+    ∷ option_or AtOnce (codes "64") ∷ option_or Wait (codes "10") ∷ flag Stop ∷ quiet_rule ∷ keeping_rules)
 
--- bac kept FILE [ADDRESS [INSTANCE]] [--since=STAMP] [--until=STAMP] [--last] [--csv]
+-- bac kept FILE [ADDRESS [INSTANCE]] [--since=STAMP] [--until=STAMP] [--last] [--csv] [--json] [--wait=SECONDS]
 abbrev pub kept_app : App
 kept_app = with_rules (new_app (codes "kept"))
-    (needed File ∷ maybe Address ∷ maybe Instance ∷ option Since ∷ option Until ∷ flag Last ∷ flag Csv ∷ route_rules)
+    (needed File ∷ maybe Address ∷ maybe Instance ∷ option Since ∷ option Until ∷ flag Last ∷ flag Csv ∷ flag Json
+    ∷ option_or Wait (codes "10") ∷ route_rules)
 
--- bac check FILE
+-- bac check FILE [--wait=SECONDS] [--quiet]
 abbrev pub check_app : App
-check_app = with_rules (new_app (codes "check")) (needed File ∷ [])
+check_app = with_rules (new_app (codes "check")) (needed File ∷ option_or Wait (codes "10") ∷ quiet_rule ∷ [])
 
 -- bac serve ADDRESS [--count=N]
 abbrev pub serve_app : App

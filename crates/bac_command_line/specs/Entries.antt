@@ -3,11 +3,10 @@ use Rattle.std.specs.Prelude.{List, [], ◌∷◌}
 use Rattle.clap.specs.Words.{App, Rule, with_subcommand}
 use Rattle.bac_command_line.specs.declared.entries.Entry.{Entry}
 use Rattle.bac_command_line.specs.declared.entries.Entry.TheVariants.{Needed, NeededList, Maybe, MaybeList}
-use Rattle.bac_command_line.specs.declared.entries.Entry.TheVariants.{Flag, Choice, ChoiceOr}
+use Rattle.bac_command_line.specs.declared.entries.Entry.TheVariants.{Flag, FlagOr, Choice, ChoiceOr}
 use Rattle.bac_command_line.specs.declared.commands.Tool.{Tool}
-use Rattle.bac_command_line.specs.declared.commands.Tool.TheVariants.{Replay, Wi, Rp, Wp, Log, Logs, Keep, Kept, Check}
-use Rattle.bac_command_line.specs.declared.commands.Tool.TheVariants.{Serve}
-use Rattle.bac_command_line.specs.Commands.{needed, needed_list, maybe, maybe_list, flag, option, option_or}
+use Rattle.bac_command_line.specs.declared.commands.Tool.TheVariants.{Replay, Wi, Rp, Wp, Log, Logs, Keep, Kept, Check, Serve}
+use Rattle.bac_command_line.specs.Commands.{needed, needed_list, maybe, maybe_list, flag, flag_or, option, option_or}
 use Rattle.bac_command_line.specs.Commands.{replay_app, wi_app, rp_app, wp_app, log_app, logs_app, keep_app, kept_app}
 use Rattle.bac_command_line.specs.Commands.{check_app, serve_app}
 
@@ -18,6 +17,7 @@ rule_in (NeededList word help) = needed_list word
 rule_in (Maybe word help) = maybe word
 rule_in (MaybeList word help) = maybe_list word
 rule_in (Flag word help) = flag word
+rule_in (FlagOr word letter help) = flag_or word letter
 rule_in (Choice word value help) = option word
 rule_in (ChoiceOr word value default help) = option_or word default.now
 

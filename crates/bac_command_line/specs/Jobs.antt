@@ -6,13 +6,10 @@ use Rattle.std.specs.Option.{ok_or}
 use Rattle.std.specs.Str.{bytes_eq}
 use Rattle.clap.specs.Words.{Row, Text}
 use Rattle.bac_command_line.specs.declared.word.Word.{Word}
-use Rattle.bac_command_line.specs.declared.word.Word.TheVariants.{Tool, Address, ObjectType, Instance, Property}
-use Rattle.bac_command_line.specs.declared.word.Word.TheVariants.{Priority, Tag}
-use Rattle.bac_command_line.specs.declared.word.Word.TheVariants.{From, File, Index, Value, Min, Max, Steps, Count}
-use Rattle.bac_command_line.specs.declared.word.Word.TheVariants.{Local}
-use Rattle.bac_command_line.specs.declared.word.Word.TheVariants.{AtOnce, Records, Part}
-use Rattle.bac_command_line.specs.declared.word.Word.TheVariants.{Timeout, Retries, Dnet, Dadr, Csv, Stop, Numbers}
-use Rattle.bac_command_line.specs.declared.word.Word.TheVariants.{Trace}
+use Rattle.bac_command_line.specs.declared.word.Word.TheVariants.{Tool, Address, ObjectType, Instance, Property, Priority, Tag}
+use Rattle.bac_command_line.specs.declared.word.Word.TheVariants.{From, File, Index, Value, Min, Max, Steps, Count, Local}
+use Rattle.bac_command_line.specs.declared.word.Word.TheVariants.{AtOnce, Records, Part, Wait, Quiet}
+use Rattle.bac_command_line.specs.declared.word.Word.TheVariants.{Timeout, Retries, Dnet, Dadr, Stop, Numbers, Trace}
 use Rattle.bac_command_line.specs.declared.job.Job.{Job}
 use Rattle.bac_command_line.specs.declared.job.Job.TheVariants.{Replay, Wi, Rp, Wp, Log, Logs, Serve}
 use Rattle.bac_command_line.specs.declared.job.Job.TheVariants as job
@@ -25,7 +22,7 @@ use Rattle.bac_command_line.specs.Dates.{extent_at}
 use Rattle.bac_command_line.specs.Groups.{are_input, groups_at}
 use Rattle.bac_command_line.specs.declared.group.Group.{Group}
 use Rattle.bac_command_line.specs.Rows.{text_at, is_said, number_at, maybe_number_at, address_at, instances_at}
-use Rattle.bac_command_line.specs.Rows.{local_at, stations_at, route_at}
+use Rattle.bac_command_line.specs.Rows.{form_at, local_at, stations_at, route_at}
 use Rattle.bac_command_line.specs.Given.{is_tag, given_in}
 use Rattle.bac_command_line.specs.Steps.{◌>>=◌}
 
@@ -133,13 +130,14 @@ log_at rows = do
   from ← from_at rows
   steps ← number_at Steps 0 4294967295 rows
   count ← number_at Records 1 100 rows
+  form ← form_at rows
   Ok (Log (record {
     asked = asked;
     instance = instance;
     from = from;
     steps = steps;
     count = count;
-    csv = is_said Csv rows;
+    form = form;
     trace = is_said Trace rows;
   }))
 
@@ -172,6 +170,10 @@ stop_beside [] true = Err Stop
 stop_beside (group ∷ other ∷ more) true = Err Stop
 stop_beside groups stop = Ok stop
 
+-- how many seconds a file that is in use is waited for
+abbrev pub wait_at : List Row → Result ℕ Word
+wait_at rows = number_at Wait 0 3600 rows
+
 -- bac keep: its texts, which are read by the rules of `log` for each log
 unfoldable pub keep_at : List Row → Result Job Word
 keep_at rows = do
@@ -179,12 +181,15 @@ keep_at rows = do
   stop ← stop_beside (groups_at rows) (is_said Stop rows)
   part ← number_at Part 1 4096 rows
   at_once ← number_at AtOnce 1 1024 rows
+  wait ← wait_at rows
   Ok (job.Keep (record {
     file = file;
     groups = groups_at rows;
     stop = stop;
     part = part;
     at_once = at_once;
+    wait = wait;
+    quiet = is_said Quiet rows;
     trace = is_said Trace rows;
     options = keep_options_at rows;
   }))
@@ -208,6 +213,8 @@ kept_at rows = do
   file ← file_at rows
   address ← address_beside (text_at Dnet rows) (text_at Dadr rows) (text_at Address rows)
   extent ← extent_at rows
+  form ← form_at rows
+  wait ← wait_at rows
   Ok (job.Kept (record {
     file = file;
     address = address;
@@ -215,14 +222,16 @@ kept_at rows = do
     dnet = text_at Dnet rows;
     dadr = text_at Dadr rows;
     extent = extent;
-    csv = is_said Csv rows;
+    form = form;
+    wait = wait;
   }))
 
 -- bac check
 unfoldable pub check_at : List Row → Result Job Word
 check_at rows = do
   file ← file_at rows
-  Ok (job.Check (record { file = file }))
+  wait ← wait_at rows
+  Ok (job.Check (record { file = file; wait = wait; quiet = is_said Quiet rows }))
 
 -- bac serve
 unfoldable pub serve_at : List Row → Result Job Word

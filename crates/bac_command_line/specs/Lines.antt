@@ -1,5 +1,6 @@
 -- Lines that are worked out: what they come to, by the definitions alone.
 use Rattle.std.specs.Prelude.{◌≡◌, ◌==◌, ℕ, false, if◌then◌else◌, List, [], ◌∷◌, Option, None, Some, Result}
+use Rattle.bac_form.specs.declared.form.Form.TheVariants.{Lines}
 use Rattle.clap.specs.Words.{Text, Kinds}
 use Rattle.bac_command_line.specs.declared.word.Word.{Word}
 use Rattle.bac_command_line.specs.declared.job.Job.{Job}
@@ -10,6 +11,7 @@ use Rattle.bac_command_line.specs.declared.job.Extent.TheVariants.{Dated}
 use Rattle.bac_command_line.specs.declared.job.Given.{Given}
 use Rattle.bac_command_line.specs.declared.job.PropertyReading.{PropertyReading}
 use Rattle.bac_command_line.specs.declared.job.PropertyWriting.{PropertyWriting}
+use Rattle.bac_command_line.specs.declared.job.LogListing.{LogListing}
 use Rattle.bac_command_line.specs.declared.job.LogReading.{LogReading}
 use Rattle.bac_command_line.specs.declared.job.Keep.{Keep}
 use Rattle.bac_command_line.specs.declared.job.KeepOptions.{KeepOptions}
@@ -102,11 +104,15 @@ log_reading instance from = record {
   from = from;
   steps = 1000;
   count = 100;
-  csv = false;
+  form = Lines;
   trace = false;
 }
 
--- keep: parts of 32 MiB, and 64 questions at once
+-- logs: these logs, or all
+abbrev pub listing : List ℕ → LogListing
+listing instances = record { asked = by_default; instances = instances; trace = false }
+
+-- keep: parts of 32 MiB, 64 requests at once, and ten seconds for a file in use
 abbrev pub keeping : Text → List Group → Keep
 keeping file groups = record {
   file = file;
@@ -114,6 +120,8 @@ keeping file groups = record {
   stop = false;
   part = 32;
   at_once = 64;
+  wait = 10;
+  quiet = false;
   trace = false;
   options = no_options;
 }
@@ -122,7 +130,7 @@ keeping file groups = record {
 abbrev pub between : (since until : Option Text) → Extent
 between since until = Dated (record { since = since; until = until })
 
--- kept: all records of each log, in lines
+-- kept: all records of each log, in lines, and ten seconds for a file in use
 abbrev pub printing : Text → Kept
 printing file = record {
   file = file;
@@ -131,5 +139,6 @@ printing file = record {
   dnet = None;
   dadr = None;
   extent = between None None;
-  csv = false;
+  form = Lines;
+  wait = 10;
 }

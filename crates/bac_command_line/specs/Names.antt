@@ -2,13 +2,11 @@
 use Rattle.std.specs.Prelude.{Bool, true, false, codes}
 use Rattle.clap.specs.Words.{Text}
 use Rattle.bac_command_line.specs.declared.word.Word.{Word}
-use Rattle.bac_command_line.specs.declared.word.Word.TheVariants.{Tool, Address, ObjectType, Instance, Property}
-use Rattle.bac_command_line.specs.declared.word.Word.TheVariants.{Priority, Tag}
-use Rattle.bac_command_line.specs.declared.word.Word.TheVariants.{From, File, Index, Value, Min, Max, Steps, Count}
-use Rattle.bac_command_line.specs.declared.word.Word.TheVariants.{Local}
-use Rattle.bac_command_line.specs.declared.word.Word.TheVariants.{AtOnce, Records, Part, Since, Until, Last}
-use Rattle.bac_command_line.specs.declared.word.Word.TheVariants.{Timeout, Retries, Dnet, Dadr, Csv, Stop, Numbers}
-use Rattle.bac_command_line.specs.declared.word.Word.TheVariants.{Trace}
+use Rattle.bac_command_line.specs.declared.word.Word.TheVariants.{Tool, Address, ObjectType, Instance, Property, Priority, Tag}
+use Rattle.bac_command_line.specs.declared.word.Word.TheVariants.{From, File, Index, Value, Min, Max, Steps, Count, Local}
+use Rattle.bac_command_line.specs.declared.word.Word.TheVariants.{AtOnce, Records, Part, Since, Until, Last, Wait}
+use Rattle.bac_command_line.specs.declared.word.Word.TheVariants.{Timeout, Retries, Dnet, Dadr, Csv, Stop, Numbers, Trace}
+use Rattle.bac_command_line.specs.declared.word.Word.TheVariants.{Json, Quiet}
 
 -- a word's name in the help; an option's, without its --
 abbrev pub name_of : Word → Text
@@ -29,8 +27,11 @@ name_of Steps = codes "steps"
 name_of Records = codes "count"
 name_of Part = codes "part"
 name_of AtOnce = codes "at-once"
+name_of Wait = codes "wait"
 name_of Count = codes "count"
 name_of Csv = codes "csv"
+name_of Json = codes "json"
+name_of Quiet = codes "quiet"
 name_of Stop = codes "stop"
 name_of Since = codes "since"
 name_of Until = codes "until"
@@ -53,8 +54,11 @@ is_option Steps = true
 is_option Records = true
 is_option Part = true
 is_option AtOnce = true
+is_option Wait = true
 is_option Count = true
 is_option Csv = true
+is_option Json = true
+is_option Quiet = true
 is_option Stop = true
 is_option Since = true
 is_option Until = true
@@ -83,6 +87,7 @@ is_number Steps = true
 is_number Records = true
 is_number Part = true
 is_number AtOnce = true
+is_number Wait = true
 is_number Count = true
 is_number Timeout = true
 is_number Retries = true

@@ -1,5 +1,5 @@
 -- What the rows of a tool's matches say of a word or an option.
-use Rattle.std.specs.Prelude.{ℕ, Bool, false, List, [], ◌∷◌, ◌++◌, length, nat_le, ◌&&◌, if◌then◌else◌, Option, None}
+use Rattle.std.specs.Prelude.{ℕ, Bool, true, false, List, [], ◌∷◌, ◌++◌, length, nat_le, ◌&&◌, if◌then◌else◌, Option, None}
 use Rattle.std.specs.Prelude.{Some}
 use Rattle.std.specs.Prelude.{Result, Ok, Err, option_and_then, unwrap_or, codes}
 use Rattle.std.specs.Str.{bytes_eq}
@@ -7,11 +7,13 @@ use Rattle.std.specs.Option.{ok_or}
 use Rattle.std.specs.Result.{result_ok}
 use Rattle.hex.specs.Hex.{decode_of}
 use Rattle.bac_apdu.specs.Npdu.{Place}
+use Rattle.bac_form.specs.declared.form.Form.{Form}
+use Rattle.bac_form.specs.declared.form.Form.TheVariants.{Lines, Csv as AsCsv, Json as AsJson}
 use Rattle.clap.specs.Words.{Row, Text, first_of, all_of}
 use Rattle.bac_command_line.specs.declared.job.Stations.{Stations}
 use Rattle.bac_command_line.specs.declared.job.Stations.TheVariants.{Listed, Input}
 use Rattle.bac_command_line.specs.declared.word.Word.{Word}
-use Rattle.bac_command_line.specs.declared.word.Word.TheVariants.{Address, Instance, Local, Dnet, Dadr}
+use Rattle.bac_command_line.specs.declared.word.Word.TheVariants.{Address, Instance, Local, Dnet, Dadr, Csv, Json}
 use Rattle.bac_command_line.specs.Names.{is_number, name_of}
 use Rattle.bac_command_line.specs.Numbers.{is_long, number_in}
 use Rattle.bac_command_line.specs.Addresses.{address_in}
@@ -34,6 +36,17 @@ is_true_text (Some text) = bytes_eq text (codes "true")
 -- an option without a value was given
 abbrev pub is_said : Word → List Row → Bool
 is_said w rows = is_true_text (text_at w rows)
+
+-- --csv and --json don't go together
+abbrev pub form_of : (csv json : Bool) → Result Form Word
+form_of false false = Ok Lines
+form_of true false = Ok AsCsv
+form_of false true = Ok AsJson
+form_of true true = Err Json
+
+-- in which form records are printed
+abbrev pub form_at : List Row → Result Form Word
+form_at rows = form_of (is_said Csv rows) (is_said Json rows)
 
 -- the word of a number is digits alone, and more than a number has
 abbrev pub is_long_text : Word → Option Text → Bool

@@ -38,7 +38,7 @@ Exit status:
   6  keep, kept, check: the file isn't an archive, can't be read or written,
      is full, or lacks numbers
   7  keep, kept, check: another program has the file open
-  8  keep, log --csv: a step limit",
+  8  keep, log --csv, log --json: a step limit",
         )
 }
 

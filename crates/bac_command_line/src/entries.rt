@@ -2,7 +2,7 @@
 
 ghost use Rattle.std.specs.Prelude.{◌≡◌, map, IfOk, false};
 ghost use Rattle.clap.specs.Words.{rule_of};
-ghost use Rattle.bac_command_line.specs.Commands.{maybe, option, Extends};
+ghost use Rattle.bac_command_line.specs.Commands.{flag, maybe, option, Extends};
 ghost use Rattle.bac_command_line.specs.Entries.{rule_in};
 
 use crate::word::Word;
@@ -22,6 +22,8 @@ pub(crate) enum Entry<'a> {
     MaybeList(Word, &'a str),
     /// An option `--NAME`.
     Flag(Word, &'a str),
+    /// The same with a letter: `-N`.
+    FlagOr(Word, char, &'a str),
     /// An option `--NAME=VALUE`.
     Choice(Word, &'a str, &'a str),
     /// The same with a default.
@@ -46,6 +48,16 @@ fn option<'a>(alloc: Global, word: Word, value: &'a str, help: &'a str) -> Arg<'
         .value_name(value)
 }
 
+/// An option `--NAME`.
+fn flag<'a>(alloc: Global, word: Word, help: &'a str) -> Arg<'a>
+    ensures rule { rule_of result ≡ flag word }
+    ensures local { result.global ≡ false }
+{
+    word_of(alloc, word, help)
+        .long(word.name())
+        .action(ArgAction::SetTrue)
+}
+
 /// The word as `clap` takes it.
 fn arg_of<'a>(alloc: Global, entry: Entry<'a>) -> Arg<'a>
     ensures rule { rule_of result ≡ rule_in entry.entry }
@@ -56,9 +68,8 @@ fn arg_of<'a>(alloc: Global, entry: Entry<'a>) -> Arg<'a>
         Entry::NeededList(word, help) => word_of(alloc, word, help).required(true).num_args(1..),
         Entry::Maybe(word, help) => word_of(alloc, word, help),
         Entry::MaybeList(word, help) => word_of(alloc, word, help).num_args(0..),
-        Entry::Flag(word, help) => word_of(alloc, word, help)
-            .long(word.name())
-            .action(ArgAction::SetTrue),
+        Entry::Flag(word, help) => flag(alloc, word, help),
+        Entry::FlagOr(word, letter, help) => flag(alloc, word, help).short(letter),
         Entry::Choice(word, value, help) => option(alloc, word, value, help),
         Entry::ChoiceOr(word, value, default, help) => {
             option(alloc, word, value, help).default_value(default)

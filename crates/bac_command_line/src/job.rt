@@ -8,6 +8,7 @@ use crate::group::Groups;
 use crate::instances::Instances;
 use crate::name::Name;
 use bac_apdu::Route;
+use bac_form::Form;
 use bac_wire::Address;
 
 /// What the tools that ask one device have in common.
@@ -77,13 +78,16 @@ pub struct Keep {
     /// The devices, and which of its logs of each; each log of the file if there are none. The one
     /// word `-` stands for the devices of standard input.
     pub groups: Groups,
-    /// They aren't asked any more.
+    /// They aren't polled any more.
     pub stop: bool,
     /// How many MiB a part of an archive has when the next one is begun: 1 to 4,096.
     pub part: u32,
-    /// How many questions are open at once, of those that were sent once, and not long ago: 1 to
-    /// 1,024.
+    /// How many requests are in flight at once, of those that weren't sent again: 1 to 1,024.
     pub at_once: u32,
+    /// How many seconds a file that is in use is waited for: 0 to 3,600.
+    pub wait: u32,
+    /// Nothing is printed on standard output.
+    pub quiet: bool,
     /// Each datagram is told.
     pub trace: bool,
     pub options: KeepOptions,
@@ -106,6 +110,8 @@ impl Keep {
             stop,
             part,
             at_once,
+            wait,
+            quiet,
             trace,
             options,
             groups: _groups,
@@ -116,6 +122,8 @@ impl Keep {
             stop,
             part,
             at_once,
+            wait,
+            quiet,
             trace,
             options,
         }
@@ -158,8 +166,10 @@ pub struct Kept {
     pub dadr: Option<Name>,
     /// How much of each.
     pub extent: Extent,
-    /// As CSV.
-    pub csv: bool,
+    /// In lines, as CSV or as JSON.
+    pub form: Form,
+    /// How many seconds a file that is in use is waited for: 0 to 3,600.
+    pub wait: u32,
 }
 
 /// Which archive is to be tested.
@@ -167,6 +177,10 @@ pub struct Kept {
 pub struct Check {
     /// The database file, or a folder of parts.
     pub file: Name,
+    /// How many seconds a file that is in use is waited for: 0 to 3,600.
+    pub wait: u32,
+    /// Nothing is printed on standard output.
+    pub quiet: bool,
 }
 
 /// Which devices are to announce themselves (clause 16.10), as the words of `bac wi` say them.
@@ -229,8 +243,8 @@ pub struct LogReading {
     pub steps: u32,
     /// How many records a question asks for: 1 to 100.
     pub count: u8,
-    /// As CSV, and not in lines.
-    pub csv: bool,
+    /// In lines, as CSV or as JSON.
+    pub form: Form,
     /// Each datagram is told.
     pub trace: bool,
 }

@@ -7,7 +7,7 @@ ghost use Rattle.bac_command_line.specs.Rows.{texts_at};
 ghost use Rattle.bac_command_line.specs.Groups.{group_at, groups_at, groups_from, with_instance};
 ghost use Rattle.bac_command_line.specs.declared.word.Word.TheVariants.{Instance};
 ghost use Rattle.bac_command_line.specs.Jobs.{file_at, keep_options_at, keep_at, kept_at, check_at};
-ghost use Rattle.bac_command_line.specs.Jobs.{address_beside, stop_beside};
+ghost use Rattle.bac_command_line.specs.Jobs.{address_beside, stop_beside, wait_at};
 
 use crate::dates::extent_at;
 use crate::fault::WordsFault;
@@ -16,7 +16,7 @@ use crate::job::{Check, Job, Keep, KeepOptions, Kept};
 use crate::name::Name;
 use crate::names::Names;
 use crate::numbers::are_digits;
-use crate::rows::{is_said, name_at, name_of, number_at, text};
+use crate::rows::{form_at, is_said, name_at, name_of, number_at, text};
 use crate::word::Word;
 use clap::ArgMatches;
 use std::alloc::{AllocError, Global};
@@ -140,6 +140,13 @@ fn stop_beside(groups: &[Group], stop: bool) -> Result<bool, Word>
     Ok(stop)
 }
 
+/// How many seconds a file that is in use is waited for.
+fn wait_at(matches: &ArgMatches) -> Result<u32, Word>
+    ensures { result ≡ wait_at (rows_of (found_of matches.now)) }
+{
+    number_at(matches, Word::Wait, 0, 3600)
+}
+
 #[tactic(auto, unfolding(crate::specs::Jobs::keep_at))]
 pub(crate) fn keep(alloc: Global, matches: &ArgMatches) -> Result<Job, WordsFault>
     ensures { Makes (keep_at (rows_of (found_of matches.now))) result }
@@ -149,6 +156,8 @@ pub(crate) fn keep(alloc: Global, matches: &ArgMatches) -> Result<Job, WordsFaul
     let stop = stop_beside(groups.as_slice(), is_said(matches, Word::Stop))?;
     let part = number_at(matches, Word::Part, 1, 4096)?;
     let at_once = number_at(matches, Word::AtOnce, 1, 1024)?;
+    let wait = wait_at(matches)?;
+    let quiet = is_said(matches, Word::Quiet);
     let trace = is_said(matches, Word::Trace);
     let options = keep_options_at(alloc, matches)?;
     Ok(Job::Keep(Keep {
@@ -157,6 +166,8 @@ pub(crate) fn keep(alloc: Global, matches: &ArgMatches) -> Result<Job, WordsFaul
         stop,
         part,
         at_once,
+        wait,
+        quiet,
         trace,
         options,
     }))
@@ -186,7 +197,8 @@ pub(crate) fn kept(alloc: Global, matches: &ArgMatches) -> Result<Job, WordsFaul
     let address = address_beside(&dnet, &dadr, name_at(alloc, matches, Word::Address)?)?;
     let instance = name_at(alloc, matches, Word::Instance)?;
     let extent = extent_at(alloc, matches)?;
-    let csv = is_said(matches, Word::Csv);
+    let form = form_at(matches)?;
+    let wait = wait_at(matches)?;
     Ok(Job::Kept(Kept {
         file,
         address,
@@ -194,7 +206,8 @@ pub(crate) fn kept(alloc: Global, matches: &ArgMatches) -> Result<Job, WordsFaul
         dnet,
         dadr,
         extent,
-        csv,
+        form,
+        wait,
     }))
 }
 
@@ -203,5 +216,7 @@ pub(crate) fn check(alloc: Global, matches: &ArgMatches) -> Result<Job, WordsFau
     ensures { Makes (check_at (rows_of (found_of matches.now))) result }
 {
     let file = file_at(alloc, matches)?;
-    Ok(Job::Check(Check { file }))
+    let wait = wait_at(matches)?;
+    let quiet = is_said(matches, Word::Quiet);
+    Ok(Job::Check(Check { file, wait, quiet }))
 }

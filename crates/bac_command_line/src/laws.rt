@@ -7,21 +7,18 @@ ghost use Rattle.clap.specs.declared.error.kind.ErrorKind.TheVariants.{MissingSu
 ghost use Rattle.clap.specs.declared.error.kind.ErrorKind.TheVariants.{UnknownArgument};
 ghost use Rattle.clap.specs.declared.error.kind.ErrorKind.TheVariants.{ArgumentConflict};
 ghost use Rattle.clap.specs.declared.error.kind.ErrorKind.TheVariants.{DisplayHelp};
-ghost use Rattle.bac_command_line.specs.declared.word.Word.TheVariants.{Address, From, Instance};
-ghost use Rattle.bac_command_line.specs.declared.word.Word.TheVariants.{Max};
-ghost use Rattle.bac_command_line.specs.declared.word.Word.TheVariants.{Records, Retries, Dnet};
-ghost use Rattle.bac_command_line.specs.declared.word.Word.TheVariants.{Dadr};
-ghost use Rattle.bac_command_line.specs.declared.word.Word.TheVariants.{Last, Since, Stop, Until};
-ghost use Rattle.bac_command_line.specs.declared.job.Job.TheVariants.{Replay, Wi, Rp, Wp, Log};
-ghost use Rattle.bac_command_line.specs.declared.job.Job.TheVariants.{Logs, Keep};
+ghost use Rattle.bac_command_line.specs.declared.word.Word.TheVariants.{Address, From, Instance, Max};
+ghost use Rattle.bac_command_line.specs.declared.word.Word.TheVariants.{Records, Retries, Dnet, Dadr};
+ghost use Rattle.bac_command_line.specs.declared.word.Word.TheVariants.{Json as JsonWord, Last, Since, Stop, Until, Wait};
+ghost use Rattle.bac_form.specs.declared.form.Form.TheVariants.{Csv, Json};
+ghost use Rattle.bac_command_line.specs.declared.job.Job.TheVariants.{Replay, Wi, Rp, Wp, Log, Logs, Keep};
 ghost use Rattle.bac_command_line.specs.declared.job.Job.TheVariants.{Kept, Check, Serve};
 ghost use Rattle.bac_command_line.specs.declared.job.Extent.TheVariants.{Newest};
 ghost use Rattle.bac_command_line.specs.declared.job.Given.TheVariants.{Null, Signed};
 ghost use Rattle.bac_command_line.specs.declared.job.Stations.TheVariants.{Input, Listed};
 ghost use Rattle.bac_command_line.specs.Lines.{Says, Mistakes, station, by_default, by_way, group};
-ghost use Rattle.bac_command_line.specs.Lines.{no_options, discovery, property_reading};
-ghost use Rattle.bac_command_line.specs.Lines.{property_writing};
-ghost use Rattle.bac_command_line.specs.Lines.{log_reading, keeping, printing, between};
+ghost use Rattle.bac_command_line.specs.Lines.{no_options, discovery, property_reading, property_writing};
+ghost use Rattle.bac_command_line.specs.Lines.{log_reading, listing, keeping, printing, between};
 
 /// Lines of `bac wi`, and what they ask for.
 pub fn lines_say_wi()
@@ -67,15 +64,17 @@ pub fn lines_say_log()
     ensures count { Says (codes "bac log 10.0.0.1 7 43 --count=20")
         (Ok (Log (record (log_reading 7 (Some 43)) { count = 20 }))) }
     ensures rows { Says (codes "bac log 10.0.0.1 7 43 --csv")
-        (Ok (Log (record (log_reading 7 (Some 43)) { csv = true }))) }
+        (Ok (Log (record (log_reading 7 (Some 43)) { form = Csv }))) }
+    ensures json { Says (codes "bac log 10.0.0.1 7 43 --json")
+        (Ok (Log (record (log_reading 7 (Some 43)) { form = Json }))) }
 {}
 
 /// Lines of `bac logs`, and what they ask for.
 pub fn lines_say_logs()
     ensures named { Says (codes "bac logs 10.0.0.1 7 0")
-        (Ok (Logs (record { asked = by_default; instances = 7 ∷ 0 ∷ []; trace = false }))) }
+        (Ok (Logs (listing (7 ∷ 0 ∷ [])))) }
     ensures every { Says (codes "bac logs 10.0.0.1")
-        (Ok (Logs (record { asked = by_default; instances = []; trace = false }))) }
+        (Ok (Logs (listing []))) }
 {}
 
 /// Lines of `bac keep`, and what they ask for.
@@ -97,6 +96,15 @@ pub fn lines_say_keep()
         (Ok (Keep (record (keeping (codes "a.db") (group (codes "10.0.0.1") [] ∷ [])) {
           stop = true;
         }))) }
+    ensures no_wait { Says (codes "bac keep a.db 10.0.0.1 --wait=0")
+        (Ok (Keep (record (keeping (codes "a.db") (group (codes "10.0.0.1") [] ∷ [])) { wait = 0 }))) }
+    ensures quiet { Says (codes "bac keep a.db -q")
+        (Ok (Keep (record (keeping (codes "a.db") []) { quiet = true }))) }
+    ensures waits { Says (codes "bac keep a.db --quiet --wait=3600")
+        (Ok (Keep (record (keeping (codes "a.db") []) {
+          wait = 3600;
+          quiet = true;
+        }))) }
 {}
 
 /// Lines of `bac kept`, and what they ask for.
@@ -104,7 +112,12 @@ pub fn lines_say_kept()
     ensures device { Says (codes "bac kept a.db 10.0.0.1")
         (Ok (Kept (record (printing (codes "a.db")) { address = Some (codes "10.0.0.1") }))) }
     ensures csv { Says (codes "bac kept a.db --csv")
-        (Ok (Kept (record (printing (codes "a.db")) { csv = true }))) }
+        (Ok (Kept (record (printing (codes "a.db")) { form = Csv }))) }
+    ensures json { Says (codes "bac kept a.db --json --wait=60")
+        (Ok (Kept (record (printing (codes "a.db")) {
+          form = Json;
+          wait = 60;
+        }))) }
     ensures day { Says (codes "bac kept a.db --since=2026-11-30 --until=2026-12-01")
         (Ok (Kept (record (printing (codes "a.db")) {
           extent = between (Some (codes "2026-11-30")) (Some (codes "2026-12-01"));
@@ -132,7 +145,9 @@ pub fn lines_say_kept()
 pub fn lines_say_others()
     ensures replay { Says (codes "bac replay") (Ok Replay) }
     ensures check { Says (codes "bac check plant")
-        (Ok (Check (record { file = codes "plant" }))) }
+        (Ok (Check (record { file = codes "plant"; wait = 10; quiet = false }))) }
+    ensures status { Says (codes "bac check plant --wait=1 -q")
+        (Ok (Check (record { file = codes "plant"; wait = 1; quiet = true }))) }
     ensures serve { Says (codes "bac serve 10.0.0.1")
         (Ok (Serve (record { address = station; count = 4294967295 }))) }
 {}
@@ -151,6 +166,11 @@ pub fn lines_say_bad_values()
     ensures instance { Says (codes "bac logs 10.0.0.1 7 4194304") (Err Instance) }
     ensures stop { Says (codes "bac keep a.db --stop") (Err Stop) }
     ensures stop_two { Says (codes "bac keep a.db --stop 10.0.0.1 7 10.0.0.2") (Err Stop) }
+    ensures wait { Says (codes "bac keep a.db --wait=3601") (Err Wait) }
+    ensures wait_kept { Says (codes "bac kept a.db --wait=1m") (Err Wait) }
+    ensures wait_check { Says (codes "bac check a.db --wait=") (Err Wait) }
+    ensures two_forms { Says (codes "bac log 10.0.0.1 7 43 --csv --json") (Err JsonWord) }
+    ensures two_kept { Says (codes "bac kept a.db --json --csv") (Err JsonWord) }
     ensures max { Says (codes "bac wi 10.0.0.1 --max=5") (Err Max) }
     ensures dnet { Says (codes "bac log 10.0.0.1 7 43 --dnet=65535 --dadr=0a") (Err Dnet) }
     ensures dnet_alone { Says (codes "bac rp 10.0.0.1 8 123 77 --dnet=7") (Err Dadr) }
@@ -170,6 +190,8 @@ pub fn lines_are_mistakes()
     ensures file { Mistakes (codes "bac keep") (MissingRequiredArgument ∷ []) }
     ensures second { Mistakes (codes "bac kept a.db 10.0.0.1 1 2") (UnknownArgument ∷ []) }
     ensures more { Mistakes (codes "bac replay 1") (UnknownArgument ∷ []) }
+    ensures json { Mistakes (codes "bac rp 10.0.0.1 8 123 77 --json") (UnknownArgument ∷ []) }
+    ensures quiet { Mistakes (codes "bac kept a.db -q") (UnknownArgument ∷ []) }
     ensures option { Mistakes (codes "bac wi 10.0.0.1 --retries=1") (UnknownArgument ∷ []) }
     ensures twice { Mistakes (codes "bac serve 10.0.0.1 --count=1 --count=1")
         (ArgumentConflict ∷ []) }

@@ -133,8 +133,8 @@ bac log 192.168.1.20 1 43 then fetches what was logged since. After 'lost' or
 'step limit', too, go on at the next number: no record is lost or comes twice.
 A line 'gap 43 50' means that the log no longer held these numbers. After 'bad
 reply' standard error says what is wrong with the reply, and after 'caught up'
-that the device announced more records but sent none, if it did. --csv has no
-last line, so a step limit is status 8.
+that the device announced more records but sent none, if it did. --csv and
+--json have no last line, so a step limit is status 8.
 
 FLAGS are in-alarm, fault, overridden and out-of-service, each 0 or 1; or - if
 the record has none. VALUE is a number, or one of
@@ -203,6 +203,9 @@ lines of bac wi:
 bac wi 192.168.1.0/24 | bac keep site.db -
 With --stop, which takes one ADDRESS, these logs are no longer polled; the file
 keeps their records.
+A FILE that another program has open is waited for, 10 seconds if --wait is left
+out; then the run ends with status 7. With --quiet only faults are printed, on
+standard error.
 
 Exit status, the highest of all logs:
   0  every log is caught up
@@ -212,7 +215,7 @@ Exit status, the highest of all logs:
   4  a bad or contradictory reply, or more records announced than sent
   5  out of memory
   6  the file isn't an archive, can't be read or written, or is full
-  7  another program has the file open
+  7  another program has the file open, and --wait is over
   8  a step limit
 
 Standard error says why a log is lost, refused or has a bad reply. 'error' is
@@ -237,7 +240,8 @@ bac kept site.db --since=2026-11-30 --until=2026-12-01
 
 bac kept site.db --csv prints all logs as CSV: address, device, trend_log, name,
 source, units, epoch, number, stamp, value, datum, flags. A gap is a row whose
-datum is gap FIRST LAST.
+datum is gap FIRST LAST. --json prints an object a line, with these names; a gap
+has first, last and doubtful.
 
 Exit status:
   0  done
@@ -245,7 +249,7 @@ Exit status:
   2  a write fault
   5  out of memory
   6  a file isn't an archive or can't be read, or a part is missing
-  7  another program has a file open",
+  7  another program has a file open, and --wait is over",
     own: &KEPT,
     shared: &[],
 };
@@ -257,7 +261,7 @@ pub(crate) const CHECK_PAGE: Page<'static> = Page {
 prints the epochs of each log, with their first and last number, how many
 records and gaps they have, and every number that is missing. bac check plant
 checks each part of the folder plant, and that it begins where the part before
-it ends.
+it ends. With --quiet only the exit status tells.
 
 Exit status:
   0  no number is missing
@@ -266,7 +270,7 @@ Exit status:
   5  out of memory
   6  a number is missing, a part begins elsewhere, or a file isn't an archive or
      can't be read
-  7  another program has a file open",
+  7  another program has a file open, and --wait is over",
     own: &CHECK,
     shared: &[],
 };

@@ -3,11 +3,9 @@
 ghost use Rattle.std.specs.Prelude.{◌≡◌, map, option_map, IfOk};
 ghost use Rattle.clap.specs.Words.{rows_of, found_of};
 ghost use Rattle.bac_command_line.specs.Steps.{Makes};
-ghost use Rattle.bac_command_line.specs.Rows.{is_long_text, is_said, text_at, number_at};
-ghost use Rattle.bac_command_line.specs.Rows.{maybe_number_at};
-ghost use Rattle.bac_command_line.specs.Rows.{address_at, local_at, addresses_in, is_input};
-ghost use Rattle.bac_command_line.specs.Rows.{stations_in};
-ghost use Rattle.bac_command_line.specs.Rows.{stations_at};
+ghost use Rattle.bac_command_line.specs.Rows.{is_long_text, is_said, text_at, number_at, maybe_number_at};
+ghost use Rattle.bac_command_line.specs.Rows.{address_at, local_at, addresses_in, is_input, stations_in};
+ghost use Rattle.bac_command_line.specs.Rows.{form_at, stations_at};
 
 use crate::address::address;
 use crate::addresses::Addresses;
@@ -17,6 +15,7 @@ use crate::name::Name;
 use crate::network::stations;
 use crate::numbers::{number, octet, short};
 use crate::word::Word;
+use bac_form::Form;
 use bac_wire::Address;
 use clap::ArgMatches;
 use std::alloc::{AllocError, Global};
@@ -56,6 +55,18 @@ pub(crate) fn is_said(matches: &ArgMatches, word: Word) -> bool
     match text(matches, word) {
         Some(text) => text.as_bytes() == b"true".as_slice(),
         None => false,
+    }
+}
+
+/// In which form records are printed: in lines, as CSV or as JSON, of which one alone is said.
+pub(crate) fn form_at(matches: &ArgMatches) -> Result<Form, Word>
+    ensures { result ≡ form_at (rows_of (found_of matches.now)) }
+{
+    match (is_said(matches, Word::Csv), is_said(matches, Word::Json)) {
+        (false, false) => Ok(Form::Lines),
+        (true, false) => Ok(Form::Csv),
+        (false, true) => Ok(Form::Json),
+        (true, true) => Err(Word::Json),
     }
 }
 

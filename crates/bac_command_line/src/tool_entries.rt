@@ -42,6 +42,17 @@ const LOCAL: Entry<'static> = Entry::Choice(
     "Our own address and port; any if left out",
 );
 
+/// How long to wait for a file.
+const WAIT: Entry<'static> = Entry::ChoiceOr(
+    Word::Wait,
+    "SECONDS",
+    "10",
+    "Wait for a file in use: 0 to 3600 s",
+);
+
+/// The exit status is all that is wanted.
+const QUIET: Entry<'static> = Entry::FlagOr(Word::Quiet, 'q', "Print nothing on standard output");
+
 /// Whether datagrams are told.
 const TRACE: Entry<'static> = Entry::Flag(
     Word::Trace,
@@ -153,7 +164,7 @@ pub(crate) const WP: [Entry<'static>; 8] = [
 ];
 
 /// Of `bac log`.
-pub(crate) const LOG: [Entry<'static>; 6] = [
+pub(crate) const LOG: [Entry<'static>; 7] = [
     DEVICE,
     Entry::Needed(Word::Instance, "The trend log's instance: 0 to 4194303"),
     Entry::Needed(
@@ -171,6 +182,7 @@ pub(crate) const LOG: [Entry<'static>; 6] = [
         Word::Csv,
         "As CSV, with a first row of names and no last line",
     ),
+    Entry::Flag(Word::Json, "As JSON, one object a line and no last line"),
 ];
 
 /// Of `bac logs`.
@@ -180,7 +192,7 @@ pub(crate) const LOGS: [Entry<'static>; 2] = [
 ];
 
 /// Of `bac keep`.
-pub(crate) const KEEP: [Entry<'static>; 8] = [
+pub(crate) const KEEP: [Entry<'static>; 10] = [
     FILE,
     Entry::Maybe(
         Word::Address,
@@ -212,14 +224,16 @@ pub(crate) const KEEP: [Entry<'static>; 8] = [
         "64",
         "Requests in flight at once: 1 to 1024",
     ),
+    WAIT,
     Entry::Flag(
         Word::Stop,
         "Stop polling these logs; name them again to resume",
     ),
+    QUIET,
 ];
 
 /// Of `bac kept`.
-pub(crate) const KEPT: [Entry<'static>; 9] = [
+pub(crate) const KEPT: [Entry<'static>; 11] = [
     FILE,
     Entry::Maybe(
         Word::Address,
@@ -238,12 +252,14 @@ pub(crate) const KEPT: [Entry<'static>; 9] = [
     ),
     Entry::Flag(Word::Last, "Only the newest record of each log"),
     Entry::Flag(Word::Csv, "As CSV, with a first row of names"),
+    Entry::Flag(Word::Json, "As JSON, one object a line"),
+    WAIT,
     DNET,
     DADR,
 ];
 
 /// Of `bac check`.
-pub(crate) const CHECK: [Entry<'static>; 1] = [FILE];
+pub(crate) const CHECK: [Entry<'static>; 3] = [FILE, WAIT, QUIET];
 
 /// Of `bac serve`.
 pub(crate) const SERVE: [Entry<'static>; 2] = [

@@ -3,8 +3,7 @@
 ghost use Rattle.std.specs.Prelude.{◌≡◌};
 ghost use Rattle.clap.specs.Words.{rows_of, found_of};
 ghost use Rattle.bac_command_line.specs.Steps.{Makes};
-ghost use Rattle.bac_command_line.specs.Jobs.{asked_at, max_beside, wi_at, rp_at, tag_at, given_at};
-ghost use Rattle.bac_command_line.specs.Jobs.{wp_at};
+ghost use Rattle.bac_command_line.specs.Jobs.{asked_at, max_beside, wi_at, rp_at, tag_at, given_at, wp_at};
 ghost use Rattle.bac_command_line.specs.Jobs.{from_in, from_at, log_at, logs_at, serve_at};
 
 use crate::fault::WordsFault;
@@ -17,8 +16,8 @@ use crate::job::{
 use crate::numbers::number;
 use crate::route::route_at;
 use crate::rows::{
-    address_at, is_said, local_at, maybe_number_at, maybe_short_at, number_at, octet_at, short_at,
-    stations_at, text,
+    address_at, form_at, is_said, local_at, maybe_number_at, maybe_short_at, number_at, octet_at,
+    short_at, stations_at, text,
 };
 use crate::word::Word;
 use clap::ArgMatches;
@@ -174,7 +173,7 @@ pub(crate) fn log(matches: &ArgMatches) -> Result<Job, Word>
     let from = from_at(matches)?;
     let steps = number_at(matches, Word::Steps, 0, u32::MAX)?;
     let count = octet_at(matches, Word::Records, 1, 100)?;
-    let csv = is_said(matches, Word::Csv);
+    let form = form_at(matches)?;
     let trace = is_said(matches, Word::Trace);
     Ok(Job::Log(LogReading {
         asked,
@@ -182,7 +181,7 @@ pub(crate) fn log(matches: &ArgMatches) -> Result<Job, Word>
         from,
         steps,
         count,
-        csv,
+        form,
         trace,
     }))
 }

@@ -1,8 +1,7 @@
 //! The words and options of the tools, by their names.
 
 ghost use Rattle.std.specs.Prelude.{◌≡◌, Some};
-ghost use Rattle.bac_command_line.specs.Names.{is_number as is_number_of};
-ghost use Rattle.bac_command_line.specs.Names.{is_option as is_option_of};
+ghost use Rattle.bac_command_line.specs.Names.{is_number as is_number_of, is_option as is_option_of};
 ghost use Rattle.bac_command_line.specs.Names.{name_of};
 ghost use Rattle.bac_command_line.specs.Rows.{is_long_text};
 
@@ -44,13 +43,19 @@ pub enum Word {
     Records,
     /// How large a part of an archive is when the next one is begun.
     Part,
-    /// How many questions are open at once.
+    /// How many requests are in flight at once.
     AtOnce,
+    /// How many seconds a file that is in use is waited for.
+    Wait,
     /// How many datagrams to serve.
     Count,
     /// Lines of CSV.
     Csv,
-    /// Logs aren't asked any more.
+    /// Lines of JSON.
+    Json,
+    /// Nothing on standard output.
+    Quiet,
+    /// Logs aren't polled any more.
     Stop,
     /// The stamp from which on records are printed.
     Since,
@@ -97,8 +102,11 @@ impl Word {
             Word::Records => "count",
             Word::Part => "part",
             Word::AtOnce => "at-once",
+            Word::Wait => "wait",
             Word::Count => "count",
             Word::Csv => "csv",
+            Word::Json => "json",
+            Word::Quiet => "quiet",
             Word::Stop => "stop",
             Word::Since => "since",
             Word::Until => "until",
@@ -127,8 +135,11 @@ impl Word {
                 | Word::Records
                 | Word::Part
                 | Word::AtOnce
+                | Word::Wait
                 | Word::Count
                 | Word::Csv
+                | Word::Json
+                | Word::Quiet
                 | Word::Stop
                 | Word::Since
                 | Word::Until
@@ -162,6 +173,7 @@ impl Word {
                 | Word::Records
                 | Word::Part
                 | Word::AtOnce
+                | Word::Wait
                 | Word::Count
                 | Word::Timeout
                 | Word::Retries

@@ -3,3 +3,4 @@ pub mod FilesLemmas
 mod FolderLemmas
 mod PartNames
 mod PartsFound
+mod WaitLemmas

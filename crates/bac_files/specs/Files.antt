@@ -101,3 +101,11 @@ module _ {F : Type 0} {s : start.Ghosts F} where
   -- a database that was opened couldn't be closed, by this error
   abbrev pub IsUnclosed : Error → DiskFiles F s → Type 0
   IsUnclosed error files = files.unclosed ≡ Some error
+
+  -- the same files, which are waited for so many seconds where they are in use
+  abbrev pub waiting : ℕ → DiskFiles F s → DiskFiles F s
+  waiting seconds files = record files { wait = seconds }
+
+  -- nothing but how often a file was asked is another
+  abbrev pub KeepsOthers : DiskFiles F s → DiskFiles F s → Type 0
+  KeepsOthers old new = new ≡ record old { asked = new.asked }

@@ -1,3 +1,4 @@
 pub mod Files
 pub mod Limited
 pub mod Parts
+pub mod Waiting

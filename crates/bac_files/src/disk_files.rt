@@ -1,18 +1,19 @@
 //! The files of the machine.
 
-ghost use Rattle.std.specs.Prelude.{◌≡◌, ◌≢◌, IfErr, IfOk, IsTrue, None, OnErr, OnOk};
+ghost use Rattle.std.specs.Prelude.{◌≡◌, ◌≢◌, ◌*◌, ◌+◌, ◌≤◌, IfErr, IfOk, IsTrue, None, OnErr, OnOk};
 ghost use Rattle.sqlite.specs.Closing.{IsCopied};
 ghost use Rattle.sqlite.specs.Opening.{is_open_error};
 ghost use Rattle.sqlite_wal.specs.Files.{image_at};
 ghost use Rattle.sqlite_wal.specs.Reads.{AreClean};
 ghost use Rattle.bac_files.specs.Files.{IsClosedBy, IsNamed, IsOpenedBy, IsReason, IsReasonFor};
-ghost use Rattle.bac_files.specs.Files.{IsUnasked, IsUnclosed, IsUnopened, IsUnused};
+ghost use Rattle.bac_files.specs.Files.{IsUnasked, IsUnclosed, IsUnopened, IsUnused, KeepsOthers, waiting};
 ghost use Rattle.bac_files.specs.Parts.{IsPlaced};
 
 use crate::folder::{Place, place_of};
 use crate::not_opened::NotOpened;
 use crate::obstacles::obstacle_of;
 use crate::opening::{FileOf, connect};
+use crate::shared::is_in_use;
 use sqlite::{Connection, Error, ErrorCode, FileStore, Files, Start};
 use sqlite_disk::Disk;
 use std::alloc::AllocError;
@@ -27,6 +28,10 @@ pub struct DiskFiles<'a, F: Start> {
     /// Which database was asked for, and whether it might be made.
     name: Option<String>,
     may_make: bool,
+    /// How many seconds a file that is in use is waited for.
+    wait: u32,
+    /// How often the last one was asked whether it is in use.
+    asked: u32,
     /// Why the last one that was asked for wasn't opened.
     refused: Option<NotOpened>,
     /// Why it couldn't be closed.
@@ -126,10 +131,30 @@ impl<'a, F: Start> DiskFiles<'a, F> {
             start: Some(start),
             name: None,
             may_make: false,
+            wait: 0,
+            asked: 0,
             refused: None,
             unclosed: None,
             closed: None,
         }
+    }
+
+    /// From now on it waits so many seconds, 3,600 at most, for a file that is in use; without this
+    /// it doesn't wait.
+    pub fn wait_for(&mut self, seconds: u32)
+        ensures { self.new ≡ waiting seconds self.old }
+    {
+        self.wait = seconds;
+    }
+
+    /// Whether another program has a file open, also behind the wait.
+    fn is_in_use(&mut self, path: &str) -> bool
+        ensures asked { self.new.asked ≤ 10 * self.old.wait + 1 }
+        ensures others { KeepsOthers self.old self.new }
+    {
+        let (still, asked) = is_in_use(self.rt, path, self.wait);
+        self.asked = asked;
+        still
     }
 
     /// Where the archive of this name is kept: in the file of that name, or, if it is a folder, in
@@ -176,9 +201,11 @@ impl<'a, F: Start> DiskFiles<'a, F> {
         ensures opened { IfOk result (IsOpenedBy (image_at F.Start)) }
         ensures refused { IfErr result (IsReason may_make) }
         ensures named { result ≢ Err NotOpened.Memory → IsNamed path.now may_make self.new }
+        ensures asked { self.new.asked ≤ 10 * self.old.wait + 1 }
         ensures kept { (self.new.closed ≡ self.old.closed)
-            × (self.new.unclosed ≡ self.old.unclosed) }
+            × (self.new.unclosed ≡ self.old.unclosed) × (self.new.wait ≡ self.old.wait) }
     {
+        self.asked = 0;
         let Ok(name) = String::from_str(self.rt.alloc(), path) else {
             return Err(NotOpened::Memory);
         };
@@ -193,6 +220,9 @@ impl<'a, F: Start> DiskFiles<'a, F> {
         if !may_make && has_nothing(self.rt, path, log.as_str()) {
             return Err(NotOpened::Empty);
         }
+        if self.is_in_use(path) {
+            return Err(NotOpened::InUse);
+        }
         match self.start.take() {
             Some(start) => open_from(self.rt, path, log.as_str(), start),
             None => Err(NotOpened::Database(Error::SqliteFailure(ErrorCode::CannotOpen))),
@@ -200,7 +230,7 @@ impl<'a, F: Start> DiskFiles<'a, F> {
     }
 
     /// Opens the database of this name. Where there is no file, or one that has nothing in it, it
-    /// makes one if it may. A second one isn't opened.
+    /// makes one if it may. A second one isn't opened. It waits for a file that is in use.
     pub fn open(
         &mut self,
         path: &str,
@@ -210,8 +240,10 @@ impl<'a, F: Start> DiskFiles<'a, F> {
         ensures named { result ≢ Err NotOpened.Memory → IsNamed path.now may_make self.new }
         ensures refused { IfErr result (λ why. IsUnopened why self.new × IsReason may_make why) }
         ensures unrefused { OnOk result (self.new.refused ≡ None) }
+        // It is asked once whether the file is in use, and ten times a second of the wait at most.
+        ensures asked { self.new.asked ≤ 10 * self.old.wait + 1 }
         ensures kept { (self.new.closed ≡ self.old.closed)
-            × (self.new.unclosed ≡ self.old.unclosed) }
+            × (self.new.unclosed ≡ self.old.unclosed) × (self.new.wait ≡ self.old.wait) }
     {
         match self.try_open(path, may_make) {
             Ok(conn) => {

@@ -42,6 +42,12 @@ pub trait Parts {
     /// Why a part isn't opened: the parts before that, its path, the reason, the parts behind it.
     ghost bars: { Self → List ℕ → Reason → Self → Type 0 };
 
+    /// From now on a part that is in use is waited for so many seconds, 3,600 at most. What is
+    /// listed then is what was there to be listed before.
+    fn wait_for(&mut self, seconds: u32)
+        ensures { (name : List ℕ) (paths : Listing) (next : Self) → lists self.new name paths next
+            → lists self.old name paths next };
+
     /// The paths of the parts of a folder, the oldest first; nothing, where the name is that of no
     /// folder.
     fn list(&mut self, name: &str) -> Result<Option<Vec<String>>, NotOpened>
@@ -68,14 +74,17 @@ pub trait Parts {
 #[derive(Drop)]
 pub struct FolderFiles<'a> {
     rt: &'a HostRuntime,
+    /// How many seconds a part that is in use is waited for.
+    wait: u32,
 }
 
 impl<'a> FolderFiles<'a> {
-    /// The files of the machine.
+    /// The files of the machine. One that is in use isn't waited for.
     pub fn new(rt: &'a HostRuntime) -> FolderFiles<'a>
-        ensures { result.rt ≡ rt.entry }
+        ensures rt { result.rt ≡ rt.entry }
+        ensures wait { result.wait ≡ 0 }
     {
-        FolderFiles { rt }
+        FolderFiles { rt, wait: 0 }
     }
 }
 
@@ -116,6 +125,10 @@ impl<'a> Parts for FolderFiles<'a> {
 
     ghost bars = { λ old path why new. Unit {0} };
 
+    fn wait_for(&mut self, seconds: u32) {
+        self.wait = seconds;
+    }
+
     fn list(&mut self, name: &str) -> Result<Option<Vec<String>>, NotOpened> {
         parts_of(self.rt, name)
     }
@@ -127,6 +140,7 @@ impl<'a> Parts for FolderFiles<'a> {
         output: &mut O,
     ) -> Result<Result<(), Error>, NotOpened> {
         let mut files = DiskFiles::new(self.rt, Unknown);
+        files.wait_for(self.wait);
         read_file(&mut files, path, reader, output)
     }
 }

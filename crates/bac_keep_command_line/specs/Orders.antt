@@ -47,13 +47,14 @@ options_as o = record {
   begun = o.begun;
 }
 
--- What is asked for: an archive that is made at this moment, devices and logs that are named, how they are polled, and
--- our own address.
+-- What is asked for: an archive that is made at this moment, devices and logs that are named, how they are polled, our
+-- own address, and how many seconds a file that is in use is waited for.
 pub record OrderAs : Type 0 where
   pub moment : List ℕ
   pub named : List NamedAs
   pub options : OptionsAs
   pub local : List ℕ
+  pub wait : ℕ
 
 -- the same of a value of the program
 abbrev pub order_as : Order → OrderAs
@@ -62,6 +63,7 @@ order_as o = record {
   named = map named_as o.run.named.items;
   options = options_as o.run.options;
   local = o.local;
+  wait = o.wait;
 }
 
 -- devices are polled so, from this moment on; of the requests that may be open 0 stands for 1
@@ -95,6 +97,7 @@ order_in keep begun = do
     named = named;
     options = options_for keep.at_once sending fetching begun;
     local = own_address sending.local;
+    wait = keep.wait;
   })
 
 -- the one device of `--stop`, and which logs of it

@@ -3,8 +3,7 @@
 ghost use Rattle.std.specs.Prelude.{◌≡◌, map};
 ghost use Rattle.bac_ports.specs.Sockets.{own_address};
 ghost use Rattle.bac_keep_command_line.specs.Devices.{named_as};
-ghost use Rattle.bac_keep_command_line.specs.Orders.{options_as, options_for, order_as, order_in};
-ghost use Rattle.bac_keep_command_line.specs.Orders.{stop_in};
+ghost use Rattle.bac_keep_command_line.specs.Orders.{options_as, options_for, order_as, order_in, stop_in};
 ghost use Rattle.bac_keep_command_line.specs.Orders.{way_to};
 ghost use Rattle.bac_keep_command_line.specs.Values.{Makes};
 
@@ -33,6 +32,8 @@ pub struct Order {
     /// The address at which devices are asked: four octets of the host, two of the port. Zeros are
     /// any.
     pub local: Address,
+    /// How many seconds a file that is in use is waited for.
+    pub wait: u32,
 }
 
 /// Our own address: any, if the words name none.
@@ -85,6 +86,7 @@ pub fn read_keep(alloc: Global, keep: &Keep, begun: Stamp) -> Result<Order, Faul
             options: options_for(keep.at_once, &sending, &fetching, begun),
         },
         local: own_address(sending.local),
+        wait: keep.wait,
     })
 }
 

@@ -56,6 +56,7 @@ fn keep_opened<F: Start, G: Start, S: Sockets, C: Clock, W: Write, V: Write>(
     let wait_ms = order.run.options.limits.wait_ms;
     match machine.sockets.open(order.local, wait_ms) {
         Ok(port) => {
+            parts.wait_for(order.wait);
             let mut port = port;
             let mut room = Room {
                 port: &mut port,
@@ -120,6 +121,7 @@ fn keep_ordered<F: Start, G: Start, S: Sockets, C: Clock, W: Write, V: Write>(
         name,
         keep.groups.are_any(),
         u64::from(keep.part) * MIB,
+        order.wait,
     ) {
         Ok(place) => keep_placed(alloc, order, files, parts, place, machine),
         Err(why) => end_halted(alloc, Halt::File(why), name, &mut *machine.errors),

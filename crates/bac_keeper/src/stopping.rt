@@ -122,6 +122,7 @@ fn stop_placed<F: Start, W: Write, V: Write>(
 fn stop_all<F: Start, W: Write, V: Write>(
     alloc: Global,
     file: &str,
+    wait: u32,
     named: Vec<Named>,
     files: &mut DiskFiles<'_, F>,
     output: &mut W,
@@ -131,7 +132,7 @@ fn stop_all<F: Start, W: Write, V: Write>(
         files.new (texts (W.contents output.old) (V.contents errors.old))
         (texts (W.contents output.new) (V.contents errors.new)) result }
 {
-    match place_of(files, file, false, u64::MAX) {
+    match place_of(files, file, false, u64::MAX, wait) {
         Ok(place) => stop_placed(alloc, named, files, &place, output, errors),
         Err(why) => end_halted(alloc, Halt::File(why), file, errors),
     }
@@ -152,7 +153,15 @@ pub fn run_stop<F: Start, W: Write, V: Write>(
         (texts (W.contents output.new) (V.contents errors.new)) result }
 {
     match read_stop(alloc, keep) {
-        Ok(named) => stop_all(alloc, keep.file.as_str(), named, files, output, errors),
+        Ok(named) => stop_all(
+            alloc,
+            keep.file.as_str(),
+            keep.wait,
+            named,
+            files,
+            output,
+            errors,
+        ),
         Err(fault) => Err(Fault::of_words(fault)),
     }
 }

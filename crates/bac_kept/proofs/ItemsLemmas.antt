@@ -10,6 +10,8 @@ use Rattle.sqlite_value.specs.declared.value.Value.TheVariants.{Int}
 use Rattle.sqlite.specs.Values.{or_null}
 use Rattle.bac_archive.specs.Items.{IsItem, last_at}
 use Rattle.bac_archive.specs.declared.items.Item.{Item}
+use Rattle.bac_form.specs.declared.form.Form.{Form}
+use Rattle.bac_form.specs.declared.form.Form.TheVariants.{Lines, Csv, Json}
 use Rattle.bac_kept.specs.Items.{AreTexts, HasPrinted, IsItemText, IsRowText, between, has_sure, led, shown_rows, waits}
 use Rattle.bac_kept.specs.Seen.{epoch_of, is_new, is_newer, item_at, newest_of}
 use Rattle.bac_kept.specs.Shown.{Told, told_of}
@@ -113,15 +115,15 @@ newest_more newest [] more = refl
 newest_more newest (r ∷ rows) more = newest_more (Some (item_at r)) rows more
 
 -- the text of rows, and of more behind them
-pub texts_more : (csv : Bool) (told : Told) (newest : Option Newest) (rows more : List Values) (text one : List ℕ) → AreTexts csv told (epoch_of newest) rows text
-    → AreTexts csv told (epoch_of (newest_of newest rows)) more one → AreTexts csv told (epoch_of newest) (rows ++ more) (text ++ one)
-texts_more csv told newest [] more text one all it = subst (λ t. AreTexts csv told (epoch_of newest) more (t ++ one)) (sym all) it
-texts_more csv told newest (r ∷ rows) more text one all it =
-    (all.0, all.1 ++ one, ap (λ x. x ++ one) all.2 ∙ append_assoc all.0 all.1 one, all.3, texts_more csv told (Some (item_at r)) rows more all.1 one all.4 it)
+pub texts_more : (form : Form) (told : Told) (newest : Option Newest) (rows more : List Values) (text one : List ℕ) → AreTexts form told (epoch_of newest) rows text
+    → AreTexts form told (epoch_of (newest_of newest rows)) more one → AreTexts form told (epoch_of newest) (rows ++ more) (text ++ one)
+texts_more form told newest [] more text one all it = subst (λ t. AreTexts form told (epoch_of newest) more (t ++ one)) (sym all) it
+texts_more form told newest (r ∷ rows) more text one all it =
+    (all.0, all.1 ++ one, ap (λ x. x ++ one) all.2 ∙ append_assoc all.0 all.1 one, all.3, texts_more form told (Some (item_at r)) rows more all.1 one all.4 it)
 
 -- the text of one row
-one_text : (csv : Bool) (told : Told) (before : Option ℕ) (row : Values) (text : List ℕ) → IsRowText csv told before row text → AreTexts csv told before (row ∷ []) text
-one_text csv told before row text it = (text, [], sym (append-nil text), it, refl)
+one_text : (form : Form) (told : Told) (before : Option ℕ) (row : Values) (text : List ℕ) → IsRowText form told before row text → AreTexts form told before (row ∷ []) text
+one_text form told before row text it = (text, [], sym (append-nil text), it, refl)
 
 -- the last number that was read of a row is the row's
 last_says : (value : Value) (last : Option ℕ) → value ≡ or_null (λ n. Int (pos n)) last → last_at value ≡ last
@@ -129,10 +131,11 @@ last_says value None is = ap last_at is
 last_says value (Some n) is = ap last_at is
 
 -- the text of what was read of a row is the row's
-row_text_of : (csv : Bool) (told : Told) (before : Option ℕ) (row : Values) (item : Item) (text : List ℕ) → IsItem row item → IsItemText csv told before item text → IsRowText csv told before row text
-row_text_of false told before row item text it is =
+row_text_of : (form : Form) (told : Told) (before : Option ℕ) (row : Values) (item : Item) (text : List ℕ) → IsItem row item → IsItemText form told before item text → IsRowText form told before row text
+row_text_of Lines told before row item text it is =
     is ∙ rw (it.epoch, it.number, it.stamp, it.datum, it.flags, sym (last_says (column row 1) item.last it.last)) refl
-row_text_of true told before row item text it is = (item, it, is)
+row_text_of Csv told before row item text it is = (item, it, is)
+row_text_of Json told before row item text it is = (item, it, is)
 
 -- ---- what is printed, with one row more
 
@@ -158,11 +161,11 @@ module _ (style : Style) (behind : Option Newest) (rows : List Values) (row : Va
 
   -- how far they are printed, by the rows that lie behind
   built : (new_rows : List Values) (new_text : List ℕ) (now : Progress) (late : List Values) → filter (is_new behind) (rows ++ row ∷ []) ≡ new_rows
-      → AreTexts style.csv told (epoch_of behind) (between style.dated (is_some behind) new_rows) new_text → now.newest ≡ newest_of behind (between style.dated (is_some behind) new_rows)
-      → (between style.dated (is_some behind) new_rows ++ late) ≡ led style.dated (is_some behind) new_rows → AreTexts style.csv told (epoch_of now.newest) late now.held.items
+      → AreTexts style.form told (epoch_of behind) (between style.dated (is_some behind) new_rows) new_text → now.newest ≡ newest_of behind (between style.dated (is_some behind) new_rows)
+      → (between style.dated (is_some behind) new_rows ++ late) ≡ led style.dated (is_some behind) new_rows → AreTexts style.form told (epoch_of now.newest) late now.held.items
       → now.epoch ≡ epoch_of (newest_of now.newest late) → HasPrinted style behind (rows ++ row ∷ []) new_text now
   built new_rows new_text now late same printed newest all waiting epoch = record {
-    printed = subst (λ l. AreTexts style.csv told (epoch_of behind) (between style.dated (is_some behind) l) new_text) (sym same) printed;
+    printed = subst (λ l. AreTexts style.form told (epoch_of behind) (between style.dated (is_some behind) l) new_text) (sym same) printed;
     newest = subst (λ l. now.newest ≡ newest_of behind (between style.dated (is_some behind) l)) (sym same) newest;
     late = late;
     all = subst (λ l. (between style.dated (is_some behind) l ++ late) ≡ led style.dated (is_some behind) l) (sym same) all;
@@ -182,16 +185,16 @@ module _ (style : Style) (behind : Option Newest) (rows : List Values) (row : Va
   left_out so wait none =
       let same = same_shown wait in
       built (old_rows ++ row ∷ []) text progress has.late (rows_new so)
-      (subst (λ l. AreTexts style.csv told (epoch_of behind) l text) (sym same) has.printed) (has.newest ∙ ap (newest_of behind) (sym same))
+      (subst (λ l. AreTexts style.form told (epoch_of behind) l text) (sym same) has.printed) (has.newest ∙ ap (newest_of behind) (sym same))
       (ap (λ l. l ++ has.late) same ∙ has.all ∙ sym (led_same style.dated behind old_rows row (sym has.newest ∙ none) (sym waits_as ∙ wait))) has.waiting has.epoch
 
-  row_text : (one : List ℕ) → IsItemText style.csv told progress.epoch item one → AreTexts style.csv told (epoch_of (newest_of progress.newest has.late)) (row ∷ []) one
-  row_text one it = one_text style.csv told (epoch_of (newest_of progress.newest has.late)) row one
-      (row_text_of style.csv told (epoch_of (newest_of progress.newest has.late)) row item one is (subst (λ e. IsItemText style.csv told e item one) has.epoch it))
+  row_text : (one : List ℕ) → IsItemText style.form told progress.epoch item one → AreTexts style.form told (epoch_of (newest_of progress.newest has.late)) (row ∷ []) one
+  row_text one it = one_text style.form told (epoch_of (newest_of progress.newest has.late)) row one
+      (row_text_of style.form told (epoch_of (newest_of progress.newest has.late)) row item one is (subst (λ e. IsItemText style.form told e item one) has.epoch it))
 
   -- the texts at hand, with that of the row
-  late_text : (one : List ℕ) → IsItemText style.csv told progress.epoch item one → AreTexts style.csv told (epoch_of progress.newest) (has.late ++ row ∷ []) (progress.held.items ++ one)
-  late_text one it = texts_more style.csv told progress.newest has.late (row ∷ []) progress.held.items one has.waiting (row_text one it)
+  late_text : (one : List ℕ) → IsItemText style.form told progress.epoch item one → AreTexts style.form told (epoch_of progress.newest) (has.late ++ row ∷ []) (progress.held.items ++ one)
+  late_text one it = texts_more style.form told progress.newest has.late (row ∷ []) progress.held.items one has.waiting (row_text one it)
 
   late_newest : newest_of progress.newest (has.late ++ row ∷ []) ≡ Some (item_at row)
   late_newest = newest_more progress.newest has.late (row ∷ [])
@@ -201,16 +204,16 @@ module _ (style : Style) (behind : Option Newest) (rows : List Values) (row : Va
 
   -- a gap behind what is shown waits
   pub held_back : (one : List ℕ) (now : Progress) (n : Newest) → is_newer behind item.epoch item.number ≡ true → (style.dated && is_some item.last) ≡ true → progress.newest ≡ Some n
-      → IsItemText style.csv told progress.epoch item one → now.held.items ≡ progress.held.items ++ one → now.epoch ≡ Some item.epoch → now.newest ≡ progress.newest
+      → IsItemText style.form told progress.epoch item one → now.held.items ≡ progress.held.items ++ one → now.epoch ≡ Some item.epoch → now.newest ≡ progress.newest
       → HasPrinted style behind (rows ++ row ∷ []) text now
   held_back one now n so wait some it held epoch newest =
       let same = same_shown wait in
       let grown = led_grown style.dated behind old_rows row n (sym has.newest ∙ some) in
       built (old_rows ++ row ∷ []) text now (has.late ++ row ∷ []) (rows_new so)
-      (subst (λ l. AreTexts style.csv told (epoch_of behind) l text) (sym same) has.printed) (newest ∙ has.newest ∙ ap (newest_of behind) (sym same))
+      (subst (λ l. AreTexts style.form told (epoch_of behind) l text) (sym same) has.printed) (newest ∙ has.newest ∙ ap (newest_of behind) (sym same))
       (ap (λ l. l ++ (has.late ++ row ∷ [])) same ∙ sym (append_assoc (between style.dated (is_some behind) old_rows) has.late (row ∷ [])) ∙ ap (λ l. l ++ row ∷ []) has.all ∙ sym grown)
-      (subst (λ m. AreTexts style.csv told (epoch_of m) (has.late ++ row ∷ []) now.held.items) (sym newest)
-      (subst (AreTexts style.csv told (epoch_of progress.newest) (has.late ++ row ∷ [])) (sym held) (late_text one it)))
+      (subst (λ m. AreTexts style.form told (epoch_of m) (has.late ++ row ∷ []) now.held.items) (sym newest)
+      (subst (AreTexts style.form told (epoch_of progress.newest) (has.late ++ row ∷ [])) (sym held) (late_text one it)))
       (epoch ∙ ap epoch_of item_is ∙ ap epoch_of (sym late_newest) ∙ ap (λ m. epoch_of (newest_of m (has.late ++ row ∷ []))) (sym newest))
 
   shown_now : (style.dated && is_some item.last) ≡ false
@@ -218,22 +221,22 @@ module _ (style : Style) (behind : Option Newest) (rows : List Values) (row : Va
   shown_now sure = between_now style.dated row (is_some behind) old_rows (sym waits_as ∙ sure) ∙ ap (λ l. l ++ row ∷ []) (sym has.all)
       ∙ append_assoc (between style.dated (is_some behind) old_rows) has.late (row ∷ [])
 
-  texts_now : (one : List ℕ) → (style.dated && is_some item.last) ≡ false → IsItemText style.csv told progress.epoch item one
-      → AreTexts style.csv told (epoch_of behind) (between style.dated (is_some behind) (old_rows ++ row ∷ [])) (text ++ (progress.held.items ++ one))
+  texts_now : (one : List ℕ) → (style.dated && is_some item.last) ≡ false → IsItemText style.form told progress.epoch item one
+      → AreTexts style.form told (epoch_of behind) (between style.dated (is_some behind) (old_rows ++ row ∷ [])) (text ++ (progress.held.items ++ one))
   texts_now one sure it =
-      subst (λ l. AreTexts style.csv told (epoch_of behind) l (text ++ (progress.held.items ++ one))) (sym (shown_now sure))
-      (texts_more style.csv told behind (between style.dated (is_some behind) old_rows) (has.late ++ row ∷ []) text (progress.held.items ++ one) has.printed
-      (subst (λ m. AreTexts style.csv told (epoch_of m) (has.late ++ row ∷ []) (progress.held.items ++ one)) has.newest (late_text one it)))
+      subst (λ l. AreTexts style.form told (epoch_of behind) l (text ++ (progress.held.items ++ one))) (sym (shown_now sure))
+      (texts_more style.form told behind (between style.dated (is_some behind) old_rows) (has.late ++ row ∷ []) text (progress.held.items ++ one) has.printed
+      (subst (λ m. AreTexts style.form told (epoch_of m) (has.late ++ row ∷ []) (progress.held.items ++ one)) has.newest (late_text one it)))
 
   -- the text of the rows with this one, where it is shown by itself
-  pub whole_text : (one : List ℕ) → is_newer behind item.epoch item.number ≡ true → (style.dated && is_some item.last) ≡ false → IsItemText style.csv told progress.epoch item one
-      → AreTexts style.csv told (epoch_of behind) (shown_rows style.dated behind (rows ++ row ∷ [])) (text ++ (progress.held.items ++ one))
+  pub whole_text : (one : List ℕ) → is_newer behind item.epoch item.number ≡ true → (style.dated && is_some item.last) ≡ false → IsItemText style.form told progress.epoch item one
+      → AreTexts style.form told (epoch_of behind) (shown_rows style.dated behind (rows ++ row ∷ [])) (text ++ (progress.held.items ++ one))
   whole_text one so sure it =
-      subst (λ l. AreTexts style.csv told (epoch_of behind) (between style.dated (is_some behind) l) (text ++ (progress.held.items ++ one))) (sym (rows_new so)) (texts_now one sure it)
+      subst (λ l. AreTexts style.form told (epoch_of behind) (between style.dated (is_some behind) l) (text ++ (progress.held.items ++ one))) (sym (rows_new so)) (texts_now one sure it)
 
   -- then it is printed, with what waited
   pub printed_now : (one : List ℕ) (now : Progress) → is_newer behind item.epoch item.number ≡ true → (style.dated && is_some item.last) ≡ false
-      → IsItemText style.csv told progress.epoch item one → now.held.items ≡ [] → now.epoch ≡ Some item.epoch → now.newest ≡ Some (record { epoch = item.epoch; number = item.number })
+      → IsItemText style.form told progress.epoch item one → now.held.items ≡ [] → now.epoch ≡ Some item.epoch → now.newest ≡ Some (record { epoch = item.epoch; number = item.number })
       → HasPrinted style behind (rows ++ row ∷ []) (text ++ (progress.held.items ++ one)) now
   printed_now one now so sure it held epoch newest =
       let shown = shown_now sure in

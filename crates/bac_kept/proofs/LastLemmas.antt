@@ -6,6 +6,7 @@ use Rattle.sqlite_trees.specs.declared.store.Store.{Ghosts}
 use Rattle.sqlite.specs.declared.error.Error.{Error}
 use Rattle.sqlite.specs.Held.{Held}
 use Rattle.bac_archive.specs.Ask.{IsAsWas}
+use Rattle.bac_form.specs.declared.form.Form.{Form}
 use Rattle.bac_kept.specs.LastRows.{AreLastTexts, IsLastText}
 use Rattle.bac_kept.specs.Lasts.{LooksFor, LooksForEach, found_of}
 use Rattle.bac_kept.specs.Records.{FailsBy, IsGap}
@@ -31,10 +32,10 @@ pub looks_more : (items : List Values) (logs : List Told) (told : Told) (old mid
 looks_more items [] told old mid new all it = (new, subst (λ f. LooksFor items told.log.id f new) all it, refl)
 looks_more items (l ∷ logs) told old mid new (first, one, rest) it = (first, one, looks_more items logs told first mid new rest it)
 
-module _ (csv : Bool) (found : List Found) (last : Option (List _)) where
+module _ (form : Form) (found : List Found) (last : Option (List _)) where
   -- the text of one log more
-  pub texts_more : (logs : List Told) (told : Told) (rows one : List _) → AreLastTexts csv found last logs rows
-      → IsLastText csv told (found_of found told.log.id) (silence last (answer_of told.device)) one → AreLastTexts csv found last (logs ++ told ∷ []) (rows ++ one)
+  pub texts_more : (logs : List Told) (told : Told) (rows one : List _) → AreLastTexts form found last logs rows
+      → IsLastText form told (found_of found told.log.id) (silence last (answer_of told.device)) one → AreLastTexts form found last (logs ++ told ∷ []) (rows ++ one)
   texts_more [] told rows one all it = (one, [], ap (λ l. l ++ one) all ∙ sym (append-nil one), it, refl)
   texts_more (l ∷ logs) told rows one (first, rest, is, text, more) it =
       (first, rest ++ one, ap (λ x. x ++ one) is ∙ append_assoc first rest one, text, texts_more logs told rest one more it)

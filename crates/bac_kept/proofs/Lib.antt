@@ -4,3 +4,4 @@ pub mod PartsLemmas
 pub mod ShownLemmas
 pub mod RisingLemmas
 pub mod LastLemmas
+pub mod JsonLemmas

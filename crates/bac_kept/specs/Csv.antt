@@ -1,9 +1,11 @@
 -- The rows of CSV.
-use Rattle.std.specs.Prelude.{◌≡◌, ◌==◌, ℕ, Bool, if◌then◌else◌, List, [], ◌∷◌, ◌++◌, codes, decimal, map, Option}
+use Rattle.std.specs.Prelude.{◌≡◌, ◌==◌, ℕ, Bool, true, false, if◌then◌else◌, List, [], ◌∷◌, ◌++◌, codes, decimal, map, Option}
 use Rattle.std.specs.Prelude.{None, Some, String}
 use Rattle.std.specs.Float.Ieee.{Float, binary64}
 use Rattle.std.specs.String.{string_bytes}
 use Rattle.ryu.specs.Parse.{parse_float}
+use Rattle.bac_form.specs.declared.form.Form.{Form}
+use Rattle.bac_form.specs.declared.form.Form.TheVariants.{Lines, Csv, Json}
 use Rattle.csv.specs.Writing.{default_writer, row_text}
 use Rattle.bac_archive.specs.declared.items.Item.{Item}
 use Rattle.bac_kept.specs.Heads.{place_text}
@@ -17,9 +19,15 @@ abbrev pub names : List (List ℕ)
 names = codes "address" ∷ codes "device" ∷ codes "trend_log" ∷ codes "name" ∷ codes "source" ∷ codes "units"
     ∷ codes "epoch" ∷ codes "number" ∷ codes "stamp" ∷ codes "value" ∷ codes "datum" ∷ codes "flags" ∷ []
 
--- what is written before the logs: as CSV the first row, and in lines nothing
+-- the first row stands before the logs as CSV alone
+abbrev pub has_names : Form → Bool
+has_names Lines = false
+has_names Csv = true
+has_names Json = false
+
+-- what is written before the logs: the first row, or nothing
 abbrev pub names_text : Bool → List ℕ
-names_text csv = if csv then row_text default_writer names else []
+names_text wanted = if wanted then row_text default_writer names else []
 
 -- in place of the datum of a gap its numbers, and behind them what that says
 abbrev pub datum_field : ℕ → Option ℕ → List ℕ → List ℕ

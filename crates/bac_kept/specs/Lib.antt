@@ -4,6 +4,7 @@ pub mod Heads
 pub mod Seen
 pub mod Lines
 pub mod Csv
+pub mod Json
 pub mod Items
 pub mod Parts
 pub mod Faults

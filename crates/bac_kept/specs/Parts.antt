@@ -1,9 +1,11 @@
 -- What is printed of the logs of an archive, or of a part of one behind the parts before it.
-use Rattle.std.specs.Prelude.{◌≡◌, ◌⊎◌, ◌&&◌, not, if◌then◌else◌, ℕ, Bool, List, [], ◌∷◌, ◌++◌, Option, length}
+use Rattle.std.specs.Prelude.{◌≡◌, ◌⊎◌, if◌then◌else◌, ℕ, Bool, List, [], ◌∷◌, ◌++◌, Option, length}
 use Rattle.sqlite_trees.specs.Tree.{Trees}
 use Rattle.sqlite_value.specs.Order.{Row as Values}
 use Rattle.bac_archive.specs.Known.{IsKnown}
 use Rattle.bac_archive.specs.declared.known.Known.{Known}
+use Rattle.bac_form.specs.declared.form.Form.{Form}
+use Rattle.bac_form.specs.declared.form.Form.TheVariants.{Lines, Csv, Json}
 use Rattle.bac_kept.specs.Heads.{head_line}
 use Rattle.bac_kept.specs.Items.{PrintsItems, PrintsItemsFront}
 use Rattle.bac_kept.specs.Seen.{Notes, newest_in}
@@ -12,9 +14,15 @@ use Rattle.bac_kept.specs.declared.seen.Newest.{Newest}
 use Rattle.bac_kept.specs.declared.seen.Seen.{Seen}
 use Rattle.bac_kept.specs.declared.words.Words.{Words}
 
--- the line that names a log, where lines stand behind such
+-- the line that names a log, where lines stand behind such: rows and objects name it themselves
+abbrev pub head_in : Form → Bool → Told → List ℕ
+head_in Lines heads told = if heads then head_line told else []
+head_in Csv heads told = []
+head_in Json heads told = []
+
+-- the same of words
 abbrev pub head_text : Words → Bool → Told → List ℕ
-head_text words heads told = if heads && not words.csv then head_line told else []
+head_text words heads told = head_in words.form heads told
 
 -- the text of a log behind what was seen of it, which is noted
 abbrev pub PrintsLog : Words → Bool → Told → List Values → Seen → List ℕ → Seen → Type 0

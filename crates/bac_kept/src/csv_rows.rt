@@ -6,8 +6,8 @@ ghost use Rattle.std.specs.Io.KnownBytes.{Appends};
 ghost use Rattle.csv.specs.Writing.{default_writer, row_text};
 ghost use Rattle.bac_print.specs.Output.{AppendsPart};
 ghost use Rattle.bac_kept.specs.Csv.{AreFieldsOf, AreItemFields, IsRow, IsValueText, datum_field};
-ghost use Rattle.bac_kept.specs.Csv.{flags_field, letter, names, names_text, number_text};
-ghost use Rattle.bac_kept.specs.Csv.{text_or_none};
+ghost use Rattle.bac_kept.specs.Csv.{flags_field, has_names, letter, names, names_text};
+ghost use Rattle.bac_kept.specs.Csv.{number_text, text_or_none};
 ghost use Rattle.bac_kept.specs.Faults.{EndsText};
 ghost use Rattle.bac_kept.specs.Lines.{doubt};
 ghost use Rattle.bac_kept.specs.Shown.{told_of};
@@ -15,6 +15,7 @@ ghost use Rattle.bac_kept.specs.Shown.{told_of};
 use crate::fault::Fault;
 use crate::shown::{ShownLog, push_place};
 use bac_archive::Item;
+use bac_form::Form;
 use bac_print::{push_number, write_text};
 use bac_values::push_short;
 use csv::Writer;
@@ -159,7 +160,7 @@ fn letter(c: u8) -> u8
 }
 
 /// Flags as letters.
-fn flags_text(alloc: Global, flags: &[u8]) -> Result<Vec<u8>, AllocError>
+pub(crate) fn flags_text(alloc: Global, flags: &[u8]) -> Result<Vec<u8>, AllocError>
     ensures { IfOk result (λ text. text.items ≡ flags_field flags.now) }
 {
     let mut text = Vec::new(alloc);
@@ -251,15 +252,25 @@ pub(crate) fn push_row(
     text.extend_from_slice(row.as_slice())
 }
 
-/// Writes the row of names, where logs are written as CSV.
-pub fn print_names<O: Write>(alloc: Global, csv: bool, output: &mut O) -> Result<(), Fault>
+/// Whether a row of names stands before the logs: as CSV alone.
+pub fn has_names(form: Form) -> bool
+    ensures { result ≡ has_names form }
+{
+    match form {
+        Form::Csv => true,
+        Form::Lines | Form::Json => false,
+    }
+}
+
+/// Writes the row of names, if it is wanted.
+pub fn print_names<O: Write>(alloc: Global, wanted: bool, output: &mut O) -> Result<(), Fault>
     ensures ok { OnOk result
-        (Appends (O.contents output.old) (O.contents output.new) (names_text csv)) }
+        (Appends (O.contents output.old) (O.contents output.new) (names_text wanted)) }
     ensures err { OnErr result
-        (AppendsPart (O.contents output.old) (O.contents output.new) (names_text csv)) }
+        (AppendsPart (O.contents output.old) (O.contents output.new) (names_text wanted)) }
     ensures fault { IfErr result EndsText }
 {
-    if !csv {
+    if !wanted {
         return Ok(());
     }
     let Ok(text) = row_of(alloc, &NAMES) else {

@@ -19,11 +19,13 @@ ghost use Rattle.bac_archive.specs.Items.{IsReadable};
 
 use crate::csv_rows::{LogFields, push_row};
 use crate::fault::Fault;
+use crate::json_lines::push_json;
 use crate::lines::push_lines;
 use crate::seen::{Newest, is_newer};
 use crate::shown::ShownLog;
 use crate::words::{Dates, Words};
 use bac_archive::{Item, Range, id_of, items_in, read_item};
+use bac_form::Form;
 use bac_print::write_text;
 use sqlite::{Alter, Connection, Error, ErrorCode, Row};
 use std::alloc::{AllocError, Global};
@@ -34,7 +36,7 @@ use std::io::Write;
 pub(crate) struct Style<'a> {
     shown: ShownLog<'a>,
     fields: &'a LogFields<'a>,
-    csv: bool,
+    form: Form,
     /// Dates were named: a gap waits for a record behind it.
     dated: bool,
 }
@@ -77,13 +79,14 @@ fn push_text(
 ) -> Result<(), AllocError>
     requires { AreFieldsOf (told_of style.now.shown) style.now.fields.now }
     ensures { OnOk result ((one : List _)
-        × IsItemText style.now.csv (told_of style.now.shown) before item.now one
+        × IsItemText style.now.form (told_of style.now.shown) before item.now one
         × (text.new.items ≡ text.old.items ++ one)) }
 {
-    if style.csv {
-        return push_row(alloc, text, item, style.fields);
+    match style.form {
+        Form::Lines => push_lines(text, item, before, &style.shown),
+        Form::Csv => push_row(alloc, text, item, style.fields),
+        Form::Json => push_json(alloc, text, item, &style.shown, style.fields),
     }
-    push_lines(text, item, before, &style.shown)
 }
 
 /// Prints the texts that waited, of which the last is that of this item.
@@ -280,7 +283,7 @@ pub(crate) fn print_items<A: Alter, O: Write>(
     let style = Style {
         shown: *shown,
         fields: &fields,
-        csv: words.csv,
+        form: words.form,
         dated: words.dates.is_some(),
     };
     let range = range_of(shown.log.id, words.dates);

@@ -1,26 +1,30 @@
-//! The newest records of logs, as lines or as CSV.
+//! The newest records of logs, as lines, as CSV or as JSON.
 
-ghost use Rattle.std.specs.Prelude.{◌≡◌, ◌⊎◌, ◌∷◌, [], ◌++◌, IfErr, IfOk, List, OnOk};
+ghost use Rattle.std.specs.Prelude.{◌≡◌, ◌⊎◌, ◌∷◌, [], ◌++◌, IfErr, IfOk, List, None, OnOk};
 ghost use Rattle.std.specs.Prelude.{map, option_copied};
 ghost use Rattle.std.specs.Io.KnownBytes.{Appends};
 ghost use Rattle.csv.specs.Writing.{default_writer, row_text};
 ghost use Rattle.bac_print.specs.Output.{AppendsPart};
 ghost use Rattle.bac_kept.specs.Csv.{AreFieldsOf};
-ghost use Rattle.bac_kept.specs.LastRows.{AreLastTexts, IsLastRow, IsLastText, IsRecordRow};
-ghost use Rattle.bac_kept.specs.LastRows.{PrintsLasts, last_line, last_names_text};
-ghost use Rattle.bac_kept.specs.LastRows.{none_fields, record_text};
+ghost use Rattle.bac_kept.specs.LastRows.{AreLastTexts, IsLastJson, IsLastRow, IsLastText};
+ghost use Rattle.bac_kept.specs.LastRows.{IsRecordJson, IsRecordRow, PrintsLasts, last_line};
+ghost use Rattle.bac_kept.specs.LastRows.{last_names_text, none_fields, record_text};
 ghost use Rattle.bac_kept.specs.Shown.{told_of};
 
 use crate::csv_rows::{ItemFields, LogFields, row_of};
 use crate::fault::Fault;
+use crate::json_lines::{write_log, write_none, write_record};
 use crate::lasts::{Found, Lasts, found_of, last_logs};
 use crate::record::Record;
 use crate::shown::{ShownLog, push_place};
 use crate::silence::{last_answer, push_silence, silence};
 use crate::words::Words;
+use bac_form::Form;
+use bac_json::Line;
 use bac_print::{push_number, write_text};
 use std::alloc::{AllocError, Global};
 use std::io::Write;
+use std::mem::replace;
 
 /// The first row.
 const NAMES: [&[u8]; 13] = [
@@ -188,6 +192,84 @@ fn push_row(
     text.extend_from_slice(row.as_slice())
 }
 
+/// A text, and behind it the line of a log and its newest record.
+fn with_record(
+    alloc: Global,
+    text: Vec<u8>,
+    shown: &ShownLog<'_>,
+    log: &LogFields<'_>,
+    record: &Record,
+    silence: &[u8],
+) -> Result<Vec<u8>, AllocError>
+    requires { AreFieldsOf (told_of shown.now) log.now }
+    ensures { IfOk result (λ new. (one : List _)
+        × IsRecordJson (told_of shown.now) record.now silence.now one
+        × (new.items ≡ text.items ++ one)) }
+{
+    let item = record.item();
+    let mut line = Line::begin(alloc, text)?;
+    write_log(&mut line, shown, log)?;
+    write_record(alloc, &mut line, &item)?;
+    line.text_or_null("silent_since", silence)?;
+    line.end()
+}
+
+/// A text, and behind it the line of a log without a record.
+fn with_none(
+    alloc: Global,
+    text: Vec<u8>,
+    shown: &ShownLog<'_>,
+    log: &LogFields<'_>,
+    silence: &[u8],
+) -> Result<Vec<u8>, AllocError>
+    requires { AreFieldsOf (told_of shown.now) log.now }
+    ensures { IfOk result (λ new. (one : List _)
+        × IsLastJson (told_of shown.now) None silence.now one
+        × (new.items ≡ text.items ++ one)) }
+{
+    let mut line = Line::begin(alloc, text)?;
+    write_log(&mut line, shown, log)?;
+    write_none(&mut line)?;
+    line.text_or_null("silent_since", silence)?;
+    line.end()
+}
+
+/// The same of a log, with its newest record.
+fn with_last(
+    alloc: Global,
+    text: Vec<u8>,
+    shown: &ShownLog<'_>,
+    record: Option<&Record>,
+    silence: &[u8],
+) -> Result<Vec<u8>, AllocError>
+    ensures { IfOk result (λ new. (one : List _)
+        × IsLastJson (told_of shown.now) (option_copied record.entry) silence.now one
+        × (new.items ≡ text.items ++ one)) }
+{
+    let log = LogFields::of(alloc, shown)?;
+    match record {
+        Some(record) => with_record(alloc, text, shown, &log, record, silence),
+        None => with_none(alloc, text, shown, &log, silence),
+    }
+}
+
+/// Appends it.
+fn push_json(
+    alloc: Global,
+    text: &mut Vec<u8>,
+    shown: &ShownLog<'_>,
+    record: Option<&Record>,
+    silence: &[u8],
+) -> Result<(), AllocError>
+    ensures { OnOk result ((one : List _)
+        × IsLastJson (told_of shown.now) (option_copied record.entry) silence.now one
+        × (text.new.items ≡ text.old.items ++ one)) }
+{
+    let before = replace(text, Vec::new(alloc));
+    *text = with_last(alloc, before, shown, record, silence)?;
+    Ok(())
+}
+
 /// Appends the text of a log.
 fn push_last(
     alloc: Global,
@@ -195,16 +277,17 @@ fn push_last(
     shown: &ShownLog<'_>,
     record: Option<&Record>,
     silence: &[u8],
-    csv: bool,
+    form: Form,
 ) -> Result<(), AllocError>
-    ensures { OnOk result ((one : List _) × IsLastText csv (told_of shown.now)
+    ensures { OnOk result ((one : List _) × IsLastText form (told_of shown.now)
         (option_copied record.entry) silence.now one
         × (text.new.items ≡ text.old.items ++ one)) }
 {
-    if csv {
-        return push_row(alloc, text, shown, record, silence);
+    match form {
+        Form::Lines => push_line(text, shown, record, silence),
+        Form::Csv => push_row(alloc, text, shown, record, silence),
+        Form::Json => push_json(alloc, text, shown, record, silence),
     }
-    push_line(text, shown, record, silence)
 }
 
 /// Appends the text of each log, where devices answered last at this moment.
@@ -214,27 +297,27 @@ fn push_lasts(
     logs: &[ShownLog<'_>],
     found: &[Found],
     last: Option<&str>,
-    csv: bool,
+    form: Form,
 ) -> Result<(), AllocError>
-    ensures { OnOk result ((rows : List _) × AreLastTexts csv found.now (option_copied last.entry)
+    ensures { OnOk result ((rows : List _) × AreLastTexts form found.now (option_copied last.entry)
         (map told_of logs.now) rows × (text.new.items ≡ text.old.items ++ rows)) }
 {
     for shown in logs {
         let record = found_of(found, shown.log.id);
         let silence = silence(shown.device, last);
-        push_last(alloc, text, shown, record, silence, csv)?;
+        push_last(alloc, text, shown, record, silence, form)?;
     }
     Ok(())
 }
 
 /// The row of names, where logs are written as CSV.
-fn names(alloc: Global, csv: bool) -> Result<Vec<u8>, AllocError>
-    ensures { IfOk result (λ text. text.items ≡ last_names_text csv) }
+fn names(alloc: Global, form: Form) -> Result<Vec<u8>, AllocError>
+    ensures { IfOk result (λ text. text.items ≡ last_names_text form) }
 {
-    if csv {
-        return row_of(alloc, &NAMES);
+    match form {
+        Form::Csv => row_of(alloc, &NAMES),
+        Form::Lines | Form::Json => Ok(Vec::new(alloc)),
     }
-    Ok(Vec::new(alloc))
 }
 
 impl Lasts {
@@ -242,16 +325,16 @@ impl Lasts {
     fn text(&self, alloc: Global, words: &Words<'_>) -> Result<Vec<u8>, AllocError>
         ensures { IfOk result (λ text. PrintsLasts words.now self.now text.items) }
     {
-        let mut text = names(alloc, words.csv)?;
+        let mut text = names(alloc, words.form)?;
         let logs = last_logs(alloc, &self.known, words.choice)?;
         let last = last_answer(self.known.devices.as_slice());
         let found = self.found.as_slice();
-        push_lasts(alloc, &mut text, logs.as_slice(), found, last, words.csv)?;
+        push_lasts(alloc, &mut text, logs.as_slice(), found, last, words.form)?;
         Ok(text)
     }
 
     /// Prints of each log that is chosen and isn't stopped the newest record that was found, and
-    /// since when its device is silent: a line, or a row of CSV.
+    /// since when its device is silent: a line, a row of CSV, or a line of JSON.
     pub fn print<O: Write>(
         &self,
         alloc: Global,

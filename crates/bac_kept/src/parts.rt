@@ -21,6 +21,7 @@ use crate::seen::Seen;
 use crate::shown::{ShownLog, has_heads, print_head, shown_logs};
 use crate::words::Words;
 use bac_archive::read_known;
+use bac_form::Form;
 use sqlite::{Alter, Connection};
 use std::alloc::Global;
 use std::io::Write;
@@ -39,10 +40,10 @@ fn print_name<O: Write>(
         (head_text words.now heads (told_of shown.now))) }
     ensures fault { IfErr result EndsText }
 {
-    if !heads || words.csv {
-        return Ok(());
+    match words.form {
+        Form::Lines if heads => print_head(alloc, shown, output),
+        _ => Ok(()),
     }
-    print_head(alloc, shown, output)
 }
 
 /// Prints what an archive keeps of a log, behind what was seen of it.

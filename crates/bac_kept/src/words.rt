@@ -4,6 +4,7 @@ ghost use Rattle.std.specs.Prelude.{◌≡◌};
 ghost use Rattle.bac_kept.specs.Words.{is_at, is_behind, is_chosen, names_one};
 
 use bac_archive::{DeviceRow, LogRow};
+use bac_form::Form;
 
 /// The network behind a router, and a device's address there in hexadecimal digits. Network 0 and
 /// no digits are those of a device that is behind none.
@@ -48,8 +49,7 @@ pub struct Words<'a> {
     pub choice: Choice<'a>,
     /// Nothing: each record and each gap.
     pub dates: Option<Dates<'a>>,
-    /// As CSV, and not in lines.
-    pub csv: bool,
+    pub form: Form,
 }
 
 /// Whether a device is there behind a router, or at the address itself.

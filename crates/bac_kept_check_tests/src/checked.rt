@@ -49,8 +49,8 @@ fn tells_what_is_missing(rt: HostRuntime) -> Result<(), Fail> {
     let holes = checked(&rt, "check_holes/site.db");
     remove_dir_all(&rt, "check_holes")?;
     let lines = "192.0.2.1:47808/5/0a 3 epoch 0: 10 to 13, 2 records, 0 gaps\n\
-        hole 8 9\n\
-        hole 11 12\n\
+        missing 8-9\n\
+        missing 11-12\n\
         192.0.2.1:47808/5/0a 3 epoch 1: 1 to 1, 1 record, 0 gaps\n\
         192.0.2.1:47808/5/0a 4 epoch 0: 500 to 500, 1 record, 0 gaps\n\
         192.0.2.1:47808/5/0b 4 epoch 0: 7 to 7, 1 record, 0 gaps\n";

@@ -1,6 +1,7 @@
 //! What `kept` prints.
 
 use crate::archive::{NEXT, SITE, kept, make};
+use bac_form::Form;
 use bac_kept::{Choice, Dates, Place, Words};
 use bac_reading::Asked;
 use std::fs::{create_dir_all, remove_dir_all, write};
@@ -10,14 +11,14 @@ use std::test::Fail;
 const ALL: Words<'static> = Words {
     choice: Choice::All,
     dates: None,
-    csv: false,
+    form: Form::Lines,
 };
 
 /// The same as CSV.
 const CSV: Words<'static> = Words {
     choice: Choice::All,
     dates: None,
-    csv: true,
+    form: Form::Csv,
 };
 
 /// The first log.
@@ -41,6 +42,30 @@ const LINES: &str = "192.0.2.1:47808/5/0a 3\n\
     192.0.2.1:47808/5/0b 4\n\
     7 2026-11-28T06:00:00.00 enum(1) -\n";
 
+/// The same as JSON.
+const OBJECTS: &str = "\
+    {\"address\":\"192.0.2.1:47808/5/0a\",\"device\":11,\"trend_log\":3,\"name\":\"zone\",\
+    \"source\":\"object(0,1).85\",\"units\":\"enum(62)\",\"epoch\":0,\"number\":10,\
+    \"stamp\":\"2026-11-29T10:00:00.00\",\"value\":20.5,\"datum\":\"real(41a40000)\",\
+    \"flags\":\"FFFF\"}\n\
+    {\"address\":\"192.0.2.1:47808/5/0a\",\"device\":11,\"trend_log\":3,\"name\":\"zone\",\
+    \"source\":\"object(0,1).85\",\"units\":\"enum(62)\",\"epoch\":0,\"first\":11,\"last\":12,\
+    \"doubtful\":false}\n\
+    {\"address\":\"192.0.2.1:47808/5/0a\",\"device\":11,\"trend_log\":3,\"name\":\"zone\",\
+    \"source\":\"object(0,1).85\",\"units\":\"enum(62)\",\"epoch\":0,\"number\":13,\
+    \"stamp\":\"2026-11-29T10:30:00.00\",\"value\":21.5,\"datum\":\"real(41ac0000)\",\
+    \"flags\":\"FTFF\"}\n\
+    {\"address\":\"192.0.2.1:47808/5/0a\",\"device\":11,\"trend_log\":3,\"name\":\"zone\",\
+    \"source\":\"object(0,1).85\",\"units\":\"enum(62)\",\"epoch\":1,\"number\":1,\
+    \"stamp\":\"2026-11-29T11:00:00.00\",\"value\":22.5,\"datum\":\"real(41b40000)\",\
+    \"flags\":\"FFFF\"}\n\
+    {\"address\":\"192.0.2.1:47808/5/0a\",\"device\":11,\"trend_log\":4,\"name\":null,\
+    \"source\":null,\"units\":null,\"epoch\":0,\"number\":500,\"stamp\":\"*\",\"value\":23.5,\
+    \"datum\":\"real(41bc0000)\",\"flags\":\"FFFF\"}\n\
+    {\"address\":\"192.0.2.1:47808/5/0b\",\"device\":12,\"trend_log\":4,\"name\":null,\
+    \"source\":null,\"units\":null,\"epoch\":0,\"number\":7,\"stamp\":\"2026-11-28T06:00:00.00\",\
+    \"value\":1.0,\"datum\":\"enum(1)\",\"flags\":\"-\"}\n";
+
 /// All of an archive.
 fn all<'a>(file: &'a str, words: Words<'a>) -> Asked<'a> {
     Asked {
@@ -61,7 +86,7 @@ fn prints_a_file(rt: HostRuntime) -> Result<(), Fail> {
             since: "2026-11-29T10",
             before: "2026-11-29T11",
         }),
-        csv: false,
+        form: Form::Lines,
     };
     let dated = kept(&rt, &all("kept_file/site.db", zone));
     let csv = kept(&rt, &all("kept_file/site.db", CSV));
@@ -86,6 +111,21 @@ fn prints_a_file(rt: HostRuntime) -> Result<(), Fail> {
 }
 
 #[test]
+fn prints_json(rt: HostRuntime) -> Result<(), Fail> {
+    create_dir_all(&rt, "kept_json")?;
+    assert!(rt; make(&rt, "kept_json/site.db", SITE).is_ok());
+    let words = Words {
+        choice: Choice::All,
+        dates: None,
+        form: Form::Json,
+    };
+    let json = kept(&rt, &all("kept_json/site.db", words));
+    remove_dir_all(&rt, "kept_json")?;
+    assert!(rt; json.is(0, OBJECTS, ""));
+    Ok(())
+}
+
+#[test]
 fn prints_the_parts_of_a_folder(rt: HostRuntime) -> Result<(), Fail> {
     create_dir_all(&rt, "kept_parts")?;
     assert!(rt; make(&rt, "kept_parts/000001.db", SITE).is_ok());
@@ -93,7 +133,7 @@ fn prints_the_parts_of_a_folder(rt: HostRuntime) -> Result<(), Fail> {
     let zone = Words {
         choice: ZONE,
         dates: None,
-        csv: false,
+        form: Form::Lines,
     };
     let lines = kept(&rt, &all("kept_parts", zone));
     remove_dir_all(&rt, "kept_parts")?;
@@ -141,7 +181,7 @@ fn tells_of_a_file_that_is_no_use(rt: HostRuntime) -> Result<(), Fail> {
             behind: None,
         }),
         dates: None,
-        csv: false,
+        form: Form::Lines,
     };
     let unknown = kept(&rt, &all("kept_none/site.db", other));
     let none = kept(&rt, &all("kept_none", ALL));

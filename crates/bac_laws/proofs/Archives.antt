@@ -30,7 +30,7 @@ use Rattle.bac_reading.specs.declared.fault.Fault.{Fault}
 use Rattle.bac_run.specs.Faults.{of_read, of_words, read_ending}
 use Rattle.bac_run.specs.Reading.{AskedAs, ChecksArchive, PrintsKept, is_newest}
 use Rattle.bac_run.specs.Run.{RunsAll}
-use Rattle.bac_run.specs.Setup.{Setup}
+use Rattle.bac_run.specs.Setup.{IsPrinted, Setup}
 use Rattle.bac_site_poller.specs.Site.{SiteState}
 use Rattle.bac_tools.specs.Run.{Ends as EndsTool}
 use Rattle.bac_tools.specs.declared.fault.Fault.TheVariants as told
@@ -109,19 +109,22 @@ module _ {S P C W Q F G : Type 0} {s : start.Ghosts F} {t : start.Ghosts G} (rul
 
   pub check_ran : (said : Check) (old : Setup S C Q s t) (status : ℕ) (new : Setup S C Q s t)
       → RunsAll rules acts f file g part folders passes tells waits switches (job.Check said) old status new → status ≡ 0
-      → FindsEach folders said.file old.streams.output new.streams.output old.folders new.folders
+      → (before : Held) × (after : Held) × IsPrinted said.quiet old.streams.output new.streams.output before after × FindsEach folders said.file before after old.folders new.folders
   check_ran said old status new (inl ((tells', keeps, untouched), off)) none =
       absurd (told_fails told.Memory old.streams.errors new.streams.errors status tells' none)
-  check_ran said old status new (inr (sockets, switched, (ran, only))) none = finds_zero folders said _ status _ ran none
+  check_ran said old status new (inr (sockets, switched, ((before, after, printed, ran), only))) none =
+      (before, after, printed, finds_zero folders said (scene old.folders before old.streams.errors) status (scene new.folders after new.streams.errors) ran none)
 
   pub check_whole : (law : WholeHasEach) (said : Check) (old : Setup S C Q s t) (status : ℕ) (new : Setup S C Q s t)
       → RunsAll rules acts f file g part folders passes tells waits switches (job.Check said) old status new → status ≡ 0
       → FindsWhole folders said.file old.folders new.folders
   check_whole law said old status new ran none =
-      whole_if folders law said.file old.streams.output new.streams.output old.folders new.folders (check_ran said old status new ran none)
+      let it = check_ran said old status new ran none in
+      whole_if folders law said.file it.0 it.1 old.folders new.folders it.3
 
   pub check_left : (said : Check) (old : Setup S C Q s t) (status : ℕ) (new : Setup S C Q s t)
       → RunsAll rules acts f file g part folders passes tells waits switches (job.Check said) old status new
       → (new.files ≡ old.files) × LeavesArchive folders said.file old.folders new.folders
   check_left said old status new (inl (told', off)) = (off.0.0, inl off.1)
-  check_left said old status new (inr (sockets, switched, (ran, only))) = (only.1.0, check_leaves folders said _ status _ ran)
+  check_left said old status new (inr (sockets, switched, ((before, after, printed, ran), only))) =
+      (only.1.0, check_leaves folders said (scene old.folders before old.streams.errors) status (scene new.folders after new.streams.errors) ran)

@@ -57,7 +57,7 @@ same_first true fitting m n is = absurd (let e : End ≡ Bring n = is in cc)
 same_first false true m n is = (let e : Bring m ≡ Bring n = is in cc)
 same_first false false m n is = absurd (let e : Refuse ≡ Bring n = is in cc)
 
-has_first : (w : WalkPlace) (first : Option ℕ) (count : ℕ) (entries : List Entry) (n : ℕ) → verdict w first count entries ≡ Bring n
+pub has_first : (w : WalkPlace) (first : Option ℕ) (count : ℕ) (entries : List Entry) (n : ℕ) → verdict w first count entries ≡ Bring n
     → first ≡ Some n
 has_first w first count [] n is = absurd (no_bring (asks_oldest_now w) n is)
 has_first w None count (e ∷ es) n is = absurd (let f : Refuse ≡ Bring n = is in cc)

@@ -99,7 +99,7 @@ unfit peer request heard none datagram same =
     not_both (bytes_eq peer peer) (answers_to request datagram) datagram ((bytes_eq-Decides peer peer).1 refl)
     (subst (λ (h : Heard). fitting peer request h ≡ None) one none)
 
-heard_is : (heard : Heard) (peer datagram : List ℕ) → heard.from ≡ peer → heard.datagram ≡ Some datagram → Received (Ok heard) ≡ came peer datagram
+pub heard_is : (heard : Heard) (peer datagram : List ℕ) → heard.from ≡ peer → heard.datagram ≡ Some datagram → Received (Ok heard) ≡ came peer datagram
 heard_is heard peer datagram from there = rw (← from) (let e : heard ≡ record { from = heard.from; datagram = Some datagram } = ap (λ (d : Option (List ℕ)). let h : Heard = record { from = heard.from; datagram = d } in h) there in ap (λ (h : Heard). Received (Ok h)) e)
 
 sent_unlike : (octets whom from datagram : List ℕ) (sent : Sending) → Sent octets whom sent ≡ came from datagram → ⊥

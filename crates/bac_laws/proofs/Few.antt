@@ -21,10 +21,10 @@ use Rattle.bac_query.specs.Fetching.{Course, Fetching, TellsRun, course}
 use Rattle.bac_query.specs.Reading.{Printing, Session, printing}
 use Rattle.bac_query.specs.Tables.{client}
 use Rattle.bac_query.specs.declared.fault.QueryFault.TheVariants.{Exchange, Write, Memory}
-use Rattle.bac_query.specs.declared.layout.Layout.{Layout}
+use Rattle.bac_form.specs.declared.form.Form.{Form}
 use Rattle.bac_tools.specs.Asking.{Fetches, FetchesOver}
 use Rattle.bac_tools.specs.Ending.{Ending}
-use Rattle.bac_tools.specs.Run.{FetchesAsSaid, layout_of, walk_from}
+use Rattle.bac_tools.specs.Run.{FetchesAsSaid, walk_from}
 use Rattle.bac_tools.specs.Sockets.{Outlets, transactions_with}
 use Rattle.bac_walk.specs.Came.{Came, answers_of, restarted}
 use Rattle.bac_walk.specs.Collects.{batches}
@@ -66,7 +66,7 @@ run_within steps n ended why.StepLimit (count, is) = omega (arith, count)
 run_within steps n ended (why.Fault fault) (count, is) = omega (arith, count)
 run_within steps n ended why.Memory (count, is) = count
 
-left_within : (layout : Layout) (left : Why → Type 0) (steps : ℕ) (run : Course) (result : Fetching) (old new : Held)
+left_within : (layout : Form) (left : Why → Type 0) (steps : ℕ) (run : Course) (result : Fetching) (old new : Held)
     → TellsRun layout left steps run result old new → (cause : Why) × left cause × Within steps run.steps cause
 left_within layout left steps run (Ok fetched) old new (end, is, text) = (fetched.why, is, run_within steps run.steps run.ended fetched.why end.0)
 left_within layout left steps run (Err Write) old new (inl (few, is, text)) = (why.StepLimit, is, few)
@@ -210,12 +210,12 @@ module _ {S P : Type 0} (rules : SocketRules S P) where
     few_none said old new same = ([], nothing_captured rules traces old new same, omega arith)
 
     asks_few : (said : LogReading) (old : Outlets S) (result : Ending) (new : Outlets S)
-        → Fetches rules said.asked (errand (layout_of said.csv) (walk_from said.instance said.from said.count) said.steps) old result new
+        → Fetches rules said.asked (errand said.form (walk_from said.instance said.from said.count) said.steps) old result new
         → Few said old.sockets new.sockets
     asks_few said old result new (inl (why, opens, is, quiet)) =
         ([], captured_unopened rules traces old.sockets new.sockets (own_address said.asked.local) said.asked.timeout why opens, omega arith)
     asks_few said old result new (inr (port, between, last, opens, (fetching, left, (is, says), same, how), closes)) =
-        let (es, runs, few) = over said (errand (layout_of said.csv) (walk_from said.instance said.from said.count) said.steps)
+        let (es, runs, few) = over said (errand said.form (walk_from said.instance said.from said.count) said.steps)
         (printing (link_over said.asked.address port) old.output) fetching (printing left new.output) is in (
           es,
           captured_over rules traces es old.sockets between new.sockets (own_address said.asked.local) said.asked.timeout port last opens

@@ -1,6 +1,5 @@
 -- What `bac wi` does, as events.
 use Rattle.std.proofs.Common.{◌≡◌, ◌≢◌, ◌++◌, ℕ, Bool, true, false, List, [], ◌∷◌, map, Option, None, Some, Ok, Err, inl, inr, refl, sym, subst, ap, ◌∙◌, append-nil, append_assoc}
-use Rattle.std.specs.Prelude.{length}
 use Rattle.std.specs.Io.KnownBytes.{Appends, Keeps}
 use Rattle.bac_socket_notes.specs.Ports.{Event, came_in}
 use Rattle.bac_socket_notes.specs.Ports as event
@@ -23,11 +22,12 @@ use Rattle.bac_query.specs.Turns.{Along, ComesTo, Fails, Turn, asked_in, has_dev
 use Rattle.bac_query.specs.declared.find_fault.FindFault.{FindFault}
 use Rattle.bac_query.specs.declared.find_fault.FindFault.TheVariants as find
 use Rattle.bac_tools.specs.Ending.{Ending}
-use Rattle.bac_tools.specs.Faults.{of_find}
+use Rattle.bac_tools.specs.Faults.{of_find, unanswered}
 use Rattle.bac_tools.specs.Finding.{Finds, Searches, inquiry, of_found, search_of}
 use Rattle.bac_tools.specs.Run.{Ends}
 use Rattle.bac_tools.specs.Sockets.{Outside, Pipes, outside}
 use Rattle.bac_tools.specs.declared.fault.Fault.TheVariants as fault
+use Rattle.bac_tools.specs.declared.fault.Unanswered.{Unanswered}
 use Rattle.bac_command_line.specs.declared.job.Discovery.{Discovery}
 use Rattle.bac_command_line.specs.declared.job.Stations.{Stations}
 use Rattle.bac_command_line.specs.declared.job.Stations.TheVariants.{Listed, Input}
@@ -128,7 +128,7 @@ nothing_found octets addresses before after status keeps more = record {
   done = λ is. absurd (more is);
 }
 
-told_zero : (passed : Passed) (asked left : ℕ) (refused : Option (List ℕ)) (taken : Bool) (result : Ending) (said now : Held) (status : ℕ)
+told_zero : (passed : Passed) (asked : Unanswered) (left : ℕ) (refused : Option (List ℕ)) (taken : Bool) (result : Ending) (said now : Held) (status : ℕ)
     → result ≡ of_found asked (told_of (Ok left) refused taken) → Ends passed result said now status → status ≡ 0
     → (refused ≡ None) × (taken ≡ true)
 told_zero passed asked left (Some address) taken result said now status is ends none =
@@ -138,7 +138,7 @@ told_zero passed asked left None false result said now status is ends none =
     absurd (failed passed result (fault.NoAnswer asked) said now status is ends none)
 
 found_by : (passed : Passed) (octets : List ℕ) (addresses : List (List ℕ)) (turns : List Turn) (before : Held) (sought : Left) (then : Standing)
-    (result : Ending) (said now : Held) (status asked : ℕ) → ComesTo 4096 addresses turns (unasked before) sought then
+    (result : Ending) (said now : Held) (status : ℕ) (asked : Unanswered) → ComesTo 4096 addresses turns (unasked before) sought then
     → (then.refused ≡ None → AllTaken turns)
     → result ≡ of_found asked (told_of sought then.refused then.taken) → Ends passed result said now status
     → IsFound octets addresses (events octets turns) before then.held status
@@ -182,8 +182,8 @@ module _ {S P : Type 0} (rules : SocketRules S P) (traces : S → Bool → S →
         captured_over rules traces (events octets turns) old.sockets between new.sockets (own_address said.local) said.timeout port last opens
             (along_goes rules octets turns port last along) closes,
         subst (λ (h : Held). IsFound octets addresses (events octets turns) old.output h status) (sym held)
-            (found_by passed octets addresses turns old.output sought then result told now status (length addresses) comes went
-            (how ∙ ap (of_found (length addresses)) is) ends),
+            (found_by passed octets addresses turns old.output sought then result told now status (unanswered said.local addresses) comes went
+            (how ∙ ap (of_found (unanswered said.local addresses)) is) ends),
       )
 
   with_stations : (said : Discovery) (addresses : List (List ℕ)) (es : List Event) (before after : Held) (status : ℕ)

@@ -51,10 +51,11 @@ use Rattle.bac_query.specs.Items.{items_text}
 use Rattle.bac_query.specs.Reading.{Printing, Session, printing}
 use Rattle.bac_query.specs.Tables.{client}
 use Rattle.bac_query.specs.declared.fault.QueryFault.TheVariants.{Exchange}
-use Rattle.bac_query.specs.declared.layout.Layout.TheVariants.{Lines}
+use Rattle.bac_form.specs.declared.form.Form.{Form}
+use Rattle.bac_form.specs.declared.form.Form.TheVariants.{Csv, Json, Lines}
 use Rattle.bac_tools.specs.Asking.{Fetches, FetchesOver, of_fetching}
 use Rattle.bac_tools.specs.Ending.{Ending}
-use Rattle.bac_tools.specs.Run.{Ends, IsNoWalk, Runs as RunsTool, Works, layout_of, trend_log, walk_from}
+use Rattle.bac_tools.specs.Run.{Ends, IsNoWalk, Runs as RunsTool, Works, trend_log, walk_from}
 use Rattle.bac_tools.specs.Sockets.{Outlets, outside, transactions_with}
 use Rattle.bac_tools.specs.Streams.{Streams, outlets_of, with_errors}
 use Rattle.bac_tools.specs.declared.fault.Fault.TheVariants as fault
@@ -253,14 +254,15 @@ module _ {S P : Type 0} (rules : SocketRules S P) where
       let it = subst (λ (got : Result (List ℕ) ExchangeFault). Comes rules way r peer es got) is came in (Some datagram, it.0, refl)
 
 module _ {S P : Type 0} (rules : SocketRules S P) (changes : S → S → Type 0) where
-  over : (said : LogReading) (csv : Bool) → csv ≡ false
+  over : (said : LogReading) (form : Form) → form ≡ Lines
       → (before : Printing (UdpLink P) Held) (fetching : Fetching) (after : Printing (UdpLink P) Held)
-      → FetchesOver rules said.asked (errand (layout_of csv) (walk_from said.instance said.from said.count) said.steps) before fetching after
+      → FetchesOver rules said.asked (errand form (walk_from said.instance said.from said.count) said.steps) before fetching after
       → IsPrinted (link_hears rules changes) said before.asker after.asker fetching before.printed after.printed
       × ((log : Id) × TellsFlaw (socket_asks rules) (towards said.asked.route) said.asked.retries log fetching after.asker)
-  over said true is before fetching after it = absurd (let e : true ≡ false = is in cc)
-  over said false is before fetching after (inl (fault, (not, same), failed, left)) = absurd (let e : Err fault ≡ Ok tt = not in cc)
-  over said false is before fetching after (inr (mid, (done, same), ((last, run, few), told, flaw))) = (
+  over said Csv is before fetching after it = absurd (let e : Csv ≡ Lines = is in cc)
+  over said Json is before fetching after it = absurd (let e : Json ≡ Lines = is in cc)
+  over said Lines is before fetching after (inl (fault, (not, same), failed, left)) = absurd (let e : Err fault ≡ Ok tt = not in cc)
+  over said Lines is before fetching after (inr (mid, (done, same), ((last, run, few), told, flaw))) = (
     subst (λ (h : Held). IsPrinted (link_hears rules changes) said before.asker after.asker fetching h after.printed) same
         (run_printed (link_hears rules changes) said (printing (client before.asker (transactions_with said.asked)) mid) fetching
         (printing (client after.asker last) after.printed) (refl, refl) run),
@@ -318,8 +320,8 @@ module _ {S P : Type 0} (rules : SocketRules S P) (changes : S → S → Type 0)
     prints_none said old new before after status same keeps why wrong = ([], same, inl (refl, keeps, why, wrong))
 
     -- the peer of a link that was just made is the device's
-    pub logged : (said : LogReading) → said.csv ≡ false → (passed : Passed) (old : Outlets S) (result : Ending) (new : Outlets S) (errors now : Held) (status : ℕ)
-        → Fetches rules said.asked (errand (layout_of said.csv) (walk_from said.instance said.from said.count) said.steps) old result new
+    pub logged : (said : LogReading) → said.form ≡ Lines → (passed : Passed) (old : Outlets S) (result : Ending) (new : Outlets S) (errors now : Held) (status : ℕ)
+        → Fetches rules said.asked (errand said.form (walk_from said.instance said.from said.count) said.steps) old result new
         → Ends passed result errors now status → Prints said old.sockets new.sockets old.output new.output status
     logged said lines passed old result new errors now status (inl (why, opens, is, quiet)) ends =
         prints_none said old.sockets new.sockets old.output new.output status
@@ -328,7 +330,7 @@ module _ {S P : Type 0} (rules : SocketRules S P) (changes : S → S → Type 0)
         (λ one. absurd (not_one status (ended passed result (fault.Unopened why) errors now status is ends) one))
     logged said lines passed old result new errors now status (inr (port, between, last, opens, (fetching, left, (is, says), same, how), closes)) ends =
         let first = link_over said.asked.address port in
-        let (it, (log, flaw)) = over said said.csv lines (printing first old.output) fetching (printing left new.output) is in
+        let (it, (log, flaw)) = over said said.form lines (printing first old.output) fetching (printing left new.output) is in
         let stands : (ledger : Ledger rules changes) (datagram : List ℕ) → ledger.port left.port left.peer datagram ≡ true → ledger.port last said.asked.address datagram ≡ true =
         λ ledger datagram has. subst (λ (p : P). ledger.port p said.asked.address datagram ≡ true) (sym same) (subst (λ (a : List ℕ). ledger.port left.port a datagram ≡ true) it.led.0 has) in
         let (es, runs, right) = righted said (CameFrom rules changes new.sockets said.asked.address) first left it.items it.why it.next refl
@@ -343,7 +345,7 @@ module _ {S P : Type 0} (rules : SocketRules S P) (changes : S → S → Type 0)
             it.next,
             written (socket_asks rules) (towards said.asked.route) said.asked.retries log left said.asked.address passed fetching result errors now status
                 old.output new.output (items_text it.items ++ end_line it.why it.next) it.why flaw it.part it.whole
-                (subst (λ (b : Bool). result ≡ of_fetching (layout_of b) said.asked.address fetching) lines how) ends it.sane,
+                (subst (λ (form : Form). result ≡ of_fetching form said.asked.address fetching) lines how) ends it.sane,
             right,
             it.once,
             λ number entry has. let known = it.came number entry has in
@@ -351,7 +353,7 @@ module _ {S P : Type 0} (rules : SocketRules S P) (changes : S → S → Type 0)
           ),
         )
 
-    works : {C : Type 0} (tells : C → Option CivilTime → C → Type 0) (said : LogReading) → said.csv ≡ false → (passed : Passed)
+    works : {C : Type 0} (tells : C → Option CivilTime → C → Type 0) (said : LogReading) → said.form ≡ Lines → (passed : Passed)
         (old : Streams S C) (result : Ending) (new : Streams S C) (errors now : Held) (status : ℕ)
         → Works rules tells (job.Log said) old result new → Ends passed result errors now status
         → Prints said old.sockets new.sockets old.output new.output status
@@ -363,7 +365,7 @@ module _ {S P : Type 0} (rules : SocketRules S P) (changes : S → S → Type 0)
     works tells said lines passed old result new errors now status (inr is, quiet, unread) ends =
         logged said lines passed (outlets_of old) result (outlets_of new) errors now status is ends
 
-    runs : {C : Type 0} (passes : S → Passed) (tells : C → Option CivilTime → C → Type 0) (said : LogReading) → said.csv ≡ false
+    runs : {C : Type 0} (passes : S → Passed) (tells : C → Option CivilTime → C → Type 0) (said : LogReading) → said.form ≡ Lines
         → (old : Streams S C) (status : ℕ) (new : Streams S C) → RunsTool rules passes tells (job.Log said) old status new
         → Prints said old.sockets new.sockets old.output new.output status
     runs passes tells said lines old status new (inl (told, keeps, (input, same, clock))) =
@@ -376,7 +378,7 @@ module _ {S P : Type 0} (rules : SocketRules S P) (changes : S → S → Type 0)
 module _ {S P C W Q F G : Type 0} {s : start.Ghosts F} {t : start.Ghosts G} (rules : SocketRules S P) (acts : Acts (Batched SiteState) P W)
     (f : disk.Ghosts (FileOf s)) (file : Image) (g : disk.Ghosts (FileOf t)) (part : Image) (folders : PartRules Q) (passes : S → Passed)
     (tells : C → Option CivilTime → C → Type 0) (waits : W) (changes : S → S → Type 0) (switches : S → Bool → S → Type 0) where
-  pub prints_log : (said : LogReading) → said.csv ≡ false → (old : Setup S C Q s t) (status : ℕ) (new : Setup S C Q s t)
+  pub prints_log : (said : LogReading) → said.form ≡ Lines → (old : Setup S C Q s t) (status : ℕ) (new : Setup S C Q s t)
       → RunsAll rules acts f file g part folders passes tells waits switches (job.Log said) old status new
       → Prints rules changes switches said old.streams.sockets new.streams.sockets old.streams.output new.streams.output status
   prints_log said lines old status new (inl (told, off)) =

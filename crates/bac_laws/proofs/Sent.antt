@@ -20,10 +20,10 @@ use Rattle.bac_query.specs.Hearing.{Left, ReceivesBy, Standing, port_rules}
 use Rattle.bac_query.specs.Requests.{who_is_octets}
 use Rattle.bac_query.specs.Turns.{Along, ComesTo, Received, Sent, Turn, asked_in}
 use Rattle.bac_run.specs.Run.{DoesAll, RunsAll}
-use Rattle.bac_run.specs.Setup.{Setup, with_sockets}
+use Rattle.bac_run.specs.Setup.{Setup, with_output, with_sockets}
 use Rattle.bac_tools.specs.Ending.{Ending}
 use Rattle.bac_tools.specs.Finding.{Finds, Inquiry, Searches, inquiry, search_of}
-use Rattle.bac_tools.specs.Run.{Runs, Works, layout_of, question, reals_of, trend_log, walk_from}
+use Rattle.bac_tools.specs.Run.{Runs, Works, question, reals_of, trend_log, walk_from}
 use Rattle.bac_tools.specs.Sockets.{Outside, Pipes, binding, outside}
 use Rattle.bac_tools.specs.Streams.{Streams, outlets_of, outside_of, pipes_of, with_errors}
 use Rattle.bac_wire.specs.Stamp.{CivilTime}
@@ -103,7 +103,7 @@ module _ {S P : Type 0} {rules : SocketRules S P} {changes : S → S → Type 0}
   works tells (job.Log said) bound seal old result new (inl (fault, none, keeps, same), quiet, unread) whole =
       same_sockets seal old.sockets new.sockets same whole
   works tells (job.Log said) bound seal old result new (inr is, quiet, unread) whole =
-      fetches seal said.asked (errand (layout_of said.csv) (walk_from said.instance said.from said.count) said.steps)
+      fetches seal said.asked (errand said.form (walk_from said.instance said.from said.count) said.steps)
       (outlets_of old) result (outlets_of new) (λ octets r. (r, refl)) is whole
   works tells (job.Logs said) bound seal old result new (inl (fault, none, keeps, same), quiet, unread) whole =
       same_sockets seal old.sockets new.sockets same whole
@@ -137,7 +137,8 @@ module _ {S P C W Q F G : Type 0} {s : start.Ghosts F} {t : start.Ghosts G} (rul
   does_all : (asked : Job) → IsBound asked → (seal : Seal rules (AreSwitched switches) (MaySend asked)) (old : Setup S C Q s t) (status : ℕ)
       (new : Setup S C Q s t) → Does asked old status new → seal.sockets old.streams.sockets ≡ true → seal.sockets new.streams.sockets ≡ true
   does_all (job.Keep asked) bound seal old status new ran whole =
-      same_sockets seal old.streams.sockets new.streams.sockets (keep_stops rules f file g part waits reads' tells asked old status new bound ran) whole
+      same_sockets seal old.streams.sockets new.streams.sockets
+      (keep_stops rules f file g part waits reads' tells asked (with_output ran.0 old) status (with_output ran.1 new) bound ran.3) whole
   does_all (job.Kept asked) bound seal old status new (ran, (untouched, files)) whole =
       same_sockets seal old.streams.sockets new.streams.sockets untouched.1 whole
   does_all (job.Check asked) bound seal old status new (ran, (untouched, files)) whole =
@@ -164,5 +165,5 @@ module _ {S P C W Q F G : Type 0} {s : start.Ghosts F} {t : start.Ghosts G} (rul
   only_reads asked old status new (inl ((told, keeps, (input, same, clock)), off)) honest =
       λ seal whole. same_sockets seal old.streams.sockets new.streams.sockets same whole
   only_reads asked old status new (inr (sockets, switched, ran)) honest =
-      λ seal whole. keep_whole rules f file g part waits reads' tells seal (λ octets to may. may) asked (with_sockets sockets old) status new ran honest
+      λ seal whole. keep_whole rules f file g part waits reads' tells seal (λ octets to may. may) asked (with_output ran.0 (with_sockets sockets old)) status (with_output ran.1 new) ran.3 honest
       (seal.changed old.streams.sockets sockets whole (is_traced (job.Keep asked), switched))

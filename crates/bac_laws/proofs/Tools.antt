@@ -19,7 +19,7 @@ use Rattle.bac_query.specs.Reading.{Printing, ReadsOver, Session, next_way, prin
 use Rattle.bac_query.specs.Writing.{WritesOver}
 use Rattle.bac_query.specs.Tables.{ListsLogs, client}
 use Rattle.bac_query.specs.declared.fault.QueryFault.TheVariants.{Exchange, Write, Memory}
-use Rattle.bac_query.specs.declared.layout.Layout.{Layout}
+use Rattle.bac_form.specs.declared.form.Form.{Form}
 use Rattle.bac_query.specs.declared.reals.Reals.{Reals}
 use Rattle.bac_tools.specs.Asking.{AsksDevice, Fetches, FetchesOver, Lists, OverLink, Reads, SaysOf, Writes, of_answer, of_fetching}
 use Rattle.bac_tools.specs.Ending.{Ending}
@@ -32,7 +32,7 @@ use Rattle.bac_wire.specs.Primitive.{Id}
 use Rattle.bac_command_line.specs.declared.job.Asked.{Asked}
 
 -- what a run tells comes with how its link was left
-pub left_so : (layout : Layout) (left : Why → Type 0) (steps : ℕ) (run : Course) (result : Fetching) (old new : Held)
+pub left_so : (layout : Form) (left : Why → Type 0) (steps : ℕ) (run : Course) (result : Fetching) (old new : Held)
     → TellsRun layout left steps run result old new → (cause : Why) × left cause
 left_so layout left steps run (Ok fetched) old new (end, is, text) = (fetched.why, is)
 left_so layout left steps run (Err Write) old new (inl (few, is, text)) = (why.StepLimit, is)

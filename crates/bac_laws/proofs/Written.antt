@@ -17,7 +17,7 @@ use Rattle.bac_query.specs.Fetching.{Course, Fetching, TellsRun}
 use Rattle.bac_query.specs.Flaws.{LogPlace, TellsFlaw, TellsFlawOf, log_place}
 use Rattle.bac_query.specs.Items.{items_text}
 use Rattle.bac_query.specs.declared.fault.QueryFault.TheVariants.{Exchange, Write, Memory}
-use Rattle.bac_query.specs.declared.layout.Layout.TheVariants.{Lines}
+use Rattle.bac_form.specs.declared.form.Form.TheVariants.{Lines}
 use Rattle.bac_tools.specs.Asking.{of_fetching}
 use Rattle.bac_tools.specs.Ending.{Ending}
 use Rattle.bac_tools.specs.Run.{Ends}

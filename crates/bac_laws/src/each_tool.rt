@@ -5,7 +5,9 @@ ghost use Rattle.std.specs.String.{string_bytes};
 ghost use Rattle.bac_files.specs.Parts.{part_rules};
 ghost use Rattle.bac_socket_notes.specs.Ports.{Event};
 ghost use Rattle.bac_ports.specs.Sockets.{socket_rules};
+ghost use Rattle.bac_print.specs.Output.{Held};
 ghost use Rattle.bac_run.specs.Reading.{is_newest};
+ghost use Rattle.bac_run.specs.Setup.{IsPrinted};
 ghost use Rattle.bac_tools.specs.Run.{AskFor};
 ghost use Rattle.bac_command_line.specs.declared.job.Check.{Check as CheckWords};
 ghost use Rattle.bac_command_line.specs.declared.job.Discovery.{Discovery as FindWords};
@@ -14,7 +16,7 @@ ghost use Rattle.bac_command_line.specs.declared.job.Kept.{Kept as KeptWords};
 ghost use Rattle.bac_command_line.specs.declared.job.LogListing.{LogListing as ListWords};
 ghost use Rattle.bac_command_line.specs.declared.job.LogReading.{LogReading as LogWords};
 ghost use Rattle.bac_command_line.specs.declared.job.PropertyReading.{PropertyReading as ReadWords};
-ghost use Rattle.bac_command_line.specs.declared.job.PropertyWriting.{PropertyWriting as WriteJob};
+ghost use Rattle.bac_command_line.specs.declared.job.PropertyWriting.{PropertyWriting as WriteWords};
 ghost use Rattle.bac_command_line.specs.declared.job.ServedDevice.{ServedDevice as ServeWords};
 ghost use Rattle.bac_laws.specs.Asked.{PrintsWhatCame, ReadsOnce, WritesOnce};
 ghost use Rattle.bac_laws.specs.Checked.{FindsEach, FindsWhole};
@@ -63,7 +65,7 @@ pub fn wp_writes_once<
 ) -> u8
 where
     W: Drop,
-    ensures { (said : WriteJob) → AskFor (map string_bytes words.now) (job.Wp said)
+    ensures { (said : WriteWords) → AskFor (map string_bytes words.now) (job.Wp said)
         → (es : List Event) × IsCaptured (socket_rules S.opens S.closes S.Socket.sends
         S.Socket.receives S.Socket.receives_within) S.traces machine.old.sockets
         machine.new.sockets es
@@ -276,8 +278,9 @@ where
 }
 
 /// `check` that ends with 0 found an archive, which is a file or a folder of parts, and no number
-/// of an epoch of its logs is missing; what it prints is what is counted there. Of a file each
-/// number is in one row, and in no other. However it ends, what it finds is left as it was.
+/// of an epoch of its logs is missing; what it prints, unless the words ask for quiet, is what is
+/// counted there. Of a file each number is in one row, and in no other. However it ends, what it
+/// finds is left as it was.
 pub fn check_finds_each_number<
     S: Tracing,
     F: Start,
@@ -298,9 +301,10 @@ pub fn check_finds_each_number<
 where
     W: Drop,
     ensures finds { (said : CheckWords) → AskFor (map string_bytes words.now) (job.Check said)
-        → result ≡ 0
-        → FindsEach (part_rules Q.lists Q.holds Q.bars) said.file (O.contents console.old.output)
-        (O.contents console.new.output) machine.old.folders machine.new.folders }
+        → result ≡ 0 → (before : Held) × (after : Held)
+        × IsPrinted said.quiet (O.contents console.old.output) (O.contents console.new.output)
+        before after × FindsEach (part_rules Q.lists Q.holds Q.bars) said.file before after
+        machine.old.folders machine.new.folders }
     ensures whole { (said : CheckWords) → AskFor (map string_bytes words.now) (job.Check said)
         → result ≡ 0
         → FindsWhole (part_rules Q.lists Q.holds Q.bars) said.file machine.old.folders

@@ -1,9 +1,10 @@
 //! What whatever words never do.
 
-ghost use Rattle.std.specs.Prelude.{◌≡◌, false, List, map};
+ghost use Rattle.std.specs.Prelude.{◌≡◌, List, map};
 ghost use Rattle.std.specs.String.{string_bytes};
 ghost use Rattle.bac_socket_notes.specs.Ports.{Event};
 ghost use Rattle.bac_ports.specs.Sockets.{socket_rules};
+ghost use Rattle.bac_form.specs.declared.form.Form.TheVariants.{Lines};
 ghost use Rattle.bac_tools.specs.Run.{AskFor};
 ghost use Rattle.bac_command_line.specs.declared.job.Job.{Job as AnyJob};
 ghost use Rattle.bac_command_line.specs.declared.job.Job.TheVariants as job;
@@ -133,7 +134,7 @@ pub fn log_prints_what_came<
 where
     W: Drop,
     ensures { (said : LogWords) → AskFor (map string_bytes words.now) (job.Log said)
-        → said.csv ≡ false
+        → said.form ≡ Lines
         → (es : List Event) × IsCaptured (socket_rules S.opens S.closes S.Socket.sends
         S.Socket.receives S.Socket.receives_within) S.traces machine.old.sockets
         machine.new.sockets es

@@ -2,4 +2,3 @@ pub mod ArchiveLemmas
 pub mod FileLemmas
 pub mod BegunLemmas
 pub mod VisitLemmas
-pub mod WaitLemmas

@@ -1,6 +1,8 @@
 -- The lines that tell why the file of an archive is no use.
 use Rattle.std.specs.Prelude.{◌≡◌, ◌==◌, ◌++◌, ◌∷◌, [], ℕ, List, Result, Ok, Err, codes, if◌then◌else◌}
 use Rattle.sqlite.specs.declared.error.Error.{Error}
+use Rattle.sqlite.specs.declared.error.Error.TheVariants.{SqliteFailure}
+use Rattle.sqlite.specs.declared.error.ErrorCode.TheVariants.{NotADatabase}
 use Rattle.bac_archive.specs.declared.opening.Refused.{Refused}
 use Rattle.bac_archive.specs.declared.opening.Refused.TheVariants as refused
 use Rattle.bac_files.specs.declared.not_opened.NotOpened.{NotOpened}
@@ -29,6 +31,7 @@ known_unopened unopened.Absent = Ok (codes "there is no such file")
 known_unopened unopened.Empty = Ok (codes "there is nothing in it")
 known_unopened (unopened.Barred obstacle) = Ok (obstacle_text obstacle)
 known_unopened unopened.Memory = Ok (codes "out of memory")
+known_unopened (unopened.Database (SqliteFailure NotADatabase)) = Ok (codes "it isn't a whole SQLite database")
 known_unopened (unopened.Database error) = Err error
 
 -- why a database isn't taken as an archive, or its own error
@@ -39,6 +42,7 @@ known_refusal refused.Earlier =
     Ok (codes "it is an archive of format 1 or 2: examples/use/convert.sh converts format 2")
 known_refusal refused.Version = Ok (codes "it is an archive of another version")
 known_refusal refused.Range = Ok (codes "an id in it is out of range")
+known_refusal refused.NoDevice = Ok (codes "it has a trend log whose device has no row")
 known_refusal refused.Overlap = Ok (codes "some of its records overlap")
 known_refusal refused.Orphan = Ok (codes "it has records of no trend log, or of an epoch without a beginning")
 known_refusal (refused.Database error) = Err error

@@ -3,4 +3,3 @@ pub mod Archives
 pub mod Works
 pub mod Begun
 pub mod Visits
-pub mod Waiting

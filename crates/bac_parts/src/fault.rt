@@ -7,7 +7,7 @@ ghost use Rattle.bac_parts.specs.Faults.{known_unopened, lines_of, obstacle_text
 
 use bac_archive::Refused;
 use bac_files::{NotOpened, Obstacle};
-use sqlite::Error;
+use sqlite::{Error, ErrorCode};
 use std::alloc::{AllocError, Global};
 use std::fmt::Write;
 
@@ -67,6 +67,9 @@ fn known_unopened<'a>(why: NotOpened) -> Result<&'a str, Error>
         NotOpened::Empty => Ok("there is nothing in it"),
         NotOpened::Barred(obstacle) => Ok(obstacle_text(obstacle)),
         NotOpened::Memory => Ok("out of memory"),
+        NotOpened::Database(Error::SqliteFailure(ErrorCode::NotADatabase)) => {
+            Ok("it isn't a whole SQLite database")
+        }
         NotOpened::Database(error) => Err(error),
     }
 }
@@ -97,6 +100,7 @@ fn known_refusal<'a>(why: Refused) -> Result<&'a str, Error>
         ),
         Refused::Version => Ok("it is an archive of another version"),
         Refused::Range => Ok("an id in it is out of range"),
+        Refused::NoDevice => Ok("it has a trend log whose device has no row"),
         Refused::Overlap => Ok("some of its records overlap"),
         Refused::Orphan => Ok("it has records of no trend log, or of an epoch without a beginning"),
         Refused::Database(error) => Err(error),

@@ -16,7 +16,7 @@ use Rattle.bac_walk.specs.declared.outcome.Why.TheVariants as why
 use Rattle.bac_walk.proofs.Flaws.{have_flaws}
 use Rattle.bac_walk.proofs.Told.{Asking}
 use Rattle.bac_query.specs.Ahead.{PrintsLast, closing}
-use Rattle.bac_query.specs.declared.layout.Layout.{Layout}
+use Rattle.bac_form.specs.declared.form.Form.{Form}
 use Rattle.bac_query.specs.Fetching.{Fetching, PrintsEnd}
 use Rattle.bac_query.specs.Flaws.{IsBadlyFetched, IsFlawed, TellsFlaw, TellsFlawOf, flaw_if_bad, last_flaw, log_place, with_flaw}
 use Rattle.bac_query.specs.Reading.{Held}
@@ -35,13 +35,13 @@ flaw_kept {S = S} f last asks other maps keeps path retries end w new flaw is ba
     (wrong, here ∙ flawed, (f link, invoke, datagram, said, answers_maps f asks other maps path invoke _ retries said link datagram new answers, flawed))
 
 -- behind another end than a bad reply, nothing is told of one
-pub no_flaw : (layout : Layout) (cause : Why) (next : ℕ) (result : Fetching) (old new : Held) (P : Fetched → Type 0) → (cause ≡ why.Fault BadReply → ⊥) → PrintsEnd layout cause next result old new →
+pub no_flaw : (layout : Form) (cause : Why) (next : ℕ) (result : Fetching) (old new : Held) (P : Fetched → Type 0) → (cause ≡ why.Fault BadReply → ⊥) → PrintsEnd layout cause next result old new →
     IfOk result (λ fetched. fetched.why ≡ why.Fault BadReply → P fetched)
 no_flaw layout cause next (Ok fetched) old new P other prints = λ bad. absurd (other (sym prints.0 ∙ bad))
 no_flaw layout cause next (Err fault) old new P other prints = tt
 
 -- the same behind the lines that were left
-pub no_last_flaw : (layout : Layout) (left : List Item) (cause : Why) (next told : ℕ) (result : Fetching) (old new : Held) (P : Fetched → Type 0) → (cause ≡ why.Fault BadReply → ⊥) →
+pub no_last_flaw : (layout : Form) (left : List Item) (cause : Why) (next told : ℕ) (result : Fetching) (old new : Held) (P : Fetched → Type 0) → (cause ≡ why.Fault BadReply → ⊥) →
     PrintsLast layout (closing left cause next told) result old new → IfOk result (λ fetched. fetched.why ≡ why.Fault BadReply → P fetched)
 no_last_flaw layout left cause next told result old new P other (inl (mid, lines, prints)) = no_flaw layout cause next result mid new P other prints
 no_last_flaw layout left cause next told result old new P other (inr (inl (mid, some, kept, prints))) = no_flaw layout why.Memory told result mid new P (λ e. cc) prints
@@ -49,7 +49,7 @@ no_last_flaw layout left cause next told (Ok fetched) old new P other (inr (inr 
 no_last_flaw layout left cause next told (Err fault) old new P other (inr (inr (is, part))) = tt
 
 -- the end of a walk is told behind the lines that were left, or there was no memory for them
-pub last_is : (layout : Layout) (left : List Item) (cause : Why) (next told : ℕ) (result : Fetching) (old new : Held) (P : ℕ → Type 0) → (cause ≡ why.Fault BadReply → P next) →
+pub last_is : (layout : Form) (left : List Item) (cause : Why) (next told : ℕ) (result : Fetching) (old new : Held) (P : ℕ → Type 0) → (cause ≡ why.Fault BadReply → P next) →
     PrintsLast layout (closing left cause next told) result old new → IfOk result (λ fetched. fetched.why ≡ why.Fault BadReply → P fetched.next)
 last_is layout left cause next told (Ok fetched) old new P holds (inl (mid, lines, prints)) =
     λ bad. subst P (sym prints.1) (holds (sym prints.0 ∙ bad))

@@ -5,7 +5,7 @@ use Rattle.bac_link.specs.Path.{Path, towards}
 use Rattle.bac_link.specs.declared.transactions.Transactions.{Transactions}
 use Rattle.bac_link.specs.declared.item.Item.{Item}
 use Rattle.bac_query.specs.Layouts.{AppendsAll, AppendsItems, AppendsItemsPart}
-use Rattle.bac_query.specs.declared.layout.Layout.{Layout}
+use Rattle.bac_form.specs.declared.form.Form.{Form}
 use Rattle.bac_query.proofs.Laid.{laid_end_part, laid_ended, laid_kept, laid_longer, laid_part, laid_then, part_ended}
 use Rattle.bac_link.specs.declared.link.Lost.{Lost as Loss}
 use Rattle.bac_walk.specs.Came.{Came, Brought, reaching, walk_over}
@@ -92,7 +92,7 @@ over_early asks t z link new w after n steps xs ended was said other le (brought
 -- ---- what is told of them
 
 -- the end line was that of the run, or a front part of it, or there was no memory for it
-tells_end : (layout : Layout) (left : Why → Type 0) (items : List Item) (steps n : ℕ) (ended : Ended) (after : WalkPlace) (cause : Why) (next : ℕ) (result : Fetching) (old mid new : Held) →
+tells_end : (layout : Form) (left : Why → Type 0) (items : List Item) (steps n : ℕ) (ended : Ended) (after : WalkPlace) (cause : Why) (next : ℕ) (result : Fetching) (old mid new : Held) →
     IsRunOf cause steps n ended → next ≡ after.next → left cause → AppendsItems layout items old mid → PrintsEnd layout cause next result mid new →
     TellsRun layout left steps (course items n ended after) result old new
 tells_end layout left items steps n ended after cause next (Ok done) old mid new run at here first (same, is, last) =
@@ -105,7 +105,7 @@ tells_end layout left items steps n ended after cause next (Err Memory) old mid 
     (cause, next, (run, at), here, laid_kept layout items old mid new first kept)
 tells_end layout left items steps n ended after cause next (Err (Exchange fault)) old mid new run at here first never = absurd never
 
-pub tells_items : (layout : Layout) (left : Why → Type 0) (items : List Item) (steps n : ℕ) (ended : Ended) (after : WalkPlace) (result : Fetching) (old new : Held) →
+pub tells_items : (layout : Form) (left : Why → Type 0) (items : List Item) (steps n : ℕ) (ended : Ended) (after : WalkPlace) (result : Fetching) (old new : Held) →
     TellsRun layout left steps (course items n ended after) result old new → PrintsItems layout items result old new
 tells_items layout left items steps n ended after (Ok done) old new (is, here, all) = all
 tells_items layout left items steps n ended after (Err Write) old new (inl (le, here, part)) =
@@ -114,7 +114,7 @@ tells_items layout left items steps n ended after (Err Write) old new (inr (caus
 tells_items layout left items steps n ended after (Err Memory) old new (cause, next, is, here, all) = all
 tells_items layout left items steps n ended after (Err (Exchange fault)) old new none = absurd none
 
-tells_ends : (layout : Layout) (left : Why → Type 0) (items : List Item) (steps n : ℕ) (ended : Ended) (after : WalkPlace) (result : Fetching) (old new : Held) → n ≤ steps →
+tells_ends : (layout : Form) (left : Why → Type 0) (items : List Item) (steps n : ℕ) (ended : Ended) (after : WalkPlace) (result : Fetching) (old new : Held) → n ≤ steps →
     TellsRun layout left steps (course items n ended after) result old new → EndsAs layout steps (course items n ended after) result old new
 tells_ends layout left items steps n ended after (Ok done) old new few (is, here, all) = is
 tells_ends layout left items steps n ended after (Err Write) old new few (inl (le, here, part)) = (few, inl part)
@@ -123,12 +123,12 @@ tells_ends layout left items steps n ended after (Err Memory) old new few (cause
 tells_ends layout left items steps n ended after (Err (Exchange fault)) old new few none = absurd none
 
 -- both that a caller learns
-abbrev pub Learns : {S : Type 0} → Layout → Asking S → Transactions → S → WalkPlace → ℕ → Fetching → ℕ → ℕ → Transactions → S → Held → Held → Type 0
+abbrev pub Learns : {S : Type 0} → Form → Asking S → Transactions → S → WalkPlace → ℕ → Fetching → ℕ → ℕ → Transactions → S → Held → Held → Type 0
 Learns {S = S} layout asks t link walk steps result failures more last left old new =
     FetchesAhead (errand layout walk steps) asks (printing (client link t) old) result (printing (client left last) new)
     × PrintsRun (errand layout walk steps) asks (failing failures more) (printing (client link t) old) result (printing (client left last) new)
 
-learns_both : {S : Type 0} (layout : Layout) (asks : Asking S) (t u z : Transactions) (link mid left : S) (walk after : WalkPlace) (steps n : ℕ) (items : List Item) (ended : Ended) (result : Fetching) (failures more : ℕ) (old new : Held) (said : Bool) →
+learns_both : {S : Type 0} (layout : Form) (asks : Asking S) (t u z : Transactions) (link mid left : S) (walk after : WalkPlace) (steps n : ℕ) (items : List Item) (ended : Ended) (result : Fetching) (failures more : ℕ) (old new : Held) (said : Bool) →
     n ≤ steps → (run : IsRunOver asks (client link t) walk (course items n ended after) (client mid u) false said) → TellsMore said result → Told asks (towards t.route) t.retries ended after left →
     TellsRun layout (λ cause. IsLeftAhead asks u mid after z left cause) steps (course items n ended after) result old new →
     TellsRun layout (λ cause. IsLeftAhead asks u mid after z left cause) steps (course run.1.0 n ended after) result old new →
@@ -165,7 +165,7 @@ learns_both layout asks t u z link mid left walk after steps n items ended resul
       ),
     )
 
-learns : {S : Type 0} (layout : Layout) (asks : Asking S) (t u z : Transactions) (link mid left : S) (walk after : WalkPlace) (steps n : ℕ) (items : List Item) (ended : Ended) (result : Fetching) (failures more : ℕ) (old new : Held) (said : Bool) →
+learns : {S : Type 0} (layout : Form) (asks : Asking S) (t u z : Transactions) (link mid left : S) (walk after : WalkPlace) (steps n : ℕ) (items : List Item) (ended : Ended) (result : Fetching) (failures more : ℕ) (old new : Held) (said : Bool) →
     n ≤ steps → ended ≢ Stopped → IsRunOver asks (client link t) walk (course items n ended after) (client mid u) false said → TellsMore said result → Told asks (towards t.route) t.retries ended after left →
     TellsRun layout (λ cause. IsLeftAhead asks u mid after z left cause) steps (course items n ended after) result old new →
     Learns layout asks t link walk steps result failures more z left old new
@@ -176,7 +176,7 @@ learns layout asks t u z link mid left walk after steps n items ended result fai
 -- ---- how they end
 
 -- All lines were printed; what came after them wasn't, since there was no memory for it.
-pub without_lines : {S : Type 0} (layout : Layout) (asks : Asking S) (t u z : Transactions) (link mid new : S) (walk w after : WalkPlace) (steps n j : ℕ) (items more : List Item) (ended : Ended) (next : ℕ)
+pub without_lines : {S : Type 0} (layout : Form) (asks : Asking S) (t u z : Transactions) (link mid new : S) (walk w after : WalkPlace) (steps n j : ℕ) (items more : List Item) (ended : Ended) (next : ℕ)
     (result : Fetching) (failures over : ℕ) (old half out : Held) (was said any : Bool) →
     IsRunOver asks (client link t) walk (course items n StepLimit w) (client mid u) false was → n < steps → next ≡ w.next → IsRunOver asks (client mid u) w (course more j ended after) (client new z) was said → j ≤ 2 →
     AppendsItems layout items old half → PrintsEnd layout why.Memory next result half out → TellsMore any result →
@@ -187,7 +187,7 @@ without_lines layout asks t u z link mid new walk w after steps n j items more e
     (j, last.0.0, more, ended, after, two, last.0.1) printed end)
 
 -- a write of lines was refused, and one step more came
-pub refused_lines : {S : Type 0} (layout : Layout) (asks : Asking S) (t u z : Transactions) (link mid new : S) (walk w after : WalkPlace) (steps n j : ℕ) (items last : List Item) (ended : Ended)
+pub refused_lines : {S : Type 0} (layout : Form) (asks : Asking S) (t u z : Transactions) (link mid new : S) (walk w after : WalkPlace) (steps n j : ℕ) (items last : List Item) (ended : Ended)
     (result : Fetching) (failures over : ℕ) (old out : Held) (was said : Bool) →
     IsRunOver asks (client link t) walk (course items n StepLimit w) (client mid u) false was → IsRunOver asks (client mid u) w (course last j ended after) (client new z) was said → n + j ≤ steps → result ≡ Err Write →
     AppendsItemsPart layout items old out → Learns layout asks t link walk steps result failures over z new old out
@@ -200,7 +200,7 @@ refused_lines layout asks t u z link mid new walk w after steps n j items last e
     (inl (few, (refl, refl), laid_longer layout items last old out part)) (inl (few, (refl, refl), subst Q (sym (first.1.1 limit_on)) (laid_longer layout items rest.1.0 old out part))))
 
 -- a step failed beside which lines were to be printed
-pub fails : {S : Type 0} (layout : Layout) (asks : Asking S) (t u v z : Transactions) (link mid half new : S) (walk w here after : WalkPlace) (steps n k : ℕ) (items left last : List Item) (ended : Ended) (told : ℕ) (fault : QueryFault)
+pub fails : {S : Type 0} (layout : Form) (asks : Asking S) (t u v z : Transactions) (link mid half new : S) (walk w here after : WalkPlace) (steps n k : ℕ) (items left last : List Item) (ended : Ended) (told : ℕ) (fault : QueryFault)
     (failures over : ℕ) (old now out : Held) (was known said : Bool) →
     IsRunOver asks (client link t) walk (course items n StepLimit w) (client mid u) false was → IsRunOver asks (client mid u) w (course left k StepLimit here) (client half v) was known → IsRunOver asks (client half v) here (course last 1 ended after) (client new z) known said →
     n + k < steps → k ≤ 1 → told ≡ w.next → AppendsItems layout items old now → PrintsLeft {A = Ended} layout left (Err fault) now out →
@@ -225,7 +225,7 @@ whole_ahead asks u mid here Stopped why.Memory on is = absurd (cc)
 whole_ahead asks u mid here (Fault e) why.Memory on is = absurd (cc)
 
 -- the lines of the last step are printed, and the end line, as far as there is memory and no write is refused
-pub finishes : {S : Type 0} (layout : Layout) (asks : Asking S) (t u z : Transactions) (link mid new : S) (walk w after : WalkPlace) (steps n j whole : ℕ) (items last : List Item) (ended : Ended) (cause : Why) (next told : ℕ)
+pub finishes : {S : Type 0} (layout : Form) (asks : Asking S) (t u z : Transactions) (link mid new : S) (walk w after : WalkPlace) (steps n j whole : ℕ) (items last : List Item) (ended : Ended) (cause : Why) (next told : ℕ)
     (result : Fetching) (failures over : ℕ) (old half out : Held) (was said : Bool) →
     IsRunOver asks (client link t) walk (course items n StepLimit w) (client mid u) false was → IsRunOver asks (client mid u) w (course last j ended after) (client new z) was said → ended ≢ Stopped →
     IsRunOver asks (client link t) walk (course (items ++ last) whole ended after) (client new z) false said → TellsMore said result → whole ≤ steps → IsRunOf cause steps whole ended → IsLeftAhead asks z new after z new cause →

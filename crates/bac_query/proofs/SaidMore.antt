@@ -12,7 +12,7 @@ use Rattle.bac_walk.specs.declared.outcome.Why.{Why}
 use Rattle.bac_walk.specs.declared.outcome.Why.TheVariants as why
 use Rattle.bac_walk.proofs.Told.{Asking}
 use Rattle.bac_query.specs.Fetching.{Fetching, PrintsEnd}
-use Rattle.bac_query.specs.declared.layout.Layout.{Layout}
+use Rattle.bac_form.specs.declared.form.Form.{Form}
 use Rattle.bac_query.specs.More.{TellsMore, if_caught_up, more_after, more_last, more_with, says_more}
 use Rattle.bac_query.specs.Reading.{Held}
 
@@ -78,7 +78,7 @@ other_end a b (why.Fault fault) other = refl
 other_end a b why.Memory other = refl
 
 -- an end line that isn't that of a walk that is caught up is told alike, whatever was said
-pub tells_alike : (layout : Layout) (a b : Bool) (cause : Why) (next : ℕ) (result : Fetching) (old new : Held) → (cause ≡ why.CaughtUp → ⊥) → PrintsEnd layout cause next result old new →
+pub tells_alike : (layout : Form) (a b : Bool) (cause : Why) (next : ℕ) (result : Fetching) (old new : Held) → (cause ≡ why.CaughtUp → ⊥) → PrintsEnd layout cause next result old new →
     TellsMore a result → TellsMore b result
 tells_alike layout a b cause next (Ok fetched) old new other prints tells = tells ∙ other_end a b fetched.why (λ is. other (sym prints.0 ∙ is))
 tells_alike layout a b cause next (Err fault) old new other prints tells = tt

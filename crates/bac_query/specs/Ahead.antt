@@ -25,7 +25,7 @@ use Rattle.bac_query.specs.Fetching.{Course, EndsAs, Fetching, IsFetched, IsHead
 use Rattle.bac_query.specs.Fetching.{course}
 use Rattle.bac_query.specs.More.{TellsMore, more_after, said_more}
 use Rattle.bac_query.specs.Reading.{Held, Session}
-use Rattle.bac_query.specs.declared.layout.Layout.{Layout}
+use Rattle.bac_form.specs.declared.form.Form.{Form}
 use Rattle.bac_query.specs.declared.fault.QueryFault.{QueryFault}
 use Rattle.bac_query.specs.declared.fault.QueryFault.TheVariants.{Exchange, Write, Memory}
 
@@ -33,23 +33,23 @@ use Rattle.bac_query.specs.declared.fault.QueryFault.TheVariants.{Exchange, Writ
 
 -- in which layout, what is left to be printed, and what the output holds; or a write was refused
 pub record Pending : Type 0 where
-  pub layout : Layout
+  pub layout : Form
   pub is_refused : Bool
   pub left : List Item
   pub held : Held
 
 -- the four together
-abbrev pub pending : Layout → Bool → List Item → Held → Pending
+abbrev pub pending : Form → Bool → List Item → Held → Pending
 pending layout refused left held = record { layout = layout; is_refused = refused; left = left; held = held }
 
 -- a write of the text of what was left was refused; or it was written; or none of it yet
-abbrev pub PrintsTo : Layout → Bool → List Item → Held → List Item → Held → Type 0
+abbrev pub PrintsTo : Form → Bool → List Item → Held → List Item → Held → Type 0
 PrintsTo layout true left old rest new = AppendsItemsPart layout left old new
 PrintsTo layout false left old rest new =
     ((rest ≡ left) × Keeps old new) ⊎ ((rest ≡ []) × AppendsItems layout left old new)
 
 -- once a write was refused nothing more is written
-abbrev pub PrintsFrom : Layout → Bool → List Item → Held → Pending → Type 0
+abbrev pub PrintsFrom : Form → Bool → List Item → Held → Pending → Type 0
 PrintsFrom layout true left old new = (new.is_refused ≡ true) × (new.left ≡ left) × Keeps old new.held
 PrintsFrom layout false left old new = PrintsTo layout new.is_refused left old new.left new.held
 
@@ -65,7 +65,7 @@ port_asks sends receives old octets answer new =
     Asks sends receives (to_peer old.peer octets) 16 old.port answer new.port × (new.peer ≡ old.peer)
 
 -- the text of what was left was written; or a write was refused; or there was no memory for it
-abbrev pub PrintsLeft : {A : Type 0} → Layout → List Item → Result A QueryFault → Held → Held → Type 0
+abbrev pub PrintsLeft : {A : Type 0} → Form → List Item → Result A QueryFault → Held → Held → Type 0
 PrintsLeft layout left (Ok done) old new = AppendsItems layout left old new
 PrintsLeft layout left (Err Write) old new = AppendsItemsPart layout left old new
 PrintsLeft layout left (Err Memory) old new = (0 < length left) × Keeps old new
@@ -106,7 +106,7 @@ closing left cause next before = record { left = left; why = cause; next = next;
 
 -- The lines that were left, and then the end line; or without memory for those lines the end line that says so, with
 -- the number before them; or a write of them was refused.
-abbrev pub PrintsLast : Layout → Closing → Fetching → Held → Held → Type 0
+abbrev pub PrintsLast : Form → Closing → Fetching → Held → Held → Type 0
 PrintsLast layout end result old new =
     ((mid : Held) × AppendsItems layout end.left old mid × PrintsEnd layout end.why end.next result mid new)
     ⊎ (((mid : Held) × (0 < length end.left) × Keeps old mid × PrintsEnd layout why.Memory end.before result mid new)
@@ -126,12 +126,12 @@ IsLeftAhead asks half mid here last new why.Memory =
 
 -- What is to be fetched: in which layout, from which place of a log on, and in how many steps at most.
 pub record Errand : Type 0 where
-  pub layout : Layout
+  pub layout : Form
   pub walk : WalkPlace
   pub steps : ℕ
 
 -- the three together
-abbrev pub errand : Layout → WalkPlace → ℕ → Errand
+abbrev pub errand : Form → WalkPlace → ℕ → Errand
 errand layout walk steps = record { layout = layout; walk = walk; steps = steps }
 
 -- Fetching from a place on, over any link, each question asked before the lines of the reply before it are printed:

@@ -22,14 +22,14 @@ use Rattle.bac_query.specs.Reading.{Held}
 use Rattle.bac_query.specs.declared.fault.QueryFault.{QueryFault}
 use Rattle.bac_query.specs.declared.fault.QueryFault.TheVariants.{Exchange, Write, Memory}
 use Rattle.bac_query.specs.declared.fetching.Fetched.{Fetched}
-use Rattle.bac_query.specs.declared.layout.Layout.{Layout}
+use Rattle.bac_form.specs.declared.form.Form.{Form}
 
 -- what fetching answers
 abbrev pub Fetching : Type 0
 Fetching = Result Fetched QueryFault
 
 -- the end line was written, or a front part of it, or there was no memory for it
-abbrev pub PrintsEnd : Layout → Why → ℕ → Fetching → Held → Held → Type 0
+abbrev pub PrintsEnd : Form → Why → ℕ → Fetching → Held → Held → Type 0
 PrintsEnd layout why next (Ok fetched) old new =
     (fetched.why ≡ why) × (fetched.next ≡ next) × AppendsEnd layout why next old new
 PrintsEnd layout why next (Err Write) old new = AppendsEndPart layout why next old new
@@ -38,7 +38,7 @@ PrintsEnd layout why next (Err (Exchange fault)) old new = ⊥
 
 -- The text of the items and the end line were written; after a refused write, a front part of these; if there was
 -- no memory for the end line, the text of the items.
-abbrev pub PrintsItems : Layout → List Item → Fetching → Held → Held → Type 0
+abbrev pub PrintsItems : Form → List Item → Fetching → Held → Held → Type 0
 PrintsItems layout items (Ok fetched) old new = AppendsAll layout items fetched.why fetched.next old new
 PrintsItems layout items (Err Write) old new = (why : Why) × (next : ℕ) × AppendsAllPart layout items why next old new
 PrintsItems layout items (Err Memory) old new = AppendsItems layout items old new
@@ -66,7 +66,7 @@ IsEnd steps n ended after why next = IsRunOf why steps n ended × (next ≡ afte
 
 -- What was told or written at the end is the end of that run, of at most so many steps. If a write was refused, it was
 -- that of lines of items, or of the end line.
-abbrev pub EndsAs : Layout → ℕ → Course → Fetching → Held → Held → Type 0
+abbrev pub EndsAs : Form → ℕ → Course → Fetching → Held → Held → Type 0
 EndsAs layout steps run (Ok fetched) old new = IsEnd steps run.steps run.ended run.place fetched.why fetched.next
 EndsAs layout steps run (Err Write) old new =
     (run.steps ≤ steps)
@@ -91,7 +91,7 @@ IsFetched was retries failures before run =
 -- how it ended. If a write was refused, it was that of the text of the items, or of the end line; if there was no
 -- memory for the end line, the text of the items is there. The link was left for the reason that the end line gives, or
 -- as after whole steps.
-abbrev pub TellsRun : Layout → (Why → Type 0) → ℕ → Course → Fetching → Held → Held → Type 0
+abbrev pub TellsRun : Form → (Why → Type 0) → ℕ → Course → Fetching → Held → Held → Type 0
 TellsRun layout left steps run (Ok fetched) old new =
     IsEnd steps run.steps run.ended run.place fetched.why fetched.next × left fetched.why
     × AppendsAll layout run.items fetched.why fetched.next old new

@@ -1,5 +1,6 @@
 pub mod Values
 pub mod Rows
+pub mod Json
 pub mod Layouts
 pub mod Answers
 pub mod ObjectList

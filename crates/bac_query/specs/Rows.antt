@@ -43,8 +43,12 @@ AreFields (Logged number entry) fields =
 abbrev pub IsRow : Item → List ℕ → Type 0
 IsRow item row = (fields : List (List ℕ)) × AreFields item fields × (row ≡ row_text default_writer fields)
 
--- a row for each item, one after the other
+-- such a text for each item, one after the other
+abbrev pub AreTexts : (Item → List ℕ → Type 0) → List Item → List ℕ → Type 0
+AreTexts is [] text = text ≡ []
+AreTexts is (item ∷ items) text =
+    (one : List ℕ) × (rest : List ℕ) × (text ≡ one ++ rest) × is item one × AreTexts is items rest
+
+-- a row for each
 abbrev pub AreRows : List Item → List ℕ → Type 0
-AreRows [] text = text ≡ []
-AreRows (item ∷ items) text =
-    (row : List ℕ) × (rest : List ℕ) × (text ≡ row ++ rest) × IsRow item row × AreRows items rest
+AreRows = AreTexts IsRow

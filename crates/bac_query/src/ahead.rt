@@ -11,9 +11,10 @@ ghost use Rattle.bac_query.specs.Fetching.{PrintsEnd};
 ghost use Rattle.bac_query.specs.More.{TellsMore};
 
 use crate::fault::QueryFault;
-use crate::fetching::{Fetched, end};
-use crate::layout::{Layout, print_items};
+use crate::fetching::{Fetched, end, unsaid};
+use crate::layout::print_items;
 use crate::more::if_caught_up;
+use bac_form::Form;
 use bac_link::{Item, LogLink, Lost};
 use bac_ports::{Port, UdpLink};
 use bac_walk::{Gap, Numbered, ReplyFlaw, Sink, Why};
@@ -32,7 +33,7 @@ pub(crate) struct Ahead<'a, P, W> {
     /// Their text, or the end line.
     text: &'a mut Vec<u8>,
     /// How they are printed.
-    layout: Layout,
+    layout: Form,
     alloc: Global,
     /// A write was refused: nothing more is printed.
     is_refused: bool,
@@ -48,7 +49,7 @@ impl<'a, P: Port, W: Write> Ahead<'a, P, W> {
     /// A link with these items still to print, and room for their text.
     pub(crate) fn new(
         alloc: Global,
-        layout: Layout,
+        layout: Form,
         link: &'a mut UdpLink<P>,
         out: &'a mut W,
         left: &'a mut Vec<Item>,
@@ -124,7 +125,7 @@ impl<'a, P: Port, W: Write> Ahead<'a, P, W> {
         }
     }
 
-    /// Prints the line of a walk's end; rows have none.
+    /// Prints the line of a walk's end; rows of CSV and lines of JSON have none.
     pub(crate) fn end(&mut self, why: Why, next: u32) -> Result<Fetched, QueryFault>
         ensures prints { PrintsEnd self.old.layout why next result (W.contents self.old.out.now)
             (W.contents self.new.out.now) }
@@ -136,13 +137,9 @@ impl<'a, P: Port, W: Write> Ahead<'a, P, W> {
     {
         let said_more = if_caught_up(why, self.said_more);
         match self.layout {
-            Layout::Lines => end(&mut *self.text, why, next, said_more, &mut *self.out),
-            Layout::Csv => Ok(Fetched {
-                why,
-                next,
-                flaw: None,
-                said_more,
-            }),
+            Form::Lines => end(&mut *self.text, why, next, said_more, &mut *self.out),
+            Form::Csv => Ok(unsaid(why, next, said_more)),
+            Form::Json => Ok(unsaid(why, next, said_more)),
         }
     }
 

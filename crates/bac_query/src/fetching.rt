@@ -2,7 +2,7 @@
 
 ghost use Rattle.std.specs.Prelude.{◌≡◌, None, IfOk};
 ghost use Rattle.bac_query.specs.Fetching.{PrintsEnd};
-ghost use Rattle.bac_query.specs.declared.layout.Layout.TheVariants.{Lines};
+ghost use Rattle.bac_form.specs.declared.form.Form.TheVariants.{Lines};
 
 use crate::ends::push_end;
 use crate::fault::QueryFault;
@@ -45,4 +45,16 @@ pub(crate) fn end<W: Write>(
         flaw: None,
         said_more,
     })
+}
+
+/// How far a walk came, of whose end no line is printed.
+pub(crate) fn unsaid(why: Why, next: u32, said_more: bool) -> Fetched
+    ensures { result ≡ record { why = why; next = next; flaw = None; said_more = said_more } }
+{
+    Fetched {
+        why,
+        next,
+        flaw: None,
+        said_more,
+    }
 }

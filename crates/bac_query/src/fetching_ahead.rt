@@ -18,8 +18,8 @@ ghost use Rattle.bac_query.specs.Reading.{printing};
 use crate::ahead::{Ahead, Reply};
 use crate::fault::QueryFault;
 use crate::fetching::Fetched;
-use crate::layout::Layout;
 use crate::more::more_last;
+use bac_form::Form;
 use bac_link::Transactions;
 use bac_ports::{Port, UdpLink};
 use bac_walk::{Ended, ReplyFlaw, Walk, WalkFault, Why, deliver};
@@ -41,7 +41,7 @@ pub fn fetch_log_ahead<P: Port, W: Write>(
     transactions: &mut Transactions,
     walk: Walk,
     steps: u32,
-    layout: Layout,
+    layout: Form,
     out: &mut W,
 ) -> Result<Fetched, QueryFault>
     // What is printed are the lines of items, and the line that says how their run ended: so many

@@ -6,7 +6,7 @@ use Rattle.sqlite.specs.State.{HasCleanDisk, State}
 use Rattle.bac_archive.specs.Archive.{WhyRefused}
 use Rattle.bac_archive.specs.Schema.{no_schema}
 use Rattle.bac_archive.specs.declared.opening.Refused.{Refused}
-use Rattle.bac_archive.specs.declared.opening.Refused.TheVariants.{Foreign, Earlier, Version, Range, Overlap, Orphan}
+use Rattle.bac_archive.specs.declared.opening.Refused.TheVariants.{Foreign, Earlier, Version, Range, NoDevice, Overlap, Orphan}
 use Rattle.bac_archive.specs.declared.opening.Refused.TheVariants.{Database as Failed}
 use Rattle.bac_files.specs.Parts.{reading}
 use Rattle.bac_parts.specs.Archives.{RefusesToTake}
@@ -18,6 +18,7 @@ lacks old new Foreign some it clean = it
 lacks old new Earlier some it clean = it
 lacks old new Version some it clean = it clean
 lacks old new Range some it clean = it clean
+lacks old new NoDevice some it clean = it clean
 lacks old new Overlap some it clean = it clean
 lacks old new Orphan some it clean = it clean
 lacks old new (Failed error) some it clean = some

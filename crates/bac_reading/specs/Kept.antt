@@ -7,7 +7,7 @@ use Rattle.bac_archive.specs.Archive.{IsArchive}
 use Rattle.bac_archive.specs.Known.{IsKnown}
 use Rattle.bac_archive.specs.declared.known.Known.{Known}
 use Rattle.bac_files.specs.Parts.{PartRules, Reading}
-use Rattle.bac_kept.specs.Csv.{names_text}
+use Rattle.bac_kept.specs.Csv.{has_names, names_text}
 use Rattle.bac_kept.specs.Parts.{PrintsFront, PrintsPart}
 use Rattle.bac_kept.specs.Seen.{newest_in}
 use Rattle.bac_kept.specs.Shown.{shown_logs}
@@ -86,7 +86,7 @@ is_going printer = goes_on printer.report
 -- nothing was printed yet, but of a folder the row of names
 pub record IsFresh (words : Words) (folder : Bool) (paths : List (List ℕ)) (begun : Printer) : Type 0 where
   pub words_are : begun.words ≡ words
-  pub names : begun.names ≡ (words.csv && not folder)
+  pub names : begun.names ≡ (has_names words.form && not folder)
   pub seen : (log : ℕ) → newest_in begun.seen log ≡ None
   pub any : begun.has_any ≡ false
   pub blank : IsBlank (newest_of 1 folder paths) begun.report
@@ -108,7 +108,7 @@ module _ {P : Type 0} (rules : PartRules P) where
   pub record PrintsParts (asked : Asked) (folder : Bool) (paths : List (List ℕ)) (old : Scene P)
       (result : Result ℕ Fault) (new : Scene P) : Type 0 where
     pub first : Held
-    pub named : Appends old.output first (names_text (asked.words.csv && folder))
+    pub named : Appends old.output first (names_text (has_names asked.words.form && folder))
     pub begun : Printer
     pub fresh : IsFresh asked.words folder paths begun
     pub count : ℕ
@@ -122,7 +122,7 @@ module _ {P : Type 0} (rules : PartRules P) where
   -- the row of names isn't written: memory is wanting, or the output refused it
   abbrev pub PrintsNothing : Asked → Bool → Scene P → Result ℕ Fault → Scene P → Type 0
   PrintsNothing asked folder old result new = (why : Fault) × (result ≡ Err why) × (new.parts ≡ old.parts)
-      × (new.errors ≡ old.errors) × AppendsPart old.output new.output (names_text (asked.words.csv && folder))
+      × (new.errors ≡ old.errors) × AppendsPart old.output new.output (names_text (has_names asked.words.form && folder))
 
   -- what an archive keeps is printed
   abbrev pub PrintsArchive : Asked → Bool → List (List ℕ) → Scene P → Result ℕ Fault → Scene P → Type 0

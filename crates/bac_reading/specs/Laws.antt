@@ -12,7 +12,7 @@ use Rattle.bac_check.specs.Lines.{check_text, has_all}
 use Rattle.bac_check.specs.declared.counts.Counts.{Counts}
 use Rattle.bac_files.specs.Parts.{Listing, PartRules, Reading}
 use Rattle.bac_files.specs.declared.not_opened.NotOpened.TheVariants.{Empty}
-use Rattle.bac_kept.specs.Csv.{names_text}
+use Rattle.bac_kept.specs.Csv.{has_names, names_text}
 use Rattle.bac_kept.specs.Parts.{PrintsPart}
 use Rattle.bac_kept.specs.Seen.{newest_in}
 use Rattle.bac_kept.specs.Shown.{shown_logs}
@@ -64,12 +64,12 @@ pub record SoFar : Type 0 where
 -- nothing yet, but of a folder the row of names
 pub record IsFirst (words : Words) (folder : Bool) (before : Held) (first : SoFar) : Type 0 where
   pub seen : (log : ℕ) → newest_in first.seen log ≡ None
-  pub names : first.names ≡ (words.csv && not folder)
+  pub names : first.names ≡ (has_names words.form && not folder)
   pub any : first.any ≡ false
-  pub output : Appends before first.output (names_text (words.csv && folder))
+  pub output : Appends before first.output (names_text (has_names words.form && folder))
 
 -- Of the logs that a database has those that are chosen are printed, in order: of each the line that names it, and a
--- line, or a row of CSV, for each of its items that wasn't printed of a part before; and nothing else is.
+-- line, a row of CSV, or a line of JSON, for each of its items that wasn't printed of a part before; and nothing else is.
 pub record PrintsItsRows (words : Words) (db : Database) (old new : SoFar) : Type 0 where
   pub known : Known
   pub told : IsKnown db.trees known

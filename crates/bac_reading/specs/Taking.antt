@@ -2,10 +2,10 @@
 use Rattle.std.specs.Prelude.{◌≡◌, ◌≢◌, Result, Err}
 use Rattle.sqlite.specs.Effect.{Database}
 use Rattle.sqlite_trees.specs.View.{doubt}
-use Rattle.bac_archive.specs.Archive.{AreBegun, AreInRange, IsEarlier, IsOfVersion, LieApart}
+use Rattle.bac_archive.specs.Archive.{AreBegun, AreInRange, HaveDevices, IsEarlier, IsOfVersion, LieApart}
 use Rattle.bac_archive.specs.Schema.{HasArchive, no_schema}
 use Rattle.bac_archive.specs.declared.opening.Refused.{Refused}
-use Rattle.bac_archive.specs.declared.opening.Refused.TheVariants.{Foreign, Earlier, Version, Range, Overlap, Orphan}
+use Rattle.bac_archive.specs.declared.opening.Refused.TheVariants.{Foreign, Earlier, Version, Range, NoDevice, Overlap, Orphan}
 use Rattle.bac_archive.specs.declared.opening.Refused.TheVariants.{Database as Failed}
 use Rattle.bac_files.specs.Parts.{Reading}
 use Rattle.bac_files.specs.declared.not_opened.NotOpened.TheVariants.{Empty}
@@ -29,6 +29,7 @@ Lacks db Foreign = (¬ HasArchive db.schema) × (¬ IsEarlier db.schema.tables) 
 Lacks db Earlier = (¬ HasArchive db.schema) × IsEarlier db.schema.tables
 Lacks db Version = HasArchive db.schema × ¬ IsOfVersion (db.trees 0)
 Lacks db Range = HasArchive db.schema × ¬ AreInRange db.trees
+Lacks db NoDevice = HasArchive db.schema × ¬ HaveDevices db.trees
 Lacks db Overlap = HasArchive db.schema × ¬ LieApart (db.trees 5)
 Lacks db Orphan = HasArchive db.schema × ¬ AreBegun db.trees
 Lacks db (Failed error) = db.schema ≢ no_schema

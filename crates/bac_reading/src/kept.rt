@@ -7,6 +7,7 @@ ghost use Rattle.sqlite.specs.State.{HasCleanDisk};
 ghost use Rattle.sqlite.specs.Held.{state};
 ghost use Rattle.bac_archive.specs.Archive.{IsArchive};
 ghost use Rattle.bac_files.specs.Parts.{part_rules, reading};
+ghost use Rattle.bac_kept.specs.Csv.{has_names};
 ghost use Rattle.bac_kept.specs.Faults.{IsLeftAs};
 ghost use Rattle.bac_parts.specs.Visits.{IsAsFound};
 ghost use Rattle.bac_reading.specs.Kept.{EndsPart, Finishes, IsFresh, PrintsArchive, PrintsBy};
@@ -19,7 +20,7 @@ use crate::program::Asked;
 use crate::report::Report;
 use crate::taking::take;
 use bac_files::{NotOpened, Parts, Reader};
-use bac_kept::{Seen, Words, print_names, print_part};
+use bac_kept::{Seen, Words, has_names, print_names, print_part};
 use bac_parts::{Visitor, read_on};
 use sqlite::{Alter, Connection, Error};
 use std::alloc::Global;
@@ -50,7 +51,7 @@ impl<'a> Printer<'a> {
         Printer {
             alloc,
             words,
-            names: words.csv && !archive.is_folder,
+            names: has_names(words.form) && !archive.is_folder,
             seen: Seen::new(alloc),
             has_any: false,
             came: Ok(()),
@@ -152,10 +153,10 @@ impl<'a> Printer<'a> {
 }
 
 /// Whether the row of names stands before all parts: of a folder, as CSV.
-fn has_names(asked: &Asked<'_>, archive: &Archive) -> bool
-    ensures { result ≡ (asked.now.words.csv && archive.now.is_folder) }
+fn has_first_row(asked: &Asked<'_>, archive: &Archive) -> bool
+    ensures { result ≡ (has_names asked.now.words.form && archive.now.is_folder) }
 {
-    asked.words.csv && archive.is_folder
+    has_names(asked.words.form) && archive.is_folder
 }
 
 /// Prints what the parts of an archive keep, of a folder behind the row of names.
@@ -172,7 +173,7 @@ pub(crate) fn print_archive<P: Parts, O: Write, E: Write>(
         (scene parts.old (O.contents output.old) (E.contents errors.old)) result
         (scene parts.new (O.contents output.new) (E.contents errors.new)) }
 {
-    match print_names(alloc, has_names(asked, archive), output) {
+    match print_names(alloc, has_first_row(asked, archive), output) {
         Ok(()) => {}
         Err(why) => return Err(text_fault(why)),
     }

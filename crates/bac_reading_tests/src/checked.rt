@@ -41,8 +41,8 @@ fn tells_what_is_missing(rt: HostRuntime) -> Result<(), Fail> {
         return Err(Fail::from("unchecked"));
     };
     let lines = "192.0.2.1:47808/5/0a 3 epoch 0: 10 to 13, 2 records, 0 gaps\n\
-        hole 8 9\n\
-        hole 11 12\n\
+        missing 8-9\n\
+        missing 11-12\n\
         192.0.2.1:47808/5/0a 3 epoch 1: 1 to 1, 1 record, 0 gaps\n\
         192.0.2.1:47808/5/0b 4 epoch 0: 500 to 503, 1 record, 0 gaps, \
         1 doubtful gap of 3 numbers\n";

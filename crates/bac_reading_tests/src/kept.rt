@@ -1,7 +1,8 @@
 //! What is printed of an archive.
 
 use crate::archive::{SITE, archive, take};
-use bac_kept::{Choice, Dates, Place, Seen, Words, print_names, print_part};
+use bac_form::Form;
+use bac_kept::{Choice, Dates, Place, Seen, Words, has_names, print_names, print_part};
 use sqlite::{Alter, Connection};
 use std::alloc::Global;
 use std::test::Fail;
@@ -26,7 +27,7 @@ fn printed<A: Alter>(
         return None;
     }
     let mut output = Vec::new(alloc);
-    if print_names(alloc, words.csv, &mut output).is_err() {
+    if print_names(alloc, has_names(words.form), &mut output).is_err() {
         return None;
     }
     match print_part(alloc, conn, words, seen, &mut output) {
@@ -51,7 +52,7 @@ fn prints(alloc: Global, rows: &str, words: &Words<'_>, text: &str) -> bool {
 const ALL: Words<'static> = Words {
     choice: Choice::All,
     dates: None,
-    csv: false,
+    form: Form::Lines,
 };
 
 #[test]
@@ -90,7 +91,7 @@ fn prints_records_of_dates(rt: HostRuntime) -> Result<(), Fail> {
         let words = Words {
             choice: ZONE,
             dates: Some(Dates { since, before }),
-            csv: false,
+            form: Form::Lines,
         };
         assert!(rt; prints(rt.alloc(), SITE, &words, text));
     }
@@ -102,7 +103,7 @@ fn writes_flags_as_letters(rt: HostRuntime) -> Result<(), Fail> {
     let words = Words {
         choice: ZONE,
         dates: None,
-        csv: true,
+        form: Form::Csv,
     };
     let text = "address,device,trend_log,name,source,units,epoch,number,stamp,value,datum,flags\n\
         192.0.2.1:47808/5/0a,11,3,zone,\"object(0,1).85\",enum(62),0,10,2026-11-29T10:00:00.00,\

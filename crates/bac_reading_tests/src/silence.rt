@@ -1,6 +1,7 @@
 //! Since when a device is silent.
 
 use crate::archive::archive;
+use bac_form::Form;
 use bac_kept::{Choice, Lasts, Words};
 use sqlite::types::ToSql;
 use sqlite::{Connection, MemStore};
@@ -32,7 +33,7 @@ fn printed(alloc: Global, answered: &str, other: &str) -> Option<Vec<u8>> {
     let words = Words {
         choice: Choice::All,
         dates: None,
-        csv: false,
+        form: Form::Lines,
     };
     let lasts = Lasts::begin(alloc, &mut conn).ok()?;
     let mut output = Vec::new(alloc);

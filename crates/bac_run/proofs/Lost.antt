@@ -16,7 +16,7 @@ use Rattle.bac_parts.proofs.FileLemmas.{none_closed}
 use Rattle.bac_ports.specs.Sockets.{SocketRules}
 use Rattle.bac_run.specs.Keeping.{KeepsBy, KeepsDevices, KeepsOf}
 use Rattle.bac_run.specs.Run.{DoesAll, DoesTold}
-use Rattle.bac_run.specs.Setup.{Setup}
+use Rattle.bac_run.specs.Setup.{Setup, with_output}
 use Rattle.bac_site_poller.specs.Site.{SiteState}
 use Rattle.bac_wire.specs.Stamp.{CivilTime}
 use Rattle.bac_command_line.specs.Jobs.{reads_input}
@@ -50,6 +50,9 @@ module _ {S P C W Q F G : Type 0} {s : start.Ghosts F} {t : start.Ghosts G} (rul
   of_loses false asked keeps = by_loses asked.stop asked keeps.0
   of_loses true asked keeps = devices_lose asked keeps.0 keeps.2
 
+module _ {S P C W Q F G : Type 0} {s : start.Ghosts F} {t : start.Ghosts G} (rules : SocketRules S P) (acts : Acts (Batched SiteState) P W) (f : disk.Ghosts (FileOf s)) (file : Image) (g : disk.Ghosts (FileOf t)) (part : Image)
+    (folders : PartRules Q) (passes : S → Passed) (tells : C → Option CivilTime → C → Type 0) (waits : W) (run_loses : ToolLosesNothing rules acts f file g part) (stop_loses : StopLosesNothing f file)
+    (old new : Setup S C Q s t) (status : ℕ) where
   all_loses : (asked : Job) → DoesAll rules acts f file g part folders passes tells waits asked old status new → LosesNothingAt f file old.files new.files
   all_loses job.Replay did = same_loses f file old.files new.files did.1.0.0
   all_loses (job.Wi words) did = same_loses f file old.files new.files did.1.0.0
@@ -58,7 +61,8 @@ module _ {S P C W Q F G : Type 0} {s : start.Ghosts F} {t : start.Ghosts G} (rul
   all_loses (job.Log words) did = same_loses f file old.files new.files did.1.0.0
   all_loses (job.Logs words) did = same_loses f file old.files new.files did.1.0.0
   all_loses (job.Serve words) did = same_loses f file old.files new.files did.1.0.0
-  all_loses (job.Keep words) did = of_loses (reads_input words) words did.0
+  all_loses (job.Keep words) did =
+      of_loses rules acts f file g part folders passes tells waits run_loses stop_loses (with_output did.0 old) (with_output did.1 new) status (reads_input words) words did.3.0
   all_loses (job.Kept words) did = same_loses f file old.files new.files did.1.1.0
   all_loses (job.Check words) did = same_loses f file old.files new.files did.1.1.0
 

@@ -40,13 +40,21 @@ pub checks_named : {Q : Type 0} (rules : PartRules Q) (name file : List ℕ) →
 checks_named rules name file same old new result said status it ends =
     subst (λ (n : List ℕ). ReadsParts rules n (RunsCheck rules n) old status new) same (it.0, it.1, it.2, result, said, it.3, ends)
 
+-- what was listed of parts that were told how long to wait is what was there before
+pub lists_before : {Q : Type 0} (rules : PartRules Q) (parts mid : Q) → ((name : List ℕ) (listing : Listing) (next : Q) → rules.lists mid name listing next → rules.lists parts name listing next)
+    → (name : List ℕ) (does : Listing → Scene Q → Type 0) (output errors : Held)
+    → ((listing : Listing) × (listed : Q) × rules.lists mid name listing listed × does listing (scene listed output errors))
+    → (listing : Listing) × (listed : Q) × rules.lists parts name listing listed × does listing (scene listed output errors)
+lists_before rules parts mid before name does output errors it = (it.0, it.1, before name it.0 it.1 it.2, it.3)
+
 -- what was done of `keep` is the same beside the input
 pub keeps_over : {S P C W Q F G : Type 0} {s : start.Ghosts F} {t : start.Ghosts G} (rules : SocketRules S P) (acts : Acts (Batched SiteState) P W) (f : disk.Ghosts (FileOf s)) (file : Image) (g : disk.Ghosts (FileOf t)) (part : Image)
-    (waits : W) (tells : C → Option CivilTime → C → Type 0) (stops : Bool) (asked : KeepWords) (old new : Setup S C Q s t) (input : Held) (status : ℕ)
-    → KeepsBy rules acts f file g part waits tells stops asked (record old { streams = record old.streams { input = input } }) status new → KeepsBy rules acts f file g part waits tells stops asked old status new
-keeps_over rules acts f file g part waits tells true asked old new input status it = it
-keeps_over rules acts f file g part waits tells false asked old new input status (None, told, alone) = (None, told, alone)
-keeps_over rules acts f file g part waits tells false asked old new input status (Some begun, told, runs) = (Some begun, told, runs)
+    (waits : W) (tells : C → Option CivilTime → C → Type 0) (stops : Bool) (asked : KeepWords) (old new : Setup S C Q s t) (input left : Held) (status : ℕ)
+    → KeepsBy rules acts f file g part waits tells stops asked old status new
+    → KeepsBy rules acts f file g part waits tells stops asked (record old { streams = record old.streams { input = input } }) status (record new { streams = record new.streams { input = left } })
+keeps_over rules acts f file g part waits tells true asked old new input left status it = it
+keeps_over rules acts f file g part waits tells false asked old new input left status (None, told, alone) = (None, told, alone)
+keeps_over rules acts f file g part waits tells false asked old new input left status (Some begun, told, runs) = (Some begun, told, runs)
 
 module _ {S P C W Q F G : Type 0} {s : start.Ghosts F} {t : start.Ghosts G} (rules : SocketRules S P) (acts : Acts (Batched SiteState) P W) (f : disk.Ghosts (FileOf s)) (file : Image) (g : disk.Ghosts (FileOf t)) (part : Image)
     (folders : PartRules Q) (passes : S → Passed) (tells : C → Option CivilTime → C → Type 0) (waits : W) (old new : Setup S C Q s t) (status : ℕ) where

@@ -2,6 +2,7 @@
 use Rattle.std.specs.Prelude.{◌≡◌, ◌⊎◌, ℕ, Bool, true, false, List, codes, Option, None, Some, option_map}
 use Rattle.std.specs.Prelude.{unwrap_or, Result, Ok, Err}
 use Rattle.clap.specs.Words.{Text}
+use Rattle.bac_form.specs.declared.form.Form.{Form}
 use Rattle.bac_files.specs.Parts.{Listing, PartRules}
 use Rattle.bac_socket_notes.specs.Notes.{nothing}
 use Rattle.bac_keep_command_line.specs.Printing.{BehindAs, DeviceAs, device_in}
@@ -19,6 +20,7 @@ use Rattle.bac_reading.specs.Scene.{Scene, scene}
 use Rattle.bac_reading.specs.declared.fault.Fault.{Fault as ReadFault}
 use Rattle.bac_reading.specs.declared.program.Asked.{Asked}
 use Rattle.bac_run.specs.Faults.{of_words, read_ending}
+use Rattle.bac_run.specs.Setup.{IsPrinted}
 use Rattle.bac_tools.specs.Run.{Ends, IsTold}
 use Rattle.bac_command_line.specs.declared.job.Check.{Check}
 use Rattle.bac_command_line.specs.declared.job.Extent.{Extent}
@@ -32,13 +34,13 @@ pub record DatesAs : Type 0 where
   pub since : List ℕ
   pub before : List ℕ
 
--- the name of an archive; which device, and which log of it, or all; which dates, or all; whether as CSV; and whether
--- the newest record of each log alone
+-- the name of an archive; which device, and which log of it, or all; which dates, or all; in which form; and whether the
+-- newest record of each log alone
 pub record AskedAs : Type 0 where
   pub file : List ℕ
   pub device : Option DeviceAs
   pub dates : Option DatesAs
-  pub csv : Bool
+  pub form : Form
   pub last : Bool
 
 -- a place behind a router
@@ -69,7 +71,7 @@ asked_as asked = record {
   file = asked.file.now;
   device = choice_as asked.words.choice;
   dates = option_map dates_as asked.words.dates;
-  csv = asked.words.csv;
+  form = asked.words.form;
   last = asked.last;
 }
 
@@ -98,7 +100,7 @@ asked_for kept device = record {
   file = kept.file;
   device = device;
   dates = dates_of kept.extent;
-  csv = kept.csv;
+  form = kept.form;
   last = is_newest kept.extent;
 }
 
@@ -126,6 +128,12 @@ module _ {Q : Type 0} (rules : PartRules Q) where
       ⊎ ((device : Option DeviceAs) × (device_in kept ≡ Ok device) × (asked : Asked)
       × (asked_as asked ≡ asked_for kept device) × ReadsParts kept.file (RunsKept rules asked) old status new)
 
-  -- `check`: the archive is checked
+  -- `check`: the archive is checked, and what is found is printed
   abbrev pub ChecksArchive : Check → (old : Scene Q) → ℕ → (new : Scene Q) → Type 0
   ChecksArchive check old status new = ReadsParts check.file (RunsCheck rules check.file) old status new
+
+  -- so it is done where the words ask for quiet, or not
+  abbrev pub ChecksQuietly : Check → (old : Scene Q) → ℕ → (new : Scene Q) → Type 0
+  ChecksQuietly check old status new = (before : Held) × (after : Held)
+      × IsPrinted check.quiet old.output new.output before after
+      × ChecksArchive check (record old { output = before }) status (record new { output = after })

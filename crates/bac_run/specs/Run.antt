@@ -11,8 +11,8 @@ use Rattle.bac_files.specs.Parts.{PartRules}
 use Rattle.bac_socket_notes.specs.declared.notes.Passed.{Passed}
 use Rattle.bac_ports.specs.Sockets.{SocketRules}
 use Rattle.bac_run.specs.Keeping.{KeepsAsked}
-use Rattle.bac_run.specs.Reading.{ChecksArchive, PrintsKept}
-use Rattle.bac_run.specs.Setup.{IsOffFiles, OnlyReads, Setup, scene_of, with_sockets}
+use Rattle.bac_run.specs.Reading.{ChecksQuietly, PrintsKept}
+use Rattle.bac_run.specs.Setup.{DoesQuietly, IsOffFiles, OnlyReads, Setup, scene_of, with_sockets}
 use Rattle.bac_site_poller.specs.Site.{SiteState}
 use Rattle.bac_tools.specs.Run.{AskFor, OnlyTells, Runs}
 use Rattle.bac_tools.specs.declared.fault.Fault.TheVariants.{Memory}
@@ -33,11 +33,12 @@ module _ {S P C W Q F G : Type 0} {s : start.Ghosts F} {t : start.Ghosts G} (rul
   -- The tool of a job. `keep` works on files; `kept` and `check` read parts, and open no socket. Each other one leaves
   -- the files alone.
   abbrev pub DoesAll : Job → (old : Setup S C Q s t) → ℕ → (new : Setup S C Q s t) → Type 0
-  DoesAll (job.Keep asked) old status new = KeepsAsked rules acts f file g part waits tells asked old status new
+  DoesAll (job.Keep asked) old status new =
+      DoesQuietly asked.quiet (KeepsAsked rules acts f file g part waits tells asked) old status new
   DoesAll (job.Kept asked) old status new =
       PrintsKept folders asked (scene_of old) status (scene_of new) × OnlyReads old new
   DoesAll (job.Check asked) old status new =
-      ChecksArchive folders asked (scene_of old) status (scene_of new) × OnlyReads old new
+      ChecksQuietly folders asked (scene_of old) status (scene_of new) × OnlyReads old new
   DoesAll other old status new = Runs rules passes tells other old.streams status new.streams × IsOffFiles old new
 
   -- The sockets are switched on to tell each datagram, or off, as the words say; the tool does its work over these.

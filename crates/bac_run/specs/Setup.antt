@@ -1,5 +1,5 @@
 -- What the program works on: its streams, its sockets, the time of day, and the files of archives.
-use Rattle.std.specs.Prelude.{◌≡◌}
+use Rattle.std.specs.Prelude.{◌≡◌, ℕ, Bool, true, false}
 use Rattle.sqlite_disk.specs.declared.start.Start as start
 use Rattle.bac_files.specs.declared.disk_files.DiskFiles.{DiskFiles}
 use Rattle.bac_keeper.specs.Machine.{Hands, hands}
@@ -19,20 +19,42 @@ pub record Setup (S C Q : Type 0) {F G : Type 0} (s : start.Ghosts F) (t : start
   pub parts : DiskFiles G t
   pub folders : Q
 
--- what a machine and a console have, by what is seen of their streams
-abbrev pub setup : {I O E S F G Q C : Type 0} {s : start.Ghosts F} {t : start.Ghosts G} → (I → Held) → (O → Held) →
-    (E → Held) → Machine S F G Q C s t → Console I O E → Setup S C Q s t
-setup input output errors machine console = record {
-  streams = streams (input console.input) (output console.output) (errors console.errors) machine.sockets machine.clock;
+-- what a machine has beside streams of which this is seen
+abbrev pub setup_over : {S F G Q C : Type 0} {s : start.Ghosts F} {t : start.Ghosts G} → (input output errors : Held) →
+    Machine S F G Q C s t → Setup S C Q s t
+setup_over input output errors machine = record {
+  streams = streams input output errors machine.sockets machine.clock;
   files = machine.files;
   parts = machine.parts;
   folders = machine.folders;
 }
 
+-- what a machine and a console have, by what is seen of their streams
+abbrev pub setup : {I O E S F G Q C : Type 0} {s : start.Ghosts F} {t : start.Ghosts G} → (I → Held) → (O → Held) →
+    (E → Held) → Machine S F G Q C s t → Console I O E → Setup S C Q s t
+setup input output errors machine console =
+    setup_over (input console.input) (output console.output) (errors console.errors) machine
+
+-- What a tool prints goes to the output. A quiet one prints where nobody reads it, and the output stays as it was.
+abbrev pub IsPrinted : (quiet : Bool) → (old new before after : Held) → Type 0
+IsPrinted false old new before after = (before ≡ old) × (after ≡ new)
+IsPrinted true old new before after = new ≡ old
+
 module _ {S C Q F G : Type 0} {s : start.Ghosts F} {t : start.Ghosts G} where
   -- the same with these sockets
   abbrev pub with_sockets : S → Setup S C Q s t → Setup S C Q s t
   with_sockets sockets all = record all { streams = record all.streams { sockets = sockets } }
+
+  -- the same with this output
+  abbrev pub with_output : Held → Setup S C Q s t → Setup S C Q s t
+  with_output output all = record all { streams = record all.streams { output = output } }
+
+  -- so a tool does its work, which is quiet or isn't
+  abbrev pub DoesQuietly : (quiet : Bool) → ((old : Setup S C Q s t) → ℕ → (new : Setup S C Q s t) → Type 0) →
+      (old : Setup S C Q s t) → ℕ → (new : Setup S C Q s t) → Type 0
+  DoesQuietly quiet does old status new = (before : Held) × (after : Held)
+      × IsPrinted quiet old.streams.output new.streams.output before after
+      × does (with_output before old) status (with_output after new)
 
   -- what `keep` has at hand: with a clock to wait by, and the errors holding this
   abbrev pub hands_of : {W : Type 0} → W → Held → Setup S C Q s t → Hands S W s t

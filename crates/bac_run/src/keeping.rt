@@ -1,6 +1,6 @@
 //! `keep`.
 
-ghost use Rattle.std.specs.Prelude.{◌≡◌, Some};
+ghost use Rattle.std.specs.Prelude.{◌≡◌, None, Some};
 ghost use Rattle.sqlite_wal.specs.Files.{image_at};
 ghost use Rattle.bac_socket_notes.specs.Notes.{nothing};
 ghost use Rattle.bac_historian.specs.Files.{KeepsPart};
@@ -10,7 +10,7 @@ ghost use Rattle.bac_site_poller.specs.SiteLaws.{site_acts};
 ghost use Rattle.bac_tools.specs.Run.{Ends};
 ghost use Rattle.bac_run.specs.Faults.{keep_ending, of_keep};
 ghost use Rattle.bac_run.specs.Keeping.{Keeps, KeepsOf, RunsFrom, StopsTold};
-ghost use Rattle.bac_run.specs.Setup.{setup};
+ghost use Rattle.bac_run.specs.Setup.{DoesQuietly, setup, setup_over};
 ghost use Rattle.bac_command_line.specs.Jobs.{reads_input};
 
 use crate::machine::{Console, Machine};
@@ -24,7 +24,7 @@ use bac_wire::Stamp;
 use sqlite::Start;
 use sqlite_disk::Disk;
 use std::alloc::Global;
-use std::io::{Read, Write};
+use std::io::{self, Read, Write};
 
 /// A fault of `keep`, as one of the program.
 fn of_keep(fault: KeepFault) -> Fault
@@ -67,19 +67,10 @@ fn stop_and_tell<F: Start, O: Write, E: Write>(
 }
 
 /// A run that begins at this moment, and its fault is told.
-fn run_and_tell<
-    S: Sockets,
-    F: Start,
-    G: Start,
-    Q,
-    I: Read,
-    O: Write,
-    E: Write,
-    C,
-    W: WaitClock + Copy,
->(
+fn run_and_tell<S: Sockets, F: Start, G: Start, Q, O: Write, E: Write, C, W: WaitClock + Copy>(
     machine: &mut Machine<'_, S, F, G, Q, C>,
-    console: &mut Console<I, O, E>,
+    output: &mut O,
+    errors: &mut E,
     alloc: Global,
     waits: W,
     asked: &Keep,
@@ -88,11 +79,11 @@ fn run_and_tell<
     ensures ran { RunsFrom (socket_rules S.opens S.closes S.Socket.sends S.Socket.receives
         S.Socket.receives_within) (site_acts S.Socket.sends S.Socket.receives_within W.reads)
         ⟦<FileOf<F> as Disk>⟧ (image_at F.Start) ⟦<FileOf<G> as Disk>⟧ (image_at G.Start) waits
-        (Some begun) asked.now (setup I.remaining O.contents E.contents machine.old console.old)
-        result (setup I.remaining O.contents E.contents machine.new console.new) }
+        (Some begun) asked.now
+        (setup_over None (O.contents output.old) (E.contents errors.old) machine.old) result
+        (setup_over None (O.contents output.new) (E.contents errors.new) machine.new) }
     ensures clock { machine.new.clock ≡ machine.old.clock }
-    ensures beside { (console.new.input ≡ console.old.input)
-        × (machine.new.folders ≡ machine.old.folders) }
+    ensures beside { machine.new.folders ≡ machine.old.folders }
     ensures part { KeepsPart ⟦<FileOf<G> as Disk>⟧ (image_at G.Start) machine.old.parts
         machine.new.parts }
 {
@@ -100,8 +91,8 @@ fn run_and_tell<
     let mut hands = Hands {
         sockets: &mut machine.sockets,
         clock: &mut clock,
-        output: &mut console.output,
-        errors: &mut console.errors,
+        output: &mut *output,
+        errors: &mut *errors,
     };
     let done = run_keep(
         alloc,
@@ -111,11 +102,49 @@ fn run_and_tell<
         &mut machine.parts,
         &mut hands,
     );
-    ended(alloc, done, &mut console.errors)
+    ended(alloc, done, errors)
 }
 
 /// `keep` of the devices of the words: what they name is stopped, or a run begins now.
 fn keep_and_tell<
+    S: Sockets,
+    F: Start,
+    G: Start,
+    Q,
+    O: Write,
+    E: Write,
+    C: Clock,
+    W: WaitClock + Copy,
+>(
+    machine: &mut Machine<'_, S, F, G, Q, C>,
+    output: &mut O,
+    errors: &mut E,
+    alloc: Global,
+    waits: W,
+    asked: &Keep,
+) -> u8
+    ensures ran { Keeps (socket_rules S.opens S.closes S.Socket.sends S.Socket.receives
+        S.Socket.receives_within) (site_acts S.Socket.sends S.Socket.receives_within W.reads)
+        ⟦<FileOf<F> as Disk>⟧ (image_at F.Start) ⟦<FileOf<G> as Disk>⟧ (image_at G.Start) waits
+        C.tells asked.now
+        (setup_over None (O.contents output.old) (E.contents errors.old) machine.old) result
+        (setup_over None (O.contents output.new) (E.contents errors.new) machine.new) }
+    ensures beside { machine.new.folders ≡ machine.old.folders }
+    ensures part { KeepsPart ⟦<FileOf<G> as Disk>⟧ (image_at G.Start) machine.old.parts
+        machine.new.parts }
+{
+    if asked.stop {
+        return stop_and_tell(&mut machine.files, alloc, asked, output, errors);
+    }
+    match machine.clock.now() {
+        Some(begun) => run_and_tell(machine, output, errors, alloc, waits, asked, begun),
+        None => tell(alloc, Fault::Clock, errors),
+    }
+}
+
+/// `keep` of the devices of its words, or of those that the input lists; without a list it is told
+/// why, and nothing else is done.
+fn keep_devices<
     S: Sockets,
     F: Start,
     G: Start,
@@ -127,38 +156,38 @@ fn keep_and_tell<
     W: WaitClock + Copy,
 >(
     machine: &mut Machine<'_, S, F, G, Q, C>,
-    console: &mut Console<I, O, E>,
+    input: &mut I,
+    output: &mut O,
+    errors: &mut E,
     alloc: Global,
     waits: W,
-    asked: &Keep,
+    asked: Keep,
 ) -> u8
-    ensures ran { Keeps (socket_rules S.opens S.closes S.Socket.sends S.Socket.receives
+    ensures ran { KeepsOf (socket_rules S.opens S.closes S.Socket.sends S.Socket.receives
         S.Socket.receives_within) (site_acts S.Socket.sends S.Socket.receives_within W.reads)
         ⟦<FileOf<F> as Disk>⟧ (image_at F.Start) ⟦<FileOf<G> as Disk>⟧ (image_at G.Start) waits
-        C.tells asked.now (setup I.remaining O.contents E.contents machine.old console.old) result
-        (setup I.remaining O.contents E.contents machine.new console.new) }
-    ensures beside { (console.new.input ≡ console.old.input)
-        × (machine.new.folders ≡ machine.old.folders) }
+        C.tells (reads_input asked) asked
+        (setup_over (I.remaining input.old) (O.contents output.old) (E.contents errors.old)
+        machine.old) result
+        (setup_over (I.remaining input.new) (O.contents output.new) (E.contents errors.new)
+        machine.new) }
+    ensures folders { machine.new.folders ≡ machine.old.folders }
     ensures part { KeepsPart ⟦<FileOf<G> as Disk>⟧ (image_at G.Start) machine.old.parts
         machine.new.parts }
 {
-    if asked.stop {
-        return stop_and_tell(
-            &mut machine.files,
-            alloc,
-            asked,
-            &mut console.output,
-            &mut console.errors,
-        );
+    if !asked.reads_input() {
+        return keep_and_tell(machine, output, errors, alloc, waits, &asked);
     }
-    match machine.clock.now() {
-        Some(begun) => run_and_tell(machine, console, alloc, waits, asked, begun),
-        None => tell(alloc, Fault::Clock, &mut console.errors),
+    match listed_devices(alloc, input) {
+        Ok(groups) => {
+            let asked = asked.with_groups(groups);
+            keep_and_tell(machine, output, errors, alloc, waits, &asked)
+        }
+        Err(fault) => tell(alloc, Fault::List(fault), errors),
     }
 }
 
-/// `keep` of the devices of its words, or of those that the input lists; without a list it is told
-/// why, and nothing else is done.
+/// The same; with `--quiet` what it prints goes nowhere.
 pub(crate) fn keep_job<
     S: Sockets,
     F: Start,
@@ -176,24 +205,24 @@ pub(crate) fn keep_job<
     waits: W,
     asked: Keep,
 ) -> u8
-    ensures ran { KeepsOf (socket_rules S.opens S.closes S.Socket.sends S.Socket.receives
-        S.Socket.receives_within) (site_acts S.Socket.sends S.Socket.receives_within W.reads)
+    ensures ran { DoesQuietly asked.quiet (KeepsOf (socket_rules S.opens S.closes S.Socket.sends
+        S.Socket.receives S.Socket.receives_within)
+        (site_acts S.Socket.sends S.Socket.receives_within W.reads)
         ⟦<FileOf<F> as Disk>⟧ (image_at F.Start) ⟦<FileOf<G> as Disk>⟧ (image_at G.Start) waits
-        C.tells (reads_input asked) asked
+        C.tells (reads_input asked) asked)
         (setup I.remaining O.contents E.contents machine.old console.old) result
         (setup I.remaining O.contents E.contents machine.new console.new) }
     ensures folders { machine.new.folders ≡ machine.old.folders }
     ensures part { KeepsPart ⟦<FileOf<G> as Disk>⟧ (image_at G.Start) machine.old.parts
         machine.new.parts }
 {
-    if !asked.reads_input() {
-        return keep_and_tell(machine, console, alloc, waits, &asked);
+    let Console {
+        input,
+        output,
+        errors,
+    } = console;
+    if asked.quiet {
+        return keep_devices(machine, input, &mut io::sink(), errors, alloc, waits, asked);
     }
-    match listed_devices(alloc, &mut console.input) {
-        Ok(groups) => {
-            let asked = asked.with_groups(groups);
-            keep_and_tell(machine, console, alloc, waits, &asked)
-        }
-        Err(fault) => tell(alloc, Fault::List(fault), &mut console.errors),
-    }
+    keep_devices(machine, input, output, errors, alloc, waits, asked)
 }

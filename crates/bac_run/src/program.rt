@@ -17,7 +17,7 @@ ghost use Rattle.bac_run.specs.Setup.{IsOffFiles, setup};
 
 use crate::keeping::keep_job;
 use crate::machine::{Console, Machine};
-use crate::reading::{check_and_tell, print_and_tell};
+use crate::reading::{check_job, print_and_tell};
 use bac_command_line::{Job, read_words};
 use bac_drive::Clock as WaitClock;
 use bac_files::{FileOf, Parts};
@@ -65,7 +65,7 @@ fn run_job<
             &mut console.output,
             &mut console.errors,
         ),
-        Job::Check(asked) => check_and_tell(
+        Job::Check(asked) => check_job(
             &mut machine.folders,
             alloc,
             &asked,

@@ -7,7 +7,8 @@ ghost use Rattle.bac_keep_command_line.specs.Printing.{behind_as as router_as, d
 ghost use Rattle.bac_reading.specs.Scene.{scene};
 ghost use Rattle.bac_tools.specs.Run.{Ends};
 ghost use Rattle.bac_run.specs.Faults.{of_read, of_words, read_ending};
-ghost use Rattle.bac_run.specs.Reading.{ChecksArchive, PrintsKept, asked_as, asked_for, choice_as};
+ghost use Rattle.bac_run.specs.Reading.{ChecksArchive, ChecksQuietly, PrintsKept, asked_as};
+ghost use Rattle.bac_run.specs.Reading.{asked_for, choice_as};
 ghost use Rattle.bac_run.specs.Reading.{behind_as, dates_as, dates_between, device_at};
 
 use bac_command_line::{Check, Extent, Kept, Name, Period};
@@ -17,7 +18,7 @@ use bac_kept::{Behind, Choice, Dates, Place, Words};
 use bac_reading::{Asked, Fault as ReadFault, run_check, run_kept};
 use bac_tools::{Fault, tell};
 use std::alloc::Global;
-use std::io::Write;
+use std::io::{self, Write};
 
 /// Before the stamp of each record that has a date.
 const BEFORE_ALL: &str = "0";
@@ -118,7 +119,7 @@ fn asked_of<'a>(kept: &'a Kept, device: &'a Option<Device>) -> Asked<'a>
         words: Words {
             choice: choice_of(device),
             dates,
-            csv: kept.csv,
+            form: kept.form,
         },
         last,
     }
@@ -149,6 +150,7 @@ pub(crate) fn print_and_tell<Q: Parts, O: Write, E: Write>(
 {
     match read_device(alloc, kept) {
         Ok(device) => {
+            folders.wait_for(kept.wait);
             let asked = asked_of(kept, &device);
             let done = run_kept(folders, alloc, &asked, output, errors);
             ended(alloc, done, errors)
@@ -158,7 +160,7 @@ pub(crate) fn print_and_tell<Q: Parts, O: Write, E: Write>(
 }
 
 /// `check`, and its fault is told.
-pub(crate) fn check_and_tell<Q: Parts, O: Write, E: Write>(
+fn check_and_tell<Q: Parts, O: Write, E: Write>(
     folders: &mut Q,
     alloc: Global,
     asked: &Check,
@@ -169,6 +171,25 @@ pub(crate) fn check_and_tell<Q: Parts, O: Write, E: Write>(
         (scene folders.old (O.contents output.old) (E.contents errors.old)) result
         (scene folders.new (O.contents output.new) (E.contents errors.new)) }
 {
+    folders.wait_for(asked.wait);
     let done = run_check(folders, alloc, asked.file.as_str(), output, errors);
     ended(alloc, done, errors)
+}
+
+/// The same; with `--quiet` what it prints goes nowhere.
+pub(crate) fn check_job<Q: Parts, O: Write, E: Write>(
+    folders: &mut Q,
+    alloc: Global,
+    asked: &Check,
+    output: &mut O,
+    errors: &mut E,
+) -> u8
+    ensures { ChecksQuietly (part_rules Q.lists Q.holds Q.bars) asked.now
+        (scene folders.old (O.contents output.old) (E.contents errors.old)) result
+        (scene folders.new (O.contents output.new) (E.contents errors.new)) }
+{
+    if asked.quiet {
+        return check_and_tell(folders, alloc, asked, &mut io::sink(), errors);
+    }
+    check_and_tell(folders, alloc, asked, output, errors)
 }

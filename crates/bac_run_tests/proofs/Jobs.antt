@@ -14,14 +14,14 @@ use Rattle.bac_files.specs.declared.disk_files.DiskFiles.{DiskFiles}
 use Rattle.bac_socket_notes.specs.declared.notes.Passed.{Passed}
 use Rattle.bac_historian.specs.Files.{KeepsPart}
 use Rattle.bac_historian.specs.Laws.{LosesNothingAt}
-use Rattle.bac_keeper.specs.Stops.{StopsTool}
+use Rattle.bac_keeper.specs.Stops.{StopsTool, texts}
 use Rattle.bac_keeper.specs.declared.fault.Fault.{Fault as KeepFault}
 use Rattle.bac_keeping.specs.RecordLaws.{KeepNames}
 use Rattle.bac_ports.specs.Port.{Receiving, Sending}
 use Rattle.bac_ports.specs.Sockets.{SocketRules}
 use Rattle.bac_run.specs.Keeping.{KeepsBy, KeepsOf}
 use Rattle.bac_run.specs.Run.{RunsAll}
-use Rattle.bac_run.specs.Setup.{HasFiles, IsOffFiles, Setup, scene_of, texts_of, with_sockets}
+use Rattle.bac_run.specs.Setup.{DoesQuietly, HasFiles, IsOffFiles, IsPrinted, Setup, scene_of, with_output, with_sockets}
 use Rattle.bac_run_tests.proofs.Kept.{of_zero, stop_zero}
 use Rattle.bac_run_tests.proofs.Quiet.{check_quiet, kept_quiet}
 use Rattle.bac_run_tests.proofs.Untold.{keep_zero, untold}
@@ -107,32 +107,34 @@ module _ {S P C W Q F G : Type 0} {s : start.Ghosts F} {t : start.Ghosts G} (rul
 
   pub check_untold : (asked : CheckWords) → n ≡ 0 → Ran (job.Check asked) → Keeps old.streams.errors new.streams.errors
   check_untold asked zero (inl (only, off)) = absurd (no_memory only zero)
-  check_untold asked zero (inr (told, traced, (checks, apart))) = check_quiet folders asked (scene_of old) (scene_of new) n zero checks
+  check_untold asked zero (inr (told, traced, ((before, after, printed, checks), apart))) =
+      check_quiet folders asked (record (scene_of old) { output = before }) (record (scene_of new) { output = after }) n zero checks
 
   -- the words of `keep --stop` don't read the input
-  stops_by : (told : S) (asked : KeepWords) → asked.stop ≡ true → KeepsOf rules acts f file g part waits tells (reads_input asked) asked (with_sockets told old) n new
-      → KeepsBy rules acts f file g part waits tells true asked (with_sockets told old) n new × (new.streams.input ≡ old.streams.input)
-  stops_by told asked stops keeps =
+  stops_by : (was now : Setup S C Q s t) (asked : KeepWords) → asked.stop ≡ true → KeepsOf rules acts f file g part waits tells (reads_input asked) asked was n now
+      → KeepsBy rules acts f file g part waits tells true asked was n now × (now.streams.input ≡ was.streams.input)
+  stops_by was now asked stops keeps =
       let unread : reads_input asked ≡ false = ap (λ (b : Bool). not b && are_input asked.groups) stops in
-      let of = subst (λ (b : Bool). KeepsOf rules acts f file g part waits tells b asked (with_sockets told old) n new) unread keeps in
-      (subst (λ (b : Bool). KeepsBy rules acts f file g part waits tells b asked (with_sockets told old) n new) stops of.0, of.1)
+      let of = subst (λ (b : Bool). KeepsOf rules acts f file g part waits tells b asked was n now) unread keeps in
+      (subst (λ (b : Bool). KeepsBy rules acts f file g part waits tells b asked was n now) stops of.0, of.1)
 
   pub stop_apart : (asked : KeepWords) → asked.stop ≡ true → Ran (job.Keep asked) → StopsOffline traces asked.trace old new
   stop_apart asked stops (inl ((told, keeps, (input, sockets, clock)), (still, folders))) = ((inl sockets, input, clock), still.1, folders)
-  stop_apart asked stops (inr (told, traced, (keeps, folders))) =
-      let it = stops_by told asked stops keeps in
+  stop_apart asked stops (inr (told, traced, (before, after, printed, (keeps, folders)))) =
+      let it = stops_by (with_output before (with_sockets told old)) (with_output after new) asked stops keeps in
       (switched asked.trace told traced it.0.1.0 it.1 it.0.1.1, it.0.1.2, folders)
 
   pub stop_done : (asked : KeepWords) → asked.stop ≡ true → n ≡ 0 → Ran (job.Keep asked)
-      → IsAllStopped f file asked new.files old.streams.output new.streams.output × Keeps old.streams.errors new.streams.errors
+      → (before : Held) × (after : Held) × IsPrinted asked.quiet old.streams.output new.streams.output before after × IsAllStopped f file asked new.files before after × Keeps old.streams.errors new.streams.errors
   stop_done asked stops zero (inl (only, off)) = absurd (no_memory only zero)
-  stop_done asked stops zero (inr (told, traced, (keeps, folders))) = by (stops_by told asked stops keeps).0
+  stop_done asked stops zero (inr (told, traced, (before, after, printed, (keeps, folders)))) =
+      let it = by (stops_by (with_output before (with_sockets told old)) (with_output after new) asked stops keeps).0 in (before, after, printed, it.0, it.1)
     where
-      by : KeepsBy rules acts f file g part waits tells true asked (with_sockets told old) n new → IsAllStopped f file asked new.files old.streams.output new.streams.output × Keeps old.streams.errors new.streams.errors
+      by : KeepsBy rules acts f file g part waits tells true asked (with_output before (with_sockets told old)) n (with_output after new) → IsAllStopped f file asked new.files before after × Keeps old.streams.errors new.streams.errors
       by ((result, said, tool, ends), only) =
           let well = keep_zero result said new.streams.errors n ends zero in
-          let it = stop_zero f file asked old.files new.files (texts_of old) (record (texts_of new) { errors = said })
-          (subst (λ (r : Result ℕ KeepFault). StopsTool f file asked old.files new.files (texts_of old) (record (texts_of new) { errors = said }) r) well.0 tool) in
+          let it = stop_zero f file asked old.files new.files (texts before old.streams.errors) (texts after said)
+          (subst (λ (r : Result ℕ KeepFault). StopsTool f file asked old.files new.files (texts before old.streams.errors) (texts after said) r) well.0 tool) in
           (it.0, subst (λ (h : Option (List ℕ)). Keeps h new.streams.errors) it.1 well.1)
 
 module _ {P W : Type 0} (sends : P → List ℕ → List ℕ → Sending → P → Type 0) (receives : P → ℕ → Receiving → P → Type 0) (reads : W → ℕ → W → Type 0) {S C Q F G : Type 0} {s : start.Ghosts F} {t : start.Ghosts G} (rules : SocketRules S P)
@@ -142,9 +144,9 @@ module _ {P W : Type 0} (sends : P → List ℕ → List ℕ → Sending → P �
   pub all_kept : StepsHappen (site_acts sends receives reads) → EndsWhole GivesSite SiteHears SiteReads → BatchesEnd → StatusNeverFalls → EndsAreCounted → KeepNames → (asked : KeepWords) → asked.stop ≡ false → n ≡ 0
       → Ran rules (site_acts sends receives reads) f file g part folders passes tells waits traces old new n (job.Keep asked)
       → (told : S) × traces old.streams.sockets asked.trace told × (which : KeepWords) × HasDevices (reads_input asked) asked old.streams.input new.streams.input which
-      × IsKeptNow rules (site_acts sends receives reads) f file g part waits tells which (with_sockets told old) new
+      × DoesQuietly asked.quiet (λ was status now. IsKeptNow rules (site_acts sends receives reads) f file g part waits tells which was now) (with_sockets told old) n new
   all_kept happen whole batches rises counted names asked still zero (inl (only, off)) =
       absurd (no_memory rules (site_acts sends receives reads) f file g part folders passes tells waits traces old new n only zero)
-  all_kept happen whole batches rises counted names asked still zero (inr (told, traced, (keeps, folders'))) =
-      let it = of_zero sends receives reads happen whole batches rises counted names rules f file g part waits tells (with_sockets told old) new n zero (reads_input asked) asked still keeps in
-      (told, traced, it.0, it.1, it.2)
+  all_kept happen whole batches rises counted names asked still zero (inr (told, traced, (before, after, printed, (keeps, folders')))) =
+      let it = of_zero sends receives reads happen whole batches rises counted names rules f file g part waits tells (with_output before (with_sockets told old)) (with_output after new) n zero (reads_input asked) asked still keeps in
+      (told, traced, it.0, it.1, (before, after, printed, it.2))

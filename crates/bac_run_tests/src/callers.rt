@@ -8,7 +8,8 @@ ghost use Rattle.sqlite_wal.specs.Files.{image_at};
 ghost use Rattle.bac_historian.specs.Files.{KeepsPart};
 ghost use Rattle.bac_historian.specs.Laws.{LosesNothingAt};
 ghost use Rattle.bac_ports.specs.Sockets.{socket_rules};
-ghost use Rattle.bac_run.specs.Setup.{setup, with_sockets};
+ghost use Rattle.bac_run.specs.Setup.{DoesQuietly, IsPrinted, setup, with_sockets};
+ghost use Rattle.bac_print.specs.Output.{Held};
 ghost use Rattle.bac_site_poller.specs.SiteLaws.{site_acts};
 ghost use Rattle.bac_tools.specs.Run.{AreWrong, AskFor};
 ghost use Rattle.bac_command_line.specs.Jobs.{reads_input};
@@ -60,12 +61,13 @@ pub fn keep_until_done<
         → (told : S) × S.traces machine.old.sockets asked.trace told
         × (which : KeepWords) × HasDevices (reads_input asked) asked
         (I.remaining console.old.input) (I.remaining console.new.input) which
-        × IsKeptNow (socket_rules S.opens S.closes S.Socket.sends S.Socket.receives
-        S.Socket.receives_within) (site_acts S.Socket.sends S.Socket.receives_within W.reads)
+        × DoesQuietly asked.quiet (λ before status after. IsKeptNow (socket_rules S.opens S.closes
+        S.Socket.sends S.Socket.receives S.Socket.receives_within)
+        (site_acts S.Socket.sends S.Socket.receives_within W.reads)
         ⟦<FileOf<F> as Disk>⟧ (image_at F.Start) ⟦<FileOf<G> as Disk>⟧ (image_at G.Start) waits
-        C.tells which
+        C.tells which before after)
         (with_sockets told (setup I.remaining O.contents E.contents machine.old console.old))
-        (setup I.remaining O.contents E.contents machine.new console.new) }
+        result (setup I.remaining O.contents E.contents machine.new console.new) }
 {
     steps_happen::<Batching<SitePoller>, S::Socket, W>();
     ends_whole::<SitePoller>();
@@ -109,7 +111,7 @@ pub fn keep_and_check<
 
 /// The program with the words of `keep --stop`. It opens no socket, and no file but that of the
 /// archive. Where it ends with 0, what they name was on record, and is stopped in the archive of
-/// the closed files; a line is printed for each row of that.
+/// the closed files; a line is printed for each row of that, unless they ask for quiet.
 pub fn stop_until_done<
     S: Tracing,
     F: Start,
@@ -133,8 +135,9 @@ pub fn stop_until_done<
         (setup I.remaining O.contents E.contents machine.new console.new) }
     ensures done { (asked : KeepWords) → AskFor (map string_bytes words.now) (job.Keep asked)
         → asked.stop ≡ true → result ≡ 0
-        → IsAllStopped ⟦<FileOf<F> as Disk>⟧ (image_at F.Start) asked machine.new.files
-        (O.contents console.old.output) (O.contents console.new.output)
+        → (before : Held) × (after : Held) × IsPrinted asked.quiet (O.contents console.old.output)
+        (O.contents console.new.output) before after
+        × IsAllStopped ⟦<FileOf<F> as Disk>⟧ (image_at F.Start) asked machine.new.files before after
         × Keeps (E.contents console.old.errors) (E.contents console.new.errors) }
 {
     run(machine, console, alloc, waits, words)

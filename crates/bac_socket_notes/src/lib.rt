@@ -18,5 +18,5 @@ pub use contents::{Content, Stray};
 pub use laws::{asks_are_below, lost_has_strays, notes_are_of_events, strays_came};
 pub use notes::{Note, Passed};
 pub use ports::HeedingPort;
-pub use silence::push_silence;
+pub use silence::{push_rejected, push_silence};
 pub use sockets::{Heeding, Heeds};

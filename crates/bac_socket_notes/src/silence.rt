@@ -6,8 +6,7 @@ ghost use Rattle.hex.specs.Hex.{encode_lower};
 ghost use Rattle.bac_print.specs.Addresses.{address_text};
 ghost use Rattle.bac_socket_notes.specs.Silence.{answer_text, content_text, counted, counts_text};
 ghost use Rattle.bac_socket_notes.specs.Silence.{full_text, is_unsent, reason_text, silence_text};
-ghost use Rattle.bac_socket_notes.specs.Silence.{stray_text, strays_text, unconfirmed_text};
-ghost use Rattle.bac_socket_notes.specs.Silence.{waited_text};
+ghost use Rattle.bac_socket_notes.specs.Silence.{stray_text, strays_text, unconfirmed_text, waited_text};
 
 use crate::contents::{Content, Stray};
 use crate::notes::Passed;
@@ -66,7 +65,7 @@ fn push_said(text: &mut Vec<u8>, said: &str, address: Address) -> Result<(), All
 }
 
 /// Appends why a router rejected a message to a network.
-fn push_rejected(text: &mut Vec<u8>, why: u8, network: u16) -> Result<(), AllocError>
+pub fn push_rejected(text: &mut Vec<u8>, why: u8, network: u16) -> Result<(), AllocError>
     ensures { OnOk result (text.new.items
         ≡ text.old.items ++ (codes "router: " ++ (reason_text why ++ decimal network))) }
 {

@@ -10,8 +10,8 @@ use Rattle.bac_query.specs.Ahead.{errand}
 use Rattle.bac_query.specs.Fetching.{EndsAs, Fetching, IsFetched, PrintsItems, TellsRun, course, failing}
 use Rattle.bac_query.specs.Flaws.{TellsFlawOf, log_place}
 use Rattle.bac_query.specs.More.{if_caught_up}
-use Rattle.bac_query.specs.declared.layout.Layout.{Layout}
-use Rattle.bac_query.specs.declared.layout.Layout.TheVariants.{Lines, Csv}
+use Rattle.bac_form.specs.declared.form.Form.{Form}
+use Rattle.bac_form.specs.declared.form.Form.TheVariants.{Lines, Csv, Json}
 use Rattle.bac_query.specs.Layouts.{BeginsWith}
 use Rattle.bac_query.specs.Reading.{Answer, printing}
 use Rattle.bac_query.specs.declared.fault.QueryFault.{QueryFault}
@@ -30,7 +30,7 @@ use Rattle.bac_wire.specs.Primitive.{Id}
 use Rattle.bac_command_line.specs.declared.job.Asked.{Asked}
 
 -- what is printed, and how the run ended, in one
-tells : (layout : Layout) (items : List Item) (steps n : ℕ) (ended : Ended) (after : WalkPlace) (fetching : Fetching) (old new : Held) →
+tells : (layout : Form) (items : List Item) (steps n : ℕ) (ended : Ended) (after : WalkPlace) (fetching : Fetching) (old new : Held) →
     PrintsItems layout items fetching old new → EndsAs layout steps (course items n ended after) fetching old new →
     TellsRun layout (λ cause. Unit {0}) steps (course items n ended after) fetching old new
 tells layout items steps n ended after (Ok fetched) old new prints ends = (ends, tt, prints)
@@ -39,7 +39,7 @@ tells layout items steps n ended after (Err Write) old new prints (few, inr (why
 tells layout items steps n ended after (Err Memory) old new prints (why, next, end) = (why, next, end, tt, prints)
 tells layout items steps n ended after (Err (Exchange fault)) old new prints ends = absurd ends
 
-pub run_of : {S P : Type 0} (rules : SocketRules S P) (layout : Layout) (asked : Asked) (walk : WalkPlace) (steps retries failed fails : ℕ)
+pub run_of : {S P : Type 0} (rules : SocketRules S P) (layout : Form) (asked : Asked) (walk : WalkPlace) (steps retries failed fails : ℕ)
     (was : ℕ → List Moment → History → Type 0) (fetching : Fetching) (link left : UdpLink P) (old new : Held) (items : List Item) →
     PrintsItems layout items fetching old new →
     ((n : ℕ) × (ended : Ended) × (after : WalkPlace) × EndsAs layout steps (course items n ended after) fetching old new
@@ -74,18 +74,22 @@ quiet_end asks path retries log next left address why.Memory flaw more said old 
     after_any (of_why address why.Memory flaw) old new (unsaid more old new is says)
 
 -- so it is where a status takes the place of the line
-pub quiet_as : (layout : Layout) (cause : Why) (ended : Ending) (old new : Held) → IfErr ended (λ fault. new ≡ old) →
+pub quiet_as : (layout : Form) (cause : Why) (ended : Ending) (old new : Held) → IfErr ended (λ fault. new ≡ old) →
     IfErr (ended_as layout cause ended) (λ fault. new ≡ old)
 quiet_as Lines cause ended old new is = is
 quiet_as Csv why.CaughtUp ended old new is = is
 quiet_as Csv why.StepLimit ended old new is = tt
 quiet_as Csv (why.Fault fault) ended old new is = is
 quiet_as Csv why.Memory ended old new is = is
+quiet_as Json why.CaughtUp ended old new is = is
+quiet_as Json why.StepLimit ended old new is = tt
+quiet_as Json (why.Fault fault) ended old new is = is
+quiet_as Json why.Memory ended old new is = is
 
 -- ---- what stands before the items
 
 -- it was printed, if it wasn't refused
-pub begun_with : (layout : Layout) (result : Answer) (old new : Held) → ((fault : QueryFault) → result ≡ Err fault → ⊥) → BeginsWith layout result old new →
+pub begun_with : (layout : Form) (result : Answer) (old new : Held) → ((fault : QueryFault) → result ≡ Err fault → ⊥) → BeginsWith layout result old new →
     BeginsWith layout (Ok tt) old new
 begun_with layout (Ok done) old new well begins = begins
 begun_with layout (Err fault) old new well begins = absurd (well fault refl)

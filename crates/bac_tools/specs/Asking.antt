@@ -16,7 +16,7 @@ use Rattle.bac_query.specs.Reading.{Answer, Printing, ReadsOver, next_way, print
 use Rattle.bac_query.specs.Tables.{ListsLogs, client}
 use Rattle.bac_query.specs.Writing.{WritesOver}
 use Rattle.bac_query.specs.declared.fault.QueryFault.{QueryFault}
-use Rattle.bac_query.specs.declared.layout.Layout.{Layout}
+use Rattle.bac_form.specs.declared.form.Form.{Form}
 use Rattle.bac_query.specs.declared.reals.Reals.{Reals}
 use Rattle.bac_tools.specs.Ending.{Ending}
 use Rattle.bac_tools.specs.Faults.{of_query}
@@ -84,7 +84,7 @@ Lists rules asked logs old result new =
 -- ---- bac log
 
 -- the line of a walk's end is printed, whatever it says; what there is to say beside it is a fault
-abbrev pub of_fetching : Layout → List ℕ → Fetching → Ending
+abbrev pub of_fetching : Form → List ℕ → Fetching → Ending
 of_fetching layout address (Ok fetched) = ended_as layout fetched.why (of_why address fetched.why fetched.flaw)
 of_fetching layout address (Err fault) = Err (of_query address fault)
 

@@ -9,9 +9,10 @@ use Rattle.bac_query.specs.declared.search.Search.{Search}
 use Rattle.bac_query.specs.Reading.{Held}
 use Rattle.bac_ports.specs.Sockets.{SocketRules, own_address}
 use Rattle.bac_tools.specs.Ending.{Ending}
-use Rattle.bac_tools.specs.Faults.{of_find}
+use Rattle.bac_tools.specs.Faults.{of_find, unanswered}
 use Rattle.bac_tools.specs.Sockets.{Opens, Outside, Pipes, binding, outside}
 use Rattle.bac_tools.specs.declared.fault.Fault.TheVariants.{List as ListOf}
+use Rattle.bac_tools.specs.declared.fault.Unanswered.{Unanswered}
 use Rattle.bac_command_line.specs.Listing.{Lists, addresses_of}
 use Rattle.bac_command_line.specs.declared.job.Discovery.{Discovery}
 use Rattle.bac_command_line.specs.declared.job.Stations.{Stations}
@@ -28,19 +29,10 @@ limits_of (Some min) max = Some (min, unwrap_or max min)
 abbrev pub search_of : Discovery → Search
 search_of said = record { network = said.dnet; who_is = record { limits = limits_of said.min said.max } }
 
--- done, or a fault of finding devices, of which so many were asked
-abbrev pub of_found : ℕ → Found → Ending
+-- done, or a fault of finding devices, which were asked so
+abbrev pub of_found : Unanswered → Found → Ending
 of_found asked (Ok done) = Ok 0
 of_found asked (Err fault) = Err (of_find asked fault)
-
--- Over this socket, which that leaves so, the request goes to each address by turns, and lines are printed of at most
--- 4096 datagrams that come.
-abbrev pub SearchesOver : {S P : Type 0} → SocketRules S P →
-    Search → List (List ℕ) → Console P → Ending → Console P → Type 0
-SearchesOver rules search addresses old result new =
-    (found : Found)
-    × FindsDevices (port_rules rules.sends rules.receives rules.receives_within) 4096 search addresses old found new
-    × (result ≡ of_found (length addresses) found)
 
 -- what the words ask for: these devices, from this address of ours if they name one, and the socket's receives wait so
 -- many milliseconds
@@ -53,12 +45,22 @@ pub record Inquiry : Type 0 where
 abbrev pub inquiry : Search → Option (List ℕ) → ℕ → Inquiry
 inquiry search local timeout = record { search = search; local = local; timeout = timeout }
 
+-- Over this socket, which that leaves so, the request goes to each address by turns, and lines are printed of at most
+-- 4096 datagrams that come.
+abbrev pub SearchesOver : {S P : Type 0} → SocketRules S P →
+    Inquiry → List (List ℕ) → Console P → Ending → Console P → Type 0
+SearchesOver rules wanted addresses old result new =
+    (found : Found)
+    × FindsDevices (port_rules rules.sends rules.receives rules.receives_within) 4096 wanted.search addresses old found
+    new
+    × (result ≡ of_found (unanswered wanted.local addresses) found)
+
 -- a socket is opened as the words say, over it devices are found at these addresses, and it is closed
 abbrev pub Searches : {S P : Type 0} → SocketRules S P → Inquiry → List (List ℕ) → Outside S → Ending → Outside S
     → Type 0
 Searches rules wanted addresses old result new =
     Opens rules (binding (own_address wanted.local) wanted.timeout) old result new
-    (λ port last. SearchesOver rules wanted.search addresses (console port old.output) result (console last new.output))
+    (λ port last. SearchesOver rules wanted addresses (console port old.output) result (console last new.output))
 
 -- ---- stations that standard input lists
 

@@ -1,6 +1,6 @@
 -- What is told of a script or a configuration that isn't right: the second line, which says what to mend. Words of
 -- lines are called as in docs/PROTOCOL.md.
-use Rattle.std.specs.Prelude.{ℕ, ◌==◌, nat_le, if◌then◌else◌, List, [], ◌∷◌, ◌++◌, codes, decimal, Option, None, Some}
+use Rattle.std.specs.Prelude.{ℕ, ◌==◌, nat_le, Bool, true, false, if◌then◌else◌, List, [], ◌∷◌, ◌++◌, codes, decimal, Option, None, Some}
 use Rattle.bac_objects.specs.declared.build.BuildFault.{BuildFault}
 use Rattle.bac_objects.specs.declared.build.BuildFault.TheVariants as build
 use Rattle.bac_objects.specs.declared.build.Misfit.{Misfit}
@@ -15,6 +15,7 @@ use Rattle.bac_script.specs.declared.script.flaw.LineKind.TheVariants as line
 use Rattle.bac_script.specs.declared.script.flaw.Wanted.{Wanted}
 use Rattle.bac_script.specs.declared.script.flaw.Wanted.TheVariants as wanted
 use Rattle.bac_command_line.specs.declared.listing.ListFault.{ListFault}
+use Rattle.bac_tools.specs.declared.fault.Unanswered.{Unanswered}
 use Rattle.bac_command_line.specs.declared.listing.ListFault.TheVariants as list
 
 -- ---- a bad line
@@ -160,11 +161,15 @@ second_line (Some reason) = 10 ∷ reason_text reason
 
 -- ---- finding devices
 
--- nobody answered, of so many addresses; and who isn't heard at an address of one's own (Annex J.1.2)
-abbrev pub unanswered_text : ℕ → List ℕ
-unanswered_text asked =
-    ((codes "no answer" ++ 10 ∷ []) ++ (codes "addresses asked: " ++ decimal asked))
-    ++ codes "; devices that answer by broadcast are only heard with --local=0.0.0.0:47808"
+-- who isn't heard at another address of one's own (Annex J.1.2)
+abbrev pub unheard_text : Bool → List ℕ
+unheard_text true = []
+unheard_text false = codes "; devices that answer by broadcast are only heard with --local=0.0.0.0:47808"
+
+-- nobody answered, of so many addresses
+abbrev pub unanswered_text : Unanswered → List ℕ
+unanswered_text u =
+    ((codes "no answer" ++ 10 ∷ []) ++ (codes "addresses asked: " ++ decimal u.asked)) ++ unheard_text u.hears_broadcasts
 
 -- a line of a list of addresses is bad, and why
 abbrev pub listed_badly : ℕ → List ℕ → List ℕ

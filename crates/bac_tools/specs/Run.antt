@@ -15,8 +15,6 @@ use Rattle.bac_link.specs.declared.request.Request.TheVariants as request
 use Rattle.bac_ports.specs.Sockets.{SocketRules}
 use Rattle.bac_print.specs.Output.{AppendsPart, Held}
 use Rattle.bac_query.specs.Ahead.{errand}
-use Rattle.bac_query.specs.declared.layout.Layout.{Layout}
-use Rattle.bac_query.specs.declared.layout.Layout.TheVariants.{Lines, Csv}
 use Rattle.bac_query.specs.declared.reals.Reals.{Reals}
 use Rattle.bac_query.specs.declared.reals.Reals.TheVariants.{Octets, Numbers}
 use Rattle.bac_tools.specs.Asking.{Fetches, Lists, Reads, Writes}
@@ -80,11 +78,6 @@ abbrev pub walk_from : ℕ → Option ℕ → (count : ℕ) → WalkPlace
 walk_from instance None count = asking count (walk_from_oldest (trend_log instance))
 walk_from instance (Some number) count = asking count (walk_at (trend_log instance) number)
 
--- as CSV, or in lines
-abbrev pub layout_of : Bool → Layout
-layout_of true = Csv
-layout_of false = Lines
-
 -- REALs and Doubles as numbers, or as their octets
 abbrev pub reals_of : Bool → Reals
 reals_of true = Numbers
@@ -133,7 +126,7 @@ FetchesAsSaid rules said old result new =
     ((fault : Fault) × (IsNoWalk said.instance said.from said.count fault × (result ≡ Err fault))
     × Keeps old.output new.output × (new.sockets ≡ old.sockets))
     ⊎ Fetches rules said.asked
-    (errand (layout_of said.csv) (walk_from said.instance said.from said.count) said.steps) old result new
+    (errand said.form (walk_from said.instance said.from said.count) said.steps) old result new
 
 -- bac logs; of logs that there can't be nothing is asked
 abbrev pub ListsAsSaid : {S P : Type 0} → SocketRules S P → LogListing → Outside S → Ending → Outside S → Type 0

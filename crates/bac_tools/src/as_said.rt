@@ -3,7 +3,7 @@
 ghost use Rattle.std.specs.Prelude.{◌≡◌, map, IfOk, IfErr};
 ghost use Rattle.bac_ports.specs.Sockets.{socket_rules};
 ghost use Rattle.bac_tools.specs.Run.{FetchesAsSaid, IsNoLogs, IsNoWalk, IsOutside, ListsAsSaid};
-ghost use Rattle.bac_tools.specs.Run.{ReadsAsSaid, WritesAsSaid, layout_of, priority_of, reals_of};
+ghost use Rattle.bac_tools.specs.Run.{ReadsAsSaid, WritesAsSaid, priority_of, reals_of};
 ghost use Rattle.bac_tools.specs.Run.{trend_log, walk_from};
 ghost use Rattle.bac_tools.specs.Sockets.{outlets, outside};
 
@@ -14,7 +14,7 @@ use bac_apdu::{ReadProperty, WriteProperty};
 use bac_command_line::{LogListing, LogReading, PropertyReading, PropertyWriting, Word};
 use bac_link::Request;
 use bac_ports::Sockets;
-use bac_query::{Layout, Reals};
+use bac_query::Reals;
 use bac_walk::{Count, Walk};
 use bac_wire::ObjectId;
 use std::alloc::Global;
@@ -75,13 +75,6 @@ fn priority(number: u8) -> Option<u8>
     ensures { result ≡ priority_of number }
 {
     if number == 0 { None } else { Some(number) }
-}
-
-/// How records are printed.
-fn layout(csv: bool) -> Layout
-    ensures { result ≡ layout_of csv }
-{
-    if csv { Layout::Csv } else { Layout::Lines }
 }
 
 /// How REALs and Doubles are shown.
@@ -171,7 +164,7 @@ pub(crate) fn fetch_as_said<S: Sockets, O: Write, E: Write>(
     let asking = LogAsking {
         walk: walk(said.instance, said.from, said.count)?,
         steps: said.steps,
-        layout: layout(said.csv),
+        layout: said.form,
     };
     log(sockets, alloc, said.asked, asking, output, errors)
 }

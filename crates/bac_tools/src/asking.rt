@@ -13,11 +13,10 @@ use crate::fault::Fault;
 use crate::log_end::{ended_as, ending_of, say_more};
 use bac_apdu::{ReadProperty, Route};
 use bac_command_line::{Asked, Given};
+use bac_form::Form;
 use bac_link::{Request, Transactions};
 use bac_ports::{OpenFault, Sockets, UdpLink};
-use bac_query::{
-    Layout, Reals, begin_layout, fetch_log_ahead, list_logs, read_property, write_property,
-};
+use bac_query::{Reals, begin_layout, fetch_log_ahead, list_logs, read_property, write_property};
 use bac_walk::Walk;
 use bac_wire::{Address, ObjectId, Value};
 use std::alloc::Global;
@@ -127,7 +126,7 @@ pub(crate) fn wp<S: Sockets, O: Write>(
 pub(crate) struct LogAsking {
     pub walk: Walk,
     pub steps: u32,
-    pub layout: Layout,
+    pub layout: Form,
 }
 
 /// Walks a log, and prints what it brings. If it is caught up, and yet the last reply with records

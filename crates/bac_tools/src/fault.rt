@@ -13,6 +13,15 @@ use bac_script::{Refused, ReplayFault};
 use bac_walk::{ReplyFlaw, WalkFault, Why};
 use bac_wire::Address;
 
+/// Whom no device answered.
+#[derive(Clone, Copy)]
+pub struct Unanswered {
+    /// How many addresses were asked.
+    pub asked: usize,
+    /// The own address is the one at which broadcasts are heard.
+    pub hears_broadcasts: bool,
+}
+
 /// Why a tool ends without what it was asked for.
 #[derive(Clone, Copy)]
 pub enum Fault {
@@ -35,8 +44,8 @@ pub enum Fault {
     Socket,
     /// No request could be sent to this address.
     Refused(Address),
-    /// No device announced itself, of so many addresses that were asked.
-    NoAnswer(usize),
+    /// No device announced itself.
+    NoAnswer(Unanswered),
     /// The addresses to ask couldn't be read from the input.
     List(ListFault),
     /// The answer from this address didn't come, or isn't the ACK that belongs to the request.

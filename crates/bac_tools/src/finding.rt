@@ -1,13 +1,13 @@
 //! The tool that finds devices.
 
 ghost use Rattle.std.specs.Prelude.{◌≡◌};
-ghost use Rattle.bac_tools.specs.Faults.{of_find};
+ghost use Rattle.bac_tools.specs.Faults.{hears_broadcasts, of_find, unanswered};
 ghost use Rattle.bac_tools.specs.Finding.{Finds, Searches, inquiry, limits_of, search_of};
 ghost use Rattle.bac_ports.specs.Sockets.{socket_rules};
 ghost use Rattle.bac_tools.specs.Sockets.{outside, pipes};
 
 use crate::asking::ANY;
-use crate::fault::Fault;
+use crate::fault::{Fault, Unanswered};
 use crate::listing::listed_addresses;
 use bac_apdu::WhoIs;
 use bac_command_line::{Addresses, Discovery, Stations};
@@ -16,6 +16,9 @@ use bac_query::{FindFault, Search, find_devices};
 use bac_wire::Address;
 use std::alloc::Global;
 use std::io::{Read, Write};
+
+/// The address at which broadcasts are heard (Annex J.1.2).
+const EVERY: Address = [0, 0, 0, 0, 0xba, 0xc0];
 
 /// The limits of the instances that are to answer; the lowest alone is both.
 fn limits(min: Option<u32>, max: Option<u32>) -> Option<(u32, u32)>
@@ -37,8 +40,28 @@ fn search_of(said: &Discovery) -> Search
     }
 }
 
-/// The fault of a tool that asked so many addresses and found no device.
-fn of_find(asked: usize, fault: FindFault) -> Fault
+/// Whether broadcasts come to this address of ours.
+fn hears_broadcasts(local: Option<Address>) -> bool
+    ensures { result ≡ hears_broadcasts local }
+{
+    match local {
+        Some(local) => local == EVERY,
+        None => false,
+    }
+}
+
+/// Nobody answered, of these addresses.
+fn unanswered(local: Option<Address>, addresses: &[Address]) -> Unanswered
+    ensures { result ≡ unanswered local addresses.now }
+{
+    Unanswered {
+        asked: addresses.len(),
+        hears_broadcasts: hears_broadcasts(local),
+    }
+}
+
+/// The fault of a tool that asked so, and found no device.
+fn of_find(asked: Unanswered, fault: FindFault) -> Fault
     ensures { result ≡ of_find asked fault }
 {
     match fault {
@@ -75,7 +98,7 @@ fn search_for<S: Sockets, O: Write>(
     sockets.close(port);
     match found {
         Ok(()) => Ok(0),
-        Err(fault) => Err(of_find(asked.len(), fault)),
+        Err(fault) => Err(of_find(unanswered(local, asked), fault)),
     }
 }
 

@@ -1,12 +1,13 @@
 //! What the end of a log's walk comes to, beside its line.
 
 ghost use Rattle.std.specs.Prelude.{◌≡◌};
+ghost use Rattle.bac_form.specs.declared.form.Form.TheVariants.{Csv};
 ghost use Rattle.bac_tools.specs.Asking.{SaysMore};
 ghost use Rattle.bac_tools.specs.LogEnds.{ended_as, of_cause, of_why};
 
 use crate::fault::{Fault, walk_status};
 use crate::telling::say;
-use bac_query::Layout;
+use bac_form::Form;
 use bac_walk::{ReplyFlaw, WalkFault, Why};
 use bac_wire::Address;
 use std::io::Write;
@@ -36,16 +37,23 @@ pub(crate) fn ending_of(address: Address, why: Why, flaw: Option<ReplyFlaw>) -> 
     }
 }
 
-/// The same where rows of CSV are printed, which have no line of the end, or lines.
-pub(crate) fn ended_as(layout: Layout, why: Why, ended: Result<u8, Fault>) -> Result<u8, Fault>
+/// What an end without a line of its own comes to.
+fn unsaid_end(why: Why, ended: Result<u8, Fault>) -> Result<u8, Fault>
+    ensures { result ≡ ended_as Csv why ended }
+{
+    match why {
+        Why::StepLimit => Ok(MAY_BE_MORE),
+        Why::CaughtUp | Why::Fault(_) | Why::Memory => ended,
+    }
+}
+
+/// The same in this form: rows of CSV and lines of JSON have no line of the end.
+pub(crate) fn ended_as(layout: Form, why: Why, ended: Result<u8, Fault>) -> Result<u8, Fault>
     ensures { result ≡ ended_as layout why ended }
 {
     match layout {
-        Layout::Lines => ended,
-        Layout::Csv => match why {
-            Why::StepLimit => Ok(MAY_BE_MORE),
-            Why::CaughtUp | Why::Fault(_) | Why::Memory => ended,
-        },
+        Form::Lines => ended,
+        Form::Csv | Form::Json => unsaid_end(why, ended),
     }
 }
 

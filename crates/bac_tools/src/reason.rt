@@ -5,8 +5,10 @@ ghost use Rattle.bac_tools.specs.Reasons.{blanks_text, default_text, first_word,
 ghost use Rattle.bac_tools.specs.Reasons.{flaw_text, form_text, in_line, line_text, list_text};
 ghost use Rattle.bac_tools.specs.Reasons.{listed_badly, misfit_text, namesake_text, number_text};
 ghost use Rattle.bac_tools.specs.Reasons.{place_text, reason_text, second_line, some_line};
-ghost use Rattle.bac_tools.specs.Reasons.{unanswered_text, unbuilt_line, wanted_text, word_flaw};
+ghost use Rattle.bac_tools.specs.Reasons.{unanswered_text, unbuilt_line, unheard_text};
+ghost use Rattle.bac_tools.specs.Reasons.{wanted_text, word_flaw};
 
+use crate::fault::Unanswered;
 use bac_command_line::ListFault;
 use bac_device::{BuildFault, LineId, Misfit};
 use bac_print::push_number;
@@ -309,15 +311,25 @@ pub(crate) fn push_second_line(text: &mut Vec<u8>, reason: Option<Reason>) -> Re
     push_reason(text, reason)
 }
 
-/// Appends that nobody answered, of so many addresses.
-pub(crate) fn push_unanswered(text: &mut Vec<u8>, asked: usize) -> Result<(), AllocError>
-    ensures { OnOk result (text.new.items ≡ text.old.items ++ unanswered_text asked) }
+/// Appends who isn't heard at another address of one's own.
+fn push_unheard(text: &mut Vec<u8>, hears_broadcasts: bool) -> Result<(), AllocError>
+    ensures { OnOk result (text.new.items ≡ text.old.items ++ unheard_text hears_broadcasts) }
 {
-    text.extend_from_slice(b"no answer\n")?;
-    push_numbered(text, "addresses asked: ", asked)?;
+    if hears_broadcasts {
+        return Ok(());
+    }
     text.extend_from_slice(
         b"; devices that answer by broadcast are only heard with --local=0.0.0.0:47808",
     )
+}
+
+/// Appends that nobody answered.
+pub(crate) fn push_unanswered(text: &mut Vec<u8>, asked: Unanswered) -> Result<(), AllocError>
+    ensures { OnOk result (text.new.items ≡ text.old.items ++ unanswered_text asked) }
+{
+    text.extend_from_slice(b"no answer\n")?;
+    push_numbered(text, "addresses asked: ", asked.asked)?;
+    push_unheard(text, asked.hears_broadcasts)
 }
 
 /// Appends that a line of a list of addresses is bad, and why.

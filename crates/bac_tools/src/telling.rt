@@ -32,7 +32,9 @@ fn range_of<'a>(word: Word) -> &'a str
     match word {
         Word::Tool => "replay, wi, rp, wp, log, logs, keep, kept, check or serve",
         Word::File => "the name of a file",
-        Word::Csv | Word::Numbers | Word::Trace => "an option without a value",
+        Word::Csv | Word::Numbers | Word::Quiet | Word::Trace => "an option without a value",
+        Word::Json => "without --csv",
+        Word::Wait => "a number from 0 to 3600",
         Word::Stop => "an option without a value, beside one ADDRESS",
         Word::Last => "an option without a value, beside neither --since nor --until",
         Word::Address =>

@@ -15,7 +15,7 @@ use Rattle.bac_query.specs.Ahead.{FetchesAhead, IsLeftAhead, errand}
 use Rattle.bac_query.specs.Fetching.{Fetching, PrintsItems}
 use Rattle.bac_query.specs.Reading.{Held, printing}
 use Rattle.bac_query.specs.declared.fetching.Fetched.{Fetched}
-use Rattle.bac_query.specs.declared.layout.Layout.TheVariants.{Lines}
+use Rattle.bac_form.specs.declared.form.Form.TheVariants.{Lines}
 use Rattle.bac_query.specs.Ends.{end_line}
 use Rattle.bac_query.specs.Items.{items_text}
 use Rattle.bac_query.proofs.RunsAhead.{tells_items}

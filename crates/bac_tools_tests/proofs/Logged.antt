@@ -31,7 +31,7 @@ use Rattle.bac_script.specs.declared.replay.fault.ReplayFault.{ReplayFault}
 use Rattle.bac_script.specs.declared.replay.fault.ReplayFault.TheVariants as replay
 use Rattle.bac_tools.specs.Asking.{of_fetching}
 use Rattle.bac_tools.specs.Run.{IsToldAfter, Runs, walk_from}
-use Rattle.bac_query.specs.declared.layout.Layout.TheVariants.{Lines}
+use Rattle.bac_form.specs.declared.form.Form.TheVariants.{Lines}
 use Rattle.bac_tools_tests.proofs.Plain.{in_lines, plain}
 use Rattle.bac_ports.specs.Sockets.{SocketRules, UsesSocket, link_over, own_address, socket_asks}
 use Rattle.bac_tools.specs.Status.{exchange_status, exit_status, list_status, script_status, walk_status}

@@ -35,7 +35,7 @@ use Rattle.bac_tools.specs.Asking.{Reads, Writes, of_answer, of_fetching}
 use Rattle.bac_tools.specs.Ending.{Ending}
 use Rattle.bac_tools.specs.Run.{Ends, Runs, Works, question, reals_of, walk_from}
 use Rattle.bac_tools.specs.Serving.{IsConfigured, IsServedOver, Service, ServedPort, refused_with, served_port, service, wait_of}
-use Rattle.bac_query.specs.declared.layout.Layout.TheVariants.{Lines}
+use Rattle.bac_form.specs.declared.form.Form.TheVariants.{Lines}
 use Rattle.bac_query.specs.declared.reals.Reals.{Reals}
 use Rattle.bac_tools_tests.proofs.Plain.{in_lines, plain}
 use Rattle.bac_ports.specs.Sockets.{SocketRules, UsesSocket, link_over, own_address, socket_asks}

@@ -1,5 +1,5 @@
 -- Where no datagram comes no device is found.
-use Rattle.std.proofs.Common.{◌≡◌, ◌∙◌, ℕ, Bool, true, false, List, [], ◌∷◌, Option, Some, None, Ok, Err, inl, inr, refl, sym, subst, append-nil, length}
+use Rattle.std.proofs.Common.{◌≡◌, ◌∙◌, ℕ, Bool, true, false, List, [], ◌∷◌, Option, Some, None, Ok, Err, inl, inr, refl, sym, subst, append-nil}
 use Rattle.std.specs.Io.KnownBytes.{Appends, Keeps}
 use Rattle.bac_socket_notes.specs.Notes.{nothing as never_asked}
 use Rattle.bac_socket_notes.specs.declared.notes.Passed.{Passed}
@@ -12,7 +12,9 @@ use Rattle.bac_query.specs.declared.find_fault.FindFault.{FindFault}
 use Rattle.bac_query.specs.declared.find_fault.FindFault.TheVariants as find
 use Rattle.bac_query.specs.declared.search.Search.{Search}
 use Rattle.bac_ports.specs.declared.port.Heard.{Heard}
+use Rattle.bac_tools.specs.Faults.{unanswered}
 use Rattle.bac_tools.specs.Finding.{of_found}
+use Rattle.bac_tools.specs.declared.fault.Unanswered.{Unanswered}
 use Rattle.bac_tools.specs.Run.{Runs}
 use Rattle.bac_ports.specs.Sockets.{SocketRules}
 use Rattle.bac_tools.specs.Streams.{Streams}
@@ -78,7 +80,7 @@ unfound rules silent still limit search addresses old found new (Err why, then, 
       subst K (sym holds) (failed (came_in turns) old.held why then.held none comes.2),
     )
 
-found_end : (asked : ℕ) (found : Found) (done : ℕ) → Ok done ≡ of_found asked found → (found ≡ Ok tt → ⊥) → ⊥
+found_end : (asked : Unanswered) (found : Found) (done : ℕ) → Ok done ≡ of_found asked found → (found ≡ Ok tt → ⊥) → ⊥
 found_end asked (Ok tt) done is never = never refl
 found_end asked (Err why) done is never = cc
 
@@ -97,4 +99,4 @@ no_wi rules passes tells said addresses old new status (inr (Err why, told, ((ke
     (λ none. not_told (passes new.sockets) why told new.errors status ends none, both.1)
 no_wi rules passes tells said addresses old new status (inr (Ok done, told, ((kept, (inr (port, between, last, opens, (found, finds, is), closes))), quiet), ends)) silent still =
     let both = unfound (port_rules rules.sends rules.receives rules.receives_within) silent still 4096 _ addresses _ found _ finds in
-    absurd (found_end (length addresses) found done is both.0)
+    absurd (found_end (unanswered said.local addresses) found done is both.0)

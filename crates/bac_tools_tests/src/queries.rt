@@ -2,9 +2,10 @@
 //! in examples/check/*.talk, and writes that fail are in faults.py.
 
 use crate::memory_port::{Coming, MemoryPort};
+use bac_form::Form;
 use bac_link::Transactions;
 use bac_ports::{Port, UdpLink};
-use bac_query::{Layout, fetch_log_ahead};
+use bac_query::fetch_log_ahead;
 use bac_walk::{Walk, Why};
 use bac_wire::{Address, ObjectId};
 use std::alloc::Global;
@@ -69,7 +70,7 @@ fn fetch<P: Port + Drop>(alloc: Global, port: P, out: &mut impl Write) -> Option
     let walk = from_the_first()?;
     let mut link = UdpLink::new(port, DEVICE);
     let mut transactions = Transactions::new(0);
-    let layout = Layout::Lines;
+    let layout = Form::Lines;
     match fetch_log_ahead(alloc, &mut link, &mut transactions, walk, 10, layout, out) {
         Ok(fetched) => Some((fetched.why, fetched.next, fetched.said_more)),
         Err(_) => None,

@@ -11,7 +11,7 @@ ghost use Rattle.bac_link.specs.Requests.{next_invoke, request_octets, IsSendabl
 ghost use Rattle.bac_link.specs.declared.item.Item.{Item};
 ghost use Rattle.bac_query.specs.Ahead.{port_asks};
 ghost use Rattle.bac_query.specs.Fetching.{PrintsItems};
-ghost use Rattle.bac_query.specs.declared.layout.Layout.TheVariants.{Lines};
+ghost use Rattle.bac_form.specs.declared.form.Form.TheVariants.{Lines};
 ghost use Rattle.bac_query.specs.Ends.{end_line};
 ghost use Rattle.bac_query.specs.Items.{items_text};
 ghost use Rattle.bac_link.specs.Moments.{NeverGoesBack};
@@ -22,9 +22,10 @@ ghost use Rattle.bac_walk.specs.Came.{Came, answers_of};
 ghost use Rattle.bac_walk.specs.Collects.{start_of};
 ghost use Rattle.bac_link.specs.Moments.{AreInWindow};
 
+use bac_form::Form;
 use bac_link::{ExchangeFault, LogLink, Request, Transactions};
 use bac_ports::{Port, UdpLink};
-use bac_query::{Fetched, Layout, QueryFault, fetch_log_ahead, write_property};
+use bac_query::{Fetched, QueryFault, fetch_log_ahead, write_property};
 use bac_walk::{Walk, Why, honest_is_delivered, links_are_honest, transacted_is_brought};
 use bac_wire::ObjectId;
 use std::alloc::Global;
@@ -60,7 +61,7 @@ pub fn fetched_from_the_oldest<P: Port, W: Write>(
         &mut transactions,
         walk,
         steps,
-        Layout::Lines,
+        Form::Lines,
         out,
     ))
 }
@@ -117,7 +118,7 @@ pub fn printed_by_the_standard<P: Port, W: Write>(
         &mut transactions,
         walk,
         steps,
-        Layout::Lines,
+        Form::Lines,
         out,
     ))
 }

@@ -1,8 +1,9 @@
 //! What a user of the program needs, proved from its public contract alone.
 
-ghost use Rattle.std.specs.Prelude.{◌≡◌, ◌⊎◌, ℕ, false, map, Some};
+ghost use Rattle.std.specs.Prelude.{◌≡◌, ◌⊎◌, ℕ, map, Some};
 ghost use Rattle.std.specs.Io.KnownBytes.{Keeps};
 ghost use Rattle.std.specs.String.{string_bytes};
+ghost use Rattle.bac_form.specs.declared.form.Form.TheVariants.{Lines};
 ghost use Rattle.bac_tools.specs.Run.{AskFor, walk_from};
 ghost use Rattle.bac_ports.specs.Sockets.{UsesSocket, own_address, socket_rules};
 ghost use Rattle.bac_query.specs.Finding.{console};
@@ -27,7 +28,7 @@ pub fn logged<S: Heeds, I: Read, O: Write, E: Write, C: Clock>(
     errors: &mut E,
     clock: &mut C,
 ) -> u8
-    ensures { (said : AnyLogReading) → said.csv ≡ false → AskFor (map string_bytes words.now)
+    ensures { (said : AnyLogReading) → said.form ≡ Lines → AskFor (map string_bytes words.now)
         (Log said) → result ≡ 0 → UsesSocket
         (socket_rules S.opens S.closes S.Socket.sends S.Socket.receives S.Socket.receives_within)
         (own_address said.asked.local) said.asked.timeout sockets.old
@@ -49,7 +50,7 @@ pub fn logged_at_rest<S: Heeds, I: Read, O: Write, E: Write, C: Clock>(
     errors: &mut E,
     clock: &mut C,
 ) -> u8
-    ensures { (said : AnyLogReading) (number : ℕ) → said.csv ≡ false → said.from ≡ Some number
+    ensures { (said : AnyLogReading) (number : ℕ) → said.form ≡ Lines → said.from ≡ Some number
         → AskFor (map string_bytes words.now) (Log said) → result ≡ 0 → UsesSocket
         (socket_rules S.opens S.closes S.Socket.sends S.Socket.receives S.Socket.receives_within)
         (own_address said.asked.local) said.asked.timeout sockets.old
@@ -72,7 +73,7 @@ pub fn bad_reply_explained<S: Heeds, I: Read, O: Write, E: Write, C: Clock>(
     errors: &mut E,
     clock: &mut C,
 ) -> u8
-    ensures { (said : AnyLogReading) → said.csv ≡ false
+    ensures { (said : AnyLogReading) → said.form ≡ Lines
         → AskFor (map string_bytes words.now) (Log said)
         → result ≡ 4 → UsesSocket (socket_rules S.opens S.closes S.Socket.sends S.Socket.receives
         S.Socket.receives_within) (own_address said.asked.local) said.asked.timeout sockets.old
@@ -95,7 +96,7 @@ pub fn printed_in_order<S: Heeds, I: Read, O: Write, E: Write, C: Clock>(
     errors: &mut E,
     clock: &mut C,
 ) -> u8
-    ensures { (said : AnyLogReading) → said.csv ≡ false
+    ensures { (said : AnyLogReading) → said.form ≡ Lines
         → AskFor (map string_bytes words.now) (Log said)
         → Keeps (O.contents output.old) (O.contents output.new)
         ⊎ UsesSocket (socket_rules S.opens S.closes S.Socket.sends S.Socket.receives
@@ -118,7 +119,7 @@ pub fn printed_until_refused<S: Heeds, I: Read, E: Write, C: Clock>(
     errors: &mut E,
     clock: &mut C,
 ) -> u8
-    ensures { (said : AnyLogReading) → said.csv ≡ false
+    ensures { (said : AnyLogReading) → said.form ≡ Lines
         → AskFor (map string_bytes words.now) (Log said)
         → (output.new.text.items ≡ output.old.text.items)
         ⊎ UsesSocket (socket_rules S.opens S.closes S.Socket.sends S.Socket.receives

@@ -6,6 +6,7 @@ ghost use Rattle.std.specs.Io.KnownBytes.{Keeps};
 ghost use Rattle.std.specs.String.{string_bytes};
 ghost use Rattle.bac_print.specs.Output.{AppendsPart};
 ghost use Rattle.bac_query.specs.Ends.{end_line};
+ghost use Rattle.bac_form.specs.declared.form.Form.TheVariants.{Lines};
 ghost use Rattle.bac_tools.specs.Run.{AskFor};
 ghost use Rattle.bac_ports.specs.Sockets.{socket_rules};
 ghost use Rattle.bac_tools_tests.specs.Silence.{IsSilent, IsSilentWithin, LostWasAsked};
@@ -14,8 +15,8 @@ ghost use Rattle.bac_walk.specs.declared.outcome.Why.{Why as AnyWhy};
 ghost use Rattle.bac_command_line.specs.declared.job.Discovery.{Discovery as AnyDiscovery};
 ghost use Rattle.bac_command_line.specs.declared.job.Job.TheVariants.{Log, Rp, Wi, Wp};
 ghost use Rattle.bac_command_line.specs.declared.job.LogReading.{LogReading as AnyLogReading};
-ghost use Rattle.bac_command_line.specs.declared.job.PropertyReading.{PropertyReading as AReading};
-ghost use Rattle.bac_command_line.specs.declared.job.PropertyWriting.{PropertyWriting as AWriting};
+ghost use Rattle.bac_command_line.specs.declared.job.PropertyReading.{PropertyReading as AnyReading};
+ghost use Rattle.bac_command_line.specs.declared.job.PropertyWriting.{PropertyWriting as AnyWriting};
 ghost use Rattle.bac_command_line.specs.declared.job.Stations.TheVariants.{Listed};
 
 use bac_tools::{Clock, Heeds, Sockets, run};
@@ -34,13 +35,13 @@ pub fn nothing_made_up<S: Heeds, I: Read, O: Write, E: Write, C: Clock>(
     errors: &mut E,
     clock: &mut C,
 ) -> u8
-    ensures rp { (said : AReading) → AskFor (map string_bytes words.now) (Rp said)
+    ensures rp { (said : AnyReading) → AskFor (map string_bytes words.now) (Rp said)
         → IsSilent S.Socket.receives
         → (result ≡ 0 → ⊥) × Keeps (O.contents output.old) (O.contents output.new) }
-    ensures wp { (said : AWriting) → AskFor (map string_bytes words.now) (Wp said)
+    ensures wp { (said : AnyWriting) → AskFor (map string_bytes words.now) (Wp said)
         → IsSilent S.Socket.receives
         → (result ≡ 0 → ⊥) × Keeps (O.contents output.old) (O.contents output.new) }
-    ensures log { (said : AnyLogReading) → said.csv ≡ false
+    ensures log { (said : AnyLogReading) → said.form ≡ Lines
         → AskFor (map string_bytes words.now) (Log said)
         → IsSilent S.Socket.receives → (0 < said.steps → result ≡ 0 → ⊥)
         × ((why : AnyWhy) × (next : ℕ)

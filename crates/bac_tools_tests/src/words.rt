@@ -74,7 +74,7 @@ fn asks_devices_by_default(rt: HostRuntime) {
                 "bac log 10.0.0.1 1 oldest",
                 "Log(LogReading { asked: Asked { address: [10, 0, 0, 1, 186, 192], local: None, \
                  timeout: 3000, retries: 3, route: None }, instance: 1, from: None, steps: 1000, \
-                 count: 100, csv: false, trace: false })",
+                 count: 100, form: Lines, trace: false })",
             ),
         ],
     );
@@ -89,19 +89,19 @@ fn keeps_and_serves_by_default(rt: HostRuntime) {
             (
                 "bac keep a.db",
                 "Keep(Keep { file: Name { text: \"a.db\" }, groups: Groups { list: [] }, \
-                 stop: false, part: 32, at_once: 64, trace: false, \
-                 options: KeepOptions { steps: None, count: None, timeout: None, local: None, \
-                 retries: None, dnet: None, dadr: None } })",
+                 stop: false, part: 32, at_once: 64, wait: 10, quiet: false, \
+                 trace: false, options: KeepOptions { steps: None, count: None, timeout: None, \
+                 local: None, retries: None, dnet: None, dadr: None } })",
             ),
             (
                 "bac kept a.db",
                 "Kept(Kept { file: Name { text: \"a.db\" }, address: None, instance: None, \
                  dnet: None, dadr: None, extent: Dated(Period { since: None, until: None }), \
-                 csv: false })",
+                 form: Lines, wait: 10 })",
             ),
             (
                 "bac check a.db",
-                "Check(Check { file: Name { text: \"a.db\" } })",
+                "Check(Check { file: Name { text: \"a.db\" }, wait: 10, quiet: false })",
             ),
             (
                 "bac serve 10.0.0.1",

@@ -42,9 +42,9 @@ returns-in_err-second-clause-crash g c has =
 
 pub returns-in_err-first-clause-cause : goal.returns-in_err-first-clause-cause
 returns-in_err-first-clause-cause g c clean has =
-    because c.from_residual.result c.in_err-first.field-0.0 _ (search rules) (c.args.one, c.args.conn.now, inl refl, c.in_err-first.ensures.cause clean)
+    because c.from_residual.result c.in_err-first.field-0.0 _ (search rules) (inl (c.args.conn.now, inl refl, c.in_err-first.ensures.cause clean))
 
 pub returns-in_err-second-clause-cause : goal.returns-in_err-second-clause-cause
 returns-in_err-second-clause-cause g c clean has =
     let same = c.in_ok-first.ensures.same (c.rows_of-2.ensures.clean clean) has in
-    because c.from_residual-in_err-second.result c.in_err-second.field-0.0 _ (search rules) (c.args.two, c.rows_of.new.conn, inr same, c.in_err-second.ensures.cause clean)
+    because c.from_residual-in_err-second.result c.in_err-second.field-0.0 _ (search rules) (inr (c.rows_of.new.conn, inr same, c.in_err-second.ensures.cause clean))

@@ -3,8 +3,8 @@ use Rattle.sqlite.specs.Effect.{Database}
 use Rattle.sqlite.specs.Held.{state}
 use Rattle.sqlite.proofs.Callers.{unchanged_then}
 use Rattle.bac_archive.specs.Ask.{IsAnswer}
-use Rattle.bac_archive.specs.declared.asking.Question.TheVariants.{Logs, Beginnings}
-use Rattle.bac_archive.proofs.AskLemmas.{crash_then, has_still, left_then, as_was_behind}
+use Rattle.bac_archive.specs.declared.asking.Question.TheVariants.{Archive, Devices, Logs, Beginnings}
+use Rattle.bac_archive.proofs.AskLemmas.{answer_behind, crash_then, has_still, left_then, one_of_two}
 use Rattle.bac_archive.proofs.RowsLemmas.{because}
 use Rattle.bac_archive.proofs.asking.tables_of.Goals as goal
 
@@ -61,4 +61,9 @@ returns-in_err-second-clause-cause g c clean =
     let has = c.requires (c.rows_of_two.ensures.clean early) in
     let same = c.in_ok-first.ensures.same early has in
     let why = c.in_err-second.ensures.cause clean (has_still (state g.S.Store c.args.conn.now) (state g.S.Store c.rows_of_two.new.conn) same has) in
-    because c.from_residual-in_err-second.result c.in_err-second.field-0.0 _ (search rules) (why.0, why.1, as_was_behind g.S.Store c.args.conn.now c.rows_of_two.new.conn why.1 same why.2, why.3)
+    because c.from_residual-in_err-second.result c.in_err-second.field-0.0 _ (search rules) (answer_behind g.S.Store c.args.conn.now c.rows_of_two.new.conn c.rows_of_two-2.new.conn c.in_err-second.field-0.0 same (one_of_two g.S.Store c.rows_of_two.new.conn c.rows_of_two-2.new.conn Logs Beginnings c.in_err-second.field-0.0 why))
+
+pub returns-in_err-first-clause-cause : goal.returns-in_err-first-clause-cause
+returns-in_err-first-clause-cause g c clean =
+    let has = c.requires (c.rows_of_two.ensures.clean clean) in
+    because c.from_residual.result c.in_err-first.field-0.0 _ (search rules) (one_of_two g.S.Store c.args.conn.now c.rows_of_two.new.conn Archive Devices c.in_err-first.field-0.0 (c.in_err-first.ensures.cause clean has))

@@ -3,7 +3,7 @@ use Rattle.bac_archive.specs.Known.{AreRowsOf}
 use Rattle.bac_archive.specs.Put.{beginning_columns, device_columns, log_columns}
 use Rattle.bac_archive.specs.declared.asking.Question.TheVariants.{Beginnings, Devices, Logs}
 use Rattle.bac_archive.proofs.KnownLemmas.{rising_rows, turned_rows}
-use Rattle.bac_archive.proofs.ReadLemmas.{unread_row}
+use Rattle.bac_archive.proofs.ReadLemmas.{unread_in}
 use Rattle.bac_archive.proofs.RowsLemmas.{because}
 use Rattle.bac_archive.proofs.known.known_of.Goals as goal
 
@@ -19,12 +19,12 @@ returns-clause-known c trees are =
 
 pub returns-in_err-devices-clause-cause : goal.returns-in_err-devices-clause-cause
 returns-in_err-devices-clause-cause c trees are =
-    because c.from_residual.result c.in_err-devices.field-0.0 _ (search rules) (unread_row Devices trees c.args.devices.now c.in_err-devices.field-0.0 are.0 c.in_err-devices.ensures.cause)
+    because c.from_residual.result c.in_err-devices.field-0.0 _ (search rules) (Devices, tt, unread_in Devices trees c.args.devices.now c.in_err-devices.field-0.0 are.0 c.in_err-devices.ensures.cause)
 
 pub returns-in_err-logs-clause-cause : goal.returns-in_err-logs-clause-cause
 returns-in_err-logs-clause-cause c trees are =
-    because c.from_residual-in_err-logs.result c.in_err-logs.field-0.0 _ (search rules) (unread_row Logs trees c.args.logs.now c.in_err-logs.field-0.0 are.1 c.in_err-logs.ensures.cause)
+    because c.from_residual-in_err-logs.result c.in_err-logs.field-0.0 _ (search rules) (Logs, tt, unread_in Logs trees c.args.logs.now c.in_err-logs.field-0.0 are.1 c.in_err-logs.ensures.cause)
 
 pub returns-in_err-beginnings-clause-cause : goal.returns-in_err-beginnings-clause-cause
 returns-in_err-beginnings-clause-cause c trees are =
-    because c.from_residual-in_err-beginnings.result c.in_err-beginnings.field-0.0 _ (search rules) (unread_row Beginnings trees c.args.beginnings.now c.in_err-beginnings.field-0.0 are.2 c.in_err-beginnings.ensures.cause)
+    because c.from_residual-in_err-beginnings.result c.in_err-beginnings.field-0.0 _ (search rules) (Beginnings, tt, unread_in Beginnings trees c.args.beginnings.now c.in_err-beginnings.field-0.0 are.2 c.in_err-beginnings.ensures.cause)

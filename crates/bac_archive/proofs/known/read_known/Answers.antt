@@ -6,6 +6,7 @@ use Rattle.bac_archive.specs.Ask.{IsAnswer}
 use Rattle.bac_archive.specs.Known.{AreAnswersTo, FailsToKnow}
 use Rattle.bac_archive.specs.declared.asking.Question.TheVariants.{Beginnings}
 use Rattle.bac_archive.proofs.AskLemmas.{crash_then, has_still, left_then, on_ok}
+use Rattle.bac_archive.proofs.KnownLemmas.{known_of_two}
 use Rattle.bac_archive.proofs.RowsLemmas.{because, if_err}
 use Rattle.bac_archive.proofs.known.read_known.Goals as goal
 
@@ -57,9 +58,9 @@ returns-in_err-beginnings-clause-crash g c has =
 
 pub returns-in_err-devices-clause-cause : goal.returns-in_err-devices-clause-cause
 returns-in_err-devices-clause-cause g c clean has =
-    because c.from_residual.result c.in_err-devices.field-0.0 _ (search rules) (inl (c.in_err-devices.ensures.cause clean has))
+    because c.from_residual.result c.in_err-devices.field-0.0 _ (search rules) (known_of_two g.S.Store c.args.conn.now c.rows_of_two.new.conn c.in_err-devices.field-0.0 (c.in_err-devices.ensures.cause clean has))
 
 pub returns-in_err-beginnings-clause-cause : goal.returns-in_err-beginnings-clause-cause
 returns-in_err-beginnings-clause-cause g c clean has =
     let same = c.in_ok-devices.ensures.same (c.rows_of.ensures.clean clean) has in
-    because c.from_residual-in_err-beginnings.result c.in_err-beginnings.field-0.0 _ (search rules) (inl (Beginnings, c.rows_of_two.new.conn, inr same, c.in_err-beginnings.ensures.cause clean))
+    because c.from_residual-in_err-beginnings.result c.in_err-beginnings.field-0.0 _ (search rules) (inl (Beginnings, tt, (c.rows_of_two.new.conn, inr same, c.in_err-beginnings.ensures.cause clean)))

@@ -41,7 +41,7 @@ returns-in_err-rows-clause-cause g c clean =
     let new = state g.S.Store c.query.follows.lender-at-none in
     let held = c.query.follows.holds-at-none in
     let failed : FailsToQuery (asked Items) [] old new c.in_err-rows.field-0.0 = search rules in
-    because c.from_residual.result c.in_err-rows.field-0.0 _ (search rules) (inl (Items, c.args.conn.now, inl refl, failed))
+    because c.from_residual.result c.in_err-rows.field-0.0 _ (search rules) (inl (Items, (c.args.conn.now, inl refl, failed)))
 
 pub rows-init : goal.rows-init
 rows-init g c =
@@ -231,7 +231,7 @@ returns-in_err-row-clause-cause g c clean =
     let clean_mid : HasCleanDisk mid = omega (arith, late, moved.survives.clean) in
     let was = c.rows.invariant.2 clean_mid in
     let failed = (rw c.in_err-row.was at (moved.err late)) (asked Items) [] was.0.0 was.0.1 in
-    let it : FailsToTell g.S.Store c.args.conn.now now c.in_err-row.field-0.0 = inl (Items, c.rows.rows.conn.now, inr was.1, failed) in
+    let it : FailsToTell g.S.Store c.args.conn.now now c.in_err-row.field-0.0 = inl (Items, (c.rows.rows.conn.now, inr was.1, failed)) in
     let same : now ≡ c.conn-in_err-row-1.given.0 = search rules in
     because c.from_residual-in_err-row.result c.in_err-row.field-0.0 _ (search rules) (subst (λ h. FailsToTell g.S.Store c.args.conn.now h c.in_err-row.field-0.0) same it)
 

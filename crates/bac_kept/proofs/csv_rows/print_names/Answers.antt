@@ -6,12 +6,12 @@ use Rattle.bac_kept.proofs.csv_rows.print_names.Goals as goal
 
 pub returns-in-Ok-write_text-clause-ok : goal.returns-in-Ok-write_text-clause-ok
 returns-in-Ok-write_text-clause-ok g c =
-    let csv : c.args.csv ≡ true = search rules in
-    subst (λ b. Appends (g.O.Write.contents c.args.output.now) (g.O.Write.contents c.write_text.new.writer) (names_text b)) (sym csv)
+    let wanted : c.args.wanted ≡ true = search rules in
+    subst (λ b. Appends (g.O.Write.contents c.args.output.now) (g.O.Write.contents c.write_text.new.writer) (names_text b)) (sym wanted)
     (subst (λ t. Appends (g.O.Write.contents c.args.output.now) (g.O.Write.contents c.write_text.new.writer) t) (c.as_slice.ensures.value ∙ c.in-Ok.ensures) c.in-Ok-write_text.ensures.ok)
 
 pub returns-clause-err : goal.returns-clause-err
 returns-clause-err g c =
-    let csv : c.args.csv ≡ true = search rules in
-    subst (λ b. AppendsPart (g.O.Write.contents c.args.output.now) (g.O.Write.contents c.write_text.new.writer) (names_text b)) (sym csv)
+    let wanted : c.args.wanted ≡ true = search rules in
+    subst (λ b. AppendsPart (g.O.Write.contents c.args.output.now) (g.O.Write.contents c.write_text.new.writer) (names_text b)) (sym wanted)
     (subst (λ t. AppendsPart (g.O.Write.contents c.args.output.now) (g.O.Write.contents c.write_text.new.writer) t) (c.as_slice.ensures.value ∙ c.in-Ok.ensures) c.in-Err.ensures.err)

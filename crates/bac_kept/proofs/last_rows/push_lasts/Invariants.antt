@@ -6,5 +6,5 @@ use Rattle.bac_kept.proofs.last_rows.push_lasts.Given as goal
 -- the texts of the logs so far
 abbrev pub invariant-loop-shown : goal.invariant-loop-shown
 invariant-loop-shown l = (rows : List _)
-    × AreLastTexts l.csv l.found (option_copied l.last) (map told_of (take l.shown-index l.logs)) rows
+    × AreLastTexts l.form l.found (option_copied l.last) (map told_of (take l.shown-index l.logs)) rows
     × (l.text.items ≡ l.fn.text.items ++ rows)

@@ -11,5 +11,5 @@ returns g c =
       is = c.in-Ok.ensures.opened;
       did = done.ensures;
       named = close.named c.args.path.now _ (c.in-Ok.ensures.named (λ same. ok_is_no_err _ _ same));
-      shut = shut_so done.new.conn c.args.files.now c.«open».new.self c.close-closed.new.self c.close-closed.result c.«open».ensures.kept close.closed close.unclosed close.failed close.unfailed;
+      shut = shut_so done.new.conn c.args.files.now c.«open».new.self c.close-closed.new.self c.close-closed.result (c.«open».ensures.kept.0, c.«open».ensures.kept.1) close.closed close.unclosed close.failed close.unfailed;
     }

@@ -1,7 +1,7 @@
 use Rattle.std.proofs.Common.{◌<◌, ◌≤◌, ◌++◌, ◌∙◌, List, [], length, refl, sym, ap, subst, append_assoc, append-nil, arith}
 use Rattle.std.proofs.Math.ListN.{drop_of_length-le}
 use Rattle.bac_link.specs.declared.item.Item.{Item}
-use Rattle.bac_query.specs.Rows.{AreRows}
+use Rattle.bac_query.specs.Rows.{AreRows, IsRow}
 use Rattle.bac_query.proofs.Rows.{row_more}
 use Rattle.bac_query.proofs.Tables.{split}
 use Rattle.bac_query.proofs.csv_rows.push_rows.Goals as goal
@@ -15,7 +15,7 @@ loop-item-preserved c =
     let below : i < length items = omega arith in (
       done ++ row,
       (rw c.as_slice.ensures.value at c.in_ok-extend_from_slice.ensures.items) ∙ ap (λ l. l ++ row) grown ∙ append_assoc c.args.text.now.items done row,
-      row_more items i _ done row (split items i _ _ below refl) c.in_ok-row.ensures so,
+      row_more IsRow items i _ done row (split items i _ _ below refl) c.in_ok-row.ensures so,
     )
 
 pub returns : goal.returns

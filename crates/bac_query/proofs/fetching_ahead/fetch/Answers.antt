@@ -9,7 +9,7 @@ use Rattle.bac_walk.specs.declared.outcome.Why.TheVariants as why
 use Rattle.bac_walk.proofs.Runs.{ends_run, goes_on, not_limit}
 use Rattle.bac_walk.proofs.Told.{Asking}
 use Rattle.bac_query.specs.Ahead.{IsRunOver, PrintsLast, PrintsLeft, closing, port_asks}
-use Rattle.bac_query.specs.declared.layout.Layout.{Layout}
+use Rattle.bac_form.specs.declared.form.Form.{Form}
 use Rattle.bac_walk.specs.declared.outcome.WalkFault.TheVariants.{BadReply}
 use Rattle.bac_query.specs.Flaws.{IsBadlyFetched, log_place}
 use Rattle.bac_query.proofs.Delivered.{runs_on}
@@ -95,7 +95,7 @@ returns-in-Err g c =
     let v = c.loop-done.transactions in
     let z = c.turn.new.transactions in
     let whole = over_joins asks t u c.loop-done.transactions link mid half c.args.walk w c.loop-done.walk n k items left StepLimit false was c.loop-done.ahead.said_more first last in
-    let L : Layout → Type 0 = λ l. PrintsLeft {A = Ended} l left (Err c.in-Err.fault) now out in
+    let L : Form → Type 0 = λ l. PrintsLeft {A = Ended} l left (Err c.in-Err.fault) now out in
     let all = fails y asks t u v z link mid half new c.args.walk w c.loop-done.walk c.turn.new.walk c.args.steps n k items left brought ended c.loop-done.told c.in-Err.fault failures new.failures
     old now out was c.loop-done.ahead.said_more c.turn.new.ahead.said_more first last ran (omega (arith, sum, c.loop-done-test.true)) one told printed (subst L c.loop-done.invariant.layout (rw c.in-Err.is at c.turn.ensures.prints)) in
     record { printed = all.1; came = all.0; begun = omega (arith, c.turn.ensures.begun, c.loop-done.invariant.begun, c.loop-done-test.true); flaw = tt; same_link = c.turn.ensures.same_link ∙ c.loop-done.invariant.same_link; same_out = c.turn.ensures.same_out ∙ c.loop-done.invariant.same_out }

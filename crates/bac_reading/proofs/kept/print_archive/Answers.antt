@@ -10,7 +10,7 @@ use Rattle.bac_reading.proofs.kept.print_archive.Goals as goal
 
 pub returns-in-Err : goal.returns-in-Err
 returns-in-Err g c =
-    inl (c.text_fault.result, refl, refl, refl, subst (λ b. AppendsPart (g.O.Write.contents c.args.output.now) (g.O.Write.contents c.print_names.new.output) (names_text b)) c.has_names.ensures c.in-Err.ensures.err)
+    inl (c.text_fault.result, refl, refl, refl, subst (λ b. AppendsPart (g.O.Write.contents c.args.output.now) (g.O.Write.contents c.print_names.new.output) (names_text b)) c.has_first_row.ensures c.in-Err.ensures.err)
 
 pub returns : goal.returns
 returns g c =
@@ -18,7 +18,7 @@ returns g c =
     let first = g.O.Write.contents c.print_names.new.output in
     inr (record {
       first = first;
-      named = subst (λ b. Appends (g.O.Write.contents c.args.output.now) first (names_text b)) c.has_names.ensures c.in-Ok.ensures.ok;
+      named = subst (λ b. Appends (g.O.Write.contents c.args.output.now) first (names_text b)) c.has_first_row.ensures c.in-Ok.ensures.ok;
       begun = c.new-printer.result;
       fresh = c.new-printer.ensures;
       count = c.read_on.result;

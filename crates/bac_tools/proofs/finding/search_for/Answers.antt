@@ -4,7 +4,7 @@ use Rattle.bac_tools.proofs.finding.search_for.Goals as goal
 pub returns-in-Err-found : goal.returns-in-Err-found
 returns-in-Err-found g c =
     let finds = rw c.as_slice-asked.ensures at c.find_devices-found.ensures in
-    let told = rw c.as_slice-asked.ensures at c.of_find.ensures in
+    let told = rw (c.unanswered.ensures, c.as_slice-asked.ensures) at c.of_find.ensures in
     inr (
       c.in-Ok.port,
       _,
