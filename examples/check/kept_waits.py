@@ -20,15 +20,19 @@ def held(file, statement, seconds=None):
     rows = base.execute(statement)
     if statement.startswith("SELECT"):
         rows.fetchone()
-    closing = threading.Timer(seconds, base.close) if seconds else None
+
+    def close():
+        # What isn't read to its end holds its lock, also behind the close of the connection.
+        rows.close()
+        base.close()
+
+    closing = threading.Timer(seconds, close) if seconds else None
     if closing:
         closing.start()
     try:
         yield
     finally:
-        if closing:
-            closing.join()
-        base.close()
+        (closing.join if closing else close)()
 
 
 WRITES, READS = "BEGIN EXCLUSIVE", "SELECT * FROM items"

@@ -40,12 +40,12 @@ use Rattle.bac_poll_steps.specs.declared.stage.Stage.{Stage as LogStage}
 use Rattle.bac_poll_steps.specs.declared.stage.Stage.TheVariants as at
 use Rattle.bac_resume.specs.Rows.{LogTold}
 use Rattle.bac_site_poller.proofs.Places.{at_place}
-use Rattle.bac_site_poller.proofs.Seated.{Queues, Seated, Sits, sits_queued, told_seated, unasked_seated, wants_seated}
+use Rattle.bac_site_poller.proofs.Seated.{Queues, Seated, Sits, sits_sent, told_seated, unasked_seated, wants_seated}
 use Rattle.bac_site_poller.proofs.Sound.{IsSound, lent_sound}
 use Rattle.bac_site_poller.proofs.Told.{told_site}
 use Rattle.bac_site_poller.specs.Asked.{question_of}
 use Rattle.bac_site_poller.specs.News.{news_line}
-use Rattle.bac_site_poller.specs.Seat.{Wants, lent}
+use Rattle.bac_site_poller.specs.Seat.{Wants, lent, sent_at}
 use Rattle.bac_site_poller.specs.Site.{GivesFrom, GivesNews, GivesSite, GivesWaiting, SiteHears, SiteState}
 use Rattle.bac_site_poller.specs.SiteLaws.{IsNew, IsUnasked, SiteBatchSteps, SiteReads, SiteSteps}
 use Rattle.bac_site_poller.specs.declared.news.News.{News}
@@ -153,7 +153,7 @@ module _ (start : List Seat) (events : List Event) (octets to : List ℕ) (all :
   waiting_reads : (stale : Bool) (old new : SiteState) → Seated start events old → GivesWaiting stale old (next.Send octets to) new → Reads octets
   waiting_reads true old new seated (is, same) = absurd (no_read octets to is)
   waiting_reads false old new seated (inl (place, s, there, asked, gives)) =
-      from_reads _ s new (sits_queued start events s (at_place (Queues start) old.waiting place s seated.waiting there)) gives
+      from_reads _ (sent_at old.time s) new (sits_sent start events old.time s (at_place (Queues start) old.waiting place s seated.waiting there)) gives
   waiting_reads false old new seated (inr (none, rests, same)) = absurd rests
 
   news_reads : (l : List News) (old new : SiteState) → Seated start events old → GivesNews l old (next.Send octets to) new → Reads octets
@@ -237,7 +237,7 @@ seats_new : (options : Options) (told : List LogTold) (logs : List LogRow) (ds :
     → AllZip (IsSeatOf options told logs) ds seats → All IsNew seats
 seats_new options told logs [] [] zip = All-nil IsNew
 seats_new options told logs (d ∷ ds) (seat ∷ seats) ((p, poller, is), more) =
-    let new : IsNew (record { poller = p; due = 0; is_repeated = false; stray = None }) =
+    let new : IsNew (record { poller = p; due = 0; sent = 0; is_repeated = false; stray = None }) =
     (ap (λ (x : PollerAs). x.doing) poller.is, ap (λ (x : PollerAs). x.transactions.pending) poller.is, refl) in
     All-cons IsNew seat seats (subst IsNew (sym is) new) (seats_new options told logs ds seats more)
 seats_new options told logs [] (seat ∷ seats) zip = absurd zip

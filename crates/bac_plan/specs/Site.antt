@@ -21,7 +21,7 @@ use Rattle.bac_plan.specs.declared.options.Options.{Options}
 -- a device with these logs, which waits for its turn
 abbrev pub IsSeatWith : Options → List LogTold → (its : List LogRow) → DeviceRow → Seat → Type 0
 IsSeatWith options told its d seat = (p : PollerAs) × IsPoller options told d its p
-    × (seat ≡ record { poller = p; due = 0; is_repeated = false; stray = None })
+    × (seat ≡ record { poller = p; due = 0; sent = 0; is_repeated = false; stray = None })
 
 -- the same, where its logs stand among those of all
 abbrev pub IsSeatOf : Options → List LogTold → (logs : List LogRow) → DeviceRow → Seat → Type 0

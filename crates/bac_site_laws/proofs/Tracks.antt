@@ -19,7 +19,7 @@ use Rattle.bac_device_poller.specs.Puts.{PutAs}
 use Rattle.bac_device_poller.specs.declared.doing.Doing.{Doing}
 use Rattle.bac_device_poller.specs.declared.doing.Doing.TheVariants as doing
 use Rattle.bac_site_poller.specs.News.{news_line}
-use Rattle.bac_site_poller.specs.Seat.{noticed, seat_heard, seat_read}
+use Rattle.bac_site_poller.specs.Seat.{noticed, seat_heard, seat_read, sent_at}
 use Rattle.bac_site_poller.specs.Site.{GivesFrom, GivesNews, GivesWaiting, SiteState, due_from, given, heeded}
 use Rattle.bac_site_poller.specs.Site.{SiteHears, is_asked_at, noted, put_by, site_heard}
 use Rattle.bac_site_poller.specs.SiteLaws.{Answered, Missed, Own, OwnStep, SiteReads, SiteSteps, Wanted}
@@ -206,8 +206,9 @@ waiting_gave l false old wanted new at (inl (place, s, there, asked, gives)) =
       stands = but_one l.waiting place at.stands;
       done = at.done;
     } in
-    from_gave (record old { waiting = remove old.waiting place }) l rest t s wanted new at_rest (at_place l.waiting place t at.stands found) (seat_is s t is)
-    (λ f. omega (arith, one_sum f l.waiting place t found)) gives
+    let sent : Track = record t { now = sent_at old.time t.now } in
+    from_gave (record old { waiting = remove old.waiting place }) l rest sent (sent_at old.time s) wanted new at_rest (at_place l.waiting place t at.stands found)
+    (ap (sent_at old.time) (seat_is s t is)) (λ f. omega (arith, one_sum f l.waiting place t found)) gives
 waiting_gave l false old wanted new at (inr (none, rests, same)) =
     same_gave l wanted old new at (ap (λ (x : SiteState). x.active) same) (ap (λ (x : SiteState). x.waiting) same) (ap (λ (x : SiteState). x.ended) same) (rests_none old wanted rests)
 

@@ -12,7 +12,7 @@ use Rattle.bac_wire.specs.Stamp.{CivilTime}
 use Rattle.bac_device_poller.specs.Poller.{PollerAs, is_answer, is_waiting, missed}
 use Rattle.bac_device_poller.specs.declared.doing.Doing.{Doing}
 use Rattle.bac_device_poller.specs.declared.doing.Doing.TheVariants as doing
-use Rattle.bac_site_poller.specs.Seat.{noticed, seat_heard, seat_read}
+use Rattle.bac_site_poller.specs.Seat.{noticed, seat_heard, seat_read, sent_at}
 use Rattle.bac_site_poller.specs.Site.{GivesFrom, GivesNews, GivesSite, GivesWaiting, SiteState, due_from, given, noted}
 use Rattle.bac_site_poller.specs.Site.{is_asked_at, put_by, site_heard, site_read}
 use Rattle.bac_site_poller.specs.SiteLaws.{Answered, GoAlone, IsGoneOn, Missed, Own, OwnStep, Wanted, seats_of}
@@ -75,7 +75,7 @@ from_gone start old s wanted new gone on (p, gives, is) =
 waiting_gone : (start : List Seat) (stale : Bool) (old : SiteState) (wanted : Next) (new : SiteState) → Gone start old → GivesWaiting stale old wanted new → Gone start new
 waiting_gone start true old wanted new gone (is_read, same) = let P : SiteState → Type 0 = λ x. Gone start x in subst P (sym same) gone
 waiting_gone start false old wanted new gone (inl (place, s, there, asked, gives)) =
-    from_gone start (record old { waiting = remove old.waiting place }) s wanted new
+    from_gone start (record old { waiting = remove old.waiting place }) (sent_at old.time s) wanted new
     (record { active = gone.active; waiting = but_one (IsGoneOn start) old.waiting place gone.waiting; ended = gone.ended })
     (at_place (IsGoneOn start) old.waiting place s gone.waiting there) gives
 waiting_gone start false old wanted new gone (inr (none, rests, same)) = let P : SiteState → Type 0 = λ x. Gone start x in subst P (sym same) gone

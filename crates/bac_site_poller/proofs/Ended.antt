@@ -21,7 +21,7 @@ use Rattle.bac_device_poller.specs.Telling.{IsToldBy, LineAs}
 use Rattle.bac_device_poller.specs.declared.doing.Doing.{Doing}
 use Rattle.bac_device_poller.specs.declared.doing.Doing.TheVariants as doing
 use Rattle.bac_site_poller.specs.News.{news_line}
-use Rattle.bac_site_poller.specs.Seat.{Wants, lent, seat_heard, seat_read}
+use Rattle.bac_site_poller.specs.Seat.{Wants, lent, seat_heard, seat_read, sent_at}
 use Rattle.bac_site_poller.specs.Site.{GivesFrom, GivesNews, GivesWaiting, SiteState, due_from, given, noted}
 use Rattle.bac_site_poller.specs.Site.{is_asked_at, put_by, site_heard}
 use Rattle.bac_site_poller.specs.SiteLaws.{AllHaveEnded, BeginsUnasked, HasEnded, IsNew, is_of, SiteSteps}
@@ -74,7 +74,7 @@ from_all peer old s wanted new (p, gives, is) =
 waiting_all : (peer : List ℕ) (stale : Bool) (old : SiteState) (wanted : Next) (new : SiteState) → GivesWaiting stale old wanted new → count_all peer new ≡ count_all peer old
 waiting_all peer true old wanted new (is_read, same) = ap (count_all peer) same
 waiting_all peer false old wanted new (inl (place, s, there, asked, gives)) =
-    omega (arith, from_all peer (record old { waiting = remove old.waiting place }) s wanted new gives, but_one peer old.waiting place s there)
+    omega (arith, from_all peer (record old { waiting = remove old.waiting place }) (sent_at old.time s) wanted new gives, but_one peer old.waiting place s there)
 waiting_all peer false old wanted new (inr (none, rests, same)) = ap (count_all peer) same
 
 news_all : (peer : List ℕ) (l : List News) (old : SiteState) (wanted : Next) (new : SiteState) → GivesNews l old wanted new → count_all peer new ≡ count_all peer old
@@ -153,7 +153,7 @@ from_on old s new (p, gives, is) = wants_on s.poller.doing (lent old.ids s.polle
 -- so none is asked then, and none waits
 waiting_ends : (stale : Bool) (old new : SiteState) → GivesWaiting stale old next.End new → (old.active ≡ []) × (old.waiting ≡ []) × (new ≡ old)
 waiting_ends true old new (is_read, same) = absurd (reads_on next.End refl is_read)
-waiting_ends false old new (inl (place, s, there, asked, gives)) = absurd (from_on (record old { waiting = remove old.waiting place }) s new gives)
+waiting_ends false old new (inl (place, s, there, asked, gives)) = absurd (from_on (record old { waiting = remove old.waiting place }) (sent_at old.time s) new gives)
 waiting_ends false old new (inr (none, rests, same)) = (rests.0, rests.1, same)
 
 news_ends : (l : List News) (old new : SiteState) → GivesNews l old next.End new → (old.active ≡ []) × (old.waiting ≡ []) × (new ≡ old)

@@ -12,7 +12,7 @@ use Rattle.bac_drive.specs.Event.{Event, Kept, Printed, Read, Sent, Waited, Warn
 use Rattle.bac_drive.specs.declared.machine.Next.{Next}
 use Rattle.bac_wire.specs.Stamp.{CivilTime}
 use Rattle.bac_site_poller.specs.Hosts.{limit_of}
-use Rattle.bac_site_poller.specs.Seat.{is_at, seat_heard, seat_read}
+use Rattle.bac_site_poller.specs.Seat.{is_at, seat_heard, seat_read, sent_at}
 use Rattle.bac_site_poller.specs.Site.{GivesFrom, GivesNews, GivesWaiting, HasPlaceAt, MayAsk, SiteState, due_from}
 use Rattle.bac_site_poller.specs.Site.{given, is_asked_at, limit_at, noted, put_by, site_heard}
 use Rattle.bac_site_poller.specs.SiteLaws.{KeepsToLimits}
@@ -78,12 +78,12 @@ room_most peer old s room = by (is_at peer s) refl
     by false here = let none : tally (is_at peer s) ≡ 0 = ap tally here in omega (arith, none)
 
 asked_most : (peer : List ℕ) (old : SiteState) (place : ℕ) (s : Seat) (wanted : Next) (new : SiteState) → slice_get old.waiting place ≡ Some s → MayAsk old place →
-    GivesFrom (record old { waiting = remove old.waiting place }) s wanted new → asked peer new ≤ max (asked peer old) (limit_at old peer)
+    GivesFrom (record old { waiting = remove old.waiting place }) (sent_at old.time s) wanted new → asked peer new ≤ max (asked peer old) (limit_at old peer)
 asked_most peer old place s wanted new there (t, also, rooms) gives =
     let P : Seat → Type 0 = λ x. HasPlaceAt old x.poller.way.peer in
     let e : Some t ≡ Some s = sym also ∙ there in
     let room : HasPlaceAt old s.poller.way.peer = subst P (same_Some t s e) rooms.1 in
-    omega (arith, from_most peer (record old { waiting = remove old.waiting place }) s wanted new gives, room_most peer old s room)
+    omega (arith, from_most peer (record old { waiting = remove old.waiting place }) (sent_at old.time s) wanted new gives, room_most peer old s room)
 
 waiting_most : (peer : List ℕ) (stale : Bool) (old : SiteState) (wanted : Next) (new : SiteState) → GivesWaiting stale old wanted new → asked peer new ≤ max (asked peer old) (limit_at old peer)
 waiting_most peer true old wanted new (is_read, same) = let e : asked peer new ≡ asked peer old = ap (asked peer) same in omega (arith, e)

@@ -4,6 +4,7 @@ use Rattle.std.proofs.Common.{subst}
 use Rattle.bac_drive.specs.declared.machine.Next.{Next}
 use Rattle.bac_device_poller.specs.declared.doing.Doing.{Doing}
 use Rattle.bac_device_poller.specs.declared.doing.Doing.TheVariants as doing
+use Rattle.bac_site_poller.specs.Seat.{sent_at}
 use Rattle.bac_site_poller.specs.Site.{GivesFrom, GivesNews, GivesWaiting, SiteState, noted, put_by}
 use Rattle.bac_site_poller.specs.SiteLaws.{AskInTurn, IsInTurn}
 use Rattle.bac_site_poller.specs.declared.news.News.{News}
@@ -36,7 +37,7 @@ waiting_turn : (stale : Bool) (old : SiteState) (wanted : Next) (new : SiteState
 waiting_turn true old wanted new (is_read, same) = inr (inr (ap (λ (x : SiteState). x.waiting) same))
 waiting_turn false old wanted new (inl (place, s, there, asked, gives)) =
     let rest = remove old.waiting place in
-    inl (place, asked, swapped rest new (from_behind (record old { waiting = rest }) s wanted new gives))
+    inl (place, asked, swapped rest new (from_behind (record old { waiting = rest }) (sent_at old.time s) wanted new gives))
 waiting_turn false old wanted new (inr (none, rests, same)) = inr (inr (ap (λ (x : SiteState). x.waiting) same))
 
 news_turn : (l : List News) (old new : SiteState) (wanted : Next) → GivesNews l old wanted new → IsInTurn old new

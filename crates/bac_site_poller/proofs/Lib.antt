@@ -16,6 +16,8 @@ pub mod Marked
 pub mod Seated
 pub mod SeatedRun
 pub mod Open
+pub mod PlacesFree
+pub mod Dated
 pub mod Ended
 pub mod Losses
 pub mod Traffic

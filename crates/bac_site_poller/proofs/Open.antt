@@ -12,10 +12,10 @@ use Rattle.bac_drive.specs.Event.{Event, Kept, Printed, Read, Sent, Waited, Warn
 use Rattle.bac_drive.specs.declared.machine.Next.{Next}
 use Rattle.bac_device_poller.specs.declared.doing.Doing.{Doing}
 use Rattle.bac_device_poller.specs.declared.doing.Doing.TheVariants as doing
-use Rattle.bac_site_poller.specs.Seat.{is_at, is_first}
+use Rattle.bac_site_poller.specs.Seat.{age, fresh_ms, is_at, is_first, is_fresh, sent_at}
 use Rattle.bac_site_poller.specs.Site.{GivesFrom, GivesNews, GivesWaiting, IsWithin, SiteState, noted}
 use Rattle.bac_site_poller.specs.Site.{put_by, site_heard}
-use Rattle.bac_site_poller.specs.SiteLaws.{IsMarked, IsUnasked, OpenWithin, again_of, is_open, is_open_at, is_open_once}
+use Rattle.bac_site_poller.specs.SiteLaws.{IsMarked, IsUnasked, OpenWithin, again_of, is_open, is_open_at, is_open_fresh, is_open_once}
 use Rattle.bac_site_poller.specs.SiteLaws.{is_out, SiteSteps}
 use Rattle.bac_site_poller.specs.declared.limits.Limits.{Limits}
 use Rattle.bac_site_poller.specs.declared.news.News.{News}
@@ -44,7 +44,7 @@ from_same old s wanted new (p, gives, is) = ap (λ (x : SiteState). x.limits) is
 
 waiting_same : (stale : Bool) (old : SiteState) (wanted : Next) (new : SiteState) → GivesWaiting stale old wanted new → new.limits ≡ old.limits
 waiting_same true old wanted new (is_read, same) = ap (λ (x : SiteState). x.limits) same
-waiting_same false old wanted new (inl (place, s, there, asked, gives)) = from_same (record old { waiting = remove old.waiting place }) s wanted new gives
+waiting_same false old wanted new (inl (place, s, there, asked, gives)) = from_same (record old { waiting = remove old.waiting place }) (sent_at old.time s) wanted new gives
 waiting_same false old wanted new (inr (none, rests, same)) = ap (λ (x : SiteState). x.limits) same
 
 news_same : (l : List News) (old : SiteState) (wanted : Next) (new : SiteState) → GivesNews l old wanted new → new.limits ≡ old.limits
@@ -103,8 +103,8 @@ stays_not : (s : Seat) → Stays s → is_open s ≡ false
 stays_not s stays = not_open s stays.closed (ap is_out stays.ended)
 
 -- so they pass no test that asks for that
-once_not : (s : Seat) → is_open s ≡ false → is_open_once s ≡ false
-once_not s not = ap (λ (b : Bool). b && again_of s.poller == 0) not
+fresh_not : (now : ℕ) (s : Seat) → is_open s ≡ false → is_open_fresh now s ≡ false
+fresh_not now s not = ap (λ (b : Bool). (b && again_of s.poller == 0) && nat_lt (age now s) fresh_ms) not
 
 at_not : (peer : List ℕ) (s : Seat) → is_open s ≡ false → is_open_at peer s ≡ false
 at_not peer s not = ap (λ (b : Bool). b && is_at peer s) not
@@ -126,6 +126,15 @@ once_first s marked = by (is_open_once s) refl
         let one : tally (is_first s) ≡ 1 = ap (λ (b : Bool). tally (not b)) fresh in
         omega (arith, one, at_most (is_open_once s))
 
+both : (a b c : Bool) → tally a ≤ tally b → tally (a && c) ≤ tally (b && c)
+both true true c less = omega arith
+both true false c less = absurd (omega (arith, less))
+both false b c less = omega arith
+
+-- so it is of what is fresh
+open_fresh : (now : ℕ) (s : Seat) → IsMarked s → tally (is_open_fresh now s) ≤ tally (is_fresh now s)
+open_fresh now s marked = both (is_open_once s) (is_first s) (nat_lt (age now s) fresh_ms) (once_first s marked)
+
 open_at : (peer : List ℕ) (s : Seat) → tally (is_open_at peer s) ≤ tally (is_at peer s)
 open_at peer s = by (is_open s)
   where
@@ -140,7 +149,7 @@ all_of p (s ∷ seats) = let rest = all_of p seats in omega (arith, rest, at_mos
 
 begins_within : (s : SiteState) → IsUnasked s → IsWithin s
 begins_within s (none, new, untold) =
-    let P : List Seat → Type 0 = λ l. (count_by is_first l ≤ s.limits.at_once) × (length l ≤ s.limits.most) × ((peer : List ℕ) → count_by (is_at peer) l ≤ s.limits.at_host) in
+    let P : List Seat → Type 0 = λ l. (count_by (is_fresh s.time) l ≤ s.limits.at_once) × (length l ≤ s.limits.most) × ((peer : List ℕ) → count_by (is_at peer) l ≤ s.limits.at_host) in
     subst P (sym none) (omega arith, omega arith, λ peer. omega arith)
 
 pub open_within : OpenWithin
@@ -153,14 +162,15 @@ open_within = λ old new es unasked chain.
     let s = new in
     let waiting = All-weaker (Queues start) (λ x. is_open x ≡ false) (queues_not start) s.waiting seated.waiting in
     let ended = All-weaker Stays (λ x. is_open x ≡ false) stays_not s.ended seated.ended in
-    let once = fewer is_open_once is_first s.active (All-weaker IsMarked (λ x. tally (is_open_once x) ≤ tally (is_first x)) once_first s.active marked) in
-    let once_is = counted is_open_once s (All-weaker (λ x. is_open x ≡ false) (λ x. is_open_once x ≡ false) once_not s.waiting waiting) (All-weaker (λ x. is_open x ≡ false) (λ x. is_open_once x ≡ false) once_not s.ended ended) in
+    let now = s.time in
+    let fresh = fewer (is_open_fresh now) (is_fresh now) s.active (All-weaker IsMarked (λ x. tally (is_open_fresh now x) ≤ tally (is_fresh now x)) (open_fresh now) s.active marked) in
+    let fresh_is = counted (is_open_fresh now) s (All-weaker (λ x. is_open x ≡ false) (λ x. is_open_fresh now x ≡ false) (fresh_not now) s.waiting waiting) (All-weaker (λ x. is_open x ≡ false) (λ x. is_open_fresh now x ≡ false) (fresh_not now) s.ended ended) in
     let open_is = counted is_open s waiting ended in
     let at_once = ap (λ (l : Limits). l.at_once) same in
     let most = ap (λ (l : Limits). l.most) same in
     let at_host = ap (λ (l : Limits). l.at_host) same in (
       same,
-      omega (arith, once, once_is, within.0, at_once),
+      omega (arith, fresh, fresh_is, within.0, at_once),
       omega (arith, all_of is_open s.active, open_is, within.1, most),
       λ peer.
           let one = fewer (is_open_at peer) (is_at peer) s.active (λ k d below. open_at peer (get_or s.active k d)) in

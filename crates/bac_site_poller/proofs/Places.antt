@@ -1,6 +1,6 @@
 -- Whose turn it is, by the places of a list.
 use Rattle.std.proofs.Common.{◌≡◌, ◌≤◌, ◌<◌, ◌+◌, ◌∙◌, ◌⊎◌, ◌↔◌, inl, inr, ℕ, Bool, true, false, min, All, Option, None}
-use Rattle.std.proofs.Common.{Some, max, List, [], ◌∷◌, count_by, length, get_or, slice_get, take, drop, remove, suc}
+use Rattle.std.proofs.Common.{Some, List, [], ◌∷◌, count_by, length, get_or, slice_get, take, drop, remove, suc}
 use Rattle.std.proofs.Common.{refl, sym, subst, ap, arith}
 use Rattle.std.proofs.lemmas.Bool.{cases_eq}
 use Rattle.std.proofs.lemmas.List.Elements.{All-append, All-drop, All-more, All-take, All-weaker}
@@ -8,7 +8,7 @@ use Rattle.std.proofs.lemmas.Option.{get_or_from_slice_get, same_Some, slice_get
 use Rattle.std.proofs.Math.Seq.{take-length}
 use Rattle.std.specs.Bool.{OnFalse, OnTrue}
 use Rattle.bac_device_poller.specs.Poller.{is_waiting}
-use Rattle.bac_site_poller.specs.Seat.{is_at, is_first}
+use Rattle.bac_site_poller.specs.Seat.{is_at, is_fresh}
 use Rattle.bac_site_poller.specs.Hosts.{host_at, limit_of}
 use Rattle.bac_site_poller.specs.Site.{HasPlace, HasPlaceAt, HasRoom, IsNearest, MayAct, MayAsk, NoneActs, NoneAsked}
 use Rattle.bac_site_poller.specs.Site.{SiteState, limit_at}
@@ -42,30 +42,30 @@ none_acts seats n all none place (s, there, not) =
 
 -- ---- the first that is due
 
--- this is the due of one
-abbrev pub IsDueOfOne : List Seat → ℕ → Type 0
-IsDueOfOne seats due = (place : ℕ) × (s : Seat) × (slice_get seats place ≡ Some s) × (due ≡ s.due)
+-- this is the time of one
+abbrev pub IsTimeOfOne : (Seat → ℕ) → List Seat → ℕ → Type 0
+IsTimeOfOne times seats due = (place : ℕ) × (s : Seat) × (slice_get seats place ≡ Some s) × (due ≡ times s)
 
 -- one seat more
-pub nearer : (seats : List Seat) (i due new : ℕ) (s : Seat) → i < length seats → s ≡ get_or seats i s → new ≡ min due s.due →
-    All (λ x. due ≤ x.due) (take i seats) → IsDueOfOne seats due → All (λ x. new ≤ x.due) (take (i + 1) seats) × IsDueOfOne seats new
-nearer seats i due new s below is least all one = (
-  All-more (λ x. new ≤ x.due) seats i s below
-      (All-weaker (λ x. due ≤ x.due) (λ x. new ≤ x.due) (λ x less. omega (arith, less, least)) (take i seats) all)
-      (subst (λ (x : Seat). new ≤ x.due) is (omega (arith, least))),
+pub nearer : (times : Seat → ℕ) (seats : List Seat) (i due new : ℕ) (s : Seat) → i < length seats → s ≡ get_or seats i s → new ≡ min due (times s) →
+    All (λ x. due ≤ times x) (take i seats) → IsTimeOfOne times seats due → All (λ x. new ≤ times x) (take (i + 1) seats) × IsTimeOfOne times seats new
+nearer times seats i due new s below is least all one = (
+  All-more (λ x. new ≤ times x) seats i s below
+      (All-weaker (λ x. due ≤ times x) (λ x. new ≤ times x) (λ x less. omega (arith, less, least)) (take i seats) all)
+      (subst (λ (x : Seat). new ≤ times x) is (omega (arith, least))),
   by (cases_eq new due),
 )
   where
-    by : (new ≡ due) ⊎ (new ≡ due → ⊥) → IsDueOfOne seats new
+    by : (new ≡ due) ⊎ (new ≡ due → ⊥) → IsTimeOfOne times seats new
     by (inl same) = (one.0, one.1, one.2, same ∙ one.3)
     by (inr other) =
-        let e : new ≡ s.due = omega (arith, least, other) in
+        let e : new ≡ times s = omega (arith, least, other) in
         (i, s, slice_get_read seats (length seats) i s refl below is, e)
 
 -- all of them
-pub nearest_is : (seats : List Seat) (i due : ℕ) → i ≡ length seats → All (λ x. due ≤ x.due) (take i seats) → IsDueOfOne seats due → IsNearest seats due
-nearest_is seats i due all least one =
-    (subst (λ (xs : List Seat). All (λ x. due ≤ x.due) xs) (ap (λ (n : ℕ). take n seats) all ∙ take-length seats) least, one)
+pub nearest_is : (times : Seat → ℕ) (seats : List Seat) (i due : ℕ) → i ≡ length seats → All (λ x. due ≤ times x) (take i seats) → IsTimeOfOne times seats due → IsNearest times seats due
+nearest_is times seats i due all least one =
+    (subst (λ (xs : List Seat). All (λ x. due ≤ times x) xs) (ap (λ (n : ℕ). take n seats) all ∙ take-length seats) least, one)
 
 -- ---- those that wait for their turn
 
@@ -98,7 +98,7 @@ limit_most most (Some h) some = omega (arith, some)
 -- while none is asked, the first that waits has room
 first_room : (old : SiteState) (seat : Seat) → old.active ≡ [] → HasRoom old seat
 first_room old seat none =
-    let P : List Seat → Type 0 = λ l. ((count_by is_first l < old.limits.at_once) × (length l < old.limits.most)) × (count_by (is_at seat.poller.way.peer) l < limit_at old seat.poller.way.peer) in
+    let P : List Seat → Type 0 = λ l. ((count_by (is_fresh old.time) l < old.limits.at_once) × (length l < old.limits.most)) × (count_by (is_at seat.poller.way.peer) l < limit_at old seat.poller.way.peer) in
     subst P (sym none) ((old.limits.some_at_once, old.limits.some), limit_some old.limits.at_host (host_at seat.poller.way.peer old.hosts))
 
 pub none_waits : (old : SiteState) → old.active ≡ [] → NoneAsked old → old.waiting ≡ []

@@ -15,7 +15,7 @@ use Rattle.bac_device_poller.specs.Poller.{PollerAs, heard_by, is_waiting, misse
 use Rattle.bac_device_poller.specs.declared.doing.Doing.{Doing}
 use Rattle.bac_device_poller.specs.declared.doing.Doing.TheVariants as doing
 use Rattle.bac_site_poller.specs.Asked.{IsOf, home_of}
-use Rattle.bac_site_poller.specs.Seat.{is_due, lent, noticed, seat_heard, seat_read}
+use Rattle.bac_site_poller.specs.Seat.{is_due, lent, noticed, seat_heard, seat_read, sent_at}
 use Rattle.bac_site_poller.specs.Site.{GivesFrom, GivesNews, GivesSite, GivesWaiting, SiteState, due_from, given, noted}
 use Rattle.bac_site_poller.specs.Site.{is_asked_at, put_by, site_heard, site_read}
 use Rattle.bac_site_poller.specs.SiteLaws.{IsUnasked}
@@ -72,6 +72,11 @@ sits_queued start events s queues =
     let D : Doing → Type 0 = λ x. IsSound events s.poller x in
     let M : Doing → Type 0 = λ x. IsMarkedAt s.is_repeated s.poller x in
     record { sound = subst D (sym queues.asks) queues.closed; marked = subst M (sym queues.asks) queues.fresh; home = queues.home }
+
+-- nor does it matter when its question is sent
+pub sits_sent : (start : List Seat) (events : List Event) (now : ℕ) (s : Seat) → Queues start s → Sits start events (sent_at now s)
+sits_sent start events now s queues =
+    sits_queued start events (sent_at now s) (record { asks = queues.asks; closed = queues.closed; fresh = queues.fresh; home = queues.home })
 
 -- ---- what a site wants
 
@@ -152,8 +157,8 @@ waiting_seated start events e true old wanted new seated (is_read, same) does =
     let P : SiteState → Type 0 = λ x. Seated start (behind_send events e) x in subst P (sym same) (seated_send start events e old seated)
 waiting_seated start events e false old wanted new seated (inl (place, s, there, asked, gives)) does =
     let less : SiteState = record old { waiting = remove old.waiting place } in
-    from_seated start events e less s wanted new (record { active = seated.active; waiting = but_one (Queues start) old.waiting place seated.waiting; ended = seated.ended })
-    (sits_queued start events s (at_place (Queues start) old.waiting place s seated.waiting there)) gives does
+    from_seated start events e less (sent_at old.time s) wanted new (record { active = seated.active; waiting = but_one (Queues start) old.waiting place seated.waiting; ended = seated.ended })
+    (sits_sent start events old.time s (at_place (Queues start) old.waiting place s seated.waiting there)) gives does
 waiting_seated start events e false old wanted new seated (inr (none, rests, same)) does =
     let P : SiteState → Type 0 = λ x. Seated start (behind_send events e) x in subst P (sym same) (seated_send start events e old seated)
 

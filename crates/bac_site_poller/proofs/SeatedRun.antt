@@ -20,7 +20,7 @@ use Rattle.bac_device_poller.specs.declared.doing.Doing.{Doing}
 use Rattle.bac_device_poller.specs.declared.doing.Doing.TheVariants as doing
 use Rattle.bac_site_poller.specs.Asked.{AreCome, IsOf, octets_of, question_of}
 use Rattle.bac_site_poller.specs.News.{news_line}
-use Rattle.bac_site_poller.specs.Seat.{Wants, lent}
+use Rattle.bac_site_poller.specs.Seat.{Wants, lent, sent_at}
 use Rattle.bac_site_poller.specs.Site.{GivesFrom, GivesNews, GivesSite, GivesWaiting, Rests, SiteState}
 use Rattle.bac_site_poller.specs.SiteLaws.{IsMarked, RepeatsAreMarked, SiteRowsCame, SiteSendsAsk, is_open}
 use Rattle.bac_site_poller.specs.SiteLaws.{is_out, SiteSteps}
@@ -28,7 +28,7 @@ use Rattle.bac_site_poller.specs.declared.news.News.{News}
 use Rattle.bac_site_poller.specs.declared.seat.Seat.{Seat}
 use Rattle.bac_site_poller.proofs.Marked.{IsMarkedAt}
 use Rattle.bac_site_poller.proofs.Places.{at_place}
-use Rattle.bac_site_poller.proofs.Seated.{Queues, Seated, Sits, sits_queued, told_seated, unasked_seated, wants_seated}
+use Rattle.bac_site_poller.proofs.Seated.{Queues, Seated, Sits, sits_sent, told_seated, unasked_seated, wants_seated}
 use Rattle.bac_site_poller.proofs.Sound.{IsClosed, IsSound, lent_sound}
 use Rattle.bac_site_poller.proofs.Told.{told_site}
 
@@ -155,7 +155,7 @@ from_says start events e old s wanted new sits (p, gives, is) does =
 waiting_says : (start : List Seat) (events : List Event) (e : Event) (stale : Bool) (old : SiteState) (wanted : Next) (new : SiteState) → Seated start events old → GivesWaiting stale old wanted new → Does wanted e → SaysOf start events e
 waiting_says start events e true old wanted new seated (is_read, same) does = silent_says start events e (read_silent wanted e is_read does)
 waiting_says start events e false old wanted new seated (inl (place, s, there, asked, gives)) does =
-    from_says start events e _ s wanted new (sits_queued start events s (at_place (Queues start) old.waiting place s seated.waiting there)) gives does
+    from_says start events e _ (sent_at old.time s) wanted new (sits_sent start events old.time s (at_place (Queues start) old.waiting place s seated.waiting there)) gives does
 waiting_says start events e false old wanted new seated (inr (none, rests, same)) does = silent_says start events e (rests_silent old wanted e rests does)
 
 news_says : (start : List Seat) (events : List Event) (e : Event) (l : List News) (old : SiteState) (wanted : Next) (new : SiteState) → Seated start events old → GivesNews l old wanted new → Does wanted e → SaysOf start events e

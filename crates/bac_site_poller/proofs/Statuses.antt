@@ -21,7 +21,7 @@ use Rattle.bac_device_poller.specs.declared.doing.Doing.TheVariants as doing
 use Rattle.bac_device_poller.specs.declared.status.Status.{Status}
 use Rattle.bac_device_poller.specs.declared.status.Status.TheVariants.{Done}
 use Rattle.bac_device_poller.proofs.Statuses.{greater_left, greater_right, wants}
-use Rattle.bac_site_poller.specs.Seat.{Wants, is_due, lent, seat_heard, seat_read}
+use Rattle.bac_site_poller.specs.Seat.{Wants, is_due, lent, seat_heard, seat_read, sent_at}
 use Rattle.bac_site_poller.specs.Site.{GivesFrom, GivesNews, GivesWaiting, SiteState, due_from, given, noted}
 use Rattle.bac_site_poller.specs.Site.{is_asked_at, put_by, site_heard, site_read}
 use Rattle.bac_site_poller.specs.SiteLaws.{IsNew, seats_of}
@@ -202,7 +202,7 @@ same_above n old new same = let e : count_above n new ≡ count_above n old = ap
 waiting_above : (n : ℕ) (stale : Bool) (old : SiteState) (wanted : Next) (new : SiteState) → GivesWaiting stale old wanted new → count_above n old ≤ count_above n new
 waiting_above n true old wanted new (is_read, same) = same_above n old new same
 waiting_above n false old wanted new (inl (place, s, there, asked, gives)) =
-    omega (arith, from_above n (record old { waiting = remove old.waiting place }) s wanted new gives, less_one n old.waiting place s there)
+    omega (arith, from_above n (record old { waiting = remove old.waiting place }) (sent_at old.time s) wanted new gives, less_one n old.waiting place s there)
 waiting_above n false old wanted new (inr (none, rests, same)) = same_above n old new same
 
 news_above : (n : ℕ) (l : List News) (old : SiteState) (wanted : Next) (new : SiteState) → GivesNews l old wanted new → count_above n old ≤ count_above n new
@@ -294,7 +294,7 @@ from_held old s wanted new h on (p, gives, is) =
 waiting_held : (stale : Bool) (old : SiteState) (wanted : Next) (new : SiteState) → Held old → GivesWaiting stale old wanted new → Held new
 waiting_held true old wanted new h (is_read, same) = subst Held (sym same) h
 waiting_held false old wanted new h (inl (place, s, there, asked, gives)) =
-    from_held (record old { waiting = remove old.waiting place }) s wanted new
+    from_held (record old { waiting = remove old.waiting place }) (sent_at old.time s) wanted new
     (record { active = h.active; waiting = but_one Counts old.waiting place h.waiting; ended = h.ended }) (at_place Counts old.waiting place s h.waiting there) gives
 waiting_held false old wanted new h (inr (none, rests, same)) = subst Held (sym same) h
 

@@ -1,6 +1,7 @@
 -- What is heard, and what time makes of it, keep the limits.
-use Rattle.std.proofs.Common.{◌≡◌, ◌≤◌, ℕ, Bool, true, false, not, cond, if◌then◌else◌, List, [], ◌∷◌, map, max, take}
-use Rattle.std.proofs.Common.{length, Option, Some, None, Ok, Err, nat_le, refl, ap, arith}
+use Rattle.std.proofs.Common.{◌≡◌, ◌≤◌, ◌&&◌, ℕ, Bool, true, false, not, cond, if◌then◌else◌, List, [], ◌∷◌, map, max, take}
+use Rattle.std.proofs.Common.{length, Option, Some, None, Ok, Err, nat_lt, refl, ap, arith}
+use Rattle.std.proofs.lemmas.Bool.{ltb-false, ltb-true}
 use Rattle.std.proofs.lemmas.List.{length-map}
 use Rattle.std.proofs.lemmas.List.Sums.{sum_by-cons}
 use Rattle.std.specs.List.{count_by}
@@ -9,7 +10,7 @@ use Rattle.bac_wire.specs.Stamp.{CivilTime}
 use Rattle.bac_ports.specs.Port.{Receiving}
 use Rattle.bac_answers.specs.declared.way.Way.{Way}
 use Rattle.bac_device_poller.specs.Poller.{PollerAs, is_answer, missed}
-use Rattle.bac_site_poller.specs.Seat.{is_at, is_due, is_first, seat_heard, seat_read}
+use Rattle.bac_site_poller.specs.Seat.{age, fresh_ms, is_at, is_due, is_first, is_fresh, seat_heard, seat_read}
 use Rattle.bac_site_poller.specs.Site.{IsWithin, SiteState, given, is_asked_at, site_heard}
 use Rattle.bac_site_poller.specs.SiteLaws.{OthersNotHeeded, StaysWithin}
 use Rattle.bac_site_poller.specs.declared.seat.Seat.{Seat}
@@ -33,38 +34,48 @@ peer_read now s = of_both_seats s.poller.way.peer (is_due now s) _ s (ap (λ (wa
 abbrev pub tally : Bool → ℕ
 tally b = cond b 1 0
 
--- what a step makes of a seat passes no test more
-abbrev pub NoMore : (Seat → Bool) → (Seat → Seat) → Type 0
-NoMore test f = (s : Seat) → tally (test (f s)) ≤ tally (test s)
+-- what a step makes of a seat passes one test only where the seat passed another
+abbrev pub NoMore : (before after : Seat → Bool) → (Seat → Seat) → Type 0
+NoMore before after f = (s : Seat) → tally (after (f s)) ≤ tally (before s)
 
-counted : (test : Seat → Bool) (f : Seat → Seat) → NoMore test f → (seats : List Seat) → count_by test (map f seats) ≤ count_by test seats
-counted test f none [] = omega arith
-counted test f none (s ∷ seats) =
-    let first : tally (test (f s)) ≤ tally (test s) = none s in
-    let rest = counted test f none seats in
-    omega (arith, first, rest, sum_by-cons (λ (x : Seat). tally (test x)) s seats, sum_by-cons (λ (x : Seat). tally (test x)) (f s) (map f seats))
+counted : (before after : Seat → Bool) (f : Seat → Seat) → NoMore before after f → (seats : List Seat) → count_by after (map f seats) ≤ count_by before seats
+counted before after f none [] = omega arith
+counted before after f none (s ∷ seats) =
+    let first : tally (after (f s)) ≤ tally (before s) = none s in
+    let rest = counted before after f none seats in
+    omega (arith, first, rest, sum_by-cons (λ (x : Seat). tally (before x)) s seats, sum_by-cons (λ (x : Seat). tally (after x)) (f s) (map f seats))
 
-none_at : (f : Seat → Seat) → ((s : Seat) → (f s).poller.way.peer ≡ s.poller.way.peer) → (peer : List ℕ) → NoMore (is_at peer) f
+none_at : (f : Seat → Seat) → ((s : Seat) → (f s).poller.way.peer ≡ s.poller.way.peer) → (peer : List ℕ) → NoMore (is_at peer) (is_at peer) f
 none_at f same peer s =
     let e : tally (is_at peer (f s)) ≡ tally (is_at peer s) = ap (λ (q : List ℕ). tally (bytes_eq (take 4 q) (take 4 peer))) (same s) in omega (arith, e)
 
-pub none_heard : (from datagram : List ℕ) (now : CivilTime) → NoMore is_first (seat_heard from datagram now)
-none_heard from datagram now s = omega arith
+pub none_heard : (time : ℕ) (from datagram : List ℕ) (now : CivilTime) → NoMore (is_fresh time) (is_fresh time) (seat_heard from datagram now)
+none_heard time from datagram now s = omega arith
 
-pub none_read : (now : ℕ) → NoMore is_first (seat_read now)
-none_read now s = by (is_due now s)
+-- what is fresh later, was so before
+fresh_before : (first : Bool) (early late : ℕ) → early ≤ late → tally (first && nat_lt late fresh_ms) ≤ tally (first && nat_lt early fresh_ms)
+fresh_before false early late less = omega arith
+fresh_before true early late less = by (nat_lt late fresh_ms) (nat_lt early fresh_ms) refl refl
   where
-    by : (b : Bool) → tally (is_first (if b then record s { poller = missed s.poller; is_repeated = true } else s)) ≤ tally (is_first s)
-    by true = omega arith
-    by false = omega arith
+    by : (x y : Bool) → nat_lt late fresh_ms ≡ x → nat_lt early fresh_ms ≡ y → tally x ≤ tally y
+    by true true is also = omega arith
+    by true false is also = absurd (omega (arith, ltb-true late fresh_ms is, ltb-false early fresh_ms also, less))
+    by false y is also = omega arith
 
-mapped : (f : Seat → Seat) → ((s : Seat) → (f s).poller.way.peer ≡ s.poller.way.peer) → NoMore is_first f → (first_most each most : ℕ) (seats : List Seat) →
-    count_by is_first seats ≤ first_most → length seats ≤ most → ((peer : List ℕ) → count_by (is_at peer) seats ≤ each) →
-    (count_by is_first (map f seats) ≤ first_most) × (length (map f seats) ≤ most) × ((peer : List ℕ) → count_by (is_at peer) (map f seats) ≤ each)
-mapped f same none first_most each most seats first few at = (
-  let c = counted is_first f none seats in omega (arith, c, first),
+pub none_read : (time now : ℕ) → time ≤ now → NoMore (is_fresh time) (is_fresh now) (seat_read now)
+none_read time now later s = by (is_due now s)
+  where
+    by : (b : Bool) → tally (is_fresh now (if b then record s { poller = missed s.poller; is_repeated = true } else s)) ≤ tally (is_fresh time s)
+    by true = omega arith
+    by false = fresh_before (is_first s) (age time s) (age now s) (omega (arith, later))
+
+mapped : (f : Seat → Seat) → ((s : Seat) → (f s).poller.way.peer ≡ s.poller.way.peer) → (time now : ℕ) → NoMore (is_fresh time) (is_fresh now) f → (at_once each most : ℕ) (seats : List Seat) →
+    count_by (is_fresh time) seats ≤ at_once → length seats ≤ most → ((peer : List ℕ) → count_by (is_at peer) seats ≤ each) →
+    (count_by (is_fresh now) (map f seats) ≤ at_once) × (length (map f seats) ≤ most) × ((peer : List ℕ) → count_by (is_at peer) (map f seats) ≤ each)
+mapped f same time now none at_once each most seats fresh few at = (
+  let c = counted (is_fresh time) (is_fresh now) f none seats in omega (arith, c, fresh),
   omega (arith, few, length-map seats f),
-  λ peer. let c = counted (is_at peer) f (none_at f same peer) seats in let before = at peer in omega (arith, c, before),
+  λ peer. let c = counted (is_at peer) (is_at peer) f (none_at f same peer) seats in let before = at peer in omega (arith, c, before),
 )
 
 -- ---- what nobody asked for
@@ -88,8 +99,8 @@ heard_within s within now (Ok heard) = by heard.datagram
         let from = heard.from in
         let known = is_asked_at s from in
         let seats = map (seat_heard from datagram now) s.active in
-        let more = mapped (seat_heard from datagram now) (peer_heard from datagram now) (none_heard from datagram now) s.limits.at_once s.limits.at_host s.limits.most s.active within.0 within.1 within.2 in (
-          omega (arith, more.0, sum_heeded (λ (x : Seat). tally (is_first x)) from datagram (λ x. refl) known seats),
+        let more = mapped (seat_heard from datagram now) (peer_heard from datagram now) s.time s.time (none_heard s.time from datagram now) s.limits.at_once s.limits.at_host s.limits.most s.active within.0 within.1 within.2 in (
+          omega (arith, more.0, sum_heeded (λ (x : Seat). tally (is_fresh s.time x)) from datagram (λ x. refl) known seats),
           omega (arith, more.1, length_heeded from datagram known seats),
           λ peer. let e = more.2 peer in omega (arith, e, sum_heeded (λ (x : Seat). tally (is_at peer x)) from datagram (λ x. refl) known seats),
         )
@@ -99,5 +110,5 @@ stays_within = λ s within. (
   heard_within s within,
   λ ms.
       let now = max s.time ms in
-      mapped (seat_read now) (peer_read now) (none_read now) s.limits.at_once s.limits.at_host s.limits.most s.active within.0 within.1 within.2,
+      mapped (seat_read now) (peer_read now) s.time now (none_read s.time now (omega arith)) s.limits.at_once s.limits.at_host s.limits.most s.active within.0 within.1 within.2,
 )

@@ -1,5 +1,6 @@
 -- One device of a site.
-use Rattle.std.specs.Prelude.{◌≡◌, ℕ, ◌&&◌, nat_le, not, take, Bool, true, if◌then◌else◌, List, Some}
+use Rattle.std.specs.Prelude.{◌≡◌, ℕ, ◌+◌, ◌-◌, ◌&&◌, min, nat_le, nat_lt, not, take, Bool, true, if◌then◌else◌}
+use Rattle.std.specs.Prelude.{List, Some}
 use Rattle.std.specs.List.{list_any}
 use Rattle.std.specs.Str.{bytes_eq}
 use Rattle.bac_wire.specs.Stamp.{CivilTime}
@@ -15,6 +16,19 @@ use Rattle.bac_site_poller.specs.declared.seat.Seat.{Seat}
 -- whether its question was sent no more than once
 abbrev pub is_first : Seat → Bool
 is_first s = not s.is_repeated
+
+-- A request has a place among those in flight until it is answered, sent again, or so many milliseconds old: most devices
+-- answer sooner, and one that doesn't keeps no other waiting for longer.
+abbrev pub fresh_ms : ℕ
+fresh_ms = 250
+
+-- how old its question is, at a time
+abbrev pub age : (now : ℕ) → Seat → ℕ
+age now s = now - s.sent
+
+-- whether its question is fresh, and has a place among those in flight
+abbrev pub is_fresh : (now : ℕ) → Seat → Bool
+is_fresh now s = is_first s && nat_lt (age now s) fresh_ms
 
 -- whether its device is at the host of an address
 abbrev pub is_at : List ℕ → Seat → Bool
@@ -52,7 +66,19 @@ seat_read now s =
     then record s { poller = missed s.poller; is_repeated = true }
     else s
 
+-- when it gives up its place among those in flight
+abbrev pub fresh_until : (now : ℕ) → Seat → ℕ
+fresh_until now s = now + (fresh_ms - age now s)
+
+-- until when it is waited for: until its send is due; or, if places are wanted, until it gives up its own
+abbrev pub until : (is_wanted : Bool) → (now : ℕ) → Seat → ℕ
+until is_wanted now s = if is_wanted && is_fresh now s then min s.due (fresh_until now s) else s.due
+
 -- ---- what it wants
+
+-- its question is sent first, at a time
+abbrev pub sent_at : ℕ → Seat → Seat
+sent_at now s = record s { sent = now }
 
 -- these ids are free for its new logs
 abbrev pub lent : Ids → PollerAs → PollerAs

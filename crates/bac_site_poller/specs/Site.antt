@@ -1,5 +1,5 @@
 -- The polls of many devices over one port, as a machine. Read `GivesSite`, `SiteHears` and `site_read`.
-use Rattle.std.specs.Prelude.{◌≡◌, ◌⊎◌, ℕ, ◌+◌, ◌-◌, ◌<◌, ◌≤◌, ◌&&◌, ◌||◌, nat_lt, min, max, Bool, true, false}
+use Rattle.std.specs.Prelude.{◌≡◌, ◌⊎◌, ℕ, ◌+◌, ◌-◌, ◌<◌, ◌≤◌, ◌&&◌, ◌||◌, nat_le, nat_lt, min, max, Bool, true, false}
 use Rattle.std.specs.Prelude.{if◌then◌else◌}
 use Rattle.std.specs.Prelude.{List, [], ◌∷◌, ◌++◌, All, length, map, remove, slice_get, count_by, Option, None, Some}
 use Rattle.std.specs.Prelude.{Ok, Err}
@@ -17,7 +17,8 @@ use Rattle.bac_site_poller.specs.Hosts.{answered_at, host_at, is_answered, is_lo
 use Rattle.bac_site_poller.specs.Hosts.{slowed_at, with_limit}
 use Rattle.bac_site_poller.specs.Moment.{IsAfter}
 use Rattle.bac_site_poller.specs.News.{news_line}
-use Rattle.bac_site_poller.specs.Seat.{Wants, is_at, is_first, is_known, lent, noticed, seat_heard, seat_read}
+use Rattle.bac_site_poller.specs.Seat.{Wants, is_at, is_fresh, is_known, lent, noticed, seat_heard, seat_read, sent_at}
+use Rattle.bac_site_poller.specs.Seat.{until}
 use Rattle.bac_site_poller.specs.declared.hosts.Host.{Host}
 use Rattle.bac_site_poller.specs.declared.limits.Limits.{Limits}
 use Rattle.bac_site_poller.specs.declared.news.News.{News}
@@ -88,9 +89,17 @@ site_read ms s = record s {
 
 -- ---- limits
 
--- one more may be asked: too few have an open question that was sent once, and too few have one at all
+-- how many have a fresh question, which hold the places of those in flight
+abbrev pub fresh_count : SiteState → ℕ
+fresh_count s = count_by (is_fresh s.time) s.active
+
+-- one more may be asked: too few have a fresh question, and too few have one at all
 abbrev pub HasPlace : SiteState → Type 0
-HasPlace s = (count_by is_first s.active < s.limits.at_once) × (length s.active < s.limits.most)
+HasPlace s = (fresh_count s < s.limits.at_once) × (length s.active < s.limits.most)
+
+-- whether devices wait for a place among those in flight
+abbrev pub is_place_wanted : SiteState → Bool
+is_place_wanted s = nat_lt 0 (length s.waiting) && nat_le s.limits.at_once (fresh_count s)
 
 -- how many requests may be open at the host of an address
 abbrev pub limit_at : SiteState → List ℕ → ℕ
@@ -104,10 +113,10 @@ HasPlaceAt s peer = count_by (is_at peer) s.active < limit_at s peer
 abbrev pub HasRoom : SiteState → Seat → Type 0
 HasRoom s seat = HasPlace s × HasPlaceAt s seat.poller.way.peer
 
--- never more are open than may be: of those that were sent once, in all, and at one host
+-- never more are open than may be: of those that are fresh, in all, and at one host
 abbrev pub IsWithin : SiteState → Type 0
 IsWithin s =
-    (count_by is_first s.active ≤ s.limits.at_once) × (length s.active ≤ s.limits.most)
+    (fresh_count s ≤ s.limits.at_once) × (length s.active ≤ s.limits.most)
     × ((peer : List ℕ) → count_by (is_at peer) s.active ≤ s.limits.at_host)
 
 -- ---- slow hosts
@@ -215,10 +224,11 @@ IsNextAsked s place = MayAsk s place × ((k : ℕ) → k < place → MayAsk s k 
 abbrev pub NoneAsked : SiteState → Type 0
 NoneAsked s = (place : ℕ) → MayAsk s place → ⊥
 
--- a time is the first at which one of them is due
-abbrev pub IsNearest : List Seat → ℕ → Type 0
-IsNearest seats due =
-    All (λ s. due ≤ s.due) seats × ((place : ℕ) × (s : Seat) × (slice_get seats place ≡ Some s) × (due ≡ s.due))
+-- a time is the first until which one of them is waited for
+abbrev pub IsNearest : (Seat → ℕ) → List Seat → ℕ → Type 0
+IsNearest times seats due =
+    All (λ s. due ≤ times s) seats
+    × ((place : ℕ) × (s : Seat) × (slice_get seats place ≡ Some s) × (due ≡ times s))
 
 -- ---- what it wants
 
@@ -228,15 +238,17 @@ IsActed old wanted new =
     (place : ℕ) × (s : Seat) × (slice_get old.active place ≡ Some s) × (is_waiting s.poller.doing ≡ false)
     × GivesFrom (noted (record old { active = remove old.active place }) s) s wanted new
 
--- the first that waits for its turn and has room is asked
+-- the first that waits for its turn and has room is asked, and its question is fresh from now on
 abbrev pub IsAsked : SiteState → Next → SiteState → Type 0
 IsAsked old wanted new =
     (place : ℕ) × (s : Seat) × (slice_get old.waiting place ≡ Some s) × IsNextAsked old place
-    × GivesFrom (record old { waiting = remove old.waiting place }) s wanted new
+    × GivesFrom (record old { waiting = remove old.waiting place }) (sent_at old.time s) wanted new
 
--- nothing is to be done before the next of those that are asked is due; or all have ended
+-- nothing is to be done before the next of those that are asked is due, or gives up a place that is wanted; or all have
+-- ended
 abbrev pub Rests : SiteState → Next → Type 0
-Rests s (next.Wait within) = (due : ℕ) × IsNearest s.active due × (within ≡ min (due - s.time) 4294967295)
+Rests s (next.Wait within) =
+    (due : ℕ) × IsNearest (until (is_place_wanted s) s.time) s.active due × (within ≡ min (due - s.time) 4294967295)
 Rests s next.End = (s.active ≡ []) × (s.waiting ≡ [])
 Rests s other = ⊥
 

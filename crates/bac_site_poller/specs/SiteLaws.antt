@@ -7,7 +7,7 @@ use Rattle.std.specs.Str.{bytes_eq}
 use Rattle.bac_wire.specs.Stamp.{CivilTime}
 use Rattle.bac_archive.specs.declared.row.Put.{Put}
 use Rattle.bac_drive.specs.Chain.{Chain}
-use Rattle.bac_drive.specs.Event.{Event, Kept, Sent}
+use Rattle.bac_drive.specs.Event.{Event, Kept, Printed, Read, Sent, Waited, Warned}
 use Rattle.bac_drive.specs.Happens.{Acts, Steps, acting}
 use Rattle.bac_drive.specs.declared.machine.Next.{Next}
 use Rattle.bac_drive.specs.declared.machine.Next.TheVariants as next
@@ -24,9 +24,9 @@ use Rattle.bac_device_poller.specs.declared.doing.Doing.{Doing}
 use Rattle.bac_device_poller.specs.declared.doing.Doing.TheVariants as doing
 use Rattle.bac_device_poller.specs.declared.ids.Ids.{Ids}
 use Rattle.bac_site_poller.specs.Asked.{AreCome, IsOf, question_of}
-use Rattle.bac_site_poller.specs.Seat.{Wants, is_at, is_stray, lent, noticed, seat_heard}
+use Rattle.bac_site_poller.specs.Seat.{Wants, age, fresh_ms, is_at, is_stray, lent, noticed, seat_heard}
 use Rattle.bac_site_poller.specs.Site.{GivesSite, IsNextAsked, IsWithin, SiteHears, SiteState, fresh_site}
-use Rattle.bac_site_poller.specs.Site.{is_asked_at, limit_at, site_heard, site_read}
+use Rattle.bac_site_poller.specs.Site.{is_asked_at, is_place_wanted, limit_at, site_heard, site_read}
 use Rattle.bac_site_poller.specs.declared.limits.Limits.{Limits}
 use Rattle.bac_site_poller.specs.declared.seat.Seat.{Seat}
 
@@ -92,6 +92,13 @@ KeepsToLimits =
     (old new : SiteState) (e : Event) (peer : List ℕ) → SiteSteps old e new →
     count_by (is_at peer) new.active
     ≤ max (count_by (is_at peer) old.active) (limit_at old peer)
+
+-- While devices wait for a place among those in flight, a site waits for no longer than a request has one: no silent
+-- device keeps another waiting for longer.
+abbrev pub PlacesComeFree : Type 0
+PlacesComeFree =
+    (old new : SiteState) (within : ℕ) → GivesSite old (next.Wait within) new → is_place_wanted old ≡ true →
+    within ≤ fresh_ms
 
 -- ---- each for itself
 
@@ -172,6 +179,10 @@ again_of p = if seeks p then p.sought else repeats_of p.transactions.pending
 abbrev pub is_open_once : Seat → Bool
 is_open_once s = is_open s && again_of s.poller == 0
 
+-- one whose open question was sent once, and is fresh at a time
+abbrev pub is_open_fresh : (now : ℕ) → Seat → Bool
+is_open_fresh now s = is_open_once s && nat_lt (age now s) fresh_ms
+
 -- the mark of a seat tells whether its open question was sent more than once
 abbrev pub IsMarked : Seat → Type 0
 IsMarked s = is_open s ≡ true → s.is_repeated ≡ nat_lt 0 (again_of s.poller)
@@ -184,19 +195,18 @@ IsNew s = (s.poller.doing ≡ doing.Asks) × (s.poller.transactions.pending ≡ 
 abbrev pub IsUnasked : SiteState → Type 0
 IsUnasked s = (s.active ≡ []) × All (λ seat. IsNew seat) s.waiting × (s.ended ≡ [])
 
--- Each open question that was sent again is marked so, and no other: it has given up its place among those that were
--- sent once.
+-- Each open question that was sent again is marked so, and no other: it has given up its place among those in flight.
 abbrev pub RepeatsAreMarked : Type 0
 RepeatsAreMarked =
     (old new : SiteState) (es : List Event) → IsUnasked old → Chain SiteSteps old es new →
     All IsMarked new.active
 
--- No more questions are open than the limits say, which stay as they are: that were sent once, in all, and at one IP
--- address.
+-- No more questions are open than the limits say, which stay as they are: of those that were sent once and are fresh as
+-- the clock was read last, in all, and at one IP address.
 abbrev pub IsOpenWithin : SiteState → SiteState → Type 0
 IsOpenWithin old new =
     let limits = old.limits in
-    (new.limits ≡ limits) × (count_by is_open_once (seats_of new) ≤ limits.at_once)
+    (new.limits ≡ limits) × (count_by (is_open_fresh new.time) (seats_of new) ≤ limits.at_once)
     × (count_by is_open (seats_of new) ≤ limits.most)
     × ((peer : List ℕ) → count_by (is_open_at peer) (seats_of new) ≤ limits.at_host)
 
@@ -204,6 +214,28 @@ IsOpenWithin old new =
 abbrev pub OpenWithin : Type 0
 OpenWithin =
     (old new : SiteState) (es : List Event) → IsUnasked old → Chain SiteSteps old es new → IsOpenWithin old new
+
+-- the clock as it was read last, behind events
+abbrev pub clock_behind : (time : ℕ) → List Event → ℕ
+clock_behind time [] = time
+clock_behind time (Read ms ∷ es) = clock_behind (max time ms) es
+clock_behind time (Sent octets to answer ∷ es) = clock_behind time es
+clock_behind time (Waited within heard ∷ es) = clock_behind time es
+clock_behind time (Kept puts ∷ es) = clock_behind time es
+clock_behind time (Printed text ∷ es) = clock_behind time es
+clock_behind time (Warned text ∷ es) = clock_behind time es
+
+-- the question of a poll was sent to its device as the clock told this
+abbrev pub WasSentAt : (time : ℕ) → List Event → (sent : ℕ) → PollerAs → Type 0
+WasSentAt time es sent p =
+    (front behind : List Event) × (answer : Sending)
+    × (es ≡ front ++ Sent (question_of p) p.way.peer answer ∷ behind) × (sent ≡ clock_behind time front)
+
+-- Each open question was sent as the clock told what stands at its device: by that its age is told.
+abbrev pub SendsAreDated : Type 0
+SendsAreDated =
+    (old new : SiteState) (es : List Event) → IsUnasked old → Chain SiteSteps old es new →
+    All (λ s. is_open s ≡ true → WasSentAt old.time es s.sent s.poller) new.active
 
 -- ---- what is sent, and put
 

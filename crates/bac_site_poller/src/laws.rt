@@ -4,9 +4,10 @@ ghost use Rattle.bac_site_poller.specs.SiteLaws.{AllHaveEnded, AskInTurn, Batche
 ghost use Rattle.bac_site_poller.specs.SiteLaws.{BatchesWithin, BeginsUnasked, GoAlone};
 ghost use Rattle.bac_site_poller.specs.SiteLaws.{KeepsToLimits};
 ghost use Rattle.bac_site_poller.specs.SiteLaws.{LossesBringNone, OpenWithin, OthersNotHeeded};
-ghost use Rattle.bac_site_poller.specs.SiteLaws.{RepeatsAreMarked, SiteRowsCame, SiteSendsAsk};
-ghost use Rattle.bac_site_poller.specs.SiteLaws.{StaysWithin, StraysMayBe, WantsWithin};
-ghost use Rattle.bac_site_poller.specs.SiteLaws.{WithinLimits};
+ghost use Rattle.bac_site_poller.specs.SiteLaws.{PlacesComeFree};
+ghost use Rattle.bac_site_poller.specs.SiteLaws.{RepeatsAreMarked, SendsAreDated, SiteRowsCame};
+ghost use Rattle.bac_site_poller.specs.SiteLaws.{SiteSendsAsk, StaysWithin, StraysMayBe};
+ghost use Rattle.bac_site_poller.specs.SiteLaws.{WantsWithin, WithinLimits};
 
 /// A datagram changes nothing for a device that it isn't an answer of.
 pub fn others_not_heeded()
@@ -40,6 +41,12 @@ pub fn keeps_to_limits()
     ensures { KeepsToLimits }
 {}
 
+/// While devices wait for a place among the requests in flight, a site waits for no longer than a
+/// request has one.
+pub fn places_come_free()
+    ensures { PlacesComeFree }
+{}
+
 /// The poll of each device is what its own steps made of it, whatever other devices answer or
 /// don't.
 pub fn go_alone()
@@ -60,6 +67,12 @@ pub fn open_within()
 /// Each open question of a site that was sent again is marked so, and no other.
 pub fn repeats_are_marked()
     ensures { RepeatsAreMarked }
+{}
+
+/// Each open question was sent as the clock told what stands at its device, by which its age is
+/// told.
+pub fn sends_are_dated()
+    ensures { SendsAreDated }
 {}
 
 /// What a site sends is the question of the poll of a device, to that device.

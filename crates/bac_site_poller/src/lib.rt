@@ -17,9 +17,9 @@ mod status_laws;
 pub use hosts::Host;
 pub use laws::{
     all_have_ended, ask_in_turn, batches_come, batches_end, batches_within, begins_unasked,
-    go_alone, keeps_to_limits, losses_bring_none, open_within, others_not_heeded,
-    repeats_are_marked, site_rows_came, site_sends_ask, stays_within, strays_may_be, wants_within,
-    within_limits,
+    go_alone, keeps_to_limits, losses_bring_none, open_within, others_not_heeded, places_come_free,
+    repeats_are_marked, sends_are_dated, site_rows_came, site_sends_ask, stays_within,
+    strays_may_be, wants_within, within_limits,
 };
 pub use limits::Limits;
 pub use news::News;

@@ -5,7 +5,8 @@ ghost use Rattle.std.specs.Prelude.{◌≡◌, ◌<◌, max};
 /// How many requests may be open, and how long each send is waited for. One may be, at least.
 #[derive(Clone, Copy)]
 pub struct Limits {
-    /// How many that were sent once. One that was sent again has given its place up.
+    /// How many that were sent once, less than 250 ms ago. One that was sent again, or is older,
+    /// has given its place up.
     pub at_once: usize,
     /// How many at one IP address, those that were sent again too.
     pub at_host: usize,

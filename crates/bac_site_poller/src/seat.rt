@@ -1,9 +1,10 @@
 //! One device of a site.
 
-ghost use Rattle.std.specs.Prelude.{◌≡◌, [], IfNone, IfOk, IfSome, count_by, fold, map};
+ghost use Rattle.std.specs.Prelude.{◌≡◌, [], IfNone, IfOk, IfSome, count_by, fold, map, min};
 ghost use Rattle.bac_device_poller.specs.Poller.{is_waiting};
-ghost use Rattle.bac_site_poller.specs.Seat.{Wants, is_at, is_first, is_known, is_stray, noticed};
-ghost use Rattle.bac_site_poller.specs.Seat.{seat_heard, seat_read};
+ghost use Rattle.bac_site_poller.specs.Seat.{Wants, age, fresh_until, is_at, is_fresh, is_known};
+ghost use Rattle.bac_site_poller.specs.Seat.{is_stray, noticed, seat_heard, seat_read, sent_at};
+ghost use Rattle.bac_site_poller.specs.Seat.{until};
 ghost use Rattle.bac_site_poller.specs.Site.{IsNearest, MayAct, NoneActs};
 ghost use Rattle.bac_site_poller.specs.Status.{with_seat};
 
@@ -13,12 +14,17 @@ use bac_wire::{Address, Datagram, Stamp};
 use std::alloc::{AllocError, Global};
 use std::collections::VecDeque;
 
+/// How long a request counts among those in flight, in milliseconds, while no answer comes.
+const FRESH_MS: u64 = 250;
+
 /// A device, and its poll.
 #[derive(Drop)]
 pub struct Seat {
     pub poller: DevicePoller,
     /// Until when the send of its question is waited for.
     pub due: u64,
+    /// When its question was sent first.
+    pub sent: u64,
     /// Whether its question was sent more than once.
     pub is_repeated: bool,
     /// From where else an answer to its question came.
@@ -75,6 +81,44 @@ impl Seat {
         }
     }
 
+    /// Its question is sent first, as the clock tells so many milliseconds.
+    pub fn send(&mut self, now: u64)
+        ensures { self.new ≡ sent_at now self.old }
+    {
+        self.sent = now;
+    }
+
+    /// How old its question is, in milliseconds.
+    fn age(&self, now: u64) -> u64
+        ensures { result ≡ age now self.now }
+    {
+        now.saturating_sub(self.sent)
+    }
+
+    /// Whether its question counts among those in flight.
+    pub fn is_fresh(&self, now: u64) -> bool
+        ensures { result ≡ is_fresh now self.now }
+    {
+        !self.is_repeated && self.age(now) < FRESH_MS
+    }
+
+    /// When it gives up its place among those, or the last moment of the clock.
+    fn fresh_until(&self, now: u64) -> u64
+        ensures { result ≡ min (fresh_until now self.now) 18446744073709551615 }
+    {
+        now.saturating_add(FRESH_MS.saturating_sub(self.age(now)))
+    }
+
+    /// Until when it is waited for, where places among those in flight are wanted, or aren't.
+    pub fn until(&self, is_wanted: bool, now: u64) -> u64
+        ensures { result ≡ until is_wanted now self.now }
+    {
+        if is_wanted && self.is_fresh(now) {
+            return self.due.min(self.fresh_until(now));
+        }
+        self.due
+    }
+
     /// The clock tells so many milliseconds.
     pub fn read(&mut self, now: u64)
         ensures { self.new ≡ seat_read now self.old }
@@ -99,14 +143,15 @@ pub fn acting(seats: &[Seat]) -> Option<usize>
     None
 }
 
-/// Until when the next of them is waited for.
-pub fn nearest(seats: &[Seat]) -> Option<u64>
-    ensures some { IfSome result (λ due. IsNearest seats.now due) }
+/// Until when the next of them is waited for, where places among those in flight are wanted, or
+/// aren't.
+pub fn nearest(seats: &[Seat], is_wanted: bool, now: u64) -> Option<u64>
+    ensures some { IfSome result (λ due. IsNearest (until is_wanted now) seats.now due) }
     ensures none { IfNone result (seats.now ≡ []) }
 {
-    let mut nearest = seats.first()?.due;
+    let mut nearest = seats.first()?.until(is_wanted, now);
     for seat in seats {
-        nearest = nearest.min(seat.due);
+        nearest = nearest.min(seat.until(is_wanted, now));
     }
     Some(nearest)
 }
@@ -133,13 +178,13 @@ pub fn greatest_queued(status: Status, seats: &VecDeque<Seat>) -> Status
     greatest
 }
 
-/// How many have a question that was sent no more than once.
-pub fn count_first(seats: &[Seat]) -> usize
-    ensures { result ≡ count_by is_first seats.now }
+/// How many have a question that counts among those in flight.
+pub fn count_fresh(seats: &[Seat], now: u64) -> usize
+    ensures { result ≡ count_by (is_fresh now) seats.now }
 {
     let mut count = 0;
     for seat in seats {
-        if !seat.is_repeated {
+        if seat.is_fresh(now) {
             count += 1;
         }
     }

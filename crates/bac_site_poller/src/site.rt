@@ -9,7 +9,7 @@ ghost use Rattle.bac_site_poller.specs.Site.{GivesFrom, GivesNews, GivesSite, Gi
 ghost use Rattle.bac_site_poller.specs.Site.{HasPlace, HasPlaceAt, IsActed, IsAsked, IsNextAsked};
 ghost use Rattle.bac_site_poller.specs.Site.{MayAct, MayAsk, NoneAsked, Rests, SiteHears};
 ghost use Rattle.bac_site_poller.specs.Site.{fresh_site, given, hosts_lost, is_asked_at};
-ghost use Rattle.bac_site_poller.specs.Site.{is_crowded, limit_at};
+ghost use Rattle.bac_site_poller.specs.Site.{fresh_count, is_crowded, is_place_wanted, limit_at};
 ghost use Rattle.bac_site_poller.specs.Site.{news_lost, noted, put, site_heard, site_read};
 ghost use Rattle.bac_site_poller.specs.Site.{stray_by};
 ghost use Rattle.bac_site_poller.specs.Status.{site_status};
@@ -22,7 +22,7 @@ use crate::limits::Limits;
 use crate::moment::moment_after;
 use crate::news::{News, news_line};
 use crate::seat::{
-    Seat, acting, count_at, count_first, greatest, greatest_queued, hear_all, is_known, is_queued,
+    Seat, acting, count_at, count_fresh, greatest, greatest_queued, hear_all, is_known, is_queued,
     nearest, notice_all, read_all, want,
 };
 use bac_device_poller::{DevicePoller, Doing, Ids, Status, told_by};
@@ -104,12 +104,13 @@ impl SitePoller {
     pub fn add(&mut self, poller: DevicePoller) -> Result<(), AllocError>
         ensures ok { OnOk result (self.new ≡ record self.old {
           waiting = self.old.waiting ++ record
-              { poller = poller; due = 0; is_repeated = false; stray = None } ∷ [];
+              { poller = poller; due = 0; sent = 0; is_repeated = false; stray = None } ∷ [];
         }) }
     {
         self.waiting.push_back(Seat {
             poller,
             due: 0,
+            sent: 0,
             is_repeated: false,
             stray: None,
         })?;
@@ -180,12 +181,25 @@ impl SitePoller {
         read_all(self.active.as_mut_slice(), now);
     }
 
+    /// How many have a question that counts among those in flight.
+    fn fresh_count(&self) -> usize
+        ensures { result ≡ fresh_count self.now }
+    {
+        count_fresh(self.active.as_slice(), self.time)
+    }
+
     /// Whether one more may be asked.
     fn has_place(&self) -> bool
         ensures { IsTrue result ↔ HasPlace self.now }
     {
-        count_first(self.active.as_slice()) < self.limits.at_once
-            && self.active.len() < self.limits.most
+        self.fresh_count() < self.limits.at_once && self.active.len() < self.limits.most
+    }
+
+    /// Whether devices wait for a place among those in flight.
+    fn is_place_wanted(&self) -> bool
+        ensures { result ≡ is_place_wanted self.now }
+    {
+        self.waiting.len() > 0 && self.fresh_count() >= self.limits.at_once
     }
 
     /// How many requests may be open at the host of an address.
@@ -346,7 +360,11 @@ impl SitePoller {
         ensures { IfOk result (λ next. IsAsked self.old next self.new) }
     {
         match self.waiting.remove(place) {
-            Some(seat) => self.give(alloc, seat),
+            Some(seat) => {
+                let mut seat = seat;
+                seat.send(self.time);
+                self.give(alloc, seat)
+            }
             None => unreachable!(),
         }
     }
@@ -356,7 +374,8 @@ impl SitePoller {
         requires { NoneAsked self.now }
         ensures { Rests self.now result }
     {
-        match nearest(self.active.as_slice()) {
+        let is_wanted = self.is_place_wanted();
+        match nearest(self.active.as_slice(), is_wanted, self.time) {
             Some(due) => Next::Wait(due.saturating_sub(self.time).min(u64::from(u32::MAX)) as u32),
             None => Next::End,
         }
