@@ -1,4 +1,4 @@
-use Rattle.std.proofs.Common.{◌≡◌, None, Ok, false, refl, subst, sym, true}
+use Rattle.std.proofs.Common.{◌≡◌, None, Ok, false, refl, true}
 use Rattle.sqlite_wal.specs.Files.{image_at}
 use Rattle.bac_files.proofs.FileGhosts.{file_ghosts}
 use Rattle.bac_ports.specs.Sockets.{socket_rules}
@@ -21,7 +21,7 @@ returns-then-not-reads_input-clause-ran g c =
     rw reads (
       keeps_over rules acts disk (image_at g.F.Start) part (image_at g.G.Start) c.args.waits g.C.Clock.tells c.args.asked.stop c.args.asked old new
           (g.I.Read.remaining c.args.input.now) (g.I.Read.remaining c.args.input.now) done.result done.ensures.ran,
-      refl,
+      refl {a = g.I.Read.remaining c.args.input.now},
     )
 
 pub returns-in-Ok-clause-ran : goal.returns-in-Ok-clause-ran
