@@ -49,7 +49,7 @@ def waits(judge, name, words, wanted):
     """A run waits until the other program has closed the file, and no longer, and then does its work."""
     told, took = timed(judge, words)
     judge.same(name, told, wanted)
-    judge.is_right(f"{name}: waits", HELD - 0.2 <= took < HELD + 4, took)
+    judge.is_right(f"{name}: waits", HELD - 0.2 <= took < HELD + 8, took)
 
 
 def gives_up(judge, name, words, wanted, least, most):
