@@ -89,7 +89,7 @@ def waited_in_vain(judge, _runs):
     file = f"{judge.room}/a.db"
     judge.ran(["keep", file, device.address, "1"])
     log.log(2)
-    before, asked = open(file, "rb").read(), device.asked
+    before, beside, asked = open(file, "rb").read(), os.path.getsize(f"{file}-wal"), device.asked
     for statement in (WRITES, READS):
         with held(file, statement):
             for words in (["keep", file], ["keep", file, device.address], ["keep", file, "--stop", device.address], ["kept", file], ["check", file]):
@@ -99,7 +99,8 @@ def waited_in_vain(judge, _runs):
     gives_up(judge, "one that is free isn't waited for", ["check", file, "--wait=3600"], judge.ran(["check", file, "--wait=0"]), 0, 4)
     judge.same("the file is as it was", open(file, "rb").read() == before, True)
     judge.same("the device wasn't asked", device.asked, asked)
-    judge.same("the log beside it is empty or gone", os.path.getsize(f"{file}-wal") if os.path.exists(f"{file}-wal") else 0, 0)
+    # (the other program may have taken it away, or begun one)
+    judge.is_right("the log beside it hasn't grown", not os.path.exists(f"{file}-wal") or os.path.getsize(f"{file}-wal") <= beside, beside)
 
 
 def waited_for_parts(judge, _runs):
