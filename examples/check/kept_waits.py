@@ -94,9 +94,9 @@ def waited_in_vain(judge, _runs):
         with held(file, statement):
             for words in (["keep", file], ["keep", file, device.address], ["keep", file, "--stop", device.address], ["kept", file], ["check", file]):
                 name = " ".join([words[0], *words[2:]])
-                gives_up(judge, f"{name} at once", [*words, "--wait=0"], in_use(file), 0, 0.9)
-                gives_up(judge, f"{name} behind a second", [*words, "--wait=1"], in_use(file), 0.9, 4)
-    gives_up(judge, "one that is free isn't waited for", ["check", file, "--wait=3600"], judge.ran(["check", file, "--wait=0"]), 0, 4)
+                gives_up(judge, f"{name} at once", [*words, "--wait=0"], in_use(file), 0, 3)
+                gives_up(judge, f"{name} behind a second", [*words, "--wait=1"], in_use(file), 0.9, 8)
+    gives_up(judge, "one that is free isn't waited for", ["check", file, "--wait=3600"], judge.ran(["check", file, "--wait=0"]), 0, 8)
     judge.same("the file is as it was", open(file, "rb").read() == before, True)
     judge.same("the device wasn't asked", device.asked, asked)
     # (the other program may have taken it away, or begun one)
@@ -119,7 +119,7 @@ def waited_for_parts(judge, _runs):
     open(second, "wb").close()
     log.log(2)
     with held(first, WRITES):
-        gives_up(judge, "the one before stays in use", ["keep", folder, "--wait=1"], in_use(first), 0.9, 4)
+        gives_up(judge, "the one before stays in use", ["keep", folder, "--wait=1"], in_use(first), 0.9, 8)
     with held(first, WRITES, HELD):
         waits(judge, "the one before", ["keep", folder], (0, said(device, 2, 0, "caught up, next 8"), ""))
     printed = judge.ran(["kept", folder])

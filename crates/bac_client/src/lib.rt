@@ -15,8 +15,8 @@
 //!
 //! This crate is the door: it has no code of its own, and re-exports what a tool needs. The walk is
 //! of bac_walk, requests, transactions and links of bac_link, ports and links over them of
-//! bac_ports, links in memory of bac_memory_link, and a network that repeats and reorders of bac_world.
-//! What their calls take and answer comes with them.
+//! bac_ports, links in memory of bac_memory_link, and a network that repeats and reorders of
+//! bac_world. What their calls take and answer comes with them.
 #![tactic(auto)]
 
 pub use bac_apdu::{Apdu, Extent, ReadProperty, ReadRange, Route, WriteProperty};

@@ -7,7 +7,8 @@ use Rattle.clap.specs.declared.builder.action.ArgAction.TheVariants.{SetTrue}
 use Rattle.clap.specs.declared.builder.command.Command.{Command}
 use Rattle.clap.specs.declared.builder.command.Command.TheViews.{out-Command}
 use Rattle.bac_command_line.specs.declared.word.Word.{Word}
-use Rattle.bac_command_line.specs.declared.word.Word.TheVariants.{Address, ObjectType, Instance, Property, Priority, Tag, From}
+use Rattle.bac_command_line.specs.declared.word.Word.TheVariants.{Address, ObjectType, Instance, Property, Priority}
+use Rattle.bac_command_line.specs.declared.word.Word.TheVariants.{Tag, From}
 use Rattle.bac_command_line.specs.declared.word.Word.TheVariants.{File}
 use Rattle.bac_command_line.specs.declared.word.Word.TheVariants.{Index, Value, Min, Max, Steps, Count, Local, Timeout}
 use Rattle.bac_command_line.specs.declared.word.Word.TheVariants.{AtOnce, Records, Part, Since, Until, Last, Wait}

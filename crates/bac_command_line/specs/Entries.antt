@@ -5,7 +5,8 @@ use Rattle.bac_command_line.specs.declared.entries.Entry.{Entry}
 use Rattle.bac_command_line.specs.declared.entries.Entry.TheVariants.{Needed, NeededList, Maybe, MaybeList}
 use Rattle.bac_command_line.specs.declared.entries.Entry.TheVariants.{Flag, FlagOr, Choice, ChoiceOr}
 use Rattle.bac_command_line.specs.declared.commands.Tool.{Tool}
-use Rattle.bac_command_line.specs.declared.commands.Tool.TheVariants.{Replay, Wi, Rp, Wp, Log, Logs, Keep, Kept, Check, Serve}
+use Rattle.bac_command_line.specs.declared.commands.Tool.TheVariants.{Replay, Wi, Rp, Wp, Log, Logs, Keep, Kept, Check}
+use Rattle.bac_command_line.specs.declared.commands.Tool.TheVariants.{Serve}
 use Rattle.bac_command_line.specs.Commands.{needed, needed_list, maybe, maybe_list, flag, flag_or, option, option_or}
 use Rattle.bac_command_line.specs.Commands.{replay_app, wi_app, rp_app, wp_app, log_app, logs_app, keep_app, kept_app}
 use Rattle.bac_command_line.specs.Commands.{check_app, serve_app}

@@ -6,8 +6,10 @@ use Rattle.std.specs.Option.{ok_or}
 use Rattle.std.specs.Str.{bytes_eq}
 use Rattle.clap.specs.Words.{Row, Text}
 use Rattle.bac_command_line.specs.declared.word.Word.{Word}
-use Rattle.bac_command_line.specs.declared.word.Word.TheVariants.{Tool, Address, ObjectType, Instance, Property, Priority, Tag}
-use Rattle.bac_command_line.specs.declared.word.Word.TheVariants.{From, File, Index, Value, Min, Max, Steps, Count, Local}
+use Rattle.bac_command_line.specs.declared.word.Word.TheVariants.{Tool, Address, ObjectType, Instance, Property}
+use Rattle.bac_command_line.specs.declared.word.Word.TheVariants.{Priority, Tag}
+use Rattle.bac_command_line.specs.declared.word.Word.TheVariants.{From, File, Index, Value, Min, Max, Steps, Count}
+use Rattle.bac_command_line.specs.declared.word.Word.TheVariants.{Local}
 use Rattle.bac_command_line.specs.declared.word.Word.TheVariants.{AtOnce, Records, Part, Wait, Quiet}
 use Rattle.bac_command_line.specs.declared.word.Word.TheVariants.{Timeout, Retries, Dnet, Dadr, Stop, Numbers, Trace}
 use Rattle.bac_command_line.specs.declared.job.Job.{Job}

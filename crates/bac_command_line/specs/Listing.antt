@@ -5,7 +5,8 @@ use Rattle.std.specs.List.{slice_split}
 use Rattle.std.specs.Str.Lines.{strip_carriage_return}
 use Rattle.bac_command_line.specs.Networks.{stations_of}
 use Rattle.bac_command_line.specs.declared.listing.ListFault.{ListFault}
-use Rattle.bac_command_line.specs.declared.listing.ListFault.TheVariants.{BadLine, TooMany, Empty, TooLong, Read, Memory}
+use Rattle.bac_command_line.specs.declared.listing.ListFault.TheVariants.{BadLine, TooMany, Empty, TooLong, Read}
+use Rattle.bac_command_line.specs.declared.listing.ListFault.TheVariants.{Memory}
 
 -- the stations that a line says; none of an empty line and of one that begins with # (35)
 abbrev pub said_in : List ℕ → Option (List (List ℕ))

@@ -2,10 +2,13 @@
 use Rattle.std.specs.Prelude.{Bool, true, false, codes}
 use Rattle.clap.specs.Words.{Text}
 use Rattle.bac_command_line.specs.declared.word.Word.{Word}
-use Rattle.bac_command_line.specs.declared.word.Word.TheVariants.{Tool, Address, ObjectType, Instance, Property, Priority, Tag}
-use Rattle.bac_command_line.specs.declared.word.Word.TheVariants.{From, File, Index, Value, Min, Max, Steps, Count, Local}
+use Rattle.bac_command_line.specs.declared.word.Word.TheVariants.{Tool, Address, ObjectType, Instance, Property}
+use Rattle.bac_command_line.specs.declared.word.Word.TheVariants.{Priority, Tag}
+use Rattle.bac_command_line.specs.declared.word.Word.TheVariants.{From, File, Index, Value, Min, Max, Steps, Count}
+use Rattle.bac_command_line.specs.declared.word.Word.TheVariants.{Local}
 use Rattle.bac_command_line.specs.declared.word.Word.TheVariants.{AtOnce, Records, Part, Since, Until, Last, Wait}
-use Rattle.bac_command_line.specs.declared.word.Word.TheVariants.{Timeout, Retries, Dnet, Dadr, Csv, Stop, Numbers, Trace}
+use Rattle.bac_command_line.specs.declared.word.Word.TheVariants.{Timeout, Retries, Dnet, Dadr, Csv, Stop, Numbers}
+use Rattle.bac_command_line.specs.declared.word.Word.TheVariants.{Trace}
 use Rattle.bac_command_line.specs.declared.word.Word.TheVariants.{Json, Quiet}
 
 -- a word's name in the help; an option's, without its --

@@ -2,7 +2,8 @@
 
 ghost use Rattle.std.specs.Prelude.{◌≡◌};
 ghost use Rattle.clap.specs.Words.{rows_of, found_of};
-ghost use Rattle.bac_command_line.specs.Dates.{extent_at, extent_of, fits, is_front, is_stamp_front};
+ghost use Rattle.bac_command_line.specs.Dates.{extent_at, extent_of, fits, is_front};
+ghost use Rattle.bac_command_line.specs.Dates.{is_stamp_front};
 ghost use Rattle.bac_command_line.specs.Dates.{stamp_at};
 ghost use Rattle.bac_command_line.specs.Steps.{Makes};
 

@@ -4,9 +4,11 @@ ghost use Rattle.std.specs.Prelude.{◌≡◌, ◌==◌, ◌&&◌, ◌∷◌, []
 ghost use Rattle.std.specs.Prelude.{IfOk};
 ghost use Rattle.std.specs.List.{slice_split};
 ghost use Rattle.std.specs.Str.{bytes_eq};
-ghost use Rattle.bac_command_line.specs.Devices.{announced, device_at, device_of, devices_in, devices_of};
+ghost use Rattle.bac_command_line.specs.Devices.{announced, device_at, device_of, devices_in};
+ghost use Rattle.bac_command_line.specs.Devices.{devices_of};
 ghost use Rattle.bac_command_line.specs.Devices.{said_device, said_way, way_behind, way_if, way_of};
-ghost use Rattle.bac_command_line.specs.Listing.{IsListed, Lists, listed_by, with_said, within_list};
+ghost use Rattle.bac_command_line.specs.Listing.{IsListed, Lists, listed_by, with_said};
+ghost use Rattle.bac_command_line.specs.Listing.{within_list};
 ghost use Rattle.bac_command_line.specs.Rows.{route_in};
 
 use crate::address::address;

@@ -82,7 +82,8 @@ pub struct Keep {
     pub stop: bool,
     /// How many MiB a part of an archive has when the next one is begun: 1 to 4,096.
     pub part: u32,
-    /// How many requests are in flight at once, of those that weren't sent again: 1 to 1,024.
+    /// How many requests are in flight at once, of those that were sent once, less than 250 ms ago:
+    /// 1 to 1,024.
     pub at_once: u32,
     /// How many seconds a file that is in use is waited for: 0 to 3,600.
     pub wait: u32,

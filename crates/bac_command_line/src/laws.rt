@@ -7,17 +7,22 @@ ghost use Rattle.clap.specs.declared.error.kind.ErrorKind.TheVariants.{MissingSu
 ghost use Rattle.clap.specs.declared.error.kind.ErrorKind.TheVariants.{UnknownArgument};
 ghost use Rattle.clap.specs.declared.error.kind.ErrorKind.TheVariants.{ArgumentConflict};
 ghost use Rattle.clap.specs.declared.error.kind.ErrorKind.TheVariants.{DisplayHelp};
-ghost use Rattle.bac_command_line.specs.declared.word.Word.TheVariants.{Address, From, Instance, Max};
-ghost use Rattle.bac_command_line.specs.declared.word.Word.TheVariants.{Records, Retries, Dnet, Dadr};
-ghost use Rattle.bac_command_line.specs.declared.word.Word.TheVariants.{Json as JsonWord, Last, Since, Stop, Until, Wait};
+ghost use Rattle.bac_command_line.specs.declared.word.Word.TheVariants.{Address, From, Instance};
+ghost use Rattle.bac_command_line.specs.declared.word.Word.TheVariants.{Max};
+ghost use Rattle.bac_command_line.specs.declared.word.Word.TheVariants.{Records, Retries, Dnet};
+ghost use Rattle.bac_command_line.specs.declared.word.Word.TheVariants.{Dadr};
+ghost use Rattle.bac_command_line.specs.declared.word.Word.TheVariants.{Json as JsonWord, Last};
+ghost use Rattle.bac_command_line.specs.declared.word.Word.TheVariants.{Since, Stop, Until, Wait};
 ghost use Rattle.bac_form.specs.declared.form.Form.TheVariants.{Csv, Json};
-ghost use Rattle.bac_command_line.specs.declared.job.Job.TheVariants.{Replay, Wi, Rp, Wp, Log, Logs, Keep};
+ghost use Rattle.bac_command_line.specs.declared.job.Job.TheVariants.{Replay, Wi, Rp, Wp, Log};
+ghost use Rattle.bac_command_line.specs.declared.job.Job.TheVariants.{Logs, Keep};
 ghost use Rattle.bac_command_line.specs.declared.job.Job.TheVariants.{Kept, Check, Serve};
 ghost use Rattle.bac_command_line.specs.declared.job.Extent.TheVariants.{Newest};
 ghost use Rattle.bac_command_line.specs.declared.job.Given.TheVariants.{Null, Signed};
 ghost use Rattle.bac_command_line.specs.declared.job.Stations.TheVariants.{Input, Listed};
 ghost use Rattle.bac_command_line.specs.Lines.{Says, Mistakes, station, by_default, by_way, group};
-ghost use Rattle.bac_command_line.specs.Lines.{no_options, discovery, property_reading, property_writing};
+ghost use Rattle.bac_command_line.specs.Lines.{no_options, discovery, property_reading};
+ghost use Rattle.bac_command_line.specs.Lines.{property_writing};
 ghost use Rattle.bac_command_line.specs.Lines.{log_reading, listing, keeping, printing, between};
 
 /// Lines of `bac wi`, and what they ask for.
@@ -97,7 +102,9 @@ pub fn lines_say_keep()
           stop = true;
         }))) }
     ensures no_wait { Says (codes "bac keep a.db 10.0.0.1 --wait=0")
-        (Ok (Keep (record (keeping (codes "a.db") (group (codes "10.0.0.1") [] ∷ [])) { wait = 0 }))) }
+        (Ok (Keep (record (keeping (codes "a.db") (group (codes "10.0.0.1") [] ∷ [])) {
+          wait = 0;
+        }))) }
     ensures quiet { Says (codes "bac keep a.db -q")
         (Ok (Keep (record (keeping (codes "a.db") []) { quiet = true }))) }
     ensures waits { Says (codes "bac keep a.db --quiet --wait=3600")

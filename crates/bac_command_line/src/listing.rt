@@ -4,7 +4,8 @@ ghost use Rattle.std.specs.Prelude.{◌≡◌, ◌==◌, [], map, option_map, If
 ghost use Rattle.std.specs.List.{slice_split};
 ghost use Rattle.std.specs.Str.Lines.{strip_carriage_return};
 ghost use Rattle.bac_command_line.specs.Networks.{said_stations};
-ghost use Rattle.bac_command_line.specs.Listing.{IsListed, Lists, addresses_of, listed as listed_in};
+ghost use Rattle.bac_command_line.specs.Listing.{IsListed, Lists, addresses_of};
+ghost use Rattle.bac_command_line.specs.Listing.{listed as listed_in};
 ghost use Rattle.bac_command_line.specs.Listing.{said_in, with_said};
 
 use crate::addresses::Addresses;

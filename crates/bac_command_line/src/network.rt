@@ -1,7 +1,8 @@
 //! The stations of a word: an address, or those of the IP network that it lies in.
 
 ghost use Rattle.std.specs.Prelude.{◌≡◌, ◌+◌, ◌≤◌, ◌<◌, ◌^◌, ◌++◌, OnOk, option_map};
-ghost use Rattle.bac_command_line.specs.Networks.{base_of, host_of, hosts_from, hosts_in, said_stations};
+ghost use Rattle.bac_command_line.specs.Networks.{base_of, host_of, hosts_from, hosts_in};
+ghost use Rattle.bac_command_line.specs.Networks.{said_stations};
 ghost use Rattle.bac_command_line.specs.Networks.{size_of, stations_of, with_host};
 
 use crate::address::{address, cut};

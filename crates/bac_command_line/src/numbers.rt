@@ -3,7 +3,8 @@
 ghost use Rattle.std.specs.Char.{is_ascii_digit};
 ghost use Rattle.std.specs.List.{list_all};
 ghost use Rattle.std.specs.Prelude.{◌≡◌, ◌≤◌, length, true, false};
-ghost use Rattle.bac_command_line.specs.Numbers.{value_of, digits_in, is_long, number_in, unsigned_in};
+ghost use Rattle.bac_command_line.specs.Numbers.{value_of, digits_in, is_long, number_in};
+ghost use Rattle.bac_command_line.specs.Numbers.{unsigned_in};
 ghost use Rattle.bac_command_line.specs.Numbers.{signed_in, with_sign};
 
 /// What the digits of a word say, of which there are at most twenty.

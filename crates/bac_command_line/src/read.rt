@@ -5,7 +5,8 @@ ghost use Rattle.std.specs.String.{string_bytes};
 ghost use Rattle.clap.specs.Words.{rows_of, found_of, subcommand_rows_of};
 ghost use Rattle.bac_command_line.specs.Steps.{Makes};
 ghost use Rattle.bac_command_line.specs.Jobs.{job_of_tool, job_of};
-ghost use Rattle.bac_command_line.specs.Outcome.{mistakes_of, is_long_of, job_in, Answers, IsRefused};
+ghost use Rattle.bac_command_line.specs.Outcome.{mistakes_of, is_long_of, job_in, Answers};
+ghost use Rattle.bac_command_line.specs.Outcome.{IsRefused};
 
 use crate::commands::command;
 use crate::fault::WordsFault;

@@ -3,8 +3,10 @@
 ghost use Rattle.std.specs.Prelude.{◌≡◌, map, option_map, IfOk};
 ghost use Rattle.clap.specs.Words.{rows_of, found_of};
 ghost use Rattle.bac_command_line.specs.Steps.{Makes};
-ghost use Rattle.bac_command_line.specs.Rows.{is_long_text, is_said, text_at, number_at, maybe_number_at};
-ghost use Rattle.bac_command_line.specs.Rows.{address_at, local_at, addresses_in, is_input, stations_in};
+ghost use Rattle.bac_command_line.specs.Rows.{is_long_text, is_said, text_at, number_at};
+ghost use Rattle.bac_command_line.specs.Rows.{maybe_number_at};
+ghost use Rattle.bac_command_line.specs.Rows.{address_at, local_at, addresses_in, is_input};
+ghost use Rattle.bac_command_line.specs.Rows.{stations_in};
 ghost use Rattle.bac_command_line.specs.Rows.{form_at, stations_at};
 
 use crate::address::address;

@@ -3,7 +3,8 @@
 ghost use Rattle.std.specs.Prelude.{◌≡◌};
 ghost use Rattle.clap.specs.Words.{rows_of, found_of};
 ghost use Rattle.bac_command_line.specs.Steps.{Makes};
-ghost use Rattle.bac_command_line.specs.Jobs.{asked_at, max_beside, wi_at, rp_at, tag_at, given_at, wp_at};
+ghost use Rattle.bac_command_line.specs.Jobs.{asked_at, max_beside, wi_at, rp_at, tag_at, given_at};
+ghost use Rattle.bac_command_line.specs.Jobs.{wp_at};
 ghost use Rattle.bac_command_line.specs.Jobs.{from_in, from_at, log_at, logs_at, serve_at};
 
 use crate::fault::WordsFault;

@@ -1,7 +1,8 @@
 //! The words and options of the tools, by their names.
 
 ghost use Rattle.std.specs.Prelude.{◌≡◌, Some};
-ghost use Rattle.bac_command_line.specs.Names.{is_number as is_number_of, is_option as is_option_of};
+ghost use Rattle.bac_command_line.specs.Names.{is_number as is_number_of};
+ghost use Rattle.bac_command_line.specs.Names.{is_option as is_option_of};
 ghost use Rattle.bac_command_line.specs.Names.{name_of};
 ghost use Rattle.bac_command_line.specs.Rows.{is_long_text};
 

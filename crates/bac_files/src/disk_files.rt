@@ -1,12 +1,14 @@
 //! The files of the machine.
 
-ghost use Rattle.std.specs.Prelude.{◌≡◌, ◌≢◌, ◌*◌, ◌+◌, ◌≤◌, IfErr, IfOk, IsTrue, None, OnErr, OnOk};
+ghost use Rattle.std.specs.Prelude.{◌≡◌, ◌≢◌, ◌*◌, ◌+◌, ◌≤◌, IfErr, IfOk, IsTrue, None, OnErr};
+ghost use Rattle.std.specs.Prelude.{OnOk};
 ghost use Rattle.sqlite.specs.Closing.{IsCopied};
 ghost use Rattle.sqlite.specs.Opening.{is_open_error};
 ghost use Rattle.sqlite_wal.specs.Files.{image_at};
 ghost use Rattle.sqlite_wal.specs.Reads.{AreClean};
 ghost use Rattle.bac_files.specs.Files.{IsClosedBy, IsNamed, IsOpenedBy, IsReason, IsReasonFor};
-ghost use Rattle.bac_files.specs.Files.{IsUnasked, IsUnclosed, IsUnopened, IsUnused, KeepsOthers, waiting};
+ghost use Rattle.bac_files.specs.Files.{IsUnasked, IsUnclosed, IsUnopened, IsUnused, KeepsOthers};
+ghost use Rattle.bac_files.specs.Files.{waiting};
 ghost use Rattle.bac_files.specs.Parts.{IsPlaced};
 
 use crate::folder::{Place, place_of};

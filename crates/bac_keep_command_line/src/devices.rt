@@ -1,8 +1,10 @@
 //! The devices of `bac keep`, and which trend logs of each.
 
 ghost use Rattle.std.specs.Prelude.{◌≡◌, IfOk, map};
-ghost use Rattle.bac_keep_command_line.specs.Devices.{all_in, choice_as, chosen, first_or_zero, log_in};
-ghost use Rattle.bac_keep_command_line.specs.Devices.{logs_in, named_as, named_at, named_in, net_of};
+ghost use Rattle.bac_keep_command_line.specs.Devices.{all_in, choice_as, chosen, first_or_zero};
+ghost use Rattle.bac_keep_command_line.specs.Devices.{log_in};
+ghost use Rattle.bac_keep_command_line.specs.Devices.{logs_in, named_as, named_at, named_in};
+ghost use Rattle.bac_keep_command_line.specs.Devices.{net_of};
 ghost use Rattle.bac_keep_command_line.specs.Values.{Makes};
 
 use crate::fault::Fault;

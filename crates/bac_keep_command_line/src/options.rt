@@ -3,7 +3,8 @@
 ghost use Rattle.std.specs.Prelude.{◌≡◌, option_map};
 ghost use Rattle.bac_command_line.specs.Numbers.{number_in};
 ghost use Rattle.bac_command_line.specs.Rows.{route_in};
-ghost use Rattle.bac_command_line.specs.declared.word.Word.TheVariants.{Records, Retries, Steps, Timeout};
+ghost use Rattle.bac_command_line.specs.declared.word.Word.TheVariants.{Records, Retries, Steps};
+ghost use Rattle.bac_command_line.specs.declared.word.Word.TheVariants.{Timeout};
 ghost use Rattle.bac_keep_command_line.specs.Options.{fetching_in, route_said, sending_in, way_in};
 ghost use Rattle.bac_keep_command_line.specs.Values.{said, said_if, said_or};
 

@@ -3,7 +3,8 @@
 ghost use Rattle.std.specs.Prelude.{◌≡◌, map};
 ghost use Rattle.bac_ports.specs.Sockets.{own_address};
 ghost use Rattle.bac_keep_command_line.specs.Devices.{named_as};
-ghost use Rattle.bac_keep_command_line.specs.Orders.{options_as, options_for, order_as, order_in, stop_in};
+ghost use Rattle.bac_keep_command_line.specs.Orders.{options_as, options_for, order_as, order_in};
+ghost use Rattle.bac_keep_command_line.specs.Orders.{stop_in};
 ghost use Rattle.bac_keep_command_line.specs.Orders.{way_to};
 ghost use Rattle.bac_keep_command_line.specs.Values.{Makes};
 

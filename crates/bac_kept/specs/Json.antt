@@ -19,8 +19,9 @@ log_json told =
 -- a record: its number is null where it has none that JSON has
 abbrev pub record_json : Item → Json → List Field
 record_json item value =
-    (codes "epoch", whole item.epoch) ∷ (codes "number", whole item.number) ∷ (codes "stamp", text_or_null item.stamp.now)
-    ∷ (codes "value", value) ∷ (codes "datum", text_or_null item.datum.now)
+    (codes "epoch", whole item.epoch) ∷ (codes "number", whole item.number)
+    ∷ (codes "stamp", text_or_null item.stamp.now) ∷ (codes "value", value)
+    ∷ (codes "datum", text_or_null item.datum.now)
     ∷ (codes "flags", text_or_null (flags_field item.flags.now)) ∷ []
 
 -- the datum of a gap tells that it may be none

@@ -16,7 +16,7 @@ ghost use Rattle.bac_command_line.specs.declared.job.Kept.{Kept as KeptWords};
 ghost use Rattle.bac_command_line.specs.declared.job.LogListing.{LogListing as ListWords};
 ghost use Rattle.bac_command_line.specs.declared.job.LogReading.{LogReading as LogWords};
 ghost use Rattle.bac_command_line.specs.declared.job.PropertyReading.{PropertyReading as ReadWords};
-ghost use Rattle.bac_command_line.specs.declared.job.PropertyWriting.{PropertyWriting as WriteWords};
+ghost use Rattle.bac_command_line.specs.declared.job.PropertyWriting.{PropertyWriting as WriteJob};
 ghost use Rattle.bac_command_line.specs.declared.job.ServedDevice.{ServedDevice as ServeWords};
 ghost use Rattle.bac_laws.specs.Asked.{PrintsWhatCame, ReadsOnce, WritesOnce};
 ghost use Rattle.bac_laws.specs.Checked.{FindsEach, FindsWhole};
@@ -65,7 +65,7 @@ pub fn wp_writes_once<
 ) -> u8
 where
     W: Drop,
-    ensures { (said : WriteWords) → AskFor (map string_bytes words.now) (job.Wp said)
+    ensures { (said : WriteJob) → AskFor (map string_bytes words.now) (job.Wp said)
         → (es : List Event) × IsCaptured (socket_rules S.opens S.closes S.Socket.sends
         S.Socket.receives S.Socket.receives_within) S.traces machine.old.sockets
         machine.new.sockets es

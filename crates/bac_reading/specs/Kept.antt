@@ -122,7 +122,8 @@ module _ {P : Type 0} (rules : PartRules P) where
   -- the row of names isn't written: memory is wanting, or the output refused it
   abbrev pub PrintsNothing : Asked → Bool → Scene P → Result ℕ Fault → Scene P → Type 0
   PrintsNothing asked folder old result new = (why : Fault) × (result ≡ Err why) × (new.parts ≡ old.parts)
-      × (new.errors ≡ old.errors) × AppendsPart old.output new.output (names_text (has_names asked.words.form && folder))
+      × (new.errors ≡ old.errors)
+      × AppendsPart old.output new.output (names_text (has_names asked.words.form && folder))
 
   -- what an archive keeps is printed
   abbrev pub PrintsArchive : Asked → Bool → List (List ℕ) → Scene P → Result ℕ Fault → Scene P → Type 0

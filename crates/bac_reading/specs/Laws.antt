@@ -69,7 +69,7 @@ pub record IsFirst (words : Words) (folder : Bool) (before : Held) (first : SoFa
   pub output : Appends before first.output (names_text (has_names words.form && folder))
 
 -- Of the logs that a database has those that are chosen are printed, in order: of each the line that names it, and a
--- line, a row of CSV, or a line of JSON, for each of its items that wasn't printed of a part before; and nothing else is.
+-- line, a row of CSV, or a line of JSON, for each of its items that wasn't printed of a part before; and nothing else.
 pub record PrintsItsRows (words : Words) (db : Database) (old new : SoFar) : Type 0 where
   pub known : Known
   pub told : IsKnown db.trees known

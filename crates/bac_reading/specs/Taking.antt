@@ -5,7 +5,8 @@ use Rattle.sqlite_trees.specs.View.{doubt}
 use Rattle.bac_archive.specs.Archive.{AreBegun, AreInRange, HaveDevices, IsEarlier, IsOfVersion, LieApart}
 use Rattle.bac_archive.specs.Schema.{HasArchive, no_schema}
 use Rattle.bac_archive.specs.declared.opening.Refused.{Refused}
-use Rattle.bac_archive.specs.declared.opening.Refused.TheVariants.{Foreign, Earlier, Version, Range, NoDevice, Overlap, Orphan}
+use Rattle.bac_archive.specs.declared.opening.Refused.TheVariants.{Foreign, Earlier, Version, Range, NoDevice, Overlap}
+use Rattle.bac_archive.specs.declared.opening.Refused.TheVariants.{Orphan}
 use Rattle.bac_archive.specs.declared.opening.Refused.TheVariants.{Database as Failed}
 use Rattle.bac_files.specs.Parts.{Reading}
 use Rattle.bac_files.specs.declared.not_opened.NotOpened.TheVariants.{Empty}

@@ -34,8 +34,8 @@ pub record DatesAs : Type 0 where
   pub since : List ℕ
   pub before : List ℕ
 
--- the name of an archive; which device, and which log of it, or all; which dates, or all; in which form; and whether the
--- newest record of each log alone
+-- the name of an archive; which device, and which log of it, or all; which dates, or all; in which form; and whether
+-- the newest record of each log alone
 pub record AskedAs : Type 0 where
   pub file : List ℕ
   pub device : Option DeviceAs

@@ -17,8 +17,8 @@ use Rattle.bac_site_poller.specs.declared.seat.Seat.{Seat}
 abbrev pub is_first : Seat → Bool
 is_first s = not s.is_repeated
 
--- A request has a place among those in flight until it is answered, sent again, or so many milliseconds old: most devices
--- answer sooner, and one that doesn't keeps no other waiting for longer.
+-- A request has a place among those in flight until it is answered, sent again, or so many milliseconds old: most
+-- devices answer sooner, and one that doesn't keeps no other waiting for longer.
 abbrev pub fresh_ms : ℕ
 fresh_ms = 250
 

@@ -6,7 +6,8 @@ use Rattle.bac_apdu.specs.Frame.{Frame, Unicast, Broadcast, Forwarded, Function,
 use Rattle.bac_apdu.specs.Npdu.{Header, header_at}
 use Rattle.bac_ports.specs.declared.port.Heard.{Heard}
 use Rattle.bac_socket_notes.specs.declared.contents.Content.{Content}
-use Rattle.bac_socket_notes.specs.declared.contents.Content.TheVariants.{Rejected, Message, Bvlc, Confirmed, Unconfirmed}
+use Rattle.bac_socket_notes.specs.declared.contents.Content.TheVariants.{Rejected, Message, Bvlc, Confirmed}
+use Rattle.bac_socket_notes.specs.declared.contents.Content.TheVariants.{Unconfirmed}
 use Rattle.bac_socket_notes.specs.declared.contents.Content.TheVariants.{Answer, TooLong, Unread}
 use Rattle.bac_socket_notes.specs.declared.contents.Stray.{Stray}
 

@@ -6,7 +6,8 @@ use Rattle.std.specs.Str.{bytes_eq}
 use Rattle.hex.specs.Hex.{encode_lower}
 use Rattle.bac_print.specs.Addresses.{address_text}
 use Rattle.bac_socket_notes.specs.declared.contents.Content.{Content}
-use Rattle.bac_socket_notes.specs.declared.contents.Content.TheVariants.{Rejected, Message, Bvlc, Confirmed, Unconfirmed}
+use Rattle.bac_socket_notes.specs.declared.contents.Content.TheVariants.{Rejected, Message, Bvlc, Confirmed}
+use Rattle.bac_socket_notes.specs.declared.contents.Content.TheVariants.{Unconfirmed}
 use Rattle.bac_socket_notes.specs.declared.contents.Content.TheVariants.{Answer, TooLong, Unread}
 use Rattle.bac_socket_notes.specs.declared.contents.Stray.{Stray}
 use Rattle.bac_socket_notes.specs.declared.notes.Passed.{Passed}

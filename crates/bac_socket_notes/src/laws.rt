@@ -1,6 +1,7 @@
 //! Laws of ports that note what comes. Each function does nothing: what it ensures is the law.
 
-ghost use Rattle.bac_socket_notes.specs.Laws.{AsksAreBelow, LostHasStrays, NotesAreOfEvents, StraysCame};
+ghost use Rattle.bac_socket_notes.specs.Laws.{AsksAreBelow, LostHasStrays, NotesAreOfEvents};
+ghost use Rattle.bac_socket_notes.specs.Laws.{StraysCame};
 
 use crate::ports::HeedingPort;
 use bac_ports::Port;

@@ -6,7 +6,8 @@ ghost use Rattle.hex.specs.Hex.{encode_lower};
 ghost use Rattle.bac_print.specs.Addresses.{address_text};
 ghost use Rattle.bac_socket_notes.specs.Silence.{answer_text, content_text, counted, counts_text};
 ghost use Rattle.bac_socket_notes.specs.Silence.{full_text, is_unsent, reason_text, silence_text};
-ghost use Rattle.bac_socket_notes.specs.Silence.{stray_text, strays_text, unconfirmed_text, waited_text};
+ghost use Rattle.bac_socket_notes.specs.Silence.{stray_text, strays_text, unconfirmed_text};
+ghost use Rattle.bac_socket_notes.specs.Silence.{waited_text};
 
 use crate::contents::{Content, Stray};
 use crate::notes::Passed;

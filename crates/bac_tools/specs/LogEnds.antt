@@ -19,8 +19,8 @@ of_cause address CaughtUp = Ok (walk_status CaughtUp)
 of_cause address StepLimit = Ok (walk_status StepLimit)
 of_cause address Memory = Ok (walk_status Memory)
 
--- Rows of CSV and lines of JSON have no line of the end, by which a run that ended at its step limit is known: so its status says that
--- there may be more, by 8.
+-- Rows of CSV and lines of JSON have no line of the end, by which a run that ended at its step limit is known: so its
+-- status says that there may be more, by 8.
 abbrev pub ended_as : Form → Why → Ending → Ending
 ended_as Lines cause ended = ended
 ended_as Csv CaughtUp ended = ended

@@ -1,6 +1,7 @@
 -- What is told of a script or a configuration that isn't right: the second line, which says what to mend. Words of
 -- lines are called as in docs/PROTOCOL.md.
-use Rattle.std.specs.Prelude.{ℕ, ◌==◌, nat_le, Bool, true, false, if◌then◌else◌, List, [], ◌∷◌, ◌++◌, codes, decimal, Option, None, Some}
+use Rattle.std.specs.Prelude.{ℕ, ◌==◌, nat_le, Bool, true, false, if◌then◌else◌, List, [], ◌∷◌, ◌++◌, codes, decimal}
+use Rattle.std.specs.Prelude.{Option, None, Some}
 use Rattle.bac_objects.specs.declared.build.BuildFault.{BuildFault}
 use Rattle.bac_objects.specs.declared.build.BuildFault.TheVariants as build
 use Rattle.bac_objects.specs.declared.build.Misfit.{Misfit}
@@ -169,7 +170,8 @@ unheard_text false = codes "; devices that answer by broadcast are only heard wi
 -- nobody answered, of so many addresses
 abbrev pub unanswered_text : Unanswered → List ℕ
 unanswered_text u =
-    ((codes "no answer" ++ 10 ∷ []) ++ (codes "addresses asked: " ++ decimal u.asked)) ++ unheard_text u.hears_broadcasts
+    ((codes "no answer" ++ 10 ∷ []) ++ (codes "addresses asked: " ++ decimal u.asked))
+    ++ unheard_text u.hears_broadcasts
 
 -- a line of a list of addresses is bad, and why
 abbrev pub listed_badly : ℕ → List ℕ → List ℕ

@@ -15,8 +15,8 @@ ghost use Rattle.bac_walk.specs.declared.outcome.Why.{Why as AnyWhy};
 ghost use Rattle.bac_command_line.specs.declared.job.Discovery.{Discovery as AnyDiscovery};
 ghost use Rattle.bac_command_line.specs.declared.job.Job.TheVariants.{Log, Rp, Wi, Wp};
 ghost use Rattle.bac_command_line.specs.declared.job.LogReading.{LogReading as AnyLogReading};
-ghost use Rattle.bac_command_line.specs.declared.job.PropertyReading.{PropertyReading as AnyReading};
-ghost use Rattle.bac_command_line.specs.declared.job.PropertyWriting.{PropertyWriting as AnyWriting};
+ghost use Rattle.bac_command_line.specs.declared.job.PropertyReading.{PropertyReading as AReading};
+ghost use Rattle.bac_command_line.specs.declared.job.PropertyWriting.{PropertyWriting as AWriting};
 ghost use Rattle.bac_command_line.specs.declared.job.Stations.TheVariants.{Listed};
 
 use bac_tools::{Clock, Heeds, Sockets, run};
@@ -35,10 +35,10 @@ pub fn nothing_made_up<S: Heeds, I: Read, O: Write, E: Write, C: Clock>(
     errors: &mut E,
     clock: &mut C,
 ) -> u8
-    ensures rp { (said : AnyReading) → AskFor (map string_bytes words.now) (Rp said)
+    ensures rp { (said : AReading) → AskFor (map string_bytes words.now) (Rp said)
         → IsSilent S.Socket.receives
         → (result ≡ 0 → ⊥) × Keeps (O.contents output.old) (O.contents output.new) }
-    ensures wp { (said : AnyWriting) → AskFor (map string_bytes words.now) (Wp said)
+    ensures wp { (said : AWriting) → AskFor (map string_bytes words.now) (Wp said)
         → IsSilent S.Socket.receives
         → (result ≡ 0 → ⊥) × Keeps (O.contents output.old) (O.contents output.new) }
     ensures log { (said : AnyLogReading) → said.form ≡ Lines
