@@ -2,6 +2,7 @@ pub mod Refusals
 pub mod Values
 pub mod Who
 pub mod Way
+pub mod Rejects
 pub mod Word
 pub mod Clock
 pub mod Listing

@@ -1,5 +1,6 @@
 //! What an answer of a device brings, beside the records of a log.
 
+use crate::reject::NoRoute;
 use crate::text::Text;
 use crate::who::Who;
 use bac_walk::WalkFault;
@@ -58,6 +59,8 @@ pub enum Entry {
     Another(Who),
     /// It no longer tells what it is known by: nothing of it is kept.
     Untold,
+    /// The router that it is behind has no route to its network.
+    Rejected(NoRoute),
     /// Its clock beside this machine's; none: it doesn't tell it.
     Clock(Option<Offset>),
     /// This trend log of its Object_List is new.

@@ -8,6 +8,7 @@ mod listing;
 mod naming;
 mod read;
 mod refusal;
+mod reject;
 mod source;
 mod text;
 mod way;
@@ -22,6 +23,7 @@ pub use read::{
     told_date, told_number, told_object, told_objects, told_text, told_time, told_units,
 };
 pub use refusal::{is_busy, is_too_long};
+pub use reject::NoRoute;
 pub use source::told_source;
 pub use text::Text;
 pub use way::Way;

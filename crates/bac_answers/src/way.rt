@@ -37,8 +37,8 @@ pub struct Way {
 }
 
 impl Way {
-    // Its place, as a network header has it.
-    fn dest(&self) -> Option<Far>
+    /// Its place, as a network header has it.
+    pub(crate) fn dest(&self) -> Option<Far>
         ensures value { maybe_place_of result ≡ self.now.route }
         ensures way { IsWay self.now.route }
     {
@@ -129,8 +129,8 @@ fn is_same_place(a: Option<Far>, b: Option<Far>) -> bool
     }
 }
 
-// Whether a message has come to its network, or goes to all.
-fn is_for_all(dest: Option<Far>) -> bool
+/// Whether a message has come to its network, or goes to all.
+pub(crate) fn is_for_all(dest: Option<Far>) -> bool
     ensures { result ≡ is_for_all (maybe_place_of dest.entry) }
 {
     match dest {

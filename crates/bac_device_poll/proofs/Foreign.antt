@@ -20,7 +20,7 @@ fails true d never = absurd (never (d.0 refl))
 fails false d never = refl
 
 -- the lines of logs that aren't asked are told
-told_all : (logs : List LogAs) → PutsNone (map not_asked logs)
+pub told_all : (logs : List LogAs) → PutsNone (map not_asked logs)
 told_all [] = tt
 told_all (task ∷ logs) = (refl, told_all logs)
 

@@ -21,10 +21,11 @@ use Rattle.bac_device_poll.specs.Logs.{begins_with, halved, has_ended, left_behi
 use Rattle.bac_device_poll.specs.Logs.{polled_behind, stage_behind, with_log}
 use Rattle.bac_device_poll.specs.Naming.{after_description, is_changed, is_other, names, names_next, names_with}
 use Rattle.bac_device_poll.specs.Naming.{read_at, told_read, unnamed}
-use Rattle.bac_device_poll.specs.Loss.{after_loss, loss_at, passed_over}
+use Rattle.bac_device_poll.specs.Loss.{after_loss, is_last, loss_at, passed_over, unread}
 use Rattle.bac_device_poll.specs.Poll.{Answers, after_revision}
 use Rattle.bac_device_poll.specs.declared.poll.Known.{Known}
 use Rattle.bac_device_poll.specs.Refusals.{is_too_long}
+use Rattle.bac_device_poll.specs.Rejects.{after_reject, lost_log}
 use Rattle.bac_device_poll.specs.State.{DeviceState, LogAs}
 use Rattle.bac_device_poll.specs.Turns.{Turned, asks, leaves, not_asked}
 use Rattle.bac_answers.specs.declared.entry.Entry.{Entry}
@@ -32,11 +33,12 @@ use Rattle.bac_answers.specs.declared.entry.Entry.TheVariants as entry
 use Rattle.bac_device_poll.specs.Values.{number_of, value_by}
 use Rattle.bac_answers.specs.declared.entry.Offset.{Offset}
 use Rattle.bac_answers.specs.declared.entry.Others.{Others}
+use Rattle.bac_answers.specs.declared.reject.NoRoute.{NoRoute}
 use Rattle.bac_device_poll.specs.declared.stage.Stage.{Stage}
 use Rattle.bac_device_poll.specs.declared.stage.Stage.TheVariants as stage
 use Rattle.bac_device_poll.specs.declared.task.Polled.{Polled}
 use Rattle.bac_device_poll.specs.declared.turn.DeviceEnd.{DeviceEnd}
-use Rattle.bac_device_poll.specs.declared.turn.DeviceEnd.TheVariants.{Silent}
+use Rattle.bac_device_poll.specs.declared.turn.DeviceEnd.TheVariants.{Silent, Unreached}
 use Rattle.bac_answers.specs.declared.who.Who.{Who}
 use Rattle.bac_answers.specs.declared.who.Who.TheVariants as who
 use Rattle.bac_answers.specs.declared.who.Whose.{Whose}
@@ -110,7 +112,7 @@ quiet_read_if true es quiet = quiet
 quiet_read_if false es quiet = record { asked = refl; old = refl }
 
 quiet_read : (p : DeviceState) → IsQuiet (told_read p)
-quiet_read p = quiet_read_if p.listed (read_at p.revision p.told.revision) (quiet_at p.revision p.told.revision)
+quiet_read p = quiet_read_if p.read (read_at p.revision p.told.revision) (quiet_at p.revision p.told.revision)
 
 -- ---- the next log
 
@@ -235,7 +237,7 @@ listed_goes p objects none =
     let new : List Id = new_among p.logs p.stopped objects in
     let es : List Entry = map entry.Added new in
     let more : List Entry = told_others p.others (others_in objects) in
-    let q : DeviceState = record p { listed = true; objects = []; unnamed = new; logs = p.logs ++ map new_log new } in
+    let q : DeviceState = record p { read = true; objects = []; unnamed = new; logs = p.logs ++ map new_log new } in
     let stays : Stays q es (names q (es ++ more)) = behind q es more _ (quiet_others (are_same p.others (others_in objects)) (others_in objects)) (names_stay q (es ++ more)) in
     let waits : waiting q ≡ waiting p ++ new = map-append (λ (t : LogAs). t.log) p.logs (map new_log new) ∙ ap (λ (l : List Id). waiting p ++ l) (new_all new) in
     let t : Turned = names q (es ++ more) in
@@ -248,11 +250,11 @@ listed_goes p objects none =
 
 -- ---- a device that is left
 
-not_asked_all : (logs : List LogAs) → not_asked_in (map not_asked logs) ≡ map (λ (t : LogAs). t.log) logs
+pub not_asked_all : (logs : List LogAs) → not_asked_in (map not_asked logs) ≡ map (λ (t : LogAs). t.log) logs
 not_asked_all [] = refl
 not_asked_all (task ∷ logs) = ap (λ (l : List Id). task.log ∷ l) (not_asked_all logs)
 
-not_asked_old : (logs : List LogAs) → added_in (map not_asked logs) ≡ []
+pub not_asked_old : (logs : List LogAs) → added_in (map not_asked logs) ≡ []
 not_asked_old [] = refl
 not_asked_old (task ∷ logs) = not_asked_old logs
 
@@ -394,6 +396,11 @@ answers_go p stage.Between v d now t none apt is = subst (Goes p) (sym is) (idle
 answers_go p stage.Ended v d now t none apt is = subst (Goes p) (sym is) (idle_goes p none apt)
 
 -- no answer
+unread_goes : (p : DeviceState) (log : Id) → p.polled ≡ None → Goes p (after_description (unread p) log None)
+unread_goes p log none =
+    let goes : Goes (unread p) _ = description_goes (unread p) log None none in
+    record { apt = goes.apt; log = goes.log; all = goes.all }
+
 passed_goes : (s : Stage) (p : DeviceState) → p.polled ≡ None → Goes p (passed_over s p)
 passed_goes stage.Instance p none = leaves_goes p [] _ nothing
 passed_goes stage.IAm p none = leaves_goes p [] _ nothing
@@ -406,9 +413,9 @@ passed_goes stage.Objects p none = asks_goes p _ [] refl none nothing
 passed_goes stage.Count p none = unlisted_goes p walk.Lost none
 passed_goes (stage.Element index count) p none = unlisted_goes p walk.Lost none
 passed_goes (stage.LogName log) p none = asks_goes p _ [] refl none nothing
-passed_goes (stage.Source log) p none = asks_goes p _ [] refl none nothing
+passed_goes (stage.Source log) p none = unread_goes p log none
 passed_goes (stage.Units log) p none = asks_goes p _ [] refl none nothing
-passed_goes (stage.Description log) p none = description_goes p log None none
+passed_goes (stage.Description log) p none = unread_goes p log none
 passed_goes stage.Log p none = leaves_goes p [] _ nothing
 passed_goes stage.Between p none = leaves_goes p [] _ nothing
 passed_goes stage.Ended p none = leaves_goes p [] _ nothing
@@ -421,7 +428,7 @@ doubted_goes false p none =
     record { apt = goes.apt; log = goes.log; all = goes.all }
 
 pub loss_goes : (p : DeviceState) → p.polled ≡ None → Goes p (after_loss p)
-loss_goes p none = subst (λ (q : Option Polled). Goes p (loss_at p q)) (sym none) (doubted_goes p.doubt p none)
+loss_goes p none = subst (λ (q : Option Polled). Goes p (loss_at p q)) (sym none) (doubted_goes (is_last p) p none)
 
 -- ---- while a log is polled
 
@@ -469,3 +476,20 @@ lost_if true p q t why e is = (
   refl,
 )
 lost_if false p q t why e is = log_polls (record p { doubt = true }) q t
+
+-- ---- a router has no route to its network
+
+-- nothing more is asked of it
+pub rejected_goes : (p : DeviceState) (reject : NoRoute) → p.polled ≡ None → Goes p (after_reject p reject)
+rejected_goes p reject none =
+    let goes : Goes p _ = leaves_goes p (entry.Rejected reject ∷ []) Unreached (record { asked = refl; old = refl }) in
+    record { apt = goes.apt; log = ap lost_log none; all = goes.all }
+
+-- the log that is polled is lost with it
+pub rejected_polls : (p : DeviceState) (q : Polled) (reject : NoRoute) →
+    PollsOn p (Some q) stage.Log (record (leaves p (entry.Rejected reject ∷ []) Unreached) { log = lost_log (Some q) })
+rejected_polls p q reject = (
+  ap (λ (l : List Id). q.log ∷ l) (append-nil _ ∙ not_asked_all p.logs)
+      ∙ sym (append-nil (q.log ∷ waiting p)) ∙ ap (λ (l : List Id). (q.log ∷ waiting p) ++ l) (sym (not_asked_old p.logs)),
+  refl,
+)

@@ -1,5 +1,5 @@
 -- No log of a device is left out: a step, and a run.
-use Rattle.std.proofs.Common.{◌≡◌, ◌∙◌, ℕ, ◌+◌, ◌&&◌, Bool, true, false, List, [], ◌∷◌, ◌++◌, map, MatchBool, Option}
+use Rattle.std.proofs.Common.{◌≡◌, ◌∙◌, ℕ, ◌+◌, ◌&&◌, Bool, true, false, if◌then◌else◌, List, [], ◌∷◌, ◌++◌, map, MatchBool, Option}
 use Rattle.std.proofs.Common.{None, Some, ap, sym, refl, subst, append-nil, append_assoc, inl, inr, ◌⊎◌, nat_lt}
 use Rattle.bac_wire.specs.Primitive.{Id}
 use Rattle.bac_wire.specs.Stamp.{CivilTime}
@@ -7,22 +7,27 @@ use Rattle.bac_link.specs.declared.exchanges.Verdict.{Verdict}
 use Rattle.bac_poll.specs.Turns.{Turned as LogTurned, ends}
 use Rattle.bac_poll_steps.specs.declared.turn.PollEnd.TheVariants.{Fault}
 use Rattle.bac_walk.specs.declared.outcome.WalkFault.TheVariants as walk
-use Rattle.bac_device_poll.specs.Laws.{ComesAt, NoneLeftOut, Runs, added_in, at_stage, behind as after_all, ended_in}
+use Rattle.bac_device_poll.specs.Laws.{ComesAt, IsHeard, IsRejected, NoneLeftOut, Runs, added_in, at_stage}
+use Rattle.bac_device_poll.specs.Laws.{behind as after_all, ended_in}
 use Rattle.bac_device_poll.specs.Laws.{found_in, left, not_asked_in, settled, waiting}
 use Rattle.bac_device_poll.specs.Logs.{after_end, after_log, begins_with, is_too_many, log_after, log_at}
 use Rattle.bac_device_poll.specs.Loss.{after_loss, loss_at}
 use Rattle.bac_device_poll.specs.Refusals.{is_busy}
+use Rattle.bac_device_poll.specs.Rejects.{after_reject, lost_log}
+use Rattle.bac_device_poll.specs.Identity.{after_i_am}
 use Rattle.bac_link.specs.Datagrams.{apdu_in}
 use Rattle.bac_device_poll.specs.Poll.{Answers, Takes, answered, asked_of_device, fresh, later, verdict_to}
 use Rattle.bac_device_poll.specs.Poll.{with_steps}
 use Rattle.bac_device_poll.specs.State.{DeviceState, LogAs}
-use Rattle.bac_device_poll.specs.Turns.{Turned}
+use Rattle.bac_device_poll.specs.Turns.{Turned, leaves}
+use Rattle.bac_answers.specs.declared.entry.Entry.TheVariants as entry
+use Rattle.bac_answers.specs.declared.reject.NoRoute.{NoRoute}
 use Rattle.bac_device_poll.specs.declared.stage.Stage.{Stage}
 use Rattle.bac_device_poll.specs.declared.stage.Stage.TheVariants as stage
 use Rattle.bac_device_poll.specs.declared.task.Polled.{Polled}
-use Rattle.bac_device_poll.specs.declared.turn.DeviceEnd.TheVariants.{Silent}
+use Rattle.bac_device_poll.specs.declared.turn.DeviceEnd.TheVariants.{Silent, Unreached}
 use Rattle.bac_device_poll.proofs.LeftOut.{Accounts, Goes, IsApt, PollsOn, Stays, accounts, answer_polls, answers_go}
-use Rattle.bac_device_poll.proofs.LeftOut.{begun, i_am_goes, loss_goes, lost_if}
+use Rattle.bac_device_poll.proofs.LeftOut.{begun, i_am_goes, loss_goes, lost_if, rejected_goes, rejected_polls}
 
 -- ---- one step
 
@@ -40,48 +45,33 @@ at_log p q f is at polls =
     let on : PollsOn p p.polled p.stage (f p.polled) = subst (λ (o : Option Polled). PollsOn p o p.stage (f o)) (sym is) (subst (λ (s : Stage). PollsOn p (Some q) s (f (Some q))) (sym at) polls) in
     record { accounts = on.0; apt = on.1 }
 
--- it is asked again
-apt_later : (p : DeviceState) (s : Stage) → IsApt s p → IsApt s (later p).device
-apt_later p stage.Instance apt = apt
-apt_later p stage.IAm apt = apt
-apt_later p stage.Name apt = apt
-apt_later p stage.Restart apt = apt
-apt_later p stage.Revision apt = apt
-apt_later p stage.Date apt = apt
-apt_later p (stage.Time date) apt = apt
-apt_later p stage.Objects apt = apt
-apt_later p stage.Count apt = apt
-apt_later p (stage.Element index count) apt = apt
-apt_later p (stage.LogName log) apt = apt
-apt_later p (stage.Source log) apt = apt
-apt_later p (stage.Units log) apt = apt
-apt_later p (stage.Description log) apt = apt
-apt_later p stage.Log apt = apt
-apt_later p stage.Between apt = apt
-apt_later p stage.Ended apt = apt
+-- only how often it was busy, and whether it is in doubt, is another
+apt_busy : (p : DeviceState) (busy : ℕ) (doubt : Bool) (s : Stage) → IsApt s p → IsApt s (record p { busy = busy; doubt = doubt })
+apt_busy p busy doubt stage.Instance apt = apt
+apt_busy p busy doubt stage.IAm apt = apt
+apt_busy p busy doubt stage.Name apt = apt
+apt_busy p busy doubt stage.Restart apt = apt
+apt_busy p busy doubt stage.Revision apt = apt
+apt_busy p busy doubt stage.Date apt = apt
+apt_busy p busy doubt (stage.Time date) apt = apt
+apt_busy p busy doubt stage.Objects apt = apt
+apt_busy p busy doubt stage.Count apt = apt
+apt_busy p busy doubt (stage.Element index count) apt = apt
+apt_busy p busy doubt (stage.LogName log) apt = apt
+apt_busy p busy doubt (stage.Source log) apt = apt
+apt_busy p busy doubt (stage.Units log) apt = apt
+apt_busy p busy doubt (stage.Description log) apt = apt
+apt_busy p busy doubt stage.Log apt = apt
+apt_busy p busy doubt stage.Between apt = apt
+apt_busy p busy doubt stage.Ended apt = apt
 
+-- it is asked again
 later_steps : (p : DeviceState) → IsApt p.stage p → Step p (later p)
-later_steps p apt = record { accounts = sym (append-nil (left p)); apt = apt_later p p.stage apt }
+later_steps p apt = record { accounts = sym (append-nil (left p)); apt = apt_busy p (p.busy + 1) false p.stage apt }
 
 -- it answers
 apt_answered : (p : DeviceState) (s : Stage) → IsApt s p → IsApt s (answered p)
-apt_answered p stage.Instance apt = apt
-apt_answered p stage.IAm apt = apt
-apt_answered p stage.Name apt = apt
-apt_answered p stage.Restart apt = apt
-apt_answered p stage.Revision apt = apt
-apt_answered p stage.Date apt = apt
-apt_answered p (stage.Time date) apt = apt
-apt_answered p stage.Objects apt = apt
-apt_answered p stage.Count apt = apt
-apt_answered p (stage.Element index count) apt = apt
-apt_answered p (stage.LogName log) apt = apt
-apt_answered p (stage.Source log) apt = apt
-apt_answered p (stage.Units log) apt = apt
-apt_answered p (stage.Description log) apt = apt
-apt_answered p stage.Log apt = apt
-apt_answered p stage.Between apt = apt
-apt_answered p stage.Ended apt = apt
+apt_answered p s apt = apt_busy p 0 false s apt
 
 step_answered : (p : DeviceState) (t : Turned) → Step (answered p) t → Step p t
 step_answered p t step = record { accounts = step.accounts; apt = step.apt }
@@ -91,8 +81,7 @@ matched true m f g = f m
 matched false m f g = g m
 
 -- an answer, before its logs are polled
-heard : (p : DeviceState) (t : Turned) → p.polled ≡ None → IsApt p.stage p →
-    ((datagram : List ℕ) × (now : CivilTime) × Takes p datagram now t) ⊎ (t ≡ after_loss p) → Step p t
+heard : (p : DeviceState) (t : Turned) → p.polled ≡ None → IsApt p.stage p → IsHeard p t → Step p t
 heard p t none apt (inl came) =
     let v : Verdict = verdict_to (asked_of_device p) (apdu_in came.0) in
     matched (is_busy v && nat_lt p.busy p.retries) came.2
@@ -101,8 +90,7 @@ heard p t none apt (inl came) =
 heard p t none apt (inr lost) = subst (Step p) (sym lost) (goes_on p _ none (loss_goes p none))
 
 -- while one is
-log_heard : (p : DeviceState) (q : Polled) (t : Turned) → p.stage ≡ stage.Log → p.polled ≡ Some q → IsApt p.stage p →
-    ((datagram : List ℕ) × (now : CivilTime) × Takes p datagram now t) ⊎ (t ≡ after_loss p) → Step p t
+log_heard : (p : DeviceState) (q : Polled) (t : Turned) → p.stage ≡ stage.Log → p.polled ≡ Some q → IsApt p.stage p → IsHeard p t → Step p t
 log_heard p q t at is apt (inl came) =
     let v : Verdict = verdict_to (asked_of_device p) (apdu_in came.0) in
     matched (is_busy v && nat_lt p.busy p.retries) came.2
@@ -112,6 +100,31 @@ log_heard p q t at is apt (inl came) =
     (answer_polls (is_too_many q.poll v) (answered p) q (log_after q.poll v came.0) at))))
 log_heard p q t at is apt (inr lost) =
     subst (Step p) (sym lost) (at_log p q (loss_at p) is at (lost_if p.doubt p q (ends q.poll (Fault walk.Lost)) Silent (Fault walk.Lost) refl))
+
+-- a rejection ends the poll
+rejected : (p : DeviceState) (t : Turned) → ((reject : NoRoute) → Step p (after_reject p reject)) → IsRejected p t → Step p t
+rejected p t ends is = subst (Step p) (sym is.1) (ends is.0)
+
+-- before its logs are polled, or while one is
+none_ends : (p : DeviceState) → p.polled ≡ None → (reject : NoRoute) → Step p (after_reject p reject)
+none_ends p none reject = goes_on p (after_reject p reject) none (rejected_goes p reject none)
+
+log_ends : (p : DeviceState) (q : Polled) → p.stage ≡ stage.Log → p.polled ≡ Some q → (reject : NoRoute) → Step p (after_reject p reject)
+log_ends p q at is reject =
+    at_log p q (λ (o : Option Polled). record (leaves p (entry.Rejected reject ∷ []) Unreached) { log = lost_log o }) is at (rejected_polls p q reject)
+
+-- whatever comes
+comes_to : (p : DeviceState) (t : Turned) → p.polled ≡ None → IsApt p.stage p → IsHeard p t ⊎ IsRejected p t → Step p t
+comes_to p t none apt (inl is) = heard p t none apt is
+comes_to p t none apt (inr is) = rejected p t (none_ends p none) is
+
+comes_to_log : (p : DeviceState) (q : Polled) (t : Turned) → p.stage ≡ stage.Log → p.polled ≡ Some q → IsApt p.stage p → IsHeard p t ⊎ IsRejected p t → Step p t
+comes_to_log p q t at is apt (inl came) = log_heard p q t at is apt came
+comes_to_log p q t at is apt (inr came) = rejected p t (log_ends p q at is) came
+
+i_am_comes : (p : DeviceState) (t : Turned) → p.polled ≡ None → IsApt p.stage p → ((device : Option Id) × (t ≡ after_i_am p device)) ⊎ IsRejected p t → Step p t
+i_am_comes p t none apt (inl came) = subst (Step p) (sym came.1) (goes_on p _ none (i_am_goes p came.0 none))
+i_am_comes p t none apt (inr is) = rejected p t (none_ends p none) is
 
 -- the next one
 begun_apt : (p : DeviceState) (logs : List LogAs) → p.logs ≡ logs → IsApt (begins_with p logs []).device.stage (begins_with p logs []).device
@@ -130,21 +143,21 @@ end_steps p is =
     }
 
 steps_at : (p : DeviceState) (s : Stage) (t : Turned) → p.stage ≡ s → IsApt p.stage p → IsApt s p → ComesAt s p t → Step p t
-steps_at p stage.Instance t at apt none comes = heard p t none apt comes
-steps_at p stage.IAm t at apt none comes = subst (Step p) (sym comes.1) (goes_on p _ none (i_am_goes p comes.0 none))
-steps_at p stage.Name t at apt none comes = heard p t none apt comes
-steps_at p stage.Restart t at apt none comes = heard p t none apt comes
-steps_at p stage.Revision t at apt none comes = heard p t none apt comes
-steps_at p stage.Date t at apt none comes = heard p t none apt comes
-steps_at p (stage.Time date) t at apt none comes = heard p t none apt comes
-steps_at p stage.Objects t at apt none comes = heard p t none apt comes
-steps_at p stage.Count t at apt none comes = heard p t none apt comes
-steps_at p (stage.Element index count) t at apt none comes = heard p t none apt comes
-steps_at p (stage.LogName log) t at apt none comes = heard p t none apt comes
-steps_at p (stage.Source log) t at apt none comes = heard p t none apt comes
-steps_at p (stage.Units log) t at apt none comes = heard p t none apt comes
-steps_at p (stage.Description log) t at apt none comes = heard p t none apt comes
-steps_at p stage.Log t at apt polls comes = log_heard p polls.0 t at polls.1 apt comes
+steps_at p stage.Instance t at apt none comes = comes_to p t none apt comes
+steps_at p stage.IAm t at apt none comes = i_am_comes p t none apt comes
+steps_at p stage.Name t at apt none comes = comes_to p t none apt comes
+steps_at p stage.Restart t at apt none comes = comes_to p t none apt comes
+steps_at p stage.Revision t at apt none comes = comes_to p t none apt comes
+steps_at p stage.Date t at apt none comes = comes_to p t none apt comes
+steps_at p (stage.Time date) t at apt none comes = comes_to p t none apt comes
+steps_at p stage.Objects t at apt none comes = comes_to p t none apt comes
+steps_at p stage.Count t at apt none comes = comes_to p t none apt comes
+steps_at p (stage.Element index count) t at apt none comes = comes_to p t none apt comes
+steps_at p (stage.LogName log) t at apt none comes = comes_to p t none apt comes
+steps_at p (stage.Source log) t at apt none comes = comes_to p t none apt comes
+steps_at p (stage.Units log) t at apt none comes = comes_to p t none apt comes
+steps_at p (stage.Description log) t at apt none comes = comes_to p t none apt comes
+steps_at p stage.Log t at apt polls comes = comes_to_log p polls.0 t at polls.1 apt comes
 steps_at p stage.Between t at apt any comes = subst (Step p) (sym comes) (end_steps p at)
 steps_at p stage.Ended t at apt done comes = absurd comes
 

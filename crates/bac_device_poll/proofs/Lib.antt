@@ -5,5 +5,7 @@ mod LeftOut
 mod LeftOutRuns
 mod LostOne
 mod OnlyAsked
+mod ReadAgain
 mod RefusedOne
+mod RejectedOne
 mod Steps

@@ -16,6 +16,8 @@ use Rattle.bac_device_poll.specs.Logs.{polled_behind, stage_behind, with_log}
 use Rattle.bac_device_poll.specs.Loss.{loss_at}
 use Rattle.bac_device_poll.specs.Poll.{Answers, answered, asked_of_device, verdict_to}
 use Rattle.bac_device_poll.specs.Refusals.{is_busy}
+use Rattle.bac_device_poll.specs.Rejects.{after_reject}
+use Rattle.bac_answers.specs.declared.reject.NoRoute.{NoRoute}
 use Rattle.bac_device_poll.specs.State.{DeviceState}
 use Rattle.bac_device_poll.specs.Turns.{Turned, leaves}
 use Rattle.bac_device_poll.specs.declared.stage.Stage.{Stage}
@@ -91,9 +93,12 @@ lost_counts : (doubt : Bool) (p : DeviceState) (q : Polled) (t : LogTurned) (n :
 lost_counts true p q t n left some at = absurd (cc)
 lost_counts false p q t n left some at = turn_counts (record p { doubt = true }) q t n left some at
 
+reject_counts : (p : DeviceState) (reject : NoRoute) (n : ℕ) → Counted n (after_reject p reject)
+reject_counts p reject n at = absurd (cc)
+
 came_counts : (p : DeviceState) (q : Polled) (n : ℕ) (t : Turned) → p.stage ≡ stage.Log → p.polled ≡ Some q → q.left ≡ Some n → 0 < n →
     ComesAt stage.Log p t → Counted n t
-came_counts p q n t at is left some (inl came) =
+came_counts p q n t at is left some (inl (inl came)) =
     let v : Verdict = verdict_to (asked_of_device p) (apdu_in came.0) in
     matched (is_busy v && nat_lt p.busy p.retries) came.2
     (λ same. subst (Counted n) (sym same) (λ still. record { q = q; polled = is; m = n; left = left; some = some; counts = omega arith }))
@@ -101,8 +106,10 @@ came_counts p q n t at is left some (inl came) =
     let log : t ≡ log_at (answered p) p.polled v came.0 = subst (λ (s : Stage). Answers (answered p) s v came.0 came.1 t) at same in
     subst (Counted n) (sym (log ∙ ap (λ (o : Option Polled). log_at (answered p) o v came.0) is))
     (log_counts (is_too_many q.poll v) (answered p) q (log_after q.poll v came.0) n left some))
-came_counts p q n t at is left some (inr lost) =
+came_counts p q n t at is left some (inl (inr lost)) =
     subst (Counted n) (sym (lost ∙ ap (loss_at p) is)) (lost_counts p.doubt p q (ends q.poll (Fault walk.Lost)) n left some)
+came_counts p q n t at is left some (inr rejected) =
+    subst (Counted n) (sym rejected.1) (reject_counts p rejected.0 n)
 
 -- ---- a run
 

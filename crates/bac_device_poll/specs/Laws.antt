@@ -1,6 +1,6 @@
 -- What holds of a device's poll, whoever answers.
-use Rattle.std.specs.Prelude.{◌≡◌, ◌≢◌, ◌⊎◌, ℕ, ◌<◌, ◌&&◌, nat_lt, Bool, true, false, MatchBool, List, [], ◌∷◌, ◌++◌}
-use Rattle.std.specs.Prelude.{count_by, map, Option, None, Some}
+use Rattle.std.specs.Prelude.{◌≡◌, ◌≢◌, ◌⊎◌, ℕ, ◌<◌, ◌&&◌, nat_lt, Bool, true, false, MatchBool, List, []}
+use Rattle.std.specs.Prelude.{◌∷◌, ◌++◌, count_by, map, Option, None, Some}
 use Rattle.std.specs.List.{flat_map}
 use Rattle.bac_wire.specs.Primitive.{Id}
 use Rattle.bac_wire.specs.Stamp.{CivilTime}
@@ -17,21 +17,23 @@ use Rattle.bac_walk.specs.declared.outcome.WalkFault.TheVariants as walk
 use Rattle.bac_device_poll.specs.Identity.{after_i_am, after_instance, after_name}
 use Rattle.bac_device_poll.specs.Logs.{after_end, halved, has_ended, is_records, is_too_many, left_behind}
 use Rattle.bac_device_poll.specs.Logs.{wanted_at}
-use Rattle.bac_device_poll.specs.Loss.{after_loss}
+use Rattle.bac_device_poll.specs.Loss.{after_loss, unread}
 use Rattle.bac_device_poll.specs.Poll.{Takes, answered, asked_of_device, fresh, later, verdict_to, with_steps}
 use Rattle.bac_device_poll.specs.Refusals.{is_passing}
+use Rattle.bac_device_poll.specs.Rejects.{after_reject}
 use Rattle.bac_device_poll.specs.State.{DeviceState, LogAs}
-use Rattle.bac_device_poll.specs.Turns.{Turned, asks, leaves}
+use Rattle.bac_device_poll.specs.Turns.{Turned, asks, leaves, not_asked}
 use Rattle.bac_answers.specs.declared.entry.Entry.{Entry}
 use Rattle.bac_answers.specs.declared.entry.Entry.TheVariants as entry
 use Rattle.bac_answers.specs.declared.entry.Naming.{Naming}
+use Rattle.bac_answers.specs.declared.reject.NoRoute.{NoRoute}
 use Rattle.bac_device_poll.specs.declared.poll.Known.{Known}
 use Rattle.bac_device_poll.specs.declared.question.Question.{Question}
 use Rattle.bac_device_poll.specs.declared.question.Question.TheVariants.{Confirmed, Nothing, WhoIs}
 use Rattle.bac_device_poll.specs.declared.stage.Stage.{Stage}
 use Rattle.bac_device_poll.specs.declared.stage.Stage.TheVariants as stage
 use Rattle.bac_device_poll.specs.declared.task.Polled.{Polled}
-use Rattle.bac_device_poll.specs.declared.turn.DeviceEnd.TheVariants.{Foreign, Silent}
+use Rattle.bac_device_poll.specs.declared.turn.DeviceEnd.TheVariants.{Foreign, Silent, Unreached}
 use Rattle.bac_device_poll.specs.declared.turn.Step.TheVariants.{End}
 use Rattle.bac_answers.specs.declared.who.Who.{Who}
 use Rattle.bac_answers.specs.declared.who.Who.TheVariants.{Address, Device, Name}
@@ -56,6 +58,7 @@ AsksReadings = (p : DeviceState) → IsReading (asked_of_device p)
 abbrev pub is_put : Entry → Bool
 is_put (entry.Another who) = false
 is_put entry.Untold = false
+is_put (entry.Rejected reject) = false
 is_put (entry.Unlisted why) = false
 is_put (entry.Others others) = false
 is_put (entry.NotAsked log) = false
@@ -137,13 +140,21 @@ added_by other = []
 abbrev pub added_in : List Entry → List Id
 added_in entries = flat_map added_by entries
 
--- what may come of what is asked: an answer to a request, or none to any send; an I-Am, or none to the Who-Is; and the
--- next log, where the poll of one has ended
+-- a router has no route to its network
+abbrev pub IsRejected : DeviceState → Turned → Type 0
+IsRejected p t = (reject : NoRoute) × (t ≡ after_reject p reject)
+
+-- an answer to a request comes, or none to any send
+abbrev pub IsHeard : DeviceState → Turned → Type 0
+IsHeard p t = ((datagram : List ℕ) × (now : CivilTime) × Takes p datagram now t) ⊎ (t ≡ after_loss p)
+
+-- what may come of what is asked: an answer to a request, or none to any send; an I-Am, or none to the Who-Is; a
+-- rejection; and the next log, where the poll of one has ended
 abbrev pub ComesAt : Stage → DeviceState → Turned → Type 0
-ComesAt stage.IAm p t = (device : Option Id) × (t ≡ after_i_am p device)
+ComesAt stage.IAm p t = ((device : Option Id) × (t ≡ after_i_am p device)) ⊎ IsRejected p t
 ComesAt stage.Between p t = t ≡ after_end p
 ComesAt stage.Ended p t = ⊥
-ComesAt other p t = ((datagram : List ℕ) × (now : CivilTime) × Takes p datagram now t) ⊎ (t ≡ after_loss p)
+ComesAt other p t = IsHeard p t ⊎ IsRejected p t
 
 -- it comes, one after the other
 abbrev pub Runs : DeviceState → List Turned → Type 0
@@ -276,7 +287,8 @@ RefusalsEndOne =
 
 -- ---- a question that isn't answered ends what was asked, and nothing else
 
--- by what was asked: a device that doesn't tell who it is, is silent
+-- by what was asked: a device that doesn't tell who it is, is silent; one that doesn't tell what a log is, isn't read
+-- at its revision, and where that is what it logs, the log is on record by its name
 abbrev pub LostAt : Stage → DeviceState → Turned → Type 0
 LostAt stage.Instance p t = t ≡ leaves p [] Silent
 LostAt stage.Name p t = t ≡ leaves p [] Silent
@@ -284,12 +296,64 @@ LostAt stage.IAm p t = Unit {0}
 LostAt stage.Log p t = Unit {0}
 LostAt stage.Between p t = Unit {0}
 LostAt stage.Ended p t = Unit {0}
+LostAt (stage.LogName log) p t = StaysUnknown (stage.LogName log) (unread p) t
+LostAt (stage.Source log) p t = StaysUnknown (stage.Description log) (unread p) t
+LostAt (stage.Units log) p t = StaysUnknown (stage.Units log) (unread p) t
+LostAt (stage.Description log) p t = StaysUnknown (stage.Description log) (unread p) t
 LostAt other p t = StaysUnknown other p t
 
 -- Before the logs of a device are polled, a question that isn't answered ends what was asked, and nothing else, as a
--- refusal does; the next one is sent once. Where that isn't answered either, the device is silent.
+-- refusal does; the next one is sent once. Where that isn't answered either, the device is silent; but its whole list
+-- and how many elements that has are one question.
 abbrev pub LossesEndOne : Type 0
 LossesEndOne =
     (p : DeviceState) → p.polled ≡ None →
-    (p.doubt ≡ false → LostAt p.stage (record p { doubt = true }) (after_loss p))
-    × (p.doubt ≡ true → after_loss p ≡ leaves p [] Silent)
+    ((p.doubt ≡ false) ⊎ (p.stage ≡ stage.Count) → LostAt p.stage (record p { doubt = true }) (after_loss p))
+    × (p.doubt ≡ true → p.stage ≢ stage.Count → after_loss p ≡ leaves p [] Silent)
+
+-- ---- what isn't answered is asked again in the next run
+
+-- a Database_Revision that is put on record
+abbrev pub read_by : Entry → List ℕ
+read_by (entry.Read revision) = revision ∷ []
+read_by other = []
+
+-- those of these turns
+abbrev pub read_in : List Turned → List ℕ
+read_in turns = flat_map (λ (t : Turned). flat_map read_by t.entries) turns
+
+-- what a log is, is asked
+abbrev pub IsNaming : Stage → Type 0
+IsNaming (stage.LogName log) = Unit {0}
+IsNaming (stage.Source log) = Unit {0}
+IsNaming (stage.Units log) = Unit {0}
+IsNaming (stage.Description log) = Unit {0}
+IsNaming other = ⊥
+
+-- its list is asked for, by index
+abbrev pub IsListing : Stage → Type 0
+IsListing stage.Count = Unit {0}
+IsListing (stage.Element index count) = Unit {0}
+IsListing other = ⊥
+
+-- Where no answer comes to what a log is, or to a list that is still to be read, no Database_Revision is put on record
+-- in this run, whatever comes behind that: so the next run asks again.
+abbrev pub AsksAgain : Type 0
+AsksAgain =
+    (p : DeviceState) (turns : List Turned) → p.polled ≡ None →
+    IsNaming p.stage ⊎ (IsListing p.stage × (p.read ≡ false)) → Runs (after_loss p).device turns →
+    read_in (after_loss p ∷ turns) ≡ []
+
+-- ---- a rejection ends the poll
+
+-- nothing is put on record, and nothing more is asked: the rejection is told, and each log that waits as not asked
+pub record IsRejectedFor (reject : NoRoute) (p : DeviceState) (t : Turned) : Type 0 where
+  pub told : t.entries ≡ entry.Rejected reject ∷ map not_asked p.logs
+  pub unput : PutsNone t.entries
+  pub ended : t.step ≡ End Unreached
+  pub unasked : asked_of_device t.device ≡ Nothing
+  pub logs : t.device.logs ≡ []
+
+-- Where the router has no route to its network, the poll of a device ends at once.
+abbrev pub RejectsEndOne : Type 0
+RejectsEndOne = (p : DeviceState) (reject : NoRoute) → IsRejectedFor reject p (after_reject p reject)

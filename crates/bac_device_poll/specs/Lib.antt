@@ -12,4 +12,5 @@ pub mod Naming
 pub mod Logs
 pub mod Poll
 pub mod Loss
+pub mod Rejects
 pub mod Laws

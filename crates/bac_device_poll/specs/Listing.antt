@@ -57,7 +57,7 @@ new_log object = record { log = object; begin = Starting None nothing_told }
 abbrev pub listed : DeviceState → List Id → Turned
 listed p objects =
     names (record p {
-      listed = true;
+      read = true;
       objects = [];
       unnamed = new_among p.logs p.stopped objects;
       logs = p.logs ++ map new_log (new_among p.logs p.stopped objects);

@@ -13,9 +13,9 @@ pub use Rattle.bac_answers.specs.Naming.{is_other, is_changed, read_at, unnamed,
 
 -- ---- whether the device was changed
 
--- none, as long as its list isn't read
+-- none, as long as its list isn't read, or a question what a log is was lost
 abbrev pub told_read : DeviceState → List Entry
-told_read p = if p.listed then read_at p.revision p.told.revision else []
+told_read p = if p.read then read_at p.revision p.told.revision else []
 
 -- ---- one log behind the other
 

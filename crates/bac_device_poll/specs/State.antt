@@ -46,7 +46,7 @@ pub record DeviceState : Type 0 where
   pub steps : Option ℕ  -- how many replies with records each of its logs has in this run, if not as many as come
   pub busy : ℕ  -- how often it was too busy for its question
   pub doubt : Bool  -- whether the question before, or a log, was lost, so that the next one is sent once
-  pub listed : Bool  -- whether its Object_List was read, where that is wanted
+  pub read : Bool  -- whether its Object_List was read, where that is wanted, and no question what a log is was lost
   pub objects : List Id  -- the elements of the list that it told so far
   pub unnamed : List Id  -- the logs whose names are still to be asked for
   pub naming : Naming  -- what it told so far of the one whose names are

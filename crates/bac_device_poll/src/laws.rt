@@ -1,7 +1,8 @@
 //! What holds of a device's poll, whoever answers.
 
-ghost use Rattle.bac_device_poll.specs.Laws.{AsksReadings, KeepsNoOther, LossesEndOne};
-ghost use Rattle.bac_device_poll.specs.Laws.{NoneLeftOut, RefusalsEndOne, StepsAreCounted};
+ghost use Rattle.bac_device_poll.specs.Laws.{AsksAgain, AsksReadings, KeepsNoOther};
+ghost use Rattle.bac_device_poll.specs.Laws.{LossesEndOne, NoneLeftOut, RefusalsEndOne};
+ghost use Rattle.bac_device_poll.specs.Laws.{RejectsEndOne, StepsAreCounted};
 
 /// A device is asked by ReadProperty, ReadRange and Who-Is alone.
 pub fn asks_readings()
@@ -30,7 +31,19 @@ pub fn refusals_end_one()
 {}
 
 /// A question that isn't answered, before the logs of a device are polled, ends what was asked, and
-/// all else is as it was; of two in a row the device is silent.
+/// all else is as it was; of two in a row the device is silent, where a list and its length are
+/// one.
 pub fn losses_end_one()
     ensures { LossesEndOne }
+{}
+
+/// Behind a question that isn't answered about a list, or about what a log is, no revision is put
+/// on record in the run, so that the next run asks again.
+pub fn asks_again()
+    ensures { AsksAgain }
+{}
+
+/// The rejection of a router that has no route to a device's network ends its poll at once.
+pub fn rejects_end_one()
+    ensures { RejectsEndOne }
 {}

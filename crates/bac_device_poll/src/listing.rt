@@ -113,7 +113,7 @@ impl DevicePoll {
         let mut entries = added(alloc, new.as_slice())?;
         push_others(&mut entries, self.others, others_in(objects))?;
         push_new(alloc, &mut self.logs, new.as_slice())?;
-        self.listed = true;
+        self.read = true;
         self.objects = Vec::new(alloc);
         self.unnamed = new;
         self.ask_names(alloc, entries)

@@ -53,8 +53,8 @@ fn wanted_at(stage: LogStage) -> Wanted
     }
 }
 
-// A turn with which the poll of a log ends.
-fn ended(alloc: Global, poll: &LogPoll, why: PollEnd) -> LogTurn
+/// A turn with which the poll of a log ends.
+pub(crate) fn ended(alloc: Global, poll: &LogPoll, why: PollEnd) -> LogTurn
     ensures { log_turned poll.now result ≡ ends poll.now why }
 {
     LogTurn::ends(alloc, why)

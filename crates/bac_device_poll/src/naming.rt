@@ -42,7 +42,7 @@ impl DevicePoll {
     fn push_told_read(&self, entries: &mut Vec<Entry>) -> Result<(), AllocError>
         ensures { OnOk result (entries.new.items ≡ entries.old.items ++ told_read self.now) }
     {
-        if self.listed {
+        if self.read {
             return push_read(entries, self.revision, self.told.revision);
         }
         Ok(())

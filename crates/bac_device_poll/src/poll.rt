@@ -87,7 +87,7 @@ pub struct DevicePoll {
     pub(crate) steps: Option<u32>,
     pub(crate) busy: u8,
     pub(crate) doubt: bool,
-    pub(crate) listed: bool,
+    pub(crate) read: bool,
     pub(crate) objects: Vec<ObjectId>,
     pub(crate) unnamed: Vec<ObjectId>,
     pub(crate) naming: Naming,
@@ -115,7 +115,7 @@ impl Model for DevicePoll {
       steps = p.steps;
       busy = p.busy;
       doubt = p.doubt;
-      listed = p.listed;
+      read = p.read;
       objects = p.objects.items;
       unnamed = p.unnamed.items;
       naming = p.naming;
@@ -159,7 +159,7 @@ impl DevicePoll {
             steps: None,
             busy: 0,
             doubt: false,
-            listed: !whole,
+            read: !whole,
             objects: Vec::new(alloc),
             unnamed: Vec::new(alloc),
             naming: unnamed(),

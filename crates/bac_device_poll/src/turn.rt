@@ -16,6 +16,8 @@ pub enum DeviceEnd {
     Foreign,
     /// It doesn't answer.
     Silent,
+    /// The router that it is behind has no route to its network.
+    Unreached,
 }
 
 /// How a device's poll goes on.

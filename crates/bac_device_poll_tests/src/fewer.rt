@@ -1,13 +1,14 @@
 //! A device that can't send so many records at once: half as many are asked for, of its next log,
 //! too.
 
+use crate::comes::come;
 use bac_apdu::Extent;
-use bac_device_poll::{Begin, DevicePoll, Known, LogTask, Question, Turn, Who};
+use bac_device_poll::{Begin, DevicePoll, Known, LogTask, Question, Who};
 use bac_link::Request;
 use bac_poll::Told;
 use bac_walk::Count;
-use bac_wire::{Datagram, ObjectId, Stamp};
-use std::alloc::{AllocError, Global};
+use bac_wire::{ObjectId, Stamp};
+use std::alloc::Global;
 use std::test::Fail;
 
 /// How many records are asked for; 0: something else is.
@@ -28,23 +29,6 @@ fn task(alloc: Global, instance: u32) -> Option<LogTask> {
     LogTask::new(log, Begin::Starting(None, Told::nothing(alloc)))
 }
 
-/// Takes an answer in hexadecimal digits.
-fn take(
-    alloc: Global,
-    poll: &mut DevicePoll,
-    digits: &str,
-    now: Stamp,
-) -> Result<Turn, AllocError> {
-    let octets = match hex::decode(alloc, digits) {
-        Ok(octets) => octets,
-        Err(_) => Vec::new(alloc),
-    };
-    match Datagram::of(octets.as_slice()) {
-        Some(datagram) => poll.take(alloc, &datagram, now),
-        None => poll.lose(alloc),
-    }
-}
-
 #[test]
 fn fewer_are_asked_for(rt: HostRuntime) -> Result<(), Fail> {
     let alloc = rt.alloc();
@@ -61,21 +45,21 @@ fn fewer_are_asked_for(rt: HostRuntime) -> Result<(), Fail> {
     let now = Stamp::new(2026, 3, 29, 2, 30, 0, 0).ok_or("no moment")?;
     let mut poll = DevicePoll::new(alloc, known, logs, Count::most(), 3, false);
     // Object_Identifier; no restart (Error property, unknown-property); Database_Revision 7.
-    take(
+    come(
         alloc,
         &mut poll,
         "810a0017010030010c0c023fffff194b3ec4020012673f",
         now,
     )?;
-    take(alloc, &mut poll, "810a000d010050010c91029120", now)?;
-    take(
+    come(alloc, &mut poll, "810a000d010050010c91029120", now)?;
+    come(
         alloc,
         &mut poll,
         "810a0014010030010c0c02001267199b3e21073f",
         now,
     )?;
     // Three records are counted: the oldest are asked for.
-    take(
+    come(
         alloc,
         &mut poll,
         "810a0014010030010c0c0500000119913e21033f",
@@ -83,15 +67,15 @@ fn fewer_are_asked_for(rt: HostRuntime) -> Result<(), Fail> {
     )?;
     assert!(rt; count_of(&poll) == 100);
     // Abort 4 and Abort 11.
-    take(alloc, &mut poll, "810a00090100710104", now)?;
+    come(alloc, &mut poll, "810a00090100710104", now)?;
     assert!(rt; count_of(&poll) == 50);
-    take(alloc, &mut poll, "810a0009010071010b", now)?;
+    come(alloc, &mut poll, "810a0009010071010b", now)?;
     assert!(rt; count_of(&poll) == 25);
     // Error object, unknown-object ends the log; so many are asked of the next one.
-    let turn = take(alloc, &mut poll, "810a000d010050011a9101911f", now)?;
+    let turn = come(alloc, &mut poll, "810a000d010050011a9101911f", now)?;
     assert!(rt; turn.log.is_some());
     poll.go_on(alloc)?;
-    take(
+    come(
         alloc,
         &mut poll,
         "810a0014010030010c0c0500000219913e21033f",

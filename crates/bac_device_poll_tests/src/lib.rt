@@ -2,9 +2,15 @@
 #![tactic(auto)]
 
 #[cfg(test)]
+mod comes;
+#[cfg(test)]
 mod device;
 #[cfg(test)]
+mod ends;
+#[cfg(test)]
 mod fewer;
+#[cfg(test)]
+mod lost;
 #[cfg(test)]
 mod passed;
 #[cfg(test)]

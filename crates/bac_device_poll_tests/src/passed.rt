@@ -1,11 +1,11 @@
 //! A device that gives no answer to some questions, and refuses its Object_List.
 
-use bac_device_poll::{Begin, DeviceEnd, DevicePoll, Known, LogTask, Question, Step, Turn, Who};
-use bac_link::Request;
+use crate::comes::{asked, come};
+use bac_device_poll::{Begin, DeviceEnd, DevicePoll, Known, LogTask, Step, Who};
 use bac_poll::Told;
 use bac_walk::Count;
-use bac_wire::{Datagram, ObjectId, Stamp};
-use std::alloc::{AllocError, Global};
+use bac_wire::{ObjectId, Stamp};
+use std::alloc::Global;
 use std::test::Fail;
 
 /// An answer in hexadecimal digits, or none; how many entries that brings; the property that is
@@ -59,36 +59,6 @@ fn rows() -> [Row; 9] {
         // None: the log is named, and polled.
         from("", 1, 145, true),
     ]
-}
-
-/// The property that is asked for, and its index; 0: none is.
-fn asked(poll: &DevicePoll) -> (u32, Option<u32>) {
-    match poll.question() {
-        Question::Confirmed(Request::ReadProperty(asked)) => (asked.property, asked.index),
-        Question::Confirmed(_) => (0, None),
-        Question::WhoIs => (0, None),
-        Question::Nothing => (0, None),
-    }
-}
-
-/// What comes.
-fn come(
-    alloc: Global,
-    poll: &mut DevicePoll,
-    digits: &str,
-    now: Stamp,
-) -> Result<Turn, AllocError> {
-    let octets = match hex::decode(alloc, digits) {
-        Ok(octets) => octets,
-        Err(_) => Vec::new(alloc),
-    };
-    if octets.is_empty() {
-        return poll.lose(alloc);
-    }
-    match Datagram::of(octets.as_slice()) {
-        Some(datagram) => poll.take(alloc, &datagram, now),
-        None => poll.lose(alloc),
-    }
 }
 
 /// Device 4711, all of whose logs are kept, of which one is on record.

@@ -14,8 +14,10 @@ use Rattle.bac_device_poll.specs.Logs.{log_after, logged, with_log}
 use Rattle.bac_device_poll.specs.Loss.{after_loss}
 use Rattle.bac_device_poll.specs.Poll.{Takes, answered, asked_of_device, verdict_to}
 use Rattle.bac_device_poll.specs.Refusals.{is_busy}
+use Rattle.bac_device_poll.specs.Rejects.{after_reject}
 use Rattle.bac_device_poll.specs.State.{DeviceState, LogAs}
 use Rattle.bac_device_poll.specs.Turns.{Turned, not_asked}
+use Rattle.bac_answers.specs.declared.reject.NoRoute.{NoRoute}
 use Rattle.bac_device_poll.specs.declared.stage.Stage.TheVariants as stage
 use Rattle.bac_device_poll.specs.declared.task.Polled.{Polled}
 use Rattle.bac_device_poll.specs.declared.turn.DeviceEnd.{DeviceEnd}
@@ -106,6 +108,16 @@ all_told (task ∷ logs) = ap (λ (l : List Id). task.log ∷ l) (all_told logs)
 pub lost : (p : DeviceState) (q : Polled) (doubt : Bool) → Polls (at_log p q doubt) true (after_loss (at_log p q doubt))
 lost p q false = turn_polls p q (ends q.poll (Fault walk.Lost)) false true p.busy
 lost p q true = record {
+  left = ap (λ (l : List Id). q.log ∷ l) (sym (all_told p.logs) ∙ sym (append-nil (not_asked_in (map not_asked p.logs))));
+  goes = tt;
+  doubt = refl;
+}
+
+-- ---- a rejection
+
+pub rejected : (p : DeviceState) (q : Polled) (doubt : Bool) (reject : NoRoute) →
+    Polls (at_log p q doubt) doubt (after_reject (at_log p q doubt) reject)
+rejected p q doubt reject = record {
   left = ap (λ (l : List Id). q.log ∷ l) (sym (all_told p.logs) ∙ sym (append-nil (not_asked_in (map not_asked p.logs))));
   goes = tt;
   doubt = refl;

@@ -7,14 +7,16 @@ use Rattle.bac_poll.specs.Poll.{asked_by_poll}
 use Rattle.bac_device_poll.specs.Identity.{device_of}
 use Rattle.bac_device_poll.specs.Logs.{begins_with}
 use Rattle.bac_device_poll.specs.Loss.{after_loss}
+use Rattle.bac_device_poll.specs.Rejects.{reject_by}
 use Rattle.bac_device_poll.specs.State.{DeviceState, LogAs, begun}
 use Rattle.bac_device_poll.specs.Turns.{Turned}
+use Rattle.bac_answers.specs.declared.reject.NoRoute.{NoRoute}
 use Rattle.bac_device_poll.specs.declared.question.Question.{Question}
 use Rattle.bac_device_poll.specs.declared.question.Question.TheVariants.{Confirmed}
 use Rattle.bac_device_poll.specs.declared.stage.Stage.TheVariants as stage
 use Rattle.bac_device_poll.specs.declared.task.Polled.{Polled}
 use Rattle.bac_device_poll.specs.declared.turn.DeviceEnd.{DeviceEnd}
-use Rattle.bac_device_poller.specs.Poller.{AsksNext, GivesBy, PollerAs, Settles, TellsNext, end_at}
+use Rattle.bac_device_poller.specs.Poller.{AsksNext, ComesBy, GivesBy, PollerAs, Settles, TellsNext, end_at}
 use Rattle.bac_device_poller.specs.Silence.{Answered, Happening, Happens, IsBegun, IsPolling, Lent, LostStopsNone, Missed}
 use Rattle.bac_device_poller.specs.Silence.{Wanted, asks_next}
 use Rattle.bac_device_poller.specs.Telling.{LineAs}
@@ -22,7 +24,7 @@ use Rattle.bac_device_poller.specs.declared.doing.Came.{Came}
 use Rattle.bac_device_poller.specs.declared.doing.Doing.{Doing}
 use Rattle.bac_device_poller.specs.declared.doing.Doing.TheVariants as doing
 use Rattle.bac_device_poller.proofs.LogTurns.{at_log, behind}
-use Rattle.bac_device_poller.proofs.Silence.{Settled, asked_is, asks_with, by_log, comes_is, hears, lost_is, settled}
+use Rattle.bac_device_poller.proofs.Silence.{Settled, asked_is, asks_with, by_log, comes_polls, doubt_behind, lost_is, settled}
 use Rattle.bac_device_poller.proofs.SilentSteps.{heard_is}
 use Rattle.bac_device_poller.proofs.SilentRuns.{missed_poll}
 
@@ -68,12 +70,23 @@ begun_next old new q task rest on sure logs s =
 
 -- ---- only a loss puts the next one in doubt
 
-by_answer : (old new : PollerAs) (q : Polled) (came : Came) (wanted : Next) → IsPolling old q →
-    GivesBy (doing.Hears came) old wanted new → new.poll.doubt ≡ false
-by_answer old new q came (next.Keep puts) on (t, comes, settles) =
+-- behind an answer, or a rejection
+heard_doubt : (o : Option NoRoute) (old new : PollerAs) (q : Polled) (came : Came) (wanted : Next) → IsPolling old q →
+    reject_by old.way came.from came.datagram ≡ o → GivesBy (doing.Hears came) old wanted new →
+    new.poll.doubt ≡ doubt_behind o old.poll.doubt
+heard_doubt o old new q came (next.Keep puts) on is (t, comes, settles) =
+    let C : Option NoRoute → Type 0 = λ r. ComesBy r old came t in
     ap (λ (d : DeviceState). d.doubt) (settled t old puts.items new settles).poll
-    ∙ (hears old q came.datagram came.at t on (comes_is old q came t on comes)).doubt
-by_answer old new q came wanted on gives = absurd gives
+    ∙ (comes_polls o old q came t on (subst C is comes)).doubt
+heard_doubt o old new q came wanted on is gives = absurd gives
+
+by_answer : (old new : PollerAs) (q : Polled) (came : Came) (wanted : Next) → IsPolling old q →
+    reject_by old.way came.from came.datagram ≡ None → GivesBy (doing.Hears came) old wanted new → new.poll.doubt ≡ false
+by_answer old new q came wanted on none gives = heard_doubt None old new q came wanted on none gives
+
+sure_behind : (o : Option NoRoute) (was : Bool) → was ≡ false → doubt_behind o was ≡ false
+sure_behind None was sure = refl
+sure_behind (Some reject) was sure = sure
 
 sure_same : (old new : PollerAs) → new.poll ≡ old.poll → old.poll.doubt ≡ false → new.poll.doubt ≡ false
 sure_same old new is sure = ap (λ (d : DeviceState). d.doubt) is ∙ sure
@@ -94,7 +107,9 @@ sure_gives doing.Asks old wanted new q on sure other gives =
 sure_gives (doing.Resends datagram) old (next.Send octets to) new q on sure other (o, t, is) = sure_same old new (ap (λ (x : PollerAs). x.poll) is) sure
 sure_gives (doing.Resends datagram) old wanted new q on sure other gives = absurd gives
 sure_gives doing.Waits old wanted new q on sure other (w, is) = sure_same old new (ap (λ (x : PollerAs). x.poll) is) sure
-sure_gives (doing.Hears came) old wanted new q on sure other gives = by_answer old new q came wanted on gives
+sure_gives (doing.Hears came) old wanted new q on sure other gives =
+    let o : Option NoRoute = reject_by old.way came.from came.datagram in
+    heard_doubt o old new q came wanted on refl gives ∙ sure_behind o old.poll.doubt sure
 sure_gives doing.Loses old wanted new q on sure other gives = absurd (other refl)
 sure_gives (doing.Tells end) old wanted new q on sure other gives = sure_same old new (sure_tells old.rows.lines end old wanted new gives) sure
 sure_gives (doing.Ended why) old wanted new q on sure other (w, is) = sure_same old new (ap (λ (x : PollerAs). x.poll) is) sure

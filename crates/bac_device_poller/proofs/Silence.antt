@@ -8,18 +8,20 @@ use Rattle.bac_device_poll.specs.Laws.{ended_in, left, not_asked_in}
 use Rattle.bac_device_poll.specs.Identity.{after_i_am}
 use Rattle.bac_device_poll.specs.Loss.{after_loss}
 use Rattle.bac_device_poll.specs.Poll.{Takes, asked_of_device, asks_log, question_at}
+use Rattle.bac_device_poll.specs.Rejects.{after_reject}
 use Rattle.bac_device_poll.specs.State.{DeviceState}
 use Rattle.bac_device_poll.specs.Turns.{Turned}
+use Rattle.bac_answers.specs.declared.reject.NoRoute.{NoRoute}
 use Rattle.bac_device_poll.specs.declared.question.Question.TheVariants.{Confirmed}
 use Rattle.bac_device_poll.specs.declared.stage.Stage.{Stage}
 use Rattle.bac_device_poll.specs.declared.stage.Stage.TheVariants as stage
 use Rattle.bac_device_poll.specs.declared.task.Polled.{Polled}
 use Rattle.bac_device_poll.specs.declared.turn.DeviceEnd.{DeviceEnd}
-use Rattle.bac_device_poller.specs.Poller.{Comes, PollerAs, Settles, doing_with, end_at, given_up, is_who_is}
+use Rattle.bac_device_poller.specs.Poller.{Comes, ComesBy, PollerAs, Settles, doing_with, end_at, given_up, is_who_is}
 use Rattle.bac_device_poller.specs.Poller.{lost_of, missed, seeks, sought_again, without_answer}
 use Rattle.bac_device_poller.specs.Silence.{ComesOfLog, EndsAsTold, IsPolling, asks_next, end_of}
 use Rattle.bac_device_poller.specs.declared.doing.Came.{Came}
-use Rattle.bac_device_poller.proofs.LogTurns.{Polls, at_log, behind, came, lost}
+use Rattle.bac_device_poller.proofs.LogTurns.{Polls, at_log, behind, came, lost, rejected}
 
 -- ---- what is asked while logs are polled
 
@@ -56,6 +58,19 @@ pub hears : (p : PollerAs) (q : Polled) (datagram : List ℕ) (now : CivilTime) 
 hears p q datagram now t on =
     by_log (λ (d : DeviceState). Takes d datagram now t → Polls d false t) p q on (came p.poll q p.poll.doubt datagram now t)
 
+pub rejects : (p : PollerAs) (q : Polled) (reject : NoRoute) → IsPolling p q → Polls p.poll p.poll.doubt (after_reject p.poll reject)
+rejects p q reject on = by_log (λ (d : DeviceState). Polls d d.doubt (after_reject d reject)) p q on (rejected p.poll q p.poll.doubt reject)
+
+-- whether the next question is in doubt behind an answer, or a rejection
+abbrev pub doubt_behind : Option NoRoute → (was : Bool) → Bool
+doubt_behind None was = false
+doubt_behind (Some reject) was = was
+
+pub comes_polls : (o : Option NoRoute) (p : PollerAs) (q : Polled) (c : Came) (t : Turned) → IsPolling p q → ComesBy o p c t →
+    Polls p.poll (doubt_behind o p.poll.doubt) t
+comes_polls None p q c t on comes = hears p q c.datagram c.at t on (comes_is p q c t on comes)
+comes_polls (Some reject) p q c t on is = subst (Polls p.poll p.poll.doubt) (sym is) (rejects p q reject on)
+
 -- and what is put and told of that
 pub record Settled (t : Turned) (old new : PollerAs) : Type 0 where
   pub poll : new.poll ≡ (behind t).device
@@ -89,8 +104,9 @@ ended_are_out old new q t puts on comes settles =
     by comes ∙ ap (λ (d : DeviceState). ended_in t.log old.poll.polled ++ (not_asked_in t.entries ++ left d)) (sym (settled t old puts new settles).poll)
   where
     by : ComesOfLog old.poll t → left old.poll ≡ ended_in t.log old.poll.polled ++ (not_asked_in t.entries ++ left (behind t).device)
-    by (inl (datagram, now, takes)) = (hears old q datagram now t on takes).left
-    by (inr is) = (subst (Polls old.poll true) (sym is) (loss old q on)).left
+    by (inl (inl (datagram, now, takes))) = (hears old q datagram now t on takes).left
+    by (inl (inr is)) = (subst (Polls old.poll true) (sym is) (loss old q on)).left
+    by (inr (reject, is)) = (subst (Polls old.poll old.poll.doubt) (sym is) (rejects old q reject on)).left
 
 pub ends_as_told : EndsAsTold
 ends_as_told old new t puts settles =

@@ -26,7 +26,9 @@ use Rattle.bac_device_poller.specs.Telling.{LineAs}
 use Rattle.bac_device_poller.specs.declared.doing.Doing.{Doing}
 use Rattle.bac_device_poller.specs.declared.doing.Doing.TheVariants as doing
 use Rattle.bac_device_poller.proofs.LogTurns.{GoesOn, Polls, behind}
-use Rattle.bac_device_poller.proofs.Silence.{Settled, asked_is, comes_is, end_with, hears, loss, lost_is, settled}
+use Rattle.bac_device_poll.specs.Rejects.{reject_by}
+use Rattle.bac_answers.specs.declared.reject.NoRoute.{NoRoute}
+use Rattle.bac_device_poller.proofs.Silence.{Settled, asked_is, comes_polls, doubt_behind, end_with, loss, lost_is, settled}
 use Rattle.bac_device_poller.proofs.SilentSteps.{Sound, Stays, deaf, heard_is, new_sound, not_both, runs_sound}
 use Rattle.bac_device_poller.proofs.SilentSteps.{sound_step, stays}
 
@@ -123,7 +125,8 @@ gives_on (doing.Resends datagram) old (next.Send octets to) new is_on on (o, t, 
 gives_on (doing.Resends datagram) old wanted new is_on on gives = absurd gives
 gives_on doing.Waits old wanted new is_on on (w, is) = stays_on old new is_on is
 gives_on (doing.Hears c) old (next.Keep puts) new is_on (q, at, polled) (t, comes, settles) =
-    turned t false old new (hears old q c.datagram c.at t (at, polled) (comes_is old q c t (at, polled) comes)) (settled t old puts.items new settles)
+    let o : Option NoRoute = reject_by old.way c.from c.datagram in
+    turned t (doubt_behind o old.poll.doubt) old new (comes_polls o old q c t (at, polled) comes) (settled t old puts.items new settles)
 gives_on (doing.Hears c) old wanted new is_on on gives = absurd gives
 gives_on doing.Loses old (next.Keep puts) new is_on (q, at, polled) settles =
     turned (after_loss old.poll) true old new (loss old q (at, polled))

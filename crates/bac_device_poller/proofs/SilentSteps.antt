@@ -1,22 +1,24 @@
 -- What happens to a device's poll: what stays open, which logs are left, and that nothing comes behind its end.
-use Rattle.std.proofs.Common.{◌≡◌, ◌∙◌, ℕ, ◌+◌, ◌&&◌, nat_lt, nat_le, Bool, true, false, if◌then◌else◌, List, [], ◌∷◌}
-use Rattle.std.proofs.Common.{Option, None, Some, is_some, ap, sym, refl, subst}
+use Rattle.std.proofs.Common.{◌≡◌, ◌∙◌, ℕ, ◌+◌, ◌&&◌, ◌||◌, nat_lt, nat_le, Bool, true, false, if◌then◌else◌, List, []}
+use Rattle.std.proofs.Common.{◌∷◌, Option, None, Some, is_some, ap, sym, refl, subst}
 use Rattle.std.specs.Str.{bytes_eq}
 use Rattle.bac_wire.specs.Stamp.{CivilTime}
-use Rattle.bac_link.specs.Transactions.{closed, is_awaited}
+use Rattle.bac_link.specs.Transactions.{is_awaited}
 use Rattle.bac_link.specs.declared.transactions.Pending.{Pending}
 use Rattle.bac_link.specs.declared.transactions.Transactions.{Transactions}
 use Rattle.bac_drive.specs.declared.machine.Next.{Next}
 use Rattle.bac_drive.specs.declared.machine.Next.TheVariants as next
 use Rattle.bac_device_poll.specs.Logs.{after_end}
 use Rattle.bac_device_poll.specs.Poll.{asked_of_device}
+use Rattle.bac_device_poll.specs.Rejects.{reject_by}
 use Rattle.bac_device_poll.specs.Turns.{Turned}
 use Rattle.bac_device_poll.specs.Way.{i_am_by, who_is_octets}
 use Rattle.bac_device_poll.specs.declared.question.Question.{Question}
 use Rattle.bac_device_poll.specs.declared.question.Question.TheVariants.{Confirmed, Nothing, WhoIs}
 use Rattle.bac_device_poll.specs.declared.turn.DeviceEnd.{DeviceEnd}
 use Rattle.bac_device_poller.specs.Poller.{AsksNext, GivesBy, PollerAs, TellsNext, doing_with, end_at, given_up}
-use Rattle.bac_device_poller.specs.Poller.{heard_by, is_answer, is_none_told, is_waiting, lost_of, missed, seeks}
+use Rattle.bac_device_poller.specs.Poller.{heard_by, hearing, is_answer, is_none_told, is_rejected, is_waiting, lost_of}
+use Rattle.bac_device_poller.specs.Poller.{missed, seeks}
 use Rattle.bac_device_poller.specs.Poller.{sought_again, without_answer}
 use Rattle.bac_device_poller.specs.Silence.{Answered, Happening, Happens, IsNew, Lent, Missed}
 use Rattle.bac_device_poller.specs.Silence.{Runs, Wanted, end_of, is_send, is_sent}
@@ -110,16 +112,9 @@ missed_sound p = by (seeks p) p.poll.doubt
     by false false = timed_out p p.transactions.pending
 
 -- what is heard
-pub heard_is : (p : PollerAs) (from datagram : List ℕ) (now : CivilTime) → is_answer p from datagram ≡ true → heard_by from datagram now p ≡ record p {
-  transactions = closed p.transactions;
-  doing = doing.Hears (record { from = from; datagram = datagram; at = now });
-  rows = record p.rows { answered = Some now };
-}
-heard_is p from datagram now fits = ap (λ (b : Bool). if b then record p {
-  transactions = closed p.transactions;
-  doing = doing.Hears (record { from = from; datagram = datagram; at = now });
-  rows = record p.rows { answered = Some now };
-} else p) fits
+pub heard_is : (p : PollerAs) (from datagram : List ℕ) (now : CivilTime) → is_answer p from datagram ≡ true →
+    heard_by from datagram now p ≡ hearing from datagram now p
+heard_is p from datagram now fits = ap (λ (b : Bool). if b then hearing from datagram now p else p) fits
 
 pub sound_step : (old : PollerAs) (h : Happening) (new : PollerAs) → Sound old → Happens old h new → Sound new
 sound_step old (Lent ids) new sound is = let P : PollerAs → Type 0 = Sound in subst P (sym is) sound
@@ -159,15 +154,18 @@ never : (b : Bool) → (b && false) ≡ false
 never true = refl
 never false = refl
 
-deaf_by : (seeks : Bool) (waits some from : Bool) (o : Option Pending) (datagram : List ℕ) → waits ≡ false → o ≡ None →
+not_told : (seeks : Bool) (waits some from : Bool) (o : Option Pending) (datagram : List ℕ) → waits ≡ false → o ≡ None →
     (if seeks then waits && some else from && is_awaited o datagram) ≡ false
-deaf_by true waits some from o datagram is none = ap (λ (b : Bool). b && some) is
-deaf_by false waits some from o datagram is none = ap (λ (o : Option Pending). from && is_awaited o datagram) none ∙ never from
+not_told true waits some from o datagram is none = ap (λ (b : Bool). b && some) is
+not_told false waits some from o datagram is none = ap (λ (o : Option Pending). from && is_awaited o datagram) none ∙ never from
 
 pub deaf : (p : PollerAs) (why : DeviceEnd) (from datagram : List ℕ) → Sound p → end_of p.doing ≡ Some why → is_answer p from datagram ≡ false
 deaf p why from datagram sound end =
-    deaf_by (seeks p) (is_waiting p.doing) (is_some (i_am_by p.way from datagram)) (bytes_eq from p.way.peer) p.transactions.pending datagram
-    (ended_waits p.doing why end) (ended_closed p.doing why p.transactions.pending end sound)
+    let waits : is_waiting p.doing ≡ false = ended_waits p.doing why end in
+    ap (λ (b : Bool). b || is_rejected p from datagram)
+    (not_told (seeks p) (is_waiting p.doing) (is_some (i_am_by p.way from datagram)) (bytes_eq from p.way.peer) p.transactions.pending datagram
+    waits (ended_closed p.doing why p.transactions.pending end sound))
+    ∙ ap (λ (b : Bool). b && is_some (reject_by p.way from datagram)) waits
 
 pub not_both : {A : Type 0} (b : Bool) → b ≡ true → b ≡ false → A
 not_both true fits none = absurd (cc)

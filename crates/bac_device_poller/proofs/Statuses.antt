@@ -7,7 +7,7 @@ use Rattle.bac_wire.specs.Primitive.{Id}
 use Rattle.bac_archive.specs.declared.row.Put.{Put}
 use Rattle.bac_answers.specs.declared.entry.Entry.{Entry}
 use Rattle.bac_answers.specs.declared.entry.Entry.TheVariants.{Added, Another, Clock, Known, KnownNow, Named}
-use Rattle.bac_answers.specs.declared.entry.Entry.TheVariants.{NotAsked, Others, Read, Unlisted, Untold}
+use Rattle.bac_answers.specs.declared.entry.Entry.TheVariants.{NotAsked, Others, Read, Rejected, Unlisted, Untold}
 use Rattle.bac_answers.specs.declared.entry.Naming.{Naming}
 use Rattle.bac_answers.specs.declared.who.Who.{Who}
 use Rattle.bac_answers.specs.declared.who.Who.TheVariants.{Address, Device, Name}
@@ -26,7 +26,7 @@ use Rattle.bac_device_poll.specs.declared.question.Question.{Question}
 use Rattle.bac_device_poll.specs.declared.question.Question.TheVariants.{Confirmed, Nothing, WhoIs}
 use Rattle.bac_device_poll.specs.declared.task.Polled.{Polled}
 use Rattle.bac_device_poll.specs.declared.turn.DeviceEnd.{DeviceEnd}
-use Rattle.bac_device_poll.specs.declared.turn.DeviceEnd.TheVariants.{Done as IsDone, Foreign, Silent}
+use Rattle.bac_device_poll.specs.declared.turn.DeviceEnd.TheVariants.{Done as IsDone, Foreign, Silent, Unreached}
 use Rattle.bac_device_poll.specs.declared.turn.Step.{Step}
 use Rattle.bac_device_poll.specs.declared.turn.Step.TheVariants.{Ask, AskLater, End, GoOn}
 use Rattle.bac_device_poller.specs.Ending.{ended_line, is_caught_up, reason_line}
@@ -148,6 +148,7 @@ entry_grows r (Known who) = chained (still r (knowing r who) refl refl) (known_g
 entry_grows r (KnownNow who) = chained (still r (knowing r who) refl refl) (tells (knowing r who) true _)
 entry_grows r (Another who) = tells r false _
 entry_grows r Untold = tells r false _
+entry_grows r (Rejected reject) = tells r false _
 entry_grows r (Clock offset) = still r (with_entry r (Clock offset)) refl refl
 entry_grows r (Added log) = added_grows (free_id r.ids) r log
 entry_grows r (Unlisted why) =
@@ -232,6 +233,7 @@ answered_grows (Some at) r = still r (putting_answered (Some at) r) refl refl
 
 left_grows : (why : DeviceEnd) (polled : Bool) (r : RowsAs) → Grows r (left_by why polled r)
 left_grows IsDone polled r = answered_grows r.answered r
+left_grows Unreached polled r = answered_grows r.answered r
 left_grows Foreign polled r = still r r refl refl
 left_grows Silent true r = answered_grows r.answered r
 left_grows Silent false r = chained (answered_grows r.answered r) (tells (putting_answered r.answered r) false _)
@@ -273,6 +275,7 @@ why_ends why polled r = record {
     by IsDone (inr warned) is = inr (inl warned)
     by Foreign told is = inr (inr (omega arith))
     by Silent told is = inr (inr (omega arith))
+    by Unreached told is = inr (inr (omega arith))
 
 step_ends : (step : Step) (polled : Bool) (r : RowsAs) → Ends (end_at step) r (left_at step polled r)
 step_ends (End why) polled r = why_ends why polled r

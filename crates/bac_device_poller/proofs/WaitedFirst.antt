@@ -10,7 +10,7 @@ use Rattle.bac_link.specs.declared.transactions.Transactions.{Transactions}
 use Rattle.bac_drive.specs.declared.machine.Next.{Next}
 use Rattle.bac_drive.specs.declared.machine.Next.TheVariants as next
 use Rattle.bac_device_poll.specs.Identity.{after_i_am}
-use Rattle.bac_device_poll.specs.Loss.{after_loss, loss_at, passed_over}
+use Rattle.bac_device_poll.specs.Loss.{after_loss, is_last, loss_at, passed_over}
 use Rattle.bac_device_poll.specs.Poll.{asked_of_device, question_at}
 use Rattle.bac_device_poll.specs.State.{DeviceState}
 use Rattle.bac_device_poll.specs.Turns.{Turned, leaves}
@@ -181,7 +181,7 @@ silent_first other false p first = absurd first
 
 lost_request : (p : PollerAs) (request : Request) → Asking p (Confirmed request) → (d : DeviceState) × (lost_of p ≡ leaves d [] Silent)
 lost_request p request on =
-    let silent = silent_first p.poll.stage p.poll.doubt p.poll on.first in (
+    let silent = silent_first p.poll.stage (is_last p.poll) p.poll on.first in (
       silent.0,
       ap (λ (b : Bool). if b then after_i_am p.poll None else after_loss p.poll) (ap is_who_is on.asks) ∙ ap (loss_at p.poll) on.polled ∙ silent.1,
     )

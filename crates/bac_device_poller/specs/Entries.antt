@@ -8,7 +8,7 @@ use Rattle.bac_walk.specs.declared.outcome.WalkFault.{WalkFault}
 use Rattle.bac_poll_steps.specs.declared.turn.PollEnd.TheVariants.{Fault}
 use Rattle.bac_answers.specs.declared.entry.Entry.{Entry}
 use Rattle.bac_answers.specs.declared.entry.Entry.TheVariants.{Added, Another, Clock, Known, KnownNow, Named}
-use Rattle.bac_answers.specs.declared.entry.Entry.TheVariants.{NotAsked, Others, Read, Unlisted, Untold}
+use Rattle.bac_answers.specs.declared.entry.Entry.TheVariants.{NotAsked, Others, Read, Rejected, Unlisted, Untold}
 use Rattle.bac_answers.specs.declared.entry.Naming.{Naming}
 use Rattle.bac_answers.specs.declared.who.Who.{Who}
 use Rattle.bac_answers.specs.declared.who.Who.TheVariants.{Address, Device, Name}
@@ -18,9 +18,9 @@ use Rattle.bac_device_poller.specs.Naming.{answered_at, known_as, named_as, offs
 use Rattle.bac_device_poller.specs.Puts.{PutAs}
 use Rattle.bac_device_poller.specs.Rows.{DeviceAs, LogAs, device_put, log_put}
 use Rattle.bac_device_poller.specs.Status.{greater_of, status_of}
-use Rattle.bac_device_poller.specs.Telling.{LineAs, alone_line, another_line, full_line, known_now_line, log_called}
-use Rattle.bac_device_poller.specs.Telling.{new_line, not_asked_line, others_line, unlisted_line, unlisted_reason}
-use Rattle.bac_device_poller.specs.Telling.{untold_line}
+use Rattle.bac_device_poller.specs.Telling.{LineAs, alone_line, another_line, full_line, known_now_line}
+use Rattle.bac_device_poller.specs.Telling.{log_called, new_line, not_asked_line, others_line, rejected_line}
+use Rattle.bac_device_poller.specs.Telling.{unlisted_line, unlisted_reason, untold_line}
 use Rattle.bac_device_poller.specs.declared.counts.Counts.{Counts}
 use Rattle.bac_device_poller.specs.declared.ending.Ending.TheVariants.{Poll}
 use Rattle.bac_device_poller.specs.declared.ids.Ids.{Ids}
@@ -167,6 +167,7 @@ with_entry r (Known who) = telling_known (knowing r who) who
 with_entry r (KnownNow who) = telling (knowing r who) true (known_now_line r.called who)
 with_entry r (Another who) = telling r false (another_line r.called who r.device.instance)
 with_entry r Untold = telling r false (untold_line r.called r.device.instance)
+with_entry r (Rejected reject) = telling r false (rejected_line r.called reject)
 with_entry r (Clock offset) = putting_device (record r { device = record r.device { offset = offset_of offset } })
 with_entry r (Added log) = added_as (free_id r.ids) r log
 with_entry r (Unlisted why) = telling_unlisted r why

@@ -1,5 +1,5 @@
 -- The poll of one device over transactions. Read `GivesBy`, `heard_by` and `missed`.
-use Rattle.std.specs.Prelude.{◌≡◌, ℕ, ◌+◌, ◌&&◌, nat_le, nat_lt, is_some, Bool, true, false, if◌then◌else◌}
+use Rattle.std.specs.Prelude.{◌≡◌, ℕ, ◌+◌, ◌&&◌, ◌||◌, nat_le, nat_lt, is_some, Bool, true, false, if◌then◌else◌}
 use Rattle.std.specs.Prelude.{List, [], ◌∷◌, map, Option, None, Some}
 use Rattle.std.specs.Str.{bytes_eq}
 use Rattle.bac_wire.specs.Stamp.{CivilTime}
@@ -15,6 +15,7 @@ use Rattle.bac_device_poll.specs.Identity.{after_i_am}
 use Rattle.bac_device_poll.specs.Logs.{after_end}
 use Rattle.bac_device_poll.specs.Loss.{after_loss}
 use Rattle.bac_device_poll.specs.Poll.{Takes, asked_of_device}
+use Rattle.bac_device_poll.specs.Rejects.{after_reject, reject_by}
 use Rattle.bac_device_poll.specs.State.{DeviceState}
 use Rattle.bac_device_poll.specs.Turns.{Turned, asks}
 use Rattle.bac_device_poll.specs.Way.{i_am_by, who_is_octets}
@@ -22,9 +23,10 @@ use Rattle.bac_answers.specs.declared.entry.Entry.{Entry}
 use Rattle.bac_device_poll.specs.declared.question.Question.{Question}
 use Rattle.bac_device_poll.specs.declared.question.Question.TheVariants.{Confirmed, Nothing, WhoIs}
 use Rattle.bac_device_poll.specs.declared.turn.DeviceEnd.{DeviceEnd}
-use Rattle.bac_device_poll.specs.declared.turn.DeviceEnd.TheVariants.{Done, Foreign, Silent}
+use Rattle.bac_device_poll.specs.declared.turn.DeviceEnd.TheVariants.{Done, Foreign, Silent, Unreached}
 use Rattle.bac_device_poll.specs.declared.turn.Step.{Step}
 use Rattle.bac_device_poll.specs.declared.turn.Step.TheVariants.{Ask, AskLater, End, GoOn}
+use Rattle.bac_answers.specs.declared.reject.NoRoute.{NoRoute}
 use Rattle.bac_answers.specs.declared.way.Way.{Way}
 use Rattle.bac_device_poller.specs.Entries.{RowsAs, putting_device, raising, telling, with_entries}
 use Rattle.bac_device_poller.specs.Puts.{put_as}
@@ -79,23 +81,38 @@ is_waiting doing.Loses = false
 is_waiting (doing.Tells end) = false
 is_waiting (doing.Ended why) = false
 
--- whether a datagram answers what is open: the Who-Is, by an I-Am from where the device is asked; or the transaction
-abbrev pub is_answer : PollerAs → List ℕ → List ℕ → Bool
-is_answer p from datagram =
+-- whether the device answers what is open: the Who-Is, by an I-Am from where it is asked; or the transaction
+abbrev pub is_told : PollerAs → List ℕ → List ℕ → Bool
+is_told p from datagram =
     if seeks p
     then is_waiting p.doing && is_some (i_am_by p.way from datagram)
     else bytes_eq from p.way.peer && is_awaited p.transactions.pending datagram
 
--- A datagram came from an address, at this moment. It is taken if it answers what is open; else all is as it was.
+-- whether the router that it is behind rejects what is waited for
+abbrev pub is_rejected : PollerAs → List ℕ → List ℕ → Bool
+is_rejected p from datagram = is_waiting p.doing && is_some (reject_by p.way from datagram)
+
+-- whether a datagram is one of both
+abbrev pub is_answer : PollerAs → List ℕ → List ℕ → Bool
+is_answer p from datagram = is_told p from datagram || is_rejected p from datagram
+
+-- when the device answered last: a rejection is its router's word, not its own
+abbrev pub answered_behind : Option NoRoute → (now : CivilTime) → (was : Option CivilTime) → Option CivilTime
+answered_behind None now was = Some now
+answered_behind (Some reject) now was = was
+
+-- with what was taken
+abbrev pub hearing : List ℕ → List ℕ → (now : CivilTime) → PollerAs → PollerAs
+hearing from datagram now p = record p {
+  transactions = closed p.transactions;
+  doing = doing.Hears (record { from = from; datagram = datagram; at = now });
+  rows = record p.rows { answered = answered_behind (reject_by p.way from datagram) now p.rows.answered };
+}
+
+-- A datagram came from an address, at this moment. It is taken if it answers what is open, or rejects it; else all is
+-- as it was.
 abbrev pub heard_by : List ℕ → List ℕ → (now : CivilTime) → PollerAs → PollerAs
-heard_by from datagram now p =
-    if is_answer p from datagram
-    then record p {
-      transactions = closed p.transactions;
-      doing = doing.Hears (record { from = from; datagram = datagram; at = now });
-      rows = record p.rows { answered = Some now };
-    }
-    else p
+heard_by from datagram now p = if is_answer p from datagram then hearing from datagram now p else p
 
 -- its question is lost
 abbrev pub given_up : PollerAs → PollerAs
@@ -140,10 +157,11 @@ abbrev pub putting_answered : Option CivilTime → RowsAs → RowsAs
 putting_answered None r = r
 putting_answered (Some at) r = putting_device r
 
--- nothing more is asked of it: of another device than the one on record nothing is put; one that is silent before its
--- logs are polled has a line of its own
+-- nothing more is asked of it: of another device than the one on record, or of another row's, nothing is put; one that
+-- is silent before its logs are polled has a line of its own
 abbrev pub left_by : DeviceEnd → (polled : Bool) → RowsAs → RowsAs
 left_by Done polled r = putting_answered r.answered r
+left_by Unreached polled r = putting_answered r.answered r
 left_by Foreign polled r = r
 left_by Silent true r = putting_answered r.answered r
 left_by Silent false r = telling (putting_answered r.answered r) false (silent_line r.called)
@@ -222,6 +240,11 @@ abbrev pub Comes : (seeks : Bool) → PollerAs → Came → Turned → Type 0
 Comes true p came t = t ≡ after_i_am p.poll (i_am_by p.way came.from came.datagram)
 Comes false p came t = Takes p.poll came.datagram came.at t
 
+-- a rejection is its router's word; else it is an answer
+abbrev pub ComesBy : Option NoRoute → PollerAs → Came → Turned → Type 0
+ComesBy None p came t = Comes (seeks p) p came t
+ComesBy (Some reject) p came t = t ≡ after_reject p.poll reject
+
 -- no answer came
 abbrev pub lost_of : PollerAs → Turned
 lost_of p = if seeks p then after_i_am p.poll None else after_loss p.poll
@@ -240,7 +263,7 @@ GivesBy (doing.Resends datagram) old (next.Send octets to) new =
     (octets ≡ datagram) × (to ≡ old.way.peer) × (new ≡ record old { doing = doing.Waits })
 GivesBy doing.Waits old wanted new = (wanted ≡ next.Read) × (new ≡ old)
 GivesBy (doing.Hears came) old (next.Keep puts) new =
-    (t : Turned) × Comes (seeks old) old came t × Settles t old puts.items new
+    (t : Turned) × ComesBy (reject_by old.way came.from came.datagram) old came t × Settles t old puts.items new
 GivesBy doing.Loses old (next.Keep puts) new =
     Settles (lost_of old) old puts.items new
 GivesBy (doing.Tells end) old wanted new = TellsNext old.rows.lines end old wanted new

@@ -1,15 +1,16 @@
 -- A device that falls silent, and logs of it that are lost. Read `WaitsOnce`, `LostStopsNone` and `AsksNoMore`.
-use Rattle.std.specs.Prelude.{◌≡◌, ◌≢◌, ◌≤◌, ◌⊎◌, ℕ, ◌+◌, Bool, true, false, List, [], ◌∷◌, ◌++◌, count_by, map}
-use Rattle.std.specs.Prelude.{Option, None, Some}
+use Rattle.std.specs.Prelude.{◌≡◌, ◌≢◌, ◌≤◌, ◌⊎◌, ℕ, ◌+◌, Bool, true, false, if◌then◌else◌, List, [], ◌∷◌, ◌++◌}
+use Rattle.std.specs.Prelude.{count_by, map, Option, None, Some}
 use Rattle.bac_wire.specs.Primitive.{Id}
 use Rattle.bac_wire.specs.Stamp.{CivilTime}
 use Rattle.bac_archive.specs.declared.row.Put.{Put}
 use Rattle.bac_drive.specs.declared.machine.Next.{Next}
 use Rattle.bac_drive.specs.declared.machine.Next.TheVariants as next
 use Rattle.bac_device_poll.specs.Identity.{device_of}
-use Rattle.bac_device_poll.specs.Laws.{ended_in, left, not_asked_in}
-use Rattle.bac_device_poll.specs.Loss.{after_loss}
-use Rattle.bac_device_poll.specs.Poll.{Takes, asked_of_device}
+use Rattle.bac_device_poll.specs.Laws.{IsHeard, IsRejected, ended_in, left, not_asked_in}
+use Rattle.bac_device_poll.specs.Loss.{is_count}
+use Rattle.bac_device_poll.specs.Poll.{asked_of_device}
+use Rattle.bac_device_poll.specs.Rejects.{reject_by}
 use Rattle.bac_device_poll.specs.State.{DeviceState, LogAs, begun}
 use Rattle.bac_device_poll.specs.Turns.{Turned}
 use Rattle.bac_device_poll.specs.declared.question.Question.{Question}
@@ -97,20 +98,31 @@ IsMet stage.Between = ⊥
 IsMet stage.Ended = ⊥
 IsMet other = Unit {0}
 
--- how often one is asked in vain: a question and its repeats, and the next one once; if the one before wasn't answered,
--- or a log was lost, only the latter
-abbrev pub sends_in_vain : (doubt : Bool) → (retries : ℕ) → ℕ
-sends_in_vain true retries = 1
-sends_in_vain false retries = retries + 2
+-- its whole list is asked for
+abbrev pub is_objects : Stage → Bool
+is_objects stage.Objects = true
+is_objects other = false
 
--- A device that falls silent behind who it is, is waited for once, and for one wait more, whatever else is to be asked
--- of it, and however many logs it has: from where a question is asked, no more than so many datagrams are sent to it
--- before it answers.
+-- how much is asked behind a question that is lost, each of it once: the next one, and nothing behind that; but its
+-- whole list and how many elements that has are one question
+abbrev pub behind_lost : (doubt : Bool) → Stage → ℕ
+behind_lost true s = if is_count s then 1 else 0
+behind_lost false s = if is_objects s then 2 else 1
+
+-- how often one is asked in vain: a question and its repeats, and what is asked behind it; if the one before wasn't
+-- answered, or a log was lost, it isn't repeated
+abbrev pub sends_in_vain : (doubt : Bool) → Stage → (retries : ℕ) → ℕ
+sends_in_vain true s retries = 1 + behind_lost true s
+sends_in_vain false s retries = (retries + 1) + behind_lost false s
+
+-- A device that falls silent behind who it is, is waited for once, and for one wait more, or two where its list is
+-- asked for, whatever else is to be asked of it, and however many logs it has: from where a question is asked, no more
+-- than so many datagrams are sent to it before it answers.
 abbrev pub WaitsOnce : Type 0
 WaitsOnce =
     (old new : PollerAs) (run : List Happening) → IsMet old.poll.stage → IsAsking (asked_of_device old.poll) →
     old.doing ≡ doing.Asks → Runs old run new → IsUnanswered run →
-    count_by is_sent run ≤ sends_in_vain old.poll.doubt old.transactions.retries
+    count_by is_sent run ≤ sends_in_vain old.poll.doubt old.poll.stage old.transactions.retries
 
 -- it is asked who it is
 abbrev pub IsFirst : Stage → Type 0
@@ -166,14 +178,16 @@ pub record IsBegun (task : LogAs) (behind : List LogAs) (old new : PollerAs) : T
   pub asks : asks_next new.doing ≡ true
 
 -- A log that is lost stops no other: if an answer came since the log before was lost, the next one is polled, and those
--- behind it wait as they did. Each answer to the question of a log is such, and only a loss puts the next one in doubt.
+-- behind it wait as they did. Each answer of the device to the question of a log is such, and only a loss puts the next
+-- one in doubt.
 abbrev pub LostStopsNone : Type 0
 LostStopsNone =
     ((old new : PollerAs) (q : Polled) (task : LogAs) (behind : List LogAs) (wanted : Next) → IsPolling old q →
     old.poll.doubt ≡ false → old.poll.logs ≡ task ∷ behind → GivesBy doing.Loses old wanted new →
     IsBegun task behind old new)
     × ((old new : PollerAs) (q : Polled) (came : Came) (wanted : Next) → IsPolling old q →
-    GivesBy (doing.Hears came) old wanted new → new.poll.doubt ≡ false)
+    reject_by old.way came.from came.datagram ≡ None → GivesBy (doing.Hears came) old wanted new →
+    new.poll.doubt ≡ false)
     × ((old new : PollerAs) (q : Polled) (h : Happening) → IsPolling old q → old.poll.doubt ≡ false →
     old.doing ≢ doing.Loses → Happens old h new → new.poll.doubt ≡ false)
 
@@ -196,9 +210,9 @@ AsksNoMore =
     end_of mid.doing ≡ Some why → Runs mid behind new →
     (count_by is_sent behind ≡ 0) × (new.poll ≡ mid.poll) × (end_of new.doing ≡ Some why)
 
--- what comes of the question of a log: an answer, or none to any send
+-- what comes of the question of a log: an answer, or none to any send; or a rejection
 abbrev pub ComesOfLog : DeviceState → Turned → Type 0
-ComesOfLog p t = ((datagram : List ℕ) × (now : CivilTime) × Takes p datagram now t) ⊎ (t ≡ after_loss p)
+ComesOfLog p t = IsHeard p t ⊎ IsRejected p t
 
 -- Of the logs that are still to be polled, what comes of a question takes out the one whose poll it ends, and those
 -- that are told as not asked; no other, and it brings none.

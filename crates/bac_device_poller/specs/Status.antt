@@ -43,3 +43,4 @@ abbrev pub status_at : DeviceEnd → Status
 status_at end.Done = Done
 status_at end.Foreign = Refused
 status_at end.Silent = NoReply
+status_at end.Unreached = NoReply

@@ -1,11 +1,13 @@
 -- The lines of a device, beside those of its logs' polls.
-use Rattle.std.specs.Prelude.{◌≡◌, ℕ, Bool, true, false, codes, decimal, List, [], ◌∷◌, ◌++◌, Option, None, Some}
+use Rattle.std.specs.Prelude.{◌≡◌, ℕ, ◌==◌, Bool, true, false, if◌then◌else◌, codes, decimal, List, [], ◌∷◌, ◌++◌}
+use Rattle.std.specs.Prelude.{Option, None, Some}
 use Rattle.bac_wire.specs.Primitive.{Id}
 use Rattle.bac_drive.specs.declared.machine.Next.{Next}
 use Rattle.bac_drive.specs.declared.machine.Next.TheVariants as next
 use Rattle.bac_walk.specs.declared.outcome.WalkFault.{WalkFault}
 use Rattle.bac_walk.specs.declared.outcome.WalkFault.TheVariants.{BadReply, Lost, Refused}
 use Rattle.bac_answers.specs.declared.entry.Others.{Others}
+use Rattle.bac_answers.specs.declared.reject.NoRoute.{NoRoute}
 use Rattle.bac_answers.specs.declared.who.Who.{Who}
 use Rattle.bac_answers.specs.declared.who.Who.TheVariants.{Address, Device, Name}
 use Rattle.bac_device_poller.specs.Ending.{fault_text, refused_line}
@@ -90,6 +92,11 @@ others_line device others =
     device
     ++ (codes ": not kept: " ++ (decimal others.multiple
     ++ (codes " Trend Log Multiple, " ++ (decimal others.event ++ codes " Event Log\n"))))
+
+-- the router that it is behind has no route to its network (6.4.4)
+abbrev pub rejected_line : List ℕ → NoRoute → List ℕ
+rejected_line device reject =
+    device ++ (codes ": the router has no route to network " ++ (decimal reject.network ++ 10 ∷ []))
 
 -- none of its questions was answered
 abbrev pub silent_line : List ℕ → List ℕ

@@ -5,7 +5,7 @@ ghost use Rattle.std.specs.Prelude.{◌≡◌};
 use bac_device_poll::DeviceEnd;
 use bac_wire::{Address, Datagram, Stamp};
 
-/// An answer that came from an address, at a moment of this machine's clock.
+/// An answer, or a rejection, that came from an address, at a moment of this machine's clock.
 #[derive(Drop)]
 pub struct Came {
     pub from: Address,

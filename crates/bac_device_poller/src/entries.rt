@@ -9,7 +9,8 @@ ghost use Rattle.bac_device_poller.specs.Ids.{free_id};
 ghost use Rattle.bac_device_poller.specs.Naming.{offset_of};
 ghost use Rattle.bac_device_poller.specs.Telling.{another_line, full_line, known_now_line};
 ghost use Rattle.bac_device_poller.specs.Telling.{log_called};
-ghost use Rattle.bac_device_poller.specs.Telling.{not_asked_line, others_line, untold_line};
+ghost use Rattle.bac_device_poller.specs.Telling.{not_asked_line, others_line, rejected_line};
+ghost use Rattle.bac_device_poller.specs.Telling.{untold_line};
 ghost use Rattle.bac_device_poller.specs.declared.status.Status.TheVariants.{File, NoReply};
 
 use crate::ending::Ending;
@@ -19,11 +20,11 @@ use crate::rows::Rows;
 use crate::status::{Status, status_of};
 use crate::telling::{
     alone_line, another_line, full_line, known_now_line, log_called, new_line, not_asked_line,
-    others_line, unlisted_line, unlisted_reason, untold_line,
+    others_line, rejected_line, unlisted_line, unlisted_reason, untold_line,
 };
 use crate::texts::text_in;
 use bac_archive::{LogRow, Put};
-use bac_device_poll::{Entry, Naming, Offset, Others, Who};
+use bac_device_poll::{Entry, Naming, NoRoute, Offset, Others, Who};
 use bac_poll::PollEnd;
 use bac_row_ids::Place;
 use bac_walk::WalkFault;
@@ -118,6 +119,15 @@ impl Rows {
             (untold_line self.old.called self.old.device.instance)) }
     {
         let line = untold_line(alloc, self.called.as_slice(), self.device.instance)?;
+        self.tell(false, line)
+    }
+
+    // The router that it is behind has no route to its network.
+    fn tell_rejected(&mut self, alloc: Global, reject: NoRoute) -> Result<(), AllocError>
+        ensures { OnOk result (self.new ≡ telling self.old false
+            (rejected_line self.old.called reject)) }
+    {
+        let line = rejected_line(alloc, self.called.as_slice(), reject)?;
         self.tell(false, line)
     }
 
@@ -231,6 +241,7 @@ impl Rows {
             Entry::KnownNow(who) => self.know_now(alloc, who),
             Entry::Another(who) => self.tell_another(alloc, who),
             Entry::Untold => self.tell_untold(alloc),
+            Entry::Rejected(reject) => self.tell_rejected(alloc, *reject),
             Entry::Clock(offset) => self.set_offset(alloc, *offset),
             Entry::Added(log) => self.add_new(alloc, *log),
             Entry::Unlisted(why) => self.tell_unlisted(alloc, *why),

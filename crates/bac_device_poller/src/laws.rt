@@ -12,8 +12,9 @@ pub fn sends_questions()
 {}
 
 /// A device that falls silent, once it told who it is, is waited for once, and for one wait more,
-/// however many logs it has: it is sent a question with its repeats, and the next one once. One
-/// that never answers is sent its first question with its repeats.
+/// however many logs it has: it is sent a question with its repeats, and the next one once; its
+/// whole Object_List and how many elements that has are one question. One that never answers is
+/// sent its first question with its repeats.
 pub fn waits_once()
     ensures once { WaitsOnce }
     ensures first { WaitsOnceFirst }

@@ -37,6 +37,7 @@ impl Rows {
     {
         match why {
             DeviceEnd::Done => self.put_answered(alloc),
+            DeviceEnd::Unreached => self.put_answered(alloc),
             DeviceEnd::Foreign => Ok(()),
             DeviceEnd::Silent => {
                 self.put_answered(alloc)?;

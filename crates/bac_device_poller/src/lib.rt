@@ -12,6 +12,7 @@ mod datum;
 mod doing;
 mod ending;
 mod entries;
+mod hearing;
 mod ids;
 mod laws;
 mod leaving;

@@ -3,15 +3,16 @@
 ghost use Rattle.std.specs.Prelude.{◌≡◌, IfOk, OnOk, false, is_some};
 ghost use Rattle.bac_link.specs.Path.{towards};
 ghost use Rattle.bac_link.specs.Requests.{next_invoke, request_octets};
-ghost use Rattle.bac_link.specs.Transactions.{begun_with, is_awaited};
+ghost use Rattle.bac_link.specs.Transactions.{begun_with};
 ghost use Rattle.bac_device_poll.specs.Poll.{IsFit};
+ghost use Rattle.bac_device_poll.specs.Rejects.{reject_by};
 ghost use Rattle.bac_device_poll.specs.Turns.{of_log};
 ghost use Rattle.bac_device_poll.specs.Turns.{turned};
 ghost use Rattle.bac_device_poll.specs.declared.question.Question.TheVariants.{Confirmed};
-ghost use Rattle.bac_device_poller.specs.Poller.{AsksNext, Comes, GivesBy, IsEnded, IsPutBy};
-ghost use Rattle.bac_device_poller.specs.Poller.{IsStepped};
+ghost use Rattle.bac_device_poller.specs.Poller.{AsksNext, Comes, ComesBy, GivesBy, IsEnded};
+ghost use Rattle.bac_device_poller.specs.Poller.{IsPutBy, IsStepped};
 ghost use Rattle.bac_device_poller.specs.Poller.{Settles, doing_behind, doing_with, end_at};
-ghost use Rattle.bac_device_poller.specs.Poller.{fresh_poller, given_up, heard_by, is_answer};
+ghost use Rattle.bac_device_poller.specs.Poller.{fresh_poller, given_up};
 ghost use Rattle.bac_device_poller.specs.Poller.{is_waiting, lost_of, missed};
 ghost use Rattle.bac_device_poller.specs.Poller.{seeks, sought_again, stepped};
 ghost use Rattle.bac_device_poller.specs.Poller.{without_answer};
@@ -23,13 +24,13 @@ use crate::line::Line;
 use crate::rows::Rows;
 use crate::status::Status;
 use crate::telling::told_by;
-use crate::transacting::{awaits, close};
+use crate::transacting::close;
 use bac_archive::Put;
-use bac_device_poll::{DeviceEnd, DevicePoll, Entry, Question, Stage, Step, Turn, Way};
+use bac_device_poll::{DeviceEnd, DevicePoll, Entry, Question, Step, Turn, Way};
 use bac_drive::Next;
 use bac_link::{Request, Timeout, Transactions};
 use bac_poll::Turn as LogTurn;
-use bac_wire::{Address, Datagram, Stamp};
+use bac_wire::{Address, Datagram};
 use std::alloc::{AllocError, Global};
 use std::marker::Model;
 
@@ -37,15 +38,15 @@ use std::marker::Model;
 /// comes.
 #[derive(Drop)]
 pub struct DevicePoller {
-    poll: DevicePoll,
-    transactions: Transactions,
-    way: Way,
+    pub(crate) poll: DevicePoll,
+    pub(crate) transactions: Transactions,
+    pub(crate) way: Way,
     /// How often its Who-Is is repeated.
     retries: u8,
     /// How often it was.
     sought: u8,
-    doing: Doing,
-    rows: Rows,
+    pub(crate) doing: Doing,
+    pub(crate) rows: Rows,
 }
 
 impl Model for DevicePoller {
@@ -168,69 +169,6 @@ impl DevicePoller {
             Doing::Tells(_) => false,
             Doing::Ended(_) => false,
         }
-    }
-
-    // Whether it is asked by a Who-Is who it is. Its question isn't made for that: each datagram
-    // that comes asks this of each device that is asked.
-    #[tactic(auto, using(crate::proofs::Seeks::log_is_asked))]
-    fn seeks(&self) -> bool
-        ensures { result ≡ seeks self.now }
-    {
-        match self.poll.stage() {
-            Stage::IAm => true,
-            Stage::Instance => false,
-            Stage::Name => false,
-            Stage::Restart => false,
-            Stage::Revision => false,
-            Stage::Date => false,
-            Stage::Time(_) => false,
-            Stage::Objects => false,
-            Stage::Count => false,
-            Stage::Element(_, _) => false,
-            Stage::LogName(_) => false,
-            Stage::Source(_) => false,
-            Stage::Units(_) => false,
-            Stage::Description(_) => false,
-            Stage::Log => false,
-            Stage::Between => false,
-            Stage::Ended => false,
-        }
-    }
-
-    /// Whether a datagram from an address answers what is open.
-    pub fn is_answer(&self, from: Address, datagram: &Datagram) -> bool
-        ensures { result ≡ is_answer self.now from datagram.now }
-    {
-        if self.seeks() {
-            return self.is_waiting() && self.way.i_am(from, datagram.octets()).is_some();
-        }
-        from == self.way.peer && awaits(&self.transactions, datagram.octets())
-    }
-
-    /// Whether a datagram answers its open request, from wherever it comes.
-    pub fn awaits(&self, datagram: &Datagram) -> bool
-        ensures { result ≡ is_awaited self.now.transactions.pending datagram.now }
-    {
-        awaits(&self.transactions, datagram.octets())
-    }
-
-    /// A datagram came from an address, at this moment of this machine's clock. It is taken if it
-    /// answers what is open, and else isn't heeded: whether it is.
-    pub fn hear(&mut self, from: Address, datagram: &Datagram, now: Stamp) -> bool
-        ensures is { result ≡ is_answer self.old from datagram.now }
-        ensures heard { self.new ≡ heard_by from datagram.now now self.old }
-    {
-        if !self.is_answer(from, datagram) {
-            return false;
-        }
-        close(&mut self.transactions);
-        self.doing = Doing::Hears(Came {
-            from,
-            datagram: datagram.copy(),
-            at: now,
-        });
-        self.rows.answered = Some(now);
-        true
     }
 
     // Its question is lost.
@@ -391,7 +329,7 @@ impl DevicePoller {
     }
 
     // What an answer makes of its poll.
-    fn take(&mut self, alloc: Global, came: &Came) -> Result<Turn, AllocError>
+    fn take_answer(&mut self, alloc: Global, came: &Came) -> Result<Turn, AllocError>
         ensures comes { IfOk result (λ turn. Comes (seeks self.old) self.old came.now
             (turned self.new.poll turn)) }
         ensures rest { self.new ≡ record self.old { poll = self.new.poll } }
@@ -403,7 +341,20 @@ impl DevicePoller {
         self.poll.take(alloc, &came.datagram, came.at)
     }
 
-    // An answer came: what is put of it.
+    // What an answer, or a rejection, makes of its poll.
+    fn take(&mut self, alloc: Global, came: &Came) -> Result<Turn, AllocError>
+        ensures comes { IfOk result (λ turn.
+            ComesBy (reject_by self.old.way came.now.from came.now.datagram) self.old came.now
+            (turned self.new.poll turn)) }
+        ensures rest { self.new ≡ record self.old { poll = self.new.poll } }
+    {
+        match self.way.reject(came.from, came.datagram.octets()) {
+            Some(reject) => self.poll.hear_reject(alloc, reject),
+            None => self.take_answer(alloc, came),
+        }
+    }
+
+    // It came: what is put of it.
     fn keep(&mut self, alloc: Global, came: &Came) -> Result<Next, AllocError>
         ensures { IfOk result (λ next. GivesBy (Doing.Hears came.now) self.old next self.new) }
     {

@@ -13,9 +13,9 @@ use bac_walk::WalkFault;
 pub enum Status {
     /// Each log is caught up.
     Done,
-    /// A device didn't answer, or a log wasn't asked.
+    /// A device didn't answer or can't be reached, or a log wasn't asked.
     NoReply,
-    /// A request was refused, or another device answers than the one on record.
+    /// A request was refused, or another device answers than the one on record, or another row's.
     Refused,
     /// A reply can't be read, or records aren't as they were announced.
     BadReply,
@@ -79,5 +79,6 @@ pub fn status_at(why: DeviceEnd) -> Status
         DeviceEnd::Done => Status::Done,
         DeviceEnd::Foreign => Status::Refused,
         DeviceEnd::Silent => Status::NoReply,
+        DeviceEnd::Unreached => Status::NoReply,
     }
 }

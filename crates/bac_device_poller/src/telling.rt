@@ -1,16 +1,18 @@
 //! The lines of a device, beside those of its logs' polls.
 
 ghost use Rattle.std.specs.Prelude.{◌≡◌, ◌++◌, IfOk, OnOk, option_map};
-ghost use Rattle.bac_device_poller.specs.Telling.{IsToldBy, alone_line, another_line, full_line};
+ghost use Rattle.bac_device_poller.specs.Telling.{IsToldBy, alone_line, another_line};
+ghost use Rattle.bac_device_poller.specs.Telling.{full_line};
 ghost use Rattle.bac_device_poller.specs.Telling.{known_now_line, log_called, means_text};
 ghost use Rattle.bac_device_poller.specs.Telling.{new_line, no_list_line, not_asked_line, not_text};
-ghost use Rattle.bac_device_poller.specs.Telling.{other_text, others_line, silent_line, that_text};
+ghost use Rattle.bac_device_poller.specs.Telling.{other_text, others_line};
+ghost use Rattle.bac_device_poller.specs.Telling.{rejected_line, silent_line, that_text};
 ghost use Rattle.bac_device_poller.specs.Telling.{unlisted_line, unlisted_reason, untold_line};
 ghost use Rattle.bac_device_poller.specs.Telling.{who_text};
 
 use crate::ending::push_fault;
 use crate::reason::refused_line;
-use bac_device_poll::{Others, Who};
+use bac_device_poll::{NoRoute, Others, Who};
 use bac_drive::Next;
 use bac_print::push_number;
 use bac_walk::WalkFault;
@@ -210,6 +212,22 @@ pub(crate) fn line_of(alloc: Global, called: &[u8], rest: &[u8]) -> Result<Vec<u
     let mut line = Vec::new(alloc);
     line.extend_from_slice(called)?;
     line.extend_from_slice(rest)?;
+    Ok(line)
+}
+
+/// The router that it is behind has no route to its network.
+pub(crate) fn rejected_line(
+    alloc: Global,
+    device: &[u8],
+    reject: NoRoute,
+) -> Result<Vec<u8>, AllocError>
+    ensures { IfOk result (λ line. line.items ≡ rejected_line device.now reject) }
+{
+    let mut line = Vec::new(alloc);
+    line.extend_from_slice(device)?;
+    line.extend_from_slice(b": the router has no route to network ")?;
+    push_number(&mut line, u64::from(reject.network))?;
+    line.extend_from_slice(b"\n")?;
     Ok(line)
 }
 

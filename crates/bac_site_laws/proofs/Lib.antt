@@ -7,6 +7,7 @@ mod Has
 mod StepsOf
 mod LogRows
 mod Beside
+mod Taken
 mod OwnSteps
 mod OwnRows
 mod EventRows

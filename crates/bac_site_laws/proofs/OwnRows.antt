@@ -10,7 +10,6 @@ use Rattle.bac_walk.specs.declared.batch.Numbered.{Numbered}
 use Rattle.bac_poll_laws.specs.Laws.{EachShownOnce, IsAmong, IsOneOf, Whichever}
 use Rattle.bac_poll_laws.specs.Logged.{IsLogged}
 use Rattle.bac_archive.specs.declared.row.Put.{Put}
-use Rattle.bac_link.specs.Transactions.{closed}
 use Rattle.bac_link.specs.declared.transactions.Pending.{Pending}
 use Rattle.bac_walk.specs.declared.outcome.WalkFault.TheVariants as walk
 use Rattle.bac_drive.specs.declared.machine.Next.{Next}
@@ -22,7 +21,8 @@ use Rattle.bac_device_poll.specs.Turns.{Turned as DeviceTurned}
 use Rattle.bac_device_poll.specs.declared.question.Question.{Question}
 use Rattle.bac_device_poll.specs.declared.question.Question.TheVariants.{Confirmed, Nothing, WhoIs}
 use Rattle.bac_device_poll.specs.declared.turn.DeviceEnd.{DeviceEnd}
-use Rattle.bac_device_poller.specs.Poller.{AsksNext, PollerAs, Settles, TellsNext, doing_behind, doing_with, is_answer, is_none_told}
+use Rattle.bac_device_poller.specs.Poller.{AsksNext, PollerAs, Settles, TellsNext, doing_behind, doing_with, hearing}
+use Rattle.bac_device_poller.specs.Poller.{is_answer, is_none_told}
 use Rattle.bac_device_poller.specs.Poller.{lost_of, missed, seeks, without_answer}
 use Rattle.bac_device_poller.specs.Telling.{LineAs}
 use Rattle.bac_device_poller.specs.declared.doing.Doing.{Doing}
@@ -209,7 +209,7 @@ step_within p (Answered from datagram now) mid more (fits, is) =
     let X : List (List ℕ) → Type 0 = λ l. IsWithin (l ++ answers_of more) (heard_of p.doing ++ (datagram ∷ answers_of more)) in
     subst X (sym doing_is) (within_right (heard_of p.doing) (datagram ∷ answers_of more))
   where
-    by : (b : Bool) → b ≡ true → heard_of (if b then record p { transactions = closed p.transactions; doing = doing.Hears (record { from = from; datagram = datagram; at = now }); rows = record p.rows { answered = Some now } } else p).doing ≡ datagram ∷ []
+    by : (b : Bool) → b ≡ true → heard_of (if b then hearing from datagram now p else p).doing ≡ datagram ∷ []
     by true is = refl
     by false is = absurd (cc)
 
@@ -220,7 +220,8 @@ module _ (log : Id) where
   over_none (own ∷ more) p new not (mid, (polled, is), chain) = absurd (not polled)
 
   comes_from : (what : Doing) (q : PollState) (step : Step) → ComesBy log what q step → IsFrom (heard_of what) q step
-  comes_from (doing.Hears came) q step is = inl (came.datagram, inl refl, is)
+  comes_from (doing.Hears came) q step (inl is) = inl (came.datagram, inl refl, is)
+  comes_from (doing.Hears came) q step (inr is) = inr is
   comes_from doing.Loses q step is = inr is
   comes_from doing.Asks q step is = absurd is
   comes_from (doing.Resends datagram) q step is = absurd is

@@ -1,6 +1,6 @@
 -- One step of the poll of a device, while a log is polled: what it keeps of that.
-use Rattle.std.proofs.Common.{◌≡◌, ◌≢◌, ◌∙◌, ◌⊎◌, inl, inr, ℕ, ◌+◌, ◌==◌, ◌&&◌, nat_lt, Bool, true, false, if◌then◌else◌}
-use Rattle.std.proofs.Common.{List, [], ◌∷◌, ◌++◌, map, position, Option, None, Some, refl, sym, ap, subst}
+use Rattle.std.proofs.Common.{◌≡◌, ◌≢◌, ◌∙◌, ◌⊎◌, inl, inr, ℕ, ◌+◌, ◌&&◌, nat_lt, Bool, true, false, if◌then◌else◌}
+use Rattle.std.proofs.Common.{List, [], ◌∷◌, map, Option, None, Some, refl, sym, ap, subst}
 use Rattle.std.proofs.lemmas.Option.{same_Some}
 use Rattle.bac_wire.specs.Primitive.{Id}
 use Rattle.bac_wire.specs.Stamp.{CivilTime}
@@ -18,22 +18,21 @@ use Rattle.bac_poll_steps.specs.declared.turn.PollEnd.TheVariants.{Fault}
 use Rattle.bac_device_poll.specs.Logs.{begins_with, halved, has_ended, is_too_many, is_used_up, left_behind, log_after}
 use Rattle.bac_device_poll.specs.Logs.{logged, lost, with_log}
 use Rattle.bac_device_poll.specs.Poll.{Takes, answered, asked_of_device, later, verdict_to}
+use Rattle.bac_answers.specs.declared.reject.NoRoute.{NoRoute}
 use Rattle.bac_device_poll.specs.Refusals.{is_busy}
+use Rattle.bac_device_poll.specs.Rejects.{after_reject, reject_by}
 use Rattle.bac_device_poll.specs.State.{DeviceState, LogAs as TaskAs}
 use Rattle.bac_device_poll.specs.Turns.{Turned, not_asked}
 use Rattle.bac_device_poll.specs.declared.stage.Stage.{Stage}
 use Rattle.bac_device_poll.specs.declared.stage.Stage.TheVariants as stage
 use Rattle.bac_device_poll.specs.declared.task.Polled.{Polled}
-use Rattle.bac_device_poller.specs.Entries.{RowsAs, is_log, log_in, logs_beside, with_entries}
-use Rattle.bac_device_poller.specs.Entries.{without}
+use Rattle.bac_device_poller.specs.Entries.{RowsAs, with_entries}
 use Rattle.bac_device_poller.specs.declared.doing.Doing.{Doing}
-use Rattle.bac_device_poller.specs.Naming.{has_word}
 use Rattle.bac_device_poller.specs.Poller.{PollerAs, Settles, rows_with}
 use Rattle.bac_device_poller.specs.Puts.{PlaceAs, PutAs, put_as}
 use Rattle.bac_device_poller.specs.Rows.{LogAs}
-use Rattle.bac_device_poller.specs.Turns.{IsPlaced, TakesOf, ended_by, keeping, next_behind, telling_line, telling_turn, turning}
+use Rattle.bac_device_poller.specs.Turns.{IsPlaced}
 use Rattle.std.proofs.Common.{nat_le}
-use Rattle.bac_link.specs.Transactions.{closed}
 use Rattle.bac_link.specs.declared.request.Request.{Request}
 use Rattle.bac_link.specs.declared.transactions.Pending.{Pending}
 use Rattle.bac_poll.specs.Poll.{asked_by_poll}
@@ -42,81 +41,31 @@ use Rattle.bac_device_poll.specs.Turns.{leaves}
 use Rattle.bac_device_poll.specs.declared.question.Question.{Question}
 use Rattle.bac_device_poll.specs.declared.question.Question.TheVariants.{Confirmed, Nothing, WhoIs}
 use Rattle.bac_device_poll.specs.declared.turn.DeviceEnd.{DeviceEnd}
-use Rattle.bac_device_poll.specs.declared.turn.DeviceEnd.TheVariants.{Done, Silent}
-use Rattle.bac_device_poller.specs.Entries.{raising}
-use Rattle.bac_device_poller.specs.Poller.{AsksNext, Comes, IsPutBy, TellsNext, heard_by, is_answer, lost_of, missed, seeks}
+use Rattle.bac_device_poll.specs.declared.turn.DeviceEnd.TheVariants.{Done, Silent, Unreached}
+use Rattle.bac_device_poller.specs.Entries.{raising, telling}
+use Rattle.bac_device_poller.specs.Poller.{AsksNext, Comes, ComesBy as ComesAs, IsPutBy, TellsNext, heard_by, hearing}
+use Rattle.bac_device_poller.specs.Poller.{is_answer, lost_of, missed, seeks}
 use Rattle.bac_device_poller.specs.Poller.{without_answer}
 use Rattle.bac_device_poller.specs.Status.{status_at}
-use Rattle.bac_device_poller.specs.Telling.{IsToldBy, LineAs}
+use Rattle.bac_device_poller.specs.Telling.{IsToldBy, LineAs, rejected_line}
 use Rattle.bac_device_poller.specs.declared.doing.Came.{Came}
 use Rattle.bac_device_poller.specs.declared.doing.Doing.TheVariants as doing
 use Rattle.bac_site_poller.specs.Seat.{Wants, lent}
 use Rattle.bac_site_poller.specs.SiteLaws.{Answered, Missed, Own, OwnStep, Wanted}
 use Rattle.bac_site_laws.specs.Own.{wanted_rows}
-use Rattle.bac_site_laws.specs.Own.{HasNone, IsAtLog, IsOf, IsOnRecord, IsPolled, WaitsNot, is_last, rows_in}
+use Rattle.bac_site_laws.specs.Own.{IsAtLog, IsOf, IsOnRecord, IsPolled, WaitsNot, is_last, rows_in}
 use Rattle.bac_site_laws.specs.Steps.{Ended, Fewer, IsAskedBy, Step, after_step}
-use Rattle.bac_site_laws.proofs.Has.{beside_last, found_is, found_last}
 use Rattle.bac_site_laws.proofs.StepsOf.{answer_step}
-use Rattle.bac_site_laws.proofs.Beside.{answered_beside, at_log, end_beside, line_beside, matched, placed_rows, told_beside, word_beside}
+use Rattle.bac_site_laws.proofs.Beside.{answered_beside, at_log, matched, told_beside}
+use Rattle.bac_site_laws.proofs.Taken.{taken}
 
 module _ (log : Id) where
-  -- what of a log is put, and where it stands then
-  record Taken (o : Option PlaceAs) (t : LogTurned) (r : RowsAs) : Type 0 where
-    behind : Option PlaceAs
-    puts : List PutAs
-    placed : IsPlaced o t behind puts
-    rows : rows_in r.puts ≡ puts
-    on : IsOnRecord log behind r.logs
-
-  on_last : (xs : List LogAs) (m : LogAs) (o : Option PlaceAs) (logs : List LogAs) → HasNone log xs → is_log log m ≡ true → m.place ≡ o → logs ≡ xs ++ m ∷ [] → IsOnRecord log o logs
-  on_last xs m o logs none is stands same =
-      let X : List LogAs → Type 0 = λ l. IsOnRecord log o l in
-      let Y : List LogAs → Type 0 = λ l. HasNone log l in
-      subst X (sym same) (record {
-        row = m;
-        found = found_last log xs m none is;
-        stands = stands;
-        once = subst Y (sym (beside_last log xs m none is)) none;
-      })
-
-  turn_taken : (old : RowsAs) (row : LogAs) (behind : Option PlaceAs) (puts : List PutAs) (m : Option ℕ) (t : LogTurned) → old.puts ≡ [] → is_log log row ≡ true →
-      HasNone log (logs_beside (position (is_log log) old.logs) old.logs) → rows_in puts ≡ puts →
-      let r : RowsAs = turning (without log old) row behind puts m t in
-      (rows_in r.puts ≡ puts) × IsOnRecord log behind r.logs
-  turn_taken old row behind puts m t empty is once all =
-      let a : RowsAs = keeping (without log old) behind puts t in
-      let next : ℕ = next_behind behind row.next t.poll.next in
-      let b : RowsAs = telling_turn a row.called behind m next t in
-      let line = line_beside a row.called t.line in
-      let end = end_beside (telling_line a row.called t.line) row.called behind (ended_by t.end m) next in
-      let l : LogAs = record row { place = behind; next = next } in
-      let w = word_beside (has_word t.poll.word l) b l t.poll.word in
-      let puts_is : b.puts ≡ a.puts = end.0 ∙ line.0 in
-      let logs_is : b.logs ≡ a.logs = end.1 ∙ line.1 in (
-        w.rows ∙ ap rows_in puts_is ∙ ap (λ (x : List PutAs). rows_in (x ++ puts)) empty ∙ all,
-        on_last (logs_beside (position (is_log log) old.logs) old.logs) w.row behind _ once
-            (ap (λ (n : ℕ). n == log.instance) w.instance ∙ is) w.place
-            (w.logs ∙ ap (λ (x : List LogAs). x ++ w.row ∷ []) logs_is),
-      )
-
-  taken : (o : Option PlaceAs) (m : Option ℕ) (old r : RowsAs) (t : LogTurned) → IsOnRecord log o old.logs → old.puts ≡ [] →
-      TakesOf (log_in log old.logs) m (without log old) t r → Taken o t r
-  taken o m old r t on empty takes =
-      let X : Option LogAs → Type 0 = λ x. TakesOf x m (without log old) t r in
-      let (behind, puts, placed, is) = subst X on.found takes in
-      let Y : Option PlaceAs → Type 0 = λ x. IsPlaced x t behind puts in
-      let placed_at = subst Y on.stands placed in
-      let all = turn_taken old on.row behind puts m t empty (found_is log on.row old.logs on.found) on.once (placed_rows o t behind puts placed_at) in
-      let Z : RowsAs → Type 0 = λ x. (rows_in x.puts ≡ puts) × IsOnRecord log behind x.logs in
-      let both = subst Z (sym is) all in
-      record { behind = behind; puts = puts; placed = placed_at; rows = both.0; on = both.1 }
-
   -- ---- what one step makes of it
 
   -- its poll had a turn
   -- by what it is at
   abbrev pub ComesBy : Doing → PollState → Step → Type 0
-  ComesBy (doing.Hears came) q step = IsOf q came.datagram step
+  ComesBy (doing.Hears came) q step = IsOf q came.datagram step ⊎ (step ≡ Ended (Fault walk.Lost))
   ComesBy doing.Loses q step = step ≡ Ended (Fault walk.Lost)
   ComesBy doing.Asks q step = ⊥
   ComesBy (doing.Resends datagram) q step = ⊥
@@ -219,7 +168,7 @@ module _ (log : Id) where
     unfolding me here
     turn_by false d2 step t puts mid logs asked comes same last (r, takes, (rows, is)) =
         let left : Option ℕ = left_behind n t.records in
-        let a = taken o left p.rows r t on empty takes in
+        let a = taken log o left p.rows r t on empty takes in
         let X : PollerAs → Type 0 = λ x. IsAtLog log a.behind left t.poll x in
         let W : List TaskAs → Type 0 = λ x. WaitsNot log x in
         let all : a.puts ≡ rows_in (map put_as puts) = sym a.rows ∙ sym (ap rows_in rows) in
@@ -237,7 +186,7 @@ module _ (log : Id) where
           over = λ end. absurd (let both : false ≡ true = sym (subst N same last) ∙ end in cc);
         })
     turn_by true d2 step t puts mid logs asked comes same last (r, takes, ended) =
-        let a = taken o (left_behind n t.records) p.rows r t on empty takes in
+        let a = taken log o (left_behind n t.records) p.rows r t on empty takes in
         let W : List TaskAs → Type 0 = λ x. WaitsNot log x in
         let V : LogTurned → Type 0 = λ x. IsPlaced o x a.behind a.puts in
         let N : LogTurned → Type 0 = λ x. has_ended x.end (left_behind n x.records) ≡ true in
@@ -260,7 +209,7 @@ module _ (log : Id) where
         Went what o n q (rows_in (map put_as puts)) mid
     unfolding me here
     silent_went comes puts mid (r, takes, (rows, is)) =
-        let a = taken o n p.rows r (ends q (Fault walk.Lost)) on empty takes in
+        let a = taken log o n p.rows r (ends q (Fault walk.Lost)) on empty takes in
         let told = told_beside d.logs r in
         let s : RowsAs = raising (with_entries r (map not_asked d.logs)) (status_at Silent) in
         let beside = answered_beside s.answered s in
@@ -308,6 +257,28 @@ module _ (log : Id) where
         (λ is. busy_went puts mid (subst S is settles))
         (λ is. answer_went v datagram comes puts mid (subst S is settles))
 
+    -- the router has no route to its network
+    rejected_went : (reject : NoRoute) → ComesBy what q (Ended (Fault walk.Lost)) → (puts : List Put) (mid : PollerAs) →
+        Settles (after_reject (at_log d me) reject) here puts mid → Went what o n q (rows_in (map put_as puts)) mid
+    unfolding me here
+    rejected_went reject comes puts mid (r, takes, (rows, is)) =
+        let a = taken log o n p.rows r (ends q (Fault walk.Lost)) on empty takes in
+        let first : RowsAs = telling r false (rejected_line r.called reject) in
+        let told = told_beside d.logs first in
+        let s : RowsAs = raising (with_entries first (map not_asked d.logs)) (status_at Unreached) in
+        let beside = answered_beside s.answered s in
+        let all : a.puts ≡ rows_in (map put_as puts) = sym a.rows ∙ sym told.rows ∙ sym beside.rows ∙ sym (ap rows_in rows) in
+        let Z : List PutAs → Type 0 = λ x. IsPlaced o (ends q (Fault walk.Lost)) a.behind x in
+        inr (record {
+          step = Ended (Fault walk.Lost);
+          asked = tt;
+          comes = comes;
+          behind = a.behind;
+          placed = subst Z all a.placed;
+          goes = λ end. absurd (cc);
+          over = λ end. at_end mid (ap (λ (x : PollerAs). x.poll.stage) is);
+        })
+
   -- ---- any step
 
   -- a device that is at a log, in that form
@@ -344,11 +315,21 @@ module _ (log : Id) where
       let X : PollerAs → Type 0 = λ x. Settles t x puts mid in subst X (here_is o n q p at) settles
 
   hears_went : (o : Option PlaceAs) (n : Option ℕ) (q : PollState) (p : PollerAs) (came : Came) (t : Turned) (puts : List Put) (mid : PollerAs) → IsAtLog log o n q p →
-      Comes (seeks p) p came t → Settles t p puts mid → Went (doing.Hears came) o n q (rows_in (map put_as puts)) mid
+      ComesAs (reject_by p.way came.from came.datagram) p came t → Settles t p puts mid → Went (doing.Hears came) o n q (rows_in (map put_as puts)) mid
   unfolding me here
-  hears_went o n q p came t puts mid at comes settles =
-      let X : PollerAs → Type 0 = λ x. Comes (seeks x) x came t in
-      came_went (doing.Hears came) p p.poll o n q at.more at.waits at.record_of at.empty came.datagram came.at t puts mid (λ step is. is) (subst X (here_is o n q p at) comes) (settled o n q p t puts mid at settles)
+  hears_went o n q p came t puts mid at comes settles = by (reject_by p.way came.from came.datagram) comes
+    where
+      all = settled o n q p t puts mid at settles
+
+      by : (r : Option NoRoute) → ComesAs r p came t → Went (doing.Hears came) o n q (rows_in (map put_as puts)) mid
+      by None comes =
+          let X : PollerAs → Type 0 = λ x. Comes (seeks x) x came t in
+          came_went (doing.Hears came) p p.poll o n q at.more at.waits at.record_of at.empty came.datagram came.at t puts mid (λ step is. inl is) (subst X (here_is o n q p at) comes) all
+      by (Some reject) is =
+          let h : PollerAs = record p { poll = at_log p.poll (record { log = log; poll = q; left = n }) } in
+          let X : Turned → Type 0 = λ x. Settles x h puts mid in
+          rejected_went (doing.Hears came) p p.poll o n q at.more at.waits at.record_of at.empty reject (inr refl) puts mid
+          (subst X (is ∙ ap (λ (x : PollerAs). after_reject x.poll reject) (here_is o n q p at)) all)
 
   loses_went : (o : Option PlaceAs) (n : Option ℕ) (q : PollState) (p : PollerAs) (puts : List Put) (mid : PollerAs) → IsAtLog log o n q p → Settles (lost_of p) p puts mid →
       Went doing.Loses o n q (rows_in (map put_as puts)) mid
@@ -435,7 +416,7 @@ module _ (log : Id) where
   heard_went : (o : Option PlaceAs) (n : Option ℕ) (q : PollState) (p mid : PollerAs) (from datagram : List ℕ) (now : CivilTime) → IsAtLog log o n q p → mid ≡ heard_by from datagram now p → Went p.doing o n q [] mid
   heard_went o n q p mid from datagram now at is = stay p.doing o n q [] p (heard_by from datagram now p) mid at refl is (same (is_answer p from datagram)).0 (same (is_answer p from datagram)).1 (same (is_answer p from datagram)).2
     where
-      same : (b : Bool) → let x : PollerAs = if b then record p { transactions = closed p.transactions; doing = doing.Hears (record { from = from; datagram = datagram; at = now }); rows = record p.rows { answered = Some now } } else p in
+      same : (b : Bool) → let x : PollerAs = if b then hearing from datagram now p else p in
           (x.poll ≡ p.poll) × (x.rows.logs ≡ p.rows.logs) × (x.rows.puts ≡ p.rows.puts)
       same true = (refl, refl, refl)
       same false = (refl, refl, refl)

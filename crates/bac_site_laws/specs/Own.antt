@@ -79,7 +79,7 @@ abbrev pub IsOf : PollState → List ℕ → Step → Type 0
 IsOf q datagram step =
     (after_step q step ≡ log_after q (verdict_of (asked_by_poll q) (apdu_in datagram)) datagram) ⊎ (step ≡ Fewer)
 
--- each of these steps is what one of these answers makes of the log's poll; or its question is lost
+-- each of these steps is what one of these answers makes of the log's poll; or its question is lost, or rejected
 abbrev pub AreOf : List (List ℕ) → PollState → List Step → Type 0
 AreOf answers q [] = Unit {0}
 AreOf answers q (step ∷ steps) =

@@ -10,7 +10,7 @@ use Rattle.bac_drive.specs.Event.{Event, Kept, Printed, Read, Sent, Waited, Warn
 use Rattle.bac_drive.specs.Happens.{Does}
 use Rattle.bac_drive.specs.declared.machine.Next.{Next}
 use Rattle.bac_drive.specs.declared.machine.Next.TheVariants as next
-use Rattle.bac_link.specs.Transactions.{begun_with, closed}
+use Rattle.bac_link.specs.Transactions.{begun_with}
 use Rattle.bac_link.specs.declared.transactions.Pending.{Pending}
 use Rattle.bac_ports.specs.Port.{Receiving, Sending}
 use Rattle.bac_wire.specs.Stamp.{CivilTime}
@@ -23,7 +23,8 @@ use Rattle.bac_device_poll.specs.declared.question.Question.TheVariants.{Confirm
 use Rattle.bac_device_poll.specs.declared.turn.DeviceEnd.{DeviceEnd}
 use Rattle.bac_device_poller.specs.Entries.{RowsAs}
 use Rattle.bac_device_poller.specs.Poller.{AsksNext, PollerAs, Settles, TellsNext, doing_behind, doing_with, end_at}
-use Rattle.bac_device_poller.specs.Poller.{given_up, is_answer, is_none_told, is_waiting, lost_of, missed, rows_with}
+use Rattle.bac_device_poller.specs.Poller.{given_up, hearing, is_answer, is_none_told, is_waiting, lost_of, missed}
+use Rattle.bac_device_poller.specs.Poller.{rows_with}
 use Rattle.bac_device_poller.specs.Poller.{seeks, sought_again, stepped, without_answer}
 use Rattle.bac_device_poller.specs.Telling.{LineAs}
 use Rattle.bac_device_poller.specs.declared.doing.Doing.{Doing}
@@ -285,11 +286,7 @@ heard_dated : (time : ℕ) (events : List Event) (from datagram : List ℕ) (now
 heard_dated time events from datagram now s dated = by (is_answer s.poller from datagram)
   where
     taken : PollerAs
-    taken = record s.poller {
-      transactions = closed s.poller.transactions;
-      doing = doing.Hears (record { from = from; datagram = datagram; at = now });
-      rows = record s.poller.rows { answered = Some now };
-    }
+    taken = hearing from datagram now s.poller
 
     by : (b : Bool) → Dated time events s.sent (if b then taken else s.poller)
     by true = (tt, refl)

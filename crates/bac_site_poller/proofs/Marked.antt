@@ -4,7 +4,7 @@ use Rattle.std.proofs.Common.{if◌then◌else◌, List, [], ◌∷◌, Option, 
 use Rattle.std.proofs.lemmas.Bool.{lt-ltb}
 use Rattle.bac_archive.specs.declared.row.Put.{Put}
 use Rattle.bac_wire.specs.Stamp.{CivilTime}
-use Rattle.bac_link.specs.Transactions.{begun_with, closed}
+use Rattle.bac_link.specs.Transactions.{begun_with}
 use Rattle.bac_link.specs.declared.transactions.Pending.{Pending}
 use Rattle.bac_drive.specs.Event.{Event}
 use Rattle.bac_drive.specs.declared.machine.Next.{Next}
@@ -17,7 +17,8 @@ use Rattle.bac_device_poll.specs.declared.question.Question.{Question}
 use Rattle.bac_device_poll.specs.declared.question.Question.TheVariants.{Confirmed, Nothing, WhoIs}
 use Rattle.bac_device_poll.specs.declared.turn.DeviceEnd.{DeviceEnd}
 use Rattle.bac_device_poller.specs.Poller.{AsksNext, PollerAs, Settles, TellsNext, doing_behind, doing_with, end_at}
-use Rattle.bac_device_poller.specs.Poller.{given_up, heard_by, is_answer, is_none_told, is_who_is, lost_of, missed}
+use Rattle.bac_device_poller.specs.Poller.{given_up, heard_by, hearing, is_answer, is_none_told, is_who_is, lost_of}
+use Rattle.bac_device_poller.specs.Poller.{missed}
 use Rattle.bac_device_poller.specs.Poller.{rows_with, seeks, sought_again, stepped, without_answer}
 use Rattle.bac_device_poller.specs.Entries.{RowsAs}
 use Rattle.bac_device_poller.specs.Telling.{LineAs}
@@ -139,11 +140,7 @@ pub heard_marked : (repeated : Bool) (from datagram : List ℕ) (now : CivilTime
 heard_marked repeated from datagram now p marked = by (is_answer p from datagram)
   where
     taken : PollerAs
-    taken = record p {
-      transactions = closed p.transactions;
-      doing = doing.Hears (record { from = from; datagram = datagram; at = now });
-      rows = record p.rows { answered = Some now };
-    }
+    taken = hearing from datagram now p
 
     by : (b : Bool) → IsMarkedAt repeated (if b then taken else p) (if b then taken else p).doing
     by true = tt

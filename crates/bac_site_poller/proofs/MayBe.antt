@@ -3,11 +3,9 @@ use Rattle.std.proofs.Common.{◌≡◌, ◌⊎◌, ◌∙◌, ◌&&◌, inl, in
 use Rattle.std.proofs.Common.{option_map, Option, None, Some, ap, refl, sym, subst}
 use Rattle.std.specs.Str.{bytes_eq}
 use Rattle.std.proofs.lemmas.Option.{same_Some, slice_get-map}
-use Rattle.bac_link.specs.Transactions.{closed}
 use Rattle.bac_ports.specs.declared.port.Heard.{Heard}
 use Rattle.bac_wire.specs.Stamp.{CivilTime}
-use Rattle.bac_device_poller.specs.Poller.{PollerAs, is_answer}
-use Rattle.bac_device_poller.specs.declared.doing.Doing.TheVariants as doing
+use Rattle.bac_device_poller.specs.Poller.{PollerAs, hearing, is_answer}
 use Rattle.bac_site_poller.specs.Seat.{is_stray, noticed, seat_heard}
 use Rattle.bac_site_poller.specs.Site.{SiteState, given, heeded, is_asked_at}
 use Rattle.bac_site_poller.specs.SiteLaws.{MayBeStray, StraysMayBe}
@@ -23,11 +21,7 @@ stray_before : (from datagram : List ℕ) (now : CivilTime) (s : Seat) → is_st
 stray_before from datagram now s = by (is_answer s.poller from datagram)
   where
     taken : PollerAs
-    taken = record s.poller {
-      transactions = closed s.poller.transactions;
-      doing = doing.Hears (record { from = from; datagram = datagram; at = now });
-      rows = record s.poller.rows { answered = Some now };
-    }
+    taken = hearing from datagram now s.poller
 
     by : (b : Bool) → is_stray from datagram (record s { poller = if b then taken else s.poller }) ≡ true → is_stray from datagram s ≡ true
     by true is = absurd (none_open (not (bytes_eq from s.poller.way.peer)) is)

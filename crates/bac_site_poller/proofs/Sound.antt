@@ -1,16 +1,16 @@
 -- What the poll of a device has open and has heard, behind events.
-use Rattle.std.proofs.Common.{◌≡◌, ◌⊎◌, ◌∙◌, inl, inr, ℕ, ◌+◌, ◌&&◌, Bool, true, false, nat_le, nat_lt, is_some, arith}
+use Rattle.std.proofs.Common.{◌≡◌, ◌⊎◌, ◌∙◌, inl, inr, ℕ, ◌+◌, ◌&&◌, ◌||◌, Bool, true, false, nat_le, nat_lt, is_some}
 use Rattle.std.proofs.Common.{if◌then◌else◌, List, [], ◌∷◌, ◌++◌, Option, Some, None, Ok, refl, sym, ap, subst}
-use Rattle.std.proofs.Common.{append_assoc}
+use Rattle.std.proofs.Common.{append_assoc, arith}
 use Rattle.std.specs.List.{Contains}
 use Rattle.std.specs.Str.{bytes_eq}
-use Rattle.std.proofs.lemmas.Bool.{and_parts}
+use Rattle.std.proofs.lemmas.Bool.{and_parts, or_left, or_right}
 use Rattle.std.proofs.lemmas.List.Elements.{Contains-append_left, Contains-push}
 use Rattle.bac_apdu.specs.Npdu.{Place}
 use Rattle.bac_archive.specs.declared.row.Put.{Put}
 use Rattle.bac_wire.specs.Stamp.{CivilTime}
 use Rattle.bac_link.specs.Datagrams.{answers_to}
-use Rattle.bac_link.specs.Transactions.{begun_with, closed, is_awaited}
+use Rattle.bac_link.specs.Transactions.{begun_with, is_awaited}
 use Rattle.bac_link.specs.declared.transactions.Pending.{Pending}
 use Rattle.bac_ports.specs.Port.{Sending}
 use Rattle.bac_ports.specs.declared.port.Heard.{Heard}
@@ -20,20 +20,22 @@ use Rattle.bac_drive.specs.declared.machine.Next.{Next}
 use Rattle.bac_drive.specs.declared.machine.Next.TheVariants as next
 use Rattle.bac_device_poll.specs.Logs.{after_end}
 use Rattle.bac_device_poll.specs.Poll.{asked_of_device}
+use Rattle.bac_device_poll.specs.Rejects.{reject_by}
 use Rattle.bac_device_poll.specs.Turns.{Turned}
 use Rattle.bac_device_poll.specs.Way.{i_am_by, who_is_octets}
 use Rattle.bac_device_poll.specs.declared.question.Question.{Question}
 use Rattle.bac_device_poll.specs.declared.question.Question.TheVariants.{Confirmed, Nothing, WhoIs}
 use Rattle.bac_device_poll.specs.declared.turn.DeviceEnd.{DeviceEnd}
 use Rattle.bac_device_poller.specs.Poller.{AsksNext, PollerAs, Settles, TellsNext, doing_behind, doing_with, end_at}
-use Rattle.bac_device_poller.specs.Poller.{given_up, heard_by, is_answer, is_waiting, is_none_told, is_who_is, lost_of}
+use Rattle.bac_device_poller.specs.Poller.{given_up, heard_by, hearing, is_answer, is_rejected, is_told, is_waiting}
+use Rattle.bac_device_poller.specs.Poller.{is_none_told, is_who_is, lost_of}
 use Rattle.bac_device_poller.specs.Poller.{missed, rows_with, seeks, sought_again, stepped, without_answer}
 use Rattle.bac_device_poller.specs.Entries.{RowsAs}
 use Rattle.bac_device_poller.specs.Telling.{LineAs}
 use Rattle.bac_device_poller.specs.declared.doing.Doing.{Doing}
 use Rattle.bac_device_poller.specs.declared.doing.Doing.TheVariants as doing
 use Rattle.bac_device_poller.specs.declared.ids.Ids.{Ids}
-use Rattle.bac_site_poller.specs.Asked.{WasAnswered, WasAsked, is_answered_by, octets_of, question_of}
+use Rattle.bac_site_poller.specs.Asked.{WasAnswered, WasAsked, is_answered_by, is_told_by, octets_of, question_of}
 use Rattle.bac_site_poller.specs.Seat.{Wants, lent}
 
 -- nothing is open
@@ -224,9 +226,9 @@ waiting_out events p doing.Loses sound waits = absurd (let e : false ≡ true = 
 waiting_out events p (doing.Tells end) sound waits = absurd (let e : false ≡ true = waits in cc)
 waiting_out events p (doing.Ended why) sound waits = absurd (let e : false ≡ true = waits in cc)
 
--- an answer answers its question, which was sent
-answered_out : (events : List Event) (p : PollerAs) (from datagram : List ℕ) → IsSound events p p.doing → is_answer p from datagram ≡ true → WasAsked events p × (is_answered_by p from datagram ≡ true)
-answered_out events p from datagram sound fits = by (seeks p) refl fits
+-- an answer of the device answers its question, which was sent
+told_out : (events : List Event) (p : PollerAs) (from datagram : List ℕ) → IsSound events p p.doing → is_told p from datagram ≡ true → WasAsked events p × (is_told_by p from datagram ≡ true)
+told_out events p from datagram sound fits = by (seeks p) refl fits
   where
     by : (k : Bool) → seeks p ≡ k →
         (if k then (is_waiting p.doing && is_some (i_am_by p.way from datagram)) else (bytes_eq from p.way.peer && is_awaited p.transactions.pending datagram)) ≡ true →
@@ -245,16 +247,26 @@ answered_out events p from datagram sound fits = by (seeks p) refl fits
         let B : Bool → Type 0 = λ b. (b && answers_to (question_of p) datagram) ≡ true in
         (asked, subst B (sym both.0) answers)
 
+-- so does a rejection
+answered_out : (events : List Event) (p : PollerAs) (from datagram : List ℕ) → IsSound events p p.doing → is_answer p from datagram ≡ true → WasAsked events p × (is_answered_by p from datagram ≡ true)
+answered_out events p from datagram sound fits = by (is_told p from datagram) refl fits
+  where
+    some : Bool
+    some = is_some (reject_by p.way from datagram)
+
+    by : (b : Bool) → is_told p from datagram ≡ b → (b || is_rejected p from datagram) ≡ true → WasAsked events p × (is_answered_by p from datagram ≡ true)
+    by true is fit =
+        let told = told_out events p from datagram sound is in (told.0, or_left (is_told_by p from datagram) some told.1)
+    by false is fit =
+        let both = and_parts (is_waiting p.doing) some fit in
+        ((waiting_out events p p.doing sound both.0).0, or_right (is_told_by p from datagram) some both.1)
+
 pub heard_sound : (events : List Event) (within : ℕ) (heard : Heard) (datagram : List ℕ) (now : CivilTime) (p : PollerAs) → heard.datagram ≡ Some datagram → IsSound events p p.doing →
     IsSound (events ++ Waited within (Ok heard) ∷ []) (heard_by heard.from datagram now p) (heard_by heard.from datagram now p).doing
 heard_sound events within heard datagram now p is sound = by (is_answer p heard.from datagram) refl
   where
     taken : PollerAs
-    taken = record p {
-      transactions = closed p.transactions;
-      doing = doing.Hears (record { from = heard.from; datagram = datagram; at = now });
-      rows = record p.rows { answered = Some now };
-    }
+    taken = hearing heard.from datagram now p
 
     by : (b : Bool) → is_answer p heard.from datagram ≡ b → IsSound (events ++ Waited within (Ok heard) ∷ []) (if b then taken else p) (if b then taken else p).doing
     by true fits =

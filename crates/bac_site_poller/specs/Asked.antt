@@ -1,5 +1,5 @@
 -- What was asked of a device, and what came of it, in the words of the events.
-use Rattle.std.specs.Prelude.{true, false, ◌≡◌, ◌⊎◌, ◌&&◌, is_some, ℕ, Bool, if◌then◌else◌}
+use Rattle.std.specs.Prelude.{true, false, ◌≡◌, ◌⊎◌, ◌&&◌, ◌||◌, is_some, ℕ, Bool, if◌then◌else◌}
 use Rattle.std.specs.Prelude.{List, [], ◌++◌, Option, None, Some, Ok}
 use Rattle.std.specs.List.{Contains}
 use Rattle.std.specs.Str.{bytes_eq}
@@ -13,12 +13,13 @@ use Rattle.bac_ports.specs.declared.port.Heard.{Heard}
 use Rattle.bac_drive.specs.Event.{Event, Sent, Waited}
 use Rattle.bac_device_poll.specs.Logs.{after_end}
 use Rattle.bac_device_poll.specs.Poll.{asked_of_device}
+use Rattle.bac_device_poll.specs.Rejects.{reject_by}
 use Rattle.bac_device_poll.specs.Turns.{Turned}
 use Rattle.bac_device_poll.specs.Way.{i_am_by, who_is_octets}
 use Rattle.bac_device_poll.specs.declared.question.Question.{Question}
 use Rattle.bac_device_poll.specs.declared.question.Question.TheVariants.{Confirmed, Nothing, WhoIs}
 use Rattle.bac_answers.specs.declared.way.Way.{Way}
-use Rattle.bac_device_poller.specs.Poller.{Comes, PollerAs, Settles, lost_of, seeks}
+use Rattle.bac_device_poller.specs.Poller.{ComesBy, PollerAs, Settles, lost_of, seeks}
 use Rattle.bac_device_poller.specs.declared.doing.Came.{Came}
 use Rattle.bac_site_poller.specs.declared.seat.Seat.{Seat}
 
@@ -40,13 +41,17 @@ WasAsked events p = (answer : Sending) × Contains events (Sent (question_of p) 
 
 -- ---- answers
 
--- a datagram from an address answers it: an I-Am from where the device is asked answers a Who-Is, and what fits its
+-- a datagram from an address is the device's answer: an I-Am from where it is asked answers a Who-Is, and what fits its
 -- transaction a request, from the device's own address
-abbrev pub is_answered_by : PollerAs → (from : List ℕ) → List ℕ → Bool
-is_answered_by p from datagram =
+abbrev pub is_told_by : PollerAs → (from : List ℕ) → List ℕ → Bool
+is_told_by p from datagram =
     if seeks p
     then is_some (i_am_by p.way from datagram)
     else bytes_eq from p.way.peer && answers_to (question_of p) datagram
+
+-- it answers its question, or is a rejection by the router that the device is behind
+abbrev pub is_answered_by : PollerAs → (from : List ℕ) → List ℕ → Bool
+is_answered_by p from datagram = is_told_by p from datagram || is_some (reject_by p.way from datagram)
 
 -- this datagram came from this address, while it was waited for
 abbrev pub DidCome : List Event → (from : List ℕ) → List ℕ → Type 0
@@ -77,12 +82,12 @@ IsOf seats p = (s : Seat) × Contains seats s × (home_of p ≡ home_of s.poller
 
 -- ---- what is put
 
--- Puts are what the poll of a device makes of a datagram that came, and answers its question, which had been sent to it
--- before.
+-- Puts are what the poll of a device makes of a datagram that came, and answers its question, or rejects it, which had
+-- been sent to it before.
 abbrev pub ArePutOfAnswer : List Event → PollerAs → List Put → PollerAs → Type 0
 ArePutOfAnswer events p puts after =
     (came : Came) × WasAnswered events p came.from came.datagram
-    × ((t : Turned) × Comes (seeks p) p came t × Settles t p puts after)
+    × ((t : Turned) × ComesBy (reject_by p.way came.from came.datagram) p came t × Settles t p puts after)
 
 -- or what it makes of none; or of the end of a log's poll, as the next one is begun
 abbrev pub ArePutOfNone : PollerAs → List Put → PollerAs → Type 0
