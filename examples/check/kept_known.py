@@ -3,7 +3,6 @@ stood, and is given to `lacks` of kept_judge.py: it passes as long as that lacks
 KNOWN = {
     "moved": "a device that has moved isn't told, and its logs don't follow it",
     "two": "that two devices tell one instance isn't told",
-    "router": "that a router has no way to a device's network isn't told",
     "goes on": "that a log goes on at a number, or began anew, stands in no row",
     "other text": "a device is polled whose address stands in another text than its own",
     "count": "no count of records is on a terminal",

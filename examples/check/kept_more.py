@@ -143,14 +143,14 @@ def unlisted(judge, _runs):
                     lines, line(mute, 1, 1, "caught up, next 2"), kept(0))
         mute.list_ack = lambda ack: ack
         judge.tells(f"{name}, and told then", judge.ran(["keep", file, *quick]), 0, line(mute, 1, 0, "caught up, next 2"), kept(0))
-    # One that answers neither that question nor how long it is gives no answer any more.
+    # One that answers neither that question nor how long it is: its logs on record are polled.
     mute.list_ack, file = lambda ack: None, f"{judge.room}/lost.db"
-    judge.tells("lost", judge.ran(["keep", file, others[0].address, mute.address, others[1].address, *quick]), 2, silent(mute, ()), kept(1))
-    judge.tells("lost, named", judge.ran(["keep", file, mute.address, "1", *quick]), 2, silent(mute), kept(0))
+    lost = f"{mute.address} didn't tell its Object_List: lost\n"
+    judge.tells("lost", judge.ran(["keep", file, others[0].address, mute.address, others[1].address, *quick]), 2, lost, kept(1))
+    judge.tells("lost, named", judge.ran(["keep", file, mute.address, "1", *quick]), 2, lost, line(mute, 1, 1, "caught up, next 2"), kept(0))
     # One that answers how long it is, and then not all of it.
     mute.list_ack = lambda ack: ack if b"\x29\x00" in ack else None
-    lost = f"{mute.address} didn't tell its Object_List: lost\n"
-    judge.tells("lost in its midst", judge.ran(["keep", file, *quick]), 2, lost, line(mute, 1, 1, "caught up, next 2"), kept(0))
+    judge.tells("lost in its midst", judge.ran(["keep", file, *quick]), 2, lost, line(mute, 1, 0, "caught up, next 2"), kept(0))
     # Two of them, and the greatest status counts; a log's own, too.
     mute.list_ack, second.list_ack = no_number, access_denied
     file = f"{judge.room}/two.db"

@@ -46,10 +46,7 @@ def told_beside(judge, _runs):
     file = f"{judge.room}/a.db"
     for name, device.stray in STRAYS:
         device.asked = 0
-        ran = judge.ran(["keep", file, device.address, "1", *SOON])
-        judge.tells(name, ran, 2, silent(device))
-        if device.stray is ROUTER:
-            judge.lacks("router", f"{name}: it is told", "network 5" in ran[2])
+        judge.tells(name, judge.ran(["keep", file, device.address, "1", *SOON]), 2, silent(device))
     device.stray = None
     # The last octet of the object is another: an ACK of log 0.
     device.twist = lambda ack: ack[:7] + bytes([ack[7] ^ 1]) + ack[8:]
