@@ -96,7 +96,7 @@ others_line device others =
 -- the router that it is behind has no route to its network (6.4.4)
 abbrev pub rejected_line : List ℕ → NoRoute → List ℕ
 rejected_line device reject =
-    device ++ (codes ": the router has no route to network " ++ (decimal reject.network ++ 10 ∷ []))
+    device ++ (codes ": the router has no route to network " ++ (decimal reject.network ++ codes "\n"))
 
 -- none of its questions was answered
 abbrev pub silent_line : List ℕ → List ℕ
