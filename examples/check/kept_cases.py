@@ -36,7 +36,7 @@ from kept_stopped import stopped
 from kept_terminal import terminals
 from kept_folders import folders, folders_damaged
 from kept_parts import parts, parts_ended, parts_refused
-from kept_told import told_among_others, told_beside
+from kept_told import no_route, told_among_others, told_beside
 from kept_waits import waited, waited_for_parts, waited_in_vain
 from kept_whose import asked_at_once, other_devices
 from kept_window import window
@@ -724,5 +724,6 @@ def judgements(judge, _runs):
 
 CASES = [judgements, run_after_run, beginnings, options, losses, line_by_line, step_limits, last_epoch, dead_devices, dead_at_once, at_once, own_address, own_address_echoes, ids_go_on, ids_go_on_behind_the_longest, each_option, window, lists_at_once, whole_lists, silent_lists, other_devices, asked_at_once, words_and_names, no_archive, barred, far_away, rounds, restarts, clocks, questions, cut_files, foreign_files, objects_beside, a_large_file, printed, taken_over, served,
          stopped, terminals, names, own_words, own_rule, own_lives, first_answers, renewed, moved, moved_ways, two_of_one, told_later,
-         moved_at_each_call, moved_at_random, emptied, never_begun, overwritten, told_at_once, started_meanwhile, started_and_killed, said_more, several, unlisted, listed, listed_twice, told_beside, told_among_others, parts, parts_refused, parts_ended,
+         moved_at_each_call, moved_at_random, emptied, never_begun, overwritten, told_at_once, started_meanwhile, started_and_killed, said_more, several, unlisted, listed, listed_twice,
+         no_route, told_beside, told_among_others, parts, parts_refused, parts_ended,
          file_limits, part_limits, dates, json_lines, last_records, waited, waited_for_parts, waited_in_vain, converted_files, folders, folders_damaged, checked, checked_parts, groups, holes, holes_in_parts]

@@ -39,6 +39,40 @@ class Twisted(Device):
         return self.twist(ack) if self.twist and apdu[3] == 26 else ack
 
 
+class Router(Device):
+    """A device of network 6, and in front of it a router that rejects what is asked of network 5, for a reason."""
+
+    def __init__(self):
+        super().__init__([Log(1, 50)], "near", (6, b"\x08"))
+        self.reason, self.rejected = 1, 0
+        serve([self])
+
+    def answer(self, port, request, asker):
+        if request[5] & 0x20 and request[6:8] == b"\x00\x05":
+            self.rejected += 1
+            port.sendto(bytes.fromhex("810a000a018003") + bytes([self.reason]) + b"\x00\x05", asker)
+        else:
+            super().answer(port, request, asker)
+
+
+def no_route(judge, _runs):
+    """That a router has no route to a device's network is told, and the device isn't asked again; any other rejection may be of
+    another device, and is none. A device of another network behind that router is polled beside it."""
+    router, file = Router(), f"{judge.room}/a.db"
+    router.logs[1].log(3)
+    far = f"{router.address}/5/07"
+    judge.tells("a near one", judge.ran(["keep", file, router.address, "1", "--dnet=6", "--dadr=08", *SOON]), 0, said(router, 3, 0, "caught up, next 4"))
+    near = said(router, 0, 0, "caught up, next 4")
+    judge.tells("no route", judge.ran(["keep", file, router.address, "1", "--dnet=5", "--dadr=07", *SOON]), 2,
+                f"{far}: the router has no route to network 5\n", f"{far} 1 not asked\n", near)
+    judge.same("no route: it is asked once", router.rejected, 1)
+    for router.reason in (0, 2, 3, 4, 5, 6):
+        router.rejected = 0
+        judge.tells(f"reason {router.reason}", judge.ran(["keep", file, *SOON]), 2, f"{far} 1 not asked\n{far}: no answer\n", near)
+        judge.same(f"reason {router.reason}: it is asked as often as a lost one", router.rejected, 2)
+    judge.judge("behind rejections", file, [router], True)
+
+
 def told_beside(judge, _runs):
     """What comes in place of an answer is none, what a refusal means, and of a bad reply who tells what is wrong with it."""
     device = Twisted()
