@@ -61,8 +61,9 @@ def no_route(judge, _runs):
     router, file = Router(), f"{judge.room}/a.db"
     router.logs[1].log(3)
     far = f"{router.address}/5/07"
-    judge.tells("a near one", judge.ran(["keep", file, router.address, "1", "--dnet=6", "--dadr=08", *SOON]), 0, said(router, 3, 0, "caught up, next 4"))
-    near = said(router, 0, 0, "caught up, next 4")
+    judge.tells("a near one", judge.ran(["keep", file, router.address, "1", "--dnet=6", "--dadr=08", *SOON]), 0,
+                said(router, 3, 0, "caught up, next 4").replace(router.address, router.place()))
+    near = said(router, 0, 0, "caught up, next 4").replace(router.address, router.place())
     judge.tells("no route", judge.ran(["keep", file, router.address, "1", "--dnet=5", "--dadr=07", *SOON]), 2,
                 f"{far}: the router has no route to network 5\n", f"{far} 1 not asked\n", near)
     judge.same("no route: it is asked once", router.rejected, 1)
