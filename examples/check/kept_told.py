@@ -71,7 +71,6 @@ def no_route(judge, _runs):
         router.rejected = 0
         judge.tells(f"reason {router.reason}", judge.ran(["keep", file, *SOON]), 2, f"{far} 1 not asked\n{far}: no answer\n", near)
         judge.same(f"reason {router.reason}: it is asked as often as a lost one", router.rejected, 2)
-    judge.judge("behind rejections", file, [router], True)
 
 
 def told_beside(judge, _runs):
