@@ -319,6 +319,7 @@ module _ (log : Id) where
   unfolding me here
   hears_went o n q p came t puts mid at comes settles = by (reject_by p.way came.from came.datagram) comes
     where
+      all : let h : PollerAs = record p { poll = at_log p.poll (record { log = log; poll = q; left = n }) } in Settles t h puts mid
       all = settled o n q p t puts mid at settles
 
       by : (r : Option NoRoute) → ComesAs r p came t → Went (doing.Hears came) o n q (rows_in (map put_as puts)) mid
