@@ -28,3 +28,17 @@ pub mod Epochs
 pub mod Unfit
 pub mod Archives
 pub mod Played
+pub mod Shown
+pub mod HeldBack
+pub mod Answered
+pub mod RowsFit
+pub mod Replies
+pub mod DeviceFits
+pub mod SiteFits
+pub mod Batches
+pub mod ItemsFit
+pub mod Noted
+pub mod Named
+pub mod Grown
+pub mod Adds
+pub mod TablesFit

@@ -10,3 +10,4 @@ pub mod Rows
 pub mod Listed
 pub mod Checked
 pub mod Played
+pub mod Added

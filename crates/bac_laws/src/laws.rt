@@ -1,6 +1,6 @@
 //! What whatever words never do.
 
-ghost use Rattle.std.specs.Prelude.{◌≡◌, List, map};
+ghost use Rattle.std.specs.Prelude.{◌≡◌, ◌⊎◌, false, List, [], map};
 ghost use Rattle.std.specs.String.{string_bytes};
 ghost use Rattle.bac_socket_notes.specs.Ports.{Event};
 ghost use Rattle.bac_ports.specs.Sockets.{socket_rules};
@@ -10,11 +10,13 @@ ghost use Rattle.bac_command_line.specs.declared.job.Job.{Job as AnyJob};
 ghost use Rattle.bac_command_line.specs.declared.job.Job.TheVariants as job;
 ghost use Rattle.bac_command_line.specs.declared.job.Keep.{Keep as KeepWords};
 ghost use Rattle.bac_command_line.specs.declared.job.LogReading.{LogReading as LogWords};
+ghost use Rattle.bac_laws.specs.Added.{AddsWhatCame, IsUseless};
 ghost use Rattle.bac_laws.specs.Lost.{LosesNoneIn};
 ghost use Rattle.bac_laws.specs.Events.{IsCaptured};
 ghost use Rattle.bac_laws.specs.Printed.{CameFrom, PrintsLog};
 ghost use Rattle.bac_laws.specs.Sends.{AreSwitched, GaveBack, IsBound, MaySend, SendsOnly};
 
+use bac_archive::puts_are_one;
 use bac_drive::Clock as WaitClock;
 use bac_files::FileOf;
 use bac_run::{Console, Machine, Parts, run};
@@ -143,5 +145,41 @@ where
         said.asked.address) said es (O.contents console.old.output)
         (O.contents console.new.output) result }
 {
+    run(machine, console, alloc, waits, words)
+}
+
+/// `keep` makes nothing up: each row of the table `items` that the closed file has was there
+/// before, or is that of a gap, or that of a record that came in this run from the device of its
+/// log, in the ACK of a ReadRange for that log; if the file could be closed and the disk gave back
+/// what was written. Where nothing was sent and nothing came, and the status is that of an archive
+/// of no use, or of no memory, nothing is said.
+pub fn keep_adds_what_came<
+    S: Tracing,
+    F: Start,
+    G: Start,
+    Q: Parts,
+    I: Read,
+    O: Write,
+    E: Write,
+    C: Clock,
+    W: WaitClock + Copy,
+>(
+    machine: &mut Machine<'_, S, F, G, Q, C>,
+    console: &mut Console<I, O, E>,
+    alloc: Global,
+    waits: W,
+    words: &[String],
+) -> u8
+where
+    W: Drop,
+    ensures { (said : KeepWords) → AskFor (map string_bytes words.now) (job.Keep said)
+        → said.stop ≡ false → GaveBack ⟦<FileOf<F> as Disk>⟧ machine.new.files
+        → (es : List Event) × IsCaptured (socket_rules S.opens S.closes S.Socket.sends
+        S.Socket.receives S.Socket.receives_within) S.traces machine.old.sockets
+        machine.new.sockets es
+        × (((es ≡ []) × IsUseless result) ⊎ AddsWhatCame ⟦<FileOf<F> as Disk>⟧
+        machine.old.files machine.new.files machine.new.parts es) }
+{
+    puts_are_one();
     run(machine, console, alloc, waits, words)
 }

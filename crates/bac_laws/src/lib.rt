@@ -10,4 +10,6 @@ pub use each_tool::{
     replay_prints_its_script, rp_prints_what_came, serve_answers_only, sockets_can_be_captured,
     wi_prints_what_came, wp_writes_once,
 };
-pub use laws::{keep_only_reads, log_prints_what_came, loses_none, sends_only};
+pub use laws::{
+    keep_adds_what_came, keep_only_reads, log_prints_what_came, loses_none, sends_only,
+};
