@@ -142,6 +142,6 @@ module _ (K : ℕ → ℕ → ℕ → Type 0) (V : ℕ → Value → Type 0) whe
       let (inner, last, inside) = loses_nothing GivesSite SiteHears SiteReads old new es nothing chain in
       let all : Sound K V (CameIn K V inner) [] (map put_as (puts_of inner)) = site_fits K V old.machine last inner unasked fits inside.run in
       let both : Sound K V (CameIn K V inner) [] (map put_as (puts_of es) ++ map put_as new.puts) =
-          subst (Sound K V (CameIn K V inner) []) (ap (λ (l : List Put). map put_as l) inside.rows ∙ mapped K V (puts_of es) new.puts) all in
+      subst (Sound K V (CameIn K V inner) []) (ap (λ (l : List Put). map put_as l) inside.rows ∙ mapped K V (puts_of es) new.puts) all in
       sound_later K V (CameIn K V inner) (CameIn K V es) (came_out es inner inside.traffic) [] (map put_as (puts_of es))
       (sound_front K V (CameIn K V inner) [] (map put_as (puts_of es)) (map put_as new.puts) both)

@@ -190,8 +190,7 @@ module _ (K : ℕ → ℕ → ℕ → Type 0) (V : ℕ → Value → Type 0) whe
         ) in
         let first : RowsFine K V P before D mid = turn_rows K V P before D t.log t.device.polled p.rows mid rows turn.0 takes in
         let all : RowsFine K V P before D r = at_fine K V P before D u.step (is_some t.device.polled) (with_entries (with_entries mid t.entries) u.entries)
-            (entries_fine K V P before D (with_entries mid t.entries) u.entries (entries_fine K V P before D mid t.entries first)) in
-        (
+        (entries_fine K V P before D (with_entries mid t.entries) u.entries (entries_fine K V P before D mid t.entries first)) in (
           subst (Sound K V P before) (sym put) all.0,
           subst (λ (x : PollerAs). Fits events (before ++ map put_as puts) x) (sym is) (record {
             device = D;

@@ -120,7 +120,7 @@ module _ (told : Standing) where
       let rest = seats_fit options at logs ds seats of_logs (λ e has. of_devices e (more_of_list d e ds has)) more in
       let here : ToldAt told d.id (Text (string_bytes d.address)) = (d, of_devices d (head_of d ds), refl, refl) in
       let own_logs = logs_fit d.id (called_of d) at (filter (is_log_of d.id) logs)
-          (λ l has. let it = from_filter (is_log_of d.id) logs l has in (of_logs l it.0, eqb-true l.device d.id it.1)) in
+      (λ l has. let it = from_filter (is_log_of d.id) logs l has in (of_logs l it.0, eqb-true l.device d.id it.1)) in
       let fits : Fits (Told told) (ToldAt told) [] [] p = subst (Fits (Told told) (ToldAt told) [] []) (sym poller.is) (record {
         device = d.id;
         held = tt;
@@ -130,8 +130,7 @@ module _ (told : Standing) where
         at = (string_bytes d.address, here, poller.way_is.peer);
       }) in
       let new : IsNewSeat (record { poller = p; due = 0; sent = 0; is_repeated = false; stray = None }) =
-      (ap (λ (x : PollerAs). x.doing) poller.is, ap (λ (x : PollerAs). x.transactions.pending) poller.is, refl) in
-      (
+      (ap (λ (x : PollerAs). x.doing) poller.is, ap (λ (x : PollerAs). x.transactions.pending) poller.is, refl) in (
         All-cons (λ x. Fits (Told told) (ToldAt told) [] [] x.poller) seat seats (subst (λ (x : Seat). Fits (Told told) (ToldAt told) [] [] x.poller) (sym is) fits) rest.0,
         All-cons IsNewSeat seat seats (subst IsNewSeat (sym is) new) rest.1,
       )
@@ -142,9 +141,9 @@ module _ (told : Standing) where
       → IsUnasked site × All (λ seat. Fits (Told told) (ToldAt told) [] [] seat.poller) site.waiting
   site_begins options site it =
       let of_logs : (l : LogRow) → Contains it.logs l → Contains told.logs.items l =
-          λ l has. Contains-permutation it.logs told.logs.items l (IsPermutation-sym told.logs.items it.logs it.each_log) has in
+      λ l has. Contains-permutation it.logs told.logs.items l (IsPermutation-sym told.logs.items it.logs it.each_log) has in
       let of_devices : (d : DeviceRow) → Contains (filter is_polled it.devices) d → Contains told.devices.items d =
-          λ d has. Contains-permutation it.devices told.devices.items d (IsPermutation-sym told.devices.items it.devices it.each_device) (from_filter is_polled it.devices d has).0 in
+      λ d has. Contains-permutation it.devices told.devices.items d (IsPermutation-sym told.devices.items it.devices it.each_device) (from_filter is_polled it.devices d has).0 in
       let all = seats_fit options it.told it.logs (filter is_polled it.devices) it.seats of_logs of_devices it.seats_are in
       let S : SiteState → Type 0 = λ x. IsUnasked x × All (λ seat. Fits (Told told) (ToldAt told) [] [] seat.poller) x.waiting in
       subst S (sym it.is) ((refl, all.1, refl), all.0)
@@ -154,9 +153,8 @@ module _ (told : Standing) where
       → HasLogRow rows log device instance
   log_there rows same log device instance (l, has, id, dev, ins) =
       let there = Contains-permutation (map log_columns told.logs.items) (map (shown 9) rows) (log_columns l)
-          (IsPermutation-sym (map (shown 9) rows) (map log_columns told.logs.items) same) (in_map log_columns told.logs.items l has) in
-      let it = from_map (shown 9) rows (log_columns l) there in
-      (
+      (IsPermutation-sym (map (shown 9) rows) (map log_columns told.logs.items) same) (in_map log_columns told.logs.items l has) in
+      let it = from_map (shown 9) rows (log_columns l) there in (
         it.0,
         it.1,
         ap (λ (r : Values). column r 0) it.2 ∙ ap (λ (n : ℕ). Int (pos n)) id,
@@ -168,7 +166,7 @@ module _ (told : Standing) where
       → HasDeviceRow rows device address
   device_there rows same device address (d, has, id, at) =
       let there = Contains-permutation (map device_columns told.devices.items) (map (shown 10) rows) (device_columns d)
-          (IsPermutation-sym (map (shown 10) rows) (map device_columns told.devices.items) same) (in_map device_columns told.devices.items d has) in
+      (IsPermutation-sym (map (shown 10) rows) (map device_columns told.devices.items) same) (in_map device_columns told.devices.items d has) in
       let it = from_map (shown 10) rows (device_columns d) there in
       (it.0, it.1, ap (λ (r : Values). column r 0) it.2 ∙ ap (λ (n : ℕ). Int (pos n)) id, ap (λ (r : Values). column r 1) it.2 ∙ sym at)
 
@@ -215,9 +213,9 @@ module _ {P C : Type 0} (sends : P → List ℕ → List ℕ → Sending → P �
       adds : AddsOnly (noted es) begun last.database
       adds devices logs row has =
           let it = tables_left (Told set.told) (ToldAt set.told) (CameThere (ToldAt set.told) (noted es)) (text_of set.told) begun last.database (puts_of es) (has_named order old begun set.named)
-              (runs_put a join (at_first by site begun) last es happen) there
-              (logs, λ log device instance known. first_log log device instance known)
-              (devices, λ device address known. device_there set.told (begun.trees 1) set.stands.devices device address known) in
+          (runs_put a join (at_first by site begun) last es happen) there
+          (logs, λ log device instance known. first_log log device instance known)
+          (devices, λ device address known. device_there set.told (begun.trees 1) set.stands.devices device address known) in
           by_row it (it.0 row has)
         where
           first_log : (log device instance : ℕ) → IsKnown (Told set.told) (ToldAt set.told) [] log device instance → HasLogRow (begun.trees 3) log device instance
@@ -277,8 +275,7 @@ module _ {P C : Type 0} (sends : P → List ℕ → List ℕ → Sending → P �
   halts g order by left old new why (inl (before, same)) =
       ([], ap (λ (x : Around P C). x.port) same, λ is_open. only_quiet [] (state g old).now (state g new).now (early g order old new why is_open before))
   halts g order by left old new why (inr (of_poll, is, (begun, site, end, set, (es, last, happen, (stops, untouched), unending)))) =
-      let it = polls order (state g old).now begun site by es last set happen in
-      (
+      let it = polls order (state g old).now begun site by es last set happen in (
         it.0,
         subst (λ (p : P). Over it.0 by.port p) (sym (fails g last _ of_poll stops)) it.1,
         λ is_open. subst (λ (d : Database). AddsOnly it.0 (state g old).now d) (sym (untouched is_open)) it.2,

@@ -42,8 +42,7 @@ gap_made : (era first last : ℕ) (doubtful : Bool) → IsGapRow (made (gap_colu
 unfolding made
 gap_made era first last doubtful =
     let doubt : Value = cast TextKind (bound_value (or_null Text (doubt_text doubtful))) in
-    let one : List Value = Int (pos (key era first)) ∷ Null ∷ cast Integer (Int (pos last)) ∷ Null ∷ cast RealKind Null ∷ doubt ∷ Null ∷ [] in
-    (
+    let one : List Value = Int (pos (key era first)) ∷ Null ∷ cast Integer (Int (pos last)) ∷ Null ∷ cast RealKind Null ∷ doubt ∷ Null ∷ [] in (
       pos (key era first),
       last,
       doubt,
@@ -121,8 +120,7 @@ module _ (K : ℕ → ℕ → ℕ → Type 0) (V : ℕ → Value → Type 0) (P 
       × Logs K V P (map put_as puts) (new.trees 3) × Devices K V P text (new.trees 1)
   tables_left text old new puts has put sound logs devices =
       let rows = subst (AllByRecursion (λ (t : Table). new.trees t.tree ≡ left t.tree (old.trees t.tree) puts)) has.tables.are put.rows in
-      let once = subst (AllByRecursion (λ (t : Table). AreFree t.tree (old.trees t.tree) puts)) has.tables.are put.once in
-      (
+      let once = subst (AllByRecursion (λ (t : Table). AreFree t.tree (old.trees t.tree) puts)) has.tables.are put.once in (
         λ row there. all_left [] puts (old.trees 5) row once.1.1.1.0 sound (subst (λ (l : List Values). Contains l row) rows.1.1.1.0 there),
         subst (Logs K V P (map put_as puts)) (sym rows.1.1.0) (all_logs K V P [] puts (old.trees 3) sound once.1.1.0 logs),
         subst (Devices K V P text) (sym rows.1.0) (all_devices K V P text [] puts (old.trees 1) sound once.1.0 devices),

@@ -286,7 +286,7 @@ module _ (K : ℕ → ℕ → ℕ → Type 0) (V : ℕ → Value → Type 0) whe
         } in
         let put = put_fine before device r (log_put false l) all good in
         let own : IsLogOf (before ++ (r.puts ++ log_put false l ∷ [])) device l =
-            (one.0, subst (λ (x : List PutAs). IsKnown x l.id l.device l.instance) (append_assoc before r.puts (log_put false l ∷ [])) (known_on (before ++ r.puts) (log_put false l ∷ []) l.id l.device l.instance one.1), one.2) in
+        (one.0, subst (λ (x : List PutAs). IsKnown x l.id l.device l.instance) (append_assoc before r.puts (log_put false l ∷ [])) (known_on (before ++ r.puts) (log_put false l ∷ []) l.id l.device l.instance one.1), one.2) in
         (put.0, logs_push (before ++ (r.puts ++ log_put false l ∷ [])) device r.logs l put.1 own, all.2)
 
     -- the row of the device
@@ -368,9 +368,9 @@ module _ (K : ℕ → ℕ → ℕ → Type 0) (V : ℕ → Value → Type 0) whe
         ) in
         let told : RowsAs = telling_turn (keeping old behind puts t) l.called behind left next t in
         let known : IsLogOf (before ++ (old.puts ++ puts)) device (record l { place = behind; next = next }) =
-            (it.0.0, subst (λ (x : List PutAs). IsKnown x l.id l.device l.instance) same (known_on (before ++ old.puts) puts l.id l.device l.instance it.0.1), own.1) in
+        (it.0.0, subst (λ (x : List PutAs). IsKnown x l.id l.device l.instance) same (known_on (before ++ old.puts) puts l.id l.device l.instance it.0.1), own.1) in
         let known_told : IsLogOf (before ++ told.puts) device (record l { place = behind; next = next }) =
-            subst (λ (x : List PutAs). IsLogOf (before ++ x) device (record l { place = behind; next = next })) (sym (told_puts (keeping old behind puts t) l.called behind left next t)) known in
+        subst (λ (x : List PutAs). IsLogOf (before ++ x) device (record l { place = behind; next = next })) (sym (told_puts (keeping old behind puts t) l.called behind left next t)) known in
         subst (RowsFine before device) (sym is)
         (retold_fine before device told (record l { place = behind; next = next }) t.poll.word
         (told_fine before device (keeping old behind puts t) l.called behind left next t kept) known_told)
@@ -406,8 +406,7 @@ module _ (K : ℕ → ℕ → ℕ → Type 0) (V : ℕ → Value → Type 0) whe
       where
         one : (l : LogAs) → log_in q.log old.logs ≡ Some l → IsLogOf (before ++ old.puts) device l × Each (P l.device l.instance) t.records
         one l at =
-            let it = found_fine (before ++ old.puts) device q.log old.logs l all.1 at in
-            (
+            let it = found_fine (before ++ old.puts) device q.log old.logs l all.1 at in (
               it.0,
               subst (λ (d : ℕ). Each (P d l.instance) t.records) (sym it.0.0) (subst (λ (n : ℕ). Each (P device n) t.records) (sym it.1) brings),
             )
@@ -427,7 +426,7 @@ module _ (K : ℕ → ℕ → ℕ → Type 0) (V : ℕ → Value → Type 0) whe
         let it = put_fine before device r put all good in
         let new : IsNewLog id r.device.id log.instance put = (refl, refl, (_, refl)) in
         let known : IsKnown (before ++ (r.puts ++ put ∷ [])) id r.device.id log.instance =
-            inr (new_right before (r.puts ++ put ∷ []) id r.device.id log.instance (new_right r.puts (put ∷ []) id r.device.id log.instance (inl new))) in
+        inr (new_right before (r.puts ++ put ∷ []) id r.device.id log.instance (new_right r.puts (put ∷ []) id r.device.id log.instance (inl new))) in
         (it.0, logs_push (before ++ (r.puts ++ put ∷ [])) device r.logs l it.1 (all.2.0, known, refl), all.2)
 
     renamed_fine : (before : List PutAs) (device : ℕ) (o : Option LogAs) (r : RowsAs) (naming : Naming) → RowsFine before device r

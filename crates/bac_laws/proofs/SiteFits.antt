@@ -144,7 +144,7 @@ module _ (K : ℕ → ℕ → ℕ → Type 0) (V : ℕ → Value → Type 0) whe
         → GivesFrom old s wanted new → SiteWanted events before wanted new
     from_fits start old s wanted new all fits sits (p, gives, is) =
         let it = wants_fits K V events before s.poller.doing (lent old.ids s.poller) p wanted (lent_sound old.ids events s.poller s.poller.doing sits.sound)
-            (lent_fits events before old.ids s.poller fits) gives in
+        (lent_fits events before old.ids s.poller fits) gives in
         let less : SiteState = record old { ids = p.rows.ids } in
         let same : AllFit events before less = record { active = all.active; waiting = all.waiting } in
         let seat : Seat = record s { poller = p } in
@@ -200,8 +200,7 @@ module _ (K : ℕ → ℕ → ℕ → Type 0) (V : ℕ → Value → Type 0) whe
   event_fine events before (Warned text) (next.Warn line) fine does = (tt, sym (append-nil before))
   event_fine events before (Warned text) wanted fine does = absurd does
   event_fine events before (Kept puts) (next.Keep all) fine does =
-      let same : all.items ≡ puts ++ [] = sym does ∙ sym (append-nil puts) in
-      (
+      let same : all.items ≡ puts ++ [] = sym does ∙ sym (append-nil puts) in (
         subst (λ (l : List Put). Sound K V (CameIn K V events) before (map put_as l)) same fine,
         ap (λ (l : List Put). before ++ map put_as l) same,
       )
@@ -231,10 +230,10 @@ module _ (K : ℕ → ℕ → ℕ → Type 0) (V : ℕ → Value → Type 0) whe
       let half_fits : AllFit front now half = subst (λ (l : List PutAs). AllFit front l half) first.1 wants.1 in
       let next_fits : AllFit (front ++ e ∷ []) now mid = site_later front (e ∷ []) now mid (site_told_fits front now e half mid half_fits told) in
       let rest : Sound K V (CameIn K V (front ++ e ∷ es)) now (map put_as (puts_of es)) =
-          subst (λ (l : List Event). Sound K V (CameIn K V l) now (map put_as (puts_of es))) (append_assoc front (e ∷ []) es)
-          (chain_fits start (front ++ e ∷ []) now es mid new one next_fits more) in
+      subst (λ (l : List Event). Sound K V (CameIn K V l) now (map put_as (puts_of es))) (append_assoc front (e ∷ []) es)
+      (chain_fits start (front ++ e ∷ []) now es mid new one next_fits more) in
       let this : Sound K V (CameIn K V (front ++ e ∷ es)) before (map put_as (puts_of (e ∷ []))) =
-          sound_later K V (CameIn K V front) (CameIn K V (front ++ e ∷ es)) (λ device instance held came. came_later K V front (e ∷ es) device instance held came) before (map put_as (puts_of (e ∷ []))) first.0 in
+      sound_later K V (CameIn K V front) (CameIn K V (front ++ e ∷ es)) (λ device instance held came. came_later K V front (e ∷ es) device instance held came) before (map put_as (puts_of (e ∷ []))) first.0 in
       subst (λ (l : List Put). Sound K V (CameIn K V (front ++ e ∷ es)) before (map put_as l)) (sym (first_puts e es))
       (subst (Sound K V (CameIn K V (front ++ e ∷ es)) before) (sym (mapped (puts_of (e ∷ [])) (puts_of es)))
       (sound_on K V (CameIn K V (front ++ e ∷ es)) before (map put_as (puts_of (e ∷ []))) (map put_as (puts_of es)) this rest))

@@ -116,8 +116,7 @@ module _ (K : ℕ → ℕ → ℕ → Type 0) (V : ℕ → Value → Type 0) (P 
   columns_same : (a b : Values) (l d i m e j : ℕ) (more rest : Values) → a ≡ Int (pos l) ∷ Int (pos d) ∷ Int (pos i) ∷ more → a ≡ Int (pos m) ∷ Int (pos e) ∷ Int (pos j) ∷ rest
       → (l ≡ m) × (d ≡ e) × (i ≡ j)
   columns_same a b l d i m e j more rest one two =
-      let same : Int (pos l) ∷ Int (pos d) ∷ Int (pos i) ∷ more ≡ Int (pos m) ∷ Int (pos e) ∷ Int (pos j) ∷ rest = sym one ∙ two in
-      (
+      let same : Int (pos l) ∷ Int (pos d) ∷ Int (pos i) ∷ more ≡ Int (pos m) ∷ Int (pos e) ∷ Int (pos j) ∷ rest = sym one ∙ two in (
         int_same l m (column a 0) (ap (λ (r : Values). column r 0) one) (ap (λ (r : Values). column r 0) two),
         int_same d e (column a 1) (ap (λ (r : Values). column r 1) one) (ap (λ (r : Values). column r 1) two),
         int_same i j (column a 2) (ap (λ (r : Values). column r 2) one) (ap (λ (r : Values). column r 2) two),
@@ -135,8 +134,7 @@ module _ (K : ℕ → ℕ → ℕ → Type 0) (V : ℕ → Value → Type 0) (P 
           (it.0, put_has (made_log put.columns) rows free it.0 it.1, it.2, it.3, it.4)
       by log device instance (inr (is, fresh, (rest, columns))) =
           let row = log_row_is log device instance rest in
-          let same : made_log put.columns ≡ made_log (Int (pos log) ∷ Int (pos device) ∷ Int (pos instance) ∷ rest) = ap made_log columns in
-          (
+          let same : made_log put.columns ≡ made_log (Int (pos log) ∷ Int (pos device) ∷ Int (pos instance) ∷ rest) = ap made_log columns in (
             made_log put.columns,
             put_is (made_log put.columns) rows free,
             ap (λ (r : Values). column r 0) same ∙ row.0,
@@ -154,8 +152,7 @@ module _ (K : ℕ → ℕ → ℕ → Type 0) (V : ℕ → Value → Type 0) (P 
       let dev_is : column (made_log put.columns) 2 ≡ Int (pos it.1) = ap (λ (r : Values). column r 2) same ∙ row.1 in
       let ins_is : column (made_log put.columns) 3 ≡ Int (pos it.2) = ap (λ (r : Values). column r 3) same ∙ row.2 in
       let place = takes (pos it.0) id_is in
-      let there = all.1 it.0 it.1 it.2 (it.5 old) in
-      (
+      let there = all.1 it.0 it.1 it.2 (it.5 old) in (
         own_left (pos it.0) (made_log put.columns) id_is rows after_rows place all.0,
         λ log device instance known. by place id_is dev_is ins_is there log device instance (known_before before put log device instance known),
       )
@@ -173,8 +170,7 @@ module _ (K : ℕ → ℕ → ℕ → Type 0) (V : ℕ → Value → Type 0) (P 
           both one same (inl now) =
               let l : L ≡ log = int_same L log (column one.0 0) (ap (λ (r : Values). column r 0) same ∙ there.2) one.2 in
               let d : D ≡ device = int_same D device (column one.0 2) (ap (λ (r : Values). column r 2) same ∙ there.3) one.3 in
-              let i : I ≡ instance = int_same I instance (column one.0 3) (ap (λ (r : Values). column r 3) same ∙ there.4) one.4 in
-              (
+              let i : I ≡ instance = int_same I instance (column one.0 3) (ap (λ (r : Values). column r 3) same ∙ there.4) one.4 in (
                 made_log put.columns,
                 now,
                 id_is ∙ ap (λ (n : ℕ). Int (pos n)) l,
@@ -224,8 +220,7 @@ module _ (K : ℕ → ℕ → ℕ → Type 0) (V : ℕ → Value → Type 0) (P 
       let id_is : rowid (made_device put.columns) ≡ Int (pos it.0) = ap (λ (r : Values). column r 0) same ∙ row.0 in
       let at_is : column (made_device put.columns) 2 ≡ Text text_is.0 = ap (λ (r : Values). column r 2) same ∙ row.1 in
       let place = takes (pos it.0) id_is in
-      let there = all.1 it.0 text_is.0 (subst (λ (v : Value). V it.0 v) text_is.1 it.3) in
-      (
+      let there = all.1 it.0 text_is.0 (subst (λ (v : Value). V it.0 v) text_is.1 it.3) in (
         own_left (pos it.0) (made_device put.columns) id_is rows after_rows place all.0,
         λ device address known. by place id_is at_is there device address known,
       )
