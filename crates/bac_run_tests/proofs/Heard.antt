@@ -52,6 +52,7 @@ none_left : (why : DeviceEnd) → code (status_at why) ≤ 0 → why ≡ end.Don
 none_left end.Done low = refl
 none_left end.Foreign low = absurd (omega (arith, low))
 none_left end.Silent low = absurd (omega (arith, low))
+none_left end.Unreached low = absurd (omega (arith, low))
 
 heard_out : (seat : Seat) → HasEnded seat → IsCountedIn Done seat → IsHeardOut seat
 heard_out seat (why, is) counted =

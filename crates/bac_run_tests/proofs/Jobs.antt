@@ -19,6 +19,7 @@ use Rattle.bac_keeper.specs.declared.fault.Fault.{Fault as KeepFault}
 use Rattle.bac_keeping.specs.RecordLaws.{KeepNames}
 use Rattle.bac_ports.specs.Port.{Receiving, Sending}
 use Rattle.bac_ports.specs.Sockets.{SocketRules}
+use Rattle.bac_print.specs.Output.{Held}
 use Rattle.bac_run.specs.Keeping.{KeepsBy, KeepsOf}
 use Rattle.bac_run.specs.Run.{RunsAll}
 use Rattle.bac_run.specs.Setup.{DoesQuietly, HasFiles, IsOffFiles, IsPrinted, Setup, scene_of, with_output, with_sockets}
