@@ -413,7 +413,8 @@ def silent_lists(judge, _runs):
     # From one another answer came in the place of its list.
     asked, alive[0].list_ack = alive[0].asked, another_answer
     told = judge.ran(["keep", f"{judge.room}/b.db", *words, *quick])
-    judge.tells("another answer came", told, 2, *once, silent(alive[0], ()), new_logs(alive[1]), lines_of(alive[1:], 4))
+    lost = f"{alive[0].address} didn't tell its Object_List: lost\n"
+    judge.tells("another answer came", told, 2, *once, lost, new_logs(alive[1]), lines_of(alive[1:], 4))
     # Of itself, twice for its list, and once for how long that is.
     judge.same("another answer came: how often each is asked", [alive[0].asked - asked, *(device.asked for device in dead)], [4 + 2 + 1, 6, 6, 6])
     # One has told its list whose last log's name has no answer.

@@ -8,8 +8,8 @@ from kept_rounds import silent
 
 
 class Counted:
-    """How many questions of a site were open at most, and which devices were asked, in order; each answer goes out `wait` seconds
-    after its question came."""
+    """How many questions of a site were open at most that had come less than 0.2 seconds before, since one of 0.25 seconds doesn't
+    count any more; and which devices were asked, in order; each answer goes out `wait` seconds after its question came."""
 
     def __init__(self):
         self.lock, self.open, self.most, self.order, self.wait = threading.Lock(), [], 0, [], 0.1
@@ -18,7 +18,7 @@ class Counted:
         with self.lock:
             now = time.monotonic()
             self.open.append(now)
-            self.most = max(self.most, len(self.open))
+            self.most = max(self.most, sum(now - since < 0.2 for since in self.open))
             self.order.append(device)
             return now
 

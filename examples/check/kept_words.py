@@ -176,9 +176,10 @@ def first_answers(judge, _runs):
             break
         # Its instance, its start, its revision and its clock come before the first question for its log, and so do its log's name,
         # description, source and units. Behind one that isn't answered the next one is asked once: behind the last of these that is
-        # one for its log.
-        lost = silent(device) if answers < 7 else f"{device.address} 1 "
-        judge.is_right(f"dead behind {answers} answers, its line", ran[:2] == (2, "") and (ran[2] == lost if answers < 7 else
+        # one for its log, and behind its source, since the units and the description are of that.
+        is_silent = answers < 7 and answers != 5
+        lost = silent(device) if is_silent else f"{device.address} 1 "
+        judge.is_right(f"dead behind {answers} answers, its line", ran[:2] == (2, "") and (ran[2] == lost if is_silent else
                        ran[2].startswith(lost) and " lost, next " in ran[2]), ran)
         before += 1
     device.answers = None
